@@ -1,0 +1,115 @@
+-- What removal lists, masks, depths and plays need to know of a system: which nodes there are, at which
+-- of them clause 2 holds, which actions are allowed there, which seats are ready, and the outcomes of an
+-- action that is delegated to a seat.
+use Rattle.std.specs.Prelude.{◌≢◌, ℕ, zero, suc, ◌<◌, ◌+◌, Bool, not, ◌&&◌, ◌||◌, List, [], ◌∷◌, map, length, sum_by, IsTrue, IsFalse, Option, if◌then◌else◌}
+use Rattle.std.specs.List.{list_any, filter, flat_map, find}
+use Rattle.roman_model.specs.Lists.{IsIn, below, all_below, is_empty}
+use Rattle.roman_model.specs.declared.reason.Reason.{Reason}
+use Rattle.roman_model.specs.declared.reason.Reason.TheVariants.{Final, Act}
+
+pub record Arena (N : Type 0) : Type 0 where
+  pub same : N → N → Bool
+  pub nodes : List N
+  pub actions : ℕ
+  pub seats : ℕ
+  pub fine : N → Bool
+  pub allows : N → ℕ → Bool
+  pub ready : ℕ → Bool
+  pub outcomes : N → ℕ → ℕ → List N
+
+-- a line of a removal list: a node, and why it was removed
+pub record Entry (N : Type 0) : Type 0 where
+  pub node : N
+  pub reason : Reason
+
+-- p stands among the nodes
+abbrev pub is_among : {N : Type 0} → Arena N → List N → N → Bool
+is_among A ps p = list_any (A.same p) ps
+
+-- p is the node of some entry
+abbrev pub is_listed : {N : Type 0} → Arena N → List (Entry N) → N → Bool
+is_listed A L p = list_any (λ x. A.same p x.node) L
+
+-- the action at p, delegated to seat k, has no outcome, or one that is gone
+abbrev pub is_beaten : {N : Type 0} → Arena N → (N → Bool) → N → ℕ → ℕ → Bool
+is_beaten A gone p a k = is_empty (A.outcomes p a k) || list_any gone (A.outcomes p a k)
+
+-- the reason holds at p, where those nodes are gone
+abbrev pub is_justified : {N : Type 0} → Arena N → (N → Bool) → N → Reason → Bool
+is_justified A gone p Final = not (A.fine p)
+is_justified A gone p (Act a) = A.allows p a && all_below (is_beaten A gone p a) A.seats
+
+-- the seats that have an outcome on the action, and none that is gone, rising
+abbrev pub mask : {N : Type 0} → Arena N → (N → Bool) → N → ℕ → List ℕ
+mask A gone p a = if A.allows p a then filter (λ k. not (is_beaten A gone p a k)) (below A.seats) else []
+
+-- the nodes are distinct, also from those before, and each entry is justified by those before it
+abbrev pub IsOrderFrom : {N : Type 0} → Arena N → List N → List (Entry N) → Type 0
+IsOrderFrom A before [] = Unit {0}
+IsOrderFrom A before (x ∷ L) =
+    IsFalse (is_among A before x.node)
+    × IsTrue (is_justified A (is_among A before) x.node x.reason)
+    × IsOrderFrom A (x.node ∷ before) L
+
+-- a removal list
+abbrev pub IsOrder : {N : Type 0} → Arena N → List (Entry N) → Type 0
+IsOrder A L = IsOrderFrom A [] L
+
+-- the nodes are distinct, also from those before
+abbrev pub AreNew : {N : Type 0} → Arena N → List N → List (Entry N) → Type 0
+AreNew A before [] = Unit {0}
+AreNew A before (x ∷ L) = IsFalse (is_among A before x.node) × AreNew A (x.node ∷ before) L
+
+-- goes through the list from the front, and keeps an entry where those kept so far justify it
+abbrev pub replay_from : {N : Type 0} → Arena N → List N → List (Entry N) → List (Entry N)
+replay_from A kept [] = []
+replay_from A kept (x ∷ L) =
+    if is_justified A (is_among A kept) x.node x.reason
+    then x ∷ replay_from A (x.node ∷ kept) L
+    else replay_from A kept L
+
+abbrev pub replay : {N : Type 0} → Arena N → List (Entry N) → List (Entry N)
+replay A L = replay_from A [] L
+
+-- the opponent wins at p within n requests
+abbrev pub loses : {N : Type 0} → Arena N → ℕ → N → Bool
+loses A zero p = not (A.fine p)
+loses A (suc n) p = loses A n p || list_any (λ a. is_justified A (loses A n) p (Act a)) (below A.actions)
+
+-- the least number of requests within which the opponent wins, where it does
+abbrev pub depth : {N : Type 0} → Arena N → N → Option ℕ
+depth A p = find (λ n. loses A n p) (below (length A.nodes + 1))
+
+-- p meets clause 2, and for each allowed action some seat has an outcome and leads to no other nodes than those
+pub record Survives {N : Type 0} (A : Arena N) (Lives : N → Type 0) (p : N) : Type 0 where
+  pub final : IsTrue (A.fine p)
+  pub served : (a : ℕ) → IsTrue (A.allows p a) →
+      (k : ℕ) × (k < A.seats) × (A.outcomes p a k ≢ []) × ((q : N) → IsIn q (A.outcomes p a k) → Lives q)
+
+-- an action at a node, delegated to a seat
+pub record Delegation (N : Type 0) : Type 0 where
+  pub node : N
+  pub action : ℕ
+  pub seat : ℕ
+
+-- every action at every node, delegated to every seat
+abbrev pub delegations : {N : Type 0} → Arena N → List (Delegation N)
+delegations A =
+    flat_map (λ p. flat_map (λ a. map (λ k. record { node = p; action = a; seat = k }) (below A.seats)) (below A.actions))
+    A.nodes
+
+-- the delegations of which q is an outcome
+abbrev pub back : {N : Type 0} → Arena N → N → List (Delegation N)
+back A q = filter (λ d. is_among A (A.outcomes d.node d.action d.seat) q) (delegations A)
+
+-- how many delegations lead to the pairs of the list
+abbrev pub fall : {N : Type 0} → Arena N → List (Entry N) → ℕ
+fall A L = sum_by (λ x. length (back A x.node)) L
+
+-- how many delegations there are of an allowed action to a ready seat
+abbrev pub readings : {N : Type 0} → Arena N → ℕ
+readings A = length (filter (λ d. A.allows d.node d.action && A.ready d.seat) (delegations A))
+
+-- how many seats the masks have in all
+abbrev pub choices : {N : Type 0} → Arena N → (N → Bool) → ℕ
+choices A gone = sum_by (λ p. sum_by (λ a. length (mask A gone p a)) (below A.actions)) A.nodes

@@ -1,0 +1,10 @@
+pub mod Lists
+pub mod Arena
+pub mod System
+pub mod Normal
+pub mod Composition
+pub mod Numbers
+pub mod Change
+pub mod Offers
+pub mod Play
+pub mod Laws

@@ -1,0 +1,70 @@
+-- The numbers of pairs, and the arena over them.
+use Rattle.std.specs.Prelude.{◌≡◌, ℕ, ◌<◌, ◌==◌, ◌+◌, ◌*◌, ◌/◌, ◌%◌, List, [], ◌∷◌, map, length, slice_get}
+use Rattle.roman_model.specs.Lists.{below, product_of}
+use Rattle.roman_model.specs.Arena.{Arena, Entry}
+use Rattle.roman_model.specs.System.{Sys, Pair, IsPair, outcomes, is_allowed, is_fine, is_ready}
+use Rattle.roman_model.specs.Composition.{IsComplete}
+
+-- how many states the target, the environment and each seat have
+pub record Sizes : Type 0 where
+  pub target : ℕ
+  pub env : ℕ
+  pub seats : List ℕ
+
+abbrev pub sizes_of : Sys → Sizes
+sizes_of s = record { target = s.target.states; env = s.env.states; seats = map (λ seat. seat.beh.states) s.seats }
+
+-- how many pairs there are
+abbrev pub count : Sizes → ℕ
+count n = n.target * n.env * product_of n.seats
+
+-- the number of a list of one state for each seat: the last changes fastest
+abbrev pub states_number : List ℕ → List ℕ → ℕ
+states_number [] bs = 0
+states_number (size ∷ sizes) [] = 0
+states_number (size ∷ sizes) (b ∷ bs) = b * product_of sizes + states_number sizes bs
+
+-- the list of that number
+abbrev pub states_at : List ℕ → ℕ → List ℕ
+states_at [] i = []
+states_at (size ∷ sizes) i = i / product_of sizes ∷ states_at sizes (i % product_of sizes)
+
+-- the pair's number: the target's state, then the environment's, then those of the seats, the last changing fastest
+abbrev pub number : Sizes → Pair → ℕ
+number n p = (p.t * n.env + p.e) * product_of n.seats + states_number n.seats p.bs
+
+-- the pair of that number
+abbrev pub pair_at : Sizes → ℕ → Pair
+pair_at n i = record {
+  t = i / product_of n.seats / n.env;
+  e = i / product_of n.seats % n.env;
+  bs = states_at n.seats (i % product_of n.seats);
+}
+
+-- the numbers below the count are exactly those of the pairs
+pub record NumbersArePairs (s : Sys) : Type 0 where
+  pub below : (p : Pair) → IsPair s p → number (sizes_of s) p < count (sizes_of s)
+  pub back : (p : Pair) → IsPair s p → pair_at (sizes_of s) (number (sizes_of s) p) ≡ p
+  pub pair : (i : ℕ) → i < count (sizes_of s) → IsPair s (pair_at (sizes_of s) i)
+  pub there : (i : ℕ) → i < count (sizes_of s) → number (sizes_of s) (pair_at (sizes_of s) i) ≡ i
+
+-- the system as an arena over the numbers of its pairs
+abbrev pub numbered : Sys → Arena ℕ
+numbered s = record {
+  same = λ p q. p == q;
+  nodes = below (count (sizes_of s));
+  actions = s.env.actions;
+  seats = length s.seats;
+  fine = λ p. is_fine s (pair_at (sizes_of s) p);
+  allows = λ p a. is_allowed s (pair_at (sizes_of s) p) a;
+  ready = λ k. is_ready (slice_get s.seats k);
+  outcomes = λ p a k. map (number (sizes_of s)) (outcomes s (pair_at (sizes_of s) p) a k);
+}
+
+-- the entry of the pair with that number
+abbrev pub entry_at : Sys → Entry ℕ → Entry Pair
+entry_at s x = record { node = pair_at (sizes_of s) x.node; reason = x.reason }
+
+-- the numbered entries are a complete removal list
+abbrev pub IsCompleteList : Sys → List (Entry ℕ) → Type 0
+IsCompleteList s L = IsComplete s (map (entry_at s) L)

@@ -1,0 +1,17 @@
+//! The definitions of behaviour composition in the Roman model, and the laws over them alone.
+//!
+//! `specs/` has the definitions. `System` has environments, behaviours, systems, pairs and their
+//! steps; `Composition` has ND-simulations and the greatest one; `Arena` has removal lists, masks
+//! and depths over any set of nodes; `Numbers` has the numbers of pairs. Each law is the contract
+//! of a function with an empty body.
+#![tactic(auto)]
+
+mod limits;
+mod reason;
+
+pub use limits::{
+    DEFAULT_CELLS, MAX_ACTIONS, MAX_BEHAVIOURS, MAX_CELLS, MAX_CERTIFICATE_BYTES,
+    MAX_DOCUMENT_BYTES, MAX_FILE_NAME_BYTES, MAX_LINE_BYTES, MAX_NAME_BYTES, MAX_SERVICES,
+    MAX_SESSION_BYTES, MAX_STATES, MAX_STEPS,
+};
+pub use reason::Reason;
