@@ -1,0 +1,5 @@
+pub mod Blanks
+pub mod Words
+pub mod Places
+pub mod Masks
+pub mod Pushes
