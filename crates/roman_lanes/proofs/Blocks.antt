@@ -21,8 +21,8 @@ long : (old new now : List ℕ) (i : ℕ) → length new ≡ length old → i �
 long old new now i same within before =
     ap length before ∙ length-append (take i new) (drop i old)
     ∙ (let taken = length-take-le i new (omega arith) in
-       let dropped = length-drop i old in
-       omega arith)
+    let dropped = length-drop i old in
+    omega arith)
 
 -- the block at i is written: the list is new up to the block's end
 pub block_done : (old new now lanes : List ℕ) (i n : ℕ) → length new ≡ length old → i + n ≤ length old → now ≡ take i new ++ drop i old → lanes ≡ chunk i n new → put_chunk i now lanes ≡ take (i + n) new ++ drop (i + n) old
@@ -70,8 +70,8 @@ zipped_block f old with now i n equal room before =
     let left = rest old (zip2 f old with) now i same (omega arith) before in
     block_done old (zip2 f old with) now _ i n same room before
     (ap (λ xs. zip2 f (take n xs) (chunk i n with)) left
-     ∙ sym (zip2-take f n (drop i old) (drop i with))
-     ∙ ap (take n) (sym (zip2-drop f i old with)))
+    ∙ sym (zip2-take f n (drop i old) (drop i with))
+    ∙ ap (take n) (sym (zip2-drop f i old with)))
 
 -- the same, where every element is to be one value
 pub filled_block : (value : ℕ) (old now : List ℕ) (i n : ℕ) → i + n ≤ length old → now ≡ take i (replicate (length old) value) ++ drop i old → put_chunk i now (replicate n value) ≡ take (i + n) (replicate (length old) value) ++ drop (i + n) old
@@ -113,8 +113,8 @@ zipped_cell f old with now i y equal room before computed =
     let same = length-zip2 f old with (sym equal) in
     cell_done old (zip2 f old with) now i y same room before
     (computed
-     ∙ ap (λ x. f x (get_or with i 0)) (left_at old (zip2 f old with) now i same (omega arith) before)
-     ∙ sym (get_or-zip2 f old with i 0 0 0 room (omega arith)))
+    ∙ ap (λ x. f x (get_or with i 0)) (left_at old (zip2 f old with) now i same (omega arith) before)
+    ∙ sym (get_or-zip2 f old with i 0 0 0 room (omega arith)))
 
 -- past the last place the whole list is new
 pub all_done : (old new now : List ℕ) (i : ℕ) → length new ≡ length old → length old ≤ i → now ≡ take i new ++ drop i old → now ≡ new
@@ -138,26 +138,26 @@ mapped_rest f old now cells i within before computed =
     let same = length-map old f in
     rest_done old (map f old) now cells i same within before
     (computed
-     ∙ ap (map f) (take_rest now i ∙ rest old (map f old) now i same within before)
-     ∙ sym (drop-map f i old))
+    ∙ ap (map f) (take_rest now i ∙ rest old (map f old) now i same within before)
+    ∙ sym (drop-map f i old))
 
 pub zipped_rest : (f : ℕ → ℕ → ℕ) (old with now cells : List ℕ) (i : ℕ) → length with ≡ length old → i ≤ length old → now ≡ take i (zip2 f old with) ++ drop i old → cells ≡ zip2 f (take (length now - i) (drop i now)) (take (length with - i) (drop i with)) → take i now ++ (cells ++ drop (length now - i) (drop i now)) ≡ zip2 f old with
 zipped_rest f old with now cells i equal within before computed =
     let same = length-zip2 f old with (sym equal) in
     rest_done old (zip2 f old with) now cells i same within before
     (computed
-     ∙ ap (λ xs. zip2 f xs (take (length with - i) (drop i with))) (take_rest now i ∙ rest old (zip2 f old with) now i same within before)
-     ∙ ap (zip2 f (drop i old)) (take_rest with i)
-     ∙ sym (zip2-drop f i old with))
+    ∙ ap (λ xs. zip2 f xs (take (length with - i) (drop i with))) (take_rest now i ∙ rest old (zip2 f old with) now i same within before)
+    ∙ ap (zip2 f (drop i old)) (take_rest with i)
+    ∙ sym (zip2-drop f i old with))
 
 pub filled_rest : (value : ℕ) (old now cells : List ℕ) (i : ℕ) → i ≤ length old → now ≡ take i (replicate (length old) value) ++ drop i old → cells ≡ replicate (length (take (length now - i) (drop i now))) value → take i now ++ (cells ++ drop (length now - i) (drop i now)) ≡ replicate (length old) value
 filled_rest value old now cells i within before computed =
     let same = length-replicate (length old) value in
     rest_done old (replicate (length old) value) now cells i same within before
     (computed
-     ∙ ap (λ xs. replicate (length xs) value) (take_rest now i ∙ rest old (replicate (length old) value) now i same within before)
-     ∙ ap (λ n. replicate n value) (length-drop i old)
-     ∙ sym (drop-replicate i (length old) value))
+    ∙ ap (λ xs. replicate (length xs) value) (take_rest now i ∙ rest old (replicate (length old) value) now i same within before)
+    ∙ ap (λ n. replicate n value) (length-drop i old)
+    ∙ sym (drop-replicate i (length old) value))
 
 -- ---- counts
 

@@ -19,9 +19,9 @@ unfolding cleared
 and_not_bit k mask within fits =
     rw (one_shl k 32 within)
     (let split = and-not 32 (2 ^ k) mask (pow_below k 32 within) fits in
-     let bit : bit_and (2 ^ k) mask ≡ bit_at mask k * 2 ^ k = and_comm (2 ^ k) mask ∙ and_pow mask k in
-     let turned = and_comm mask (2 ^ 32 - 1 - 2 ^ k) in
-     omega arith)
+    let bit : bit_and (2 ^ k) mask ≡ bit_at mask k * 2 ^ k = and_comm (2 ^ k) mask ∙ and_pow mask k in
+    let turned = and_comm mask (2 ^ 32 - 1 - 2 ^ k) in
+    omega arith)
 
 -- `(mask & low) | ((mask >> 1) & !low)` with `low` the ones below k
 pub without_place : (k mask : ℕ) → k < 32 → mask < 2 ^ 32 → bit_or (bit_and mask (1 * 2 ^ k % 2 ^ 32 - 1)) (bit_and (mask / 2) (2 ^ 32 - 1 - (1 * 2 ^ k % 2 ^ 32 - 1))) ≡ dropped k mask
@@ -32,10 +32,10 @@ without_place k mask within fits =
     let shifted : mask / 2 / 2 ^ k ≡ mask / 2 ^ (k + 1) = shr-shr mask 1 k ∙ ap (λ n. mask / 2 ^ n) (add_comm 1 k) in
     rw (one_shl k 32 within)
     (ap (λ n. bit_or (bit_and mask (2 ^ k - 1)) (bit_and (mask / 2) n)) ones
-     ∙ ap (bit_or (bit_and mask (2 ^ k - 1))) (high ∙ ap (λ n. n * 2 ^ k) shifted)
-     ∙ ap (λ n. bit_or n (mask / 2 ^ (k + 1) * 2 ^ k)) (and_mask mask k)
-     ∙ or_comm (mask % 2 ^ k) (mask / 2 ^ (k + 1) * 2 ^ k)
-     ∙ or_shifted (mask / 2 ^ (k + 1)) k (mask % 2 ^ k) (mod_below mask (2 ^ k) (pow_pos k)))
+    ∙ ap (bit_or (bit_and mask (2 ^ k - 1))) (high ∙ ap (λ n. n * 2 ^ k) shifted)
+    ∙ ap (λ n. bit_or n (mask / 2 ^ (k + 1) * 2 ^ k)) (and_mask mask k)
+    ∙ or_comm (mask % 2 ^ k) (mask / 2 ^ (k + 1) * 2 ^ k)
+    ∙ or_shifted (mask / 2 ^ (k + 1)) k (mask % 2 ^ k) (mod_below mask (2 ^ k) (pow_pos k)))
 
 -- two functions that agree on each lane below 2 ^ 32
 pub same_lanes : (f g : ℕ → ℕ) (xs : List ℕ) → ((x : ℕ) → x < 2 ^ 32 → f x ≡ g x) → Each1 (Fits w32) xs → map f xs ≡ map g xs
@@ -56,7 +56,7 @@ drop_of_lanes k xs within sized fit =
     let high : ℕ = 2 ^ 32 - 1 - low in
     let halved : zip2 (λ x s. x / 2 ^ s) xs (replicate 16 1) ≡ map (λ x. x / 2) xs = zip2_splat (λ x s. x / 2 ^ s) xs 16 1 sized in
     let above : zip2 bit_and (zip2 (λ x s. x / 2 ^ s) xs (replicate 16 1)) (replicate 16 high) ≡ map (λ x. bit_and (x / 2) high) xs =
-        zip2_of_maps bit_and (λ x. x / 2) (λ _. high) xs halved (splat_is_map xs 16 high sized) in
+    zip2_of_maps bit_and (λ x. x / 2) (λ _. high) xs halved (splat_is_map xs 16 high sized) in
     zip2_of_maps bit_or (λ x. bit_and x low) (λ x. bit_and (x / 2) high) xs (zip2_splat bit_and xs 16 low sized) above
     ∙ same_lanes (λ x. bit_or (bit_and x low) (bit_and (x / 2) high)) (dropped k) xs (λ x. without_place k x within) fit
 

@@ -7,7 +7,7 @@ use Rattle.std.proofs.lemmas.Bool.{cases_lt, lt-ltb, le-ltb}
 use Rattle.std.specs.Int.{bit_at}
 use Rattle.std.specs.Simd.Lanes.{zip2}
 use Rattle.std.proofs.lemmas.Nat.{pow_pos, shr-shr, shr_split, shl-shr, mod_below, div-add-mod'}
-use Rattle.std.proofs.lemmas.Nat.Bits.{bit_at_cat_low, bit_at_cat_high, bit_at-suc, bit_at_lowest}
+use Rattle.std.proofs.lemmas.Nat.Bits.{bit_at_cat_low, bit_at_cat_high, bit_at-suc, bit_at_lowest, bit_at_and}
 use Rattle.roman_lanes.specs.Masks.{cleared, dropped}
 
 -- the bits below k of a number are those of its rest by 2 ^ k
@@ -51,22 +51,22 @@ bit_at_cleared_same k mask =
 pub bit_at_cleared_other : (k mask i : ℕ) → i ≢ k → bit_at (cleared k mask) i ≡ bit_at mask i
 bit_at_cleared_other k mask i other =
     elim (cases_lt i k) [
-    | inl below ↦
-        ap (λ n. bit_at n i) (cleared_parts k mask)
-        ∙ bit_at_cat_low (mask / 2 ^ (k + 1) * 2) k (mask % 2 ^ k) i below
-        ∙ low_part mask k i below
-    | inr above ↦
-        let rest : ℕ = i - k - 1 in
-        let place : i - k ≡ suc rest = omega arith in
-        let back : k + 1 + rest ≡ i = omega arith in
-        let upper : ℕ = mask / 2 ^ (k + 1) in
-        ap (λ n. bit_at n i) (cleared_parts k mask)
-        ∙ bit_at_cat_high (upper * 2) k (mask % 2 ^ k) i (mod_below mask (2 ^ k) (pow_pos k)) above
-        ∙ ap (bit_at (upper * 2)) place
-        ∙ bit_at-suc (upper * 2) rest
-        ∙ ap (λ n. bit_at n rest) (shl-shr upper 1)
-        ∙ high_part mask (k + 1) rest
-        ∙ ap (bit_at mask) back
+      | inl below ↦
+          ap (λ n. bit_at n i) (cleared_parts k mask)
+          ∙ bit_at_cat_low (mask / 2 ^ (k + 1) * 2) k (mask % 2 ^ k) i below
+          ∙ low_part mask k i below
+      | inr above ↦
+          let rest : ℕ = i - k - 1 in
+          let place : i - k ≡ suc rest = omega arith in
+          let back : k + 1 + rest ≡ i = omega arith in
+          let upper : ℕ = mask / 2 ^ (k + 1) in
+          ap (λ n. bit_at n i) (cleared_parts k mask)
+          ∙ bit_at_cat_high (upper * 2) k (mask % 2 ^ k) i (mod_below mask (2 ^ k) (pow_pos k)) above
+          ∙ ap (bit_at (upper * 2)) place
+          ∙ bit_at-suc (upper * 2) rest
+          ∙ ap (λ n. bit_at n rest) (shl-shr upper 1)
+          ∙ high_part mask (k + 1) rest
+          ∙ ap (bit_at mask) back
     ]
 
 -- a bit below the place that is dropped stays where it is
@@ -88,9 +88,12 @@ bit_at_dropped_above k mask i above =
 pub bit_at_dropped : (k mask i : ℕ) → bit_at (dropped k mask) i ≡ bit_at mask (if nat_lt i k then i else i + 1)
 bit_at_dropped k mask i =
     elim (cases_lt i k) [
-    | inl below ↦ rw (lt-ltb i k below) (bit_at_dropped_below k mask i below)
-    | inr above ↦ rw (le-ltb i k above) (bit_at_dropped_above k mask i above)
+      | inl below ↦ rw (lt-ltb i k below) (bit_at_dropped_below k mask i below)
+      | inr above ↦ rw (le-ltb i k above) (bit_at_dropped_above k mask i above)
     ]
+
+zero_from_bound : (n : ℕ) → n ≤ 0 → n ≡ 0
+zero_from_bound n none = omega arith
 
 -- no mask becomes greater
 pub cleared-le : (k mask : ℕ) → cleared k mask ≤ mask
@@ -103,3 +106,27 @@ dropped-le k mask =
     let halves : mask / 2 ^ k / 2 ≡ mask / 2 ^ (k + 1) = shr-shr mask k 1 in
     let less : mask / 2 ^ (k + 1) ≤ mask / 2 ^ k = omega arith in
     omega (arith, mul-le-mul_right (2 ^ k) less, shr_split mask k)
+
+-- ---- a whole list of masks, at any place: past its end a mask reads as 0
+
+pub place_cleared : (k : ℕ) (masks : List ℕ) (p : ℕ) → get_or (map (cleared k) masks) p 0 ≡ cleared k (get_or masks p 0)
+place_cleared k [] p = sym (zero_from_bound (cleared k 0) (cleared-le k 0))
+place_cleared k (mask ∷ masks) zero = refl
+place_cleared k (mask ∷ masks) (suc p) = place_cleared k masks p
+
+pub place_dropped : (k : ℕ) (masks : List ℕ) (p : ℕ) → get_or (map (dropped k) masks) p 0 ≡ dropped k (get_or masks p 0)
+place_dropped k [] p = sym (zero_from_bound (dropped k 0) (dropped-le k 0))
+place_dropped k (mask ∷ masks) zero = refl
+place_dropped k (mask ∷ masks) (suc p) = place_dropped k masks p
+
+pub place_intersected : (to with : List ℕ) (p : ℕ) → length with ≡ length to → get_or (zip2 bit_and to with) p 0 ≡ bit_and (get_or to p 0) (get_or with p 0)
+place_intersected [] [] p equal = refl
+place_intersected [] (w ∷ with) p equal = absurd (omega arith)
+place_intersected (t ∷ to) [] p equal = absurd (omega arith)
+place_intersected (t ∷ to) (w ∷ with) zero equal = refl
+place_intersected (t ∷ to) (w ∷ with) (suc p) equal = place_intersected to with p (omega arith)
+
+-- a bit of an intersection is set where both are
+pub bit_at_intersected : (to with : List ℕ) (p i : ℕ) → length with ≡ length to → bit_at (get_or (zip2 bit_and to with) p 0) i ≡ min (bit_at (get_or to p 0) i) (bit_at (get_or with p 0) i)
+bit_at_intersected to with p i equal =
+    ap (λ mask. bit_at mask i) (place_intersected to with p equal) ∙ bit_at_and (get_or to p 0) (get_or with p 0) i

@@ -76,5 +76,7 @@ pub(crate) fn bits_in(masks: &[u32], at: usize) -> u32
     ensures counted { result ≡ sum_by count_ones (chunk at 16 masks.now) }
     ensures bound { result ≤ 512 }
 {
-    u32x16::from_slice(&masks[at..]).count_ones().strict_reduce_sum()
+    u32x16::from_slice(&masks[at..])
+        .count_ones()
+        .strict_reduce_sum()
 }

@@ -8,6 +8,8 @@ mod block;
 mod cells;
 mod masks;
 mod plain;
+#[cfg(test)]
+mod tests;
 
 pub use cells::{count_equal, count_max, fill_u32};
 pub use masks::{and_into, clear_bit, count_bits, drop_bit};
