@@ -1,5 +1,5 @@
 -- Loops that go over a list from the front, some places at a time.
-use Rattle.std.proofs.Common.{◌≡◌, ℕ, ◌+◌, ◌-◌, ◌*◌, ◌<◌, ◌≤◌, zero, suc, List, [], ◌∷◌, ◌++◌, length, map, replicate, get_or, take, drop, set, sum_by, add-one, add-zero, refl, sym, ap, ◌∙◌, arith}
+use Rattle.std.proofs.Common.{◌≡◌, ℕ, ◌+◌, ◌-◌, ◌<◌, ◌≤◌, zero, suc, List, [], ◌∷◌, ◌++◌, length, map, replicate, get_or, take, drop, set, sum_by, add-one, add-zero, refl, sym, ap, ◌∙◌, arith}
 use Rattle.std.specs.Simd.Lanes.{zip2, chunk, put_chunk}
 use Rattle.std.proofs.Math.Seq.{take-add}
 use Rattle.std.proofs.lemmas.List.{take_at, drop_at, drop-drop, length-take-le, length-append, length-drop, length-map, length-replicate, append_assoc, take-map, drop-map, take-replicate, drop-replicate, set_split, take_more, get_or-drop, get_or-map, take_all, drop_all, append-nil, take-append-drop, take_rest}

@@ -1,7 +1,7 @@
 -- What the code computes of a mask is the mask with bit k cleared, or without the place k.
-use Rattle.std.proofs.Common.{◌≡◌, ℕ, ◌+◌, ◌-◌, ◌*◌, ◌/◌, ◌%◌, ◌^◌, ◌<◌, ◌≤◌, List, [], ◌∷◌, length, map, replicate, get_or, refl, sym, ap, ◌∙◌, arith, bit_and, bit_or, add_comm}
+use Rattle.std.proofs.Common.{◌≡◌, ℕ, ◌+◌, ◌-◌, ◌*◌, ◌/◌, ◌%◌, ◌^◌, ◌<◌, ◌≤◌, List, [], ◌∷◌, length, map, replicate, refl, sym, ap, ◌∙◌, arith, bit_and, bit_or, add_comm}
 use Rattle.std.specs.Int.{bit_at}
-use Rattle.std.proofs.lemmas.Nat.{pow_pos, pow_below, one_shl, and-not, and_comm, and_mask, or_comm, or_shifted, shr-shr, shr_le, mod_below}
+use Rattle.std.proofs.lemmas.Nat.{pow_pos, pow_below, one_shl, and-not, and_comm, and_mask, or_comm, or_shifted, shr-shr, mod_below}
 use Rattle.std.proofs.lemmas.Nat.Bits.{and_pow, and_high_mask}
 use Rattle.std.proofs.Common.{Fits, w32}
 use Rattle.std.specs.Simd.Lanes.{zip2, Each1}

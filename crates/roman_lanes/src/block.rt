@@ -1,5 +1,5 @@
 // Blocks of sixteen neighbouring cells, each a vector.
-ghost use Rattle.std.specs.Prelude.{◌≡◌, ℕ, ◌+◌, ◌-◌, ◌*◌, ◌^◌, ◌<◌, ◌≤◌, length, map, replicate, bit_and, count_by, count_ones, sum_by, ◌==◌};
+ghost use Rattle.std.specs.Prelude.{◌≡◌, ◌+◌, ◌<◌, ◌≤◌, length, map, replicate, bit_and, count_by, count_ones, sum_by, ◌==◌};
 ghost use Rattle.std.specs.Simd.Lanes.{chunk, put_chunk, zip2};
 ghost use Rattle.roman_lanes.specs.Masks.{cleared, dropped};
 

@@ -1,5 +1,5 @@
 // Cells as numbers: setting them all, and counting those of one value.
-ghost use Rattle.std.specs.Prelude.{◌≡◌, ℕ, ◌+◌, ◌-◌, ◌*◌, ◌^◌, ◌<◌, ◌≤◌, length, replicate, count_by, ◌==◌};
+ghost use Rattle.std.specs.Prelude.{◌≡◌, ◌-◌, ◌^◌, length, replicate, count_by, ◌==◌};
 
 use crate::block::{LANES, equal_in, fill_block};
 use crate::plain::{equal_cells, fill_cells};

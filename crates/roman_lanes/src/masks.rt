@@ -1,5 +1,5 @@
 // Cells as masks, whose bits are flags.
-ghost use Rattle.std.specs.Prelude.{◌≡◌, ℕ, ◌+◌, ◌-◌, ◌*◌, ◌^◌, ◌<◌, ◌≤◌, length, map, bit_and, count_ones, sum_by};
+ghost use Rattle.std.specs.Prelude.{◌≡◌, ◌^◌, ◌<◌, length, map, bit_and, count_ones, sum_by};
 ghost use Rattle.std.specs.Simd.Lanes.{zip2};
 ghost use Rattle.roman_lanes.specs.Masks.{cleared, dropped};
 

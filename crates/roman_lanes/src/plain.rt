@@ -1,5 +1,5 @@
 // The plain loops, for the cells that no whole block has.
-ghost use Rattle.std.specs.Prelude.{◌≡◌, ℕ, ◌+◌, ◌-◌, ◌*◌, ◌^◌, ◌<◌, ◌≤◌, length, map, replicate, bit_and, count_by, count_ones, sum_by, ◌==◌};
+ghost use Rattle.std.specs.Prelude.{◌≡◌, ◌*◌, ◌^◌, ◌<◌, ◌≤◌, length, map, replicate, bit_and, count_by, count_ones, sum_by, ◌==◌};
 ghost use Rattle.std.specs.Simd.Lanes.{zip2};
 ghost use Rattle.roman_lanes.specs.Masks.{cleared, dropped};
 

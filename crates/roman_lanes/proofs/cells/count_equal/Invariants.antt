@@ -1,6 +1,4 @@
-use Rattle.std.proofs.Common.{◌≡◌, ◌+◌, ◌*◌, ◌≤◌, ◌++◌, ◌==◌, length, map, replicate, take, drop, bit_and, count_by, count_ones, sum_by}
-use Rattle.std.specs.Simd.Lanes.{zip2}
-use Rattle.roman_lanes.specs.Masks.{cleared, dropped}
+use Rattle.std.proofs.Common.{◌≡◌, ◌*◌, ◌≤◌, ◌==◌, take, count_by}
 use Rattle.roman_lanes.proofs.cells.count_equal.Given as goal
 
 -- the count of the blocks so far

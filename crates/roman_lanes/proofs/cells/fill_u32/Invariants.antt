@@ -1,6 +1,4 @@
-use Rattle.std.proofs.Common.{◌≡◌, ◌+◌, ◌*◌, ◌≤◌, ◌++◌, ◌==◌, length, map, replicate, take, drop, bit_and, count_by, count_ones, sum_by}
-use Rattle.std.specs.Simd.Lanes.{zip2}
-use Rattle.roman_lanes.specs.Masks.{cleared, dropped}
+use Rattle.std.proofs.Common.{◌≡◌, ◌*◌, ◌++◌, length, replicate, take, drop}
 use Rattle.roman_lanes.proofs.cells.fill_u32.Given as goal
 
 -- the blocks so far are filled, the cells after them as they were

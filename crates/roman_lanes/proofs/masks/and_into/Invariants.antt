@@ -1,6 +1,5 @@
-use Rattle.std.proofs.Common.{◌≡◌, ◌+◌, ◌*◌, ◌≤◌, ◌++◌, ◌==◌, length, map, replicate, take, drop, bit_and, count_by, count_ones, sum_by}
+use Rattle.std.proofs.Common.{◌≡◌, ◌*◌, ◌++◌, take, drop, bit_and}
 use Rattle.std.specs.Simd.Lanes.{zip2}
-use Rattle.roman_lanes.specs.Masks.{cleared, dropped}
 use Rattle.roman_lanes.proofs.masks.and_into.Given as goal
 
 -- the blocks so far are intersected, the cells after them as they were

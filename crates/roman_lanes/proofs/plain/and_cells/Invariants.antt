@@ -1,6 +1,5 @@
-use Rattle.std.proofs.Common.{◌≡◌, ◌+◌, ◌*◌, ◌≤◌, ◌++◌, ◌==◌, length, map, replicate, take, drop, bit_and, count_by, count_ones, sum_by}
+use Rattle.std.proofs.Common.{◌≡◌, ◌++◌, take, drop, bit_and}
 use Rattle.std.specs.Simd.Lanes.{zip2}
-use Rattle.roman_lanes.specs.Masks.{cleared, dropped}
 use Rattle.roman_lanes.proofs.plain.and_cells.Given as goal
 
 -- the cells before i are intersected, the others as they were

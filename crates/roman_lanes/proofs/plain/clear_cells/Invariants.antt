@@ -1,6 +1,5 @@
-use Rattle.std.proofs.Common.{◌≡◌, ◌+◌, ◌*◌, ◌≤◌, ◌++◌, ◌==◌, length, map, replicate, take, drop, bit_and, count_by, count_ones, sum_by}
-use Rattle.std.specs.Simd.Lanes.{zip2}
-use Rattle.roman_lanes.specs.Masks.{cleared, dropped}
+use Rattle.std.proofs.Common.{◌≡◌, ◌++◌, map, take, drop}
+use Rattle.roman_lanes.specs.Masks.{cleared}
 use Rattle.roman_lanes.proofs.plain.clear_cells.Given as goal
 
 -- the masks before the index are cleared, the others as they were
