@@ -3,3 +3,5 @@ pub mod Words
 pub mod Places
 pub mod Masks
 pub mod Pushes
+pub mod Rows
+pub mod Counts

@@ -49,6 +49,7 @@ pub record IsSound (a : Inside) : Type 0 where
   pub counted : a.count ≤ length a.entries.items
   pub room : a.pairs ≤ length a.entries.items
   pub cells : a.pairs * a.actions ≤ length a.masks.items
+  pub few_cells : length a.masks.items < 2 ^ 32
   pub waiting_room : length a.waiting.items ≡ length a.entries.items
   pub stamp_room : length a.stamps.items ≡ length a.entries.items
   pub flag_room : length a.entries.items / 64 < length a.gone.items

@@ -8,6 +8,7 @@
 
 mod flags;
 mod order;
+mod plane;
 mod removal;
 mod tables;
 

@@ -3,8 +3,10 @@ ghost use Rattle.std.specs.Prelude.{◌≡◌, ◌≢◌, ℕ, ◌+◌, ◌*◌,
 ghost use Rattle.std.specs.List.{IsDistinct};
 ghost use Rattle.roman_order.specs.Board.{entry_of, nodes_of, has_entry, place_of, mask_at, is_marked};
 
+mod passes;
+
 use crate::removal::Removal;
-use crate::{flags, tables};
+use crate::{flags, plane, tables};
 use roman_model::Reason;
 use std::alloc::{AllocError, Global};
 use std::marker::Model;
@@ -81,8 +83,8 @@ impl Order {
         ensures empty { (p a : ℕ) → mask_at self.new p a ≡ 0 }
         ensures unmarked { (p : ℕ) → is_marked self.new p ≡ false }
     {
-        let end = self.pairs as usize * self.actions as usize;
-        tables::clear_masks(&mut self.masks, 0, end);
+        let end = self.cells();
+        plane::clear(&mut self.masks, 0, end);
         tables::clear_marks(&mut self.marks, self.pairs as usize);
         tables::clear_stamps(&mut self.stamps, self.pairs as usize);
         flags::clear(&mut self.gone, self.pairs);
@@ -105,9 +107,9 @@ impl Order {
         ensures distinct { IsDistinct (λ x y. x == y) (nodes_of self.old.list) }
         ensures in_range { (p : ℕ) → has_entry self.old.list p ≡ true → p < self.old.pairs }
     {
-        let end = self.pairs as usize * self.actions as usize;
+        let end = self.cells();
         let kept = pairs as usize * self.actions as usize;
-        tables::clear_masks(&mut self.masks, kept.min(end), end);
+        plane::clear(&mut self.masks, kept.min(end), end);
         tables::clear_marks(&mut self.marks, self.pairs as usize);
         tables::clear_stamps(&mut self.stamps, self.pairs as usize);
         flags::clear(&mut self.gone, self.pairs);
@@ -227,5 +229,13 @@ impl Order {
         ensures rest { self.new ≡ record self.old { marks = self.new.marks } }
     {
         tables::clear_marks(&mut self.marks, self.pairs as usize);
+    }
+
+    // How many cells the mask plane has.
+    fn cells(&self) -> usize
+        ensures value { result ≡ self.now.pairs * self.now.actions }
+        ensures room { result ≤ self.now.cap_cells }
+    {
+        self.pairs as usize * self.actions as usize
     }
 }

@@ -16,6 +16,7 @@ invariant_of-result c =
       counted = omega arith;
       room = omega arith;
       cells = omega arith;
+      few_cells = omega (arith, c.in_ok-vec-5.ensures.len, c.ranges.cap_cells);
       waiting_room = omega (arith, c.in_ok-vec.ensures.len, c.in_ok-vec-2.ensures.len);
       stamp_room = omega (arith, c.in_ok-vec.ensures.len, c.in_ok-vec-3.ensures.len);
       flag_room = omega (arith, c.in_ok-vec.ensures.len, c.in_ok-vec-4.ensures.len);

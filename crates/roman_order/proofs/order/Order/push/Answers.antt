@@ -32,6 +32,7 @@ invariant_of-self c =
       counted = omega (arith, entries_length, can.room);
       room = omega (arith, entries_length, invariant.room);
       cells = invariant.cells;
+      few_cells = invariant.few_cells;
       waiting_room = invariant.waiting_room ∙ sym entries_length;
       stamp_room = stamps_length ∙ (invariant.stamp_room ∙ sym entries_length);
       flag_room = rw (flags, entries_length) (omega (arith, invariant.flag_room, c.set.auto.words, ap length c.deref_mut.ensures.value));
