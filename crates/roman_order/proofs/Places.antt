@@ -1,7 +1,7 @@
 -- Lists of entries, one entry more.
-use Rattle.std.proofs.Common.{◌≡◌, ◌≢◌, ℕ, suc, ◌+◌, ◌-◌, ◌^◌, ◌<◌, ◌≤◌, Bool, true, false, cond, List, [], ◌∷◌, ◌++◌, length, get_or, Option, Some, None, refl, ap, sym, ◌∙◌, subst, inl, inr, arith, eqb, ◌||◌, ◌⊎◌, unwrap_or}
+use Rattle.std.proofs.Common.{◌≡◌, ◌≢◌, ℕ, zero, suc, ◌+◌, ◌-◌, ◌^◌, ◌<◌, ◌≤◌, Bool, true, false, cond, List, [], ◌∷◌, ◌++◌, length, get_or, Option, Some, None, refl, ap, sym, ◌∙◌, subst, inl, inr, arith, eqb, ◌||◌, ◌⊎◌, is_some, unwrap_or}
 use Rattle.std.specs.List.{list_any, position_from, IsDistinct}
-use Rattle.std.proofs.lemmas.Bool.{cases_eq, cases_Bool, eq-eqb, ne_eqb, or_parts, false≢true}
+use Rattle.std.proofs.lemmas.Bool.{cases_eq, cases_Bool, eq-eqb, ne_eqb, eqb-true, or_parts, false≢true}
 use Rattle.std.proofs.lemmas.Cmp.{nat_eq_equiv}
 use Rattle.std.proofs.lemmas.List.{map_push, length-map}
 use Rattle.std.proofs.lemmas.Map.Keys.{IsDistinct-push}
@@ -154,3 +154,36 @@ unlisted-beyond n L p in_range h =
 
 pub stamp-beyond : {n : ℕ} {L : List (Entry ℕ)} {stamps gone : List ℕ} (placed : IsPlaced n L stamps gone) (p : ℕ) → n ≤ p → get_or stamps p (2 ^ 32 - 1) ≡ 2 ^ 32 - 1
 stamp-beyond {n} {L} placed p h = placed.stamped p ∙ stamp_of-none L p (unlisted-beyond n L p placed.in_range h)
+
+-- ---- what a place says
+
+-- a place holds an element that passes
+position_from-passes : {X : Type 0} (test : X → Bool) (i : ℕ) (xs : List X) (j : ℕ) (d : X) → position_from test i xs ≡ Some j → (i ≤ j) × (test (get_or xs (j - i) d) ≡ true)
+position_from-passes test i [] j d e = cc
+position_from-passes test i (x ∷ xs) j d e =
+    elim (cases_Bool (test x)) [
+      | inl t ↦
+          let same : i ≡ j = let first = rw t at e in cc in
+          let none : j - i ≡ zero = omega arith in
+          (omega arith, rw (none, t))
+      | inr f ↦
+          let later = position_from-passes test (i + 1) xs j d (rw f at e) in
+          let next : j - i ≡ suc (j - (i + 1)) = omega (arith, later.0) in
+          (omega (arith, later.0), rw next later.1)
+    ]
+
+-- the entry at a pair's place is one of the pair
+pub place_of-node : (L : List (Entry ℕ)) (p i : ℕ) (d : Entry ℕ) → place_of L p ≡ Some i → (i < length L) × (p ≡ (get_or L i d).node)
+place_of-node L p i d e =
+    let test = λ (x : Entry ℕ). eqb p x.node in
+    let passes = position_from-passes test 0 L i d e in
+    let same : i - 0 ≡ i = omega arith in
+    (omega (arith, position_from-bound test 0 L i e), eqb-true p (get_or L i d).node (rw same at passes.1))
+
+-- a pair has a place exactly where it is listed
+position_from-is_some : {X : Type 0} (test : X → Bool) (i : ℕ) (xs : List X) → is_some (position_from test i xs) ≡ list_any test xs
+position_from-is_some test i [] = refl
+position_from-is_some test i (x ∷ xs) = elim (cases_Bool (test x)) [ inl t ↦ rw t | inr f ↦ rw f (position_from-is_some test (i + 1) xs) ]
+
+pub is_some-place_of : (L : List (Entry ℕ)) (p : ℕ) → is_some (place_of L p) ≡ has_entry L p
+is_some-place_of L p = position_from-is_some (λ (x : Entry ℕ). eqb p x.node) 0 L

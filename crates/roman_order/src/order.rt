@@ -49,9 +49,11 @@ impl Model for Order {
 
 impl Order {
     /// Makes an order for at most `cap_pairs` pairs and `cap_cells` pairs times actions, which is
-    /// shaped for no pairs. No other call takes memory.
+    /// shaped for no pairs. No other call but `copy` takes memory.
     pub fn build(alloc: Global, cap_pairs: u32, cap_cells: u32) -> Result<Order, AllocError>
-        ensures { IfOk result (λ order. order ≡ record { cap_pairs = cap_pairs; cap_cells = cap_cells; pairs = 0; actions = 0; list = []; waiting = []; masks = []; marks = [] }) }
+        ensures { IfOk result (λ order. order ≡ record {
+            cap_pairs = cap_pairs; cap_cells = cap_cells; pairs = 0; actions = 0;
+            list = []; waiting = []; masks = []; marks = [] }) }
     {
         let places = cap_pairs as usize;
         let blank = Removal {
@@ -73,13 +75,33 @@ impl Order {
         })
     }
 
+    /// Makes an equal order, with tables of its own.
+    pub fn copy(&self, alloc: Global) -> Result<Order, AllocError>
+        ensures { IfOk result (λ order. order ≡ self.now) }
+    {
+        Ok(Order {
+            pairs: self.pairs,
+            actions: self.actions,
+            count: self.count,
+            next: self.next,
+            held: self.held,
+            entries: Vec::from_slice(alloc, &self.entries)?,
+            waiting: Vec::from_slice(alloc, &self.waiting)?,
+            stamps: Vec::from_slice(alloc, &self.stamps)?,
+            gone: Vec::from_slice(alloc, &self.gone)?,
+            masks: Vec::from_slice(alloc, &self.masks)?,
+            marks: Vec::from_slice(alloc, &self.marks)?,
+        })
+    }
+
     /// Empties the order, and shapes it for those numbers of pairs and actions: no pair is listed
     /// or marked, and each mask is empty.
     pub fn shape_to(&mut self, pairs: u32, actions: u8)
         requires pairs { pairs ≤ self.old.cap_pairs }
         requires cells { pairs * actions ≤ self.old.cap_cells }
         requires idle { self.old.waiting ≡ [] }
-        ensures shaped { self.new ≡ record self.old { pairs = pairs; actions = actions; list = []; masks = self.new.masks; marks = self.new.marks } }
+        ensures shaped { self.new ≡ record self.old {
+            pairs = pairs; actions = actions; list = []; masks = self.new.masks; marks = self.new.marks } }
         ensures empty { (p a : ℕ) → mask_at self.new p a ≡ 0 }
         ensures unmarked { (p : ℕ) → is_marked self.new p ≡ false }
     {
@@ -100,8 +122,10 @@ impl Order {
         requires pairs { pairs ≤ self.old.cap_pairs }
         requires cells { pairs * self.old.actions ≤ self.old.cap_cells }
         requires idle { self.old.waiting ≡ [] }
-        ensures moved { self.new ≡ record self.old { pairs = pairs; list = []; waiting = self.old.list; masks = self.new.masks; marks = self.new.marks } }
-        ensures kept { (p a : ℕ) → p < self.old.pairs → p < pairs → a < self.old.actions → mask_at self.new p a ≡ mask_at self.old p a }
+        ensures moved { self.new ≡ record self.old {
+            pairs = pairs; list = []; waiting = self.old.list; masks = self.new.masks; marks = self.new.marks } }
+        ensures kept { (p a : ℕ) → p < min self.old.pairs pairs → a < self.old.actions →
+            mask_at self.new p a ≡ mask_at self.old p a }
         ensures empty { (p a : ℕ) → min self.old.pairs pairs ≤ p → mask_at self.new p a ≡ 0 }
         ensures unmarked { (p : ℕ) → is_marked self.new p ≡ false }
         ensures distinct { IsDistinct (λ x y. x == y) (nodes_of self.old.list) }
@@ -140,7 +164,8 @@ impl Order {
         ensures distinct { IsDistinct (λ x y. x == y) (nodes_of self.now.list) }
         ensures in_range { (p : ℕ) → has_entry self.now.list p ≡ true → p < self.now.pairs }
         ensures bound { length self.now.list ≤ self.now.pairs }
-        ensures shape { (self.now.pairs ≤ self.now.cap_pairs) × (self.now.pairs * self.now.actions ≤ self.now.cap_cells) }
+        ensures pairs { self.now.pairs ≤ self.now.cap_pairs }
+        ensures plane { self.now.pairs * self.now.actions ≤ self.now.cap_cells }
         ensures cells { length self.now.masks ≡ self.now.pairs * self.now.actions }
         ensures narrow { (p a : ℕ) → mask_at self.now p a < 2 ^ 32 }
     {
@@ -177,7 +202,7 @@ impl Order {
     pub fn push(&mut self, p: u32, reason: Reason)
         requires in_range { p < self.old.pairs }
         requires alive { has_entry self.old.list p ≡ false }
-        ensures { self.new ≡ record self.old { list = self.old.list ++ record { node = p; reason = reason } ∷ [] } }
+        ensures { self.new ≡ record self.old { list = self.old.list ++ entry_of (p, reason) ∷ [] } }
     {
         self.entries[self.count as usize] = Removal { pair: p, reason };
         self.stamps[p as usize] = self.count;
@@ -199,7 +224,8 @@ impl Order {
         requires pair { p < self.old.pairs }
         requires action { a < self.old.actions }
         ensures set { mask_at self.new p a ≡ mask }
-        ensures others { (q b : ℕ) → b < self.old.actions → (q ≡ p → b ≡ a → ⊥) → mask_at self.new q b ≡ mask_at self.old q b }
+        ensures others { (q b : ℕ) → b < self.old.actions → (q ≡ p → b ≡ a → ⊥) →
+            mask_at self.new q b ≡ mask_at self.old q b }
         ensures rest { self.new ≡ record self.old { masks = self.new.masks } }
     {
         self.masks[p as usize * self.actions as usize + a as usize] = mask;

@@ -40,8 +40,10 @@ pub(crate) fn fold_row(masks: &mut [u32], to: usize, from: usize, width: usize)
     requires apart { (to + width ≤ from) ⊎ (from + width ≤ to) }
     requires to_room { to + width ≤ length masks.old }
     requires from_room { from + width ≤ length masks.old }
-    ensures folded { (i : ℕ) → i < width → slice_index masks.new (to + i) ≡ bit_and (slice_index masks.old (to + i)) (slice_index masks.old (from + i)) }
-    ensures others { (j : ℕ) → (j < to) ⊎ (to + width ≤ j) → slice_index masks.new j ≡ slice_index masks.old j }
+    ensures folded { (i : ℕ) → i < width →
+        slice_index masks.new (to + i) ≡ bit_and (slice_index masks.old (to + i)) (slice_index masks.old (from + i)) }
+    ensures others { (j : ℕ) → (j < to) ⊎ (to + width ≤ j) →
+        slice_index masks.new j ≡ slice_index masks.old j }
 {
     if to < from {
         fold_later_row(masks, to, from, width);
@@ -53,8 +55,10 @@ pub(crate) fn fold_row(masks: &mut [u32], to: usize, from: usize, width: usize)
 fn fold_later_row(masks: &mut [u32], to: usize, from: usize, width: usize)
     requires apart { to + width ≤ from }
     requires room { from + width ≤ length masks.old }
-    ensures folded { (i : ℕ) → i < width → slice_index masks.new (to + i) ≡ bit_and (slice_index masks.old (to + i)) (slice_index masks.old (from + i)) }
-    ensures others { (j : ℕ) → (j < to) ⊎ (to + width ≤ j) → slice_index masks.new j ≡ slice_index masks.old j }
+    ensures folded { (i : ℕ) → i < width →
+        slice_index masks.new (to + i) ≡ bit_and (slice_index masks.old (to + i)) (slice_index masks.old (from + i)) }
+    ensures others { (j : ℕ) → (j < to) ⊎ (to + width ≤ j) →
+        slice_index masks.new j ≡ slice_index masks.old j }
 {
     let (front, back) = masks.split_at_mut(from);
     and_into(&mut front[to..to + width], &back[..width]);
@@ -63,8 +67,10 @@ fn fold_later_row(masks: &mut [u32], to: usize, from: usize, width: usize)
 fn fold_earlier_row(masks: &mut [u32], to: usize, from: usize, width: usize)
     requires apart { from + width ≤ to }
     requires room { to + width ≤ length masks.old }
-    ensures folded { (i : ℕ) → i < width → slice_index masks.new (to + i) ≡ bit_and (slice_index masks.old (to + i)) (slice_index masks.old (from + i)) }
-    ensures others { (j : ℕ) → (j < to) ⊎ (to + width ≤ j) → slice_index masks.new j ≡ slice_index masks.old j }
+    ensures folded { (i : ℕ) → i < width →
+        slice_index masks.new (to + i) ≡ bit_and (slice_index masks.old (to + i)) (slice_index masks.old (from + i)) }
+    ensures others { (j : ℕ) → (j < to) ⊎ (to + width ≤ j) →
+        slice_index masks.new j ≡ slice_index masks.old j }
 {
     let (front, back) = masks.split_at_mut(to);
     and_into(&mut back[..width], &front[from..from + width]);

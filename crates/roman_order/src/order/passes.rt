@@ -13,7 +13,8 @@ impl Order {
     pub fn clear_all(&mut self, k: u8)
         requires { k < 32 }
         ensures cleared { (p a : ℕ) → bit_at (mask_at self.new p a) k ≡ 0 }
-        ensures others { (p a j : ℕ) → j ≢ k → bit_at (mask_at self.new p a) j ≡ bit_at (mask_at self.old p a) j }
+        ensures others { (p a j : ℕ) → j ≢ k →
+            bit_at (mask_at self.new p a) j ≡ bit_at (mask_at self.old p a) j }
         ensures rest { self.new ≡ record self.old { masks = self.new.masks } }
     {
         let end = self.cells();
@@ -23,8 +24,10 @@ impl Order {
     /// Drops the place of seat `k` from every mask: the seats above it move down by one.
     pub fn drop_all(&mut self, k: u8)
         requires { k < 32 }
-        ensures below { (p a j : ℕ) → j < k → bit_at (mask_at self.new p a) j ≡ bit_at (mask_at self.old p a) j }
-        ensures above { (p a j : ℕ) → k ≤ j → bit_at (mask_at self.new p a) j ≡ bit_at (mask_at self.old p a) (j + 1) }
+        ensures below { (p a j : ℕ) → j < k →
+            bit_at (mask_at self.new p a) j ≡ bit_at (mask_at self.old p a) j }
+        ensures above { (p a j : ℕ) → k ≤ j →
+            bit_at (mask_at self.new p a) j ≡ bit_at (mask_at self.old p a) (j + 1) }
         ensures rest { self.new ≡ record self.old { masks = self.new.masks } }
     {
         let end = self.cells();
@@ -36,7 +39,8 @@ impl Order {
         requires to { to < self.old.pairs }
         requires from { from < self.old.pairs }
         requires differ { to ≢ from }
-        ensures folded { (a : ℕ) → a < self.old.actions → mask_at self.new to a ≡ bit_and (mask_at self.old to a) (mask_at self.old from a) }
+        ensures folded { (a : ℕ) → a < self.old.actions →
+            mask_at self.new to a ≡ bit_and (mask_at self.old to a) (mask_at self.old from a) }
         ensures others { (p a : ℕ) → p ≢ to → a < self.old.actions → mask_at self.new p a ≡ mask_at self.old p a }
         ensures rest { self.new ≡ record self.old { masks = self.new.masks } }
     {
@@ -59,7 +63,8 @@ impl Order {
 
     /// How many seats all masks have together.
     pub fn bits(&self) -> u64
-        ensures { result ≡ sum_by (λ p. sum_by (λ a. count_ones (mask_at self.now p a)) (below self.now.actions)) (below self.now.pairs) }
+        ensures { result ≡ sum_by (λ p. sum_by (λ a. count_ones (mask_at self.now p a))
+            (below self.now.actions)) (below self.now.pairs) }
     {
         count_bits(&self.masks[..self.cells()])
     }

@@ -43,11 +43,12 @@ invariant_of-self c =
     }
 
 pub returns-clause-kept : goal.returns-clause-kept
-returns-clause-kept c p a old new action =
+returns-clause-kept c p a both action =
     let inside = c.self.inside in
     let end : c.cells-end.result ≡ inside.pairs * inside.actions = c.cells-end.ensures.value ∙ sym (ap (λ (b : Board). b.pairs * b.actions) c.self.view_is) in
     let masks = with_items_is inside.masks c.clear.new.masks (omega (arith, c.clear.auto.masks, c.deref_mut.ensures.len)) in
     let pair : p < inside.pairs = omega (arith, ap (λ (b : Board). b.pairs) c.self.view_is) in
+    let new : p < c.args.pairs = omega arith in
     let of_actions : a < inside.actions = omega (arith, ap (λ (b : Board). b.actions) c.self.view_is) in
     let below : p * inside.actions + a < c.min.result =
     omega (arith, c.min.ensures, end, mul-add-lt p inside.actions a inside.pairs pair of_actions, mul-add-lt p inside.actions a c.args.pairs new of_actions) in
