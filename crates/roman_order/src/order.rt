@@ -52,8 +52,15 @@ impl Order {
     /// shaped for no pairs. No other call but `copy` takes memory.
     pub fn build(alloc: Global, cap_pairs: u32, cap_cells: u32) -> Result<Order, AllocError>
         ensures { IfOk result (λ order. order ≡ record {
-            cap_pairs = cap_pairs; cap_cells = cap_cells; pairs = 0; actions = 0;
-            list = []; waiting = []; masks = []; marks = [] }) }
+          cap_pairs = cap_pairs;
+          cap_cells = cap_cells;
+          pairs = 0;
+          actions = 0;
+          list = [];
+          waiting = [];
+          masks = [];
+          marks = [];
+        }) }
     {
         let places = cap_pairs as usize;
         let blank = Removal {
@@ -101,7 +108,12 @@ impl Order {
         requires cells { pairs * actions ≤ self.old.cap_cells }
         requires idle { self.old.waiting ≡ [] }
         ensures shaped { self.new ≡ record self.old {
-            pairs = pairs; actions = actions; list = []; masks = self.new.masks; marks = self.new.marks } }
+          pairs = pairs;
+          actions = actions;
+          list = [];
+          masks = self.new.masks;
+          marks = self.new.marks;
+        } }
         ensures empty { (p a : ℕ) → mask_at self.new p a ≡ 0 }
         ensures unmarked { (p : ℕ) → is_marked self.new p ≡ false }
     {
@@ -123,7 +135,12 @@ impl Order {
         requires cells { pairs * self.old.actions ≤ self.old.cap_cells }
         requires idle { self.old.waiting ≡ [] }
         ensures moved { self.new ≡ record self.old {
-            pairs = pairs; list = []; waiting = self.old.list; masks = self.new.masks; marks = self.new.marks } }
+          pairs = pairs;
+          list = [];
+          waiting = self.old.list;
+          masks = self.new.masks;
+          marks = self.new.marks;
+        } }
         ensures kept { (p a : ℕ) → p < min self.old.pairs pairs → a < self.old.actions →
             mask_at self.new p a ≡ mask_at self.old p a }
         ensures empty { (p a : ℕ) → min self.old.pairs pairs ≤ p → mask_at self.new p a ≡ 0 }

@@ -17,7 +17,10 @@ fn a_list_is_kept_and_reopened(rt: HostRuntime) -> Result<(), Fail> {
     assert_eq!(rt; order.bits(), 9);
     order.mark(1);
     order.reopen(3);
-    assert_eq!(rt; (order.len(), order.alive(2), order.marked(1)), (0, true, false));
+    assert_eq!(rt;
+        (order.len(), order.alive(2), order.marked(1)),
+        (0, true, false)
+    );
     assert_eq!(rt; order.next_waiting(), Some((65, Reason::Act(1))));
     assert_eq!(rt; order.next_waiting(), Some((2, Reason::Final)));
     assert_eq!(rt; order.next_waiting(), None);
