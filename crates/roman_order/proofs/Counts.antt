@@ -1,16 +1,17 @@
 -- How many pairs aren't listed, and how many bits the mask plane has.
 use Rattle.std.proofs.Common.{◌≡◌, ◌≢◌, ℕ, zero, suc, ◌+◌, ◌-◌, ◌*◌, ◌^◌, ◌<◌, ◌≤◌, Bool, true, false, cond, not, ◌||◌, eqb, List, [], ◌∷◌, length, get_or, take, Some, unwrap_or, refl, ap, sym, ◌∙◌, inl, inr, arith}
 use Rattle.std.specs.Prelude.{count_by, sum_by}
-use Rattle.std.specs.List.{list_any, position_from, IsDistinct, AllByRecursion}
-use Rattle.std.proofs.lemmas.Bool.{cases_Bool, cases_lt, eq-eqb, ne_eqb, or_from, or_right}
+use Rattle.std.specs.List.{list_any, position_from, IsDistinct}
+use Rattle.std.proofs.lemmas.Bool.{cases_Bool, cases_lt, eq-eqb, ne_eqb, or_right}
 use Rattle.std.proofs.lemmas.List.{take_more}
 use Rattle.std.proofs.lemmas.List.Sums.{sum_by_push}
-use Rattle.std.proofs.lemmas.Map.Keys.{IsDistinct-head, IsDistinct-tail}
+use Rattle.std.proofs.lemmas.Map.Keys.{IsDistinct-tail}
 use Rattle.roman_model.specs.Arena.{Entry}
 use Rattle.roman_model.specs.Lists.{below}
 use Rattle.roman_order.specs.Board.{nodes_of, has_entry}
 use Rattle.roman_order.specs.Sound.{IsPlaced, stamp_of}
-use Rattle.roman_order.proofs.Places.{position_from-bound, has_entry-nodes, length-le_from_apart, stamp_of-none}
+use Rattle.roman_order.proofs.Distinct.{has_entry-rest}
+use Rattle.roman_order.proofs.Places.{position_from-bound, length-le_from_apart, stamp_of-none}
 
 -- ---- unlisted pairs
 
@@ -76,10 +77,6 @@ count_by-but g m (suc n) h out =
           omega (arith, one, none, count_by-but_past g m n ge)
     ]
 
-none-from_apart : (p : ℕ → Bool) (xs : List ℕ) → AllByRecursion (λ y. p y ≡ false) xs → list_any p xs ≡ false
-none-from_apart p [] h = refl
-none-from_apart p (x ∷ xs) h = or_from (p x) (list_any p xs) h.0 (none-from_apart p xs h.1)
-
 count_by-all : (n : ℕ) → count_by (λ q. true) (below n) ≡ n
 count_by-all zero = refl
 count_by-all (suc n) = sum_by_push (λ q. 1) (below n) n ∙ (rw (count_by-all n) (omega arith))
@@ -90,7 +87,7 @@ count_by-unlisted n [] apart in_range = omega (arith, count_by-all n)
 count_by-unlisted n (x ∷ L) apart in_range =
     let first = eq-eqb x.node x.node refl in
     let here = in_range x.node (rw first) in
-    let new = sym (has_entry-nodes L x.node) ∙ none-from_apart (eqb x.node) (nodes_of L) (IsDistinct-head eqb x.node (nodes_of L) apart) in
+    let new = has_entry-rest x L apart in
     let rest = count_by-unlisted n L (IsDistinct-tail eqb x.node (nodes_of L) apart) (λ p h. in_range p (or_right (eqb p x.node) (has_entry L p) h)) in
     omega (arith, rest, count_by-but (has_entry L) x.node n here new)
 

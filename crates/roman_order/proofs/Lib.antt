@@ -5,3 +5,4 @@ pub mod Masks
 pub mod Pushes
 pub mod Rows
 pub mod Counts
+pub mod Distinct
