@@ -17,3 +17,6 @@ pub use name::Name;
 pub use rules::{Kind, Miss};
 pub use table::{AddError, NameTable};
 pub use texts::{ParseError, parse};
+
+#[cfg(test)]
+mod tests;
