@@ -162,9 +162,10 @@ is_empty-map f (x ∷ xs) = refl
 
 pub in_below : (n i : ℕ) → i < n → IsIn i (below n)
 in_below zero i l = let none : ⊥ = omega arith in absurd none
-in_below (suc n) i l = elim (cases_eq i n)
-    [ inl e ↦ subst (λ k. IsIn k (below n ++ n ∷ [])) (sym e) (in_push n (below n))
-    | inr ne ↦ in_append_left i (below n) (n ∷ []) (in_below n i (omega arith)) ]
+in_below (suc n) i l = elim (cases_eq i n) [
+  | inl e ↦ subst (λ k. IsIn k (below n ++ n ∷ [])) (sym e) (in_push n (below n))
+  | inr ne ↦ in_append_left i (below n) (n ∷ []) (in_below n i (omega arith))
+]
 
 pub from_below : (n i : ℕ) → IsIn i (below n) → i < n
 from_below zero i h = absurd h
@@ -176,11 +177,12 @@ length-below (suc n) = length_push (below n) n ∙ ap (λ m. m + 1) (length-belo
 
 pub get_or-below : (n i d : ℕ) → i < n → get_or (below n) i d ≡ i
 get_or-below zero i d l = let none : ⊥ = omega arith in absurd none
-get_or-below (suc n) i d l = elim (cases_eq i n)
-    [ inl e ↦ get_or_push (below n) n d i (length-below n ∙ sym e) ∙ sym e
-    | inr ne ↦
-        let small : i < n = omega arith in
-        get_or_append_left (below n) (n ∷ []) d i (subst (λ m. i < m) (sym (length-below n)) small) ∙ get_or-below n i d small ]
+get_or-below (suc n) i d l = elim (cases_eq i n) [
+  | inl e ↦ get_or_push (below n) n d i (length-below n ∙ sym e) ∙ sym e
+  | inr ne ↦
+      let small : i < n = omega arith in
+      get_or_append_left (below n) (n ∷ []) d i (subst (λ m. i < m) (sym (length-below n)) small) ∙ get_or-below n i d small
+]
 
 pub all_below_at : (p : ℕ → Bool) (n i : ℕ) → IsTrue (all_below p n) → i < n → IsTrue (p i)
 all_below_at p zero i h l = let none : ⊥ = omega arith in absurd none
@@ -285,9 +287,11 @@ filter_shrinks {X} p q (y ∷ xs) less = by_tests (p y) (q y) refl refl (filter_
   where
     more : (a b : Bool) → p y ≡ a → q y ≡ b → IsFalse a → IsTrue b → ⊥
     more a b pa qb fa tb = both_ways (p y) (pa ∙ fa) (less y (inl refl) (qb ∙ tb))
+
     still : (a : Bool) → p y ≡ a → q y ≡ a → ((x : X) → IsIn x xs → p x ≡ q x) → (x : X) → IsIn x (y ∷ xs) → p x ≡ q x
     still a pa qa same x (inl e) = ap p e ∙ pa ∙ sym qa ∙ ap q (sym e)
     still a pa qa same x (inr i) = same x i
+
     by_tests : (a b : Bool) → p y ≡ a → q y ≡ b →
         ((x : X) → IsIn x xs → p x ≡ q x) ⊎ (length (filter q xs) < length (filter p xs)) →
         ((x : X) → IsIn x (y ∷ xs) → p x ≡ q x) ⊎ (length (filter q (y ∷ xs)) < length (filter p (y ∷ xs)))
@@ -344,9 +348,10 @@ no_longer {X} (x ∷ xs) ys once within =
     omega (arith, length-append before after, length-append before (x ∷ after))
   where
     other : (before after : List X) (z : X) → IsIn z xs → IsIn z (before ++ x ∷ after) → IsIn z (before ++ after)
-    other before after z i j = elim (from_append z before (x ∷ after) j)
-        [ inl left ↦ in_append_left z before after left
-        | inr right ↦ elim right [ inl same ↦ absurd (once.0 (subst (λ w. IsIn w xs) same i)) | inr rest ↦ in_append_right z before after rest ] ]
+    other before after z i j = elim (from_append z before (x ∷ after) j) [
+      | inl left ↦ in_append_left z before after left
+      | inr right ↦ elim right [ inl same ↦ absurd (once.0 (subst (λ w. IsIn w xs) same i)) | inr rest ↦ in_append_right z before after rest ]
+    ]
 
 -- two lists without repeats that have the same elements are equally long
 pub same_length : {X : Type 0} (xs ys : List X) → HasNoRepeats xs → HasNoRepeats ys → ((x : X) → IsIn x xs ↔ IsIn x ys) → length xs ≡ length ys
@@ -360,9 +365,10 @@ HoldsEachOnce-length xs ys each once = same_length xs ys each.once once each.sam
 
 pub HasNoRepeats-append : {X : Type 0} (xs ys : List X) → HasNoRepeats xs → HasNoRepeats ys → ((x : X) → IsIn x xs → IsIn x ys → ⊥) → HasNoRepeats (xs ++ ys)
 HasNoRepeats-append [] ys xs_once ys_once apart = ys_once
-HasNoRepeats-append (x ∷ xs) ys xs_once ys_once apart =
-    (λ i. elim (from_append x xs ys i) [ inl left ↦ xs_once.0 left | inr right ↦ apart x (inl refl) right ],
-    HasNoRepeats-append xs ys xs_once.1 ys_once (λ z i. apart z (inr i)))
+HasNoRepeats-append (x ∷ xs) ys xs_once ys_once apart = (
+  λ i. elim (from_append x xs ys i) [ inl left ↦ xs_once.0 left | inr right ↦ apart x (inl refl) right ],
+  HasNoRepeats-append xs ys xs_once.1 ys_once (λ z i. apart z (inr i)),
+)
 
 pub HasNoRepeats-push : {X : Type 0} (xs : List X) (x : X) → HasNoRepeats xs → (IsIn x xs → ⊥) → HasNoRepeats (xs ++ x ∷ [])
 HasNoRepeats-push xs x once new = HasNoRepeats-append xs (x ∷ []) once (λ none. absurd none, tt) (λ y i j. elim j [ inl e ↦ new (subst (λ w. IsIn w xs) e i) | inr none ↦ absurd none ])
@@ -380,9 +386,10 @@ HasNoRepeats-filter p (x ∷ xs) once =
 -- where the function tells the elements apart
 pub HasNoRepeats-map : {X Y : Type 0} (f : X → Y) (xs : List X) → ((x y : X) → IsIn x xs → IsIn y xs → f x ≡ f y → x ≡ y) → HasNoRepeats xs → HasNoRepeats (map f xs)
 HasNoRepeats-map f [] apart once = tt
-HasNoRepeats-map f (x ∷ xs) apart once =
-    (λ i. let (y, j, e) = from_map f (f x) xs i in once.0 (subst (λ w. IsIn w xs) (sym (apart x y (inl refl) (inr j) e)) j),
-    HasNoRepeats-map f xs (λ y z i j. apart y z (inr i) (inr j)) once.1)
+HasNoRepeats-map f (x ∷ xs) apart once = (
+  λ i. let (y, j, e) = from_map f (f x) xs i in once.0 (subst (λ w. IsIn w xs) (sym (apart x y (inl refl) (inr j) e)) j),
+  HasNoRepeats-map f xs (λ y z i j. apart y z (inr i) (inr j)) once.1,
+)
 
 -- where no list has an element of another's
 pub HasNoRepeats-flat_map : {X Y : Type 0} (f : X → List Y) (xs : List X) → ((x : X) → IsIn x xs → HasNoRepeats (f x)) →
