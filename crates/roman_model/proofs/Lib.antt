@@ -1,2 +1,5 @@
 pub mod Lists
 pub mod SystemLemmas
+pub mod ArenaLemmas
+pub mod OrderLemmas
+pub mod DepthLemmas

@@ -1,0 +1,2 @@
+-- Depths over any arena.
+use Rattle.std.proofs.Common.{◌≡◌}
