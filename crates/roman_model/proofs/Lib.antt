@@ -3,3 +3,5 @@ pub mod SystemLemmas
 pub mod ArenaLemmas
 pub mod OrderLemmas
 pub mod DepthLemmas
+pub mod CompositionLemmas
+pub mod OfferLemmas
