@@ -50,18 +50,20 @@ pub serves_outcomes : (s : Sys) (Related : Couple → Type 0) (p : Pair) (a k : 
     (k < length s.seats) × (outcomes s p a k ≢ []) × ((q : Pair) → IsIn q (outcomes s p a k) → Related (couple q))
 serves_outcomes s Related p a k ok allowed serves =
     let (t', e', step) = from_allowed s p a allowed in
-    let (bs', r) = (serves t' e' step).0 in
-    (slice_get_within s.seats k r.seat r.seated,
-    not_empty_ne (outcomes s p a k) (in_not_empty (record { t = t'; e = e'; bs = bs' }) (outcomes s p a k) (outcome_in s p a k t' e' bs' ok step r)),
-    λ q i. let (target, seat) = from_outcome s p a k q i in (serves q.t q.e target).1 q.bs seat)
+    let (bs', r) = (serves t' e' step).0 in (
+      slice_get_within s.seats k r.seat r.seated,
+      not_empty_ne (outcomes s p a k) (in_not_empty (record { t = t'; e = e'; bs = bs' }) (outcomes s p a k) (outcome_in s p a k t' e' bs' ok step r)),
+      λ q i. let (target, seat) = from_outcome s p a k q i in (serves q.t q.e target).1 q.bs seat,
+    )
 
 pub outcomes_serve : (s : Sys) (Related : Couple → Type 0) (p : Pair) (a k : ℕ) → IsSys s → outcomes s p a k ≢ [] →
     ((q : Pair) → IsIn q (outcomes s p a k) → Related (couple q)) → Serves s Related (couple p) a k
 outcomes_serve s Related p a k ok some all t' e' step =
     let (q, i) = not_empty_in (outcomes s p a k) (ne_not_empty (outcomes s p a k) some) in
-    let r : SStep s p.bs p.e a k q.bs q.e = (from_outcome s p a k q i).1 in
-    ((slice_set p.bs k r.to, record { seat = r.seat; seated = r.seated; ready = r.ready; world = step.0; to = r.to; moves = r.moves; is = refl }),
-    λ bs' other. all (record { t = t'; e = e'; bs = bs' }) (outcome_in s p a k t' e' bs' ok step other))
+    let r : SStep s p.bs p.e a k q.bs q.e = (from_outcome s p a k q i).1 in (
+      (slice_set p.bs k r.to, record { seat = r.seat; seated = r.seated; ready = r.ready; world = step.0; to = r.to; moves = r.moves; is = refl }),
+      λ bs' other. all (record { t = t'; e = e'; bs = bs' }) (outcome_in s p a k t' e' bs' ok step other),
+    )
 
 pub meets_survives : (s : Sys) (Related : Couple → Type 0) (p : Pair) → IsSys s → Meets s Related (couple p) → Survives (arena s) (λ q. Related (couple q)) p
 meets_survives s Related p ok meets = record {
@@ -113,15 +115,17 @@ pub great_from : (s : Sys) (gone : Pair → Bool) → IsSys s →
     IsNdSim s (map couple (filter (λ p. not (gone p)) (pairs s)))
 great_from s gone ok survive = survivors_sim s (filter (λ p. not (gone p)) (pairs s)) ok
     (λ p i.
-        let (j, t) = filter_in (λ p. not (gone p)) p (pairs s) i in
-        survives_more (arena s) (λ q. IsIn q (pairs s) × IsFalse (gone q)) (λ q. IsIn q (filter (λ p. not (gone p)) (pairs s))) p
-        (λ a k q l h. in_filter (λ p. not (gone p)) q (pairs s) h.0 (not_from_false (gone q) h.1))
-        (survive p (from_pairs s p j) (not-true (gone p) t)))
+    let (j, t) = filter_in (λ p. not (gone p)) p (pairs s) i in
+    survives_more (arena s) (λ q. IsIn q (pairs s) × IsFalse (gone q)) (λ q. IsIn q (filter (λ p. not (gone p)) (pairs s))) p
+    (λ a k q l h. in_filter (λ p. not (gone p)) q (pairs s) h.0 (not_from_false (gone q) h.1))
+    (survive p (from_pairs s p j) (not-true (gone p) t)))
 
 pub great_in : (s : Sys) (gone : Pair → Bool) (p : Pair) → IsNdSim s (map couple (filter (λ p. not (gone p)) (pairs s))) → IsPair s p → IsFalse (gone p) → Great s p
-great_in s gone p sim ok f =
-    (map couple (filter (λ p. not (gone p)) (pairs s)), sim,
-    in_map couple p (filter (λ p. not (gone p)) (pairs s)) (in_filter (λ p. not (gone p)) p (pairs s) (in_pairs s p ok) (not_from_false (gone p) f)))
+great_in s gone p sim ok f = (
+  map couple (filter (λ p. not (gone p)) (pairs s)),
+  sim,
+  in_map couple p (filter (λ p. not (gone p)) (pairs s)) (in_filter (λ p. not (gone p)) p (pairs s) (in_pairs s p ok) (not_from_false (gone p) f)),
+)
 
 -- the pairs that aren't lost within as many requests as there are pairs are an ND-simulation
 pub last_is_sim : (s : Sys) → IsSys s → IsNdSim s (map couple (filter (λ p. not (loses (arena s) (length (pairs s)) p)) (pairs s)))
@@ -144,10 +148,14 @@ pub greatest_is : GreatestIsGreatest
 greatest_is s ok = record {
   closed = great_meets s;
   holds_each = λ R sim c i. (R, sim, i);
-  finite = (map couple (filter (is_related s) (pairs s)), last_is_sim s ok,
-      λ p pair.
-          (λ great. in_map couple p (filter (is_related s) (pairs s)) (in_filter (is_related s) p (pairs s) (in_pairs s p pair) (great_related s p ok great)),
-          λ i. (map couple (filter (is_related s) (pairs s)), last_is_sim s ok, i)));
+  finite = (
+    map couple (filter (is_related s) (pairs s)),
+    last_is_sim s ok,
+    λ p pair. (
+      λ great. in_map couple p (filter (is_related s) (pairs s)) (in_filter (is_related s) p (pairs s) (in_pairs s p pair) (great_related s p ok great)),
+      λ i. (map couple (filter (is_related s) (pairs s)), last_is_sim s ok, i),
+    ),
+  );
 }
 
 -- Removal lists.
@@ -176,12 +184,13 @@ pub completed_by : (s : Sys) (L : List (Entry Pair)) → IsSys s → AreEntries 
 completed_by s L ok entries order no_reason = record {
   pairs = entries;
   order = order;
-  exact = λ p pair.
-      (λ t great. listed_unrelated s L p ok order t great,
-      λ unrelated. by_test (is_listed (arena s) L p) (λ t. t)
-          (λ f. absurd (unrelated (unlisted_related s L ok
-              (λ q q_pair g. not-false (is_fine s q) (no_reason q q_pair g Final))
-              (λ q q_pair g a allowed. no_reason q q_pair g (Act a)) p pair f))));
+  exact = λ p pair. (
+    λ t great. listed_unrelated s L p ok order t great,
+    λ unrelated. by_test (is_listed (arena s) L p) (λ t. t)
+        (λ f. absurd (unrelated (unlisted_related s L ok
+        (λ q q_pair g. not-false (is_fine s q) (no_reason q q_pair g Final))
+        (λ q q_pair g a allowed. no_reason q q_pair g (Act a)) p pair f))),
+  );
 }
 
 pub order_completed : OrderCompletes
@@ -201,11 +210,12 @@ complete_listed s L p ok complete pair = same_test (is_listed (arena s) L p) (no
 
 -- Depth is bounded.
 pub unrelated_lost : UnrelatedLoses
-unrelated_lost s ok p pair =
-    (λ unrelated. by_test (loses (arena s) (length (pairs s)) p)
-        (λ t. (length (pairs s), omega arith, t))
-        (λ f. absurd (unrelated (related_great s p ok pair (not_from_false (loses (arena s) (length (pairs s)) p) f)))),
-    λ (n, l, t) great. lost_unrelated s n p ok t great)
+unrelated_lost s ok p pair = (
+  λ unrelated. by_test (loses (arena s) (length (pairs s)) p)
+      (λ t. (length (pairs s), omega arith, t))
+      (λ f. absurd (unrelated (related_great s p ok pair (not_from_false (loses (arena s) (length (pairs s)) p) f)))),
+  λ (n, l, t) great. lost_unrelated s n p ok t great,
+)
 
 -- The replay keeps the most.
 pub replay_kept : ReplayKeeps

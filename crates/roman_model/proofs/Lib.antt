@@ -5,3 +5,4 @@ pub mod OrderLemmas
 pub mod DepthLemmas
 pub mod CompositionLemmas
 pub mod OfferLemmas
+pub mod PlayLemmas

@@ -34,13 +34,14 @@ mask_is_offers s L p a ok complete pair =
 pub offers_are : OffersAreGenerator
 offers_are s ok = record {
   related = λ p pair. (related_great s p ok pair, great_related s p ok);
-  offered = λ p pair a allowed k.
-      (λ i.
-          let (allows, l, some, all) = offer_is s p a k ok pair i in
-          (l, outcomes_serve s (GreatCouple s) p a k ok some all),
-      λ h.
-          let (l, some, all) = serves_outcomes s (GreatCouple s) p a k ok allowed h.1 in
-          in_offers s p a k ok allowed l some all);
+  offered = λ p pair a allowed k. (
+    λ i.
+        let (allows, l, some, all) = offer_is s p a k ok pair i in
+        (l, outcomes_serve s (GreatCouple s) p a k ok some all),
+    λ h.
+        let (l, some, all) = serves_outcomes s (GreatCouple s) p a k ok allowed h.1 in
+        in_offers s p a k ok allowed l some all,
+  );
   masked = λ L complete p pair a. mask_is_offers s L p a ok complete pair;
 }
 

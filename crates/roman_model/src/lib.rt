@@ -12,7 +12,7 @@ mod reason;
 
 pub use laws::{
     following_stays, greatest_is_greatest, offers_are_generator, order_completes, order_refutes,
-    replay_keeps, unrelated_loses,
+    order_wins, replay_keeps, unrelated_loses,
 };
 pub use limits::{
     DEFAULT_CELLS, MAX_ACTIONS, MAX_BEHAVIOURS, MAX_CELLS, MAX_CERTIFICATE_BYTES,
