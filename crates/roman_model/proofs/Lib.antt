@@ -6,3 +6,5 @@ pub mod DepthLemmas
 pub mod CompositionLemmas
 pub mod OfferLemmas
 pub mod PlayLemmas
+pub mod DepthPlayLemmas
+pub mod Examples

@@ -11,8 +11,8 @@ mod limits;
 mod reason;
 
 pub use laws::{
-    following_stays, greatest_is_greatest, offers_are_generator, order_completes, order_refutes,
-    order_wins, replay_keeps, unrelated_loses,
+    depth_is_least, depth_wins, following_stays, greatest_is_greatest, offers_are_generator,
+    order_completes, order_refutes, order_wins, replay_keeps, unrelated_loses,
 };
 pub use limits::{
     DEFAULT_CELLS, MAX_ACTIONS, MAX_BEHAVIOURS, MAX_CELLS, MAX_CERTIFICATE_BYTES,
