@@ -3,6 +3,7 @@ pub mod SystemLemmas
 pub mod ArenaLemmas
 pub mod OrderLemmas
 pub mod DepthLemmas
+pub mod WorkLemmas
 pub mod CompositionLemmas
 pub mod OfferLemmas
 pub mod PlayLemmas
