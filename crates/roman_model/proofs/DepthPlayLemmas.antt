@@ -1,12 +1,12 @@
 -- The depths of a system's pairs, and the opponent's game by them.
-use Rattle.std.proofs.Common.{◌≡◌, ◌≢◌, ◌↔◌, ℕ, zero, suc, ◌<◌, ◌≤◌, Bool, true, false, cond, not, ◌&&◌, ◌||◌, ◌⊎◌, if◌then◌else◌, List, [], ◌∷◌, length, Option, Some, None, IsTrue, IsFalse, find, inl, inr, refl, sym, ap, ◌∙◌, subst, arith}
+use Rattle.std.proofs.Common.{◌≡◌, ℕ, zero, suc, ◌<◌, ◌≤◌, not, if◌then◌else◌, List, [], ◌∷◌, length, Option, Some, None, IsTrue, IsFalse, find, inl, inr, refl, sym, ap, ◌∙◌, subst, arith}
 use Rattle.std.specs.List.{list_any}
 use Rattle.std.proofs.lemmas.Bool.{both_ways, or_cases, not_from_false, cond-true, cond-false, cases_order}
 use Rattle.roman_model.specs.Lists.{IsIn, below, is_empty}
-use Rattle.roman_model.specs.System.{Sys, Pair, IsSys, IsPair, pairs, outcomes, is_allowed}
-use Rattle.roman_model.specs.Arena.{Arena, is_justified, loses, depth}
+use Rattle.roman_model.specs.System.{Sys, Pair, IsSys, IsPair, pairs, outcomes}
+use Rattle.roman_model.specs.Arena.{is_justified, loses, depth}
 use Rattle.roman_model.specs.Composition.{Great, arena}
-use Rattle.roman_model.specs.Play.{has_ready, went_on, WinsWithin, AreSeats, refuting, request_at, depth_play_at, depth_play, DepthPlayWins, DepthWins, IsLeastDepth, DepthIsLeast}
+use Rattle.roman_model.specs.Play.{has_ready, went_on, WinsWithin, AreSeats, refuting, request_at, depth_play_at, depth_play, DepthWins, DepthIsLeast}
 use Rattle.roman_model.specs.declared.reason.Reason.TheVariants.{Act}
 use Rattle.roman_model.proofs.Lists.{by_test, any_from, find_some, find_found}
 use Rattle.roman_model.proofs.SystemLemmas.{in_pairs, outcome_pair}

@@ -1,7 +1,7 @@
 -- Lemmas on lists and their elements, on numbers below a bound, and on tests.
-use Rattle.std.proofs.Common.{◌≡◌, ◌≢◌, ℕ, zero, suc, ◌+◌, ◌<◌, ◌≤◌, Bool, true, false, cond, not, ◌&&◌, ◌||◌, ◌⊎◌, ◌↔◌, List, [], ◌∷◌, ◌++◌, map, length, get_or, take, drop, Option, Some, None, IsTrue, IsFalse, Contains, filter, find, flat_map, sum_by, inl, inr, refl, sym, ap, ap₂, ◌∙◌, subst, arith, add-one, length-append}
+use Rattle.std.proofs.Common.{◌≡◌, ◌≢◌, ℕ, zero, suc, ◌+◌, ◌<◌, ◌≤◌, Bool, true, false, cond, ◌&&◌, ◌||◌, ◌⊎◌, ◌↔◌, List, [], ◌∷◌, ◌++◌, map, length, get_or, Option, Some, None, IsTrue, IsFalse, Contains, filter, find, flat_map, sum_by, inl, inr, refl, sym, ap, ap₂, ◌∙◌, subst, arith, add-one, length-append}
 use Rattle.std.specs.List.{list_any}
-use Rattle.std.proofs.lemmas.Bool.{false≢true, true≢false, both_ways, or_cases, or_parts, or_left, or_right, or_from, and_parts, and_from, and_cases, and_left, and_right, not-true, not-false, not_from_true, not_from_false, cond-true, cond-false, cases_eq, cases_order}
+use Rattle.std.proofs.lemmas.Bool.{false≢true, true≢false, both_ways, or_cases, or_parts, or_left, or_right, or_from, and_parts, and_from, and_cases, cond-true, cond-false, cases_eq, cases_order}
 use Rattle.std.proofs.lemmas.List.{length_push, get_or_push, get_or_append_left}
 use Rattle.std.proofs.lemmas.List.Sums.{sum_by-cons, sum_by-append}
 use Rattle.std.proofs.lemmas.List.Folds.{list_any-append, find-append}
@@ -438,6 +438,7 @@ sum_by_within {X} f (x ∷ xs) ys once within =
     omega (arith, sum_by-append f before after, sum_by-append f before (x ∷ after), sum_by-cons f x after, sum_by-cons f x xs)
   where
     other : (before after : List X) (z : X) → IsIn z xs → IsIn z (before ++ x ∷ after) → IsIn z (before ++ after)
-    other before after z i j = elim (from_append z before (x ∷ after) j)
-        [ inl left ↦ in_append_left z before after left
-        | inr right ↦ elim right [ inl same ↦ absurd (once.0 (subst (λ w. IsIn w xs) same i)) | inr rest ↦ in_append_right z before after rest ] ]
+    other before after z i j = elim (from_append z before (x ∷ after) j) [
+      | inl left ↦ in_append_left z before after left
+      | inr right ↦ elim right [ inl same ↦ absurd (once.0 (subst (λ w. IsIn w xs) same i)) | inr rest ↦ in_append_right z before after rest ]
+    ]

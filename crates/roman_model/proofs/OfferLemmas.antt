@@ -1,12 +1,12 @@
 -- The offers, and what follows where they are taken.
-use Rattle.std.proofs.Common.{◌≡◌, ◌≢◌, ℕ, ◌<◌, ◌≤◌, Bool, true, false, not, ◌&&◌, ◌||◌, ◌⊎◌, ◌↔◌, List, [], ◌∷◌, map, length, IsTrue, IsFalse, inl, inr, refl, sym, ap, ◌∙◌, subst}
-use Rattle.std.proofs.lemmas.Bool.{both_ways, not-true, not-false, not_from_true, not_from_false}
+use Rattle.std.proofs.Common.{◌≡◌, ◌≢◌, ℕ, ◌<◌, not, List, [], ◌∷◌, length, IsTrue}
+use Rattle.std.proofs.lemmas.Bool.{not-false, not_from_true}
 use Rattle.roman_model.specs.Lists.{IsIn}
-use Rattle.roman_model.specs.System.{Sys, Pair, IsSys, IsPair, pairs, outcomes, is_allowed, is_fine}
-use Rattle.roman_model.specs.Arena.{Arena, Entry, is_listed, is_beaten, mask, loses, choices, Survives}
-use Rattle.roman_model.specs.Composition.{couple, Serves, GreatCouple, Great, arena, IsComplete}
-use Rattle.roman_model.specs.Offers.{is_related, offers, choice_count, OffersServe, OffersAreGenerator, Choice, Follows, end_of, StaysRelated, FollowingStays}
-use Rattle.roman_model.proofs.Lists.{by_test, in_not_empty, not_empty_ne}
+use Rattle.roman_model.specs.System.{Sys, Pair, IsSys, IsPair, outcomes, is_allowed}
+use Rattle.roman_model.specs.Arena.{Entry, is_listed, mask, choices}
+use Rattle.roman_model.specs.Composition.{GreatCouple, Great, arena, IsComplete}
+use Rattle.roman_model.specs.Offers.{is_related, offers, choice_count, OffersAreGenerator, FollowingStays}
+use Rattle.roman_model.proofs.Lists.{in_not_empty, not_empty_ne}
 use Rattle.roman_model.proofs.SystemLemmas.{outcome_pair, from_pairs}
 use Rattle.roman_model.proofs.ArenaLemmas.{unbeaten_is, unbeaten_from, in_mask, from_mask, mask_same}
 use Rattle.roman_model.proofs.WorkLemmas.{choices_same}

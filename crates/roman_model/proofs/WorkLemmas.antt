@@ -1,32 +1,33 @@
 -- What working off a removal list needs: entries by their place, the delegations that lead to a node, and sums.
-use Rattle.std.proofs.Common.{◌≡◌, ◌≢◌, ℕ, zero, suc, ◌+◌, ◌<◌, ◌≤◌, ◌==◌, Bool, true, false, cond, not, ◌&&◌, ◌||◌, ◌⊎◌, List, [], ◌∷◌, ◌++◌, map, length, get_or, take, drop, IsTrue, IsFalse, filter, flat_map, sum_by, count_by, inl, inr, refl, sym, ap, ◌∙◌, subst, arith, take-append-drop, append_assoc}
+use Rattle.std.proofs.Common.{◌≡◌, ℕ, ◌+◌, ◌<◌, ◌≤◌, ◌==◌, Bool, true, false, ◌&&◌, ◌||◌, List, [], ◌∷◌, ◌++◌, map, length, get_or, take, drop, IsTrue, IsFalse, filter, flat_map, sum_by, count_by, refl, sym, ap, ◌∙◌, subst, take-append-drop}
 use Rattle.std.specs.List.{list_any}
 use Rattle.std.proofs.lemmas.Bool.{and_parts, and_from, eqb-true, eq-eqb}
 use Rattle.std.proofs.lemmas.List.{take_more, drop_more, length-map}
 use Rattle.std.proofs.lemmas.List.Sums.{sum_by_push, sum_by-append, length-filter}
 use Rattle.std.proofs.lemmas.List.Concat.{length-flat_map}
 use Rattle.roman_model.specs.Lists.{IsIn, HasNoRepeats, below}
-use Rattle.roman_model.specs.Arena.{Arena, Entry, is_among, is_listed, is_beaten, is_justified, mask, IsOrderFrom, IsOrder, AreNew, Delegation, delegations, back, fall, readings, choices}
-use Rattle.roman_model.proofs.Lists.{by_test, same_test, any_true, any_from, from_map, filter-map, filter-flat_map, sum_by_same, sum_by_within}
-use Rattle.roman_model.proofs.ArenaLemmas.{IsSame, IsArena, same_from, in_among, beaten_push, justified_same, among_in, in_back, from_back, mask_same}
-use Rattle.roman_model.proofs.OrderLemmas.{new_once}
+use Rattle.roman_model.specs.Arena.{Arena, Entry, is_among, is_listed, is_beaten, is_justified, mask, IsOrderFrom, IsOrder, Delegation, back, fall, readings, choices}
+use Rattle.roman_model.proofs.Lists.{same_test, any_true, any_from, filter-map, filter-flat_map, sum_by_same, sum_by_within}
+use Rattle.roman_model.proofs.ArenaLemmas.{IsSame, IsArena, in_among, beaten_push, justified_same, among_in, in_back, from_back, mask_same}
 
 -- Entries by their place.
 
 pub order_from_middle : {N : Type 0} (A : Arena N) (before : List N) (L M : List (Entry N)) (x : Entry N) → IsOrderFrom A before (L ++ x ∷ M) →
     IsFalse (is_among A before x.node || is_listed A L x.node) × IsTrue (is_justified A (λ q. is_among A before q || is_listed A L q) x.node x.reason)
-order_from_middle A before [] M x order =
-    (or_false (is_among A before x.node) ∙ order.0,
-    justified_same A (λ q. is_among A before q || false) (is_among A before) x.node x.reason (λ a k q i. or_false (is_among A before q)) ∙ order.1)
+order_from_middle A before [] M x order = (
+  or_false (is_among A before x.node) ∙ order.0,
+  justified_same A (λ q. is_among A before q || false) (is_among A before) x.node x.reason (λ a k q i. or_false (is_among A before q)) ∙ order.1,
+)
   where
     or_false : (b : Bool) → (b || false) ≡ b
     or_false true = refl
     or_false false = refl
 order_from_middle A before (y ∷ L) M x order =
-    let (unlisted, j) = order_from_middle A (y.node ∷ before) L M x order.2 in
-    (turned (A.same x.node y.node) (is_among A before x.node) (is_listed A L x.node) ∙ unlisted,
-    justified_same A (λ q. is_among A before q || is_listed A (y ∷ L) q) (λ q. is_among A (y.node ∷ before) q || is_listed A L q) x.node x.reason
-    (λ a k q i. turned (A.same q y.node) (is_among A before q) (is_listed A L q)) ∙ j)
+    let (unlisted, j) = order_from_middle A (y.node ∷ before) L M x order.2 in (
+      turned (A.same x.node y.node) (is_among A before x.node) (is_listed A L x.node) ∙ unlisted,
+      justified_same A (λ q. is_among A before q || is_listed A (y ∷ L) q) (λ q. is_among A (y.node ∷ before) q || is_listed A L q) x.node x.reason
+          (λ a k q i. turned (A.same q y.node) (is_among A before q) (is_listed A L q)) ∙ j,
+    )
   where
     turned : (a b c : Bool) → (b || (a || c)) ≡ ((a || b) || c)
     turned true true c = refl
@@ -56,18 +57,18 @@ pub back_has : {N : Type 0} (A : Arena N) → IsArena A → (q p : N) (a k : ℕ
     list_any (λ d. A.same d.node p && d.action == a && d.seat == k) (back A q) ≡ is_among A (A.outcomes p a k) q
 back_has {N} A ok q p a k i = same_test (list_any (λ d. A.same d.node p && d.action == a && d.seat == k) (back A q)) (is_among A (A.outcomes p a k) q)
     (λ t.
-        let (d, j, e) = any_true (λ d. A.same d.node p && d.action == a && d.seat == k) (back A q) t in
-        let (front, seat) = and_parts (A.same d.node p && d.action == a) (d.seat == k) e in
-        let (node, action) = and_parts (A.same d.node p) (d.action == a) front in
-        let outcome : IsIn q (A.outcomes d.node d.action d.seat) = (from_back A ok.same q d j).3 in
-        in_among A ok.same (A.outcomes p a k) q
-        (subst (λ c. IsIn q (A.outcomes p a c)) (eqb-true d.seat k seat)
-        (subst (λ b. IsIn q (A.outcomes p b d.seat)) (eqb-true d.action a action)
-        (subst (λ r. IsIn q (A.outcomes r d.action d.seat)) (ok.same.is d.node p node) outcome))))
+    let (d, j, e) = any_true (λ d. A.same d.node p && d.action == a && d.seat == k) (back A q) t in
+    let (front, seat) = and_parts (A.same d.node p && d.action == a) (d.seat == k) e in
+    let (node, action) = and_parts (A.same d.node p) (d.action == a) front in
+    let outcome : IsIn q (A.outcomes d.node d.action d.seat) = (from_back A ok.same q d j).3 in
+    in_among A ok.same (A.outcomes p a k) q
+    (subst (λ c. IsIn q (A.outcomes p a c)) (eqb-true d.seat k seat)
+    (subst (λ b. IsIn q (A.outcomes p b d.seat)) (eqb-true d.action a action)
+    (subst (λ r. IsIn q (A.outcomes r d.action d.seat)) (ok.same.is d.node p node) outcome))))
     (λ t.
-        any_from (λ d. A.same d.node p && d.action == a && d.seat == k) (record { node = p; action = a; seat = k }) (back A q)
-        (in_back A ok q p a k i (among_in A ok.same (A.outcomes p a k) q t))
-        (and_from (A.same p p && a == a) (k == k) (and_from (A.same p p) (a == a) (ok.same.itself p) (eq-eqb a a refl)) (eq-eqb k k refl)))
+    any_from (λ d. A.same d.node p && d.action == a && d.seat == k) (record { node = p; action = a; seat = k }) (back A q)
+    (in_back A ok q p a k i (among_in A ok.same (A.outcomes p a k) q t))
+    (and_from (A.same p p && a == a) (k == k) (and_from (A.same p p) (a == a) (ok.same.itself p) (eq-eqb a a refl)) (eq-eqb k k refl)))
 
 -- Sums.
 
@@ -90,15 +91,19 @@ readings_sum {N} A =
   where
     test : Delegation N → Bool
     test d = A.allows d.node d.action && A.ready d.seat
+
     at_action : N → ℕ → List (Delegation N)
     at_action p a = map (λ k. record { node = p; action = a; seat = k }) (below A.seats)
+
     at_node : N → List (Delegation N)
     at_node p = flat_map (at_action p) (below A.actions)
+
     action_sum : (p : N) (a : ℕ) → length (filter test (at_action p a)) ≡ count_by (λ k. A.allows p a && A.ready k) (below A.seats)
     action_sum p a =
         ap length (filter-map test (λ k. record { node = p; action = a; seat = k }) (below A.seats))
         ∙ length-map (filter (λ k. A.allows p a && A.ready k) (below A.seats)) (λ k. record { node = p; action = a; seat = k })
         ∙ length-filter (λ k. A.allows p a && A.ready k) (below A.seats)
+
     node_sum : (p : N) → length (filter test (at_node p)) ≡ readings_at A p
     node_sum p =
         ap length (filter-flat_map test (at_action p) (below A.actions))
@@ -115,4 +120,4 @@ pub choices_same : {N : Type 0} (A : Arena N) (gone more : N → Bool) → ((p :
 choices_same A gone more same =
     sum_by_same (λ p. sum_by (λ a. length (mask A gone p a)) (below A.actions)) (λ p. sum_by (λ a. length (mask A more p a)) (below A.actions)) A.nodes
     (λ p i. sum_by_same (λ a. length (mask A gone p a)) (λ a. length (mask A more p a)) (below A.actions)
-        (λ a j. ap length (mask_same A gone more p a (λ k q h. same p i a k q h))))
+    (λ a j. ap length (mask_same A gone more p a (λ k q h. same p i a k q h))))
