@@ -7,6 +7,7 @@
 #![tactic(auto)]
 
 mod limits;
+mod numbers;
 mod reason;
 
 pub use limits::{
@@ -14,4 +15,5 @@ pub use limits::{
     MAX_DOCUMENT_BYTES, MAX_FILE_NAME_BYTES, MAX_LINE_BYTES, MAX_NAME_BYTES, MAX_SERVICES,
     MAX_SESSION_BYTES, MAX_STATES, MAX_STEPS,
 };
+pub use numbers::pairs_are_numbered;
 pub use reason::Reason;
