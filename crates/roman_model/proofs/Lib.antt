@@ -1,3 +1,5 @@
 pub mod Lists
 pub mod SystemLemmas
 pub mod NumberLemmas
+pub mod Renames
+pub mod NumberedArena
