@@ -3,3 +3,4 @@ pub mod SystemLemmas
 pub mod NumberLemmas
 pub mod Renames
 pub mod NumberedArena
+pub mod ChangeLemmas
