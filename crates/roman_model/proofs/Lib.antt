@@ -1,6 +1,10 @@
 pub mod Lists
 pub mod SystemLemmas
+pub mod ArenaLemmas
+pub mod OrderLemmas
+pub mod DepthLemmas
 pub mod NumberLemmas
 pub mod Renames
 pub mod NumberedArena
 pub mod ChangeLemmas
+pub mod ChangeLaws

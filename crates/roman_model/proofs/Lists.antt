@@ -323,6 +323,12 @@ sublist_in x (z ∷ xs) (y ∷ ys) (inl (e, s)) (inl f) = inl (f ∙ e)
 sublist_in x (z ∷ xs) (y ∷ ys) (inl (e, s)) (inr i) = inr (sublist_in x xs ys s i)
 sublist_in x (z ∷ xs) (y ∷ ys) (inr s) i = inr (sublist_in x (z ∷ xs) ys s i)
 
+pub sublist_length : {X : Type 0} (xs ys : List X) → IsSublist xs ys → length xs ≤ length ys
+sublist_length [] ys s = omega arith
+sublist_length (x ∷ xs) [] s = absurd s
+sublist_length (x ∷ xs) (y ∷ ys) (inl (e, s)) = let l : length xs ≤ length ys = sublist_length xs ys s in omega arith
+sublist_length (x ∷ xs) (y ∷ ys) (inr s) = let l : length (x ∷ xs) ≤ length ys = sublist_length (x ∷ xs) ys s in omega arith
+
 pub filter_sublist : {X : Type 0} (p : X → Bool) (xs : List X) → IsSublist (filter p xs) xs
 filter_sublist p [] = tt
 filter_sublist p (x ∷ xs) =
