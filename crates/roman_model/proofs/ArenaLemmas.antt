@@ -63,9 +63,10 @@ listed_push A L x p = listed_append A L (x ∷ []) p ∙ ap (λ b. is_listed A L
 -- where each outcome that is gone is gone in more
 pub beaten_more : {N : Type 0} (A : Arena N) (gone more : N → Bool) (p : N) (a k : ℕ) →
     ((q : N) → IsIn q (A.outcomes p a k) → IsTrue (gone q) → IsTrue (more q)) → IsTrue (is_beaten A gone p a k) → IsTrue (is_beaten A more p a k)
-beaten_more A gone more p a k h b = elim (or_cases (is_empty (A.outcomes p a k)) (list_any gone (A.outcomes p a k)) b)
-    [ inl none ↦ or_left (is_empty (A.outcomes p a k)) (list_any more (A.outcomes p a k)) none
-    | inr some ↦ or_right (is_empty (A.outcomes p a k)) (list_any more (A.outcomes p a k)) (any_more gone more (A.outcomes p a k) h some) ]
+beaten_more A gone more p a k h b = elim (or_cases (is_empty (A.outcomes p a k)) (list_any gone (A.outcomes p a k)) b) [
+  | inl none ↦ or_left (is_empty (A.outcomes p a k)) (list_any more (A.outcomes p a k)) none
+  | inr some ↦ or_right (is_empty (A.outcomes p a k)) (list_any more (A.outcomes p a k)) (any_more gone more (A.outcomes p a k) h some)
+]
 
 pub beaten_same : {N : Type 0} (A : Arena N) (gone more : N → Bool) (p : N) (a k : ℕ) →
     ((q : N) → IsIn q (A.outcomes p a k) → gone q ≡ more q) → is_beaten A gone p a k ≡ is_beaten A more p a k
@@ -97,18 +98,21 @@ unbeaten_from A gone p a k some all =
 pub beaten_push : {N : Type 0} (A : Arena N) → IsSame A → (L : List (Entry N)) (x : Entry N) (p : N) (a k : ℕ) →
     is_beaten A (is_listed A (L ++ x ∷ [])) p a k ≡ (is_beaten A (is_listed A L) p a k || is_among A (A.outcomes p a k) x.node)
 beaten_push A E L x p a k = same_test (is_beaten A (is_listed A (L ++ x ∷ [])) p a k) (is_beaten A (is_listed A L) p a k || is_among A (A.outcomes p a k) x.node)
-    (λ b. elim (beaten_is A (is_listed A (L ++ x ∷ [])) p a k b)
-        [ inl none ↦ or_left (is_beaten A (is_listed A L) p a k) (is_among A (A.outcomes p a k) x.node) (beaten_none A (is_listed A L) p a k none)
-        | inr some ↦
-            let (q, i, g) = some in
-            elim (or_cases (is_listed A L q) (A.same q x.node) (sym (listed_push A L x q) ∙ g))
-            [ inl old ↦ or_left (is_beaten A (is_listed A L) p a k) (is_among A (A.outcomes p a k) x.node) (beaten_by A (is_listed A L) p a k q i old)
+    (λ b. elim (beaten_is A (is_listed A (L ++ x ∷ [])) p a k b) [
+      | inl none ↦ or_left (is_beaten A (is_listed A L) p a k) (is_among A (A.outcomes p a k) x.node) (beaten_none A (is_listed A L) p a k none)
+      | inr some ↦
+          let (q, i, g) = some in
+          elim (or_cases (is_listed A L q) (A.same q x.node) (sym (listed_push A L x q) ∙ g)) [
+            | inl old ↦ or_left (is_beaten A (is_listed A L) p a k) (is_among A (A.outcomes p a k) x.node) (beaten_by A (is_listed A L) p a k q i old)
             | inr new ↦ or_right (is_beaten A (is_listed A L) p a k) (is_among A (A.outcomes p a k) x.node)
-                (in_among A E (A.outcomes p a k) x.node (subst (λ r. IsIn r (A.outcomes p a k)) (E.is q x.node new) i)) ] ])
-    (λ b. elim (or_cases (is_beaten A (is_listed A L) p a k) (is_among A (A.outcomes p a k) x.node) b)
-        [ inl old ↦ beaten_more A (is_listed A L) (is_listed A (L ++ x ∷ [])) p a k (λ q i t. listed_push A L x q ∙ or_left (is_listed A L q) (A.same q x.node) t) old
-        | inr new ↦ beaten_by A (is_listed A (L ++ x ∷ [])) p a k x.node (among_in A E (A.outcomes p a k) x.node new)
-            (listed_push A L x x.node ∙ or_right (is_listed A L x.node) (A.same x.node x.node) (E.itself x.node)) ])
+                (in_among A E (A.outcomes p a k) x.node (subst (λ r. IsIn r (A.outcomes p a k)) (E.is q x.node new) i))
+          ]
+    ])
+    (λ b. elim (or_cases (is_beaten A (is_listed A L) p a k) (is_among A (A.outcomes p a k) x.node) b) [
+      | inl old ↦ beaten_more A (is_listed A L) (is_listed A (L ++ x ∷ [])) p a k (λ q i t. listed_push A L x q ∙ or_left (is_listed A L q) (A.same q x.node) t) old
+      | inr new ↦ beaten_by A (is_listed A (L ++ x ∷ [])) p a k x.node (among_in A E (A.outcomes p a k) x.node new)
+          (listed_push A L x x.node ∙ or_right (is_listed A L x.node) (A.same x.node x.node) (E.itself x.node))
+    ])
 
 -- Reasons.
 
@@ -155,9 +159,9 @@ pub from_mask : {N : Type 0} (A : Arena N) (gone : N → Bool) (p : N) (a k : �
     IsTrue (A.allows p a) × (k < A.seats) × IsFalse (is_beaten A gone p a k)
 from_mask A gone p a k i = by_test (A.allows p a)
     (λ t.
-        let (j, b) = filter_in (λ j. not (is_beaten A gone p a j)) k (below A.seats)
-            (subst (λ ks. IsIn k ks) (cond-true (A.allows p a) (filter (λ j. not (is_beaten A gone p a j)) (below A.seats)) [] t) i) in
-        (t, from_below A.seats k j, not-true (is_beaten A gone p a k) b))
+    let (j, b) = filter_in (λ j. not (is_beaten A gone p a j)) k (below A.seats)
+    (subst (λ ks. IsIn k ks) (cond-true (A.allows p a) (filter (λ j. not (is_beaten A gone p a j)) (below A.seats)) [] t) i) in
+    (t, from_below A.seats k j, not-true (is_beaten A gone p a k) b))
     (λ f. absurd (subst (λ ks. IsIn k ks) (cond-false (A.allows p a) (filter (λ j. not (is_beaten A gone p a j)) (below A.seats)) [] f) i))
 
 pub mask_same : {N : Type 0} (A : Arena N) (gone more : N → Bool) (p : N) (a : ℕ) →
@@ -174,18 +178,18 @@ mask_none A gone p a f = cond-false (A.allows p a) (filter (λ k. not (is_beaten
 pub mask_has : {N : Type 0} (A : Arena N) (gone : N → Bool) (p : N) (a k : ℕ) → k < A.seats → has (mask A gone p a) k ≡ (A.allows p a && not (is_beaten A gone p a k))
 mask_has A gone p a k l = same_test (has (mask A gone p a) k) (A.allows p a && not (is_beaten A gone p a k))
     (λ t.
-        let (j, i, e) = any_true (λ m. m == k) (mask A gone p a) t in
-        let (allowed, m, b) = from_mask A gone p a k (subst (λ m. IsIn m (mask A gone p a)) (eqb-true j k e) i) in
-        and_from (A.allows p a) (not (is_beaten A gone p a k)) allowed (not_from_false (is_beaten A gone p a k) b))
+    let (j, i, e) = any_true (λ m. m == k) (mask A gone p a) t in
+    let (allowed, m, b) = from_mask A gone p a k (subst (λ m. IsIn m (mask A gone p a)) (eqb-true j k e) i) in
+    and_from (A.allows p a) (not (is_beaten A gone p a k)) allowed (not_from_false (is_beaten A gone p a k) b))
     (λ t.
-        let (allowed, b) = and_parts (A.allows p a) (not (is_beaten A gone p a k)) t in
-        any_from (λ m. m == k) k (mask A gone p a) (in_mask A gone p a k allowed l (not-true (is_beaten A gone p a k) b)) (eq-eqb k k refl))
+    let (allowed, b) = and_parts (A.allows p a) (not (is_beaten A gone p a k)) t in
+    any_from (λ m. m == k) k (mask A gone p a) (in_mask A gone p a k allowed l (not-true (is_beaten A gone p a k) b)) (eq-eqb k k refl))
 
 pub mask_has_past : {N : Type 0} (A : Arena N) (gone : N → Bool) (p : N) (a k : ℕ) → A.seats ≤ k → IsFalse (has (mask A gone p a) k)
 mask_has_past A gone p a k l = none_from (λ m. m == k) (mask A gone p a)
     (λ m i. by_test (m == k)
-        (λ t. let below_seats : m < A.seats = (from_mask A gone p a m i).1 in let same : m ≡ k = eqb-true m k t in let none : ⊥ = omega arith in absurd none)
-        (λ f. f))
+    (λ t. let below_seats : m < A.seats = (from_mask A gone p a m i).1 in let same : m ≡ k = eqb-true m k t in let none : ⊥ = omega arith in absurd none)
+    (λ f. f))
 
 -- the mask is empty exactly where the action is a reason, or isn't allowed
 pub mask_empty : {N : Type 0} (A : Arena N) (gone : N → Bool) (p : N) (a : ℕ) → IsTrue (A.allows p a) → mask A gone p a ≡ [] → IsTrue (is_justified A gone p (Act a))
@@ -195,7 +199,7 @@ mask_empty A gone p a allowed e = by_test (is_justified A gone p (Act a)) (λ t.
 pub mask_not_empty : {N : Type 0} (A : Arena N) (gone : N → Bool) (p : N) (a : ℕ) → mask A gone p a ≢ [] → IsFalse (is_justified A gone p (Act a))
 mask_not_empty A gone p a ne = by_test (is_justified A gone p (Act a))
     (λ t. absurd (ne (nothing_in (mask A gone p a)
-        (λ k i. let (allowed, l, b) = from_mask A gone p a k i in both_ways (is_beaten A gone p a k) b ((justified_is A gone p a t).1 k l)))))
+    (λ k i. let (allowed, l, b) = from_mask A gone p a k i in both_ways (is_beaten A gone p a k) b ((justified_is A gone p a t).1 k l)))))
     (λ f. f)
   where
     nothing_in : (ks : List ℕ) → ((k : ℕ) → IsIn k ks → ⊥) → ks ≡ []
@@ -251,10 +255,11 @@ pub from_delegations : {N : Type 0} (A : Arena N) (d : Delegation N) → IsIn d 
 from_delegations A d i =
     let (p, j, l) = from_flat_map (λ p. flat_map (λ a. map (λ k. record { node = p; action = a; seat = k }) (below A.seats)) (below A.actions)) d A.nodes i in
     let (a, m, n) = from_flat_map (λ a. map (λ k. record { node = p; action = a; seat = k }) (below A.seats)) d (below A.actions) l in
-    let (k, o, e) = from_map (λ k. record { node = p; action = a; seat = k }) d (below A.seats) n in
-    (subst (λ q. IsIn q A.nodes) (sym (ap (λ d. d.node) e)) j,
-    subst (λ b. b < A.actions) (sym (ap (λ d. d.action) e)) (from_below A.actions a m),
-    subst (λ j. j < A.seats) (sym (ap (λ d. d.seat) e)) (from_below A.seats k o))
+    let (k, o, e) = from_map (λ k. record { node = p; action = a; seat = k }) d (below A.seats) n in (
+      subst (λ q. IsIn q A.nodes) (sym (ap (λ d. d.node) e)) j,
+      subst (λ b. b < A.actions) (sym (ap (λ d. d.action) e)) (from_below A.actions a m),
+      subst (λ j. j < A.seats) (sym (ap (λ d. d.seat) e)) (from_below A.seats k o),
+    )
 
 pub in_back : {N : Type 0} (A : Arena N) → IsArena A → (q p : N) (a k : ℕ) → IsIn p A.nodes → IsIn q (A.outcomes p a k) →
     IsIn (record { node = p; action = a; seat = k }) (back A q)
@@ -274,18 +279,21 @@ pub delegations_once : {N : Type 0} (A : Arena N) → HasNoRepeats A.nodes → H
 delegations_once {N} A once =
     HasNoRepeats-flat_map at_node A.nodes
     (λ p i. HasNoRepeats-flat_map (at_action p) (below A.actions)
-        (λ a j. HasNoRepeats-map (λ k. record { node = p; action = a; seat = k }) (below A.seats) (λ k l m n e. ap (λ (d : Delegation N). d.seat) e) (HasNoRepeats-below A.seats))
-        (λ a b d j k l m. sym (action_of p a d l) ∙ action_of p b d m)
-        (HasNoRepeats-below A.actions))
+    (λ a j. HasNoRepeats-map (λ k. record { node = p; action = a; seat = k }) (below A.seats) (λ k l m n e. ap (λ (d : Delegation N). d.seat) e) (HasNoRepeats-below A.seats))
+    (λ a b d j k l m. sym (action_of p a d l) ∙ action_of p b d m)
+    (HasNoRepeats-below A.actions))
     (λ p q d i j k l. sym (node_of p d k) ∙ node_of q d l)
     once
   where
     at_action : N → ℕ → List (Delegation N)
     at_action p a = map (λ k. record { node = p; action = a; seat = k }) (below A.seats)
+
     at_node : N → List (Delegation N)
     at_node p = flat_map (at_action p) (below A.actions)
+
     action_of : (p : N) (a : ℕ) (d : Delegation N) → IsIn d (at_action p a) → d.action ≡ a
     action_of p a d i = let (k, j, e) = from_map (λ k. record { node = p; action = a; seat = k }) d (below A.seats) i in ap (λ d. d.action) e
+
     node_of : (p : N) (d : Delegation N) → IsIn d (at_node p) → d.node ≡ p
     node_of p d i =
         let (a, j, l) = from_flat_map (at_action p) d (below A.actions) i in

@@ -60,11 +60,11 @@ pub firsts_has : (seen : List Pair) (L : List (Entry Pair)) (x : Entry Pair) →
 firsts_has seen [] x i = absurd i
 firsts_has seen (y ∷ L) x i = by_test (list_any (same_pair y.node) seen)
     (λ known. subst (λ M. IsTrue (list_any (same_pair x.node) seen) ⊎ IsTrue (list_any (λ z. same_pair x.node z.node) M))
-        (sym (cond-true (list_any (same_pair y.node) seen) (firsts seen L) (y ∷ firsts (y.node ∷ seen) L) known))
-        (by_known known i (λ j. firsts_has seen L x j)))
+    (sym (cond-true (list_any (same_pair y.node) seen) (firsts seen L) (y ∷ firsts (y.node ∷ seen) L) known))
+    (by_known known i (λ j. firsts_has seen L x j)))
     (λ new. subst (λ M. IsTrue (list_any (same_pair x.node) seen) ⊎ IsTrue (list_any (λ z. same_pair x.node z.node) M))
-        (sym (cond-false (list_any (same_pair y.node) seen) (firsts seen L) (y ∷ firsts (y.node ∷ seen) L) new))
-        (by_new i (λ j. firsts_has (y.node ∷ seen) L x j)))
+    (sym (cond-false (list_any (same_pair y.node) seen) (firsts seen L) (y ∷ firsts (y.node ∷ seen) L) new))
+    (by_new i (λ j. firsts_has (y.node ∷ seen) L x j)))
   where
     by_known : IsTrue (list_any (same_pair y.node) seen) → IsIn x (y ∷ L) →
         (IsIn x L → IsTrue (list_any (same_pair x.node) seen) ⊎ IsTrue (list_any (λ z. same_pair x.node z.node) (firsts seen L))) →
@@ -109,27 +109,27 @@ pub listed_after_death : (s : Sys) (k : ℕ) (seat : Seat) (L : List (Entry Pair
 listed_after_death s k seat L seated are p ok =
     same_test (is_listed (arena (left s k)) (rename (Die k seat) L) p) (list_any (λ b. is_listed (arena s) L (with_state k b p)) (goers seat))
     (λ h.
-        let (x, i, same) = any_true (λ x. same_pair p x.node) (rename (Die k seat) L) h in
-        let (y, j, goes, e) = die_from k seat L x i in
-        let is : p ≡ without k y.node = same_pair_is p x.node same ∙ ap (λ z. z.node) e in
-        let back : with_state k (slice_index y.node.bs k) p ≡ y.node = ap (with_state k (slice_index y.node.bs k)) is ∙ with_state-without s k y.node (are y j) within in
-        any_from (λ b. is_listed (arena s) L (with_state k b p)) (slice_index y.node.bs k) (goers seat)
-        (in_filter (λ b. not seat.rests || is_final seat.beh b) (slice_index y.node.bs k) (below seat.beh.states)
-        (in_below seat.beh.states (slice_index y.node.bs k) (state_below s.seats y.node.bs k seat seated (are y j).bs)) goes)
-        (any_from (λ x. same_pair (with_state k (slice_index y.node.bs k) p) x.node) y L j (same_pair_from (with_state k (slice_index y.node.bs k) p) y.node back)))
+    let (x, i, same) = any_true (λ x. same_pair p x.node) (rename (Die k seat) L) h in
+    let (y, j, goes, e) = die_from k seat L x i in
+    let is : p ≡ without k y.node = same_pair_is p x.node same ∙ ap (λ z. z.node) e in
+    let back : with_state k (slice_index y.node.bs k) p ≡ y.node = ap (with_state k (slice_index y.node.bs k)) is ∙ with_state-without s k y.node (are y j) within in
+    any_from (λ b. is_listed (arena s) L (with_state k b p)) (slice_index y.node.bs k) (goers seat)
+    (in_filter (λ b. not seat.rests || is_final seat.beh b) (slice_index y.node.bs k) (below seat.beh.states)
+    (in_below seat.beh.states (slice_index y.node.bs k) (state_below s.seats y.node.bs k seat seated (are y j).bs)) goes)
+    (any_from (λ x. same_pair (with_state k (slice_index y.node.bs k) p) x.node) y L j (same_pair_from (with_state k (slice_index y.node.bs k) p) y.node back)))
     (λ h.
-        let (b, i, t) = any_true (λ b. is_listed (arena s) L (with_state k b p)) (goers seat) h in
-        let (y, j, same) = any_true (λ x. same_pair (with_state k b p) x.node) L t in
-        let is : with_state k b p ≡ y.node = same_pair_is (with_state k b p) y.node same in
-        let state : slice_index y.node.bs k ≡ b = ap (λ q. slice_index q.bs k) (sym is) ∙ index_insert p.bs k b room in
-        let (l, goes) = filter_in (λ c. not seat.rests || is_final seat.beh c) b (below seat.beh.states) i in
-        let kept : IsIn y (filter (λ x. may_go k seat x.node) L) = in_filter (λ x. may_go k seat x.node) y L j (subst (λ c. IsTrue (not seat.rests || is_final seat.beh c)) (sym state) goes) in
-        let node : without k y.node ≡ p = ap (without k) (sym is) ∙ without-with_state k b p room in
-        subst (λ q. IsTrue (is_listed (arena (left s k)) (rename (Die k seat) L) q)) node
-        (elim (firsts_has [] (map (entry_without k) (filter (λ x. may_go k seat x.node) L)) (entry_without k y) (in_map (entry_without k) y (filter (λ x. may_go k seat x.node) L) kept)) [
-          | inl none ↦ absurd (false≢true none)
-          | inr there ↦ there
-        ]))
+    let (b, i, t) = any_true (λ b. is_listed (arena s) L (with_state k b p)) (goers seat) h in
+    let (y, j, same) = any_true (λ x. same_pair (with_state k b p) x.node) L t in
+    let is : with_state k b p ≡ y.node = same_pair_is (with_state k b p) y.node same in
+    let state : slice_index y.node.bs k ≡ b = ap (λ q. slice_index q.bs k) (sym is) ∙ index_insert p.bs k b room in
+    let (l, goes) = filter_in (λ c. not seat.rests || is_final seat.beh c) b (below seat.beh.states) i in
+    let kept : IsIn y (filter (λ x. may_go k seat x.node) L) = in_filter (λ x. may_go k seat x.node) y L j (subst (λ c. IsTrue (not seat.rests || is_final seat.beh c)) (sym state) goes) in
+    let node : without k y.node ≡ p = ap (without k) (sym is) ∙ without-with_state k b p room in
+    subst (λ q. IsTrue (is_listed (arena (left s k)) (rename (Die k seat) L) q)) node
+    (elim (firsts_has [] (map (entry_without k) (filter (λ x. may_go k seat x.node) L)) (entry_without k y) (in_map (entry_without k) y (filter (λ x. may_go k seat x.node) L) kept)) [
+      | inl none ↦ absurd (false≢true none)
+      | inr there ↦ there
+    ]))
   where
     within : k < length s.seats
     within = slice_get_within s.seats k seat seated
@@ -152,13 +152,13 @@ any_exchange all P xs ys some =
           any_from (λ y. all || list_any (λ x. P x y) xs) y ys j (or_right all (list_any (λ x. P x y) xs) (any_from (λ x. P x y) x xs i v))
     ])
     (λ h.
-        let (y, j, t) = any_true (λ y. all || list_any (λ x. P x y) xs) ys h in
-        elim (or_cases all (list_any (λ x. P x y) xs) t) [
-          | inl u ↦ or_left all (list_any (λ x. list_any (P x) ys) xs) u
-          | inr u ↦
-              let (x, i, v) = any_true (λ x. P x y) xs u in
-              or_right all (list_any (λ x. list_any (P x) ys) xs) (any_from (λ x. list_any (P x) ys) x xs i (any_from (P x) y ys j v))
-        ])
+    let (y, j, t) = any_true (λ y. all || list_any (λ x. P x y) xs) ys h in
+    elim (or_cases all (list_any (λ x. P x y) xs) t) [
+      | inl u ↦ or_left all (list_any (λ x. list_any (P x) ys) xs) u
+      | inr u ↦
+          let (x, i, v) = any_true (λ x. P x y) xs u in
+          or_right all (list_any (λ x. list_any (P x) ys) xs) (any_from (λ x. list_any (P x) ys) x xs i (any_from (P x) y ys j v))
+    ])
 
 -- a seat is beaten at the pair with a state of the dead one where it is by the tests with that state
 beaten-with_state : (s : Sys) (k : ℕ) (gone : Pair → Bool) (p : Pair) (b a j : ℕ) → k ≤ length p.bs →
@@ -170,9 +170,9 @@ beaten-with_state s k gone p b a j room =
 pub mask_after_death : MaskAfterDeath
 mask_after_death s k seat L sys seated are some p ok a j =
     ap (λ x. is_empty (outcomes (left s k) p a j) || x)
-        (any_same (is_listed (arena (left s k)) (rename (Die k seat) L)) (λ q. list_any (λ b. is_listed (arena s) L (with_state k b q)) (goers seat)) (outcomes (left s k) p a j)
-        (λ q i. listed_after_death s k seat L seated are q (outcome_pair (left s k) p a j q (IsSys-left s k sys) ok i)))
+    (any_same (is_listed (arena (left s k)) (rename (Die k seat) L)) (λ q. list_any (λ b. is_listed (arena s) L (with_state k b q)) (goers seat)) (outcomes (left s k) p a j)
+    (λ q i. listed_after_death s k seat L seated are q (outcome_pair (left s k) p a j q (IsSys-left s k sys) ok i)))
     ∙ any_exchange (is_empty (outcomes (left s k) p a j)) (λ q b. is_listed (arena s) L (with_state k b q)) (outcomes (left s k) p a j) (goers seat) some
     ∙ any_same (λ b. is_empty (outcomes (left s k) p a j) || list_any (λ q. is_listed (arena s) L (with_state k b q)) (outcomes (left s k) p a j))
-        (λ b. is_beaten (arena s) (is_listed (arena s) L) (with_state k b p) a (place k j)) (goers seat)
-        (λ b i. sym (beaten-with_state s k (is_listed (arena s) L) p b a j (place_in_pair s k p (slice_get_within s.seats k seat seated) ok)))
+    (λ b. is_beaten (arena s) (is_listed (arena s) L) (with_state k b p) a (place k j)) (goers seat)
+    (λ b i. sym (beaten-with_state s k (is_listed (arena s) L) p b a j (place_in_pair s k p (slice_get_within s.seats k seat seated) ok)))

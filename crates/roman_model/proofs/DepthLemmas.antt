@@ -12,9 +12,10 @@ use Rattle.roman_model.proofs.ArenaLemmas.{IsArena, justified_is, justified_more
 
 pub loses_up : {N : Type 0} (A : Arena N) (m n : ℕ) (p : N) → m ≤ n → IsTrue (loses A m p) → IsTrue (loses A n p)
 loses_up A m zero p l t = subst (λ k. IsTrue (loses A k p)) (let e : m ≡ 0 = omega arith in e) t
-loses_up A m (suc n) p l t = elim (cases_eq m (suc n))
-    [ inl e ↦ subst (λ k. IsTrue (loses A k p)) e t
-    | inr ne ↦ or_left (loses A n p) (list_any (λ a. is_justified A (loses A n) p (Act a)) (below A.actions)) (loses_up A m n p (omega arith) t) ]
+loses_up A m (suc n) p l t = elim (cases_eq m (suc n)) [
+  | inl e ↦ subst (λ k. IsTrue (loses A k p)) e t
+  | inr ne ↦ or_left (loses A n p) (list_any (λ a. is_justified A (loses A n) p (Act a)) (below A.actions)) (loses_up A m n p (omega arith) t)
+]
 
 pub loses_down : {N : Type 0} (A : Arena N) (m n : ℕ) (p : N) → m ≤ n → IsFalse (loses A n p) → IsFalse (loses A m p)
 loses_down A m n p l f = by_test (loses A m p) (λ t. absurd (both_ways (loses A n p) f (loses_up A m n p l t))) (λ g. g)
@@ -39,11 +40,12 @@ lost_act A ok n p a j =
 -- Nothing that is lost lives, for any way to live that keeps itself up.
 pub lost_dead : {N : Type 0} (A : Arena N) (Lives : N → Type 0) → ((p : N) → Lives p → Survives A Lives p) → (n : ℕ) (p : N) → IsTrue (loses A n p) → Lives p → ⊥
 lost_dead A Lives lives zero p t v = both_ways (A.fine p) (not-true (A.fine p) t) (lives p v).final
-lost_dead A Lives lives (suc n) p t v = elim (or_cases (loses A n p) (list_any (λ a. is_justified A (loses A n) p (Act a)) (below A.actions)) t)
-    [ inl sooner ↦ lost_dead A Lives lives n p sooner v
-    | inr now ↦
-        let (a, i, j) = any_true (λ a. is_justified A (loses A n) p (Act a)) (below A.actions) now in
-        unjustified A Lives (loses A n) p (Act a) (lives p v) (λ q s w. lost_dead A Lives lives n q s w) j ]
+lost_dead A Lives lives (suc n) p t v = elim (or_cases (loses A n p) (list_any (λ a. is_justified A (loses A n) p (Act a)) (below A.actions)) t) [
+  | inl sooner ↦ lost_dead A Lives lives n p sooner v
+  | inr now ↦
+      let (a, i, j) = any_true (λ a. is_justified A (loses A n) p (Act a)) (below A.actions) now in
+      unjustified A Lives (loses A n) p (Act a) (lives p v) (λ q s w. lost_dead A Lives lives n q s w) j
+]
 
 -- The rounds come to an end.
 
@@ -60,14 +62,20 @@ pub rounds : {N : Type 0} (A : Arena N) (n : ℕ) → ((m : ℕ) × (m < n) × I
 rounds A zero =
     let l : unlost_count A zero ≤ length A.nodes = sublist_length (filter (λ p. not (loses A zero p)) A.nodes) A.nodes (filter_sublist (λ p. not (loses A zero p)) A.nodes) in
     inr (omega arith)
-rounds {N} A (suc n) = elim (rounds A n)
-    [ inl before ↦ let (m, l, steady) = before in inl (m, omega arith, steady)
-    | inr few ↦ elim (filter_shrinks (λ p. not (loses A n p)) (λ p. not (loses A (suc n) p)) A.nodes
-            (λ p i t. not_from_false (loses A n p) (loses_down A n (suc n) p (omega arith) (not-true (loses A (suc n) p) t))))
-        [ inl same ↦ inl (n, omega arith, λ p i. same_test (loses A (suc n) p) (loses A n p)
-            (λ t. not-false (loses A n p) (same p i ∙ not_from_true (loses A (suc n) p) t))
-            (λ t. loses_up A n (suc n) p (omega arith) t))
-        | inr short ↦ inr (omega arith) ] ]
+rounds {N} A (suc n) = elim (rounds A n) [
+  | inl before ↦ let (m, l, steady) = before in inl (m, omega arith, steady)
+  | inr few ↦ elim (filter_shrinks (λ p. not (loses A n p)) (λ p. not (loses A (suc n) p)) A.nodes
+      (λ p i t. not_from_false (loses A n p) (loses_down A n (suc n) p (omega arith) (not-true (loses A (suc n) p) t)))) [
+        | inl same ↦ inl (
+          n,
+          omega arith,
+          λ p i. same_test (loses A (suc n) p) (loses A n p)
+              (λ t. not-false (loses A n p) (same p i ∙ not_from_true (loses A (suc n) p) t))
+              (λ t. loses_up A n (suc n) p (omega arith) t),
+        )
+        | inr short ↦ inr (omega arith)
+      ]
+]
 
 -- within as many rounds as there are nodes they come to an end
 pub rounds_end : {N : Type 0} (A : Arena N) → (m : ℕ) × (m ≤ length A.nodes) × IsSteady A m
@@ -77,14 +85,15 @@ rounds_end A = elim (rounds A (suc (length A.nodes)))
 -- after a steady round nothing more is lost
 pub steady_stays : {N : Type 0} (A : Arena N) → IsArena A → (m : ℕ) → IsSteady A m → (n : ℕ) → m ≤ n → (p : N) → IsIn p A.nodes → loses A n p ≡ loses A m p
 steady_stays A ok m steady zero l p i = ap (λ k. loses A k p) (let e : 0 ≡ m = omega arith in e)
-steady_stays {N} A ok m steady (suc n) l p i = elim (cases_eq m (suc n))
-    [ inl e ↦ ap (λ k. loses A k p) (sym e)
-    | inr ne ↦
-        let before : (q : N) → IsIn q A.nodes → loses A n q ≡ loses A m q = steady_stays A ok m steady n (omega arith) in
-        ap (λ b. b || list_any (λ a. is_justified A (loses A n) p (Act a)) (below A.actions)) (before p i)
-        ∙ ap (λ b. loses A m p || b) (any_same (λ a. is_justified A (loses A n) p (Act a)) (λ a. is_justified A (loses A m) p (Act a)) (below A.actions)
-            (λ a j. justified_same A (loses A n) (loses A m) p (Act a) (λ b k q h. before q (ok.closed p i b k q h))))
-        ∙ steady p i ]
+steady_stays {N} A ok m steady (suc n) l p i = elim (cases_eq m (suc n)) [
+  | inl e ↦ ap (λ k. loses A k p) (sym e)
+  | inr ne ↦
+      let before : (q : N) → IsIn q A.nodes → loses A n q ≡ loses A m q = steady_stays A ok m steady n (omega arith) in
+      ap (λ b. b || list_any (λ a. is_justified A (loses A n) p (Act a)) (below A.actions)) (before p i)
+      ∙ ap (λ b. loses A m p || b) (any_same (λ a. is_justified A (loses A n) p (Act a)) (λ a. is_justified A (loses A m) p (Act a)) (below A.actions)
+      (λ a j. justified_same A (loses A n) (loses A m) p (Act a) (λ b k q h. before q (ok.closed p i b k q h))))
+      ∙ steady p i
+]
 
 -- what isn't lost within as many requests as there are nodes is never lost
 pub last_is_steady : {N : Type 0} (A : Arena N) → IsArena A → (n : ℕ) → length A.nodes ≤ n → (p : N) → IsIn p A.nodes → loses A n p ≡ loses A (length A.nodes) p
@@ -114,8 +123,8 @@ depth_from A p d l t least = find_first (λ n. loses A n p) (length A.nodes + 1)
 pub depth_none : {N : Type 0} (A : Arena N) → IsArena A → (p : N) → IsIn p A.nodes → depth A p ≡ None → (n : ℕ) → IsFalse (loses A n p)
 depth_none A ok p i e n =
     let last : IsFalse (loses A (length A.nodes) p) =
-        any_false (λ m. loses A m p) (length A.nodes) (below (length A.nodes + 1)) (find_none (λ m. loses A m p) (below (length A.nodes + 1)) e)
-        (in_below (length A.nodes + 1) (length A.nodes) (omega arith)) in
+    any_false (λ m. loses A m p) (length A.nodes) (below (length A.nodes + 1)) (find_none (λ m. loses A m p) (below (length A.nodes + 1)) e)
+    (in_below (length A.nodes + 1) (length A.nodes) (omega arith)) in
     elim (cases_lt n (length A.nodes))
     [ inl less ↦ loses_down A n (length A.nodes) p (omega arith) last | inr more ↦ last_is_steady A ok n more p i ∙ last ]
 

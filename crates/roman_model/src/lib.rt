@@ -6,10 +6,12 @@
 //! of a function with an empty body.
 #![tactic(auto)]
 
+mod changes;
 mod limits;
 mod numbers;
 mod reason;
 
+pub use changes::{mask_after_death, renaming_keeps};
 pub use limits::{
     DEFAULT_CELLS, MAX_ACTIONS, MAX_BEHAVIOURS, MAX_CELLS, MAX_CERTIFICATE_BYTES,
     MAX_DOCUMENT_BYTES, MAX_FILE_NAME_BYTES, MAX_LINE_BYTES, MAX_NAME_BYTES, MAX_SERVICES,
