@@ -17,13 +17,29 @@ use Rattle.roman_model.proofs.SystemLemmas.{same_pair_is, same_pair_from, same_p
 
 -- Maps of maps
 
+-- where two functions agree on the elements
+pub flat_map_same_in : {X Y : Type 0} (f g : X → List Y) (xs : List X) → ((x : X) → IsIn x xs → f x ≡ g x) → flat_map f xs ≡ flat_map g xs
+flat_map_same_in f g [] same = refl
+flat_map_same_in f g (x ∷ xs) same = ap₂ (λ ys zs. ys ++ zs) (same x (inl refl)) (flat_map_same_in f g xs (λ y i. same y (inr i)))
+
+pub map_same_in : {X Y : Type 0} (f g : X → Y) (xs : List X) → ((x : X) → IsIn x xs → f x ≡ g x) → map f xs ≡ map g xs
+map_same_in f g [] same = refl
+map_same_in f g (x ∷ xs) same = ap₂ (λ y ys. y ∷ ys) (same x (inl refl)) (map_same_in f g xs (λ y i. same y (inr i)))
+
+-- and everywhere
 pub flat_map_same : {X Y : Type 0} (f g : X → List Y) (xs : List X) → ((x : X) → f x ≡ g x) → flat_map f xs ≡ flat_map g xs
-flat_map_same f g [] same = refl
-flat_map_same f g (x ∷ xs) same = ap₂ (λ ys zs. ys ++ zs) (same x) (flat_map_same f g xs same)
+flat_map_same f g xs same = flat_map_same_in f g xs (λ x i. same x)
 
 pub map_same : {X Y : Type 0} (f g : X → Y) (xs : List X) → ((x : X) → f x ≡ g x) → map f xs ≡ map g xs
-map_same f g [] same = refl
-map_same f g (x ∷ xs) same = ap₂ (λ y ys. y ∷ ys) (same x) (map_same f g xs same)
+map_same f g xs same = map_same_in f g xs (λ x i. same x)
+
+pub filter-map : {X Y : Type 0} (p : Y → Bool) (f : X → Y) (xs : List X) → filter p (map f xs) ≡ map f (filter (λ x. p (f x)) xs)
+filter-map {X} p f [] = refl
+filter-map {X} p f (x ∷ xs) = ap (λ ys. if p (f x) then f x ∷ ys else ys) (filter-map p f xs) ∙ sym (map_kept (p (f x)) (filter (λ z. p (f z)) xs))
+  where
+    map_kept : (b : Bool) (zs : List X) → map f (if b then x ∷ zs else zs) ≡ (if b then f x ∷ map f zs else map f zs)
+    map_kept true zs = refl
+    map_kept false zs = refl
 
 pub map-map : {X Y Z : Type 0} (f : Y → Z) (g : X → Y) (xs : List X) → map f (map g xs) ≡ map (λ x. f (g x)) xs
 map-map f g [] = refl

@@ -8,3 +8,4 @@ pub mod Renames
 pub mod NumberedArena
 pub mod ChangeLemmas
 pub mod ChangeLaws
+pub mod NumberedChanges
