@@ -142,6 +142,9 @@ justified_is A gone p a j =
     let (allowed, each) = and_parts (A.allows p a) (all_below (is_beaten A gone p a) A.seats) j in
     (allowed, λ k l. all_below_at (is_beaten A gone p a) A.seats k each l)
 
+pub unallowed_unjustified : {N : Type 0} (A : Arena N) (gone : N → Bool) (p : N) (a : ℕ) → IsFalse (A.allows p a) → IsFalse (is_justified A gone p (Act a))
+unallowed_unjustified A gone p a f = and_left (A.allows p a) (all_below (is_beaten A gone p a) A.seats) f
+
 -- where the reason doesn't hold for an allowed action, some seat is left
 pub unjustified_act : {N : Type 0} (A : Arena N) (gone : N → Bool) (p : N) (a : ℕ) → IsTrue (A.allows p a) → IsFalse (is_justified A gone p (Act a)) →
     (k : ℕ) × (k < A.seats) × IsFalse (is_beaten A gone p a k)

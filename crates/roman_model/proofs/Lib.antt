@@ -9,3 +9,6 @@ pub mod NumberedArena
 pub mod ChangeLemmas
 pub mod ChangeLaws
 pub mod NumberedChanges
+pub mod CompositionLemmas
+pub mod OfferLemmas
+pub mod PlayLemmas

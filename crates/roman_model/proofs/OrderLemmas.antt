@@ -21,11 +21,13 @@ order_from_push A before [] x order new unlisted j =
     from_or_false true t = refl
     from_or_false false t = absurd (false≢true t)
 order_from_push A before (y ∷ L) x order new unlisted j =
-    let (other, rest) = or_parts (A.same x.node y.node) (is_listed A L x.node) unlisted in
-    (order.0, order.1,
-    order_from_push A (y.node ∷ before) L x order.2 (or_from (A.same x.node y.node) (is_among A before x.node) other new) rest
-    (justified_more A (λ q. is_among A before q || is_listed A (y ∷ L) q) (λ q. is_among A (y.node ∷ before) q || is_listed A L q) x.node x.reason
-    (λ a k q i t. moved_on (A.same q y.node) (is_among A before q) (is_listed A L q) t) j))
+    let (other, rest) = or_parts (A.same x.node y.node) (is_listed A L x.node) unlisted in (
+      order.0,
+      order.1,
+      order_from_push A (y.node ∷ before) L x order.2 (or_from (A.same x.node y.node) (is_among A before x.node) other new) rest
+          (justified_more A (λ q. is_among A before q || is_listed A (y ∷ L) q) (λ q. is_among A (y.node ∷ before) q || is_listed A L q) x.node x.reason
+          (λ a k q i t. moved_on (A.same q y.node) (is_among A before q) (is_listed A L q) t) j),
+    )
   where
     moved_on : (a b c : Bool) → IsTrue (b || (a || c)) → IsTrue ((a || b) || c)
     moved_on true b c t = refl
@@ -59,10 +61,11 @@ order_new A L order = order_from_new A [] L order
 pub new_less : {N : Type 0} (A : Arena N) (less before : List N) (L : List (Entry N)) → ((q : N) → IsTrue (is_among A less q) → IsTrue (is_among A before q)) →
     AreNew A before L → AreNew A less L
 new_less A less before [] h new = tt
-new_less A less before (x ∷ L) h new =
-    (by_test (is_among A less x.node) (λ t. absurd (both_ways (is_among A before x.node) new.0 (h x.node t))) (λ f. f),
-    new_less A (x.node ∷ less) (x.node ∷ before) L (λ q t. elim (or_cases (A.same q x.node) (is_among A less q) t)
-        [ inl here ↦ or_left (A.same q x.node) (is_among A before q) here | inr rest ↦ or_right (A.same q x.node) (is_among A before q) (h q rest) ]) new.1)
+new_less A less before (x ∷ L) h new = (
+  by_test (is_among A less x.node) (λ t. absurd (both_ways (is_among A before x.node) new.0 (h x.node t))) (λ f. f),
+  new_less A (x.node ∷ less) (x.node ∷ before) L (λ q t. elim (or_cases (A.same q x.node) (is_among A less q) t)
+      [ inl here ↦ or_left (A.same q x.node) (is_among A before q) here | inr rest ↦ or_right (A.same q x.node) (is_among A before q) (h q rest) ]) new.1,
+)
 
 -- a node that stands before is none of the list
 pub new_apart : {N : Type 0} (A : Arena N) → IsSame A → (before : List N) (L : List (Entry N)) (x : Entry N) → AreNew A before L → IsIn x L → IsFalse (is_among A before x.node)
@@ -72,12 +75,13 @@ new_apart A E before (y ∷ L) x new (inr i) = (or_parts (A.same x.node y.node) 
 
 pub new_once : {N : Type 0} (A : Arena N) → IsSame A → (before : List N) (L : List (Entry N)) → AreNew A before L → HasNoRepeats (map (λ x. x.node) L)
 new_once A E before [] new = tt
-new_once A E before (x ∷ L) new =
-    (λ i.
-        let (y, j, e) = from_map (λ y. y.node) x.node L i in
-        let apart : IsFalse (A.same y.node x.node) = (or_parts (A.same y.node x.node) (is_among A before y.node) (new_apart A E (x.node ∷ before) L y new.1 j)).0 in
-        both_ways (A.same y.node x.node) apart (same_from A E y.node x.node (sym e)),
-    new_once A E (x.node ∷ before) L new.1)
+new_once A E before (x ∷ L) new = (
+  λ i.
+      let (y, j, e) = from_map (λ y. y.node) x.node L i in
+      let apart : IsFalse (A.same y.node x.node) = (or_parts (A.same y.node x.node) (is_among A before y.node) (new_apart A E (x.node ∷ before) L y new.1 j)).0 in
+      both_ways (A.same y.node x.node) apart (same_from A E y.node x.node (sym e)),
+  new_once A E (x.node ∷ before) L new.1,
+)
 
 -- a removal list has no more entries than there are nodes
 pub order_fits : {N : Type 0} (A : Arena N) → IsSame A → (L : List (Entry N)) → IsOrder A L → ((x : Entry N) → IsIn x L → IsIn x.node A.nodes) → length L ≤ length A.nodes
@@ -113,10 +117,11 @@ pub listed_from_dead : {N : Type 0} (A : Arena N) → IsSame A → (Lives : N �
 listed_from_dead A E Lives lives before [] order dead x i = absurd i
 listed_from_dead A E Lives lives before (y ∷ L) order dead x i =
     let first : Lives y.node → ⊥ = λ v. unjustified A Lives (is_among A before) y.node y.reason (lives y.node v) dead order.1 in
-    elim i
-    [ inl e ↦ λ v. first (subst (λ z. Lives z.node) e v)
-    | inr j ↦ listed_from_dead A E Lives lives (y.node ∷ before) L order.2
-        (λ p t v. elim (or_cases (A.same p y.node) (is_among A before p) t) [ inl here ↦ first (subst Lives (E.is p y.node here) v) | inr rest ↦ dead p rest v ]) x j ]
+    elim i [
+      | inl e ↦ λ v. first (subst (λ z. Lives z.node) e v)
+      | inr j ↦ listed_from_dead A E Lives lives (y.node ∷ before) L order.2
+          (λ p t v. elim (or_cases (A.same p y.node) (is_among A before p) t) [ inl here ↦ first (subst Lives (E.is p y.node here) v) | inr rest ↦ dead p rest v ]) x j
+    ]
 
 pub listed_dead : {N : Type 0} (A : Arena N) → IsSame A → (Lives : N → Type 0) → ((p : N) → Lives p → Survives A Lives p) → (L : List (Entry N)) → IsOrder A L →
     (p : N) → IsTrue (is_listed A L p) → Lives p → ⊥
@@ -132,14 +137,17 @@ pub replay_from_order : {N : Type 0} (A : Arena N) (before kept : List N) (L : L
 replay_from_order A before kept [] new within = tt
 replay_from_order {N} A before kept (x ∷ L) new within =
     let new_here : IsFalse (is_among A kept x.node) =
-        by_test (is_among A kept x.node) (λ t. absurd (both_ways (is_among A before x.node) new.0 (within x.node t))) (λ f. f) in
+    by_test (is_among A kept x.node) (λ t. absurd (both_ways (is_among A before x.node) new.0 (within x.node t))) (λ f. f) in
     by_test (is_justified A (is_among A kept) x.node x.reason)
-    (λ t. subst (λ M. IsOrderFrom A kept M) (sym (cond-true (is_justified A (is_among A kept) x.node x.reason) (x ∷ replay_from A (x.node ∷ kept) L) (replay_from A kept L) t))
-        (new_here, t, replay_from_order A (x.node ∷ before) (x.node ∷ kept) L new.1
-        (λ q s. elim (or_cases (A.same q x.node) (is_among A kept q) s)
-            [ inl here ↦ or_left (A.same q x.node) (is_among A before q) here | inr rest ↦ or_right (A.same q x.node) (is_among A before q) (within q rest) ])))
+    (λ t. subst (λ M. IsOrderFrom A kept M) (sym (cond-true (is_justified A (is_among A kept) x.node x.reason) (x ∷ replay_from A (x.node ∷ kept) L) (replay_from A kept L) t)) (
+      new_here,
+      t,
+      replay_from_order A (x.node ∷ before) (x.node ∷ kept) L new.1
+          (λ q s. elim (or_cases (A.same q x.node) (is_among A kept q) s)
+          [ inl here ↦ or_left (A.same q x.node) (is_among A before q) here | inr rest ↦ or_right (A.same q x.node) (is_among A before q) (within q rest) ]),
+    ))
     (λ f. subst (λ M. IsOrderFrom A kept M) (sym (cond-false (is_justified A (is_among A kept) x.node x.reason) (x ∷ replay_from A (x.node ∷ kept) L) (replay_from A kept L) f))
-        (replay_from_order A (x.node ∷ before) kept L new.1 (λ q s. or_right (A.same q x.node) (is_among A before q) (within q s))))
+    (replay_from_order A (x.node ∷ before) kept L new.1 (λ q s. or_right (A.same q x.node) (is_among A before q) (within q s))))
 
 pub replay_order : {N : Type 0} (A : Arena N) (L : List (Entry N)) → AreNew A [] L → IsOrder A (replay A L)
 replay_order A L new = replay_from_order A [] [] L new (λ q t. t)
@@ -151,20 +159,24 @@ replay_from_keeps A before kept [] L s order within = tt
 replay_from_keeps A before kept (m ∷ M) [] s order within = absurd s
 replay_from_keeps A before kept (m ∷ M) (x ∷ L) (inl (e, s)) order within =
     let holds : IsTrue (is_justified A (is_among A kept) x.node x.reason) =
-        subst (λ z. IsTrue (is_justified A (is_among A kept) z.node z.reason)) e
-        (justified_more A (is_among A before) (is_among A kept) m.node m.reason (λ a k q i t. within q t) order.1) in
+    subst (λ z. IsTrue (is_justified A (is_among A kept) z.node z.reason)) e
+    (justified_more A (is_among A before) (is_among A kept) m.node m.reason (λ a k q i t. within q t) order.1) in
     subst (λ R. IsSublist (m ∷ M) R) (sym (cond-true (is_justified A (is_among A kept) x.node x.reason) (x ∷ replay_from A (x.node ∷ kept) L) (replay_from A kept L) holds))
-    (inl (e, replay_from_keeps A (m.node ∷ before) (x.node ∷ kept) M L s order.2
-    (λ q t. elim (or_cases (A.same q m.node) (is_among A before q) t)
-        [ inl here ↦ or_left (A.same q x.node) (is_among A kept q) (subst (λ z. IsTrue (A.same q z.node)) e here)
-        | inr rest ↦ or_right (A.same q x.node) (is_among A kept q) (within q rest) ])))
+    (inl (
+      e,
+      replay_from_keeps A (m.node ∷ before) (x.node ∷ kept) M L s order.2
+          (λ q t. elim (or_cases (A.same q m.node) (is_among A before q) t) [
+            | inl here ↦ or_left (A.same q x.node) (is_among A kept q) (subst (λ z. IsTrue (A.same q z.node)) e here)
+            | inr rest ↦ or_right (A.same q x.node) (is_among A kept q) (within q rest)
+          ]),
+    ))
 replay_from_keeps A before kept (m ∷ M) (x ∷ L) (inr s) order within =
     by_test (is_justified A (is_among A kept) x.node x.reason)
     (λ t. subst (λ R. IsSublist (m ∷ M) R) (sym (cond-true (is_justified A (is_among A kept) x.node x.reason) (x ∷ replay_from A (x.node ∷ kept) L) (replay_from A kept L) t))
-        (sublist_skip (m ∷ M) (replay_from A (x.node ∷ kept) L) x
-        (replay_from_keeps A before (x.node ∷ kept) (m ∷ M) L s order (λ q r. or_right (A.same q x.node) (is_among A kept q) (within q r)))))
+    (sublist_skip (m ∷ M) (replay_from A (x.node ∷ kept) L) x
+    (replay_from_keeps A before (x.node ∷ kept) (m ∷ M) L s order (λ q r. or_right (A.same q x.node) (is_among A kept q) (within q r)))))
     (λ f. subst (λ R. IsSublist (m ∷ M) R) (sym (cond-false (is_justified A (is_among A kept) x.node x.reason) (x ∷ replay_from A (x.node ∷ kept) L) (replay_from A kept L) f))
-        (replay_from_keeps A before kept (m ∷ M) L s order within))
+    (replay_from_keeps A before kept (m ∷ M) L s order within))
 
 pub replay_keeps : {N : Type 0} (A : Arena N) (M L : List (Entry N)) → IsSublist M L → IsOrder A M → IsSublist M (replay A L)
 replay_keeps A M L s order = replay_from_keeps A [] [] M L s order (λ q t. t)
@@ -214,18 +226,18 @@ pub replay_from_append : {N : Type 0} (A : Arena N) (kept : List N) (L M : List 
 replay_from_append A kept [] M = refl
 replay_from_append A kept (x ∷ L) M = by_test (is_justified A (is_among A kept) x.node x.reason)
     (λ t.
-        cond-true (is_justified A (is_among A kept) x.node x.reason) (x ∷ replay_from A (x.node ∷ kept) (L ++ M)) (replay_from A kept (L ++ M)) t
-        ∙ ap (λ R. x ∷ R) (replay_from_append A (x.node ∷ kept) L M)
-        ∙ ap (λ R. x ∷ (replay_from A (x.node ∷ kept) L ++ R))
-        (replay_from_same A (map (λ y. y.node) (replay_from A (x.node ∷ kept) L) ++ x.node ∷ kept) (x.node ∷ (map (λ y. y.node) (replay_from A (x.node ∷ kept) L) ++ kept)) M
-        (λ q. middle_first A (map (λ y. y.node) (replay_from A (x.node ∷ kept) L)) kept x.node q))
-        ∙ sym (ap (λ R. R ++ replay_from A (map (λ y. y.node) R ++ kept) M)
-        (cond-true (is_justified A (is_among A kept) x.node x.reason) (x ∷ replay_from A (x.node ∷ kept) L) (replay_from A kept L) t)))
+    cond-true (is_justified A (is_among A kept) x.node x.reason) (x ∷ replay_from A (x.node ∷ kept) (L ++ M)) (replay_from A kept (L ++ M)) t
+    ∙ ap (λ R. x ∷ R) (replay_from_append A (x.node ∷ kept) L M)
+    ∙ ap (λ R. x ∷ (replay_from A (x.node ∷ kept) L ++ R))
+    (replay_from_same A (map (λ y. y.node) (replay_from A (x.node ∷ kept) L) ++ x.node ∷ kept) (x.node ∷ (map (λ y. y.node) (replay_from A (x.node ∷ kept) L) ++ kept)) M
+    (λ q. middle_first A (map (λ y. y.node) (replay_from A (x.node ∷ kept) L)) kept x.node q))
+    ∙ sym (ap (λ R. R ++ replay_from A (map (λ y. y.node) R ++ kept) M)
+    (cond-true (is_justified A (is_among A kept) x.node x.reason) (x ∷ replay_from A (x.node ∷ kept) L) (replay_from A kept L) t)))
     (λ f.
-        cond-false (is_justified A (is_among A kept) x.node x.reason) (x ∷ replay_from A (x.node ∷ kept) (L ++ M)) (replay_from A kept (L ++ M)) f
-        ∙ replay_from_append A kept L M
-        ∙ sym (ap (λ R. R ++ replay_from A (map (λ y. y.node) R ++ kept) M)
-        (cond-false (is_justified A (is_among A kept) x.node x.reason) (x ∷ replay_from A (x.node ∷ kept) L) (replay_from A kept L) f)))
+    cond-false (is_justified A (is_among A kept) x.node x.reason) (x ∷ replay_from A (x.node ∷ kept) (L ++ M)) (replay_from A kept (L ++ M)) f
+    ∙ replay_from_append A kept L M
+    ∙ sym (ap (λ R. R ++ replay_from A (map (λ y. y.node) R ++ kept) M)
+    (cond-false (is_justified A (is_among A kept) x.node x.reason) (x ∷ replay_from A (x.node ∷ kept) L) (replay_from A kept L) f)))
 
 -- a replay goes on from the nodes that it has kept
 pub replay_append : {N : Type 0} (A : Arena N) (L M : List (Entry N)) → replay A (L ++ M) ≡ replay A L ++ replay_from A (map (λ x. x.node) (replay A L)) M
