@@ -22,5 +22,5 @@ pub use limits::{
     MAX_DOCUMENT_BYTES, MAX_FILE_NAME_BYTES, MAX_LINE_BYTES, MAX_NAME_BYTES, MAX_SERVICES,
     MAX_SESSION_BYTES, MAX_STATES, MAX_STEPS,
 };
-pub use numbers::pairs_are_numbered;
+pub use numbers::{numbered_completes, pairs_are_numbered};
 pub use reason::Reason;
