@@ -8,4 +8,10 @@ pub mod CompositionLemmas
 pub mod OfferLemmas
 pub mod PlayLemmas
 pub mod DepthPlayLemmas
+pub mod NumberLemmas
+pub mod Renames
+pub mod NumberedArena
+pub mod ChangeLemmas
+pub mod ChangeLaws
+pub mod NumberedChanges
 pub mod Examples
