@@ -14,4 +14,5 @@ pub mod NumberedArena
 pub mod ChangeLemmas
 pub mod ChangeLaws
 pub mod NumberedChanges
+pub mod NumberedLists
 pub mod Examples

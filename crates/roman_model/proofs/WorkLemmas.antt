@@ -39,9 +39,9 @@ pub order_middle : {N : Type 0} (A : Arena N) (L M : List (Entry N)) (x : Entry 
     IsFalse (is_listed A L x.node) × IsTrue (is_justified A (is_listed A L) x.node x.reason)
 order_middle A L M x order = order_from_middle A [] L M x order
 
-pub order_at : {N : Type 0} (A : Arena N) (L : List (Entry N)) (i : ℕ) (d : Entry N) → IsOrder A L → i < length L →
+pub order_entry : {N : Type 0} (A : Arena N) (L : List (Entry N)) (i : ℕ) (d : Entry N) → IsOrder A L → i < length L →
     IsFalse (is_listed A (take i L) (get_or L i d).node) × IsTrue (is_justified A (is_listed A (take i L)) (get_or L i d).node (get_or L i d).reason)
-order_at A L i d order l =
+order_entry A L i d order l =
     order_middle A (take i L) (drop (i + 1) L) (get_or L i d)
     (subst (λ M. IsOrder A M) (sym (take-append-drop i L) ∙ ap (λ M. take i L ++ M) (drop_more L i d l)) order)
 
