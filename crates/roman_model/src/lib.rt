@@ -6,12 +6,21 @@
 //! of a function with an empty body.
 #![tactic(auto)]
 
+mod changes;
+mod laws;
 mod limits;
+mod numbers;
 mod reason;
 
+pub use changes::{mask_after_death, renaming_keeps};
+pub use laws::{
+    depth_is_least, depth_wins, following_stays, greatest_is_greatest, offers_are_generator,
+    order_completes, order_refutes, order_wins, replay_keeps, unrelated_loses,
+};
 pub use limits::{
     DEFAULT_CELLS, MAX_ACTIONS, MAX_BEHAVIOURS, MAX_CELLS, MAX_CERTIFICATE_BYTES,
     MAX_DOCUMENT_BYTES, MAX_FILE_NAME_BYTES, MAX_LINE_BYTES, MAX_NAME_BYTES, MAX_SERVICES,
     MAX_SESSION_BYTES, MAX_STATES, MAX_STEPS,
 };
+pub use numbers::{numbered_completes, pairs_are_numbered};
 pub use reason::Reason;
