@@ -21,3 +21,8 @@ pub record Fetches (text : List ℕ) (at : ℕ) (into : List ℕ) (n : ℕ) : Ty
   pub within : n ≤ length (drop at text)
   pub bytes : take n into ≡ take n (drop at text)
   pub ends : 0 < length into → ((n ≡ 0) ↔ (drop at text ≡ []))
+
+-- what is left of a text from `at` on, where the shelf tells it
+abbrev pub rest_from : Option Texts → List ℕ → ℕ → Option (List ℕ)
+rest_from None name at = None
+rest_from (Some ts) name at = Some (drop at (text_of ts name))

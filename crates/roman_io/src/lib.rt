@@ -16,9 +16,12 @@ mod mem_source;
 mod quiet_shelf;
 mod quiet_source;
 mod shelf;
+mod shelf_source;
 mod sink;
 mod source;
 mod steps;
+#[cfg(test)]
+mod tests;
 mod waste;
 mod words;
 
@@ -30,6 +33,7 @@ pub use mem_source::MemSource;
 pub use quiet_shelf::QuietShelf;
 pub use quiet_source::QuietSource;
 pub use shelf::Shelf;
+pub use shelf_source::ShelfSource;
 pub use sink::Sink;
 pub use source::Source;
 pub use steps::Steps;
