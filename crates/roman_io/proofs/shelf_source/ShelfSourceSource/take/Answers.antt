@@ -1,4 +1,4 @@
-use Rattle.std.proofs.Common.{◌<◌, ◌^◌, arith}
+use Rattle.std.proofs.Common.{arith}
 use Rattle.roman_io.proofs.ShelfLemmas.{Gave-from_Fetches}
 use Rattle.roman_io.proofs.shelf_source.ShelfSourceSource.take.Goals as goal
 
