@@ -12,3 +12,4 @@ pub mod NumberedChanges
 pub mod CompositionLemmas
 pub mod OfferLemmas
 pub mod PlayLemmas
+mod TextExamples
