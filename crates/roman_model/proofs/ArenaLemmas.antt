@@ -1,15 +1,14 @@
 -- Lemmas on any arena: which nodes are listed, beaten seats, reasons, masks, and what survives.
-use Rattle.std.proofs.Common.{◌≡◌, ◌≢◌, ℕ, zero, suc, ◌<◌, ◌≤◌, ◌==◌, Bool, true, false, cond, not, ◌&&◌, ◌||◌, ◌⊎◌, List, [], ◌∷◌, ◌++◌, map, length, IsTrue, IsFalse, filter, flat_map, inl, inr, refl, sym, ap, ap₂, ◌∙◌, subst, arith}
-use mathlib.Core.Path.{fun_ext}
+use Rattle.std.proofs.Common.{◌≡◌, ◌≢◌, ℕ, ◌<◌, ◌≤◌, ◌==◌, Bool, true, false, cond, not, ◌&&◌, ◌||◌, ◌⊎◌, List, [], ◌∷◌, ◌++◌, map, IsTrue, IsFalse, filter, flat_map, inl, inr, refl, sym, ap, ◌∙◌, subst, arith}
 use Rattle.std.specs.List.{list_any}
-use Rattle.std.proofs.lemmas.Bool.{false≢true, both_ways, or_cases, or_parts, or_left, or_right, or_from, and_parts, and_from, and_cases, and_left, not-true, not-false, not_from_true, not_from_false, eqb-true, eq-eqb, cond-true, cond-false}
+use Rattle.std.proofs.lemmas.Bool.{both_ways, or_cases, or_parts, or_left, or_right, or_from, and_parts, and_from, and_cases, and_left, not-true, not_from_false, eqb-true, eq-eqb, cond-true, cond-false}
 use Rattle.std.proofs.lemmas.List.Folds.{list_any-append}
 use Rattle.roman_model.specs.Lists.{IsIn, HasNoRepeats, below, all_below, is_empty}
 use Rattle.roman_model.specs.System.{has}
 use Rattle.roman_model.specs.Arena.{Arena, Entry, is_among, is_listed, is_beaten, is_justified, mask, Survives, Delegation, delegations, back}
 use Rattle.roman_model.specs.declared.reason.Reason.{Reason}
 use Rattle.roman_model.specs.declared.reason.Reason.TheVariants.{Final, Act}
-use Rattle.roman_model.proofs.Lists.{by_test, same_test, in_map, from_map, in_flat_map, from_flat_map, in_filter, filter_in, any_true, any_from, any_false, none_from, any_more, any_same, list_any-map, empty_is, in_not_empty, not_empty_ne, ne_not_empty, in_below, from_below, all_below_at, all_below_from, all_below_false, all_below_not, all_below_more, all_below_same, filter_same, HasNoRepeats-map, HasNoRepeats-flat_map, HasNoRepeats-filter, HasNoRepeats-below}
+use Rattle.roman_model.proofs.Lists.{by_test, same_test, in_map, from_map, in_flat_map, from_flat_map, in_filter, filter_in, any_true, any_from, any_false, none_from, any_more, any_same, list_any-map, empty_is, not_empty_ne, ne_not_empty, in_below, from_below, all_below_at, all_below_from, all_below_false, all_below_more, all_below_same, filter_same, HasNoRepeats-map, HasNoRepeats-flat_map, HasNoRepeats-filter, HasNoRepeats-below}
 
 -- the arena's test of two nodes is equality
 pub record IsSame {N : Type 0} (A : Arena N) : Type 0 where

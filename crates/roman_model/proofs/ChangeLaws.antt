@@ -1,21 +1,18 @@
 -- The replay survives a change, and what masks are after a death.
-use Rattle.std.proofs.Common.{◌≡◌, ◌≢◌, ℕ, zero, suc, ◌<◌, ◌≤◌, Bool, true, false, not, ◌&&◌, ◌||◌, ◌⊎◌, List, [], ◌∷◌, ◌++◌, map, length, Some, IsTrue, IsFalse, filter, slice_get, slice_index, insert, remove, refl, sym, ap, ap₂, ◌∙◌, subst, inl, inr, arith}
+use Rattle.std.proofs.Common.{◌≡◌, ◌≢◌, ℕ, suc, ◌<◌, ◌≤◌, Bool, true, false, not, ◌||◌, ◌⊎◌, List, [], ◌∷◌, map, length, Some, IsTrue, filter, slice_get, slice_index, insert, remove, sym, ap, ap₂, ◌∙◌, subst, inl, inr, arith}
 use Rattle.std.specs.List.{list_any}
 use Rattle.std.proofs.lemmas.Bool.{false≢true, or_cases, or_left, or_right, cond-true, cond-false}
 use Rattle.std.proofs.lemmas.Option.{slice_get_within}
 use Rattle.roman_model.specs.Lists.{IsIn, below, is_empty}
-use Rattle.roman_model.specs.System.{Seat, Sys, Pair, IsSys, IsPair, is_final, outcomes, same_pair}
-use Rattle.roman_model.specs.Arena.{Arena, Entry, is_listed, is_beaten, IsOrder, AreNew, replay}
+use Rattle.roman_model.specs.System.{Seat, Sys, Pair, IsPair, is_final, outcomes, same_pair}
+use Rattle.roman_model.specs.Arena.{Entry, is_listed, is_beaten, IsOrder, replay}
 use Rattle.roman_model.specs.Composition.{arena, AreEntries}
-use Rattle.roman_model.specs.Change.{Change, Freeze, Thaw, Join, Die, after, without, may_go, firsts, entry_without, rename, CanChange, place, with_state, goers, RenamedReplays, RenamingKeeps, MaskAfterDeath}
+use Rattle.roman_model.specs.Change.{Freeze, Thaw, Join, Die, without, may_go, firsts, entry_without, rename, place, with_state, goers, RenamingKeeps, MaskAfterDeath}
 use Rattle.roman_model.proofs.Lists.{by_test, same_test, any_true, any_from, any_same, list_any-map, is_empty-map, in_map, in_filter, filter_in, in_below, ne_not_empty, not_empty_in}
-use Rattle.roman_model.proofs.SystemLemmas.{same_pair_is, same_pair_from, same_pair_itself, outcome_pair}
-use Rattle.roman_model.proofs.ArenaLemmas.{IsSame}
+use Rattle.roman_model.proofs.SystemLemmas.{same_pair_is, same_pair_from, outcome_pair}
 use Rattle.roman_model.proofs.OrderLemmas.{order_new, new_once, replay_order, replay_whole}
-use Rattle.roman_model.proofs.ChangeLemmas.{turned, IsSys-turned, IsPair-turned, freeze_order, new_same, new_from_once, joined, IsSys-joined, join_entries, join_once, left, IsSys-left, IsPair-without, length-remove, insert-remove, remove-insert, index_insert, states_length, state_below, outcomes-with_state, die_order, die_from, die_entries}
-
-pub pairs_told_apart : (s : Sys) → IsSame (arena s)
-pairs_told_apart s = record { is = same_pair_is; itself = same_pair_itself }
+use Rattle.roman_model.proofs.CompositionLemmas.{system_is_same}
+use Rattle.roman_model.proofs.ChangeLemmas.{turned, IsSys-turned, IsPair-turned, freeze_order, new_same, new_from_once, joined, IsSys-joined, join_entries, join_once, left, IsSys-left, length-remove, insert-remove, remove-insert, index_insert, states_length, state_below, outcomes-with_state, die_order, die_from, die_entries}
 
 -- what an order of the new system says of its own replay
 whole_order : (s : Sys) (L : List (Entry Pair)) → IsOrder (arena s) L → IsOrder (arena s) (replay (arena s) L)
@@ -40,7 +37,7 @@ renaming_keeps (Join seat) s L ok can are order = record {
   system = IsSys-joined s seat ok can.0 can.1;
   pairs = join_entries s seat L are;
   order = replay_order (arena (joined s seat)) (rename (Join seat) L)
-      (new_from_once (joined s seat) [] (rename (Join seat) L) (join_once seat L (new_once (arena s) (pairs_told_apart s) [] L (order_new (arena s) L order))) (λ x i j. j));
+      (new_from_once (joined s seat) [] (rename (Join seat) L) (join_once seat L (new_once (arena s) (system_is_same s) [] L (order_new (arena s) L order))) (λ x i j. j));
   whole = λ none. absurd none;
 }
 renaming_keeps (Die k seat) s L ok can are order =

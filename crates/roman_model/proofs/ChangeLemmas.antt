@@ -1,19 +1,19 @@
 -- What a change of the seats does to systems, pairs, outcomes and removal lists.
-use Rattle.std.proofs.Common.{◌≡◌, ◌≢◌, ℕ, zero, suc, ◌+◌, ◌<◌, ◌≤◌, Bool, true, false, not, ◌&&◌, ◌||◌, ◌⊎◌, List, [], ◌∷◌, ◌++◌, map, length, Option, Some, None, IsTrue, IsFalse, if◌then◌else◌, filter, flat_map, slice_get, slice_index, slice_set, remove, insert, refl, sym, ap, ap₂, ◌∙◌, subst, inl, inr, arith}
+use Rattle.std.proofs.Common.{◌≡◌, ℕ, zero, suc, ◌<◌, ◌≤◌, Bool, true, not, ◌&&◌, ◌||◌, List, [], ◌∷◌, ◌++◌, map, length, Some, IsTrue, IsFalse, filter, flat_map, slice_get, slice_index, slice_set, remove, insert, refl, sym, ap, ap₂, ◌∙◌, subst, inl, inr, arith}
 use Rattle.std.specs.List.{list_any, AllZip}
-use Rattle.std.proofs.lemmas.Bool.{cases_eq, both_ways, or_cases, or_left, or_right, and_parts, and_from, not-true, not-false, cond-true, cond-false, true≢false}
-use Rattle.std.proofs.lemmas.List.{map-append, length_push, length-append, same_from_push}
+use Rattle.std.proofs.lemmas.Bool.{cases_eq, both_ways, or_cases, or_left, or_right, and_parts, and_from, cond-true, cond-false}
+use Rattle.std.proofs.lemmas.List.{map-append, length_push, same_from_push}
 use Rattle.std.proofs.lemmas.Option.{none-some, same_Some, slice_get_within}
 use Rattle.roman_model.specs.Lists.{IsIn, HasNoRepeats, below, all_below, is_empty}
 use Rattle.roman_model.specs.System.{Seat, Sys, Pair, IsBeh, IsSys, IsPair, is_final, all_final, env_next, beh_next, seat_next, moved, outcomes, is_allowed, is_fine, same_pair}
-use Rattle.roman_model.specs.Arena.{Arena, Entry, is_among, is_listed, is_beaten, is_justified, IsOrderFrom, IsOrder, AreNew}
+use Rattle.roman_model.specs.Arena.{Entry, is_among, is_beaten, is_justified, IsOrderFrom, AreNew}
 use Rattle.roman_model.specs.Composition.{arena, AreEntries}
-use Rattle.roman_model.specs.Change.{Change, Freeze, Thaw, Join, Die, set_frozen, after, grown, without, may_go, firsts, grown_entries, entry_without, rename, CanChange, place, with_state, goers}
+use Rattle.roman_model.specs.Change.{Join, Die, set_frozen, grown, without, may_go, firsts, grown_entries, entry_without, rename, place, with_state}
 use Rattle.roman_model.specs.declared.limits.TheConstants.{MAX_SERVICES}
 use Rattle.roman_model.specs.declared.reason.Reason.{Reason}
 use Rattle.roman_model.specs.declared.reason.Reason.TheVariants.{Final, Act}
-use Rattle.roman_model.proofs.Lists.{by_test, same_test, any_true, any_from, any_same, list_any-map, is_empty-map, empty_is, in_append_left, in_append_right, from_append, from_push, in_push, in_map, from_map, in_flat_map, from_flat_map, in_filter, filter_in, in_below, from_below, all_below_at, all_below_from, HasNoRepeats-map, HasNoRepeats-flat_map, HasNoRepeats-below, ne_not_empty, not_empty_in}
-use Rattle.roman_model.proofs.SystemLemmas.{same_pair_is, same_pair_from, same_pair_itself, from_moved}
+use Rattle.roman_model.proofs.Lists.{by_test, any_true, any_from, list_any-map, is_empty-map, from_push, in_map, from_map, from_flat_map, filter_in, from_below, all_below_at, all_below_from, HasNoRepeats-map, HasNoRepeats-flat_map, HasNoRepeats-below}
+use Rattle.roman_model.proofs.SystemLemmas.{same_pair_is, same_pair_from, from_moved}
 
 -- Maps of maps
 
@@ -32,14 +32,6 @@ flat_map_same f g xs same = flat_map_same_in f g xs (λ x i. same x)
 
 pub map_same : {X Y : Type 0} (f g : X → Y) (xs : List X) → ((x : X) → f x ≡ g x) → map f xs ≡ map g xs
 map_same f g xs same = map_same_in f g xs (λ x i. same x)
-
-pub filter-map : {X Y : Type 0} (p : Y → Bool) (f : X → Y) (xs : List X) → filter p (map f xs) ≡ map f (filter (λ x. p (f x)) xs)
-filter-map {X} p f [] = refl
-filter-map {X} p f (x ∷ xs) = ap (λ ys. if p (f x) then f x ∷ ys else ys) (filter-map p f xs) ∙ sym (map_kept (p (f x)) (filter (λ z. p (f z)) xs))
-  where
-    map_kept : (b : Bool) (zs : List X) → map f (if b then x ∷ zs else zs) ≡ (if b then f x ∷ map f zs else map f zs)
-    map_kept true zs = refl
-    map_kept false zs = refl
 
 pub map-map : {X Y Z : Type 0} (f : Y → Z) (g : X → Y) (xs : List X) → map f (map g xs) ≡ map (λ x. f (g x)) xs
 map-map f g [] = refl

@@ -1,12 +1,12 @@
 -- A system as an arena, the greatest ND-simulation, and complete removal lists.
-use Rattle.std.proofs.Common.{◌≡◌, ◌≢◌, ℕ, ◌<◌, ◌≤◌, Bool, true, false, not, ◌&&◌, ◌||◌, ◌⊎◌, ◌↔◌, List, [], ◌∷◌, map, length, IsTrue, IsFalse, filter, slice_get, slice_index, slice_set, inl, inr, refl, sym, ap, ◌∙◌, subst, arith}
+use Rattle.std.proofs.Common.{◌≡◌, ◌≢◌, ℕ, ◌<◌, Bool, not, List, [], map, length, IsTrue, IsFalse, filter, slice_set, inl, inr, refl, sym, subst, arith}
 use Rattle.std.proofs.lemmas.Bool.{both_ways, or_cases, or_left, or_right, not-true, not-false, not_from_true, not_from_false}
 use Rattle.std.proofs.lemmas.Option.{slice_get_within}
 use Rattle.roman_model.specs.Lists.{IsIn}
-use Rattle.roman_model.specs.System.{Sys, Pair, IsSys, IsPair, TStep, SStep, Allows, is_final, all_final, pairs, outcomes, is_allowed, is_fine, is_ready, same_pair}
-use Rattle.roman_model.specs.Arena.{Arena, Entry, is_listed, is_justified, mask, IsOrder, AreNew, replay, loses, Survives}
+use Rattle.roman_model.specs.System.{Sys, Pair, IsSys, IsPair, SStep, is_final, all_final, pairs, outcomes, is_allowed, is_fine}
+use Rattle.roman_model.specs.Arena.{Entry, is_listed, is_justified, IsOrder, loses, Survives}
 use Rattle.roman_model.specs.Composition.{Couple, couple, Serves, Meets, IsNdSim, GreatCouple, Great, arena, AreEntries, IsComplete}
-use Rattle.roman_model.specs.Laws.{GreatestIsSimulation, GreatestIsGreatest, OrderRefutes, OrderCompletes, UnrelatedLoses, ReplayIsBest, ReplayKeeps}
+use Rattle.roman_model.specs.Laws.{GreatestIsGreatest, OrderRefutes, OrderCompletes, UnrelatedLoses, ReplayKeeps}
 use Rattle.roman_model.specs.Offers.{is_related}
 use Rattle.roman_model.specs.declared.reason.Reason.{Reason}
 use Rattle.roman_model.specs.declared.reason.Reason.TheVariants.{Final, Act}

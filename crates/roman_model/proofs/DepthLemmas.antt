@@ -1,12 +1,14 @@
 -- Depths over any arena: within how many requests the opponent wins.
-use Rattle.std.proofs.Common.{◌≡◌, ◌≢◌, ℕ, zero, suc, ◌+◌, ◌<◌, ◌≤◌, Bool, true, false, not, ◌&&◌, ◌||◌, ◌⊎◌, List, [], ◌∷◌, length, Option, Some, None, IsTrue, IsFalse, filter, find, inl, inr, refl, sym, ap, ◌∙◌, subst, arith}
+use Rattle.std.proofs.Common.{◌≡◌, ℕ, zero, suc, ◌+◌, ◌<◌, ◌≤◌, not, ◌||◌, ◌⊎◌, List, length, Option, Some, None, IsTrue, IsFalse, filter, inl, inr, refl, sym, ap, ◌∙◌, subst, arith}
 use Rattle.std.specs.List.{list_any}
 use Rattle.std.proofs.lemmas.Bool.{both_ways, or_cases, or_parts, or_left, or_right, not-true, not-false, not_from_true, not_from_false, cases_eq, cases_lt}
 use Rattle.roman_model.specs.Lists.{IsIn, below}
-use Rattle.roman_model.specs.Arena.{Arena, is_justified, loses, depth, Survives}
+use Rattle.roman_model.specs.Arena.{Arena, Entry, is_listed, is_justified, IsOrder, loses, depth, Survives}
+use Rattle.roman_model.specs.declared.reason.Reason.{Reason}
 use Rattle.roman_model.specs.declared.reason.Reason.TheVariants.{Final, Act}
-use Rattle.roman_model.proofs.Lists.{by_test, same_test, any_true, any_from, any_false, any_same, filter_shrinks, filter_sublist, sublist_length, in_below, from_below, find_some, find_none, find_least, find_first}
-use Rattle.roman_model.proofs.ArenaLemmas.{IsArena, justified_is, justified_more, justified_same, unjustified, survivor_within, survives_more}
+use Rattle.roman_model.proofs.Lists.{by_test, same_test, any_true, any_from, any_false, any_same, filter_shrinks, filter_sublist, sublist_length, in_below, find_none, find_least, find_first}
+use Rattle.roman_model.proofs.ArenaLemmas.{IsArena, justified_is, justified_same, unjustified, survivor_within}
+use Rattle.roman_model.proofs.OrderLemmas.{listed_dead}
 
 -- A node is lost within more requests where it is within fewer.
 
@@ -137,3 +139,17 @@ lost_depth A ok p i n t = by_found (depth A p) refl
     by_found (Some d) e =
         let (l, s, least) = depth_is A p d e in
         elim (cases_lt n d) [ inl less ↦ absurd (both_ways (loses A n p) (least n less) t) | inr no_more ↦ (d, no_more, e) ]
+
+-- Settled lists.
+
+-- where an order holds a node for each reason that holds, its nodes are exactly those that are lost
+pub settled_exact : {N : Type 0} (A : Arena N) → IsArena A → (L : List (Entry N)) → IsOrder A L →
+    ((p : N) → IsIn p A.nodes → IsFalse (is_listed A L p) → (r : Reason) → IsFalse (is_justified A (is_listed A L) p r)) →
+    (p : N) → IsIn p A.nodes → is_listed A L p ≡ loses A (length A.nodes) p
+settled_exact {N} A ok L order settled p i = same_test (is_listed A L p) (loses A (length A.nodes) p)
+    (λ t. by_test (loses A (length A.nodes) p) (λ u. u)
+    (λ f. absurd (listed_dead A ok.same (λ q. IsIn q A.nodes × IsFalse (loses A (length A.nodes) q)) (λ q h. unlost_survives A ok q h.0 h.1) L order p t (i, f))))
+    (λ t. by_test (is_listed A L p) (λ u. u)
+    (λ f. absurd (lost_dead A (λ q. IsIn q A.nodes × IsFalse (is_listed A L q))
+    (λ q h. survivor_within A ok (is_listed A L) q h.0 (not-false (A.fine q) (settled q h.0 h.1 Final)) (λ a allowed. settled q h.0 h.1 (Act a)))
+    (length A.nodes) p t (i, f))))

@@ -3,13 +3,18 @@ pub mod SystemLemmas
 pub mod ArenaLemmas
 pub mod OrderLemmas
 pub mod DepthLemmas
+pub mod WorkLemmas
+pub mod CompositionLemmas
+pub mod OfferLemmas
+pub mod PlayLemmas
+pub mod DepthPlayLemmas
 pub mod NumberLemmas
 pub mod Renames
 pub mod NumberedArena
 pub mod ChangeLemmas
 pub mod ChangeLaws
 pub mod NumberedChanges
-pub mod CompositionLemmas
-pub mod OfferLemmas
-pub mod PlayLemmas
-mod TextExamples
+pub mod NumberedLists
+pub mod LineLemmas
+pub mod Examples
+pub mod TextExamples

@@ -1,8 +1,9 @@
 -- Lemmas on lists and their elements, on numbers below a bound, and on tests.
-use Rattle.std.proofs.Common.{◌≡◌, ◌≢◌, ℕ, zero, suc, ◌+◌, ◌<◌, ◌≤◌, Bool, true, false, cond, not, ◌&&◌, ◌||◌, ◌⊎◌, ◌↔◌, List, [], ◌∷◌, ◌++◌, map, length, get_or, take, drop, Option, Some, None, IsTrue, IsFalse, Contains, filter, find, flat_map, inl, inr, refl, sym, ap, ap₂, ◌∙◌, subst, arith, add-one, length-append}
+use Rattle.std.proofs.Common.{◌≡◌, ◌≢◌, ℕ, zero, suc, ◌+◌, ◌<◌, ◌≤◌, Bool, true, false, cond, ◌&&◌, ◌||◌, ◌⊎◌, ◌↔◌, List, [], ◌∷◌, ◌++◌, map, length, get_or, Option, Some, None, IsTrue, IsFalse, Contains, filter, find, flat_map, sum_by, inl, inr, refl, sym, ap, ap₂, ◌∙◌, subst, arith, add-one, length-append}
 use Rattle.std.specs.List.{list_any}
-use Rattle.std.proofs.lemmas.Bool.{false≢true, true≢false, both_ways, or_cases, or_parts, or_left, or_right, or_from, and_parts, and_from, and_cases, and_left, and_right, not-true, not-false, not_from_true, not_from_false, cond-true, cond-false, cases_eq, cases_order}
+use Rattle.std.proofs.lemmas.Bool.{false≢true, true≢false, both_ways, or_cases, or_parts, or_left, or_right, or_from, and_parts, and_from, and_cases, cond-true, cond-false, cases_eq, cases_order}
 use Rattle.std.proofs.lemmas.List.{length_push, get_or_push, get_or_append_left}
+use Rattle.std.proofs.lemmas.List.Sums.{sum_by-cons, sum_by-append}
 use Rattle.std.proofs.lemmas.List.Folds.{list_any-append, find-append}
 use Rattle.std.proofs.lemmas.List.Elements.{filter-append}
 use Rattle.std.proofs.lemmas.Option.{none-some, same_Some}
@@ -405,3 +406,43 @@ HasNoRepeats-flat_map f (x ∷ xs) each apart once =
     HasNoRepeats-append (f x) (flat_map f xs) (each x (inl refl))
     (HasNoRepeats-flat_map f xs (λ y i. each y (inr i)) (λ y w z i j. apart y w z (inr i) (inr j)) once.1)
     (λ z i j. let (y, k, l) = from_flat_map f z xs j in once.0 (subst (λ w. IsIn w xs) (sym (apart x y z (inl refl) (inr k) i l)) k))
+
+-- Filters and sums of lists that are made of others.
+
+pub filter-map : {X Y : Type 0} (p : Y → Bool) (f : X → Y) (xs : List X) → filter p (map f xs) ≡ map f (filter (λ x. p (f x)) xs)
+filter-map p f [] = refl
+filter-map p f (x ∷ xs) = ap (λ ys. cond (p (f x)) (f x ∷ ys) ys) (filter-map p f xs) ∙ moved (p (f x))
+  where
+    moved : (b : Bool) → cond b (f x ∷ map f (filter (λ y. p (f y)) xs)) (map f (filter (λ y. p (f y)) xs)) ≡ map f (cond b (x ∷ filter (λ y. p (f y)) xs) (filter (λ y. p (f y)) xs))
+    moved true = refl
+    moved false = refl
+
+pub filter-flat_map : {X Y : Type 0} (p : Y → Bool) (f : X → List Y) (xs : List X) → filter p (flat_map f xs) ≡ flat_map (λ x. filter p (f x)) xs
+filter-flat_map p f [] = refl
+filter-flat_map p f (x ∷ xs) = filter-append p (f x) (flat_map f xs) ∙ ap (λ ys. filter p (f x) ++ ys) (filter-flat_map p f xs)
+
+pub sum_by-map : {X Y : Type 0} (g : Y → ℕ) (f : X → Y) (xs : List X) → sum_by g (map f xs) ≡ sum_by (λ x. g (f x)) xs
+sum_by-map g f [] = refl
+sum_by-map g f (x ∷ xs) = sum_by-cons g (f x) (map f xs) ∙ ap (λ n. g (f x) + n) (sum_by-map g f xs) ∙ sym (sum_by-cons (λ y. g (f y)) x xs)
+
+-- where the functions agree on the elements
+pub sum_by_same : {X : Type 0} (f g : X → ℕ) (xs : List X) → ((x : X) → IsIn x xs → f x ≡ g x) → sum_by f xs ≡ sum_by g xs
+sum_by_same f g [] same = refl
+sum_by_same f g (x ∷ xs) same =
+    sum_by-cons f x xs ∙ ap₂ (λ a b. a + b) (same x (inl refl)) (sum_by_same f g xs (λ y i. same y (inr i))) ∙ sym (sum_by-cons g x xs)
+
+-- over a list without repeats, each element of which is in another, a sum is no more than over that
+pub sum_by_within : {X : Type 0} (f : X → ℕ) (xs ys : List X) → HasNoRepeats xs → ((x : X) → IsIn x xs → IsIn x ys) → sum_by f xs ≤ sum_by f ys
+sum_by_within f [] ys once within = omega arith
+sum_by_within {X} f (x ∷ xs) ys once within =
+    let (before, after, e) = split_at x ys (within x (inl refl)) in
+    let others : (z : X) → IsIn z xs → IsIn z (before ++ after) = λ z i. other before after z i (subst (λ zs. IsIn z zs) e (within z (inr i))) in
+    let rest : sum_by f xs ≤ sum_by f (before ++ after) = sum_by_within f xs (before ++ after) once.1 others in
+    let there : sum_by f ys ≡ sum_by f (before ++ x ∷ after) = ap (sum_by f) e in
+    omega (arith, sum_by-append f before after, sum_by-append f before (x ∷ after), sum_by-cons f x after, sum_by-cons f x xs)
+  where
+    other : (before after : List X) (z : X) → IsIn z xs → IsIn z (before ++ x ∷ after) → IsIn z (before ++ after)
+    other before after z i j = elim (from_append z before (x ∷ after) j) [
+      | inl left ↦ in_append_left z before after left
+      | inr right ↦ elim right [ inl same ↦ absurd (once.0 (subst (λ w. IsIn w xs) same i)) | inr rest ↦ in_append_right z before after rest ]
+    ]

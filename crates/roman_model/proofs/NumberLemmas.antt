@@ -1,10 +1,9 @@
 -- Numbers of lists of states, and of pairs: bounds, and what becomes of a number where a state changes, comes or goes.
-use Rattle.std.proofs.Common.{◌≡◌, ℕ, zero, suc, ◌+◌, ◌*◌, ◌/◌, ◌%◌, ◌<◌, ◌≤◌, List, [], ◌∷◌, ◌++◌, map, length, take, drop, slice_index, slice_set, remove, insert, refl, sym, ap, ap₂, ◌∙◌, subst, arith, add-one, zero-lt-suc, le_trans, mul_assoc, mul_comm, div-lt_iff_lt-mul, div-add-mod'}
+use Rattle.std.proofs.Common.{◌≡◌, ℕ, zero, suc, ◌+◌, ◌*◌, ◌/◌, ◌%◌, ◌<◌, List, [], ◌∷◌, ◌++◌, map, length, take, drop, slice_index, slice_set, remove, insert, refl, sym, ap, ◌∙◌, arith, add-one, div-add-mod'}
 use Rattle.std.specs.List.{AllZip}
-use native.Mathlib.Nat.{mul-add-div_right, add-mul-mod_self_right, mul-add-mod_self_right, div-div-eq-div-mul, div-eq_of_lt, mod-eq_of_lt, mod-lt, pos_of_ne-zero}
 use Rattle.std.proofs.lemmas.Nat.{mul-add-lt, div-mul-add, mod-mul-add, div_below, mod_below}
 use Rattle.roman_model.specs.Lists.{product_of}
-use Rattle.roman_model.specs.System.{Seat, Sys, Pair, IsSys, IsPair}
+use Rattle.roman_model.specs.System.{Seat, Sys, Pair, IsPair}
 use Rattle.roman_model.specs.Numbers.{Sizes, sizes_of, IsPairOf, grown_sizes, sizes_without, count, states_number, states_at, number, pair_at, NumbersArePairs}
 use Rattle.roman_model.specs.Change.{grown, without, with_state}
 use Rattle.roman_model.specs.Laws.{PairsAreNumbered}

@@ -1,13 +1,13 @@
 -- The arena over the numbers of pairs, and that over the pairs, carry over to each other.
-use Rattle.std.proofs.Common.{◌≡◌, ◌≢◌, ℕ, ◌<◌, ◌==◌, Bool, List, [], ◌∷◌, map, length, IsTrue, IsFalse, refl, sym, ap, ap₂, ◌∙◌, subst, inl, inr}
+use Rattle.std.proofs.Common.{◌≡◌, ℕ, ◌<◌, ◌==◌, List, [], ◌∷◌, map, IsTrue, refl, sym, ap, ap₂, ◌∙◌, subst, inl, inr}
 use Rattle.std.proofs.lemmas.Bool.{eqb-true, eq-eqb}
-use Rattle.roman_model.specs.Lists.{IsIn, below}
+use Rattle.roman_model.specs.Lists.{IsIn}
 use Rattle.roman_model.specs.System.{Sys, Pair, IsSys, IsPair, outcomes, is_allowed, is_fine, same_pair}
-use Rattle.roman_model.specs.Arena.{Arena, Entry, is_listed, mask, IsOrder}
-use Rattle.roman_model.specs.Composition.{arena, AreEntries, IsComplete}
-use Rattle.roman_model.specs.Numbers.{sizes_of, count, number, pair_at, numbered, entry_at, NumbersArePairs, IsCompleteList}
+use Rattle.roman_model.specs.Arena.{Entry, is_listed, mask, IsOrder}
+use Rattle.roman_model.specs.Composition.{arena, AreEntries}
+use Rattle.roman_model.specs.Numbers.{sizes_of, count, number, pair_at, numbered, entry_at}
 use Rattle.roman_model.specs.Laws.{OrderCompletes, NumberedCompletes}
-use Rattle.roman_model.proofs.Lists.{same_test, from_map, in_map}
+use Rattle.roman_model.proofs.Lists.{same_test, from_map}
 use Rattle.roman_model.proofs.SystemLemmas.{same_pair_is, same_pair_from, outcome_pair}
 use Rattle.roman_model.proofs.NumberLemmas.{numbers_are_pairs}
 use Rattle.roman_model.proofs.Renames.{Renames, listed_renamed, mask_renamed, order_renamed}

@@ -1,5 +1,5 @@
 -- Changes over the numbers of pairs: renaming and replay agree with those over pairs.
-use Rattle.std.proofs.Common.{◌≡◌, ◌≢◌, ℕ, zero, suc, ◌+◌, ◌*◌, ◌/◌, ◌%◌, ◌<◌, ◌≤◌, ◌==◌, Bool, true, false, not, ◌||◌, List, [], ◌∷◌, ◌++◌, map, length, take, drop, filter, flat_map, Some, IsTrue, IsFalse, if◌then◌else◌, slice_get, slice_index, remove, refl, sym, ap, ap₂, ◌∙◌, subst, inl, inr, arith, div-le_self, div-add-mod'}
+use Rattle.std.proofs.Common.{◌≡◌, ◌≢◌, ℕ, zero, suc, ◌+◌, ◌*◌, ◌/◌, ◌%◌, ◌<◌, ◌≤◌, ◌==◌, Bool, true, false, not, ◌||◌, List, [], ◌∷◌, ◌++◌, map, length, take, drop, filter, flat_map, Some, IsTrue, if◌then◌else◌, slice_get, slice_index, remove, refl, sym, ap, ap₂, ◌∙◌, subst, inl, inr, arith, div-le_self, div-add-mod'}
 use Rattle.std.specs.List.{list_any}
 use Rattle.std.proofs.lemmas.Bool.{eqb-true, eq-eqb, cond-true, cond-false}
 use Rattle.std.proofs.lemmas.List.{map-append, take-map, drop-map, length-map}
@@ -7,17 +7,17 @@ use Rattle.std.proofs.lemmas.Nat.{mul-le, div-mul-add, mod-mul-add, mod_below, m
 use Rattle.std.proofs.lemmas.Option.{none-some, same_Some, slice_get_within}
 use Rattle.roman_model.specs.Lists.{IsIn, below, is_empty, product_of}
 use Rattle.roman_model.specs.System.{Seat, Sys, Pair, IsSys, is_final, outcomes, is_allowed, is_fine, same_pair}
-use Rattle.roman_model.specs.Arena.{Arena, Entry, is_among, is_listed, is_beaten, IsOrder, replay}
-use Rattle.roman_model.specs.Composition.{arena, AreEntries}
+use Rattle.roman_model.specs.Arena.{Entry, is_listed, is_beaten, IsOrder, replay}
+use Rattle.roman_model.specs.Composition.{arena}
 use Rattle.roman_model.specs.Change.{Change, Freeze, Thaw, Join, Die, after, grown, without, may_go, firsts, grown_entries, entry_without, rename, CanChange, KeepsAll, place, with_state, goers, RenamedReplays}
 use Rattle.roman_model.specs.Numbers.{Sizes, sizes_of, IsPairOf, grown_sizes, sizes_without, count, number, pair_at, numbered, entry_at}
-use Rattle.roman_model.proofs.Lists.{by_test, same_test, any_same, list_any-map, from_map, from_flat_map, filter_in, from_below, sublist_in}
+use Rattle.roman_model.proofs.Lists.{by_test, same_test, any_same, list_any-map, from_map, from_flat_map, filter_in, from_below, sublist_in, filter-map}
 use Rattle.roman_model.proofs.SystemLemmas.{same_pair_is, same_pair_from}
 use Rattle.roman_model.proofs.OrderLemmas.{replay_whole, replay_sublist}
-use Rattle.roman_model.proofs.NumberLemmas.{AreBelow-length, IsPairOf-at, IsPairOf-insert, number_below, number-pair_at, pair_at-number, pair_at-grown, count-grown, number_without, number_without-is, pair_at-without, number-without, part_from_number, part_at, IsPairOf-without, states_number_below, AreBelow-drop, numbers_are_pairs}
-use Rattle.roman_model.proofs.Renames.{Renames, beaten_renamed, order_named, replay_renamed}
+use Rattle.roman_model.proofs.NumberLemmas.{AreBelow-length, IsPairOf-at, IsPairOf-insert, number_below, number-pair_at, pair_at-number, pair_at-grown, count-grown, number_without, number_without-is, pair_at-without, part_at, IsPairOf-without, states_number_below, AreBelow-drop, numbers_are_pairs}
+use Rattle.roman_model.proofs.Renames.{beaten_renamed, order_named, replay_renamed}
 use Rattle.roman_model.proofs.NumberedArena.{IsNumber, AreNumbers, numbers_rename, entries_at, listed_at, order_at}
-use Rattle.roman_model.proofs.ChangeLemmas.{flat_map_same_in, map_same_in, map-map, map-flat_map, flat_map-map, filter-map, states_frozen, turned, joined, left, outcomes-turned, outcomes-frozen, is_fine-turned, length-remove, index_insert, IsSys-left}
+use Rattle.roman_model.proofs.ChangeLemmas.{flat_map_same_in, map_same_in, map-map, map-flat_map, flat_map-map, states_frozen, turned, joined, left, outcomes-turned, outcomes-frozen, is_fine-turned, length-remove, index_insert, IsSys-left}
 use Rattle.roman_model.proofs.ChangeLaws.{renaming_keeps, mask_after_death, without-with_state}
 
 -- The renamed list, over numbers

@@ -1,14 +1,15 @@
 -- The offers, and what follows where they are taken.
-use Rattle.std.proofs.Common.{◌≡◌, ◌≢◌, ℕ, ◌<◌, ◌≤◌, Bool, true, false, not, ◌&&◌, ◌||◌, ◌⊎◌, ◌↔◌, List, [], ◌∷◌, map, length, IsTrue, IsFalse, inl, inr, refl, sym, ap, ◌∙◌, subst}
-use Rattle.std.proofs.lemmas.Bool.{both_ways, not-true, not-false, not_from_true, not_from_false}
+use Rattle.std.proofs.Common.{◌≡◌, ◌≢◌, ℕ, ◌<◌, not, List, [], ◌∷◌, length, IsTrue}
+use Rattle.std.proofs.lemmas.Bool.{not-false, not_from_true}
 use Rattle.roman_model.specs.Lists.{IsIn}
-use Rattle.roman_model.specs.System.{Sys, Pair, IsSys, IsPair, pairs, outcomes, is_allowed, is_fine}
-use Rattle.roman_model.specs.Arena.{Arena, Entry, is_listed, is_beaten, mask, loses, Survives}
-use Rattle.roman_model.specs.Composition.{couple, Serves, GreatCouple, Great, arena, IsComplete}
-use Rattle.roman_model.specs.Offers.{is_related, offers, OffersServe, OffersAreGenerator, Choice, Follows, end_of, StaysRelated, FollowingStays}
-use Rattle.roman_model.proofs.Lists.{by_test, in_not_empty, not_empty_ne}
-use Rattle.roman_model.proofs.SystemLemmas.{outcome_pair}
+use Rattle.roman_model.specs.System.{Sys, Pair, IsSys, IsPair, outcomes, is_allowed}
+use Rattle.roman_model.specs.Arena.{Entry, is_listed, mask, choices}
+use Rattle.roman_model.specs.Composition.{GreatCouple, Great, arena, IsComplete}
+use Rattle.roman_model.specs.Offers.{is_related, offers, choice_count, OffersAreGenerator, FollowingStays}
+use Rattle.roman_model.proofs.Lists.{in_not_empty, not_empty_ne}
+use Rattle.roman_model.proofs.SystemLemmas.{outcome_pair, from_pairs}
 use Rattle.roman_model.proofs.ArenaLemmas.{unbeaten_is, unbeaten_from, in_mask, from_mask, mask_same}
+use Rattle.roman_model.proofs.WorkLemmas.{choices_same}
 use Rattle.roman_model.proofs.CompositionLemmas.{serves_outcomes, outcomes_serve, great_survives, related_great, great_related, complete_listed}
 
 -- an offered seat has an outcome, and its outcomes are related
@@ -62,3 +63,9 @@ following_related s ok p pair great (m ∷ ms) follows =
     let (allowed, offered, reached, rest) = follows in
     let (allows, l, some, all) = offer_is s p m.action m.seat ok pair offered in
     following_related s ok m.to (outcome_pair s p m.action m.seat m.to ok pair reached) (all m.to reached) ms rest
+
+-- any complete list has as many choices as the offers
+pub complete_choices : (s : Sys) (L : List (Entry Pair)) → IsSys s → IsComplete s L → choices (arena s) (is_listed (arena s) L) ≡ choice_count s
+complete_choices s L ok complete =
+    choices_same (arena s) (is_listed (arena s) L) (λ q. not (is_related s q))
+    (λ p i a k q j. complete_listed s L q ok complete (outcome_pair s p a k q ok (from_pairs s p i) j))

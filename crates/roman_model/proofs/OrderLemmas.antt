@@ -1,13 +1,11 @@
 -- Removal lists and replays over any arena.
-use Rattle.std.proofs.Common.{◌≡◌, ◌≢◌, ℕ, zero, suc, ◌+◌, ◌<◌, ◌≤◌, Bool, true, false, cond, not, ◌&&◌, ◌||◌, ◌⊎◌, List, [], ◌∷◌, ◌++◌, map, length, take, drop, IsTrue, IsFalse, inl, inr, refl, sym, ap, ap₂, ◌∙◌, subst, arith, append-nil, take-append-drop}
-use Rattle.std.specs.List.{list_any}
+use Rattle.std.proofs.Common.{◌≡◌, ℕ, ◌≤◌, Bool, true, false, cond, ◌||◌, List, [], ◌∷◌, ◌++◌, map, length, take, drop, IsTrue, IsFalse, inl, inr, refl, sym, ap, ap₂, ◌∙◌, subst, append-nil, take-append-drop}
 use Rattle.std.proofs.lemmas.Bool.{false≢true, both_ways, or_cases, or_parts, or_left, or_right, or_from, cond-true, cond-false}
 use Rattle.std.proofs.lemmas.List.{length-map}
 use Rattle.roman_model.specs.Lists.{IsIn, IsSublist, HasNoRepeats}
 use Rattle.roman_model.specs.Arena.{Arena, Entry, is_among, is_listed, is_justified, IsOrderFrom, IsOrder, AreNew, replay_from, replay, Survives}
-use Rattle.roman_model.specs.declared.reason.Reason.{Reason}
-use Rattle.roman_model.proofs.Lists.{by_test, same_test, from_map, sublist_skip, no_longer}
-use Rattle.roman_model.proofs.ArenaLemmas.{IsSame, same_from, in_among, listed_in, listed_among, justified_more, justified_same, unjustified}
+use Rattle.roman_model.proofs.Lists.{by_test, from_map, sublist_skip, no_longer}
+use Rattle.roman_model.proofs.ArenaLemmas.{IsSame, same_from, listed_in, listed_among, justified_more, justified_same, unjustified}
 
 -- How removal lists are made, and parts of them.
 

@@ -1,17 +1,16 @@
 -- The opponent's game, by a removal list and by the depth.
-use Rattle.std.proofs.Common.{◌≡◌, ◌≢◌, ℕ, zero, suc, ◌<◌, ◌≤◌, Bool, true, false, cond, not, ◌&&◌, ◌||◌, ◌⊎◌, if◌then◌else◌, List, [], ◌∷◌, length, Option, Some, None, IsTrue, IsFalse, find, inl, inr, refl, sym, ap, ◌∙◌, subst, arith}
+use Rattle.std.proofs.Common.{◌≡◌, ℕ, zero, suc, ◌<◌, ◌≤◌, Bool, true, false, not, ◌||◌, if◌then◌else◌, List, [], ◌∷◌, length, Option, Some, None, IsTrue, IsFalse, find, inl, inr, refl, sym, ap, ◌∙◌, subst, arith}
 use Rattle.std.specs.List.{list_any}
 use Rattle.std.specs.Option.{option_map}
-use Rattle.std.proofs.lemmas.Bool.{false≢true, both_ways, or_cases, or_left, or_right, not-true, not_from_true, not_from_false, cond-true, cond-false}
-use Rattle.std.proofs.lemmas.Option.{none-some}
-use Rattle.roman_model.specs.Lists.{IsIn, is_empty}
-use Rattle.roman_model.specs.System.{Sys, Pair, IsSys, IsPair, outcomes}
-use Rattle.roman_model.specs.Arena.{Arena, Entry, is_among, is_listed, is_justified, IsOrderFrom, IsOrder, loses, depth}
+use Rattle.std.proofs.lemmas.Bool.{false≢true, both_ways, or_cases, or_left, or_right, not_from_false, cond-true, cond-false}
+use Rattle.roman_model.specs.Lists.{is_empty}
+use Rattle.roman_model.specs.System.{Sys, Pair, outcomes}
+use Rattle.roman_model.specs.Arena.{Entry, is_among, is_listed, is_justified, IsOrderFrom, IsOrder}
 use Rattle.roman_model.specs.Composition.{arena}
-use Rattle.roman_model.specs.Play.{earlier, reason_of, has_ready, went_on, play_at, play, WinsWithin, AreSeats, OpponentWins, OrderWins}
+use Rattle.roman_model.specs.Play.{earlier, reason_of, has_ready, went_on, play_at, play, WinsWithin, AreSeats, OrderWins}
 use Rattle.roman_model.specs.declared.reason.Reason.{Reason}
 use Rattle.roman_model.specs.declared.reason.Reason.TheVariants.{Final, Act}
-use Rattle.roman_model.proofs.Lists.{by_test, find_some, find_found, any_from, in_not_empty}
+use Rattle.roman_model.proofs.Lists.{by_test, find_some, find_found, any_from}
 use Rattle.roman_model.proofs.SystemLemmas.{same_pair_is}
 use Rattle.roman_model.proofs.ArenaLemmas.{justified_is, justified_more, beaten_is}
 

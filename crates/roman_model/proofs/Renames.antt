@@ -1,11 +1,11 @@
 -- Removal lists, masks and depths carry over from one arena to another whose nodes are named by those of the first.
-use Rattle.std.proofs.Common.{◌≡◌, ◌≢◌, ℕ, zero, suc, ◌<◌, Bool, true, false, not, ◌&&◌, ◌||◌, List, [], ◌∷◌, map, IsTrue, IsFalse, if◌then◌else◌, filter, refl, sym, ap, ap₂, ◌∙◌, subst, inl, inr}
+use Rattle.std.proofs.Common.{◌≡◌, ℕ, zero, suc, Bool, true, false, not, ◌&&◌, ◌||◌, List, [], ◌∷◌, map, if◌then◌else◌, filter, refl, sym, ap, ap₂, ◌∙◌, subst, inl, inr}
 use Rattle.std.specs.List.{list_any}
 use Rattle.roman_model.specs.Lists.{IsIn, below, all_below, is_empty}
 use Rattle.roman_model.specs.Arena.{Arena, Entry, is_among, is_listed, is_beaten, is_justified, mask, IsOrderFrom, IsOrder, AreNew, replay_from, replay, loses}
 use Rattle.roman_model.specs.declared.reason.Reason.{Reason}
 use Rattle.roman_model.specs.declared.reason.Reason.TheVariants.{Final, Act}
-use Rattle.roman_model.proofs.Lists.{any_same, list_any-map, is_empty-map, all_below_same, filter_same, from_below}
+use Rattle.roman_model.proofs.Lists.{any_same, list_any-map, is_empty-map, all_below_same, filter_same}
 
 -- f names the nodes of B: what A says of p, where p is one of those, B says of f p
 pub record Renames {N M : Type 0} (A : Arena N) (B : Arena M) (f : N → M) (Is : N → Type 0) : Type 0 where

@@ -1,11 +1,11 @@
 -- Lemmas on the pairs of a system, its steps and outcomes.
-use Rattle.std.proofs.Common.{◌≡◌, ◌≢◌, ℕ, zero, suc, ◌<◌, ◌≤◌, ◌==◌, Bool, true, false, cond, not, ◌&&◌, ◌||◌, ◌⊎◌, ◌↔◌, List, [], ◌∷◌, map, length, set, get_or, Option, Some, None, IsTrue, IsFalse, filter, flat_map, slice_get, slice_index, slice_set, inl, inr, refl, sym, ap, ap₂, ◌∙◌, subst, arith}
-use Rattle.std.specs.List.{list_any, AllZip}
-use Rattle.std.proofs.lemmas.Bool.{false≢true, true≢false, both_ways, and_parts, and_from, and_cases, not-true, not-false, not_from_true, not_from_false, eqb-true, eq-eqb, cond-true, cond-false}
-use Rattle.std.proofs.lemmas.Option.{none-some, same_Some, slice_get_within, slice_get-get_or}
+use Rattle.std.proofs.Common.{◌≡◌, ℕ, zero, suc, ◌<◌, ◌==◌, not, ◌&&◌, List, [], ◌∷◌, map, length, Option, Some, None, IsTrue, IsFalse, flat_map, slice_get, slice_index, slice_set, inl, inr, refl, sym, ap, ap₂, ◌∙◌, subst}
+use Rattle.std.specs.List.{AllZip}
+use Rattle.std.proofs.lemmas.Bool.{false≢true, and_parts, and_from, not-true, not_from_false, eqb-true, eq-eqb, cond-true, cond-false}
+use Rattle.std.proofs.lemmas.Option.{none-some, same_Some, slice_get_within}
 use Rattle.roman_model.specs.Lists.{IsIn, HasNoRepeats, below, is_empty}
-use Rattle.roman_model.specs.System.{Triple, Env, Move, Beh, Seat, Sys, Pair, has, has_triple, has_move, IsEnv, IsBeh, IsSys, IsPair, TStep, SStep, Allows, is_final, all_final, combinations, pairs, env_next, beh_next, seat_next, moved, outcomes, is_allowed, is_fine, is_ready, same_numbers, same_pair}
-use Rattle.roman_model.proofs.Lists.{by_test, same_test, in_append_left, in_map, from_map, in_flat_map, from_flat_map, in_filter, filter_in, any_true, any_from, any_false, in_not_empty, not_empty_in, in_below, from_below, HasNoRepeats-map, HasNoRepeats-flat_map, HasNoRepeats-below}
+use Rattle.roman_model.specs.System.{Env, Beh, Seat, Sys, Pair, has, has_triple, has_move, IsEnv, IsBeh, IsSys, IsPair, TStep, SStep, Allows, combinations, pairs, env_next, beh_next, env_prev, beh_prev, seat_next, moved, outcomes, is_allowed, is_ready, same_numbers, same_pair}
+use Rattle.roman_model.proofs.Lists.{by_test, in_map, from_map, in_flat_map, from_flat_map, in_filter, filter_in, any_true, in_not_empty, not_empty_in, in_below, from_below, HasNoRepeats-map, HasNoRepeats-flat_map, HasNoRepeats-below}
 
 -- Equal pairs.
 
@@ -167,6 +167,22 @@ from_seat_next None b e a b' i = absurd i
 from_seat_next (Some seat) b e a b' i = by_test seat.frozen
     (λ frozen. absurd (subst (λ ns. IsIn b' ns) (cond-true seat.frozen [] (beh_next seat.beh b e a) frozen) i))
     (λ ready. (seat, refl, ready, from_beh_next seat.beh b e a b' (subst (λ ns. IsIn b' ns) (cond-false seat.frozen [] (beh_next seat.beh b e a) ready) i)))
+
+-- States before.
+
+pub in_env_prev : (env : Env) (e a e' : ℕ) → IsEnv env → IsTrue (has_triple env e a e') → IsIn e (env_prev env e' a)
+in_env_prev env e a e' ok h =
+    in_filter (λ d. has_triple env d a e') e (below env.states) (in_below env.states e (triple_in_range env e a e' ok h).0) h
+
+pub from_env_prev : (env : Env) (e a e' : ℕ) → IsIn e (env_prev env e' a) → IsTrue (has_triple env e a e')
+from_env_prev env e a e' i = (filter_in (λ d. has_triple env d a e') e (below env.states) i).1
+
+pub in_beh_prev : (env : Env) (beh : Beh) (b e a b' : ℕ) → IsBeh env beh → IsTrue (has_move beh b e a b') → IsIn b (beh_prev beh b' e a)
+in_beh_prev env beh b e a b' ok h =
+    in_filter (λ c. has_move beh c e a b') b (below beh.states) (in_below beh.states b (move_in_range env beh b e a b' ok h).0) h
+
+pub from_beh_prev : (beh : Beh) (b e a b' : ℕ) → IsIn b (beh_prev beh b' e a) → IsTrue (has_move beh b e a b')
+from_beh_prev beh b e a b' i = (filter_in (λ c. has_move beh c e a b') b (below beh.states) i).1
 
 -- The seat that a list of seats has at a place.
 pub seat_in : (seats : List Seat) (k : ℕ) (seat : Seat) → slice_get seats k ≡ Some seat → IsIn seat seats

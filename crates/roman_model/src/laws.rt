@@ -8,7 +8,7 @@ ghost use Rattle.roman_model.specs.Laws.{
   UnrelatedLoses,
 };
 ghost use Rattle.roman_model.specs.Offers.{FollowingStays, OffersAreGenerator};
-ghost use Rattle.roman_model.specs.Play.{OrderWins};
+ghost use Rattle.roman_model.specs.Play.{DepthIsLeast, DepthWins, OrderWins};
 
 /// The related pairs, as couples, meet the three clauses of an ND-simulation, each
 /// ND-simulation is part of them, and a finite one holds them all.
@@ -54,4 +54,16 @@ pub fn following_stays()
 /// the list has entries, whichever seats serve.
 pub fn order_wins()
     ensures won { OrderWins }
+{}
+
+/// From a pair of depth n the opponent that plays by the depth wins within n requests, whichever
+/// seats serve.
+pub fn depth_wins()
+    ensures won { DepthWins }
+{}
+
+/// The depth of a pair is the least number of requests within which the opponent wins from it: a
+/// pair that isn't lost by then has a seat for each allowed action that holds out.
+pub fn depth_is_least()
+    ensures least { DepthIsLeast }
 {}

@@ -14,8 +14,8 @@ mod reason;
 
 pub use changes::{mask_after_death, renaming_keeps};
 pub use laws::{
-    following_stays, greatest_is_greatest, offers_are_generator, order_completes, order_refutes,
-    order_wins, replay_keeps, unrelated_loses,
+    depth_is_least, depth_wins, following_stays, greatest_is_greatest, offers_are_generator,
+    order_completes, order_refutes, order_wins, replay_keeps, unrelated_loses,
 };
 pub use limits::{
     DEFAULT_CELLS, MAX_ACTIONS, MAX_BEHAVIOURS, MAX_CELLS, MAX_CERTIFICATE_BYTES,
