@@ -16,5 +16,7 @@ pub mod ChangeLaws
 pub mod NumberedChanges
 pub mod NumberedLists
 pub mod LineLemmas
+pub mod CertificateLemmas
+pub mod CertificateLaws
 pub mod Examples
 pub mod TextExamples

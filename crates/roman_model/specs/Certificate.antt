@@ -1,13 +1,14 @@
 -- Certificates: the text of a removal list, and the verdict on a text.
-use Rattle.std.specs.Prelude.{ℕ, ◌+◌, ◌*◌, Bool, not, ◌&&◌, List, [], ◌∷◌, ◌++◌, map, length, take, Option, None, Some, if◌then◌else◌, nat_le, slice_get, slice_index_or, codes, decimal}
+use Rattle.std.specs.Prelude.{◌≡◌, ℕ, ◌+◌, ◌*◌, ◌<◌, ◌≤◌, Bool, not, ◌&&◌, List, [], ◌∷◌, ◌++◌, map, length, take, Option, None, Some, if◌then◌else◌, nat_le, slice_get, slice_index_or, codes, decimal}
 use Rattle.std.specs.List.{list_any, filter, flat_map, filter_map, find}
 use Rattle.std.specs.Option.{option_map}
-use Rattle.roman_model.specs.Lists.{below}
+use Rattle.roman_model.specs.Lists.{IsIn, below}
 use Rattle.roman_model.specs.Lines.{lines, ended_lines, text_of}
-use Rattle.roman_model.specs.System.{Sys, same_numbers}
+use Rattle.roman_model.specs.System.{Sys, IsSys, pairs, same_numbers}
 use Rattle.roman_model.specs.Arena.{Entry, is_listed, is_justified}
-use Rattle.roman_model.specs.Numbers.{sizes_of, count, numbered}
-use Rattle.roman_model.specs.declared.limits.TheConstants.{MAX_CERTIFICATE_BYTES}
+use Rattle.roman_model.specs.Numbers.{sizes_of, count, pair_at, numbered, IsCompleteList}
+use Rattle.roman_model.specs.Offers.{is_related}
+use Rattle.roman_model.specs.declared.limits.TheConstants.{MAX_CELLS, MAX_CERTIFICATE_BYTES}
 use Rattle.roman_model.specs.declared.reason.Reason.{Reason}
 use Rattle.roman_model.specs.declared.reason.Reason.TheVariants.{Final, Act}
 
@@ -121,3 +122,30 @@ cert_verdict s start bytes =
     if nat_le (length bytes) MAX_CERTIFICATE_BYTES
     then slice_index_or (faults s (lines bytes) (length (lines bytes) + 1)) 0 (unlisted s start (entries_on s (lines bytes)))
     else slice_index_or (faults s (ended_lines (take MAX_CERTIFICATE_BYTES bytes)) (length (ended_lines (take MAX_CERTIFICATE_BYTES bytes)))) 0 TooLong
+
+-- The laws
+
+-- how many pairs of the system are related, and whether that one is
+abbrev pub greatest : Sys → ℕ → Verdict
+greatest s start = Greatest (length (filter (is_related s) (pairs s))) (is_related s (pair_at (sizes_of s) start))
+
+-- the system has few enough cells for a document's greatest limit
+abbrev pub IsWithinCells : Sys → Type 0
+IsWithinCells s = count (sizes_of s) * s.env.actions ≤ MAX_CELLS
+
+-- the certificate of a complete list is accepted
+abbrev pub WrittenIsGreatest : Type 0
+WrittenIsGreatest = (s : Sys) (start : ℕ) (L : List (Entry ℕ)) → IsSys s → IsWithinCells s → start < count (sizes_of s) →
+    ((x : Entry ℕ) → IsIn x L → x.node < count (sizes_of s)) → IsCompleteList s L →
+    cert_verdict s start (cert_text s L) ≡ greatest s start
+
+-- an accepted text is a complete list, and the verdict says what is related
+pub record AcceptedIsComplete (s : Sys) (start : ℕ) (bytes : List ℕ) (related : ℕ) (starts : Bool) : Type 0 where
+  pub numbers : (x : Entry ℕ) → IsIn x (entries_on s (lines bytes)) → x.node < count (sizes_of s)
+  pub complete : IsCompleteList s (entries_on s (lines bytes))
+  pub said : Greatest related starts ≡ greatest s start
+
+-- what is accepted is complete
+abbrev pub GreatestIsComplete : Type 0
+GreatestIsComplete = (s : Sys) (start : ℕ) (bytes : List ℕ) (related : ℕ) (starts : Bool) → IsSys s → IsWithinCells s → start < count (sizes_of s) →
+    cert_verdict s start bytes ≡ Greatest related starts → AcceptedIsComplete s start bytes related starts
