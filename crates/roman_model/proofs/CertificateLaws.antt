@@ -1,9 +1,11 @@
 -- The certificate of a complete list is accepted, and what is accepted is complete.
 use Rattle.std.proofs.Common.{◌≡◌, ◌≢◌, ℕ, zero, suc, ◌+◌, ◌*◌, ◌^◌, ◌<◌, ◌≤◌, ◌==◌, Bool, true, false, not, ◌&&◌, ◌||◌, ◌⊎◌, List, [], ◌∷◌, ◌++◌, map, length, take, Option, Some, None, IsTrue, IsFalse, if◌then◌else◌, filter, find, filter_map, option_map, slice_get, slice_index_or, codes, decimal, nat_le, refl, sym, ap, ap₂, ◌∙◌, subst, inl, inr, arith, append_assoc, append-nil, length-append, le-leb}
 use Rattle.std.specs.List.{list_any, cons_option}
-use Rattle.std.proofs.lemmas.Bool.{cases_lt, false≢true, true≢false, both_ways, or_from, or_cases, or_left, or_right, and_parts, and_left, not-false, not_from_true, not_from_false, cond-true, cond-false}
+use Rattle.std.proofs.lemmas.Bool.{cases_lt, false≢true, true≢false, both_ways, or_from, or_cases, or_left, or_right, and_parts, and_left, not-false, not_from_true, not_from_false, cond-true, cond-false, lt-leb, and_from}
 use Rattle.std.proofs.lemmas.List.{length-map, map_push}
 use Rattle.std.proofs.lemmas.List.Elements.{filter_map-append}
+use Rattle.std.proofs.lemmas.List.Folds.{list_any-append}
+use Rattle.std.proofs.lemmas.Option.{none-some}
 use Rattle.std.proofs.lemmas.Nat.{mul-le}
 use Rattle.std.proofs.lemmas.Fmt.{length-decimal-le}
 use Rattle.roman_model.specs.Lists.{IsIn, below, all_below, product_of}
@@ -17,7 +19,7 @@ use Rattle.roman_model.specs.Certificate.{head_line, count_line, reason_text, en
 use Rattle.roman_model.specs.declared.limits.TheConstants.{MAX_ACTIONS, MAX_CELLS, MAX_CERTIFICATE_BYTES}
 use Rattle.roman_model.specs.declared.reason.Reason.{Reason}
 use Rattle.roman_model.specs.declared.reason.Reason.TheVariants.{Final, Act}
-use Rattle.roman_model.proofs.Lists.{by_test, none_from, any_true, any_from, in_map, from_map, in_append_left, in_append_right, from_append, in_push, in_filter, filter_in, in_below, from_below, filter_same, find_not_found, length-below, same_length, HasNoRepeats-filter, filter-map}
+use Rattle.roman_model.proofs.Lists.{by_test, none_from, any_true, any_from, in_map, from_map, in_append_left, in_append_right, from_append, in_push, in_filter, filter_in, in_below, from_below, filter_same, find_not_found, length-below, same_length, HasNoRepeats-filter, filter-map, any_false, find_none, from_push}
 use Rattle.roman_model.proofs.SystemLemmas.{same_numbers_is, same_numbers_itself, allowed_in_range, pairs_once}
 use Rattle.roman_model.proofs.ArenaLemmas.{unjustified}
 use Rattle.roman_model.proofs.CompositionLemmas.{great_survives, related_great, listed_unrelated}
@@ -28,7 +30,7 @@ use Rattle.roman_model.proofs.Renames.{order_named}
 use Rattle.roman_model.proofs.NumberedArena.{IsNumber, AreNumbers, numbers_rename, justified_at}
 use Rattle.roman_model.proofs.NumberedLists.{numbered_is_same, numbered_completed_by, numbered_listed, numbered_pairs, numbered_pairs_once, in_numbered_pairs, from_numbered_pairs}
 use Rattle.roman_model.proofs.LineLemmas.{IsLine, AreLines, lines-text_of}
-use Rattle.roman_model.proofs.CertificateLemmas.{IsSmall, IsSmallReason, head_is_line, end_is_line, count_is_line, entry_is_line, entry_is_no_end, final_reason, act_reason, IsSmallSys, possible_small, in_possible, from_possible, entry_of-line, entry_of-is, entry_of_other, entries_on-lines, IsClean, faults_none, faults_first, clean_push, fault_next, fault_over}
+use Rattle.roman_model.proofs.CertificateLemmas.{IsSmall, IsSmallReason, head_is_line, end_is_line, count_is_line, entry_is_line, entry_is_no_end, final_reason, act_reason, IsSmallSys, possible_small, in_possible, from_possible, entry_of-line, entry_of-is, entry_of_other, entries_on-lines, IsClean, faults_none, faults_first, clean_push, fault_next, fault_over, faults_cases}
 
 -- The sizes of a system within the limits
 
@@ -48,6 +50,14 @@ judged_short s start bytes h =
     cond-true (nat_le (length bytes) MAX_CERTIFICATE_BYTES) (slice_index_or (faults s (lines bytes) (length (lines bytes) + 1)) 0 (unlisted s start (entries_on s (lines bytes))))
     (slice_index_or (faults s (ended_lines (take MAX_CERTIFICATE_BYTES bytes)) (length (ended_lines (take MAX_CERTIFICATE_BYTES bytes)))) 0 TooLong)
     (le-leb (length bytes) MAX_CERTIFICATE_BYTES h)
+
+-- and a long one by those that end within the limit
+pub judged_long : (s : Sys) (start : ℕ) (bytes : List ℕ) → MAX_CERTIFICATE_BYTES < length bytes →
+    cert_verdict s start bytes ≡ slice_index_or (faults s (ended_lines (take MAX_CERTIFICATE_BYTES bytes)) (length (ended_lines (take MAX_CERTIFICATE_BYTES bytes)))) 0 TooLong
+judged_long s start bytes h =
+    cond-false (nat_le (length bytes) MAX_CERTIFICATE_BYTES) (slice_index_or (faults s (lines bytes) (length (lines bytes) + 1)) 0 (unlisted s start (entries_on s (lines bytes))))
+    (slice_index_or (faults s (ended_lines (take MAX_CERTIFICATE_BYTES bytes)) (length (ended_lines (take MAX_CERTIFICATE_BYTES bytes)))) 0 TooLong)
+    (lt-leb (length bytes) MAX_CERTIFICATE_BYTES h)
 
 not-not : (b : Bool) → not (not b) ≡ b
 not-not true = refl
@@ -264,3 +274,170 @@ written_is_greatest s start L sys cells l are complete =
     (faults_none s (cert_lines s L) (length (cert_lines s L) + 1) (cert_clean s L small possible order (complete_end s L (complete_unjustified s L sys are complete))))
     (entries_on-cert s L small possible)
     ∙ unlisted_is_greatest s start L sys l are complete
+
+-- What is accepted
+
+no_fault : (why : Why) → Some why ≡ None → ⊥
+no_fault why e = none-some why (sym e)
+
+-- the line that is due is there
+due_is : (due line : List ℕ) → unless_is due (Some line) ≡ None → line ≡ due
+due_is due line e = by_test (same_numbers due line)
+    (λ t. sym (same_numbers_is due line t))
+    (λ f. absurd (no_fault Form (sym (cond-false (same_numbers due line) None (Some Form) f) ∙ e)))
+
+-- an entry without a fault is new, and its reason holds
+entry_holds : (s : Sys) (L : List (Entry ℕ)) (x : Entry ℕ) → entry_fault s L (Some x) ≡ None →
+    IsFalse (is_listed (numbered s) L x.node) × IsTrue (is_justified (numbered s) (is_listed (numbered s) L) x.node x.reason)
+entry_holds s L x e = by_test (is_listed (numbered s) L x.node)
+    (λ t. absurd (no_fault Repeated (sym (cond-true (is_listed (numbered s) L x.node) (Some Repeated) rest t) ∙ e)))
+    (λ f. by_test (is_justified (numbered s) (is_listed (numbered s) L) x.node x.reason)
+        (λ t. (f, t))
+        (λ g. absurd (no_fault Unjustified (sym (cond-false (is_justified (numbered s) (is_listed (numbered s) L) x.node x.reason) None (Some Unjustified) g)
+            ∙ sym (cond-false (is_listed (numbered s) L x.node) (Some Repeated) rest f) ∙ e))))
+  where
+    rest : Option Why
+    rest = if is_justified (numbered s) (is_listed (numbered s) L) x.node x.reason then None else Some Unjustified
+
+-- the entries on those lines are a removal list, and no pair is missing
+record HoldsAll (s : Sys) (L : List (Entry ℕ)) : Type 0 where
+  possible : (x : Entry ℕ) → IsIn x L → IsIn x (possible_entries s)
+  order : IsOrder (numbered s) L
+  ended : end_fault s L ≡ None
+
+-- lines read so far: none is `end`, and their entries are a removal list
+record ReadSoFar (s : Sys) (done : List (List ℕ)) : Type 0 where
+  open_yet : IsFalse (list_any (same_numbers end_line) done)
+  possible : (x : Entry ℕ) → IsIn x (entries_on s done) → IsIn x (possible_entries s)
+  order : IsOrder (numbered s) (entries_on s done)
+
+module _ (s : Sys) (small : IsSmallSys s) (head size : List ℕ) where
+  abbrev with_body : List (List ℕ) → List (List ℕ)
+  with_body body = head ∷ size ∷ body
+
+  -- a line that isn't `end` is an entry's
+  read_entry : (done : List (List ℕ)) (line : List ℕ) → ReadSoFar s done → IsFalse (same_numbers end_line line) → entry_fault s (entries_on s done) (entry_of s line) ≡ None → ReadSoFar s (done ++ line ∷ [])
+  read_entry done line read other e = by_entry (entry_of s line) refl
+    where
+      by_entry : (o : Option (Entry ℕ)) → entry_of s line ≡ o → ReadSoFar s (done ++ line ∷ [])
+      by_entry None is = absurd (no_fault Form (ap (entry_fault s (entries_on s done)) (sym is) ∙ e))
+      by_entry (Some x) is =
+          let (new, holds) = entry_holds s (entries_on s done) x (ap (entry_fault s (entries_on s done)) (sym is) ∙ e) in
+          let more : entries_on s (done ++ line ∷ []) ≡ entries_on s done ++ x ∷ [] = filter_map-append (entry_of s) done (line ∷ []) ∙ ap (λ o. entries_on s done ++ cons_option o []) is in
+          record {
+            open_yet = list_any-append (same_numbers end_line) done (line ∷ []) ∙ or_from (list_any (same_numbers end_line) done) (list_any (same_numbers end_line) (line ∷ [])) read.open_yet
+                (or_from (same_numbers end_line line) false other refl);
+            possible = λ y i. elim (from_push y x (entries_on s done) (subst (λ M. IsIn y M) more i)) [
+              | inl j ↦ read.possible y j
+              | inr same ↦ subst (λ z. IsIn z (possible_entries s)) (sym same) (entry_of-is s line x is).0
+            ];
+            order = subst (IsOrder (numbered s)) (sym more) (order_push (numbered s) (entries_on s done) x read.order new holds);
+          }
+
+  -- a clean text whose first lines are read has an end
+  read_all : (done rest : List (List ℕ)) → ReadSoFar s done → IsClean s (with_body (done ++ rest)) (length (with_body (done ++ rest)) + 1) → HoldsAll s (entries_on s (done ++ rest))
+  read_all done [] read clean =
+      let last : line_fault s (with_body (done ++ [])) None ≡ None = sym (fault_over s (with_body (done ++ []))) ∙ clean (length (with_body (done ++ []))) (omega arith) in
+      let open_yet : IsFalse (list_any (same_numbers end_line) (done ++ [])) = subst (λ ls. IsFalse (list_any (same_numbers end_line) ls)) (sym (append-nil done)) read.open_yet in
+      absurd (no_fault Form (sym (cond-false (list_any (same_numbers end_line) (done ++ [])) (unless_over None) (body_fault s (entries_on s (done ++ [])) None) open_yet) ∙ last))
+  read_all done (line ∷ rest) read clean =
+      let here : line_fault s (with_body done) (Some line) ≡ None =
+              sym (fault_next s (with_body done) rest line) ∙ clean (length (with_body done)) (omega (arith, length-append done (line ∷ rest))) in
+      let due : body_fault s (entries_on s done) (Some line) ≡ None =
+              sym (cond-false (list_any (same_numbers end_line) done) (unless_over (Some line)) (body_fault s (entries_on s done) (Some line)) read.open_yet) ∙ here in
+      let more : done ++ line ∷ rest ≡ (done ++ line ∷ []) ++ rest = sym (append_assoc done (line ∷ []) rest) in
+      let clean_more : IsClean s (with_body ((done ++ line ∷ []) ++ rest)) (length (with_body ((done ++ line ∷ []) ++ rest)) + 1) = subst (λ ls. IsClean s (with_body ls) (length (with_body ls) + 1)) more clean in
+      by_test (same_numbers end_line line)
+      (λ t. at_end done line rest read t
+          (sym (cond-true (same_numbers end_line line) (end_fault s (entries_on s done)) (entry_fault s (entries_on s done) (entry_of s line)) t) ∙ due) more clean_more)
+      (λ f. subst (λ ls. HoldsAll s (entries_on s ls)) (sym more)
+          (read_all (done ++ line ∷ []) rest
+          (read_entry done line read f (sym (cond-false (same_numbers end_line line) (end_fault s (entries_on s done)) (entry_fault s (entries_on s done) (entry_of s line)) f) ∙ due))
+          clean_more))
+    where
+      -- nothing follows the end
+      at_end : (done : List (List ℕ)) (line : List ℕ) (rest : List (List ℕ)) → ReadSoFar s done → IsTrue (same_numbers end_line line) → end_fault s (entries_on s done) ≡ None →
+          done ++ line ∷ rest ≡ (done ++ line ∷ []) ++ rest → IsClean s (with_body ((done ++ line ∷ []) ++ rest)) (length (with_body ((done ++ line ∷ []) ++ rest)) + 1) → HoldsAll s (entries_on s (done ++ line ∷ rest))
+      at_end done line [] read t none more clean =
+          let unread : entry_of s line ≡ None = subst (λ l. entry_of s l ≡ None) (same_numbers_is end_line line t) (entry_of_other s 101 (110 ∷ 100 ∷ []) small (omega arith)) in
+          let same : entries_on s done ≡ entries_on s (done ++ line ∷ []) =
+                  sym (filter_map-append (entry_of s) done (line ∷ []) ∙ ap (λ o. entries_on s done ++ cons_option o []) unread ∙ append-nil (entries_on s done)) in
+          subst (HoldsAll s) same (record { possible = read.possible; order = read.order; ended = none })
+      at_end done line (next ∷ rest) read t none more clean =
+          let over : line_fault s (with_body (done ++ line ∷ [])) (Some next) ≡ None =
+                  sym (fault_next s (with_body (done ++ line ∷ [])) rest next) ∙ clean (length (with_body (done ++ line ∷ []))) (omega (arith, length-append (done ++ line ∷ []) (next ∷ rest))) in
+          absurd (no_fault Form
+          (sym (cond-true (list_any (same_numbers end_line) (done ++ line ∷ [])) (unless_over (Some next)) (body_fault s (entries_on s (done ++ line ∷ [])) (Some next))
+              (any_from (same_numbers end_line) line (done ++ line ∷ []) (in_push line done) t)) ∙ over))
+
+-- a clean text
+text_read : (s : Sys) (text : List (List ℕ)) → IsSmallSys s → IsClean s text (length text + 1) → HoldsAll s (entries_on s text)
+text_read s [] small clean = absurd (no_fault Form (clean 0 (omega arith)))
+text_read s (head ∷ []) small clean = absurd (no_fault Form (clean 1 (omega arith)))
+text_read s (head ∷ size ∷ body) small clean =
+    let first : entry_of s head ≡ None = subst (λ l. entry_of s l ≡ None) (sym (due_is head_line head (clean 0 (omega arith)))) (entry_of_other s 114 (codes "oman-order 1") small (omega arith)) in
+    let second : entry_of s size ≡ None =
+            subst (λ l. entry_of s l ≡ None) (sym (due_is (count_line s) size (clean 1 (omega arith)))) (entry_of_other s 112 (codes "airs " ++ decimal (count (sizes_of s))) small (omega arith)) in
+    subst (HoldsAll s) (sym (ap₂ (λ o p. cons_option o (cons_option p (entries_on s body))) first second))
+    (read_all s small head size [] body (record { open_yet = refl; possible = λ x i. absurd i; order = tt }) clean)
+
+-- where no pair is missing no reason holds at an unlisted one
+nothing_missing : (s : Sys) (L : List (Entry ℕ)) → IsSys s → end_fault s L ≡ None →
+    (p : ℕ) → p < count (sizes_of s) → IsFalse (is_listed (numbered s) L p) → (r : Reason) → IsFalse (is_justified (numbered s) (is_listed (numbered s) L) p r)
+nothing_missing s L sys ended p l unlisted r =
+    by_test (is_justified (numbered s) (is_listed (numbered s) L) p r)
+    (λ holds. absurd (both_ways (could_be_listed s L p)
+        (any_false (could_be_listed s L) p (below (count (sizes_of s))) (find_none (could_be_listed s L) (below (count (sizes_of s))) (unmapped (find (could_be_listed s L) (below (count (sizes_of s)))) ended)) (in_below (count (sizes_of s)) p l))
+        (and_from (not (is_listed (numbered s) L p)) (list_any (is_justified (numbered s) (is_listed (numbered s) L) p) (reasons s))
+        (not_from_false (is_listed (numbered s) L p) unlisted)
+        (any_from (is_justified (numbered s) (is_listed (numbered s) L) p) r (reasons s) (justified_reason s (is_listed (numbered s) L) p r sys holds) holds))))
+    (λ f. f)
+  where
+    unmapped : (o : Option ℕ) → option_map Unlisted o ≡ None → o ≡ None
+    unmapped None e = refl
+    unmapped (Some q) e = absurd (no_fault (Unlisted q) e)
+
+-- the entries of a clean text are a complete list
+pub clean_complete : (s : Sys) (text : List (List ℕ)) → IsSys s → IsSmallSys s → IsClean s text (length text + 1) → AreNumbers s (entries_on s text) × IsCompleteList s (entries_on s text)
+clean_complete s text sys small clean =
+    let all : HoldsAll s (entries_on s text) = text_read s text small clean in
+    let are : AreNumbers s (entries_on s text) = λ x i. (from_possible s x (all.possible x i)).0 in
+    (are, numbered_completed_by s (entries_on s text) sys are all.order (nothing_missing s (entries_on s text) sys all.ended))
+
+-- a text that is accepted is short and clean
+accepted_clean : (s : Sys) (start : ℕ) (bytes : List ℕ) (related : ℕ) (starts : Bool) → cert_verdict s start bytes ≡ Greatest related starts →
+    IsClean s (lines bytes) (length (lines bytes) + 1) × (Greatest related starts ≡ unlisted s start (entries_on s (lines bytes)))
+accepted_clean s start bytes related starts e = elim (cases_lt MAX_CERTIFICATE_BYTES (length bytes)) [
+  | inl long ↦ absurd (elim (faults_cases s (ended_lines (take MAX_CERTIFICATE_BYTES bytes)) (length (ended_lines (take MAX_CERTIFICATE_BYTES bytes)))) [
+    | inl clean ↦
+        let same : TooLong ≡ Greatest related starts = sym (ap (λ vs. slice_index_or vs 0 TooLong) (faults_none s ended (length ended) clean)) ∙ sym (judged_long s start bytes long) ∙ e in
+        (let h : ⊥ = cc in h)
+    | inr found ↦
+        let (i, why, l, clean, fault) = found in
+        let (rest, is) = faults_first s ended (length ended) i why clean fault l in
+        let same : Rejected (i + 1) why ≡ Greatest related starts = sym (ap (λ vs. slice_index_or vs 0 TooLong) is) ∙ sym (judged_long s start bytes long) ∙ e in
+        (let h : ⊥ = cc in h)
+  ])
+  | inr short ↦ elim (faults_cases s (lines bytes) (length (lines bytes) + 1)) [
+    | inl clean ↦ (
+        clean,
+        sym e ∙ judged_short s start bytes short ∙ ap (λ vs. slice_index_or vs 0 (unlisted s start (entries_on s (lines bytes)))) (faults_none s (lines bytes) (length (lines bytes) + 1) clean),
+      )
+    | inr found ↦
+        let (i, why, l, clean, fault) = found in
+        let (rest, is) = faults_first s (lines bytes) (length (lines bytes) + 1) i why clean fault l in
+        let same : Rejected (i + 1) why ≡ Greatest related starts =
+                sym (ap (λ vs. slice_index_or vs 0 (unlisted s start (entries_on s (lines bytes)))) is) ∙ sym (judged_short s start bytes short) ∙ e in
+        absurd (let h : ⊥ = cc in h)
+  ]
+]
+  where
+    ended : List (List ℕ)
+    ended = ended_lines (take MAX_CERTIFICATE_BYTES bytes)
+
+pub greatest_is_complete : GreatestIsComplete
+greatest_is_complete s start bytes related starts sys cells l e =
+    let (few, small) = cells_small s sys cells in
+    let (clean, said) = accepted_clean s start bytes related starts e in
+    let (are, complete) = clean_complete s (lines bytes) sys small clean in
+    record { numbers = are; complete = complete; said = said ∙ unlisted_is_greatest s start (entries_on s (lines bytes)) sys l are complete }

@@ -271,3 +271,20 @@ fault_next s text more line = ap₂ (line_fault s) (take_at text (line ∷ more)
 
 pub fault_over : (s : Sys) (text : List (List ℕ)) → line_fault s (take (length text) text) (slice_get text (length text)) ≡ line_fault s text None
 fault_over s text = ap₂ (line_fault s) (take_all (length text) text (omega arith)) (get_past text)
+
+-- either none of the first n lines is at fault, or there is a first one that is
+pub faults_cases : (s : Sys) (text : List (List ℕ)) (n : ℕ) →
+    IsClean s text n ⊎ ((i : ℕ) × (why : Why) × (i < n) × IsClean s text i × (line_fault s (take i text) (slice_get text i) ≡ Some why))
+faults_cases s text zero = inl (λ i l. absurd (omega arith))
+faults_cases s text (suc n) = elim (faults_cases s text n) [
+  | inl clean ↦ by_fault clean (line_fault s (take n text) (slice_get text n)) refl
+  | inr found ↦ let (i, why, l, clean, fault) = found in inr (i, why, omega arith, clean, fault)
+]
+  where
+    by_fault : IsClean s text n → (o : Option Why) → line_fault s (take n text) (slice_get text n) ≡ o →
+        IsClean s text (suc n) ⊎ ((i : ℕ) × (why : Why) × (i < suc n) × IsClean s text i × (line_fault s (take i text) (slice_get text i) ≡ Some why))
+    by_fault clean None e = inl (λ i l. elim (cases_lt i n) [
+      | inl less ↦ clean i less
+      | inr more ↦ (let here : i ≡ n = omega arith in ap (λ k. line_fault s (take k text) (slice_get text k)) here ∙ e)
+    ])
+    by_fault clean (Some why) e = inr (n, why, omega arith, clean, e)

@@ -34,6 +34,7 @@ module _ (s : Sys) where
         (λ h. eq-eqb i j (sym ((numbers_are_pairs s).there i below_i) ∙ ap (number (sizes_of s)) (same_pair_is (pair_at (sizes_of s) i) (pair_at (sizes_of s) j) h) ∙ (numbers_are_pairs s).there j below_j));
     actions = refl;
     seats = refl;
+    ready = λ k. refl;
     fine = λ i l. refl;
     allows = λ i l a. refl;
     outcomes = λ i l a k. outcomes_named sys (pair_at (sizes_of s) i) ((numbers_are_pairs s).pair i l) a k;
@@ -50,6 +51,7 @@ module _ (s : Sys) where
         (λ h. same_pair_from p q (sym ((numbers_are_pairs s).back p ok_p) ∙ ap (pair_at (sizes_of s)) (eqb-true (number (sizes_of s) p) (number (sizes_of s) q) h) ∙ (numbers_are_pairs s).back q ok_q));
     actions = refl;
     seats = refl;
+    ready = λ k. refl;
     fine = λ p ok. ap (is_fine s) (sym ((numbers_are_pairs s).back p ok));
     allows = λ p ok a. ap (λ q. is_allowed s q a) (sym ((numbers_are_pairs s).back p ok));
     outcomes = λ p ok a k. ap (λ q. map (number (sizes_of s)) (outcomes s q a k)) (sym ((numbers_are_pairs s).back p ok));

@@ -1,11 +1,11 @@
 -- Explanations: the part of a removal list on which one entry rests.
-use Rattle.std.specs.Prelude.{ℕ, zero, suc, Bool, not, ◌&&◌, ◌||◌, List, [], ◌∷◌, ◌++◌, map, length, Option, None, Some, IsTrue, slice_index, slice_index_or, codes}
-use Rattle.std.specs.List.{list_any, filter, flat_map, find, take_while, join_with_byte}
+use Rattle.std.specs.Prelude.{◌≡◌, ℕ, zero, suc, Bool, not, ◌&&◌, ◌||◌, List, [], ◌∷◌, ◌++◌, map, length, Option, None, Some, IsTrue, if◌then◌else◌, slice_index, slice_index_or, codes}
+use Rattle.std.specs.List.{list_any, filter, flat_map, find, join_with_byte}
 use Rattle.std.specs.Option.{option_to_list}
 use Rattle.roman_model.specs.Lists.{IsIn, below}
 use Rattle.roman_model.specs.Lines.{text_of}
-use Rattle.roman_model.specs.System.{Sys, Pair}
-use Rattle.roman_model.specs.Arena.{Arena, Entry, is_among, is_listed}
+use Rattle.roman_model.specs.System.{Sys, Pair, IsSys}
+use Rattle.roman_model.specs.Arena.{Arena, Entry, is_among, is_listed, IsOrder}
 use Rattle.roman_model.specs.Composition.{arena}
 use Rattle.roman_model.specs.declared.reason.Reason.{Reason}
 use Rattle.roman_model.specs.declared.reason.Reason.TheVariants.{Final, Act}
@@ -14,7 +14,8 @@ use Rattle.roman_model.specs.declared.reason.Reason.TheVariants.{Final, Act}
 
 -- the entries before that of p
 abbrev pub entries_before : {N : Type 0} → Arena N → List (Entry N) → N → List (Entry N)
-entries_before A L p = take_while (λ x. not (A.same p x.node)) L
+entries_before A [] p = []
+entries_before A (x ∷ L) p = if A.same p x.node then [] else x ∷ entries_before A L p
 
 -- the defeating answer of seat k: its first outcome that stands earlier in the list than p
 abbrev pub answer : {N : Type 0} → Arena N → List (Entry N) → N → ℕ → ℕ → Option N
@@ -47,6 +48,18 @@ pub record IsClosed {N : Type 0} (A : Arena N) (L : List (Entry N)) (p : N) (hol
 pub record IsLeastClosed {N : Type 0} (A : Arena N) (L : List (Entry N)) (p : N) : Type 0 where
   pub closed : IsClosed A L p (is_listed A (explanation A L p))
   pub least : (holds : N → Bool) → IsClosed A L p holds → (x : Entry N) → IsIn x (explanation A L p) → IsTrue (holds x.node)
+
+-- the explanation of a listed pair is the least set that holds its entry and those of the defeating answers
+abbrev pub ExplanationIsLeast : Type 0
+ExplanationIsLeast = (s : Sys) (L : List (Entry Pair)) (p : Pair) → IsTrue (is_listed (arena s) L p) → IsLeastClosed (arena s) L p
+
+-- the explanation is a removal list by itself, and p's entry is its last
+pub record ExplainedOrder (s : Sys) (L : List (Entry Pair)) (p : Pair) : Type 0 where
+  pub order : IsOrder (arena s) (explanation (arena s) L p)
+  pub last : (front : List (Entry Pair)) × (x : Entry Pair) × (explanation (arena s) L p ≡ front ++ x ∷ []) × (x.node ≡ p)
+
+abbrev pub ExplanationIsOrder : Type 0
+ExplanationIsOrder = (s : Sys) (L : List (Entry Pair)) (p : Pair) → IsSys s → IsOrder (arena s) L → IsTrue (is_listed (arena s) L p) → ExplainedOrder s L p
 
 -- The text
 

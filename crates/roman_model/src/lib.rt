@@ -6,12 +6,16 @@
 //! of a function with an empty body.
 #![tactic(auto)]
 
+mod certificates;
 mod changes;
 mod laws;
 mod limits;
 mod numbers;
 mod reason;
 
+pub use certificates::{
+    explanation_is_least, explanation_is_order, greatest_is_complete, written_is_greatest,
+};
 pub use changes::{mask_after_death, renaming_keeps};
 pub use laws::{
     depth_is_least, depth_wins, following_stays, greatest_is_greatest, offers_are_generator,
