@@ -1,25 +1,25 @@
 -- The certificate of a complete list is accepted, and what is accepted is complete.
-use Rattle.std.proofs.Common.{◌≡◌, ◌≢◌, ℕ, zero, suc, ◌+◌, ◌*◌, ◌^◌, ◌<◌, ◌≤◌, ◌==◌, Bool, true, false, not, ◌&&◌, ◌||◌, ◌⊎◌, List, [], ◌∷◌, ◌++◌, map, length, take, Option, Some, None, IsTrue, IsFalse, if◌then◌else◌, filter, find, filter_map, option_map, slice_get, slice_index_or, codes, decimal, nat_le, refl, sym, ap, ap₂, ◌∙◌, subst, inl, inr, arith, append_assoc, append-nil, length-append, le-leb}
+use Rattle.std.proofs.Common.{◌≡◌, ℕ, zero, suc, ◌+◌, ◌*◌, ◌^◌, ◌<◌, ◌≤◌, Bool, true, false, not, ◌&&◌, List, [], ◌∷◌, ◌++◌, map, length, take, Option, Some, None, IsTrue, IsFalse, if◌then◌else◌, filter, find, option_map, slice_get, slice_index_or, codes, decimal, nat_le, refl, sym, ap, ap₂, ◌∙◌, subst, inl, inr, arith, append_assoc, append-nil, length-append, le-leb}
 use Rattle.std.specs.List.{list_any, cons_option}
-use Rattle.std.proofs.lemmas.Bool.{cases_lt, false≢true, true≢false, both_ways, or_from, or_cases, or_left, or_right, and_parts, and_left, not-false, not_from_true, not_from_false, cond-true, cond-false, lt-leb, and_from}
+use Rattle.std.proofs.lemmas.Bool.{cases_lt, both_ways, or_from, and_parts, and_left, not-false, not_from_true, not_from_false, cond-true, cond-false, lt-leb, and_from}
 use Rattle.std.proofs.lemmas.List.{length-map, map_push}
 use Rattle.std.proofs.lemmas.List.Elements.{filter_map-append}
 use Rattle.std.proofs.lemmas.List.Folds.{list_any-append}
 use Rattle.std.proofs.lemmas.Option.{none-some}
 use Rattle.std.proofs.lemmas.Nat.{mul-le}
 use Rattle.std.proofs.lemmas.Fmt.{length-decimal-le}
-use Rattle.roman_model.specs.Lists.{IsIn, below, all_below, product_of}
+use Rattle.roman_model.specs.Lists.{IsIn, below, all_below}
 use Rattle.roman_model.specs.Lines.{lines, ended_lines, text_of}
-use Rattle.roman_model.specs.System.{Sys, Pair, IsSys, pairs, is_allowed, same_numbers}
+use Rattle.roman_model.specs.System.{Sys, IsSys, pairs, same_numbers}
 use Rattle.roman_model.specs.Arena.{Entry, is_listed, is_beaten, is_justified, IsOrder}
 use Rattle.roman_model.specs.Composition.{Great, arena}
 use Rattle.roman_model.specs.Numbers.{sizes_of, count, pair_at, numbered, entry_at, IsCompleteList}
 use Rattle.roman_model.specs.Offers.{is_related}
-use Rattle.roman_model.specs.Certificate.{head_line, count_line, reason_text, entry_line, end_line, cert_lines, cert_text, Why, Form, Repeated, Unjustified, Unlisted, Verdict, Greatest, Rejected, TooLong, reasons, possible_entries, entry_of, entries_on, unless_is, unless_over, entry_fault, could_be_listed, end_fault, body_fault, line_fault, faults, unlisted, cert_verdict, greatest, IsWithinCells, WrittenIsGreatest, AcceptedIsComplete, GreatestIsComplete}
+use Rattle.roman_model.specs.Certificate.{head_line, count_line, reason_text, entry_line, end_line, cert_lines, cert_text, Why, Form, Repeated, Unjustified, Unlisted, Greatest, Rejected, TooLong, reasons, possible_entries, entry_of, entries_on, unless_is, unless_over, entry_fault, could_be_listed, end_fault, body_fault, line_fault, faults, unlisted, cert_verdict, greatest, IsWithinCells, WrittenIsGreatest, GreatestIsComplete}
 use Rattle.roman_model.specs.declared.limits.TheConstants.{MAX_ACTIONS, MAX_CELLS, MAX_CERTIFICATE_BYTES}
 use Rattle.roman_model.specs.declared.reason.Reason.{Reason}
 use Rattle.roman_model.specs.declared.reason.Reason.TheVariants.{Final, Act}
-use Rattle.roman_model.proofs.Lists.{by_test, none_from, any_true, any_from, in_map, from_map, in_append_left, in_append_right, from_append, in_push, in_filter, filter_in, in_below, from_below, filter_same, find_not_found, length-below, same_length, HasNoRepeats-filter, filter-map, any_false, find_none, from_push}
+use Rattle.roman_model.proofs.Lists.{by_test, none_from, any_from, from_map, in_append_left, in_append_right, from_append, in_push, in_filter, filter_in, in_below, from_below, filter_same, find_not_found, length-below, same_length, HasNoRepeats-filter, filter-map, any_false, find_none, from_push}
 use Rattle.roman_model.proofs.SystemLemmas.{same_numbers_is, same_numbers_itself, allowed_in_range, pairs_once}
 use Rattle.roman_model.proofs.ArenaLemmas.{unjustified}
 use Rattle.roman_model.proofs.CompositionLemmas.{great_survives, related_great, listed_unrelated}
@@ -30,7 +30,7 @@ use Rattle.roman_model.proofs.Renames.{order_named}
 use Rattle.roman_model.proofs.NumberedArena.{IsNumber, AreNumbers, numbers_rename, justified_at}
 use Rattle.roman_model.proofs.NumberedLists.{numbered_is_same, numbered_completed_by, numbered_listed, numbered_pairs, numbered_pairs_once, in_numbered_pairs, from_numbered_pairs}
 use Rattle.roman_model.proofs.LineLemmas.{IsLine, AreLines, lines-text_of}
-use Rattle.roman_model.proofs.CertificateLemmas.{IsSmall, IsSmallReason, head_is_line, end_is_line, count_is_line, entry_is_line, entry_is_no_end, final_reason, act_reason, IsSmallSys, possible_small, in_possible, from_possible, entry_of-line, entry_of-is, entry_of_other, entries_on-lines, IsClean, faults_none, faults_first, clean_push, fault_next, fault_over, faults_cases}
+use Rattle.roman_model.proofs.CertificateLemmas.{head_is_line, end_is_line, count_is_line, entry_is_line, entry_is_no_end, final_reason, act_reason, IsSmallSys, possible_small, in_possible, from_possible, entry_of-line, entry_of-is, entry_of_other, entries_on-lines, IsClean, faults_none, faults_first, clean_push, fault_next, fault_over, faults_cases}
 
 -- The sizes of a system within the limits
 
@@ -292,9 +292,9 @@ entry_holds : (s : Sys) (L : List (Entry ℕ)) (x : Entry ℕ) → entry_fault s
 entry_holds s L x e = by_test (is_listed (numbered s) L x.node)
     (λ t. absurd (no_fault Repeated (sym (cond-true (is_listed (numbered s) L x.node) (Some Repeated) rest t) ∙ e)))
     (λ f. by_test (is_justified (numbered s) (is_listed (numbered s) L) x.node x.reason)
-        (λ t. (f, t))
-        (λ g. absurd (no_fault Unjustified (sym (cond-false (is_justified (numbered s) (is_listed (numbered s) L) x.node x.reason) None (Some Unjustified) g)
-            ∙ sym (cond-false (is_listed (numbered s) L x.node) (Some Repeated) rest f) ∙ e))))
+    (λ t. (f, t))
+    (λ g. absurd (no_fault Unjustified (sym (cond-false (is_justified (numbered s) (is_listed (numbered s) L) x.node x.reason) None (Some Unjustified) g)
+    ∙ sym (cond-false (is_listed (numbered s) L x.node) (Some Repeated) rest f) ∙ e))))
   where
     rest : Option Why
     rest = if is_justified (numbered s) (is_listed (numbered s) L) x.node x.reason then None else Some Unjustified
@@ -342,18 +342,18 @@ module _ (s : Sys) (small : IsSmallSys s) (head size : List ℕ) where
       absurd (no_fault Form (sym (cond-false (list_any (same_numbers end_line) (done ++ [])) (unless_over None) (body_fault s (entries_on s (done ++ [])) None) open_yet) ∙ last))
   read_all done (line ∷ rest) read clean =
       let here : line_fault s (with_body done) (Some line) ≡ None =
-              sym (fault_next s (with_body done) rest line) ∙ clean (length (with_body done)) (omega (arith, length-append done (line ∷ rest))) in
+      sym (fault_next s (with_body done) rest line) ∙ clean (length (with_body done)) (omega (arith, length-append done (line ∷ rest))) in
       let due : body_fault s (entries_on s done) (Some line) ≡ None =
-              sym (cond-false (list_any (same_numbers end_line) done) (unless_over (Some line)) (body_fault s (entries_on s done) (Some line)) read.open_yet) ∙ here in
+      sym (cond-false (list_any (same_numbers end_line) done) (unless_over (Some line)) (body_fault s (entries_on s done) (Some line)) read.open_yet) ∙ here in
       let more : done ++ line ∷ rest ≡ (done ++ line ∷ []) ++ rest = sym (append_assoc done (line ∷ []) rest) in
       let clean_more : IsClean s (with_body ((done ++ line ∷ []) ++ rest)) (length (with_body ((done ++ line ∷ []) ++ rest)) + 1) = subst (λ ls. IsClean s (with_body ls) (length (with_body ls) + 1)) more clean in
       by_test (same_numbers end_line line)
       (λ t. at_end done line rest read t
-          (sym (cond-true (same_numbers end_line line) (end_fault s (entries_on s done)) (entry_fault s (entries_on s done) (entry_of s line)) t) ∙ due) more clean_more)
+      (sym (cond-true (same_numbers end_line line) (end_fault s (entries_on s done)) (entry_fault s (entries_on s done) (entry_of s line)) t) ∙ due) more clean_more)
       (λ f. subst (λ ls. HoldsAll s (entries_on s ls)) (sym more)
-          (read_all (done ++ line ∷ []) rest
-          (read_entry done line read f (sym (cond-false (same_numbers end_line line) (end_fault s (entries_on s done)) (entry_fault s (entries_on s done) (entry_of s line)) f) ∙ due))
-          clean_more))
+      (read_all (done ++ line ∷ []) rest
+      (read_entry done line read f (sym (cond-false (same_numbers end_line line) (end_fault s (entries_on s done)) (entry_fault s (entries_on s done) (entry_of s line)) f) ∙ due))
+      clean_more))
     where
       -- nothing follows the end
       at_end : (done : List (List ℕ)) (line : List ℕ) (rest : List (List ℕ)) → ReadSoFar s done → IsTrue (same_numbers end_line line) → end_fault s (entries_on s done) ≡ None →
@@ -361,14 +361,14 @@ module _ (s : Sys) (small : IsSmallSys s) (head size : List ℕ) where
       at_end done line [] read t none more clean =
           let unread : entry_of s line ≡ None = subst (λ l. entry_of s l ≡ None) (same_numbers_is end_line line t) (entry_of_other s 101 (110 ∷ 100 ∷ []) small (omega arith)) in
           let same : entries_on s done ≡ entries_on s (done ++ line ∷ []) =
-                  sym (filter_map-append (entry_of s) done (line ∷ []) ∙ ap (λ o. entries_on s done ++ cons_option o []) unread ∙ append-nil (entries_on s done)) in
+          sym (filter_map-append (entry_of s) done (line ∷ []) ∙ ap (λ o. entries_on s done ++ cons_option o []) unread ∙ append-nil (entries_on s done)) in
           subst (HoldsAll s) same (record { possible = read.possible; order = read.order; ended = none })
       at_end done line (next ∷ rest) read t none more clean =
           let over : line_fault s (with_body (done ++ line ∷ [])) (Some next) ≡ None =
-                  sym (fault_next s (with_body (done ++ line ∷ [])) rest next) ∙ clean (length (with_body (done ++ line ∷ []))) (omega (arith, length-append (done ++ line ∷ []) (next ∷ rest))) in
+          sym (fault_next s (with_body (done ++ line ∷ [])) rest next) ∙ clean (length (with_body (done ++ line ∷ []))) (omega (arith, length-append (done ++ line ∷ []) (next ∷ rest))) in
           absurd (no_fault Form
           (sym (cond-true (list_any (same_numbers end_line) (done ++ line ∷ [])) (unless_over (Some next)) (body_fault s (entries_on s (done ++ line ∷ [])) (Some next))
-              (any_from (same_numbers end_line) line (done ++ line ∷ []) (in_push line done) t)) ∙ over))
+          (any_from (same_numbers end_line) line (done ++ line ∷ []) (in_push line done) t)) ∙ over))
 
 -- a clean text
 text_read : (s : Sys) (text : List (List ℕ)) → IsSmallSys s → IsClean s text (length text + 1) → HoldsAll s (entries_on s text)
@@ -377,7 +377,7 @@ text_read s (head ∷ []) small clean = absurd (no_fault Form (clean 1 (omega ar
 text_read s (head ∷ size ∷ body) small clean =
     let first : entry_of s head ≡ None = subst (λ l. entry_of s l ≡ None) (sym (due_is head_line head (clean 0 (omega arith)))) (entry_of_other s 114 (codes "oman-order 1") small (omega arith)) in
     let second : entry_of s size ≡ None =
-            subst (λ l. entry_of s l ≡ None) (sym (due_is (count_line s) size (clean 1 (omega arith)))) (entry_of_other s 112 (codes "airs " ++ decimal (count (sizes_of s))) small (omega arith)) in
+    subst (λ l. entry_of s l ≡ None) (sym (due_is (count_line s) size (clean 1 (omega arith)))) (entry_of_other s 112 (codes "airs " ++ decimal (count (sizes_of s))) small (omega arith)) in
     subst (HoldsAll s) (sym (ap₂ (λ o p. cons_option o (cons_option p (entries_on s body))) first second))
     (read_all s small head size [] body (record { open_yet = refl; possible = λ x i. absurd i; order = tt }) clean)
 
@@ -387,10 +387,10 @@ nothing_missing : (s : Sys) (L : List (Entry ℕ)) → IsSys s → end_fault s L
 nothing_missing s L sys ended p l unlisted r =
     by_test (is_justified (numbered s) (is_listed (numbered s) L) p r)
     (λ holds. absurd (both_ways (could_be_listed s L p)
-        (any_false (could_be_listed s L) p (below (count (sizes_of s))) (find_none (could_be_listed s L) (below (count (sizes_of s))) (unmapped (find (could_be_listed s L) (below (count (sizes_of s)))) ended)) (in_below (count (sizes_of s)) p l))
-        (and_from (not (is_listed (numbered s) L p)) (list_any (is_justified (numbered s) (is_listed (numbered s) L) p) (reasons s))
-        (not_from_false (is_listed (numbered s) L p) unlisted)
-        (any_from (is_justified (numbered s) (is_listed (numbered s) L) p) r (reasons s) (justified_reason s (is_listed (numbered s) L) p r sys holds) holds))))
+    (any_false (could_be_listed s L) p (below (count (sizes_of s))) (find_none (could_be_listed s L) (below (count (sizes_of s))) (unmapped (find (could_be_listed s L) (below (count (sizes_of s)))) ended)) (in_below (count (sizes_of s)) p l))
+    (and_from (not (is_listed (numbered s) L p)) (list_any (is_justified (numbered s) (is_listed (numbered s) L) p) (reasons s))
+    (not_from_false (is_listed (numbered s) L p) unlisted)
+    (any_from (is_justified (numbered s) (is_listed (numbered s) L) p) r (reasons s) (justified_reason s (is_listed (numbered s) L) p r sys holds) holds))))
     (λ f. f)
   where
     unmapped : (o : Option ℕ) → option_map Unlisted o ≡ None → o ≡ None
@@ -420,14 +420,14 @@ accepted_clean s start bytes related starts e = elim (cases_lt MAX_CERTIFICATE_B
   ])
   | inr short ↦ elim (faults_cases s (lines bytes) (length (lines bytes) + 1)) [
     | inl clean ↦ (
-        clean,
-        sym e ∙ judged_short s start bytes short ∙ ap (λ vs. slice_index_or vs 0 (unlisted s start (entries_on s (lines bytes)))) (faults_none s (lines bytes) (length (lines bytes) + 1) clean),
-      )
+      clean,
+      sym e ∙ judged_short s start bytes short ∙ ap (λ vs. slice_index_or vs 0 (unlisted s start (entries_on s (lines bytes)))) (faults_none s (lines bytes) (length (lines bytes) + 1) clean),
+    )
     | inr found ↦
         let (i, why, l, clean, fault) = found in
         let (rest, is) = faults_first s (lines bytes) (length (lines bytes) + 1) i why clean fault l in
         let same : Rejected (i + 1) why ≡ Greatest related starts =
-                sym (ap (λ vs. slice_index_or vs 0 (unlisted s start (entries_on s (lines bytes)))) is) ∙ sym (judged_short s start bytes short) ∙ e in
+        sym (ap (λ vs. slice_index_or vs 0 (unlisted s start (entries_on s (lines bytes)))) is) ∙ sym (judged_short s start bytes short) ∙ e in
         absurd (let h : ⊥ = cc in h)
   ]
 ]

@@ -1,21 +1,20 @@
 -- The explanation is the least closed part of a removal list, is one itself, and ends with the entry explained.
-use Rattle.std.proofs.Common.{◌≡◌, ◌≢◌, ℕ, zero, suc, ◌+◌, ◌-◌, ◌<◌, ◌≤◌, Bool, true, false, not, ◌&&◌, ◌||◌, ◌⊎◌, List, [], ◌∷◌, ◌++◌, map, length, Option, Some, None, IsTrue, IsFalse, if◌then◌else◌, filter, flat_map, find, option_map, refl, sym, ap, ap₂, ◌∙◌, subst, inl, inr, arith, append-nil, append_assoc, length-append}
+use Rattle.std.proofs.Common.{◌≡◌, ℕ, zero, suc, ◌+◌, ◌-◌, ◌<◌, ◌≤◌, Bool, true, false, ◌&&◌, ◌||◌, ◌⊎◌, List, [], ◌∷◌, ◌++◌, length, Option, Some, None, IsTrue, IsFalse, if◌then◌else◌, filter, find, refl, sym, ap, ap₂, ◌∙◌, subst, inl, inr, arith, append-nil, append_assoc, length-append}
 use Rattle.std.specs.List.{list_any}
 use Rattle.std.specs.Option.{option_to_list}
-use Rattle.std.proofs.lemmas.Bool.{false≢true, both_ways, or_cases, or_parts, or_left, or_right, or_from, and_parts, and_from, and_left, not-true, not-false, not_from_true, not_from_false, cond-true, cond-false, cases_lt}
+use Rattle.std.proofs.lemmas.Bool.{false≢true, both_ways, or_cases, or_parts, or_left, or_right, and_parts, and_from, cond-true, cond-false}
 use Rattle.std.proofs.lemmas.List.Elements.{filter-append}
-use Rattle.std.proofs.lemmas.List.Folds.{list_any-append}
 use Rattle.std.proofs.lemmas.Option.{none-some, same_Some}
-use Rattle.roman_model.specs.Lists.{IsIn, HasNoRepeats, below, all_below, is_empty}
-use Rattle.roman_model.specs.Arena.{Arena, Entry, is_among, is_listed, is_beaten, is_justified, IsOrder, AreNew}
+use Rattle.roman_model.specs.Lists.{IsIn, below}
+use Rattle.roman_model.specs.Arena.{Arena, Entry, is_among, is_listed, is_justified, IsOrder}
 use Rattle.roman_model.specs.Composition.{arena}
 use Rattle.roman_model.specs.Explanation.{entries_before, answer, ready_seats, answers, rests_on, explanation, IsClosed, IsLeastClosed, ExplanationIsLeast, ExplanationIsOrder}
 use Rattle.roman_model.specs.declared.reason.Reason.{Reason}
 use Rattle.roman_model.specs.declared.reason.Reason.TheVariants.{Final, Act}
-use Rattle.roman_model.proofs.Lists.{by_test, same_test, any_true, any_from, any_same, none_from, in_map, in_append_left, in_append_right, from_append, in_flat_map, from_flat_map, in_filter, filter_in, in_below, from_below, find_some, find_found, split_at}
-use Rattle.roman_model.proofs.ArenaLemmas.{IsSame, IsArena, same_from, among_in, in_among, listed_in, in_listed, beaten_is, beaten_none, beaten_by, justified_is, justified_by}
+use Rattle.roman_model.proofs.Lists.{by_test, same_test, any_true, any_from, in_append_right, in_flat_map, from_flat_map, in_filter, filter_in, in_below, find_some, find_found, split_at}
+use Rattle.roman_model.proofs.ArenaLemmas.{IsSame, IsArena, among_in, in_among, listed_in, beaten_is, beaten_none, beaten_by, justified_is, justified_by}
 use Rattle.roman_model.proofs.CompositionLemmas.{system_is_same, system_is_arena}
-use Rattle.roman_model.proofs.OrderLemmas.{order_left, order_new, new_once, order_push}
+use Rattle.roman_model.proofs.OrderLemmas.{order_push}
 use Rattle.roman_model.proofs.WorkLemmas.{order_middle}
 
 -- Entries before a node
@@ -26,8 +25,8 @@ before_listed A [] p q h = h
 before_listed A (x ∷ L) p q h = by_test (A.same p x.node)
     (λ t. absurd (false≢true (subst (λ M. IsTrue (is_listed A M q)) (cond-true (A.same p x.node) [] (x ∷ entries_before A L p) t) h)))
     (λ f. by_place (or_cases (A.same q x.node) (is_listed A (entries_before A L p) q)
-        (subst (λ M. IsTrue (is_listed A M q)) (cond-false (A.same p x.node) [] (x ∷ entries_before A L p) f) h))
-        (λ g. before_listed A L p q g))
+    (subst (λ M. IsTrue (is_listed A M q)) (cond-false (A.same p x.node) [] (x ∷ entries_before A L p) f) h))
+    (λ g. before_listed A L p q g))
   where
     by_place : IsTrue (A.same q x.node) ⊎ IsTrue (is_listed A (entries_before A L p) q) → (IsTrue (is_listed A (entries_before A L p) q) → IsTrue (is_listed A L q)) → IsTrue (is_listed A (x ∷ L) q)
     by_place (inl here) go = or_left (A.same q x.node) (is_listed A L q) here
@@ -39,12 +38,12 @@ before_falls A [] p q h = absurd (false≢true h)
 before_falls {N} A (x ∷ L) p q h = by_test (A.same p x.node)
     (λ t. absurd (false≢true (subst (λ M. IsTrue (is_listed A M q)) (cond-true (A.same p x.node) [] (x ∷ entries_before A L p) t) h)))
     (λ f.
-        let long : entries_before A (x ∷ L) p ≡ x ∷ entries_before A L p = cond-false (A.same p x.node) [] (x ∷ entries_before A L p) f in
-        subst (λ M. length (entries_before A (x ∷ L) q) < length M) (sym long)
-        (by_test (A.same q x.node)
-        (λ here. subst (λ M. length M < length (x ∷ entries_before A L p)) (sym (cond-true (A.same q x.node) [] (x ∷ entries_before A L q) here)) (omega arith))
-        (λ apart. subst (λ M. length M < length (x ∷ entries_before A L p)) (sym (cond-false (A.same q x.node) [] (x ∷ entries_before A L q) apart))
-            (deeper (before_falls A L p q (later apart (subst (λ M. IsTrue (is_listed A M q)) long h)))))))
+    let long : entries_before A (x ∷ L) p ≡ x ∷ entries_before A L p = cond-false (A.same p x.node) [] (x ∷ entries_before A L p) f in
+    subst (λ M. length (entries_before A (x ∷ L) q) < length M) (sym long)
+    (by_test (A.same q x.node)
+    (λ here. subst (λ M. length M < length (x ∷ entries_before A L p)) (sym (cond-true (A.same q x.node) [] (x ∷ entries_before A L q) here)) (omega arith))
+    (λ apart. subst (λ M. length M < length (x ∷ entries_before A L p)) (sym (cond-false (A.same q x.node) [] (x ∷ entries_before A L q) apart))
+    (deeper (before_falls A L p q (later apart (subst (λ M. IsTrue (is_listed A M q)) long h)))))))
   where
     deeper : {m n : ℕ} → m < n → suc m < suc n
     deeper l = omega arith
@@ -186,13 +185,13 @@ module _ {N : Type 0} (A : Arena N) (L : List (Entry N)) (p : N) where
 pub explained_listed : {N : Type 0} (A : Arena N) (L : List (Entry N)) (p q : N) → IsSame A → is_listed A (explanation A L p) q ≡ (is_listed A L q && rests_on A L (length L) p q)
 explained_listed A L p q same = same_test (is_listed A (explanation A L p) q) (is_listed A L q && rests_on A L (length L) p q)
     (λ h.
-        let (x, i, t) = any_true (λ x. A.same q x.node) (explanation A L p) h in
-        let (j, r) = filter_in (λ x. rests_on A L (length L) p x.node) x L i in
-        and_from (is_listed A L q) (rests_on A L (length L) p q) (any_from (λ x. A.same q x.node) x L j t) (subst (λ n. IsTrue (rests_on A L (length L) p n)) (sym (same.is q x.node t)) r))
+    let (x, i, t) = any_true (λ x. A.same q x.node) (explanation A L p) h in
+    let (j, r) = filter_in (λ x. rests_on A L (length L) p x.node) x L i in
+    and_from (is_listed A L q) (rests_on A L (length L) p q) (any_from (λ x. A.same q x.node) x L j t) (subst (λ n. IsTrue (rests_on A L (length L) p n)) (sym (same.is q x.node t)) r))
     (λ h.
-        let (l, r) = and_parts (is_listed A L q) (rests_on A L (length L) p q) h in
-        let (x, i, t) = any_true (λ x. A.same q x.node) L l in
-        any_from (λ x. A.same q x.node) x (explanation A L p) (in_filter (λ x. rests_on A L (length L) p x.node) x L i (subst (λ n. IsTrue (rests_on A L (length L) p n)) (same.is q x.node t) r)) t)
+    let (l, r) = and_parts (is_listed A L q) (rests_on A L (length L) p q) h in
+    let (x, i, t) = any_true (λ x. A.same q x.node) L l in
+    any_from (λ x. A.same q x.node) x (explanation A L p) (in_filter (λ x. rests_on A L (length L) p x.node) x L i (subst (λ n. IsTrue (rests_on A L (length L) p n)) (same.is q x.node t) r)) t)
 
 -- a closed set holds each node on whose entry p's rests
 closed_holds : {N : Type 0} (A : Arena N) (L : List (Entry N)) (p : N) (holds : N → Bool) → IsSame A → IsClosed A L p holds → (n : ℕ) (q : N) → IsTrue (rests_on A L n p q) → IsTrue (holds q)
@@ -261,16 +260,16 @@ module _ {N : Type 0} (A : Arena N) (ok : IsArena A) (L : List (Entry N)) (p : N
           IsOrder A (filter is_explained done) → IsOrder A (filter is_explained (done ++ x ∷ []))
       next done x rest whole new holds kept = subst (IsOrder A) (sym (filter-append is_explained done (x ∷ []))) (by_test (is_explained x)
           (λ t. subst (λ M. IsOrder A (filter is_explained done ++ M)) (sym (cond-true (is_explained x) (x ∷ []) [] t))
-              (order_push A (filter is_explained done) x kept
-              (by_test (is_listed A (filter is_explained done) x.node)
-                  (λ h.
-                      let (y, i, same) = any_true (λ y. A.same x.node y.node) (filter is_explained done) h in
-                      absurd (both_ways (is_listed A done x.node) new (any_from (λ y. A.same x.node y.node) y done (filter_in is_explained y done i).0 same)))
-                  (λ f. f))
-              (explained_justified done x.node x.reason (ap (λ M. entries_before A M x.node) whole ∙ before_is A done x rest (ok.same.itself x.node) new) holds
-              (λ w i. answer_explained done x rest w whole new t i))))
+          (order_push A (filter is_explained done) x kept
+          (by_test (is_listed A (filter is_explained done) x.node)
+          (λ h.
+          let (y, i, same) = any_true (λ y. A.same x.node y.node) (filter is_explained done) h in
+          absurd (both_ways (is_listed A done x.node) new (any_from (λ y. A.same x.node y.node) y done (filter_in is_explained y done i).0 same)))
+          (λ f. f))
+          (explained_justified done x.node x.reason (ap (λ M. entries_before A M x.node) whole ∙ before_is A done x rest (ok.same.itself x.node) new) holds
+          (λ w i. answer_explained done x rest w whole new t i))))
           (λ f. subst (λ M. IsOrder A (filter is_explained done ++ M)) (sym (cond-false (is_explained x) (x ∷ []) [] f))
-              (subst (IsOrder A) (sym (append-nil (filter is_explained done))) kept)))
+          (subst (IsOrder A) (sym (append-nil (filter is_explained done))) kept)))
 
   pub explanation_order : IsOrder A L → IsOrder A (explanation A L p)
   explanation_order order = explained_order [] L refl order tt
@@ -302,16 +301,16 @@ explanation_last {N} A L p same order listed =
     behind : (x : Entry N) (done rest : List (Entry N)) → x.node ≡ p → L ≡ done ++ x ∷ rest → (y : Entry N) → IsIn y rest → IsFalse (rests_on A L (length L) p y.node)
     behind x done rest e whole y i = by_test (rests_on A L (length L) p y.node)
         (λ h.
-            let (between, after, cut) = split_at y rest i in
-            let long : done ++ x ∷ rest ≡ (done ++ x ∷ between) ++ y ∷ after = ap (λ M. done ++ x ∷ M) cut ∙ sym (append_assoc done (x ∷ between) (y ∷ after)) in
-            let new : IsFalse (is_listed A (done ++ x ∷ between) y.node) = (order_middle A (done ++ x ∷ between) after y (subst (IsOrder A) (whole ∙ long) order)).0 in
-            let far : length (done ++ x ∷ between) ≤ length (entries_before A ((done ++ x ∷ between) ++ y ∷ after) y.node) = before_longer A (done ++ x ∷ between) (y ∷ after) y.node new in
-            let there : length (done ++ x ∷ between) ≤ length (entries_before A L y.node) = subst (λ M. length (done ++ x ∷ between) ≤ length (entries_before A M y.node)) (sym (whole ∙ long)) far in
-            let first : IsFalse (is_listed A done x.node) = (order_middle A done rest x (subst (IsOrder A) whole order)).0 in
-            let here : entries_before A L p ≡ done = ap₂ (λ M q. entries_before A M q) whole (sym e) ∙ before_is A done x rest (same.itself x.node) first in
-            let (k, r, l) = rests_falls A L p (length L) y.node same h in
-            let at : length (entries_before A L p) ≡ length done = ap length here in
-            absurd (omega (arith, length-append done (x ∷ between))))
+        let (between, after, cut) = split_at y rest i in
+        let long : done ++ x ∷ rest ≡ (done ++ x ∷ between) ++ y ∷ after = ap (λ M. done ++ x ∷ M) cut ∙ sym (append_assoc done (x ∷ between) (y ∷ after)) in
+        let new : IsFalse (is_listed A (done ++ x ∷ between) y.node) = (order_middle A (done ++ x ∷ between) after y (subst (IsOrder A) (whole ∙ long) order)).0 in
+        let far : length (done ++ x ∷ between) ≤ length (entries_before A ((done ++ x ∷ between) ++ y ∷ after) y.node) = before_longer A (done ++ x ∷ between) (y ∷ after) y.node new in
+        let there : length (done ++ x ∷ between) ≤ length (entries_before A L y.node) = subst (λ M. length (done ++ x ∷ between) ≤ length (entries_before A M y.node)) (sym (whole ∙ long)) far in
+        let first : IsFalse (is_listed A done x.node) = (order_middle A done rest x (subst (IsOrder A) whole order)).0 in
+        let here : entries_before A L p ≡ done = ap₂ (λ M q. entries_before A M q) whole (sym e) ∙ before_is A done x rest (same.itself x.node) first in
+        let (k, r, l) = rests_falls A L p (length L) y.node same h in
+        let at : length (entries_before A L p) ≡ length done = ap length here in
+        absurd (omega (arith, length-append done (x ∷ between))))
         (λ f. f)
 
     ends : (x : Entry N) (done rest : List (Entry N)) → x.node ≡ p → L ≡ done ++ x ∷ rest → explanation A L p ≡ filter (λ y. rests_on A L (length L) p y.node) done ++ x ∷ []
@@ -319,9 +318,9 @@ explanation_last {N} A L p same order listed =
         ap (filter (λ y. rests_on A L (length L) p y.node)) whole
         ∙ filter-append (λ y. rests_on A L (length L) p y.node) done (x ∷ rest)
         ∙ ap (λ M. filter (λ y. rests_on A L (length L) p y.node) done ++ M)
-            (cond-true (rests_on A L (length L) p x.node) (x ∷ filter (λ y. rests_on A L (length L) p y.node) rest) (filter (λ y. rests_on A L (length L) p y.node) rest)
-                (subst (λ q. IsTrue (rests_on A L (length L) p q)) (sym e) (rests_itself A L p same))
-            ∙ ap (λ M. x ∷ M) (filter_none (λ y. rests_on A L (length L) p y.node) rest (behind x done rest e whole)))
+        (cond-true (rests_on A L (length L) p x.node) (x ∷ filter (λ y. rests_on A L (length L) p y.node) rest) (filter (λ y. rests_on A L (length L) p y.node) rest)
+        (subst (λ q. IsTrue (rests_on A L (length L) p q)) (sym e) (rests_itself A L p same))
+        ∙ ap (λ M. x ∷ M) (filter_none (λ y. rests_on A L (length L) p y.node) rest (behind x done rest e whole)))
 
 -- The law, for pairs
 

@@ -1,13 +1,12 @@
 -- Explanations carry over from one arena to another whose nodes are named by those of the first.
-use Rattle.std.proofs.Common.{◌≡◌, ℕ, zero, suc, Bool, true, false, not, ◌&&◌, ◌||◌, List, [], ◌∷◌, ◌++◌, map, length, Option, Some, None, IsTrue, if◌then◌else◌, filter, flat_map, find, option_map, refl, sym, ap, ap₂, ◌∙◌, subst, inl, inr}
-use Rattle.std.specs.List.{list_any}
+use Rattle.std.proofs.Common.{◌≡◌, ℕ, zero, suc, Bool, true, false, ◌&&◌, ◌||◌, List, [], ◌∷◌, ◌++◌, map, length, Option, Some, None, if◌then◌else◌, filter, flat_map, find, option_map, refl, sym, ap, ap₂, ◌∙◌, inl, inr}
 use Rattle.std.specs.Option.{option_to_list}
 use Rattle.std.proofs.lemmas.List.{length-map, map-append}
 use Rattle.roman_model.specs.Lists.{IsIn, below}
 use Rattle.roman_model.specs.Arena.{Arena, Entry, is_among, is_listed}
-use Rattle.roman_model.specs.System.{Sys, Pair, IsSys}
+use Rattle.roman_model.specs.System.{Sys, IsSys}
 use Rattle.roman_model.specs.Composition.{arena}
-use Rattle.roman_model.specs.Numbers.{sizes_of, count, pair_at, numbered, entry_at}
+use Rattle.roman_model.specs.Numbers.{sizes_of, pair_at, numbered, entry_at}
 use Rattle.roman_model.specs.Explanation.{entries_before, answer, ready_seats, answers, rests_on, explanation}
 use Rattle.roman_model.specs.declared.reason.Reason.{Reason}
 use Rattle.roman_model.specs.declared.reason.Reason.TheVariants.{Final, Act}
@@ -88,8 +87,8 @@ module _ {N M : Type 0} (A : Arena N) (B : Arena M) (f : N → M) (Is : N → Ty
       (any_same (λ x. rests_on A L n p x.node && is_among A (answers A L x.node x.reason) q)
       (λ x. rests_on B (map (renamed_entry f) L) n (f p) (f x.node) && is_among B (answers B (map (renamed_entry f) L) (f x.node) x.reason) (f q)) L
       (λ x i. ap₂ (λ y z. y && z) (rests_renamed n p x.node is_p (have x i))
-          (among_renamed A B f Is r (answers A L x.node x.reason) q (answers_nodes x.node x.reason (have x i)) is_q
-          ∙ ap (λ qs. is_among B qs (f q)) (answers_renamed x.node x.reason (have x i))))
+      (among_renamed A B f Is r (answers A L x.node x.reason) q (answers_nodes x.node x.reason (have x i)) is_q
+      ∙ ap (λ qs. is_among B qs (f q)) (answers_renamed x.node x.reason (have x i))))
       ∙ sym (list_any-map (renamed_entry f) (λ x. rests_on B (map (renamed_entry f) L) n (f p) x.node && is_among B (answers B (map (renamed_entry f) L) x.node x.reason) (f q)) L))
 
   pub explanation_renamed : (p : N) → Is p → map (renamed_entry f) (explanation A L p) ≡ explanation B (map (renamed_entry f) L) (f p)

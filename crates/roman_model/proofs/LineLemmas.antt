@@ -1,5 +1,5 @@
 -- What the lines of a text are, where its first lines are known.
-use Rattle.std.proofs.Common.{◌≡◌, ◌≢◌, ℕ, ◌+◌, ◌≤◌, ◌==◌, ◌||◌, false, List, [], ◌∷◌, ◌++◌, length, IsTrue, IsFalse, if◌then◌else◌, refl, sym, ap, ◌∙◌, subst, inl, inr, arith, append_assoc, append-nil, length-append}
+use Rattle.std.proofs.Common.{◌≡◌, ◌≢◌, ℕ, ◌==◌, false, List, [], ◌∷◌, ◌++◌, IsFalse, refl, sym, ap, ◌∙◌, inl, inr, append_assoc, append-nil}
 use Rattle.std.proofs.lemmas.Bool.{or_parts, cond-false}
 use Rattle.roman_model.specs.Lists.{IsIn}
 use Rattle.roman_model.specs.Lines.{onto_first_line, lines, onto_ended_line, ended_lines, text_of}

@@ -1,10 +1,10 @@
 -- The definitions of certificates and explanations, computed for one small system.
-use Rattle.std.proofs.Common.{◌≡◌, ℕ, true, false, List, [], ◌∷◌, ◌++◌, length, refl, codes}
+use Rattle.std.proofs.Common.{◌≡◌, ℕ, false, List, [], ◌∷◌, length, refl, codes}
 use Rattle.std.specs.Fmt.{digits}
 use Rattle.roman_model.specs.System.{Pair}
 use Rattle.roman_model.specs.Arena.{Entry}
 use Rattle.roman_model.specs.Certificate.{Form, Repeated, Unjustified, Unlisted, Greatest, Rejected, cert_text, cert_verdict}
-use Rattle.roman_model.specs.Explanation.{Names, SeatNames, explain_text}
+use Rattle.roman_model.specs.Explanation.{Names, explain_text}
 use Rattle.roman_model.proofs.Examples.{flaky_system, pair_of}
 use Rattle.roman_model.specs.declared.reason.Reason.TheVariants.{Final, Act}
 

@@ -1,10 +1,9 @@
 -- The verdict on a text, where its first lines are read.
-use Rattle.std.proofs.Common.{◌≡◌, ◌≢◌, ℕ, zero, suc, ◌+◌, ◌-◌, ◌<◌, ◌≤◌, Bool, true, false, ◌⊎◌, List, [], ◌∷◌, ◌++◌, length, take, Option, Some, None, IsTrue, IsFalse, if◌then◌else◌, slice_get, slice_index_or, refl, sym, ap, ap₂, ◌∙◌, subst, inl, inr, arith, append_assoc, length-append}
+use Rattle.std.proofs.Common.{◌≡◌, ℕ, zero, suc, ◌+◌, ◌-◌, ◌<◌, ◌≤◌, List, [], ◌∷◌, ◌++◌, length, take, Option, Some, None, IsTrue, IsFalse, slice_get, slice_index_or, ap, ◌∙◌, inl, inr, arith, append_assoc, length-append}
 use Rattle.std.specs.List.{list_any}
 use Rattle.std.proofs.lemmas.Bool.{cond-true, cond-false, cases_lt}
 use Rattle.roman_model.specs.Lines.{lines, ended_lines, text_of}
 use Rattle.roman_model.specs.System.{Sys, same_numbers}
-use Rattle.roman_model.specs.Arena.{Entry}
 use Rattle.roman_model.specs.Certificate.{end_line, Why, Verdict, Rejected, TooLong, entries_on, unless_over, body_fault, line_fault, faults, unlisted, cert_verdict}
 use Rattle.roman_model.specs.declared.limits.TheConstants.{MAX_CERTIFICATE_BYTES}
 use Rattle.roman_model.proofs.LineLemmas.{AreLines, lines-text, ended_lines-text}

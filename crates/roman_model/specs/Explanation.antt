@@ -1,5 +1,5 @@
 -- Explanations: the part of a removal list on which one entry rests.
-use Rattle.std.specs.Prelude.{◌≡◌, ℕ, zero, suc, Bool, not, ◌&&◌, ◌||◌, List, [], ◌∷◌, ◌++◌, map, length, Option, None, Some, IsTrue, if◌then◌else◌, slice_index, slice_index_or, codes}
+use Rattle.std.specs.Prelude.{◌≡◌, ℕ, zero, suc, Bool, ◌&&◌, ◌||◌, List, [], ◌∷◌, ◌++◌, map, length, Option, None, Some, IsTrue, if◌then◌else◌, slice_index, slice_index_or, codes}
 use Rattle.std.specs.List.{list_any, filter, flat_map, find, join_with_byte}
 use Rattle.std.specs.Option.{option_to_list}
 use Rattle.roman_model.specs.Lists.{IsIn, below}

@@ -2,8 +2,9 @@
 //!
 //! `specs/` has the definitions. `System` has environments, behaviours, systems, pairs and their
 //! steps; `Composition` has ND-simulations and the greatest one; `Arena` has removal lists, masks
-//! and depths over any set of nodes; `Numbers` has the numbers of pairs. Each law is the contract
-//! of a function with an empty body.
+//! and depths over any set of nodes; `Numbers` has the numbers of pairs; `Change` has what becomes
+//! of removal lists where the services change; `Certificate` and `Explanation` have their texts.
+//! Each law is the contract of a function with an empty body.
 #![tactic(auto)]
 
 mod certificates;
