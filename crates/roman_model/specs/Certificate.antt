@@ -14,13 +14,15 @@ use Rattle.roman_model.specs.declared.reason.Reason.TheVariants.{Final, Act}
 
 -- The text
 
+-- the first line
 abbrev pub head_line : List ℕ
 head_line = codes "roman-order 1"
 
+-- the second line: how many pairs there are
 abbrev pub count_line : Sys → List ℕ
 count_line s = codes "pairs " ++ decimal (count (sizes_of s))
 
--- `f`, or the action's number
+-- `f` for clause 2, or the action's number
 abbrev pub reason_text : Reason → List ℕ
 reason_text Final = codes "f"
 reason_text (Act a) = decimal a
@@ -29,9 +31,11 @@ reason_text (Act a) = decimal a
 abbrev pub entry_line : Entry ℕ → List ℕ
 entry_line x = decimal x.node ++ 32 ∷ reason_text x.reason
 
+-- the last line
 abbrev pub end_line : List ℕ
 end_line = codes "end"
 
+-- a line for each entry, between the first two and the last
 abbrev pub cert_lines : Sys → List (Entry ℕ) → List (List ℕ)
 cert_lines s L = head_line ∷ count_line s ∷ (map entry_line L ++ end_line ∷ [])
 
@@ -70,12 +74,12 @@ entry_of s line = find (λ x. same_numbers (entry_line x) line) (possible_entrie
 abbrev pub entries_on : Sys → List (List ℕ) → List (Entry ℕ)
 entries_on s lines = filter_map (entry_of s) lines
 
--- that line is due
+-- nothing is wrong where the line is the one that is due
 abbrev pub unless_is : List ℕ → Option (List ℕ) → Option Why
 unless_is due None = Some Form
 unless_is due (Some line) = if same_numbers due line then None else Some Form
 
--- no line is due
+-- nothing is wrong where no line follows
 abbrev pub unless_over : Option (List ℕ) → Option Why
 unless_over None = None
 unless_over (Some line) = Some Form

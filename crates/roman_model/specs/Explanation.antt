@@ -58,6 +58,7 @@ pub record ExplainedOrder (s : Sys) (L : List (Entry Pair)) (p : Pair) : Type 0 
   pub order : IsOrder (arena s) (explanation (arena s) L p)
   pub last : (front : List (Entry Pair)) × (x : Entry Pair) × (explanation (arena s) L p ≡ front ++ x ∷ []) × (x.node ≡ p)
 
+-- an explanation explains by itself
 abbrev pub ExplanationIsOrder : Type 0
 ExplanationIsOrder = (s : Sys) (L : List (Entry Pair)) (p : Pair) → IsSys s → IsOrder (arena s) L → IsTrue (is_listed (arena s) L p) → ExplainedOrder s L p
 
@@ -93,6 +94,7 @@ state_names (seat ∷ seats) (b ∷ bs) = name_at seat.states b ∷ state_names 
 abbrev pub pair_text : Names → Pair → List ℕ
 pair_text names p = join_with_byte 32 (name_at names.target p.t ∷ name_at names.env p.e ∷ state_names names.seats p.bs)
 
+-- `final`, or the action's name
 abbrev pub reason_name : Names → Reason → List ℕ
 reason_name names Final = codes "final"
 reason_name names (Act a) = name_at names.actions a
@@ -112,6 +114,7 @@ abbrev pub answer_lines : Sys → Names → List (Entry Pair) → Pair → Reaso
 answer_lines s names L p Final = []
 answer_lines s names L p (Act a) = map (λ k. answer_line names k (answer (arena s) L p a k)) (ready_seats (arena s))
 
+-- the lines of an entry
 abbrev pub entry_lines : Sys → Names → List (Entry Pair) → Entry Pair → List (List ℕ)
 entry_lines s names L x = lost_line names x ∷ answer_lines s names L x.node x.reason
 
