@@ -1,0 +1,3 @@
+pub mod MaskBits
+mod Lanes
+mod Blocks
