@@ -1,6 +1,5 @@
 -- How the front of a text grows.
-use Rattle.std.proofs.Common.{◌≡◌, ℕ, ◌+◌, ◌<◌, ◌≤◌, List, [], ◌∷◌, ◌++◌, length, take, drop, refl, sym, ◌∙◌, ap, subst, arith, append-nil, length-append, Option, None, Some, IfSome}
-use Rattle.std.proofs.lemmas.Grind.{common_steps}
+use Rattle.std.proofs.Common.{◌≡◌, ℕ, ◌+◌, ◌≤◌, List, [], ◌++◌, length, take, drop, sym, ◌∙◌, ap, subst, arith, append-nil, length-append, Option, None, Some, IfSome}
 use Rattle.std.proofs.lemmas.List.{take-append-drop, length-take-le}
 use Rattle.std.proofs.Math.Seq.{take-append-add}
 use Rattle.roman_io.specs.Shelf.{Texts, Fetches, text_of}
@@ -15,9 +14,9 @@ front_more : (bytes piece text : List ℕ) (n : ℕ) → IsFront bytes text → 
     n ≤ length (drop (length bytes) text) → IsFront (bytes ++ take n piece) text
 front_more bytes piece text n front same within =
     let size : length (bytes ++ take n piece) ≡ length bytes + n =
-        rw same (length-append bytes (take n (drop (length bytes) text)) ∙ ap (λ m. length bytes + m) (length-take-le n (drop (length bytes) text) within)) in
+    rw same (length-append bytes (take n (drop (length bytes) text)) ∙ ap (λ m. length bytes + m) (length-take-le n (drop (length bytes) text) within)) in
     let taken : take (length bytes + n) (bytes ++ drop (length bytes) text) ≡ bytes ++ take n piece =
-        take-append-add bytes (drop (length bytes) text) n ∙ ap (λ xs. bytes ++ xs) (sym same) in
+    take-append-add bytes (drop (length bytes) text) n ∙ ap (λ xs. bytes ++ xs) (sym same) in
     record { same = rw size (subst (λ t. take (length bytes + n) t ≡ bytes ++ take n piece) (front_rest bytes text front) taken) }
 
 -- where nothing is left behind the front, it is the text

@@ -1,4 +1,4 @@
-use Rattle.std.proofs.Common.{◌≡◌, ℕ, ◌+◌, ◌-◌, ◌≤◌, length, vec_len, IfSome}
+use Rattle.std.proofs.Common.{◌≡◌, ◌-◌, vec_len, IfSome}
 use Rattle.roman_io.specs.Shelf.{text_of}
 use Rattle.roman_library.specs.Documents.{IsFront}
 use Rattle.roman_library.proofs.text.whole_text.Given as goal
