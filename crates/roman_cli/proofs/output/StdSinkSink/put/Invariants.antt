@@ -1,4 +1,4 @@
-use Rattle.std.proofs.Common.{◌≡◌, ℕ, ◌<◌, length}
+use Rattle.std.proofs.Common.{◌≡◌, length}
 use Rattle.roman_cli.proofs.output.StdSinkSink.put.Given as goal
 
 abbrev pub invariant-loop-rest : goal.invariant-loop-rest
