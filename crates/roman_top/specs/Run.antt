@@ -1,5 +1,5 @@
 -- What a call of `serve` has done, by the status that it answers.
-use Rattle.std.specs.Prelude.{◌≡◌, ◌≢◌, ℕ, List, [], Option, None, Some, codes}
+use Rattle.std.specs.Prelude.{◌≡◌, ℕ, List, [], Option, None, Some, codes}
 use Rattle.roman_io.specs.Faults.{Rose}
 use Rattle.roman_io.specs.Sink.{Wrote, WroteFront}
 use Rattle.roman_top.specs.Command.{Command, usage_line}

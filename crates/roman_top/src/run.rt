@@ -89,15 +89,12 @@ mod tests {
     const LAMP: &str =
         r#"{"roman":1,"environment":{"states":["e"],"start":"e","actions":["on","off"],"steps":[["e","on","e"],["e","off","e"]]},"behaviours":[{"name":"lamp","states":["off","on"],"start":"off","final":["off"],"steps":[["off",true,"on","on"],["on",true,"off","off"]]}],"services":[{"name":"l1","behaviour":"lamp"}],"target":{"states":["off","on"],"start":"off","final":["off"],"steps":[["off",true,"on","on"],["on",true,"off","off"]]}}"#;
 
-    fn ran<L: Ledger>(rt: &HostRuntime, name: &str, blank: Blank) -> Result<Status, Fail>
+    fn ran<L: Ledger>(rt: &HostRuntime, words: &Words, blank: Blank) -> Result<Status, Fail>
         requires name { blank.name ≡ L.name }
         requires parts { blank.parts ≡ L.parts }
         requires some { 0 < L.parts }
     {
         let alloc = rt.alloc();
-        let mut words = Words::new(alloc);
-        words.push("synth")?;
-        words.push(name)?;
         let mut files = Vec::new(alloc);
         files.push((
             String::from_str(alloc, "lamp.json")?,
@@ -107,19 +104,22 @@ mod tests {
         let mut out = MemSink::new(alloc, Vec::new(alloc));
         let mut input = QuietSource::new(Vec::new(alloc));
         let mut steps = Steps::<L>::new(blank);
-        Ok(serve(alloc, &words, &mut shelf, &mut input, &mut out, &mut steps))
+        Ok(serve(alloc, words, &mut shelf, &mut input, &mut out, &mut steps))
+    }
+
+    fn synth_of(rt: &HostRuntime, name: &str) -> Result<Words, Fail> {
+        let mut words = Words::new(rt.alloc());
+        words.push("synth")?;
+        words.push(name)?;
+        Ok(words)
     }
 
     #[test]
     fn a_lamp_is_composed(rt: HostRuntime) -> Result<(), Fail> {
-        assert_eq!(rt;
-            ran::<Brand>(&rt, "lamp.json", Blank::new(1))?,
-            Status::Done
-        );
-        assert_eq!(rt;
-            ran::<Brand>(&rt, "gone.json", Blank::new(1))?,
-            Status::ShelfFault
-        );
+        let lamp = ran::<Brand>(&rt, &synth_of(&rt, "lamp.json")?, Blank::new(1))?;
+        let gone = ran::<Brand>(&rt, &synth_of(&rt, "gone.json")?, Blank::new(1))?;
+        assert_eq!(rt; lamp, Status::Done);
+        assert_eq!(rt; gone, Status::ShelfFault);
         Ok(())
     }
 }

@@ -1,4 +1,4 @@
-use Rattle.std.proofs.Common.{ℕ, length}
+use Rattle.std.proofs.Common.{length}
 use Rattle.roman_top.proofs.plain.+leads.Given as goal
 
 abbrev pub decreases-leads : goal.decreases-leads
