@@ -1,0 +1,68 @@
+//! The working folder as a shelf.
+ghost use Rattle.std.specs.Prelude.{◌≤◌, length, IfOk, None};
+
+use roman_io::{Failed, Shelf};
+use std::fs::File;
+use std::io::{Read, Seek, SeekFrom};
+use std::rt::Files;
+
+/// The files by their names, which begin in the working folder where they are relative. It tells
+/// nothing of what a file holds.
+#[derive(Drop)]
+pub struct FolderShelf<'a, R: Files> {
+    rt: &'a R,
+    faults: u64,
+}
+
+impl<'a, R: Files> FolderShelf<'a, R> {
+    /// The files that the runtime reaches.
+    pub fn new(rt: &'a R) -> FolderShelf<'a, R> {
+        FolderShelf { rt, faults: 0 }
+    }
+
+    /// Reads once from the file at that place.
+    fn read(&self, name: &str, at: u64, into: &mut [u8]) -> std::io::Result<usize>
+        ensures { IfOk result (λ n. n ≤ length into.new) }
+    {
+        let mut file = File::open(self.rt, name)?;
+        file.seek(SeekFrom::Start(at))?;
+        file.read(into)
+    }
+}
+
+impl<R: Files> Shelf for FolderShelf<'_, R> {
+    ghost texts = { λ _. None };
+
+    ghost faults = { λ s. s.faults };
+
+    fn fetch(&mut self, name: &str, at: u64, into: &mut [u8]) -> Result<usize, Failed> {
+        match self.read(name, at, into) {
+            Ok(count) => Ok(count),
+            Err(_) => {
+                self.faults = self.faults.saturating_add(1);
+                Err(Failed)
+            }
+        }
+    }
+}
+
+#[cfg(test)]
+mod tests {
+    use super::*;
+    use std::fs;
+    use std::test::Fail;
+
+    #[test]
+    fn a_file_is_read_from_a_place_on(rt: HostRuntime) -> Result<(), Fail> {
+        fs::write(&rt, "roman_folder_test", "behaviour")?;
+        let mut shelf = FolderShelf::new(&rt);
+        let mut piece = [0u8; 4];
+        assert_eq!(rt; shelf.fetch("roman_folder_test", 2, &mut piece)?, 4);
+        assert_eq!(rt; piece, *b"havi");
+        assert_eq!(rt; shelf.fetch("roman_folder_test", 9, &mut piece)?, 0);
+        assert!(rt; shelf.fetch("roman_folder_gone", 0, &mut piece).is_err());
+        assert_eq!(rt; shelf.faults, 1);
+        fs::remove_file(&rt, "roman_folder_test")?;
+        Ok(())
+    }
+}

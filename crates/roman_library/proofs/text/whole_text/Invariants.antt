@@ -1,0 +1,14 @@
+use Rattle.std.proofs.Common.{◌≡◌, ◌-◌, vec_len, IfSome}
+use Rattle.roman_io.specs.Shelf.{text_of}
+use Rattle.roman_library.specs.Documents.{IsFront}
+use Rattle.roman_library.proofs.text.whole_text.Given as goal
+
+abbrev pub invariant-pieces : goal.invariant-pieces
+invariant-pieces g l = record {
+  texts : g.F.Shelf.texts l.shelf ≡ g.F.Shelf.texts l.initial.shelf;
+  faults : g.F.Shelf.faults l.shelf ≡ g.F.Shelf.faults l.initial.shelf;
+  front : IfSome (g.F.Shelf.texts l.initial.shelf) (λ ts. IsFront l.text.items (text_of ts l.name));
+}
+
+abbrev pub decreases-pieces : goal.decreases-pieces
+decreases-pieces g l = 1048577 - vec_len l.text

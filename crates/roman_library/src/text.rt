@@ -1,0 +1,91 @@
+//! The JSON value of a text on a shelf.
+ghost use Rattle.std.specs.Prelude.{◌≡◌};
+ghost use Rattle.roman_library.specs.Documents.{Caused, IsTextOf, IsValueOf, doc_error_number};
+
+use roman_io::Shelf;
+use roman_model::MAX_DOCUMENT_BYTES;
+use roman_read::{ParseError, parse};
+use serde_json::Value;
+use std::alloc::{AllocError, Global};
+use thiserror::Error;
+
+/// How many bytes a fetch asks for.
+const PIECE_BYTES: usize = 4096;
+
+/// Why a text gives no value.
+#[derive(Clone, Copy, Debug, PartialEq, Eq, Error)]
+pub enum DocError {
+    /// The shelf failed.
+    #[error("the shelf failed")]
+    Fault,
+    /// The text has more than [`MAX_DOCUMENT_BYTES`] bytes.
+    #[error("the text has too many bytes")]
+    TooLong,
+    /// The text is no JSON value.
+    #[error("the text is no JSON value")]
+    NotJson,
+    /// There is no memory.
+    #[error("there is no memory")]
+    Memory,
+}
+
+impl DocError {
+    /// The error's number, from 1 to 4 in the order of the variants.
+    pub fn number(&self) -> u8
+        ensures number { result ≡ doc_error_number self.now }
+    {
+        match self {
+            DocError::Fault => 1,
+            DocError::TooLong => 2,
+            DocError::NotJson => 3,
+            DocError::Memory => 4,
+        }
+    }
+}
+
+impl From<AllocError> for DocError {
+    ghost use Rattle.roman_library.specs.declared.text.DocError.{DocError};
+    ghost use Rattle.roman_library.specs.declared.text.DocError.TheVariants.{Memory};
+
+    ghost from_gives = { λ e r. r ≡ Memory };
+
+    fn from(_error: AllocError) -> DocError {
+        DocError::Memory
+    }
+}
+
+/// The value that `serde_json` reads from the text of that name, which is fetched to its end, or to
+/// the first bytes past the greatest number that a document may have.
+pub fn document<F: Shelf>(alloc: Global, shelf: &mut F, name: &str) -> Result<Value, DocError>
+    ensures value { IsValueOf (F.texts shelf.old) name.now result }
+    ensures texts { F.texts shelf.new ≡ F.texts shelf.old }
+    ensures cause { Caused (F.faults shelf.old) (F.faults shelf.new) result }
+{
+    let text = whole_text(alloc, shelf, name)?;
+    match parse(alloc, &text) {
+        Ok(value) => Ok(value),
+        Err(ParseError::NotJson) => Err(DocError::NotJson),
+        Err(ParseError::Memory) => Err(DocError::Memory),
+    }
+}
+
+/// The bytes of the text of that name.
+fn whole_text<F: Shelf>(alloc: Global, shelf: &mut F, name: &str) -> Result<Vec<u8>, DocError>
+    ensures text { IsTextOf (F.texts shelf.old) name.now result }
+    ensures texts { F.texts shelf.new ≡ F.texts shelf.old }
+    ensures cause { Caused (F.faults shelf.old) (F.faults shelf.new) result }
+{
+    let mut text = Vec::new(alloc);
+    let mut piece = [0u8; PIECE_BYTES];
+    'pieces: while text.len() as u64 <= MAX_DOCUMENT_BYTES {
+        let count = match shelf.fetch(name, text.len() as u64, &mut piece) {
+            Ok(count) => count,
+            Err(_) => return Err(DocError::Fault),
+        };
+        if count == 0 {
+            return Ok(text);
+        }
+        text.extend_from_slice(&piece[..count])?;
+    }
+    Err(DocError::TooLong)
+}

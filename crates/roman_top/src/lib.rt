@@ -1,0 +1,9 @@
+//! The program as one call.
+#![tactic(auto)]
+
+mod plain;
+mod run;
+mod status;
+
+pub use run::serve;
+pub use status::Status;
