@@ -1,0 +1,4 @@
+pub mod Strides
+pub mod Tables
+pub mod Moves
+pub mod Shown

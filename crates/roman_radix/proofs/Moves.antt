@@ -1,0 +1,135 @@
+-- How a pair's number moves with its states.
+use Rattle.std.proofs.Common.{◌≡◌, ℕ, ◌+◌, ◌-◌, ◌*◌, ◌/◌, ◌%◌, ◌<◌, ◌≤◌, List, [], ◌∷◌, ◌++◌, length, take, drop, slice_index, slice_set, refl, sym, ap, ◌∙◌, subst, arith, mul_comm}
+use Rattle.std.proofs.Math.ListN.{set}
+use Rattle.std.proofs.lemmas.Nat.{div_below, mod_below}
+use native.Mathlib.Nat.{div-div-eq-div-mul}
+use Rattle.std.proofs.lemmas.List.{append_assoc, drop_more, drop_all, take_more_set}
+use Rattle.roman_model.specs.Lists.{product_of}
+use Rattle.roman_model.specs.System.{Pair}
+use Rattle.roman_model.specs.Change.{grown, without}
+use Rattle.roman_model.specs.Numbers.{Sizes, IsPairOf, grown_sizes, sizes_without, count, states_number, states_at, number, pair_at}
+use Rattle.roman_model.proofs.NumberLemmas.{AreBelow-length, number_below, parts_of_number, number-pair_at, IsPairOf-at, number-set, IsPairOf-moved, IsPairOf-grown, number-grown, IsPairOf-without, number_without, number_without-is}
+use Rattle.roman_radix.specs.Radix.{stride_of, env_stride_of, target_stride_of, with_part, moved}
+
+-- with the target's stride both divisions are one
+pub target_at : (n : Sizes) (p : ℕ) → p / target_stride_of n ≡ (pair_at n p).t
+target_at n p = ap (λ m. p / m) (mul_comm n.env (product_of n.seats)) ∙ sym (div-div-eq-div-mul p (product_of n.seats) n.env)
+
+-- component k in another state; the numbers of the code are equal to those of the sizes
+pub record Replaced (n : Sizes) (p k b part state stride : ℕ) : Type 0 where
+  pub taken : part * stride ≤ p
+  pub number : p - part * stride + state * stride ≡ number n (with_part (pair_at n p) k b)
+  pub below : p - part * stride + state * stride < count n
+
+replaced_by : (n : Sizes) (p k b : ℕ) → p < count n → k < length n.seats → b < slice_index n.seats k → Replaced n p k b (slice_index (pair_at n p).bs k) b (stride_of n k)
+replaced_by n p k b in_range component state =
+    let q : Pair = pair_at n p in
+    let ok : IsPairOf n q = IsPairOf-at n p in_range in
+    let long : length q.bs ≡ length n.seats = AreBelow-length n.seats q.bs ok.bs in
+    let here : number n q ≡ p = number-pair_at n p in_range in
+    let bare : number n (with_part q k 0) + slice_index q.bs k * stride_of n k ≡ number n q + 0 * stride_of n k = number-set n q k 0 component long in
+    let there : number n (with_part q k b) + slice_index q.bs k * stride_of n k ≡ number n q + b * stride_of n k = number-set n q k b component long in
+    let below : number n (with_part q k b) < count n = number_below n (with_part q k b) (IsPairOf-moved n q q.t q.e k b ok ok.t ok.e state) in
+    let least : slice_index q.bs k * stride_of n k ≤ p = omega (arith, bare, here) in
+    let moves : p - slice_index q.bs k * stride_of n k + b * stride_of n k ≡ number n (with_part q k b) = omega (arith, there, here, least) in
+    record { taken = least; number = moves; below = omega (arith, moves, below) }
+
+pub replaced : (n : Sizes) (p k b part state stride : ℕ) → p < count n → k < length n.seats → b < slice_index n.seats k →
+    part ≡ slice_index (pair_at n p).bs k → state ≡ b → stride ≡ stride_of n k → Replaced n p k b part state stride
+replaced n p k b part state stride in_range component within is_part is_state is_stride =
+    rw (is_part, is_state, is_stride) (replaced_by n p k b in_range component within)
+
+-- the target, the environment and component k in other states
+pub record Moved (n : Sizes) (p t e k b row state env env_stride w : ℕ) : Type 0 where
+  pub number : (row * env + state) * env_stride + w % env_stride ≡ number n (moved (pair_at n p) t e k b)
+  pub below : (row * env + state) * env_stride + w % env_stride < count n
+
+moves_by : (n : Sizes) (p t e k b : ℕ) → p < count n → t < n.target → e < n.env → k < length n.seats → b < slice_index n.seats k →
+    Moved n p t e k b t e n.env (product_of n.seats) (number n (with_part (pair_at n p) k b))
+moves_by n p t e k b in_range target env component state =
+    let q : Pair = pair_at n p in
+    let ok : IsPairOf n q = IsPairOf-at n p in_range in
+    let parts = parts_of_number n (with_part q k b) (IsPairOf-moved n q q.t q.e k b ok ok.t ok.e state) in
+    let number : (t * n.env + e) * product_of n.seats + number n (with_part q k b) % product_of n.seats ≡ number n (moved q t e k b) =
+    ap (λ x. (t * n.env + e) * product_of n.seats + x) parts.2 in
+    record {
+      number = number;
+      below = subst (λ x. x < count n) (sym number) (number_below n (moved q t e k b) (IsPairOf-moved n q t e k b ok target env state));
+    }
+
+pub moves_to : (n : Sizes) (p t e k b row state env env_stride w : ℕ) → p < count n → t < n.target → e < n.env → k < length n.seats → b < slice_index n.seats k →
+    row ≡ t → state ≡ e → env ≡ n.env → env_stride ≡ product_of n.seats → w ≡ number n (with_part (pair_at n p) k b) → Moved n p t e k b row state env env_stride w
+moves_to n p t e k b row state env env_stride w in_range target within component below is_row is_state is_env is_stride is =
+    rw (is_row, is_state, is_env, is_stride, is) (moves_by n p t e k b in_range target within component below)
+
+-- a last component comes
+pub record Grown (n : Sizes) (p size b factor state : ℕ) : Type 0 where
+  pub number : p * factor + state ≡ number (grown_sizes n size) (grown (pair_at n p) b)
+  pub below : p * factor + state < count (grown_sizes n size)
+
+grows_by : (n : Sizes) (p size b : ℕ) → p < count n → b < size → Grown n p size b size b
+grows_by n p size b in_range state =
+    let q : Pair = pair_at n p in
+    let ok : IsPairOf n q = IsPairOf-at n p in_range in
+    let number : p * size + b ≡ number (grown_sizes n size) (grown q b) = ap (λ x. x * size + b) (sym (number-pair_at n p in_range)) ∙ sym (number-grown n q size b ok) in
+    record { number = number; below = subst (λ x. x < count (grown_sizes n size)) (sym number) (number_below (grown_sizes n size) (grown q b) (IsPairOf-grown n q size b ok state)) }
+
+pub grows_to : (n : Sizes) (p size b factor state : ℕ) → p < count n → b < size → factor ≡ size → state ≡ b → Grown n p size b factor state
+grows_to n p size b factor state in_range within is_factor is_state = rw (is_factor, is_state) (grows_by n p size b in_range within)
+
+-- component k goes
+pub record Shrunk (n : Sizes) (p k size stride : ℕ) : Type 0 where
+  pub number : p / stride / size * stride + p % stride ≡ number (sizes_without k n) (without k (pair_at n p))
+  pub below : p / stride / size * stride + p % stride < count (sizes_without k n)
+
+shrinks_by : (n : Sizes) (p k : ℕ) → p < count n → k < length n.seats → Shrunk n p k (slice_index n.seats k) (stride_of n k)
+shrinks_by n p k in_range component =
+    let q : Pair = pair_at n p in
+    let number : number_without k n p ≡ number (sizes_without k n) (without k q) = sym (number_without-is n p k in_range component) in
+    record {
+      number = number;
+      below = subst (λ x. x < count (sizes_without k n)) (sym number) (number_below (sizes_without k n) (without k q) (IsPairOf-without n q k (IsPairOf-at n p in_range)));
+    }
+
+pub shrinks_to : (n : Sizes) (p k size stride : ℕ) → p < count n → k < length n.seats → size ≡ slice_index n.seats k → stride ≡ stride_of n k → Shrunk n p k size stride
+shrinks_to n p k size stride in_range component is_size is_stride = rw (is_size, is_stride) (shrinks_by n p k in_range component)
+
+-- the target's and the environment's part of a number
+pub front_and_states : (n : Sizes) (t e row state target_stride env_stride : ℕ) (bs : List ℕ) → row ≡ t → state ≡ e → target_stride ≡ target_stride_of n → env_stride ≡ env_stride_of n →
+    row * target_stride + state * env_stride + states_number n.seats bs ≡ number n (record { t = t; e = e; bs = bs })
+front_and_states n t e row state target_stride env_stride bs is_row is_state is_target is_env = rw (is_row, is_state, is_target, is_env) (omega arith)
+
+-- one state more of a list of states
+pub states_more : (sizes bs : List ℕ) (k b stride number whole : ℕ) → k < length sizes → k < length bs → b ≡ slice_index bs k → stride ≡ product_of (drop (k + 1) sizes) →
+    number + states_number (drop k sizes) (drop k bs) ≡ whole → number + b * stride + states_number (drop (k + 1) sizes) (drop (k + 1) bs) ≡ whole
+states_more sizes bs k b stride number whole size state is is_stride so_far =
+    let next : states_number (drop k sizes) (drop k bs) ≡ slice_index bs k * product_of (drop (k + 1) sizes) + states_number (drop (k + 1) sizes) (drop (k + 1) bs) =
+    rw (drop_more sizes k 0 size, drop_more bs k 0 state) refl in
+    let here : b * stride ≡ slice_index bs k * product_of (drop (k + 1) sizes) = rw (is, is_stride) refl in
+    omega arith
+
+-- no state is left
+pub states_end : (sizes bs : List ℕ) (k number whole : ℕ) → length sizes ≤ k → number + states_number (drop k sizes) (drop k bs) ≡ whole → number ≡ whole
+states_end sizes bs k number whole past so_far =
+    let none : states_number (drop k sizes) (drop k bs) ≡ 0 = ap (λ ns. states_number ns (drop k bs)) (drop_all k sizes past) in
+    omega arith
+
+-- one digit more of a list of states
+pub record DigitTaken (sizes parts whole : List ℕ) (k rest stride : ℕ) : Type 0 where
+  pub states : take (k + 1) (set parts k (rest / stride)) ++ states_at (drop (k + 1) sizes) (rest % stride) ≡ whole
+  pub below : rest % stride < product_of (drop (k + 1) sizes)
+  pub digit : rest / stride < slice_index sizes k
+
+pub digit_taken : (sizes parts whole : List ℕ) (k rest stride : ℕ) → k < length sizes → k < length parts → 0 < stride → stride ≡ product_of (drop (k + 1) sizes) →
+    take k parts ++ states_at (drop k sizes) rest ≡ whole → rest < product_of (drop k sizes) → DigitTaken sizes parts whole k rest stride
+digit_taken sizes parts whole k rest stride size part positive is so_far below =
+    let here : states_at (drop k sizes) rest ≡ rest / stride ∷ states_at (drop (k + 1) sizes) (rest % stride) = rw (drop_more sizes k 0 size, is) refl in
+    let product : product_of (drop k sizes) ≡ slice_index sizes k * product_of (drop (k + 1) sizes) = ap product_of (drop_more sizes k 0 size) in
+    let less : rest < slice_index sizes k * stride = rw is (omega arith) in
+    record {
+      states =
+          ap (λ xs. xs ++ states_at (drop (k + 1) sizes) (rest % stride)) (take_more_set parts k (rest / stride) part)
+          ∙ (append_assoc (take k parts) (rest / stride ∷ []) (states_at (drop (k + 1) sizes) (rest % stride)) ∙ (ap (λ xs. take k parts ++ xs) (sym here) ∙ so_far));
+      below = subst (λ x. rest % stride < x) is (mod_below rest stride positive);
+      digit = div_below rest stride (slice_index sizes k) positive less;
+    }

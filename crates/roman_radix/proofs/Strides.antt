@@ -1,0 +1,121 @@
+-- Products of sizes, and the table of strides.
+use Rattle.std.proofs.Common.{◌≡◌, ℕ, zero, suc, ◌+◌, ◌-◌, ◌*◌, ◌^◌, ◌<◌, ◌≤◌, min, List, [], ◌∷◌, ◌++◌, length, take, drop, get_or, replicate, refl, sym, ap, ◌∙◌, arith, add-one, mul-le-mul}
+use Rattle.std.proofs.Math.ListN.{set}
+use Rattle.std.proofs.lemmas.List.{get_or_append_left, set_at, replicate_more, replicate-append-replicate, append_assoc, length-replicate, length-append, length-take, drop_all, drop_more}
+use Rattle.std.specs.List.{All, AllByRecursion}
+use Rattle.std.proofs.lemmas.List.Elements.{recursion_from_All, All-drop}
+use Rattle.std.proofs.Math.Nat.{mul-le-mul_left}
+use Rattle.roman_model.specs.Lists.{product_of}
+use Rattle.roman_model.specs.declared.limits.TheConstants.{MAX_SERVICES}
+use Rattle.roman_radix.specs.Radix.{AreSizes}
+use Rattle.roman_radix.specs.Places.{padded, strides_of}
+
+-- a product of positive numbers is positive
+pub product_positive : (ns : List ℕ) → AreSizes ns → 0 < product_of ns
+product_positive [] h = omega arith
+product_positive (n ∷ ns) h =
+    let rest : 0 < product_of ns = product_positive ns h.2 in
+    let product : 1 * 1 ≤ n * product_of ns = mul-le-mul h.0 rest in
+    omega arith
+
+pub AreSizes-drop : (k : ℕ) (ns : List ℕ) → AreSizes ns → AreSizes (drop k ns)
+AreSizes-drop zero ns h = h
+AreSizes-drop (suc k) [] h = h
+AreSizes-drop (suc k) (n ∷ ns) h = AreSizes-drop k ns h.2
+
+pub AreSizes-index : (ns : List ℕ) (k : ℕ) → AreSizes ns → k < length ns → (0 < get_or ns k 0) × (get_or ns k 0 < 2 ^ 8)
+AreSizes-index [] k h l = absurd (omega arith)
+AreSizes-index (n ∷ ns) zero h l = (h.0, h.1)
+AreSizes-index (n ∷ ns) (suc k) h l = AreSizes-index ns k h.2 (omega arith)
+
+-- the product of the last numbers is no greater than that of all
+pub product_drop-le : (k : ℕ) (ns : List ℕ) → AreSizes ns → product_of (drop k ns) ≤ product_of ns
+product_drop-le zero ns h = omega arith
+product_drop-le (suc k) [] h = omega arith
+product_drop-le (suc k) (n ∷ ns) h =
+    let rest : product_of (drop k ns) ≤ product_of ns = product_drop-le k ns h.2 in
+    let product : 1 * product_of ns ≤ n * product_of ns = mul-le-mul h.0 (omega arith) in
+    omega arith
+
+pub length-strides_of : (ns : List ℕ) → length (strides_of ns) ≡ length ns
+length-strides_of [] = refl
+length-strides_of (n ∷ ns) = ap suc (length-strides_of ns)
+
+pub strides_of-index : (ns : List ℕ) (k : ℕ) → k < length ns → get_or (strides_of ns) k 0 ≡ product_of (drop (k + 1) ns)
+strides_of-index [] k h = omega arith
+strides_of-index (n ∷ ns) zero h = refl
+strides_of-index (n ∷ ns) (suc k) h = rw add-one (rw add-one at (strides_of-index ns k (omega arith)))
+
+-- what stands in a table at a component's place
+pub padded-index : (ns : List ℕ) (k : ℕ) → k < length ns → get_or (padded ns) k 0 ≡ get_or ns k 0
+padded-index ns k h = get_or_append_left ns (replicate (MAX_SERVICES - length ns) 0) 0 k h
+
+pub stride_at : (ns strides : List ℕ) (k : ℕ) → strides ≡ padded (strides_of ns) → k < length ns → get_or strides k 0 ≡ product_of (drop (k + 1) ns)
+stride_at ns strides k e h =
+    ap (λ xs. get_or xs k 0) e ∙ padded-index (strides_of ns) k (omega (arith, length-strides_of ns)) ∙ strides_of-index ns k h
+
+pub size_at : (ns sizes : List ℕ) (k : ℕ) → sizes ≡ padded ns → k < length ns → get_or sizes k 0 ≡ get_or ns k 0
+size_at ns sizes k e h = ap (λ xs. get_or xs k 0) e ∙ padded-index ns k h
+
+pub length-padded : (ns : List ℕ) → length ns ≤ MAX_SERVICES → length (padded ns) ≡ MAX_SERVICES
+length-padded ns h = length-append ns (replicate (MAX_SERVICES - length ns) zero) ∙ (rw length-replicate (omega arith))
+
+-- the first numbers of a padded table are as many as asked
+pub length_first : (c : ℕ) (table : List ℕ) → table ≡ padded (take c table) → c ≤ MAX_SERVICES → length (take c table) ≡ c
+length_first c table e h =
+    let first : length (take c table) ≡ min c (length table) = length-take c table in
+    let whole : length table ≡ MAX_SERVICES = ap length e ∙ length-padded (take c table) (omega arith) in
+    omega arith
+
+-- an empty table of strides
+pub strides_none : (c : ℕ) (table zeros : List ℕ) → zeros ≡ replicate MAX_SERVICES zero → c ≤ MAX_SERVICES →
+    zeros ≡ replicate c zero ++ (strides_of (drop c (take c table)) ++ replicate (MAX_SERVICES - c) zero)
+strides_none c table zeros e h =
+    let gone : drop c (take c table) ≡ [] = drop_all c (take c table) (omega (arith, length-take c table)) in
+    let fits : c + (MAX_SERVICES - c) ≡ MAX_SERVICES = omega arith in
+    rw gone (e ∙ (ap (λ n. replicate n zero) (sym fits) ∙ sym (replicate-append-replicate c (MAX_SERVICES - c) zero)))
+
+-- one more stride in the table
+pub strides_more : (ns strides rest : List ℕ) (j k stride : ℕ) → k ≡ j + 1 → j < length ns → stride ≡ product_of (drop k ns) →
+    strides ≡ replicate k zero ++ (strides_of (drop k ns) ++ rest) → set strides j stride ≡ replicate j zero ++ (strides_of (drop j ns) ++ rest)
+strides_more ns strides rest j k stride here in_range product table =
+    let more : strides ≡ replicate j zero ++ zero ∷ (strides_of (drop k ns) ++ rest) =
+    table ∙ (ap (λ n. replicate n zero ++ (strides_of (drop k ns) ++ rest)) here
+    ∙ (ap (λ zs. zs ++ (strides_of (drop k ns) ++ rest)) (sym (replicate_more j zero)) ∙ append_assoc (replicate j zero) (zero ∷ []) (strides_of (drop k ns) ++ rest))) in
+    let written : set strides j stride ≡ replicate j zero ++ stride ∷ (strides_of (drop k ns) ++ rest) =
+    ap (λ xs. set xs j stride) more ∙ set_at (replicate j zero) zero (strides_of (drop k ns) ++ rest) stride j (length-replicate j zero) in
+    let next : strides_of (drop j ns) ≡ stride ∷ strides_of (drop k ns) =
+    ap strides_of (drop_more ns j 0 in_range ∙ ap (λ n. get_or ns j 0 ∷ drop n ns) (sym here)) ∙ ap (λ n. n ∷ strides_of (drop k ns)) (sym product) in
+    written ∙ ap (λ xs. replicate j zero ++ (xs ++ rest)) (sym next)
+
+-- one more factor in the product
+pub product_more : (ns : List ℕ) (j k stride size : ℕ) → k ≡ j + 1 → j < length ns → size ≡ get_or ns j 0 → stride ≡ product_of (drop k ns) → stride * size ≡ product_of (drop j ns)
+product_more ns j k stride size here in_range is product =
+    let next : product_of (drop j ns) ≡ get_or ns j 0 * product_of (drop k ns) = ap product_of (drop_more ns j 0 in_range ∙ ap (λ n. get_or ns j 0 ∷ drop n ns) (sym here)) in
+    rw (is, product, next) (omega arith)
+
+-- the whole table
+pub strides_all : (ns strides : List ℕ) (c k : ℕ) → length ns ≡ c → k ≡ 0 → strides ≡ replicate k zero ++ (strides_of (drop k ns) ++ replicate (MAX_SERVICES - c) zero) →
+    strides ≡ padded (strides_of ns)
+strides_all ns strides c k long here table =
+    table ∙ (ap (λ n. replicate n zero ++ (strides_of (drop n ns) ++ replicate (MAX_SERVICES - c) zero)) here
+    ∙ ap (λ n. strides_of ns ++ replicate (MAX_SERVICES - n) zero) (sym long ∙ sym (length-strides_of ns)))
+
+pub product_none : (c : ℕ) (table : List ℕ) → 1 ≡ product_of (drop c (take c table))
+product_none c table = sym (ap product_of (drop_all c (take c table) (omega (arith, length-take c table))))
+
+positive_by_recursion : (ns : List ℕ) → AllByRecursion (λ n. 0 < n) ns → 0 < product_of ns
+positive_by_recursion [] h = omega arith
+positive_by_recursion (n ∷ ns) h =
+    let rest : 0 < product_of ns = positive_by_recursion ns h.1 in
+    let product : 1 * 1 ≤ n * product_of ns = mul-le-mul h.0 rest in
+    omega arith
+
+pub positive_rest : (k : ℕ) (ns : List ℕ) → All (λ n. 0 < n) ns → 0 < product_of (drop k ns)
+positive_rest k ns h = positive_by_recursion (drop k ns) (recursion_from_All (λ n. 0 < n) (drop k ns) (All-drop (λ n. 0 < n) k ns h))
+
+-- more than the cap so far is more than the cap in all
+pub too_many : (pairs rest whole cap : ℕ) → 0 < rest → pairs * rest ≡ whole → cap < pairs → whole ≤ cap → ⊥
+too_many pairs rest whole cap positive product more fits =
+    let least : pairs * 1 ≤ pairs * rest = mul-le-mul_left pairs positive in
+    omega arith

@@ -1,0 +1,39 @@
+-- Sizes whose pairs have numbers of 32 bits, and how a pair's number moves with each of its states.
+use Rattle.std.specs.Prelude.{ℕ, ◌<◌, ◌≤◌, ◌+◌, ◌*◌, ◌^◌, List, [], ◌∷◌, length, drop, slice_set}
+use Rattle.roman_model.specs.Lists.{product_of}
+use Rattle.roman_model.specs.System.{Pair}
+use Rattle.roman_model.specs.Numbers.{Sizes, count}
+use Rattle.roman_model.specs.declared.limits.TheConstants.{MAX_SERVICES}
+
+-- each size is at least 1 and fits in a byte
+abbrev pub AreSizes : List ℕ → Type 0
+AreSizes [] = Unit {0}
+AreSizes (size ∷ sizes) = (0 < size) × (size < 2 ^ 8) × AreSizes sizes
+
+-- there are few enough components, nothing has no states, and the pairs have numbers of 32 bits
+pub record IsSizes (n : Sizes) : Type 0 where
+  pub target : (0 < n.target) × (n.target < 2 ^ 8)
+  pub env : (0 < n.env) × (n.env < 2 ^ 8)
+  pub seats : AreSizes n.seats
+  pub few : length n.seats ≤ MAX_SERVICES
+  pub counted : count n < 2 ^ 32
+
+-- what one more state of component k adds to a pair's number
+abbrev pub stride_of : Sizes → ℕ → ℕ
+stride_of n k = product_of (drop (k + 1) n.seats)
+
+-- what one more state of the environment adds to it
+abbrev pub env_stride_of : Sizes → ℕ
+env_stride_of n = product_of n.seats
+
+-- what one more state of the target adds to it
+abbrev pub target_stride_of : Sizes → ℕ
+target_stride_of n = n.env * product_of n.seats
+
+-- the pair with component k in another state
+abbrev pub with_part : Pair → ℕ → ℕ → Pair
+with_part p k b = record { t = p.t; e = p.e; bs = slice_set p.bs k b }
+
+-- the pair with the target, the environment and component k in other states
+abbrev pub moved : Pair → ℕ → ℕ → ℕ → ℕ → Pair
+moved p t e k b = record { t = t; e = e; bs = slice_set p.bs k b }

@@ -1,0 +1,313 @@
+//! Shapes: how many states each part of a pair has, and the pairs' numbers.
+
+ghost use Rattle.std.specs.Prelude.{◌≡◌, ◌^◌, ◌<◌, ◌≤◌, ◌↔◌, length, take, slice_index, IsTrue, IsSome, IfSome, All};
+ghost use Rattle.roman_model.specs.Lists.{product_of};
+ghost use Rattle.roman_model.specs.Numbers.{IsPairOf, grown_sizes, sizes_without, count, number, pair_at};
+ghost use Rattle.roman_model.specs.Change.{grown, without};
+ghost use Rattle.roman_radix.specs.Radix.{IsSizes, stride_of, env_stride_of, target_stride_of, with_part, moved, AreSizes};
+ghost use Rattle.roman_radix.specs.Places.{padded, strides_of};
+
+use roman_model::MAX_SERVICES;
+use std::marker::Model;
+
+/// The greatest number of components.
+const PLACES: usize = MAX_SERVICES as usize;
+
+/// How many states the target, the environment and each component of a pair have.
+///
+/// The number of the pair with the target's state t, the environment's state e and the states b1,
+/// b2, .. of the components is `((t * E + e) * s1 + b1) * s2 + b2` and so on, where E is the
+/// environment's size and s1, s2, .. are those of the components. A shape keeps beside the sizes
+/// what each state adds to a number, so that a pair's number moves with one of its states by one
+/// product.
+#[derive(Clone, Copy, Debug)]
+pub struct Shape {
+    target: u8,
+    env: u8,
+    components: u8,
+    pairs: u32,
+    target_stride: u32,
+    env_stride: u32,
+    sizes: [u8; PLACES],
+    strides: [u32; PLACES],
+}
+
+impl Model for Shape {
+    ghost use Rattle.roman_model.specs.Numbers.{Sizes};
+
+    ghost Value = { Sizes };
+
+    ghost use Rattle.roman_radix.specs.Layout.{sizes_in, IsLaidOut, laid_out};
+
+    ghost view = { sizes_in };
+
+    ghost invariant = { IsLaidOut };
+
+    ghost inverse = { laid_out };
+}
+
+impl Shape {
+    /// The shape of these sizes; `None` exactly where its pairs are more than `cap`.
+    pub fn new(target: u8, env: u8, sizes: &[u8], cap: u32) -> Option<Shape>
+        requires target { 0 < target }
+        requires env { 0 < env }
+        requires sizes { All (λ size. 0 < size) sizes.now }
+        requires few { length sizes.now ≤ MAX_SERVICES }
+        ensures fits { IsSome result ↔ (count (record { target = target; env = env; seats = sizes.now }) ≤ cap) }
+        ensures shape { IfSome result (λ shape. shape ≡ record { target = target; env = env; seats = sizes.now }) }
+    {
+        if !is_within(target, env, sizes, cap) {
+            return None;
+        }
+        let mut places = [0; PLACES];
+        places[..sizes.len()].copy_from_slice(sizes);
+        Some(lay_out(target, env, sizes.len() as u8, places))
+    }
+
+    /// The number of pairs.
+    pub fn pairs(&self) -> u32
+        ensures { result ≡ count self.now }
+    {
+        self.pairs
+    }
+
+    /// Says what holds of every shape: nothing has no states, and the pairs have numbers of 32 bits.
+    pub fn known(&self)
+        ensures { IsSizes self.now }
+    {
+        let _pairs = &self.pairs;
+    }
+
+    /// What one more state of the target adds to a pair's number.
+    pub fn target_stride(&self) -> u32
+        ensures { result ≡ target_stride_of self.now }
+    {
+        self.target_stride
+    }
+
+    /// What one more state of the environment adds to a pair's number.
+    pub fn env_stride(&self) -> u32
+        ensures { result ≡ env_stride_of self.now }
+    {
+        self.env_stride
+    }
+
+    /// What one more state of component k adds to a pair's number.
+    pub fn stride(&self, k: u8) -> u32
+        requires { k < length self.now.seats }
+        ensures { result ≡ stride_of self.now k }
+    {
+        self.strides[k as usize]
+    }
+
+    /// The number of the pair with these states.
+    pub fn number(&self, t: u8, e: u8, states: &[u8]) -> u32
+        requires { IsPairOf self.now (record { t = t; e = e; bs = states.now }) }
+        ensures number { result ≡ number self.now (record { t = t; e = e; bs = states.now }) }
+        ensures below { result < count self.now }
+    {
+        let mut number = u32::from(t) * self.target_stride + u32::from(e) * self.env_stride;
+        for (k, state) in states.iter().enumerate() {
+            number += u32::from(*state) * self.strides[k];
+        }
+        number
+    }
+
+    /// The target's state at pair p.
+    pub fn target_of(&self, p: u32) -> u8
+        requires { p < count self.now }
+        ensures value { result ≡ (pair_at self.now p).t }
+        ensures below { result < self.now.target }
+    {
+        (p / self.target_stride) as u8
+    }
+
+    /// The environment's state at pair p.
+    pub fn env_of(&self, p: u32) -> u8
+        requires { p < count self.now }
+        ensures value { result ≡ (pair_at self.now p).e }
+        ensures below { result < self.now.env }
+    {
+        (p / self.env_stride % u32::from(self.env)) as u8
+    }
+
+    /// The state of component k at pair p.
+    pub fn part_of(&self, p: u32, k: u8) -> u8
+        requires pair { p < count self.now }
+        requires component { k < length self.now.seats }
+        ensures value { result ≡ slice_index (pair_at self.now p).bs k }
+        ensures below { result < slice_index self.now.seats k }
+    {
+        (p / self.strides[k as usize] % u32::from(self.sizes[k as usize])) as u8
+    }
+
+    /// The states of the components at pair p, in their order, at the front of a table.
+    pub fn parts_of(&self, p: u32) -> [u8; PLACES]
+        requires { p < count self.now }
+        ensures { take (length self.now.seats) result ≡ (pair_at self.now p).bs }
+    {
+        let mut parts = [0; PLACES];
+        let mut rest = p % self.env_stride;
+        for k in 0..self.components as usize {
+            parts[k] = (rest / self.strides[k]) as u8;
+            rest %= self.strides[k];
+        }
+        parts
+    }
+
+    /// The number of pair p with component k in state b.
+    pub fn with_part(&self, p: u32, k: u8, b: u8) -> u32
+        requires pair { p < count self.now }
+        requires component { k < length self.now.seats }
+        requires state { b < slice_index self.now.seats k }
+        ensures number { result ≡ number self.now (with_part (pair_at self.now p) k b) }
+        ensures below { result < count self.now }
+    {
+        let stride = self.strides[k as usize];
+        p - u32::from(self.part_of(p, k)) * stride + u32::from(b) * stride
+    }
+
+    /// The number of pair p with the target in state t, the environment in e and component k in b.
+    pub fn moved(&self, p: u32, t: u8, e: u8, k: u8, b: u8) -> u32
+        requires pair { p < count self.now }
+        requires t { t < self.now.target }
+        requires e { e < self.now.env }
+        requires component { k < length self.now.seats }
+        requires state { b < slice_index self.now.seats k }
+        ensures number { result ≡ number self.now (moved (pair_at self.now p) t e k b) }
+        ensures below { result < count self.now }
+    {
+        let states = self.with_part(p, k, b) % self.env_stride;
+        (u32::from(t) * u32::from(self.env) + u32::from(e)) * self.env_stride + states
+    }
+
+    /// The shape with one more component, which goes last; `None` exactly where its pairs are more
+    /// than `cap`.
+    pub fn grow(&self, size: u8, cap: u32) -> Option<Shape>
+        requires size { 0 < size }
+        requires few { length self.now.seats < MAX_SERVICES }
+        ensures fits { IsSome result ↔ (count (grown_sizes self.now size) ≤ cap) }
+        ensures shape { IfSome result (λ shape. shape ≡ grown_sizes self.now size) }
+    {
+        if u64::from(self.pairs) * u64::from(size) > u64::from(cap) {
+            return None;
+        }
+        let mut places = self.sizes;
+        places[self.components as usize] = size;
+        Some(lay_out(self.target, self.env, self.components + 1, places))
+    }
+
+    /// The shape without component k.
+    pub fn shrink(&self, k: u8) -> Shape
+        requires { k < length self.now.seats }
+        ensures { result ≡ sizes_without k self.now }
+    {
+        let mut places = self.sizes;
+        places.copy_within(k as usize + 1.., k as usize);
+        places[PLACES - 1] = 0;
+        lay_out(self.target, self.env, self.components - 1, places)
+    }
+
+    /// The number that pair p has after a last component of that size is added, in state b.
+    pub fn grown(&self, p: u32, size: u8, b: u8) -> u32
+        requires pair { p < count self.now }
+        requires state { b < size }
+        requires few { length self.now.seats < MAX_SERVICES }
+        requires fits { count (grown_sizes self.now size) < 2 ^ 32 }
+        ensures number { result ≡ number (grown_sizes self.now size) (grown (pair_at self.now p) b) }
+        ensures below { result < count (grown_sizes self.now size) }
+    {
+        p * u32::from(size) + u32::from(b)
+    }
+
+    /// The number that pair p has after component k is dropped.
+    pub fn without(&self, p: u32, k: u8) -> u32
+        requires pair { p < count self.now }
+        requires component { k < length self.now.seats }
+        ensures number { result ≡ number (sizes_without k self.now) (without k (pair_at self.now p)) }
+        ensures below { result < count (sizes_without k self.now) }
+    {
+        let stride = self.strides[k as usize];
+        p / stride / u32::from(self.sizes[k as usize]) * stride + p % stride
+    }
+}
+
+/// Whether the pairs of these sizes are at most `cap`.
+fn is_within(target: u8, env: u8, sizes: &[u8], cap: u32) -> bool
+    requires target { 0 < target }
+    requires env { 0 < env }
+    requires sizes { All (λ size. 0 < size) sizes.now }
+    ensures { IsTrue result ↔ (count (record { target = target; env = env; seats = sizes.now }) ≤ cap) }
+{
+    let cap = u64::from(cap);
+    let mut pairs = u64::from(target) * u64::from(env);
+    for size in sizes {
+        if pairs > cap {
+            return false;
+        }
+        pairs *= u64::from(*size);
+    }
+    pairs <= cap
+}
+
+/// The stride of each component, the sizes being padded with zeros, and the product of the sizes.
+fn strides_over(components: u8, sizes: &[u8; PLACES]) -> ([u32; PLACES], u32)
+    requires few { components ≤ MAX_SERVICES }
+    requires padded { sizes.now ≡ padded (take components sizes.now) }
+    requires positive { AreSizes (take components sizes.now) }
+    requires fits { product_of (take components sizes.now) < 2 ^ 32 }
+    ensures strides { result.0 ≡ padded (strides_of (take components sizes.now)) }
+    ensures product { result.1 ≡ product_of (take components sizes.now) }
+{
+    let mut strides = [0; PLACES];
+    let mut stride: u32 = 1;
+    let mut k = components as usize;
+    while k > 0 {
+        k -= 1;
+        strides[k] = stride;
+        stride *= u32::from(sizes[k]);
+    }
+    (strides, stride)
+}
+
+/// The shape of these sizes, padded with zeros.
+fn lay_out(target: u8, env: u8, components: u8, sizes: [u8; PLACES]) -> Shape
+    requires few { components ≤ MAX_SERVICES }
+    requires padded { sizes ≡ padded (take components sizes) }
+    requires sizes { IsSizes (record { target = target; env = env; seats = take components sizes }) }
+    ensures { result ≡ record { target = target; env = env; seats = take components sizes } }
+{
+    let (strides, env_stride) = strides_over(components, &sizes);
+    let target_stride = u32::from(env) * env_stride;
+    Shape {
+        target,
+        env,
+        components,
+        pairs: u32::from(target) * target_stride,
+        target_stride,
+        env_stride,
+        sizes,
+        strides,
+    }
+}
+
+#[cfg(test)]
+mod tests {
+    use super::*;
+    use std::test::Fail;
+
+    #[test]
+    fn numbers_pairs(rt: HostRuntime) -> Result<(), Fail> {
+        let none = Shape::new(3, 2, &[2, 4], 47);
+        assert!(rt; none.is_none());
+        let shape = Shape::new(3, 2, &[2, 4], 48).ok_or("48 pairs")?;
+        assert_eq!(rt; shape.number(2, 1, &[1, 3]), 47);
+        assert_eq!(rt; shape.part_of(45, 1), 1);
+        assert_eq!(rt; shape.parts_of(47)[..2], [1, 3][..]);
+        assert_eq!(rt; shape.without(45, 0), 21);
+        let grown = shape.grow(5, 240).ok_or("240 pairs")?;
+        assert_eq!(rt; shape.grown(45, 5, 2), 227);
+        assert_eq!(rt; grown.part_of(227, 1), 1);
+        Ok(())
+    }
+}
