@@ -1,0 +1,11 @@
+pub mod Lists
+pub mod SystemLemmas
+pub mod ArenaLemmas
+pub mod OrderLemmas
+pub mod DepthLemmas
+pub mod WorkLemmas
+pub mod CompositionLemmas
+pub mod OfferLemmas
+pub mod PlayLemmas
+pub mod DepthPlayLemmas
+pub mod Examples

@@ -6,9 +6,14 @@
 //! of a function with an empty body.
 #![tactic(auto)]
 
+mod laws;
 mod limits;
 mod reason;
 
+pub use laws::{
+    depth_is_least, depth_wins, following_stays, greatest_is_greatest, offers_are_generator,
+    order_completes, order_refutes, order_wins, replay_keeps, unrelated_loses,
+};
 pub use limits::{
     DEFAULT_CELLS, MAX_ACTIONS, MAX_BEHAVIOURS, MAX_CELLS, MAX_CERTIFICATE_BYTES,
     MAX_DOCUMENT_BYTES, MAX_FILE_NAME_BYTES, MAX_LINE_BYTES, MAX_NAME_BYTES, MAX_SERVICES,
