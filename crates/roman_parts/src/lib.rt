@@ -1,0 +1,5 @@
+//! Environments, behaviours and targets, with look-ups of their steps.
+#![tactic(auto)]
+
+mod masks;
+mod rows;
