@@ -1,3 +1,5 @@
-pub mod Rows
+pub mod Named
 pub mod Listed
+pub mod Rows
 pub mod Cells
+pub mod Tables
