@@ -1,0 +1,5 @@
+mod RowLemmas
+mod SetLemmas
+mod CellLemmas
+pub mod NormalLemmas
+mod TableLemmas

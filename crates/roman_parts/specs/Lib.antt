@@ -1,0 +1,5 @@
+pub mod Named
+pub mod Listed
+pub mod Rows
+pub mod Cells
+pub mod Tables
