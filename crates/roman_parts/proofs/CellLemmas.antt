@@ -38,6 +38,7 @@ marks_set masks k n within small = record { has = has }
               ∙ or_false (has_state (get_or masks k 0) m)
               ∙ ap (λ b. has_state (get_or masks k 0) m || b) (sym (ne_eqb m n ne))
         ]
+
     has : (j m : ℕ) → has_state (get_or (set masks k (bit_or (get_or masks k 0) (1 * 2 ^ n % 2 ^ 64))) j 0) m ≡ (has_state (get_or masks j 0) m || (j == k && m == n))
     has j m = elim (cases_eq j k) [
       | inl e ↦

@@ -3,3 +3,4 @@ mod SetLemmas
 mod CellLemmas
 pub mod NormalLemmas
 mod TableLemmas
+mod ReadingLemmas

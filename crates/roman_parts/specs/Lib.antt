@@ -3,3 +3,5 @@ pub mod Listed
 pub mod Rows
 pub mod Cells
 pub mod Tables
+pub mod Reading
+pub mod Lists

@@ -2,7 +2,11 @@
 #![tactic(auto)]
 
 mod environment;
+mod error;
 mod masks;
+mod names;
+mod reading;
 mod rows;
 
 pub use environment::Environment;
+pub use error::{List, PartError};
