@@ -5,3 +5,4 @@ pub mod Cells
 pub mod Tables
 pub mod Reading
 pub mod Lists
+pub mod Guards

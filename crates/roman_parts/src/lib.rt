@@ -3,6 +3,8 @@
 
 mod environment;
 mod error;
+mod finals;
+mod guards;
 mod masks;
 mod names;
 mod reading;
