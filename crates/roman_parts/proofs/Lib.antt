@@ -4,3 +4,4 @@ mod CellLemmas
 pub mod NormalLemmas
 mod TableLemmas
 mod ReadingLemmas
+mod GuardLemmas

@@ -1,7 +1,8 @@
 -- Guards as they stand in a document: the environment states that a value means.
-use Rattle.std.specs.Prelude.{ℕ, ◌<◌, Bool, List, [], ◌∷◌, length, Option, Some, None, Result, Ok, Err, codes, if◌then◌else◌}
+use Rattle.std.specs.Prelude.{ℕ, Bool, List, [], ◌∷◌, length, Option, Some, None, option_and_then, Result, Ok, Err, codes, if◌then◌else◌}
 use Rattle.std.specs.Str.{bytes_eq}
 use Rattle.serde_json.specs.Data.{Data, null, boolean, number, string, array, object, Items, no_items, item, Members, no_members, member}
+use Rattle.serde_json.specs.Find.{as_object}
 use Rattle.roman_read.specs.Items.{◌>>=◌, each_item, pushing}
 use Rattle.roman_read.specs.declared.rules.Kind.TheVariants.{Form}
 use Rattle.roman_guard.specs.Meaning.{is_among, complement, intersection, union, states_below}
@@ -9,6 +10,16 @@ use Rattle.roman_parts.specs.Lists.{place_in}
 use Rattle.roman_parts.specs.declared.error.List.TheVariants.{Steps}
 use Rattle.roman_parts.specs.declared.error.PartError.{PartError}
 use Rattle.roman_parts.specs.declared.error.PartError.TheVariants.{Refused}
+
+-- the one member, where there is exactly one
+abbrev pub sole_member : Members → Option (List ℕ × Data)
+sole_member no_members = None
+sole_member (member name d no_members) = Some (name, d)
+sole_member (member name d (member k e ms)) = None
+
+-- the one member of an object that has exactly one
+abbrev pub sole_of : Data → Option (List ℕ × Data)
+sole_of d = option_and_then sole_member (as_object d)
 
 -- a value that is no guard, in step i
 abbrev pub no_guard : {X : Type 0} → ℕ → Result X PartError
