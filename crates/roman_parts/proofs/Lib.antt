@@ -5,3 +5,4 @@ pub mod NormalLemmas
 mod TableLemmas
 mod ReadingLemmas
 mod GuardLemmas
+mod StepLemmas

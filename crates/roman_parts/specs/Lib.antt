@@ -6,3 +6,4 @@ pub mod Tables
 pub mod Reading
 pub mod Lists
 pub mod Guards
+pub mod Steps

@@ -9,6 +9,7 @@ mod masks;
 mod names;
 mod reading;
 mod rows;
+mod steps;
 
 pub use environment::Environment;
 pub use error::{List, PartError};
