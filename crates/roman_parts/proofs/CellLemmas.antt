@@ -20,6 +20,19 @@ or_true : (x : Bool) → true ≡ (x || true)
 or_true true = refl
 or_true false = refl
 
+-- n put into a mask
+pub has_set : (mask n m : ℕ) → n < 64 → has_state (bit_or mask (1 * 2 ^ n % 2 ^ 64)) m ≡ (has_state mask m || m == n)
+has_set mask n m small = elim (cases_eq m n) [
+  | inl e ↦
+      ap (λ b. b == 1) (subst (λ j. bit_at (bit_or mask (1 * 2 ^ n % 2 ^ 64)) j ≡ 1) (sym e) (bit_at_set_same w64 mask n small))
+      ∙ or_true (has_state mask m)
+      ∙ ap (λ b. has_state mask m || b) (sym (eq-eqb m n e))
+  | inr ne ↦
+      ap (λ b. b == 1) (bit_at_set_other w64 mask n small m ne)
+      ∙ or_false (has_state mask m)
+      ∙ ap (λ b. has_state mask m || b) (sym (ne_eqb m n ne))
+]
+
 -- the bit of n set in mask k
 pub marks_set : (masks : List ℕ) (k n : ℕ) → k < length masks → n < 64 → Marks masks (set masks k (bit_or (get_or masks k 0) (1 * 2 ^ n % 2 ^ 64))) k n
 unfolding cell_has
@@ -28,17 +41,7 @@ marks_set masks k n within small = record { has = has }
     here : (m : ℕ) → has_state (get_or (set masks k (bit_or (get_or masks k 0) (1 * 2 ^ n % 2 ^ 64))) k 0) m ≡ (has_state (get_or masks k 0) m || m == n)
     here m =
         ap (λ mask. has_state mask m) (get_or-set_same masks k (bit_or (get_or masks k 0) (1 * 2 ^ n % 2 ^ 64)) 0 within)
-        ∙ elim (cases_eq m n) [
-          | inl e ↦
-              ap (λ b. b == 1) (subst (λ j. bit_at (bit_or (get_or masks k 0) (1 * 2 ^ n % 2 ^ 64)) j ≡ 1) (sym e) (bit_at_set_same w64 (get_or masks k 0) n small))
-              ∙ or_true (has_state (get_or masks k 0) m)
-              ∙ ap (λ b. has_state (get_or masks k 0) m || b) (sym (eq-eqb m n e))
-          | inr ne ↦
-              ap (λ b. b == 1) (bit_at_set_other w64 (get_or masks k 0) n small m ne)
-              ∙ or_false (has_state (get_or masks k 0) m)
-              ∙ ap (λ b. has_state (get_or masks k 0) m || b) (sym (ne_eqb m n ne))
-        ]
-
+        ∙ has_set (get_or masks k 0) n m small
     has : (j m : ℕ) → has_state (get_or (set masks k (bit_or (get_or masks k 0) (1 * 2 ^ n % 2 ^ 64))) j 0) m ≡ (has_state (get_or masks j 0) m || (j == k && m == n))
     has j m = elim (cases_eq j k) [
       | inl e ↦
@@ -69,7 +72,7 @@ same_place e a e1 a1 w h h1 = same_test (e * w + a == e1 * w + a1) (e == e1 && a
     (λ t. let (row, column) = and_parts (e == e1) (a == a1) t in eq-eqb (e * w + a) (e1 * w + a1) (ap₂ (λ i j. i * w + j) (eqb-true e e1 row) (eqb-true a a1 column)))
 
 -- the other way round
-same_eqb : (a b : ℕ) → (a == b) ≡ (b == a)
+pub same_eqb : (a b : ℕ) → (a == b) ≡ (b == a)
 same_eqb a b = same_test (a == b) (b == a) (λ t. eq-eqb b a (sym (eqb-true a b t))) (λ t. eq-eqb a b (sym (eqb-true b a t)))
 
 -- where the test grows by what is put into the cell

@@ -1,12 +1,13 @@
 -- The normal form has the same steps, and its numbers are in range.
-use Rattle.std.proofs.Common.{◌≡◌, ℕ, ◌+◌, ◌*◌, ◌<◌, ◌≤◌, ◌==◌, ◌&&◌, Bool, true, false, IsTrue, List, [], ◌∷◌, ◌++◌, ◌⊎◌, map, length, get_or, filter, flat_map, refl, sym, ap, ap₂, ◌∙◌, subst, inl, inr, arith}
+use Rattle.std.proofs.Common.{◌≡◌, ℕ, ◌+◌, ◌*◌, ◌<◌, ◌≤◌, ◌==◌, ◌&&◌, Bool, true, false, IsTrue, List, [], ◌∷◌, ◌++◌, ◌⊎◌, map, length, get_or, filter, flat_map, refl, sym, ap, ap₂, ◌∙◌, subst, inl, inr, arith, MatchOption, slice_get}
 use Rattle.std.specs.List.{list_any}
 use Rattle.std.proofs.lemmas.Bool.{eq-eqb, eqb-true, and_parts, and_from}
-use Rattle.roman_model.specs.Lists.{IsIn, below}
+use Rattle.roman_model.specs.Lists.{IsIn, HasNoRepeats, below}
 use Rattle.roman_model.specs.System.{Triple, Env, Move, Beh, has, has_triple, has_move, IsEnv, IsBeh, IsDeterministic, env_next, env_prev, beh_next, beh_prev, is_final}
 use Rattle.roman_model.specs.declared.limits.TheConstants.{MAX_STATES, MAX_ACTIONS}
 use Rattle.roman_model.specs.Normal.{normal_env, normal_beh, guard_of, guarded_step}
-use Rattle.roman_model.proofs.Lists.{same_test, any_true, any_from, in_map, from_map, in_flat_map, from_flat_map, in_filter, filter_in, in_below, from_below, filter_same}
+use Rattle.roman_parts.specs.Named.{IsOver}
+use Rattle.roman_model.proofs.Lists.{same_test, any_true, any_from, in_map, from_map, in_flat_map, from_flat_map, in_filter, filter_in, in_below, from_below, filter_same, HasNoRepeats-below, HasNoRepeats-filter}
 
 -- an environment's step in the normal form is one of its own, in range
 pub from_normal_triples : (env : Env) (x : Triple) → IsIn x (normal_env env).triples →
@@ -38,7 +39,6 @@ has_triple-normal env e a e' he ha he' = same_test (has_triple (normal_env env) 
         let (from, action, to) = triple_test x e a e' passes in
         let (l, m, n, own) = from_normal_triples env x i in
         sym (ap₂ (λ p q. has_triple env p q x.to) from action ∙ ap (has_triple env e a) to) ∙ own
-
     back : IsTrue (has_triple env e a e') → IsTrue (has_triple (normal_env env) e a e')
     back t =
         any_from _ (record { from = e; action = a; to = e' }) (normal_env env).triples
@@ -83,12 +83,9 @@ from_normal_steps env_states actions beh m i =
     subst
     (λ (n : Move). (n.from < beh.states) × (n.action < actions) × (n.to < beh.states)
     × ((e : ℕ) → IsIn e n.guard → (e < env_states) × IsTrue (has_move beh n.from e n.action n.to)))
-    (sym (from_guarded b a b' (guard_of env_states beh b a b') m io)) (
-      from_below beh.states b ib,
-      from_below actions a ia,
-      from_below beh.states b' ib',
-      λ e ie. let (it, step) = filter_in (λ e. has_move beh b e a b') e (below env_states) ie in (from_below env_states e it, step),
-    )
+    (sym (from_guarded b a b' (guard_of env_states beh b a b') m io))
+    (from_below beh.states b ib, from_below actions a ia, from_below beh.states b' ib',
+    λ e ie. let (it, step) = filter_in (λ e. has_move beh b e a b') e (below env_states) ie in (from_below env_states e it, step))
 
 -- the test of a step, by its parts
 move_test : (m : Move) (b e a b' : ℕ) → IsTrue (m.from == b && m.action == a && has m.guard e && m.to == b') →
@@ -113,13 +110,9 @@ from_normal_move env_states actions beh b e a b' t =
     let (m, i, passes) = any_true _ (normal_beh env_states actions beh).steps t in
     let (from, action, guard, to) = move_test m b e a b' passes in
     let (hb, ha, hb', each) = from_normal_steps env_states actions beh m i in
-    let (he, own) = each e guard in (
-      subst (λ n. n < beh.states) from hb,
-      he,
-      subst (λ n. n < actions) action ha,
-      subst (λ n. n < beh.states) to hb',
-      sym (ap₂ (λ p q. has_move beh p e q m.to) from action ∙ ap (has_move beh b e a) to) ∙ own,
-    )
+    let (he, own) = each e guard in
+    (subst (λ n. n < beh.states) from hb, he, subst (λ n. n < actions) action ha, subst (λ n. n < beh.states) to hb',
+    sym (ap₂ (λ p q. has_move beh p e q m.to) from action ∙ ap (has_move beh b e a) to) ∙ own)
 
 pub has_move-normal : (env_states actions : ℕ) (beh : Beh) (b e a b' : ℕ) → b < beh.states → e < env_states → a < actions → b' < beh.states →
     has_move (normal_beh env_states actions beh) b e a b' ≡ has_move beh b e a b'
@@ -128,7 +121,6 @@ has_move-normal env_states actions beh b e a b' hb he ha hb' =
   where
     there : IsTrue (has_move (normal_beh env_states actions beh) b e a b') → IsTrue (has_move beh b e a b')
     there t = (from_normal_move env_states actions beh b e a b' t).4
-
     back : IsTrue (has_move beh b e a b') → IsTrue (has_move (normal_beh env_states actions beh) b e a b')
     back t =
         let guard : List ℕ = guard_of env_states beh b a b' in
@@ -163,5 +155,28 @@ IsBeh-normal env beh states start = record {
 pub is_final-normal : (env_states actions : ℕ) (beh : Beh) (b : ℕ) → b < beh.states → is_final (normal_beh env_states actions beh) b ≡ is_final beh b
 is_final-normal env_states actions beh b hb = same_test (is_final (normal_beh env_states actions beh) b) (is_final beh b)
     (λ t. let (n, i, same) = any_true (λ n. n == b) (normal_beh env_states actions beh).finals t in
-    subst (λ k. IsTrue (is_final beh k)) (eqb-true n b same) (filter_in (is_final beh) n (below beh.states) i).1)
+        subst (λ k. IsTrue (is_final beh k)) (eqb-true n b same) (filter_in (is_final beh) n (below beh.states) i).1)
     (λ t. any_from (λ n. n == b) b (normal_beh env_states actions beh).finals (in_filter (is_final beh) b (below beh.states) (in_below beh.states b hb) t) (eq-eqb b b refl))
+
+pub IsOver-normal : (env_states actions : ℕ) (beh : Beh) → (0 < beh.states) × (beh.states ≤ MAX_STATES) → beh.start < beh.states → IsOver env_states actions (normal_beh env_states actions beh)
+IsOver-normal env_states actions beh states start = λ env hs ha.
+    subst (λ n. IsBeh env (normal_beh n actions beh)) hs (subst (λ n. IsBeh env (normal_beh env.states n beh)) ha (IsBeh-normal env beh states start))
+
+-- what a behaviour that is in range says of its own numbers
+pub IsOver-states : (env_states actions : ℕ) (beh : Beh) → IsOver env_states actions beh → (0 < beh.states) × (beh.states ≤ MAX_STATES)
+IsOver-states env_states actions beh over = (over (record { states = env_states; actions = actions; start = 0; triples = [] }) refl refl).states
+
+pub IsOver-start : (env_states actions : ℕ) (beh : Beh) → IsOver env_states actions beh → beh.start < beh.states
+IsOver-start env_states actions beh over = (over (record { states = env_states; actions = actions; start = 0; triples = [] }) refl refl).start
+
+-- a deterministic behaviour goes to at most one state
+pub single_next : (beh : Beh) (b e a : ℕ) → IsDeterministic beh →
+    MatchOption (slice_get (beh_next beh b e a) 0) (beh_next beh b e a ≡ []) (λ to. beh_next beh b e a ≡ to ∷ [])
+single_next beh b e a single =
+    one (beh_next beh b e a) (HasNoRepeats-filter (has_move beh b e a) (below beh.states) (HasNoRepeats-below beh.states))
+    (λ x y i j. single b e a x y (filter_in (has_move beh b e a) x (below beh.states) i).1 (filter_in (has_move beh b e a) y (below beh.states) j).1)
+  where
+    one : (xs : List ℕ) → HasNoRepeats xs → ((x y : ℕ) → IsIn x xs → IsIn y xs → x ≡ y) → MatchOption (slice_get xs 0) (xs ≡ []) (λ to. xs ≡ to ∷ [])
+    one [] once same = refl
+    one (x ∷ []) once same = refl
+    one (x ∷ y ∷ ys) once same = absurd (once.0 (inl (same x y (inl refl) (inr (inl refl)))))

@@ -1,9 +1,13 @@
 //! Masks of states, one for each cell of a table.
 ghost use Rattle.std.specs.Prelude.{◌≡◌, ℕ, ◌+◌, ◌*◌, ◌^◌, ◌<◌, ◌≤◌, length, IfOk, vec_len};
+ghost use Rattle.roman_model.specs.System.{IsEnv};
 ghost use Rattle.roman_parts.specs.Cells.{Marks, leads, leads_back, HasCells, goes, goes_back, HasGuardedCells, MarksMove};
 ghost use Rattle.roman_parts.specs.Listed.{AreTriples, AreMoves};
 
+use crate::environment::Environment;
 use roman_guard::StateSet;
+use roman_model::MAX_STATES;
+use roman_read::NameTable;
 use std::alloc::{AllocError, Global};
 
 /// How many states, environment states and actions a table has cells for.
@@ -16,6 +20,21 @@ pub(crate) struct Cells {
 }
 
 impl Cells {
+    /// The cells of a behaviour with these states over an environment.
+    pub(crate) fn over(states: &NameTable, env: &Environment) -> Cells
+        requires { length states.now ≤ MAX_STATES }
+        ensures states { result.states ≡ length states.now }
+        ensures env_states { result.env_states ≡ env.now.env.states }
+        ensures actions { result.actions ≡ env.now.env.actions }
+        ensures known { IsEnv env.now.env }
+    {
+        Cells {
+            states: states.len() as usize,
+            env_states: env.states().len() as usize,
+            actions: env.actions().len() as usize,
+        }
+    }
+
     /// The number of cells.
     pub(crate) fn count(&self) -> usize
         ensures count { result ≡ self.now.states * self.now.env_states * self.now.actions }
