@@ -6,3 +6,4 @@ mod TableLemmas
 mod ReadingLemmas
 mod GuardLemmas
 mod StepLemmas
+mod ChoiceLemmas

@@ -7,3 +7,4 @@ pub mod Reading
 pub mod Lists
 pub mod Guards
 pub mod Steps
+pub mod Choices

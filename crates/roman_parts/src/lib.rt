@@ -4,6 +4,7 @@
 mod automaton;
 mod behaviour;
 mod environment;
+mod choice;
 mod error;
 mod finals;
 mod guards;
