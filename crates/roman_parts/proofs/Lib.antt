@@ -7,3 +7,4 @@ mod ReadingLemmas
 mod GuardLemmas
 mod StepLemmas
 mod ChoiceLemmas
+mod SingleLemmas

@@ -1,14 +1,43 @@
 //! Choices between transitions.
-ghost use Rattle.std.specs.Prelude.{◌≡◌, ◌<◌, ◌≤◌, ◌^◌, length, map, Some, All};
+ghost use Rattle.std.specs.Prelude.{◌≡◌, ◌^◌, ◌<◌, ◌≤◌, All, Some, length, map};
 ghost use Rattle.roman_parts.specs.Listed.{move_of};
-ghost use Rattle.roman_parts.specs.Choices.{choice_between, choice_at, choice_with, choice_of};
+ghost use Rattle.roman_parts.specs.Reading.{Gives};
+ghost use Rattle.roman_parts.specs.Choices.{choice_between, choice_at, choice_with, choice_of, single_of};
 
+use crate::error::{List, PartError};
+use crate::reading::refused;
 use roman_guard::StateSet;
+use roman_model::MAX_STEPS;
+use roman_read::{Kind, NameTable};
+
+#[tactic(auto, using(crate::proofs::SingleLemmas::choice_within), unfolding(crate::specs::Choices::single_of))]
+/// Refuses a choice: the first transition that leaves one with an earlier one, with the first such
+/// and the least environment state in which they do. It takes no memory.
+pub(crate) fn check_single(
+    env_states: &NameTable,
+    steps: &[(u8, StateSet, u8, u8)],
+) -> Result<(), PartError>
+    requires few { length steps.now ≤ MAX_STEPS }
+    requires guards { All (λ m. m.1 < 2 ^ length env_states.now) steps.now }
+    ensures { Gives (λ _. map move_of steps.now) result
+        (single_of env_states.now (map move_of steps.now)) }
+{
+    match find_choice(steps) {
+        None => Ok(()),
+        Some((j, (i, state))) => {
+            let kind = Kind::Choice {
+                first: i as u32,
+                state: *env_states.at(state as u32),
+            };
+            Err(refused(kind, List::Steps, j as u32))
+        }
+    }
+}
 
 #[tactic(auto, using(crate::proofs::ChoiceLemmas::searching, crate::proofs::ChoiceLemmas::choice_steps), unfolding(crate::specs::Choices::choice_of))]
-/// The first transition that leaves a choice with an earlier one, the first such, and the least
-/// environment state in which they do. It takes no memory.
-pub(crate) fn find_choice(steps: &[(u8, StateSet, u8, u8)]) -> Option<(usize, (usize, u8))>
+// The first transition that leaves a choice with an earlier one, the first such, and the least
+// environment state in which they do.
+fn find_choice(steps: &[(u8, StateSet, u8, u8)]) -> Option<(usize, (usize, u8))>
     ensures { result ≡ choice_of (map move_of steps.now) }
 {
     for j in 0..steps.len() {
