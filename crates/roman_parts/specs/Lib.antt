@@ -8,3 +8,4 @@ pub mod Lists
 pub mod Guards
 pub mod Steps
 pub mod Choices
+pub mod Parts

@@ -1,5 +1,5 @@
 //! Choices between transitions.
-ghost use Rattle.std.specs.Prelude.{◌≡◌, ◌^◌, ◌<◌, ◌≤◌, All, Some, length, map};
+ghost use Rattle.std.specs.Prelude.{◌≡◌, ◌^◌, ◌<◌, ◌≤◌, All, None, OnOk, Some, length, map};
 ghost use Rattle.roman_parts.specs.Listed.{move_of};
 ghost use Rattle.roman_parts.specs.Reading.{Gives};
 ghost use Rattle.roman_parts.specs.Choices.{choice_between, choice_at, choice_with, choice_of, single_of};
@@ -19,8 +19,9 @@ pub(crate) fn check_single(
 ) -> Result<(), PartError>
     requires few { length steps.now ≤ MAX_STEPS }
     requires guards { All (λ m. m.1 < 2 ^ length env_states.now) steps.now }
-    ensures { Gives (λ _. map move_of steps.now) result
+    ensures single { Gives (λ _. map move_of steps.now) result
         (single_of env_states.now (map move_of steps.now)) }
+    ensures none { OnOk result (choice_of (map move_of steps.now) ≡ None) }
 {
     match find_choice(steps) {
         None => Ok(()),

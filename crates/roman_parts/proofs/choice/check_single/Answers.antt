@@ -19,8 +19,8 @@ overflow_cast-j c =
     let p = choice_within c.args.steps.now (length c.args.env_states.now) c.in-Some.j c.in-Some.i c.in-Some.state c.requires.guards (sym c.in-Some.ensures) in
     omega (arith, p.0, c.requires.few)
 
-pub returns-in-Some : goal.returns-in-Some
+pub returns-in-Some-clause-single : goal.returns-in-Some-clause-single
 unfolding single_of
-returns-in-Some c =
+returns-in-Some-clause-single c =
     let named : get_or c.args.env_states.now c.in-Some.state [] ≡ c.at.result.now = get_or_from_slice_get c.args.env_states.now c.in-Some.state c.at.result.now [] c.at.ensures.name in
     rw (c.refused.ensures, ← c.in-Some.ensures, named)
