@@ -15,4 +15,11 @@ pub mod ChangeLemmas
 pub mod ChangeLaws
 pub mod NumberedChanges
 pub mod NumberedLists
+pub mod ExplanationLemmas
+pub mod ExplanationRenames
+pub mod LineLemmas
+pub mod CertificateLemmas
+pub mod CertificateLaws
+pub mod VerdictLemmas
 pub mod Examples
+pub mod TextExamples

@@ -158,6 +158,16 @@ state_from_number sizes bs k h l =
     )
     (sym (mod-mul-add (states_number (take k sizes) (take k bs)) (slice_index sizes k) (slice_index bs k) (AreBelow-index sizes bs k h l)))
 
+pub length-states_at : (sizes : List ℕ) (i : ℕ) → length (states_at sizes i) ≡ length sizes
+length-states_at [] i = refl
+length-states_at (size ∷ sizes) i = ap suc (length-states_at sizes (i % product_of sizes))
+
+pub states_at-index : (sizes : List ℕ) (i k : ℕ) → i < product_of sizes → k < length sizes →
+    slice_index (states_at sizes i) k ≡ i / product_of (drop (k + 1) sizes) % slice_index sizes k
+states_at-index sizes i k h l =
+    state_from_number sizes (states_at sizes i) k (AreBelow-at sizes i h) l
+    ∙ ap (λ x. x / product_of (drop (k + 1) sizes) % slice_index sizes k) (states_number-at sizes i h)
+
 -- the numbers of what stands before and behind place k
 pub states_before : (sizes bs : List ℕ) (k : ℕ) → AreBelow sizes bs → k < length sizes →
     states_number (take k sizes) (take k bs) ≡ states_number sizes bs / product_of (drop (k + 1) sizes) / slice_index sizes k

@@ -3,14 +3,15 @@ use Rattle.std.proofs.Common.{◌≡◌, ℕ, ◌<◌, ◌==◌, List, [], ◌�
 use Rattle.std.proofs.lemmas.Bool.{eqb-true, eq-eqb}
 use Rattle.roman_model.specs.Lists.{IsIn}
 use Rattle.roman_model.specs.System.{Sys, Pair, IsSys, IsPair, outcomes, is_allowed, is_fine, same_pair}
-use Rattle.roman_model.specs.Arena.{Entry, is_listed, mask, IsOrder}
+use Rattle.roman_model.specs.Arena.{Entry, is_listed, mask, IsOrder, is_justified}
+use Rattle.roman_model.specs.declared.reason.Reason.{Reason}
 use Rattle.roman_model.specs.Composition.{arena, AreEntries}
 use Rattle.roman_model.specs.Numbers.{sizes_of, count, number, pair_at, numbered, entry_at}
 use Rattle.roman_model.specs.Laws.{OrderCompletes, NumberedCompletes}
 use Rattle.roman_model.proofs.Lists.{same_test, from_map}
 use Rattle.roman_model.proofs.SystemLemmas.{same_pair_is, same_pair_from, outcome_pair}
 use Rattle.roman_model.proofs.NumberLemmas.{numbers_are_pairs}
-use Rattle.roman_model.proofs.Renames.{Renames, listed_renamed, mask_renamed, order_renamed}
+use Rattle.roman_model.proofs.Renames.{Renames, listed_renamed, mask_renamed, order_renamed, justified_renamed}
 
 module _ (s : Sys) where
   -- the number is that of a pair
@@ -33,6 +34,7 @@ module _ (s : Sys) where
         (λ h. eq-eqb i j (sym ((numbers_are_pairs s).there i below_i) ∙ ap (number (sizes_of s)) (same_pair_is (pair_at (sizes_of s) i) (pair_at (sizes_of s) j) h) ∙ (numbers_are_pairs s).there j below_j));
     actions = refl;
     seats = refl;
+    ready = λ k. refl;
     fine = λ i l. refl;
     allows = λ i l a. refl;
     outcomes = λ i l a k. outcomes_named sys (pair_at (sizes_of s) i) ((numbers_are_pairs s).pair i l) a k;
@@ -49,6 +51,7 @@ module _ (s : Sys) where
         (λ h. same_pair_from p q (sym ((numbers_are_pairs s).back p ok_p) ∙ ap (pair_at (sizes_of s)) (eqb-true (number (sizes_of s) p) (number (sizes_of s) q) h) ∙ (numbers_are_pairs s).back q ok_q));
     actions = refl;
     seats = refl;
+    ready = λ k. refl;
     fine = λ p ok. ap (is_fine s) (sym ((numbers_are_pairs s).back p ok));
     allows = λ p ok a. ap (λ q. is_allowed s q a) (sym ((numbers_are_pairs s).back p ok));
     outcomes = λ p ok a k. ap (λ q. map (number (sizes_of s)) (outcomes s q a k)) (sym ((numbers_are_pairs s).back p ok));
@@ -74,6 +77,13 @@ module _ (s : Sys) where
   mask_at sys L are i l a =
       mask_renamed (numbered s) (arena s) (pair_at (sizes_of s)) IsNumber (numbers_rename sys)
       (is_listed (numbered s) L) (is_listed (arena s) (map (entry_at s) L)) (λ j m. listed_at sys L are j m) i l a
+
+  -- a reason holds at a number where it holds at its pair
+  pub justified_at : IsSys s → (L : List (Entry ℕ)) → AreNumbers L → (i : ℕ) → IsNumber i → (r : Reason) →
+      is_justified (numbered s) (is_listed (numbered s) L) i r ≡ is_justified (arena s) (is_listed (arena s) (map (entry_at s) L)) (pair_at (sizes_of s) i) r
+  justified_at sys L are i l r =
+      justified_renamed (numbered s) (arena s) (pair_at (sizes_of s)) IsNumber (numbers_rename sys)
+      (is_listed (numbered s) L) (is_listed (arena s) (map (entry_at s) L)) (λ j m. listed_at sys L are j m) i l r
 
   pub order_at : IsSys s → (L : List (Entry ℕ)) → AreNumbers L → IsOrder (numbered s) L → IsOrder (arena s) (map (entry_at s) L)
   order_at sys L are order = order_renamed (numbered s) (arena s) (pair_at (sizes_of s)) IsNumber (numbers_rename sys) L are order

@@ -126,6 +126,36 @@ first_numbers_in seen (y ∷ L) x i = by_test (list_any (λ j. y.node == j) seen
     first (inl e) go = inl e
     first (inr j) go = inr (go j)
 
+-- one entry more is kept where its number isn't seen yet
+pub first_numbers_push : (seen : List ℕ) (L : List (Entry ℕ)) (x : Entry ℕ) →
+    first_numbers seen (L ++ x ∷ [])
+    ≡ first_numbers seen L ++ (if list_any (λ i. x.node == i) seen || list_any (λ y. x.node == y.node) (first_numbers seen L) then [] else x ∷ [])
+first_numbers_push seen [] x = ap (λ b. if b then [] else x ∷ []) (or_none (list_any (λ i. x.node == i) seen))
+  where
+    or_none : (b : Bool) → b ≡ (b || false)
+    or_none true = refl
+    or_none false = refl
+first_numbers_push seen (y ∷ L) x =
+    by_known (list_any (λ i. y.node == i) seen) (first_numbers_push seen L x) (first_numbers_push (y.node ∷ seen) L x)
+  where
+    turned : (a b c : Bool) → ((a || b) || c) ≡ (b || (a || c))
+    turned true true c = refl
+    turned true false c = refl
+    turned false b c = refl
+
+    by_known : (b : Bool) →
+        first_numbers seen (L ++ x ∷ [])
+        ≡ first_numbers seen L ++ (if list_any (λ i. x.node == i) seen || list_any (λ z. x.node == z.node) (first_numbers seen L) then [] else x ∷ []) →
+        first_numbers (y.node ∷ seen) (L ++ x ∷ [])
+        ≡ first_numbers (y.node ∷ seen) L ++ (if list_any (λ i. x.node == i) (y.node ∷ seen) || list_any (λ z. x.node == z.node) (first_numbers (y.node ∷ seen) L) then [] else x ∷ []) →
+        (if b then first_numbers seen (L ++ x ∷ []) else y ∷ first_numbers (y.node ∷ seen) (L ++ x ∷ []))
+        ≡ (if b then first_numbers seen L else y ∷ first_numbers (y.node ∷ seen) L)
+        ++ (if list_any (λ i. x.node == i) seen || list_any (λ z. x.node == z.node) (if b then first_numbers seen L else y ∷ first_numbers (y.node ∷ seen) L) then [] else x ∷ [])
+    by_known true known new = known
+    by_known false known new =
+        ap (λ M. y ∷ M) (new ∙ ap (λ b. first_numbers (y.node ∷ seen) L ++ (if b then [] else x ∷ []))
+        (turned (x.node == y.node) (list_any (λ i. x.node == i) seen) (list_any (λ z. x.node == z.node) (first_numbers (y.node ∷ seen) L))))
+
 die_named : (n : Sizes) (k : ℕ) (seat : Seat) (L : List (Entry ℕ)) → k < length n.seats → ((x : Entry ℕ) → IsIn x L → x.node < count n) →
     map (pair_entry (sizes_without k n)) (rename_numbers (Die k seat) n L) ≡ rename (Die k seat) (map (pair_entry n) L)
 die_named n k seat L h are =

@@ -12,6 +12,7 @@ pub record Renames {N M : Type 0} (A : Arena N) (B : Arena M) (f : N → M) (Is 
   pub same : (p q : N) → Is p → Is q → A.same p q ≡ B.same (f p) (f q)
   pub actions : A.actions ≡ B.actions
   pub seats : A.seats ≡ B.seats
+  pub ready : (k : ℕ) → A.ready k ≡ B.ready k
   pub fine : (p : N) → Is p → A.fine p ≡ B.fine (f p)
   pub allows : (p : N) → Is p → (a : ℕ) → A.allows p a ≡ B.allows (f p) a
   pub outcomes : (p : N) → Is p → (a k : ℕ) → map f (A.outcomes p a k) ≡ B.outcomes (f p) a k

@@ -42,6 +42,7 @@ marks_set masks k n within small = record { has = has }
     here m =
         ap (λ mask. has_state mask m) (get_or-set_same masks k (bit_or (get_or masks k 0) (1 * 2 ^ n % 2 ^ 64)) 0 within)
         ∙ has_set (get_or masks k 0) n m small
+
     has : (j m : ℕ) → has_state (get_or (set masks k (bit_or (get_or masks k 0) (1 * 2 ^ n % 2 ^ 64))) j 0) m ≡ (has_state (get_or masks j 0) m || (j == k && m == n))
     has j m = elim (cases_eq j k) [
       | inl e ↦

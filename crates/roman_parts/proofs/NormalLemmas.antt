@@ -39,6 +39,7 @@ has_triple-normal env e a e' he ha he' = same_test (has_triple (normal_env env) 
         let (from, action, to) = triple_test x e a e' passes in
         let (l, m, n, own) = from_normal_triples env x i in
         sym (ap₂ (λ p q. has_triple env p q x.to) from action ∙ ap (has_triple env e a) to) ∙ own
+
     back : IsTrue (has_triple env e a e') → IsTrue (has_triple (normal_env env) e a e')
     back t =
         any_from _ (record { from = e; action = a; to = e' }) (normal_env env).triples
@@ -83,9 +84,12 @@ from_normal_steps env_states actions beh m i =
     subst
     (λ (n : Move). (n.from < beh.states) × (n.action < actions) × (n.to < beh.states)
     × ((e : ℕ) → IsIn e n.guard → (e < env_states) × IsTrue (has_move beh n.from e n.action n.to)))
-    (sym (from_guarded b a b' (guard_of env_states beh b a b') m io))
-    (from_below beh.states b ib, from_below actions a ia, from_below beh.states b' ib',
-    λ e ie. let (it, step) = filter_in (λ e. has_move beh b e a b') e (below env_states) ie in (from_below env_states e it, step))
+    (sym (from_guarded b a b' (guard_of env_states beh b a b') m io)) (
+      from_below beh.states b ib,
+      from_below actions a ia,
+      from_below beh.states b' ib',
+      λ e ie. let (it, step) = filter_in (λ e. has_move beh b e a b') e (below env_states) ie in (from_below env_states e it, step),
+    )
 
 -- the test of a step, by its parts
 pub move_test : (m : Move) (b e a b' : ℕ) → IsTrue (m.from == b && m.action == a && has m.guard e && m.to == b') →
@@ -110,9 +114,13 @@ from_normal_move env_states actions beh b e a b' t =
     let (m, i, passes) = any_true _ (normal_beh env_states actions beh).steps t in
     let (from, action, guard, to) = move_test m b e a b' passes in
     let (hb, ha, hb', each) = from_normal_steps env_states actions beh m i in
-    let (he, own) = each e guard in
-    (subst (λ n. n < beh.states) from hb, he, subst (λ n. n < actions) action ha, subst (λ n. n < beh.states) to hb',
-    sym (ap₂ (λ p q. has_move beh p e q m.to) from action ∙ ap (has_move beh b e a) to) ∙ own)
+    let (he, own) = each e guard in (
+      subst (λ n. n < beh.states) from hb,
+      he,
+      subst (λ n. n < actions) action ha,
+      subst (λ n. n < beh.states) to hb',
+      sym (ap₂ (λ p q. has_move beh p e q m.to) from action ∙ ap (has_move beh b e a) to) ∙ own,
+    )
 
 pub has_move-normal : (env_states actions : ℕ) (beh : Beh) (b e a b' : ℕ) → b < beh.states → e < env_states → a < actions → b' < beh.states →
     has_move (normal_beh env_states actions beh) b e a b' ≡ has_move beh b e a b'
@@ -121,6 +129,7 @@ has_move-normal env_states actions beh b e a b' hb he ha hb' =
   where
     there : IsTrue (has_move (normal_beh env_states actions beh) b e a b') → IsTrue (has_move beh b e a b')
     there t = (from_normal_move env_states actions beh b e a b' t).4
+
     back : IsTrue (has_move beh b e a b') → IsTrue (has_move (normal_beh env_states actions beh) b e a b')
     back t =
         let guard : List ℕ = guard_of env_states beh b a b' in
@@ -155,7 +164,7 @@ IsBeh-normal env beh states start = record {
 pub is_final-normal : (env_states actions : ℕ) (beh : Beh) (b : ℕ) → b < beh.states → is_final (normal_beh env_states actions beh) b ≡ is_final beh b
 is_final-normal env_states actions beh b hb = same_test (is_final (normal_beh env_states actions beh) b) (is_final beh b)
     (λ t. let (n, i, same) = any_true (λ n. n == b) (normal_beh env_states actions beh).finals t in
-        subst (λ k. IsTrue (is_final beh k)) (eqb-true n b same) (filter_in (is_final beh) n (below beh.states) i).1)
+    subst (λ k. IsTrue (is_final beh k)) (eqb-true n b same) (filter_in (is_final beh) n (below beh.states) i).1)
     (λ t. any_from (λ n. n == b) b (normal_beh env_states actions beh).finals (in_filter (is_final beh) b (below beh.states) (in_below beh.states b hb) t) (eq-eqb b b refl))
 
 pub IsOver-normal : (env_states actions : ℕ) (beh : Beh) → (0 < beh.states) × (beh.states ≤ MAX_STATES) → beh.start < beh.states → IsOver env_states actions (normal_beh env_states actions beh)

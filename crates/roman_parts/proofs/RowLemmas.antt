@@ -59,6 +59,7 @@ laid_none n e = record {
   where
     zero_of : (k : ℕ) → k + 1 ≡ 1 → k ≡ 0
     zero_of k is = omega arith
+
     first : (k : ℕ) → k < 1 → get_or (n ∷ []) k 0 ≤ 0
     first k less = subst (λ j. get_or (n ∷ []) j 0 ≤ 0) (sym (zero_of k (omega arith))) (omega arith)
 
@@ -73,15 +74,21 @@ laid_more bounds items more rows n laid end = record {
   where
     longer : length items ≤ length (items ++ more)
     longer = omega (arith, length-append items more)
+
     old : (k : ℕ) → k < length bounds → get_or (bounds ++ n ∷ []) k 0 ≡ get_or bounds k 0
     old k less = get_or_append_left bounds (n ∷ []) 0 k less
+
     new : (k : ℕ) → k ≡ length bounds → get_or (bounds ++ n ∷ []) k 0 ≡ n
     new k e = get_or_push bounds n 0 k (sym e)
+
     within : (k : ℕ) → k < length (bounds ++ n ∷ []) → get_or (bounds ++ n ∷ []) k 0 ≤ length (items ++ more)
-    within k less = elim (cases_eq k (length bounds))
-        [ inl e ↦ omega (arith, new k e)
-        | inr ne ↦ let here : k < length bounds = omega (arith, length_push bounds n) in omega (arith, old k here, laid.cut.within k here, longer) ]
+    within k less = elim (cases_eq k (length bounds)) [
+      | inl e ↦ omega (arith, new k e)
+      | inr ne ↦ let here : k < length bounds = omega (arith, length_push bounds n) in omega (arith, old k here, laid.cut.within k here, longer)
+    ]
+
     rising : (k : ℕ) → k + 1 < length (bounds ++ n ∷ []) → get_or (bounds ++ n ∷ []) k 0 ≤ get_or (bounds ++ n ∷ []) (k + 1) 0
-    rising k less = elim (cases_eq (k + 1) (length bounds))
-        [ inl e ↦ let here : k < length bounds = omega arith in omega (arith, old k here, new (k + 1) e, laid.cut.within k here, longer)
-        | inr ne ↦ let here : k + 1 < length bounds = omega (arith, length_push bounds n) in omega (arith, old k (omega arith), old (k + 1) here, laid.cut.rising k here) ]
+    rising k less = elim (cases_eq (k + 1) (length bounds)) [
+      | inl e ↦ let here : k < length bounds = omega arith in omega (arith, old k here, new (k + 1) e, laid.cut.within k here, longer)
+      | inr ne ↦ let here : k + 1 < length bounds = omega (arith, length_push bounds n) in omega (arith, old k (omega arith), old (k + 1) here, laid.cut.rising k here)
+    ]

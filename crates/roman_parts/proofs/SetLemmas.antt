@@ -18,14 +18,15 @@ states_below-none p (suc n) none =
 states_below-first : (p q : ℕ → Bool) (first : ℕ) → ((i : ℕ) → i < first → p i ≡ false) → p first ≡ true → q first ≡ false →
     (bound : ℕ) → ((i : ℕ) → i < bound → i ≢ first → q i ≡ p i) → first < bound → states_below p bound ≡ first ∷ states_below q bound
 states_below-first p q first before at gone zero others within = let none : ⊥ = omega arith in absurd none
-states_below-first p q first before at gone (suc n) others within = elim (cases_order first n)
-    [ inl e ↦ last e
-    | inr (inl less) ↦
-        states_below-suc p n
-        ∙ ap₂ (λ xs ys. xs ++ ys) (states_below-first p q first before at gone n (λ i small. others i (omega arith)) less)
-        (ap (λ b. cond b (n ∷ []) []) (sym (others n (omega arith) (λ e. omega arith))))
-        ∙ ap (λ xs. first ∷ xs) (sym (states_below-suc q n))
-    | inr (inr more) ↦ let none : ⊥ = omega arith in absurd none ]
+states_below-first p q first before at gone (suc n) others within = elim (cases_order first n) [
+  | inl e ↦ last e
+  | inr (inl less) ↦
+      states_below-suc p n
+      ∙ ap₂ (λ xs ys. xs ++ ys) (states_below-first p q first before at gone n (λ i small. others i (omega arith)) less)
+      (ap (λ b. cond b (n ∷ []) []) (sym (others n (omega arith) (λ e. omega arith))))
+      ∙ ap (λ xs. first ∷ xs) (sym (states_below-suc q n))
+  | inr (inr more) ↦ let none : ⊥ = omega arith in absurd none
+]
   where
     last : first ≡ n → states_below p (suc n) ≡ first ∷ states_below q (suc n)
     last e =

@@ -61,11 +61,11 @@ unfolding choice_between
 no_choice m n e none from action here there =
     by_test (m.to == n.to) (λ t. eqb-true m.to n.to t)
     (λ f.
-      let (x, found) = find_found (has n.guard) m.guard (any_from (has n.guard) e m.guard here there) in
-      let open' : IsTrue (m.from == n.from && m.action == n.action && not (m.to == n.to)) =
-      and_from (m.from == n.from && m.action == n.action) (not (m.to == n.to))
-      (and_from (m.from == n.from) (m.action == n.action) (eq-eqb m.from n.from from) (eq-eqb m.action n.action action)) (ap not f) in
-      absurd (none-some x (sym none ∙ ap (λ b. cond b (find (has n.guard) m.guard) None) open' ∙ found)))
+    let (x, found) = find_found (has n.guard) m.guard (any_from (has n.guard) e m.guard here there) in
+    let open' : IsTrue (m.from == n.from && m.action == n.action && not (m.to == n.to)) =
+    and_from (m.from == n.from && m.action == n.action) (not (m.to == n.to))
+    (and_from (m.from == n.from) (m.action == n.action) (eq-eqb m.from n.from from) (eq-eqb m.action n.action action)) (ap not f) in
+    absurd (none-some x (sym none ∙ ap (λ b. cond b (find (has n.guard) m.guard) None) open' ∙ found)))
 
 module _ (steps : List Move) (none : choice_of steps ≡ None) where
   apart : (i j : ℕ) (m n : Move) → i < j → j < length steps → slice_get steps i ≡ Some m → slice_get steps j ≡ Some n → choice_between (Some n) (Some m) ≡ None

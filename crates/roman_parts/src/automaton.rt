@@ -33,25 +33,25 @@ impl Model for Automaton {
     ghost Value = { GuardedBeh };
 
     ghost view = { λ s. record {
-        env_states = s.cells.env_states;
-        actions = s.cells.actions;
-        beh = record {
-            states = s.cells.states;
-            start = s.start;
-            finals = states_of s.finals;
-            steps = row_moves s.cells.states s.cells.env_states s.cells.actions s.next;
-        };
+      env_states = s.cells.env_states;
+      actions = s.cells.actions;
+      beh = record {
+        states = s.cells.states;
+        start = s.start;
+        finals = states_of s.finals;
+        steps = row_moves s.cells.states s.cells.env_states s.cells.actions s.next;
+      };
     } };
 
     ghost invariant = { λ s. HasGuardedRows (record {
-        env_states = s.cells.env_states;
-        actions = s.cells.actions;
-        beh = record {
-            states = s.cells.states;
-            start = s.start;
-            finals = states_of s.finals;
-            steps = row_moves s.cells.states s.cells.env_states s.cells.actions s.next;
-        };
+      env_states = s.cells.env_states;
+      actions = s.cells.actions;
+      beh = record {
+        states = s.cells.states;
+        start = s.start;
+        finals = states_of s.finals;
+        steps = row_moves s.cells.states s.cells.env_states s.cells.actions s.next;
+      };
     }) s.finals s.next s.prev };
 }
 

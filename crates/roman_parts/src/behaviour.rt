@@ -31,11 +31,11 @@ impl Model for Behaviour {
     ghost Value = { NamedBeh };
 
     ghost view = { λ s. record {
-        name = s.name;
-        states = s.states;
-        env_states = s.automaton.env_states;
-        actions = s.automaton.actions;
-        beh = s.automaton.beh;
+      name = s.name;
+      states = s.states;
+      env_states = s.automaton.env_states;
+      actions = s.automaton.actions;
+      beh = s.automaton.beh;
     } };
 
     ghost invariant = { λ s. IsNamed s.states s.automaton };

@@ -32,21 +32,21 @@ impl Model for Environment {
     ghost Value = { NamedEnv };
 
     ghost view = { λ s. record {
-        states = s.states;
-        actions = s.actions;
-        env = record {
-            states = length s.states;
-            actions = length s.actions;
-            start = s.start;
-            triples = row_triples (length s.states) (length s.actions) s.next;
-        };
-    } };
-
-    ghost invariant = { λ s. HasRows (record {
+      states = s.states;
+      actions = s.actions;
+      env = record {
         states = length s.states;
         actions = length s.actions;
         start = s.start;
         triples = row_triples (length s.states) (length s.actions) s.next;
+      };
+    } };
+
+    ghost invariant = { λ s. HasRows (record {
+      states = length s.states;
+      actions = length s.actions;
+      start = s.start;
+      triples = row_triples (length s.states) (length s.actions) s.next;
     }) s.next s.prev };
 }
 

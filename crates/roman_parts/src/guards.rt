@@ -32,12 +32,7 @@ pub(crate) fn read_states(
 
 #[cycle(formula)]
 #[tactic(auto, using(crate::proofs::GuardLemmas::guards))]
-fn read_guard(
-    alloc: Global,
-    states: &NameTable,
-    v: &Value,
-    index: u32,
-) -> Result<Guard, PartError>
+fn read_guard(alloc: Global, states: &NameTable, v: &Value, index: u32) -> Result<Guard, PartError>
     requires { length states.now ≤ 64 }
     ensures { Gives holds result (guard_of states.now index (view v.now)) }
 {

@@ -36,11 +36,7 @@ pub fn read_environment(alloc: Global, v: &Value) -> Result<Environment, PartErr
 #[tactic(auto, unfolding(crate::specs::Parts::behaviour_of))]
 /// The behaviour over `env` that a value is, or the first rule that it breaks. Whether another
 /// behaviour has its name isn't looked at.
-pub fn read_behaviour(
-    alloc: Global,
-    v: &Value,
-    env: &Environment,
-) -> Result<Behaviour, PartError>
+pub fn read_behaviour(alloc: Global, v: &Value, env: &Environment) -> Result<Behaviour, PartError>
     ensures behaviour { Gives (λ x. x) result (behaviour_of env.now (view v.now)) }
 {
     if !v.is_object() {

@@ -31,10 +31,10 @@ impl Model for Target {
     ghost Value = { NamedTarget };
 
     ghost view = { λ s. record {
-        states = s.states;
-        env_states = s.automaton.env_states;
-        actions = s.automaton.actions;
-        beh = s.automaton.beh;
+      states = s.states;
+      env_states = s.automaton.env_states;
+      actions = s.automaton.actions;
+      beh = s.automaton.beh;
     } };
 
     ghost invariant = { λ s. IsNamedTarget s.states s.automaton };

@@ -14,8 +14,13 @@ invariant_of-result c =
     let from_len : length from ≡ states * actions = rw (← c.len-height.ensures.len, ← c.len-width.ensures.len) (omega (arith, c.in_ok-prev_masks.ensures.len)) in
     let to_has : HasCells actions (leads c.args.steps.now) to = rw (← c.len-width.ensures.len) c.in_ok-next_masks.ensures.has in
     let from_has : HasCells actions (leads_back c.args.steps.now) from = rw (← c.len-width.ensures.len) c.in_ok-prev_masks.ensures.has in
-    rw (c.in_ok-next.ensures.rows, c.deref.ensures.value, c.in_ok-prev.ensures.rows, c.deref-2.ensures.value,
-    laid_triples states actions c.args.start c.args.steps.now to from c.requires.states c.requires.actions c.requires.start c.requires.steps to_len from_len to_has from_has)
+    rw (
+      c.in_ok-next.ensures.rows,
+      c.deref.ensures.value,
+      c.in_ok-prev.ensures.rows,
+      c.deref-2.ensures.value,
+      laid_triples states actions c.args.start c.args.steps.now to from c.requires.states c.requires.actions c.requires.start c.requires.steps to_len from_len to_has from_has,
+    )
     (laid_rows states actions c.args.start c.args.steps.now to from c.requires.states c.requires.actions c.requires.start c.requires.steps to_len from_len to_has from_has)
 
 pub returns-clause-normal : goal.returns-clause-normal
@@ -28,5 +33,8 @@ returns-clause-normal c =
     let from_len : length from ≡ states * actions = rw (← c.len-height.ensures.len, ← c.len-width.ensures.len) (omega (arith, c.in_ok-prev_masks.ensures.len)) in
     let to_has : HasCells actions (leads c.args.steps.now) to = rw (← c.len-width.ensures.len) c.in_ok-next_masks.ensures.has in
     let from_has : HasCells actions (leads_back c.args.steps.now) from = rw (← c.len-width.ensures.len) c.in_ok-prev_masks.ensures.has in
-    rw (c.in_ok-next.ensures.rows, c.deref.ensures.value,
-    laid_triples states actions c.args.start c.args.steps.now to from c.requires.states c.requires.actions c.requires.start c.requires.steps to_len from_len to_has from_has)
+    rw (
+      c.in_ok-next.ensures.rows,
+      c.deref.ensures.value,
+      laid_triples states actions c.args.start c.args.steps.now to from c.requires.states c.requires.actions c.requires.start c.requires.steps to_len from_len to_has from_has,
+    )
