@@ -1,15 +1,15 @@
 -- Choices between steps, found pair by pair.
-use Rattle.std.proofs.Common.{◌≡◌, ℕ, zero, suc, ◌+◌, ◌<◌, ◌≤◌, ◌==◌, ◌&&◌, ◌^◌, not, List, [], ◌∷◌, length, get_or, take, map, filter, find, cond, All, Bool, true, false, Option, Some, None, is_some, option_map, IsTrue, IsFalse, refl, sym, ap, ◌∙◌, arith, slice_get, below_more, inl, inr}
-use Rattle.std.specs.List.{list_any, range_with_len}
-use Rattle.std.proofs.lemmas.Bool.{and_from, and_parts, cond-true, cond-false, eq-eqb, eqb-true, ne_eqb}
+use Rattle.std.proofs.Common.{◌≡◌, ℕ, zero, suc, ◌+◌, ◌<◌, ◌≤◌, ◌==◌, ◌&&◌, not, List, [], ◌∷◌, length, get_or, take, map, filter, find, cond, Bool, true, false, Option, Some, None, is_some, option_map, refl, ap, ◌∙◌, arith, slice_get, below_more}
+use Rattle.std.specs.List.{range_with_len}
+use Rattle.std.proofs.lemmas.Bool.{and_from, cond-true, eq-eqb, ne_eqb}
 use Rattle.std.proofs.lemmas.List.{get_or-map, get_or-take, length-map, length-take}
 use Rattle.std.proofs.lemmas.Option.{slice_get-get_or}
 use Rattle.roman_model.specs.Lists.{below}
-use Rattle.roman_model.specs.System.{Move, has}
+use Rattle.roman_model.specs.System.{has}
 use Rattle.roman_model.proofs.Lists.{find_first, find_not_found, none_from, from_below}
 use Rattle.roman_guard.specs.Meaning.{has_state, has_both, states_of, states_below, least_below}
 use Rattle.roman_parts.specs.Listed.{move_of}
-use Rattle.roman_parts.specs.Choices.{first_below, choice_between, choice_at, choice_with, choice_of}
+use Rattle.roman_parts.specs.Choices.{first_below, choice_between, choice_at}
 use Rattle.roman_parts.proofs.TableLemmas.{has_states_of}
 
 -- ---- the least number at which something is given

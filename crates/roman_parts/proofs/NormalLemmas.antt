@@ -1,6 +1,5 @@
 -- The normal form has the same steps, and its numbers are in range.
-use Rattle.std.proofs.Common.{◌≡◌, ℕ, ◌+◌, ◌*◌, ◌<◌, ◌≤◌, ◌==◌, ◌&&◌, Bool, true, false, IsTrue, List, [], ◌∷◌, ◌++◌, ◌⊎◌, map, length, get_or, filter, flat_map, refl, sym, ap, ap₂, ◌∙◌, subst, inl, inr, arith, MatchOption, slice_get}
-use Rattle.std.specs.List.{list_any}
+use Rattle.std.proofs.Common.{◌≡◌, ℕ, ◌<◌, ◌≤◌, ◌==◌, ◌&&◌, IsTrue, List, [], ◌∷◌, refl, sym, ap, ap₂, ◌∙◌, subst, inl, inr, MatchOption, slice_get}
 use Rattle.std.proofs.lemmas.Bool.{eq-eqb, eqb-true, and_parts, and_from}
 use Rattle.roman_model.specs.Lists.{IsIn, HasNoRepeats, below}
 use Rattle.roman_model.specs.System.{Triple, Env, Move, Beh, has, has_triple, has_move, IsEnv, IsBeh, IsDeterministic, env_next, env_prev, beh_next, beh_prev, is_final}

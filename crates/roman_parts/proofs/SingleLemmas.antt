@@ -1,17 +1,15 @@
 -- Steps without a choice are those of a target that goes to at most one state, and a choice has a state of both guards.
-use Rattle.std.proofs.Common.{◌≡◌, ℕ, ◌+◌, ◌<◌, ◌≤◌, ◌==◌, ◌&&◌, ◌^◌, ◌⊎◌, not, List, [], ◌∷◌, length, get_or, map, cond, find, All, Bool, true, false, Option, Some, None, is_some, option_map, IsTrue, IsFalse, refl, sym, ap, ◌∙◌, arith, slice_get, inl, inr, subst}
-use Rattle.std.specs.Int.{bit_at}
-use Rattle.std.specs.List.{list_any}
+use Rattle.std.proofs.Common.{◌≡◌, ℕ, ◌<◌, ◌==◌, ◌&&◌, ◌^◌, not, List, length, get_or, map, cond, find, All, Bool, true, false, Option, Some, None, is_some, option_map, IsTrue, refl, sym, ap, ◌∙◌, arith, slice_get, inl, inr, subst}
 use Rattle.std.specs.Option.{option_and_then}
-use Rattle.std.proofs.lemmas.Bool.{and_from, both_ways, cases_lt, cases_order, eq-eqb, eqb-true, true≢false}
+use Rattle.std.proofs.lemmas.Bool.{and_from, cases_lt, cases_order, eq-eqb, eqb-true, true≢false}
 use Rattle.std.proofs.lemmas.List.{get_or-map, length-map}
 use Rattle.std.proofs.lemmas.Nat.Bits.{bit_at_above}
 use Rattle.std.proofs.lemmas.Option.{none-some, same_Some, slice_get-get_or}
 use Rattle.roman_model.specs.Lists.{IsIn, below}
 use Rattle.roman_model.specs.Normal.{normal_beh}
-use Rattle.roman_model.specs.System.{Move, has, has_move, IsDeterministic}
+use Rattle.roman_model.specs.System.{Move, has, IsDeterministic}
 use Rattle.roman_model.proofs.Lists.{any_from, any_true, by_test, find_found, find_least, find_some, in_below, in_contains}
-use Rattle.roman_guard.specs.Meaning.{has_state, states_of, states_below}
+use Rattle.roman_guard.specs.Meaning.{has_state, states_of}
 use Rattle.roman_guard.proofs.StateLemmas.{states_below_are}
 use Rattle.roman_parts.specs.Listed.{move_of, listed_beh}
 use Rattle.roman_parts.specs.Choices.{first_below, choice_between, choice_at, choice_with, choice_of}

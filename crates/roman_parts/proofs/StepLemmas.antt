@@ -1,5 +1,5 @@
 -- Lists of three and four items, and lists of steps that are read one by one.
-use Rattle.std.proofs.Common.{◌≡◌, ℕ, suc, List, [], ◌∷◌, length, get_or, Some, None, refl, sym, ap, ◌∙◌, arith}
+use Rattle.std.proofs.Common.{◌≡◌, List, [], ◌∷◌, length, get_or, Some, None, refl, arith}
 use Rattle.std.proofs.lemmas.List.{map_push}
 use Rattle.serde_json.specs.View.{view, items_view}
 use Rattle.serde_json.specs.declared.value.Value.{Value}

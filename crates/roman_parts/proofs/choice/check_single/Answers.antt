@@ -1,5 +1,5 @@
 -- A choice is between two steps of the list, in a state of both guards.
-use Rattle.std.proofs.Common.{◌≡◌, [], length, get_or, ap, sym, ◌∙◌, arith}
+use Rattle.std.proofs.Common.{◌≡◌, [], length, get_or, sym, arith}
 use Rattle.std.proofs.lemmas.Option.{get_or_from_slice_get}
 use Rattle.roman_parts.specs.Choices.{single_of}
 use Rattle.roman_parts.proofs.SingleLemmas.{choice_within}

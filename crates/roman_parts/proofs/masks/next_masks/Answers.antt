@@ -1,4 +1,4 @@
-use Rattle.std.proofs.Common.{◌≡◌, ◌*◌, ℕ, length, get_or, replicate, arith}
+use Rattle.std.proofs.Common.{◌≡◌, ◌*◌, length, replicate, arith}
 use Rattle.std.proofs.lemmas.List.{take_at}
 use Rattle.roman_parts.proofs.CellLemmas.{leads_none, leads_more}
 use Rattle.roman_parts.proofs.masks.next_masks.Goals as goal

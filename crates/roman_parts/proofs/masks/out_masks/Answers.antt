@@ -1,4 +1,4 @@
-use Rattle.std.proofs.Common.{◌≡◌, ◌*◌, ℕ, length, get_or, replicate, arith}
+use Rattle.std.proofs.Common.{◌≡◌, ◌*◌, ℕ, length, replicate, arith}
 use Rattle.std.proofs.lemmas.List.{take_at}
 use Rattle.roman_parts.proofs.CellLemmas.{goes_none, goes_more}
 use Rattle.roman_parts.proofs.masks.out_masks.Goals as goal

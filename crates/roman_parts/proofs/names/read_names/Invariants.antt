@@ -1,5 +1,5 @@
 -- The names so far are as many as the items so far, and what is left gives what all items give.
-use Rattle.std.proofs.Common.{◌≡◌, ℕ, List, [], length}
+use Rattle.std.proofs.Common.{◌≡◌, [], length}
 use Rattle.serde_json.specs.View.{items_view}
 use Rattle.roman_read.specs.Items.{each_item}
 use Rattle.roman_read.proofs.Each.{IsLeft}

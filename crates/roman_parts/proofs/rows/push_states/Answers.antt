@@ -1,5 +1,4 @@
-use Rattle.std.proofs.Common.{◌<◌, ◌^◌, ◌++◌, ap, sym, length, append_assoc, append-nil, ◌∙◌, arith}
-use Rattle.roman_guard.specs.Meaning.{states_of}
+use Rattle.std.proofs.Common.{◌<◌, ◌^◌, ap, length, append_assoc, append-nil, arith}
 use Rattle.roman_parts.proofs.SetLemmas.{states_of-next, states_of-zero}
 use Rattle.roman_parts.proofs.rows.push_states.Goals as goal
 

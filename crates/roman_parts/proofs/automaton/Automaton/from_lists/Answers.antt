@@ -1,5 +1,4 @@
-use Rattle.std.proofs.Common.{◌≡◌, ◌*◌, ℕ, List, map, length, ap, sym, ◌∙◌, arith}
-use Rattle.roman_guard.specs.Meaning.{states_of}
+use Rattle.std.proofs.Common.{◌≡◌, ◌*◌, ℕ, List, length, arith}
 use Rattle.roman_parts.proofs.TableLemmas.{laid_moves, laid_finals, laid_guarded_rows}
 use Rattle.roman_parts.proofs.automaton.Automaton.from_lists.Goals as goal
 

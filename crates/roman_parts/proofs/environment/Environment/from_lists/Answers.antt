@@ -1,5 +1,4 @@
-use Rattle.std.proofs.Common.{◌≡◌, ◌*◌, ℕ, List, map, length, ap, sym, ◌∙◌, arith}
-use Rattle.roman_guard.specs.Meaning.{states_of}
+use Rattle.std.proofs.Common.{◌≡◌, ◌*◌, ℕ, List, length, arith}
 use Rattle.roman_parts.specs.Cells.{HasCells, leads, leads_back}
 use Rattle.roman_parts.proofs.TableLemmas.{laid_triples, laid_rows}
 use Rattle.roman_parts.proofs.environment.Environment.from_lists.Goals as goal

@@ -1,4 +1,4 @@
-use Rattle.std.proofs.Common.{◌≡◌, ◌+◌, ◌*◌, ◌<◌, ◌≤◌, ◌++◌, ◌∷◌, [], get_or, take, map, ap, sym, length, ◌∙◌, arith, length-append}
+use Rattle.std.proofs.Common.{get_or, take, map, ap, length, arith, length-append}
 use Rattle.std.proofs.lemmas.List.{map_more}
 use Rattle.roman_guard.specs.Meaning.{states_of}
 use Rattle.roman_parts.proofs.SetLemmas.{length-states_of}
