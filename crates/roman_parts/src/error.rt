@@ -58,7 +58,7 @@ pub enum PartError {
         /// The number of the item, from 0; 0 for a member that is no list.
         index: u32,
     },
-    /// There is no memory for the part.
+    /// There is no memory for the part, or it has 2^32 final states or more.
     #[error("there is no memory")]
     Memory,
 }

@@ -12,7 +12,7 @@ use serde_json::Value;
 use std::alloc::Global;
 
 #[tactic(auto, using(roman_read::proofs::Each::pushes), unfolding(crate::specs::Lists::finals_of))]
-/// The final states, in the order in which they stand. There is no memory for 2^32 of them.
+/// The final states, in the order in which they stand. 2^32 of them or more are too many for memory.
 pub(crate) fn read_finals(
     alloc: Global,
     states: &NameTable,

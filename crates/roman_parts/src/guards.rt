@@ -30,6 +30,7 @@ pub(crate) fn read_states(
     Ok(compile(&guard, states.len() as u8))
 }
 
+// The guard that a value is.
 #[cycle(formula)]
 #[tactic(auto, using(crate::proofs::GuardLemmas::guards))]
 fn read_guard(alloc: Global, states: &NameTable, v: &Value, index: u32) -> Result<Guard, PartError>
