@@ -1,0 +1,4 @@
+pub mod FaultLemmas
+pub mod ShelfLemmas
+pub mod SinkLemmas
+pub mod SourceLemmas

@@ -1,0 +1,33 @@
+-- What several fetches of one text read together.
+use Rattle.std.proofs.Common.{◌≡◌, ℕ, ◌+◌, ◌-◌, ◌^◌, ◌<◌, List, ◌++◌, length, take, drop, min, subst, Option, None, Some, IfSome, refl, sym, ap, ◌∙◌, arith}
+use Rattle.std.proofs.lemmas.List.{take-append-drop, append-nil, length-drop, drop-drop}
+use Rattle.roman_io.specs.Shelf.{Texts, Fetches, text_of, rest_from}
+use Rattle.roman_io.specs.Source.{Gave}
+use Rattle.std.proofs.Math.Seq.{take-add}
+
+-- a prefix of a text, and what a fetch read from its end on, are a longer prefix
+pub Fetches-more : (text : List ℕ) (at : ℕ) (into : List ℕ) (n : ℕ) → Fetches text at into n → take at text ++ take n into ≡ take (at + n) text
+Fetches-more text at into n f = ap (λ (xs : List ℕ). take at text ++ xs) f.bytes ∙ sym (take-add at n text)
+
+-- a fetch that had room and read nothing stands at the text's end
+pub Fetches-end : (text : List ℕ) (at : ℕ) (into : List ℕ) → 0 < length into → Fetches text at into 0 → take at text ≡ text
+Fetches-end text at into room f =
+    sym (append-nil (take at text)) ∙ (ap (λ (xs : List ℕ). take at text ++ xs) (sym ((f.ends room).0 refl)) ∙ take-append-drop at text)
+
+-- the place after a fetch of n bytes is no greater than a u64
+next_fits : (text : List ℕ) (at : ℕ) (into : List ℕ) (n : ℕ) → at < 2 ^ 64 → Fetches text at into n → min (at + n) (2 ^ 64 - 1) ≡ at + n
+next_fits text at into n small f = omega (arith, length-drop at text, f.short, f.within)
+
+-- a text from `at` on is what a fetch read there, and the text from its end on
+Fetches-split : (text : List ℕ) (at : ℕ) (into : List ℕ) (n : ℕ) → Fetches text at into n → drop at text ≡ take n into ++ drop (at + n) text
+Fetches-split text at into n f =
+    sym (take-append-drop n (drop at text)) ∙ (ap (λ (xs : List ℕ). xs ++ drop n (drop at text)) (sym f.bytes) ∙ ap (λ (xs : List ℕ). take n into ++ xs) (drop-drop n at text))
+
+-- a fetch of a text whose first bytes were given before gives the next
+pub Gave-from_Fetches : (old new : Option Texts) (name : List ℕ) (at : ℕ) (into : List ℕ) (n next : ℕ) → new ≡ old → at < 2 ^ 64 → next ≡ min (at + n) (2 ^ 64 - 1) → IfSome old (λ ts. Fetches (text_of ts name) at into n) → Gave (rest_from old name at) (rest_from new name next) (take n into)
+Gave-from_Fetches None new name at into n next same small place f = subst (λ (told : Option Texts). Gave None (rest_from told name next) (take n into)) (sym same) tt
+Gave-from_Fetches (Some ts) new name at into n next same small place f =
+    let text = text_of ts name in
+    let stands : next ≡ at + n = place ∙ next_fits text at into n small f in
+    subst (λ (told : Option Texts). Gave (Some (drop at text)) (rest_from told name next) (take n into)) (sym same)
+    (Fetches-split text at into n f ∙ ap (λ (k : ℕ). take n into ++ drop k text) (sym stands))

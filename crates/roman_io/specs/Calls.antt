@@ -1,0 +1,30 @@
+-- The calls of an object in memory.
+use Rattle.std.specs.Prelude.{ℕ, Bool, List, ◌==◌}
+use Rattle.std.specs.List.{list_any}
+use Rattle.roman_io.specs.Faults.{one_more}
+
+-- the numbers of the calls that fail, the number of the next call, and how many calls failed
+pub record Calls : Type 0 where
+  pub failing : List ℕ
+  pub next : ℕ
+  pub faults : ℕ
+
+-- before the first call
+abbrev pub no_calls : List ℕ → Calls
+no_calls failing = record { failing = failing; next = 0; faults = 0 }
+
+-- the next call is one of those that fail
+abbrev pub is_failing : Calls → Bool
+is_failing calls = list_any (λ call. call == calls.next) calls.failing
+
+-- after a call
+abbrev pub after_call : Calls → Calls
+after_call calls = record { failing = calls.failing; next = one_more calls.next; faults = calls.faults }
+
+-- after a fault
+abbrev pub after_fault : Calls → Calls
+after_fault calls = record { failing = calls.failing; next = calls.next; faults = one_more calls.faults }
+
+-- after a call that failed
+abbrev pub after_failed : Calls → Calls
+after_failed calls = after_fault (after_call calls)

@@ -1,0 +1,28 @@
+-- What a shelf holds: texts by name.
+use Rattle.std.specs.Prelude.{◌≡◌, ℕ, ◌^◌, ◌<◌, ◌≤◌, ◌↔◌, List, [], ◌∷◌, length, take, drop, Option, None, Some, unwrap_or, if◌then◌else◌}
+use Rattle.std.specs.Str.{bytes_eq}
+
+-- names with their texts
+abbrev pub Texts : Type 0
+Texts = List (List ℕ × List ℕ)
+
+-- the text of a name, if there is one: of two, the first
+abbrev pub text_at : Texts → List ℕ → Option (List ℕ)
+text_at [] name = None
+text_at (t ∷ ts) name = if bytes_eq t.0 name then Some t.1 else text_at ts name
+
+-- the text of a name: empty where there is none
+abbrev pub text_of : Texts → List ℕ → List ℕ
+text_of ts name = unwrap_or (text_at ts name) []
+
+-- the first n bytes of `into` are those of the text from `at` on, and n is 0 exactly at or past its end
+pub record Fetches (text : List ℕ) (at : ℕ) (into : List ℕ) (n : ℕ) : Type 0 where
+  pub short : length text < 2 ^ 63
+  pub within : n ≤ length (drop at text)
+  pub bytes : take n into ≡ take n (drop at text)
+  pub ends : 0 < length into → ((n ≡ 0) ↔ (drop at text ≡ []))
+
+-- what is left of a text from `at` on, where the shelf tells it
+abbrev pub rest_from : Option Texts → List ℕ → ℕ → Option (List ℕ)
+rest_from None name at = None
+rest_from (Some ts) name at = Some (drop at (text_of ts name))

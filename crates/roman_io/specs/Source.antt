@@ -1,0 +1,19 @@
+-- What a source still has to give, where it tells.
+use Rattle.std.specs.Prelude.{◌≡◌, ℕ, ◌↔◌, List, [], ◌++◌, take, Option, None, Some, Result, Ok, Err}
+
+-- the source gave these bytes: they were the first of its rest, and are gone from it
+abbrev pub Gave : Option (List ℕ) → Option (List ℕ) → List ℕ → Type 0
+Gave None None bytes = Unit {0}
+Gave None (Some new) bytes = ⊥
+Gave (Some old) None bytes = ⊥
+Gave (Some old) (Some new) bytes = old ≡ bytes ++ new
+
+-- a call that had room gave n bytes: none exactly at the end of the rest
+abbrev pub EndsAt : Option (List ℕ) → ℕ → Type 0
+EndsAt None n = Unit {0}
+EndsAt (Some rest) n = (n ≡ 0) ↔ (rest ≡ [])
+
+-- Ok(n) moved the first n bytes of the rest into the piece, and a fault moved none
+abbrev pub Takes : {E : Type 0} → Option (List ℕ) → Option (List ℕ) → List ℕ → Result ℕ E → Type 0
+Takes old new into (Ok n) = Gave old new (take n into)
+Takes old new into (Err e) = Gave old new []

@@ -1,0 +1,59 @@
+ghost use Rattle.std.specs.Prelude.{◌≡◌, ◌≤◌};
+ghost use Rattle.std.specs.Bool.{OnTrue, OnFalse};
+ghost use Rattle.roman_io.specs.Calls.{no_calls, is_failing, after_call, after_failed, after_fault};
+
+use crate::failed::Failed;
+use std::marker::Model;
+
+/// The calls of an object in memory: which of them fail, and how many did.
+#[derive(Drop)]
+pub struct Calls {
+    failing: Vec<u64>,
+    next: u64,
+    faults: u64,
+}
+
+impl Model for Calls {
+    ghost use Rattle.roman_io.specs.Calls.{Calls as CallsState};
+
+    ghost Value = { CallsState };
+
+    ghost view = { λ c. record { failing = c.failing.items; next = c.next; faults = c.faults } };
+}
+
+impl Calls {
+    /// No call yet. The calls whose numbers, from 0, stand in `failing` are to fail.
+    pub fn new(failing: Vec<u64>) -> Calls
+        ensures { result ≡ no_calls failing.items }
+    {
+        Calls {
+            failing,
+            next: 0,
+            faults: 0,
+        }
+    }
+
+    /// Begins a call, and answers whether it is to fail. It then counts as a fault.
+    pub fn begin(&mut self) -> bool
+        ensures failing { result ≡ is_failing self.old }
+        ensures goes_on { OnFalse result (self.new ≡ after_call self.old) }
+        ensures fails { OnTrue result (self.new ≡ after_failed self.old) }
+        ensures later { self.old.faults ≤ self.new.faults }
+    {
+        let fails = self.failing.contains(&self.next);
+        self.next = self.next.saturating_add(1);
+        if fails {
+            self.faults = self.faults.saturating_add(1);
+        }
+        fails
+    }
+
+    /// Counts a fault of the call that was begun last.
+    pub fn fail(&mut self) -> Failed
+        ensures fault { self.new ≡ after_fault self.old }
+        ensures later { self.old.faults ≤ self.new.faults }
+    {
+        self.faults = self.faults.saturating_add(1);
+        Failed
+    }
+}

@@ -1,0 +1,48 @@
+ghost use Rattle.std.specs.Prelude.{◌≡◌, ℕ, ◌<◌, ◌≤◌, length, replicate, None, Ok, IfOk};
+ghost use Rattle.roman_io.specs.Faults.{HasCause};
+ghost use Rattle.roman_io.specs.Source.{EndsAt, Takes};
+
+use crate::failed::Failed;
+use crate::source::Source;
+use std::marker::Model;
+
+/// A source without an end that gives one byte again and again, and tells nothing.
+#[derive(Drop)]
+pub struct EndlessSource {
+    byte: u8,
+}
+
+impl Model for EndlessSource {
+    ghost Value = { ℕ };
+
+    ghost view = { λ s. s.byte };
+}
+
+impl EndlessSource {
+    /// A source of this byte.
+    pub fn new(byte: u8) -> EndlessSource
+        ensures { result ≡ byte }
+    {
+        EndlessSource { byte }
+    }
+}
+
+impl Source for EndlessSource {
+    ghost rest = { λ _. None };
+
+    ghost faults = { λ _. 0 };
+
+    fn take(&mut self, into: &mut [u8]) -> Result<usize, Failed>
+        ensures bound { IfOk result (λ n. n ≤ length into.new) }
+        ensures moves { Takes None None into.new result }
+        ensures ends { IfOk result (λ n. 0 < length into.new → EndsAt None n) }
+        ensures cause { HasCause 0 0 result }
+        ensures fills { into.new ≡ replicate (length into.old) self.old }
+        ensures count { result ≡ Ok (length into.old) }
+        ensures same { self.new ≡ self.old }
+    {
+        let byte = self.byte;
+        into.fill(byte);
+        Ok(into.len())
+    }
+}

@@ -1,0 +1,14 @@
+use std::error::Error;
+use std::fmt;
+
+/// An object of the outside failed, and its count of faults rose.
+#[derive(Clone, Copy, Debug, PartialEq, Eq)]
+pub struct Failed;
+
+impl fmt::Display for Failed {
+    fn fmt<W: fmt::Write>(&self, f: &mut fmt::Formatter<W>) -> fmt::Result {
+        f.write_str("an object of the outside failed")
+    }
+}
+
+impl Error for Failed {}

@@ -1,0 +1,71 @@
+ghost use Rattle.std.specs.Prelude.{◌≡◌, ◌/◌, ◌++◌, ◌⊎◌, [], length, take, not, Some, true, false, OnOk, OnErr};
+ghost use Rattle.roman_io.specs.Calls.{no_calls, is_failing, after_call, after_failed};
+ghost use Rattle.roman_io.specs.Faults.{HasCause};
+ghost use Rattle.roman_io.specs.Memory.{SinkState};
+ghost use Rattle.roman_io.specs.Sink.{Puts};
+
+use crate::calls::Calls;
+use crate::copying::append_half;
+use crate::failed::Failed;
+use crate::sink::Sink;
+use std::alloc::Global;
+use std::marker::Model;
+
+/// A sink in memory, some of whose calls fail.
+#[derive(Drop)]
+pub struct MemSink {
+    written: Vec<u8>,
+    calls: Calls,
+}
+
+impl Model for MemSink {
+    ghost Value = { SinkState };
+
+    ghost view = { λ s. record { written = s.written.items; calls = s.calls } };
+}
+
+impl MemSink {
+    /// An empty sink, which takes no memory. The puts whose numbers, from 0, stand in `failing` are
+    /// to fail.
+    pub fn new(alloc: Global, failing: Vec<u64>) -> MemSink
+        ensures { result ≡ record { written = []; calls = no_calls failing.items } }
+    {
+        MemSink {
+            written: Vec::new(alloc),
+            calls: Calls::new(failing),
+        }
+    }
+
+    /// The bytes that were written.
+    pub fn bytes(&self) -> &[u8]
+        ensures { result.now ≡ self.now.written }
+    {
+        &self.written
+    }
+}
+
+impl Sink for MemSink {
+    ghost written = { λ s. Some s.written };
+
+    ghost faults = { λ s. s.calls.faults };
+
+    /// A call that is to fail appends the first half of its piece, rounded down. A growth that
+    /// memory refuses appends nothing, and is a fault.
+    fn put(&mut self, bytes: &[u8]) -> Result<(), Failed>
+        ensures puts { Puts (Some self.old.written) (Some self.new.written) bytes.now result }
+        ensures cause { HasCause self.old.calls.faults self.new.calls.faults result }
+        ensures fails { OnOk result (is_failing self.old.calls ≡ false) }
+        ensures half { OnErr result ((self.new.written ≡ self.old.written) ⊎ ((is_failing self.old.calls ≡ true) × (self.new.written ≡ self.old.written ++ take (length bytes.now / 2) bytes.now))) }
+        ensures ok { OnOk result (self.new.calls ≡ after_call self.old.calls) }
+        ensures err { OnErr result (self.new.calls ≡ after_failed self.old.calls) }
+    {
+        if self.calls.begin() {
+            append_half(&mut self.written, bytes);
+            return Err(Failed);
+        }
+        if self.written.extend_from_slice(bytes).is_err() {
+            return Err(self.calls.fail());
+        }
+        Ok(())
+    }
+}

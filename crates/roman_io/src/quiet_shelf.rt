@@ -1,0 +1,49 @@
+ghost use Rattle.std.specs.Prelude.{◌≡◌, ◌≤◌, min, length, drop, Some, IfOk, IfSome, IsOk};
+ghost use Rattle.roman_io.specs.Faults.{HasCause};
+ghost use Rattle.roman_io.specs.Memory.{texts_of};
+ghost use Rattle.roman_io.specs.Shelf.{Fetches, Texts, text_of};
+
+use crate::copying::{copy_from, find_text};
+use crate::failed::Failed;
+use crate::shelf::Shelf;
+use std::marker::Model;
+
+/// A shelf in memory that never fails.
+#[derive(Drop)]
+pub struct QuietShelf {
+    files: Vec<(String, Vec<u8>)>,
+}
+
+impl Model for QuietShelf {
+    ghost Value = { Texts };
+
+    ghost view = { λ s. texts_of s.files.items };
+}
+
+impl QuietShelf {
+    /// A shelf with these names and texts. A name that isn't there reads as an empty text, and of
+    /// two files with one name the first counts.
+    pub fn new(files: Vec<(String, Vec<u8>)>) -> QuietShelf
+        ensures { result ≡ texts_of files.items }
+    {
+        QuietShelf { files }
+    }
+}
+
+impl Shelf for QuietShelf {
+    ghost texts = { λ s. Some s };
+
+    ghost faults = { λ _. 0 };
+
+    fn fetch(&mut self, name: &str, at: u64, into: &mut [u8]) -> Result<usize, Failed>
+        ensures bound { IfOk result (λ n. n ≤ length into.new) }
+        ensures bytes { IfSome (Some self.old) (λ ts. IfOk result (Fetches (text_of ts name.now) at into.new)) }
+        ensures texts { Some self.new ≡ Some self.old }
+        ensures cause { HasCause 0 0 result }
+        ensures ok { IsOk result }
+        ensures count { IfOk result (λ n. n ≡ min (length (drop at (text_of self.old name.now))) (length into.new)) }
+    {
+        let text = find_text(&self.files, name).unwrap_or(&[]);
+        Ok(copy_from(text, at, into))
+    }
+}

@@ -1,0 +1,23 @@
+ghost use Rattle.std.specs.Prelude.{◌≡◌, ℕ, ◌≤◌, List, Option, length, IfOk, IfSome};
+ghost use Rattle.roman_io.specs.Faults.{HasCause};
+ghost use Rattle.roman_io.specs.Shelf.{Fetches, Texts, text_of};
+
+use crate::failed::Failed;
+
+/// Texts by name, each shorter than 2^63 bytes.
+pub trait Shelf {
+    /// The names with their texts, where they are told. Of two texts with one name the first counts.
+    ghost texts: { Self → Option Texts };
+
+    /// How often the shelf has failed, at most `u64::MAX`.
+    ghost faults: { Self → ℕ };
+
+    /// Copies bytes of the text `name`, from the byte numbered `at` on, to the front of `into`, and
+    /// answers how many. Into a place that isn't empty it copies none exactly at or past the text's
+    /// end. What stands in `into` past that number is left open.
+    fn fetch(&mut self, name: &str, at: u64, into: &mut [u8]) -> Result<usize, Failed>
+        ensures bound { IfOk result (λ n. n ≤ length into.new) }
+        ensures bytes { IfSome (texts self.old) (λ ts. IfOk result (Fetches (text_of ts name.now) at into.new)) }
+        ensures texts { texts self.new ≡ texts self.old }
+        ensures cause { HasCause (faults self.old) (faults self.new) result };
+}

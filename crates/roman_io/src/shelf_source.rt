@@ -1,0 +1,54 @@
+ghost use Rattle.std.specs.Prelude.{◌≡◌};
+ghost use Rattle.roman_io.specs.Shelf.{rest_from};
+
+use crate::failed::Failed;
+use crate::shelf::Shelf;
+use crate::source::Source;
+
+/// One text of a shelf, as a source. Its faults are the shelf's.
+pub struct ShelfSource<'a, F: Shelf> {
+    /// The shelf that it reads.
+    pub shelf: &'a mut F,
+    /// The text's name.
+    pub name: &'a str,
+    /// How many bytes of the text were taken.
+    pub at: u64,
+}
+
+impl<'a, F: Shelf> ShelfSource<'a, F> {
+    /// The whole text `name` of the shelf.
+    pub fn new(shelf: &'a mut F, name: &'a str) -> ShelfSource<'a, F>
+        ensures shelf { result.shelf.now ≡ shelf.old }
+        ensures same_reference { result.shelf.ghost_name ≡ shelf.entry.ghost_name }
+        ensures name { result.name.now ≡ name.now }
+        ensures at { result.at ≡ 0 }
+    {
+        ShelfSource { shelf, name, at: 0 }
+    }
+}
+
+impl<'a, F: Shelf> Drop for ShelfSource<'a, F> {
+    fn drop(self)
+        ensures { self.exit.0.now ≡ self.entry.shelf.now }
+    {
+        let ShelfSource {
+            shelf: _,
+            name: _,
+            at: _,
+        } = self;
+    }
+}
+
+impl<'a, F: Shelf> Source for ShelfSource<'a, F> {
+    ghost rest = { λ s. rest_from (F.texts s.shelf.now) s.name.now s.at };
+
+    ghost faults = { λ s. F.faults s.shelf.now };
+
+    ghost borrowed = { λ s. s.shelf.ghost_name };
+
+    fn take(&mut self, into: &mut [u8]) -> Result<usize, Failed> {
+        let count = self.shelf.fetch(self.name, self.at, into)?;
+        self.at = self.at.saturating_add(count as u64);
+        Ok(count)
+    }
+}

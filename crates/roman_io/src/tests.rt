@@ -1,0 +1,94 @@
+ghost use Rattle.std.specs.Prelude.{◌≡◌, ◌<◌};
+ghost use Rattle.roman_io.specs.Faults.{HasCause};
+
+use super::*;
+use std::alloc::{AllocError, Global};
+use std::marker::Brand;
+use std::sync::ledger::{Blank, Ledger};
+use std::test::Fail;
+
+/// Two texts under three names, one of which comes twice.
+fn files(alloc: Global) -> Result<Vec<(String, Vec<u8>)>, AllocError> {
+    let mut files = Vec::new(alloc);
+    for (name, text) in [("lamp", "on"), ("cell", "b0"), ("lamp", "off")] {
+        let name = String::from_str(alloc, name)?;
+        files.push((name, text.as_bytes().to_vec(alloc)?))?;
+    }
+    Ok(files)
+}
+
+/// One take from any source.
+fn take_once<S: Source>(source: &mut S, into: &mut [u8]) -> Result<usize, Failed>
+    ensures cause { HasCause (S.faults source.old) (S.faults source.new) result }
+    ensures borrowed { S.borrowed source.new ≡ S.borrowed source.old }
+{
+    source.take(into)
+}
+
+/// The first bytes of a text, by a source over the shelf, whose faults the caller still knows.
+fn read_front<F: Shelf>(shelf: &mut F, name: &str, into: &mut [u8]) -> Result<usize, Failed>
+    ensures cause { HasCause (F.faults shelf.old) (F.faults shelf.new) result }
+{
+    let mut source = ShelfSource::new(shelf, name);
+    take_once(&mut source, into)
+}
+
+fn count_two<L: Ledger>(blank: Blank)
+    requires name { blank.name ≡ L.name }
+    requires parts { blank.parts ≡ L.parts }
+    requires some { 0 < L.parts }
+{
+    let mut steps = Steps::<L>::new(blank);
+    steps.tick();
+    steps.tick();
+}
+
+#[test]
+fn readers(rt: HostRuntime) -> Result<(), Fail> {
+    let alloc = rt.alloc();
+    let mut into = [0; 3];
+    let mut shelf = MemShelf::new(files(alloc)?, [1].to_vec(alloc)?);
+    for (name, at, answer) in [
+        ("lamp", 0, Ok(2)),
+        ("lamp", 0, Err(Failed)),
+        ("lamp", 1, Ok(1)),
+        ("cell", 2, Ok(0)),
+        ("gone", 0, Err(Failed)),
+    ] {
+        assert_eq!(rt;
+            shelf.fetch(name, at, &mut into),
+            answer,
+            "{name} from {at}"
+        );
+    }
+    let mut quiet = QuietShelf::new(files(alloc)?);
+    assert_eq!(rt; quiet.fetch("gone", 0, &mut into), Ok(0));
+    assert_eq!(rt; read_front(&mut quiet, "cell", &mut into), Ok(2));
+    let mut source = MemSource::new(b"abc".to_vec(alloc)?, 2, [1].to_vec(alloc)?);
+    for answer in [Ok(2), Err(Failed), Ok(1), Ok(0)] {
+        assert_eq!(rt; source.take(&mut into), answer);
+    }
+    let mut source = QuietSource::new(b"abcd".to_vec(alloc)?);
+    assert_eq!(rt; source.take(&mut into), Ok(3));
+    assert_eq!(rt; EndlessSource::new(b'e').take(&mut into), Ok(3));
+    assert_eq!(rt; into, *b"eee");
+    Ok(())
+}
+
+#[test]
+fn writers(rt: HostRuntime) -> Result<(), Fail> {
+    let alloc = rt.alloc();
+    let mut sink = MemSink::new(alloc, [1].to_vec(alloc)?);
+    for (piece, answer) in [("ab", Ok(())), ("cde", Err(Failed)), ("f", Ok(()))] {
+        assert_eq!(rt; sink.put(piece.as_bytes()), answer, "{piece}");
+    }
+    assert_eq!(rt; sink.bytes(), b"abcf".as_slice());
+    assert_eq!(rt; Waste::new().put(b"ab"), Ok(()));
+    let mut words = Words::new(alloc);
+    words.push("synth")?;
+    words.push("lamp.json")?;
+    assert_eq!(rt; words.len(), 2);
+    assert_eq!(rt; words.at(1), "lamp.json");
+    count_two::<Brand>(Blank::new(1));
+    Ok(())
+}

@@ -1,0 +1,31 @@
+ghost use Rattle.std.specs.Prelude.{None, IsOk};
+ghost use Rattle.roman_io.specs.Faults.{HasCause};
+ghost use Rattle.roman_io.specs.Sink.{Puts};
+
+use crate::failed::Failed;
+use crate::sink::Sink;
+
+/// A sink that never fails, keeps nothing and tells nothing.
+#[derive(Drop)]
+pub struct Waste {}
+
+impl Waste {
+    /// A sink.
+    pub fn new() -> Waste {
+        Waste {}
+    }
+}
+
+impl Sink for Waste {
+    ghost written = { λ _. None };
+
+    ghost faults = { λ _. 0 };
+
+    fn put(&mut self, _bytes: &[u8]) -> Result<(), Failed>
+        ensures puts { Puts None None _bytes.now result }
+        ensures cause { HasCause 0 0 result }
+        ensures ok { IsOk result }
+    {
+        Ok(())
+    }
+}
