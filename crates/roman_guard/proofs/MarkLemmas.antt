@@ -1,0 +1,61 @@
+-- A word that is marked bit by bit, and the states that it stands for.
+use Rattle.std.proofs.Common.{◌≡◌, ℕ, ◌+◌, ◌-◌, ◌*◌, ◌%◌, ◌^◌, ◌<◌, ◌≤◌, ◌==◌, ◌↔◌, Bool, true, false, IsTrue, Contains, ap, sym, ◌∙◌, arith, inl, inr, w64, bit_or, below_more, true≢false}
+use Rattle.std.specs.Int.{bit_at}
+use Rattle.std.proofs.Math.Pow.{pow-lt}
+use Rattle.std.proofs.Math.Nat.{mod-le}
+use Rattle.std.proofs.lemmas.Bool.{cases_lt}
+use Rattle.std.proofs.lemmas.Nat.{or_lt}
+use Rattle.std.proofs.lemmas.Nat.Bits.{bit_at_above, bit_at_set_same, bit_at_set_other}
+use Rattle.roman_guard.specs.Meaning.{bit, Marks, has_state, states_below, states_of}
+use Rattle.roman_guard.proofs.StateLemmas.{states_below-same, states_below-past, in_states_below, states_below_are}
+
+-- a state that fails the test needs no bit
+pub marks_skip : (word n : ℕ) (test : ℕ → Bool) → Marks word n test → test n ≡ false → Marks word (n + 1) test
+marks_skip word n test m fails = record {
+  fits = let wider : 2 ^ n < 2 ^ (n + 1) = pow-lt (omega arith) in omega (arith, m.fits);
+  bits = below_more (λ e. bit_at word e ≡ bit (test e)) n m.bits (bit_at_above word n n m.fits (omega arith) ∙ sym (ap bit fails));
+}
+
+-- a state that passes gets its bit
+pub marks_one : (word n : ℕ) (test : ℕ → Bool) → n < 64 → Marks word n test → test n ≡ true → Marks (bit_or word (1 * 2 ^ n % 2 ^ 64)) (n + 1) test
+marks_one word n test within m passes = record {
+  fits =
+      let wider : 2 ^ n < 2 ^ (n + 1) = pow-lt (omega arith) in
+      let cut : 1 * 2 ^ n % 2 ^ 64 ≤ 1 * 2 ^ n = mod-le (1 * 2 ^ n) (2 ^ 64) in
+      or_lt (n + 1) word (1 * 2 ^ n % 2 ^ 64) (omega (arith, m.fits)) (omega arith);
+  bits = below_more (λ e. bit_at (bit_or word (1 * 2 ^ n % 2 ^ 64)) e ≡ bit (test e)) n
+      (λ e h. bit_at_set_other w64 word n within e (λ same. omega arith) ∙ m.bits e h)
+      (bit_at_set_same w64 word n within ∙ sym (ap bit passes));
+}
+
+is_bit : (b : Bool) (k : ℕ) → k ≡ bit b → (k == 1) ≡ b
+is_bit true k h = rw h
+is_bit false k h = rw h
+
+-- below n the word has what the test passes
+pub marked_has : (word n : ℕ) (test : ℕ → Bool) → Marks word n test → (e : ℕ) → e < n → has_state word e ≡ test e
+marked_has word n test m e h = is_bit (test e) (bit_at word e) (m.bits e h)
+
+-- from n on it has nothing
+pub marked_past : (word n : ℕ) (test : ℕ → Bool) → Marks word n test → (e : ℕ) → n ≤ e → has_state word e ≡ false
+marked_past word n test m e h = is_bit false (bit_at word e) (bit_at_above word n e m.fits h)
+
+-- the states of the word are those below n that pass
+pub marked_states : (word n : ℕ) (test : ℕ → Bool) → n ≤ 64 → Marks word n test → states_of word ≡ states_below test n
+marked_states word n test h m =
+    let whole : 64 ≡ n + (64 - n) = omega arith in
+    ap (states_below (has_state word)) whole
+    ∙ states_below-past (has_state word) n (64 - n) (marked_past word n test m)
+    ∙ states_below-same (has_state word) test n (marked_has word n test m)
+
+has_below : (word n : ℕ) (test : ℕ → Bool) → Marks word n test → (e : ℕ) → has_state word e ≡ true → Contains (states_below test n) e
+has_below word n test m e has =
+    elim (cases_lt e n) [
+      | inl below ↦ in_states_below test n e below (sym (marked_has word n test m e below) ∙ has)
+      | inr past ↦ absurd (true≢false (sym has ∙ marked_past word n test m e past))
+    ]
+
+-- the word has exactly the states below n that pass
+pub marked_has_exactly : (word n : ℕ) (test : ℕ → Bool) → Marks word n test → (e : ℕ) → IsTrue (has_state word e) ↔ Contains (states_below test n) e
+marked_has_exactly word n test m e =
+    (has_below word n test m e, λ c. let p = states_below_are test n e c in marked_has word n test m e p.0 ∙ p.1)

@@ -1,0 +1,6 @@
+-- The word has the bits of the states so far.
+use Rattle.roman_guard.specs.Meaning.{holds, Marks}
+use Rattle.roman_guard.proofs.set.compile.Given as goal
+
+abbrev pub invariant-loop-e : goal.invariant-loop-e
+invariant-loop-e l = Marks l.bits l.e (holds l.guard)

@@ -1,0 +1,61 @@
+-- What a guard means, and what a word of states holds.
+use Rattle.std.specs.Prelude.{◌≡◌, ℕ, ◌<◌, ◌^◌, ◌==◌, Bool, true, false, not, if◌then◌else◌, List, filter}
+use Rattle.std.specs.Int.{bit_at}
+use Rattle.std.specs.List.{list_all, list_any, range_with_len}
+use Rattle.roman_guard.specs.declared.formula.Guard.{Guard}
+use Rattle.roman_guard.specs.declared.formula.Guard.TheOpen.{Guard-F}
+use Rattle.roman_guard.specs.declared.formula.Guard.TheFolds.{fold-Guard}
+
+-- state e is one of the list
+abbrev pub is_among : List ℕ → ℕ → Bool
+is_among states e = list_any (λ s. s == e) states
+
+-- the states that a set lacks
+abbrev pub complement : (ℕ → Bool) → ℕ → Bool
+complement set e = not (set e)
+
+-- the states of every set
+abbrev pub intersection : List (ℕ → Bool) → ℕ → Bool
+intersection sets e = list_all (λ set. set e) sets
+
+-- the states of some set
+abbrev pub union : List (ℕ → Bool) → ℕ → Bool
+union sets e = list_any (λ set. set e) sets
+
+-- one level, where each guard inside is already the set that it means
+abbrev pub holds_step : Guard-F (ℕ → Bool) → ℕ → Bool
+holds_step Guard-F.All = λ _. true
+holds_step Guard-F.Never = λ _. false
+holds_step (Guard-F.Among states) = is_among states.items
+holds_step (Guard-F.Not set) = complement set.value
+holds_step (Guard-F.Both sets) = intersection sets.items
+holds_step (Guard-F.Either sets) = union sets.items
+
+-- the guard holds in state e
+abbrev pub holds : Guard → ℕ → Bool
+holds = fold-Guard (ℕ → Bool) holds_step
+
+-- the numbers below n that pass the test, in their order
+unfoldable pub states_below : (ℕ → Bool) → ℕ → List ℕ
+states_below test n = filter test (range_with_len 0 n)
+
+-- the states below n that the guard means
+abbrev pub means : Guard → ℕ → List ℕ
+means guard n = states_below (holds guard) n
+
+-- bit e of the word is 1
+abbrev pub has_state : ℕ → ℕ → Bool
+has_state word e = bit_at word e == 1
+
+-- the states of a word
+abbrev pub states_of : ℕ → List ℕ
+states_of word = states_below (has_state word) 64
+
+-- 1 for yes and 0 for no
+abbrev pub bit : Bool → ℕ
+bit b = if b then 1 else 0
+
+-- the word has a bit for each number below n that passes the test, and no other
+pub record Marks (word n : ℕ) (test : ℕ → Bool) : Type 0 where
+  pub fits : word < 2 ^ n
+  pub bits : (e : ℕ) → e < n → bit_at word e ≡ bit (test e)

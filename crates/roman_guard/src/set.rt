@@ -1,0 +1,56 @@
+//! Sets of environment states in one word.
+ghost use Rattle.std.specs.Prelude.{◌≡◌, ℕ, ◌<◌, ◌≤◌, ◌↔◌, IsTrue, Contains};
+ghost use Rattle.roman_guard.specs.Meaning.{holds, means, has_state, states_of, Marks};
+
+use crate::formula::{Guard, holds_at};
+use std::marker::Model;
+
+/// A set of environment states below 64. Contracts see the word whose bit `e` is 1 exactly where
+/// state `e` is in the set.
+#[derive(Clone, Copy, Debug, PartialEq, Eq)]
+pub struct StateSet {
+    bits: u64,
+}
+
+impl Model for StateSet {
+    ghost use Rattle.std.specs.Prelude.{ℕ};
+
+    ghost Value = { ℕ };
+
+    ghost view = { λ s. s.bits };
+
+    ghost inverse = { λ word. record { bits = word } };
+}
+
+impl StateSet {
+    /// Whether state `e` is in the set.
+    pub fn has(&self, e: u8) -> bool
+        requires { e < 64 }
+        ensures has { result ≡ has_state self.now e }
+    {
+        (self.bits >> e) & 1 == 1
+    }
+
+    /// The word.
+    pub fn bits(&self) -> u64
+        ensures bits { result ≡ self.now }
+    {
+        self.bits
+    }
+}
+
+/// The states below `states` in which the guard holds. It takes no memory.
+pub fn compile(guard: &Guard, states: u8) -> StateSet
+    requires { states ≤ 64 }
+    ensures has { (e : ℕ) → IsTrue (has_state result e) ↔ Contains (means guard.now states) e }
+    ensures states { states_of result ≡ means guard.now states }
+    ensures marks { Marks result states (holds guard.now) }
+{
+    let mut bits: u64 = 0;
+    for e in 0..states {
+        if holds_at(guard, e) {
+            bits |= 1 << e;
+        }
+    }
+    StateSet { bits }
+}

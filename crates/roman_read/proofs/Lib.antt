@@ -1,0 +1,4 @@
+mod NameLemmas
+mod JsonLemmas
+pub mod PlaceLemmas
+pub mod Each

@@ -1,0 +1,79 @@
+-- Where a name stands in a list of names.
+use Rattle.std.proofs.Common.{◌≡◌, ℕ, suc, ◌+◌, ◌<◌, ◌≤◌, List, [], ◌∷◌, length, Bool, true, false, not, cond, ◌&&◌, ◌||◌, Some, None, IsTrue, true≢false, refl, sym, subst, arith}
+use Rattle.std.specs.List.{list_all, list_any, position, position_or_len}
+use Rattle.std.specs.Str.{bytes_eq}
+use Rattle.std.proofs.lemmas.Bool.{le-ltb, lt-ltb}
+use Rattle.std.proofs.lemmas.Slice.Eq.{bytes_eq-Decides}
+use Rattle.roman_read.specs.Names.{is_name, place_of}
+
+-- ---- in any list
+
+length_step : (b c : Bool) (m n : ℕ) → (b || c) ≡ false → (c ≡ false → m ≡ n) → cond (not b) (1 + m) 0 ≡ suc n
+length_step true c m n h k = absurd (true≢false h)
+length_step false c m n h k = let e : m ≡ n = k h in omega arith
+
+-- where no element passes the test, the first that does is sought up to the end
+pub position_or_len-none : {X : Type 0} (p : X → Bool) (xs : List X) → list_any p xs ≡ false → position_or_len p xs ≡ length xs
+position_or_len-none p [] h = refl
+position_or_len-none p (x ∷ xs) h = length_step (p x) (list_any p xs) (position_or_len p xs) (length xs) h (position_or_len-none p xs)
+
+within_step : (b c : Bool) (m n : ℕ) → (b || c) ≡ true → (c ≡ true → m < n) → cond (not b) (1 + m) 0 < suc n
+within_step true c m n h k = omega arith
+within_step false c m n h k = let e : m < n = k h in omega arith
+
+-- where some element does, the first stands within the list
+pub position_or_len-some : {X : Type 0} (p : X → Bool) (xs : List X) → list_any p xs ≡ true → position_or_len p xs < length xs
+position_or_len-some p [] h = absurd (true≢false (sym h))
+position_or_len-some p (x ∷ xs) h = within_step (p x) (list_any p xs) (position_or_len p xs) (length xs) h (position_or_len-some p xs)
+
+pub position-none : {X : Type 0} (p : X → Bool) (xs : List X) → list_any p xs ≡ false → position p xs ≡ None
+position-none p xs h =
+    let end : length xs ≤ position_or_len p xs = let e = position_or_len-none p xs h in omega arith in
+    rw (le-ltb (position_or_len p xs) (length xs) end)
+
+pub position-some : {X : Type 0} (p : X → Bool) (xs : List X) → list_any p xs ≡ true → position p xs ≡ Some (position_or_len p xs)
+position-some p xs h = rw (lt-ltb (position_or_len p xs) (length xs) (position_or_len-some p xs h))
+
+-- ---- in a list of names
+
+-- a name that the list lacks has no place
+pub place_of-absent : (names : List (List ℕ)) (bytes : List ℕ) → list_any (bytes_eq bytes) names ≡ false → place_of names bytes ≡ None
+place_of-absent names bytes h = position-none (bytes_eq bytes) names h
+
+-- a name that the list has stands at its first place
+pub place_of-present : (names : List (List ℕ)) (bytes : List ℕ) → list_any (bytes_eq bytes) names ≡ true → place_of names bytes ≡ Some (position_or_len (bytes_eq bytes) names)
+place_of-present names bytes h = position-some (bytes_eq bytes) names h
+
+-- a name that the list lacks goes to the end
+pub place_is_length : (names : List (List ℕ)) (bytes : List ℕ) → list_any (bytes_eq bytes) names ≡ false → position_or_len (bytes_eq bytes) names ≡ length names
+place_is_length names bytes h = position_or_len-none (bytes_eq bytes) names h
+
+other_step : (q : List ℕ → Bool) (bytes name : List ℕ) (b c : Bool) → b ≡ bytes_eq bytes name → (q name && c) ≡ true → q bytes ≡ false → b ≡ false
+other_step q bytes name false c e h k = refl
+other_step q bytes name true c e h k =
+    let same : bytes ≡ name = (bytes_eq-Decides bytes name).0 (sym e) in
+    let P : List ℕ → Type 0 = λ n. (q n && c) ≡ true in
+    let there : (q bytes && c) ≡ true = subst P (sym same) h in
+    absurd (true≢false (sym (rw k at there)))
+
+rest_step : (a c : Bool) → (a && c) ≡ true → c ≡ true
+rest_step true c h = h
+rest_step false c h = absurd (true≢false (sym h))
+
+-- bytes that fail a test which all names of a list pass are none of the names
+pub list_any-failing : (q : List ℕ → Bool) (names : List (List ℕ)) (bytes : List ℕ) → list_all q names ≡ true → q bytes ≡ false → list_any (bytes_eq bytes) names ≡ false
+list_any-failing q [] bytes h k = refl
+list_any-failing q (name ∷ names) bytes h k =
+    rw (other_step q bytes name (bytes_eq bytes name) (list_all q names) refl h k)
+    (list_any-failing q names bytes (rest_step (q name) (list_all q names) h) k)
+
+no_name_step : (names : List (List ℕ)) (bytes : List ℕ) (b : Bool) → is_name bytes ≡ b → IsTrue (list_all is_name names) → (IsTrue (is_name bytes) → ⊥) → place_of names bytes ≡ None
+no_name_step names bytes true e h k = absurd (k e)
+no_name_step names bytes false e h k = place_of-absent names bytes (list_any-failing is_name names bytes h e)
+
+-- bytes that are no name have no place among names
+pub place_of-no_name : (names : List (List ℕ)) (bytes : List ℕ) → IsTrue (list_all is_name names) → (IsTrue (is_name bytes) → ⊥) → place_of names bytes ≡ None
+place_of-no_name names bytes h k = no_name_step names bytes (is_name bytes) refl h k
+
+-- what adding and finding names rest on
+pub ruleset places = (place_of-absent, place_of-present, place_is_length, place_of-no_name)

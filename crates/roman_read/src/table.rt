@@ -1,0 +1,119 @@
+//! Names by number.
+ghost use Rattle.std.specs.Prelude.{◌≡◌, ◌-◌, ◌^◌, ◌<◌, [], length, slice_get, Some, IfSome, IsTrue, ◌↔◌};
+ghost use Rattle.roman_read.specs.Names.{is_name, place_of};
+ghost use Rattle.roman_read.specs.Tables.{Adds, AreDistinct, add_error_number};
+
+use crate::name::Name;
+use indexmap::IndexSet;
+use std::alloc::Global;
+use std::marker::Model;
+use thiserror::Error;
+
+/// Names that are numbered from 0 in the order in which they were added, none of them twice.
+/// Contracts see the list of them.
+#[derive(Drop)]
+pub struct NameTable {
+    names: IndexSet<Name>,
+}
+
+impl Model for NameTable {
+    ghost use Rattle.std.specs.Prelude.{ℕ, List, length, ◌<◌, ◌^◌, IsTrue};
+    ghost use Rattle.std.specs.List.{list_all};
+    ghost use Rattle.roman_read.specs.Names.{is_name};
+
+    ghost Value = { List (List ℕ) };
+
+    ghost view = { λ t. t.names.keys };
+
+    ghost invariant = { λ t. (length t.names.keys < 2 ^ 32) × IsTrue (list_all is_name t.names.keys) };
+}
+
+/// Why a name isn't added.
+#[derive(Clone, Copy, Debug, PartialEq, Eq, Error)]
+pub enum AddError {
+    /// The table has the name, at this place.
+    #[error("the name stands at place {0} already")]
+    Repeated(u32),
+    /// There is no memory for it.
+    #[error("there is no memory")]
+    Memory,
+}
+
+impl AddError {
+    /// The error's number: 1 for `Repeated` and 2 for `Memory`.
+    pub fn number(&self) -> u8
+        ensures number { result ≡ add_error_number self.now }
+    {
+        match self {
+            AddError::Repeated(_) => 1,
+            AddError::Memory => 2,
+        }
+    }
+}
+
+impl NameTable {
+    /// A table with no names, which takes no memory.
+    pub fn new(alloc: Global) -> NameTable
+        ensures empty { result ≡ [] }
+    {
+        NameTable {
+            names: IndexSet::new(alloc),
+        }
+    }
+
+    /// The number of names.
+    pub fn len(&self) -> u32
+        ensures len { result ≡ length self.now }
+        ensures distinct { AreDistinct self.now }
+    {
+        let names = &self.names;
+        names.len() as u32
+    }
+
+    /// Whether there are no names.
+    pub fn is_empty(&self) -> bool
+        ensures empty { IsTrue result ↔ (self.now ≡ []) }
+    {
+        self.names.is_empty()
+    }
+
+    #[tactic(auto, using(crate::proofs::PlaceLemmas::places))]
+    /// Adds a name as the last one, and gives its place. Where the table has the name already it is
+    /// refused with its place, and at every refusal the table stays as it was.
+    pub fn add(&mut self, name: Name) -> Result<u32, AddError>
+        requires { length self.old < 2 ^ 32 - 1 }
+        ensures add { Adds self.old self.new name result }
+    {
+        let _bytes = name.bytes();
+        let names = &mut self.names;
+        let (place, added) = match names.insert_full(name) {
+            Ok(found) => found,
+            Err(_) => return Err(AddError::Memory),
+        };
+        let place = place as u32;
+        if !added {
+            return Err(AddError::Repeated(place));
+        }
+        Ok(place)
+    }
+
+    #[tactic(auto, using(crate::proofs::PlaceLemmas::places))]
+    /// The place of the name with these bytes; `None` where no name has them.
+    pub fn find(&self, bytes: &[u8]) -> Option<u32>
+        ensures place { result ≡ place_of self.now bytes.now }
+        ensures within { IfSome result (λ i. i < length self.now) }
+    {
+        let names = &self.names;
+        let name = Name::new(bytes)?;
+        let place = names.get_index_of(&name)?;
+        Some(place as u32)
+    }
+
+    /// The name at a place.
+    pub fn at(&self, i: u32) -> &Name
+        requires { i < length self.now }
+        ensures name { slice_get self.now i ≡ Some result.now }
+    {
+        &self.names.as_slice()[i as usize]
+    }
+}
