@@ -1,14 +1,14 @@
 -- The lines of a text that grows.
-use Rattle.std.proofs.Common.{◌≡◌, ℕ, zero, suc, ◌+◌, ◌-◌, ◌<◌, ◌≤◌, List, [], ◌∷◌, ◌++◌, length, take, min, flat_map, Bool, true, false, cond, refl, sym, ap, ◌∙◌, subst, append_assoc, length-append, add-one, arith}
+use Rattle.std.proofs.Common.{◌≡◌, ℕ, zero, suc, ◌+◌, ◌<◌, ◌≤◌, List, [], ◌∷◌, ◌++◌, length, take, min, flat_map, Bool, true, false, cond, refl, sym, ap, ◌∙◌, append_assoc, length-append, add-one, arith}
 use borrow.Author.Tests.{eqb-true, ne_eqb, ltb-true, ltb-false}
 use Rattle.std.proofs.Math.Dec.{ltb}
 use Rattle.std.proofs.Math.ListN.{set}
 use Rattle.std.proofs.Math.Seq.{take-suc-set}
 use Rattle.std.proofs.lemmas.List.{append-nil, take_all, take-append-le, length-take}
 use Rattle.std.proofs.lemmas.List.Elements.{All-cons, All-nil, All-push}
-use Rattle.std.proofs.lemmas.List.Splits.{slice_split-cons_yes, slice_split-cons_no, slice_split_none, slice_split_at}
+use Rattle.std.proofs.lemmas.List.Splits.{slice_split-cons_no, slice_split_none, slice_split_at}
 use Rattle.std.specs.List.{slice_split, onto_first, All}
-use Rattle.roman_text.specs.Lines.{is_newline, last_line, lines_of, all_but_last, last_part, whole_lines, unfinished, with_newline, HasNoNewline, IsSplit, kept}
+use Rattle.roman_text.specs.Lines.{is_newline, last_line, lines_of, all_but_last, last_part, whole_lines, unfinished, with_newline, HasNoNewline, IsSplit, HasTaken, kept}
 
 -- ---- parts
 
@@ -244,14 +244,25 @@ kept-empty (x ∷ xs) h = absurd (omega (arith, length-take 257 (x ∷ xs)))
 
 -- ---- a splitter that takes a stream
 
--- after a newline nothing is held of what is unfinished
-pub held_newline : (bytes : List ℕ) (byte : ℕ) → is_newline byte ≡ true → [] ≡ kept (unfinished (bytes ++ byte ∷ []))
-held_newline bytes byte e = sym (ap kept (unfinished-newline bytes byte e) ∙ kept-nil)
+-- before the first byte
+pub HasTaken-start : HasTaken [] [] []
+HasTaken-start = record { whole = sym whole_lines-nil; rest = sym (ap kept unfinished-nil ∙ kept-nil) }
 
--- after another byte what is unfinished is held
-pub held_other : (bytes held : List ℕ) (byte : ℕ) → is_newline byte ≡ false → held ≡ kept (unfinished bytes) → kept (held ++ byte ∷ []) ≡ kept (unfinished (bytes ++ byte ∷ []))
-held_other bytes held byte e h =
-    rw h (kept-push (unfinished bytes) byte ∙ sym (ap kept (unfinished-other bytes byte e)))
+-- a newline: what is held is the line that it ends, as much of it as is kept, and a cleared splitter holds nothing of the next
+pub HasTaken-newline : (bytes : List ℕ) (lines : List (List ℕ)) (held : List ℕ) (byte : ℕ) → is_newline byte ≡ true → HasTaken bytes lines held
+    → HasTaken (bytes ++ byte ∷ []) (lines ++ unfinished bytes ∷ []) []
+HasTaken-newline bytes lines held byte e t = record {
+  whole = ap (λ (front : List (List ℕ)). front ++ unfinished bytes ∷ []) t.whole ∙ sym (whole_lines-newline bytes byte e);
+  rest = sym (ap kept (unfinished-newline bytes byte e) ∙ kept-nil);
+}
+
+-- another byte: it is held behind what was
+pub HasTaken-other : (bytes : List ℕ) (lines : List (List ℕ)) (held : List ℕ) (byte : ℕ) → is_newline byte ≡ false → HasTaken bytes lines held
+    → HasTaken (bytes ++ byte ∷ []) lines (kept (held ++ byte ∷ []))
+HasTaken-other bytes lines held byte e t = record {
+  whole = t.whole ∙ sym (whole_lines-other bytes byte e);
+  rest = rw t.rest (kept-push (unfinished bytes) byte ∙ sym (ap kept (unfinished-other bytes byte e)));
+}
 
 -- ---- the room of a splitter
 

@@ -52,3 +52,8 @@ pub record IsSplit (bytes : List ℕ) (lines : List (List ℕ)) (rest : List ℕ
 -- as much of a line as tells its shape: one byte more than a line may have
 unfoldable pub kept : List ℕ → List ℕ
 kept line = take 257 line
+
+-- of the bytes of a stream so far these lines are whole, and this is held of the next
+pub record HasTaken (bytes : List ℕ) (lines : List (List ℕ)) (held : List ℕ) : Type 0 where
+  pub whole : lines ≡ whole_lines bytes
+  pub rest : held ≡ kept (unfinished bytes)

@@ -1,5 +1,5 @@
 -- The bytes of report lines.
-use Rattle.std.specs.Prelude.{ℕ, Bool, true, false, List, [], ◌∷◌, ◌++◌, codes, decimal, if◌then◌else◌}
+use Rattle.std.specs.Prelude.{ℕ, List, [], ◌++◌, codes, decimal, if◌then◌else◌}
 use Rattle.roman_text.specs.Lines.{with_newline}
 use Rattle.roman_text.specs.declared.report.ReportLine.{ReportLine}
 use Rattle.roman_text.specs.declared.report.ReportLine.TheVariants as line
