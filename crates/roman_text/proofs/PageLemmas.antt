@@ -40,3 +40,18 @@ Gathers-flushed old mid new held after more result wrote h =
 -- where putting what is held failed, a prefix of it and of what was to follow was written
 pub Gathers-failed : (old new : Option (List ℕ)) (held after more : List ℕ) → WroteFront old new held → after ≡ [] → WroteFront old new (held ++ more) × (after ≡ [])
 Gathers-failed old new held after more wrote empty = (WroteFront-append old new held more wrote, empty)
+
+-- ---- what callers of a page go by: what was gathered so far, one more text, a fault, and the end
+
+-- an empty page has gathered nothing
+pub Gathered-empty : (told : Option (List ℕ)) (held : List ℕ) → held ≡ [] → Gathered told told held []
+Gathered-empty told held empty = record { front = []; wrote = Wrote-nil told; rest = sym empty }
+
+-- one more text was taken
+pub Gathered-then : (old mid new : Option (List ℕ)) (held after text more : List ℕ) → Gathered old mid held text → Gathered mid new after (held ++ more) → Gathered old new after (text ++ more)
+Gathered-then old mid new held after text more g h = Gathers-after {E = ℕ} old mid new held after text more (Ok tt) g h
+
+-- a fault while one more text was taken: a prefix of all was written
+pub WroteFront-gathered : (old mid new : Option (List ℕ)) (held text more : List ℕ) → Gathered old mid held text → WroteFront mid new (held ++ more) → WroteFront old new (text ++ more)
+WroteFront-gathered old mid new held text more g h =
+    (Gathers-after {T = ℕ} old mid new held [] text more (Err 0) g (h, refl)).0
