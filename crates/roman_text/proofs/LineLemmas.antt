@@ -1,6 +1,6 @@
 -- The lines of a text that grows.
 use Rattle.std.proofs.Common.{◌≡◌, ℕ, zero, suc, ◌+◌, ◌<◌, ◌≤◌, List, [], ◌∷◌, ◌++◌, length, take, min, flat_map, Bool, true, false, cond, refl, sym, ap, ◌∙◌, append_assoc, length-append, add-one, arith}
-use borrow.Author.Tests.{eqb-true, ne_eqb, ltb-true, ltb-false}
+use borrow.Author.Tests.{eqb-true, ltb-true, ltb-false}
 use Rattle.std.proofs.Math.Dec.{ltb}
 use Rattle.std.proofs.Math.ListN.{set}
 use Rattle.std.proofs.Math.Seq.{take-suc-set}
@@ -267,22 +267,18 @@ HasTaken-other bytes lines held byte e t = record {
 -- ---- the room of a splitter
 
 -- a byte that has room is kept
-pub push_room : (bytes held : List ℕ) (len byte : ℕ) → take len bytes ≡ held → length bytes ≡ 257 → len < 257 → (byte ≡ 10 → ⊥)
-    → take (len + 1) (set bytes len byte) ≡ cond (is_newline byte) held (kept (held ++ byte ∷ []))
-push_room bytes held len byte same size room other =
-    let test : is_newline byte ≡ false = ne_eqb byte 10 other in
+pub push_room : (bytes held : List ℕ) (len byte : ℕ) → take len bytes ≡ held → length bytes ≡ 257 → len < 257 → take (len + 1) (set bytes len byte) ≡ kept (held ++ byte ∷ [])
+push_room bytes held len byte same size room =
     let in_bytes : len < length bytes = omega arith in
     let front : length (take len bytes) ≤ len = omega (arith, length-take len bytes) in
     let short : length (held ++ byte ∷ []) ≤ 257 = omega (arith, length-append held (byte ∷ []), ap length same) in
-    rw (test, add-one) (take-suc-set bytes len byte in_bytes ∙ (ap (λ (xs : List ℕ). xs ++ byte ∷ []) same ∙ sym (kept-short (held ++ byte ∷ []) short)))
+    rw add-one (take-suc-set bytes len byte in_bytes ∙ (ap (λ (xs : List ℕ). xs ++ byte ∷ []) same ∙ sym (kept-short (held ++ byte ∷ []) short)))
 
 -- a byte that has no room isn't
-pub push_full : (bytes held : List ℕ) (len byte : ℕ) → take len bytes ≡ held → length bytes ≡ 257 → len ≤ 257 → 257 ≤ len → (byte ≡ 10 → ⊥)
-    → held ≡ cond (is_newline byte) held (kept (held ++ byte ∷ []))
-push_full bytes held len byte same size low high other =
-    let test : is_newline byte ≡ false = ne_eqb byte 10 other in
+pub push_full : (bytes held : List ℕ) (len byte : ℕ) → take len bytes ≡ held → length bytes ≡ 257 → len ≤ 257 → 257 ≤ len → held ≡ kept (held ++ byte ∷ [])
+push_full bytes held len byte same size low high =
     let full : length held ≡ 257 = omega (arith, length-take len bytes, ap length same) in
-    rw test (sym (kept-full held byte full))
+    sym (kept-full held byte full)
 
 -- ---- the end of a stream
 

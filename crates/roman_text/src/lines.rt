@@ -1,6 +1,7 @@
 //! The lines of a stream of bytes.
-ghost use Rattle.std.specs.Prelude.{◌≡◌, ◌==◌, ◌++◌, ◌∷◌, [], length, nat_lt, if◌then◌else◌, List, ℕ};
-ghost use Rattle.roman_text.specs.Lines.{is_newline, kept, whole_lines, unfinished, IsSplit};
+ghost use Rattle.std.specs.Prelude.{◌≡◌, ◌++◌, ◌∷◌, [], length, nat_lt};
+ghost use Rattle.std.specs.Bool.{OnTrue, OnFalse};
+ghost use Rattle.roman_text.specs.Lines.{is_newline, kept};
 
 use roman_model::MAX_LINE_BYTES;
 use std::marker::Model;
@@ -41,7 +42,8 @@ impl Splitter {
     /// until [`Splitter::clear`], which is due before the next byte.
     pub fn push(&mut self, byte: u8) -> bool
         ensures ends { result ≡ is_newline byte }
-        ensures held { self.new ≡ (if is_newline byte then self.old else kept (self.old ++ byte ∷ [])) }
+        ensures whole { OnTrue result (self.new ≡ self.old) }
+        ensures goes_on { OnFalse result (self.new ≡ kept (self.old ++ byte ∷ [])) }
     {
         if byte == b'\n' {
             return true;
