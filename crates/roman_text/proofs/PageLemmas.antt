@@ -1,5 +1,5 @@
 -- What a page writes and holds, over several calls.
-use Rattle.std.proofs.Common.{◌≡◌, ℕ, List, [], ◌++◌, Option, Result, Ok, Err, refl, sym, ap, ◌∙◌, append_assoc}
+use Rattle.std.proofs.Common.{◌≡◌, ℕ, List, [], ◌++◌, Option, Result, Ok, Err, sym, ap, ◌∙◌, append_assoc}
 use Rattle.std.proofs.lemmas.List.{append-nil}
 use Rattle.roman_io.specs.Sink.{Wrote, WroteFront, Puts}
 use Rattle.roman_io.proofs.SinkLemmas.{Wrote-nil, Wrote-then, WroteFront-append, WroteFront-after, Puts-after}
