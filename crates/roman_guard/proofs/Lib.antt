@@ -1,3 +1,4 @@
 pub mod StateLemmas
 pub mod MarkLemmas
 pub mod HoldsLemmas
+pub mod CommonLemmas

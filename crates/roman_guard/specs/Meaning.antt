@@ -1,5 +1,5 @@
 -- What a guard means, and what a word of states holds.
-use Rattle.std.specs.Prelude.{◌≡◌, ℕ, ◌<◌, ◌^◌, ◌==◌, Bool, true, false, not, if◌then◌else◌, List, filter}
+use Rattle.std.specs.Prelude.{◌≡◌, ℕ, ◌<◌, ◌^◌, ◌==◌, ◌&&◌, Bool, true, false, not, if◌then◌else◌, List, filter, Option, find}
 use Rattle.std.specs.Int.{bit_at}
 use Rattle.std.specs.List.{list_all, list_any, range_with_len}
 use Rattle.roman_guard.specs.declared.formula.Guard.{Guard}
@@ -50,6 +50,14 @@ has_state word e = bit_at word e == 1
 -- the states of a word
 abbrev pub states_of : ℕ → List ℕ
 states_of word = states_below (has_state word) 64
+
+-- both words have state e
+abbrev pub has_both : ℕ → ℕ → ℕ → Bool
+has_both a b e = has_state a e && has_state b e
+
+-- the least number below n that passes the test
+unfoldable pub least_below : (ℕ → Bool) → ℕ → Option ℕ
+least_below test n = find test (range_with_len 0 n)
 
 -- 1 for yes and 0 for no
 abbrev pub bit : Bool → ℕ

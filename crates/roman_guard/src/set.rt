@@ -1,6 +1,6 @@
 //! Sets of environment states in one word.
-ghost use Rattle.std.specs.Prelude.{◌≡◌, ℕ, ◌<◌, ◌≤◌, ◌↔◌, IsTrue, Contains};
-ghost use Rattle.roman_guard.specs.Meaning.{holds, means, has_state, states_of, Marks};
+ghost use Rattle.std.specs.Prelude.{◌≡◌, ℕ, ◌<◌, ◌≤◌, ◌↔◌, IsTrue, Contains, IfSome};
+ghost use Rattle.roman_guard.specs.Meaning.{holds, means, has_state, states_of, Marks, has_both, least_below};
 
 use crate::formula::{Guard, holds_at};
 use std::marker::Model;
@@ -29,6 +29,19 @@ impl StateSet {
         ensures has { result ≡ has_state self.now e }
     {
         (self.bits >> e) & 1 == 1
+    }
+
+    #[tactic(auto, using(crate::proofs::CommonLemmas::commons))]
+    /// The least state that both sets have; `None` where they have none in common.
+    pub fn first_common(&self, other: &StateSet) -> Option<u8>
+        ensures least { result ≡ least_below (has_both self.now other.now) 64 }
+        ensures within { IfSome result (λ e. e < 64) }
+    {
+        let common = self.bits & other.bits;
+        if common == 0 {
+            return None;
+        }
+        Some(common.trailing_zeros() as u8)
     }
 
     /// The word.

@@ -6,7 +6,7 @@ use crate::failed::Failed;
 use crate::source::Source;
 use std::marker::Model;
 
-/// A source without an end that gives one byte again and again, and tells nothing.
+/// A source of one byte, again and again without an end. It fills every piece.
 #[derive(Drop)]
 pub struct EndlessSource {
     byte: u8,

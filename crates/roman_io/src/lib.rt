@@ -1,9 +1,9 @@
 //! The outside of the engine, as traits, with objects in memory that meet them.
 //!
-//! A [`Shelf`] has texts by name, a [`Source`] gives bytes, and a [`Sink`] takes them. Each has a
-//! count of faults that never falls, and answers [`Failed`] only in a call in which its count rose.
-//! What an object holds is told optionally: the objects in memory tell it, and clauses on content
-//! hold where it is told.
+//! A [`Shelf`] has texts by name, a [`Source`] gives bytes, and a [`Sink`] takes them. Each counts
+//! its faults, and its calls answer [`Failed`] exactly when they raise that count; a full counter
+//! stays full. Contracts may speak of an object's content only if its type tells it: those in
+//! memory do, and an adapter to a file or a terminal can't.
 #![tactic(auto)]
 
 mod calls;

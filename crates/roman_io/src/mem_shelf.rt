@@ -24,9 +24,9 @@ impl Model for MemShelf {
 }
 
 impl MemShelf {
-    /// A shelf with these names and texts. The fetches whose numbers, from 0, stand in `failing`
-    /// are to fail, and so is a fetch of a name that isn't there. Of two files with one name the
-    /// first counts.
+    /// A shelf with these names and texts, where the first file with a name hides later ones.
+    /// `failing` lists the fetches that are to fail, the first fetch being number 0. A fetch of a
+    /// name that no file has fails too.
     pub fn new(files: Vec<(String, Vec<u8>)>, failing: Vec<u64>) -> MemShelf
         ensures { result ≡ record { texts = texts_of files.items; calls = no_calls failing.items } }
     {

@@ -25,8 +25,8 @@ impl Model for MemSink {
 }
 
 impl MemSink {
-    /// An empty sink, which takes no memory. The puts whose numbers, from 0, stand in `failing` are
-    /// to fail.
+    /// An empty sink, which takes no memory. `failing` lists the puts that are to fail, the first put
+    /// being number 0.
     pub fn new(alloc: Global, failing: Vec<u64>) -> MemSink
         ensures { result ≡ record { written = []; calls = no_calls failing.items } }
     {
@@ -49,8 +49,8 @@ impl Sink for MemSink {
 
     ghost faults = { λ s. s.calls.faults };
 
-    /// A call that is to fail appends the first half of its piece, rounded down. A growth that
-    /// memory refuses appends nothing, and is a fault.
+    /// A call that is to fail still appends the first half of its piece, rounded down. Where there
+    /// is no memory to append to, the call is a fault and leaves the bytes as they were.
     fn put(&mut self, bytes: &[u8]) -> Result<(), Failed>
         ensures puts { Puts (Some self.old.written) (Some self.new.written) bytes.now result }
         ensures cause { HasCause self.old.calls.faults self.new.calls.faults result }

@@ -21,8 +21,8 @@ impl Model for QuietShelf {
 }
 
 impl QuietShelf {
-    /// A shelf with these names and texts. A name that isn't there reads as an empty text, and of
-    /// two files with one name the first counts.
+    /// A shelf with these names and texts, where the first file with a name hides later ones. The
+    /// text of any other name is empty.
     pub fn new(files: Vec<(String, Vec<u8>)>) -> QuietShelf
         ensures { result ≡ texts_of files.items }
     {

@@ -5,7 +5,7 @@ use crate::failed::Failed;
 use crate::shelf::Shelf;
 use crate::source::Source;
 
-/// One text of a shelf, as a source. Its faults are the shelf's.
+/// One text of a shelf, as a source. A fault of the source is one of the shelf.
 pub struct ShelfSource<'a, F: Shelf> {
     /// The shelf that it reads.
     pub shelf: &'a mut F,

@@ -5,7 +5,7 @@ ghost use Rattle.roman_io.specs.Sink.{Puts};
 use crate::failed::Failed;
 use crate::sink::Sink;
 
-/// A sink that never fails, keeps nothing and tells nothing.
+/// A sink that drops whatever is put into it, and never fails.
 #[derive(Drop)]
 pub struct Waste {}
 

@@ -1,8 +1,8 @@
 -- The laws over the definitions alone.
-use Rattle.std.specs.Prelude.{◌≡◌, ◌≢◌, ℕ, ◌<◌, ◌≤◌, List, [], length, IsTrue, IsFalse, ◌↔◌}
+use Rattle.std.specs.Prelude.{◌≢◌, ℕ, ◌<◌, ◌≤◌, List, [], length, IsTrue, IsFalse, ◌↔◌}
 use Rattle.roman_model.specs.Lists.{IsIn, IsSublist}
 use Rattle.roman_model.specs.System.{Sys, Pair, IsSys, IsPair, pairs, is_allowed, is_fine}
-use Rattle.roman_model.specs.Arena.{Arena, Entry, is_listed, mask, IsOrder, AreNew, replay, loses}
+use Rattle.roman_model.specs.Arena.{Entry, is_listed, mask, IsOrder, AreNew, replay, loses}
 use Rattle.roman_model.specs.Composition.{Couple, couple, Meets, IsNdSim, GreatCouple, Great, arena, AreEntries, IsComplete}
 use Rattle.roman_model.specs.Numbers.{sizes_of, count, numbered, IsCompleteList, NumbersArePairs}
 

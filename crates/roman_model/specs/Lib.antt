@@ -1,4 +1,5 @@
 pub mod Lists
+pub mod Lines
 pub mod Arena
 pub mod System
 pub mod Normal
@@ -7,4 +8,6 @@ pub mod Numbers
 pub mod Change
 pub mod Offers
 pub mod Play
+pub mod Certificate
+pub mod Explanation
 pub mod Laws

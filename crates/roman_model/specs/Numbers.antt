@@ -1,5 +1,6 @@
 -- The numbers of pairs, and the arena over them.
-use Rattle.std.specs.Prelude.{◌≡◌, ℕ, ◌<◌, ◌==◌, ◌+◌, ◌*◌, ◌/◌, ◌%◌, List, [], ◌∷◌, map, length, slice_get}
+use Rattle.std.specs.Prelude.{◌≡◌, ℕ, ◌<◌, ◌==◌, ◌+◌, ◌*◌, ◌/◌, ◌%◌, List, [], ◌∷◌, ◌++◌, map, length, slice_get}
+use Rattle.std.specs.List.{AllZip, remove}
 use Rattle.roman_model.specs.Lists.{below, product_of}
 use Rattle.roman_model.specs.Arena.{Arena, Entry}
 use Rattle.roman_model.specs.System.{Sys, Pair, IsPair, outcomes, is_allowed, is_fine, is_ready}
@@ -13,6 +14,20 @@ pub record Sizes : Type 0 where
 
 abbrev pub sizes_of : Sys → Sizes
 sizes_of s = record { target = s.target.states; env = s.env.states; seats = map (λ seat. seat.beh.states) s.seats }
+
+-- each number of the pair is below its size
+pub record IsPairOf (n : Sizes) (p : Pair) : Type 0 where
+  pub t : p.t < n.target
+  pub e : p.e < n.env
+  pub bs : AllZip (λ size b. b < size) n.seats p.bs
+
+-- the sizes with a seat of so many states that comes last
+abbrev pub grown_sizes : Sizes → ℕ → Sizes
+grown_sizes n size = record { target = n.target; env = n.env; seats = n.seats ++ size ∷ [] }
+
+-- the sizes without the k-th seat
+abbrev pub sizes_without : ℕ → Sizes → Sizes
+sizes_without k n = record { target = n.target; env = n.env; seats = remove n.seats k }
 
 -- how many pairs there are
 abbrev pub count : Sizes → ℕ

@@ -1,13 +1,13 @@
 -- The opponent's game: requests by a removal list, or by the depth.
-use Rattle.std.specs.Prelude.{ℕ, zero, suc, ◌<◌, ◌≤◌, Bool, not, List, [], ◌∷◌, length, Option, None, Some, IsTrue, IsFalse, if◌then◌else◌}
+use Rattle.std.specs.Prelude.{◌≡◌, ◌≢◌, ◌↔◌, ℕ, zero, suc, ◌<◌, ◌≤◌, Bool, not, List, [], ◌∷◌, length, Option, None, Some, IsTrue, IsFalse, if◌then◌else◌}
 use Rattle.std.specs.List.{list_any, find}
 use Rattle.std.specs.Option.{option_map}
-use Rattle.roman_model.specs.Lists.{below, is_empty}
+use Rattle.roman_model.specs.Lists.{IsIn, below, is_empty}
 use Rattle.roman_model.specs.Arena.{Entry, is_listed, is_justified, IsOrder, loses, depth}
 use Rattle.roman_model.specs.declared.reason.Reason.{Reason}
 use Rattle.roman_model.specs.declared.reason.Reason.TheVariants.{Final, Act}
-use Rattle.roman_model.specs.System.{Sys, Seat, Pair, IsSys, outcomes}
-use Rattle.roman_model.specs.Composition.{arena}
+use Rattle.roman_model.specs.System.{Sys, Seat, Pair, IsSys, IsPair, outcomes, is_allowed, is_fine}
+use Rattle.roman_model.specs.Composition.{Great, arena}
 
 -- the entries before that of p
 abbrev pub earlier : Sys → List (Entry Pair) → Pair → List (Entry Pair)
@@ -87,3 +87,26 @@ depth_play_at s (k ∷ ks) p (Some (suc d)) (Some a) =
 -- the play from p by the depth, against those seats in turn
 abbrev pub depth_play : Sys → Pair → List ℕ → Option ℕ
 depth_play s p ks = depth_play_at s ks p (depth (arena s) p) (request_at s p (depth (arena s) p))
+
+-- the opponent that plays by the depth wins within n requests, whoever serves
+pub record DepthPlayWins (s : Sys) (n : ℕ) (p : Pair) : Type 0 where
+  pub against_seats : (ks : List ℕ) → AreSeats s ks → n ≤ length ks → WinsWithin n (depth_play s p ks)
+  pub against_none : IsFalse (has_ready s.seats) → WinsWithin n (depth_play s p [])
+
+-- depth play wins
+abbrev pub DepthWins : Type 0
+DepthWins = (s : Sys) → IsSys s → (p : Pair) → IsPair s p → (n : ℕ) → depth (arena s) p ≡ Some n → DepthPlayWins s n p
+
+-- The depth is the least number of requests within which the pair is lost, and a related pair has none. A pair that
+-- isn't lost within n requests meets clause 2, and one that isn't lost within n + 1 has, for each allowed action, a
+-- seat that has an outcome and leads to no pair that is lost within n.
+pub record IsLeastDepth (s : Sys) (p : Pair) : Type 0 where
+  pub least : (n : ℕ) → (depth (arena s) p ≡ Some n) ↔ (IsTrue (loses (arena s) n p) × ((m : ℕ) → m < n → IsFalse (loses (arena s) m p)))
+  pub none : (depth (arena s) p ≡ None) ↔ Great s p
+  pub final : (n : ℕ) → IsFalse (loses (arena s) n p) → IsTrue (is_fine s p)
+  pub served : (n : ℕ) → IsFalse (loses (arena s) (suc n) p) → (a : ℕ) → IsTrue (is_allowed s p a) →
+      (k : ℕ) × (k < length s.seats) × (outcomes s p a k ≢ []) × ((q : Pair) → IsIn q (outcomes s p a k) → IsFalse (loses (arena s) n q))
+
+-- depth is least
+abbrev pub DepthIsLeast : Type 0
+DepthIsLeast = (s : Sys) → IsSys s → (p : Pair) → IsPair s p → IsLeastDepth s p

@@ -1,0 +1,306 @@
+-- Lemmas on any arena: which nodes are listed, beaten seats, reasons, masks, and what survives.
+use Rattle.std.proofs.Common.{◌≡◌, ◌≢◌, ℕ, ◌<◌, ◌≤◌, ◌==◌, Bool, true, false, cond, not, ◌&&◌, ◌||◌, ◌⊎◌, List, [], ◌∷◌, ◌++◌, map, IsTrue, IsFalse, filter, flat_map, inl, inr, refl, sym, ap, ◌∙◌, subst, arith}
+use Rattle.std.specs.List.{list_any}
+use Rattle.std.proofs.lemmas.Bool.{both_ways, or_cases, or_parts, or_left, or_right, or_from, and_parts, and_from, and_cases, and_left, not-true, not_from_false, eqb-true, eq-eqb, cond-true, cond-false}
+use Rattle.std.proofs.lemmas.List.Folds.{list_any-append}
+use Rattle.roman_model.specs.Lists.{IsIn, HasNoRepeats, below, all_below, is_empty}
+use Rattle.roman_model.specs.System.{has}
+use Rattle.roman_model.specs.Arena.{Arena, Entry, is_among, is_listed, is_beaten, is_justified, mask, Survives, Delegation, delegations, back}
+use Rattle.roman_model.specs.declared.reason.Reason.{Reason}
+use Rattle.roman_model.specs.declared.reason.Reason.TheVariants.{Final, Act}
+use Rattle.roman_model.proofs.Lists.{by_test, same_test, in_map, from_map, in_flat_map, from_flat_map, in_filter, filter_in, any_true, any_from, any_false, none_from, any_more, any_same, list_any-map, empty_is, not_empty_ne, ne_not_empty, in_below, from_below, all_below_at, all_below_from, all_below_false, all_below_more, all_below_same, filter_same, HasNoRepeats-map, HasNoRepeats-flat_map, HasNoRepeats-filter, HasNoRepeats-below}
+
+-- the arena's test of two nodes is equality
+pub record IsSame {N : Type 0} (A : Arena N) : Type 0 where
+  pub is : (p q : N) → IsTrue (A.same p q) → p ≡ q
+  pub itself : (p : N) → IsTrue (A.same p p)
+
+-- what the arena of a system keeps: each action that is allowed is one, each outcome is a node, and comes on an
+-- allowed action by a ready seat, and no node stands twice
+pub record IsArena {N : Type 0} (A : Arena N) : Type 0 where
+  pub same : IsSame A
+  pub allowed : (p : N) (a : ℕ) → IsTrue (A.allows p a) → a < A.actions
+  pub closed : (p : N) → IsIn p A.nodes → (a k : ℕ) (q : N) → IsIn q (A.outcomes p a k) → IsIn q A.nodes
+  pub served : (p : N) (a k : ℕ) (q : N) → IsIn q (A.outcomes p a k) → IsTrue (A.allows p a) × (k < A.seats) × IsTrue (A.ready k)
+  pub once : HasNoRepeats A.nodes
+
+-- Nodes that are listed.
+
+pub same_from : {N : Type 0} (A : Arena N) → IsSame A → (p q : N) → p ≡ q → IsTrue (A.same p q)
+same_from A E p q e = subst (λ r. IsTrue (A.same p r)) e (E.itself p)
+
+pub same_sym : {N : Type 0} (A : Arena N) → IsSame A → (p q : N) → A.same p q ≡ A.same q p
+same_sym A E p q = same_test (A.same p q) (A.same q p) (λ t. same_from A E q p (sym (E.is p q t))) (λ t. same_from A E p q (sym (E.is q p t)))
+
+pub among_in : {N : Type 0} (A : Arena N) → IsSame A → (ps : List N) (p : N) → IsTrue (is_among A ps p) → IsIn p ps
+among_in A E ps p h = let (q, i, t) = any_true (A.same p) ps h in subst (λ r. IsIn r ps) (sym (E.is p q t)) i
+
+pub in_among : {N : Type 0} (A : Arena N) → IsSame A → (ps : List N) (p : N) → IsIn p ps → IsTrue (is_among A ps p)
+in_among A E ps p i = any_from (A.same p) p ps i (E.itself p)
+
+pub listed_among : {N : Type 0} (A : Arena N) (L : List (Entry N)) (p : N) → is_listed A L p ≡ is_among A (map (λ x. x.node) L) p
+listed_among A L p = sym (list_any-map (λ x. x.node) (A.same p) L)
+
+pub listed_in : {N : Type 0} (A : Arena N) → IsSame A → (L : List (Entry N)) (p : N) → IsTrue (is_listed A L p) → (x : Entry N) × IsIn x L × (p ≡ x.node)
+listed_in A E L p h = let (x, i, t) = any_true (λ x. A.same p x.node) L h in (x, i, E.is p x.node t)
+
+pub in_listed : {N : Type 0} (A : Arena N) → IsSame A → (L : List (Entry N)) (x : Entry N) → IsIn x L → IsTrue (is_listed A L x.node)
+in_listed A E L x i = any_from (λ y. A.same x.node y.node) x L i (E.itself x.node)
+
+pub listed_append : {N : Type 0} (A : Arena N) (L M : List (Entry N)) (p : N) → is_listed A (L ++ M) p ≡ (is_listed A L p || is_listed A M p)
+listed_append A L M p = list_any-append (λ x. A.same p x.node) L M
+
+pub listed_push : {N : Type 0} (A : Arena N) (L : List (Entry N)) (x : Entry N) (p : N) → is_listed A (L ++ x ∷ []) p ≡ (is_listed A L p || A.same p x.node)
+listed_push A L x p = listed_append A L (x ∷ []) p ∙ ap (λ b. is_listed A L p || b) (or_nothing (A.same p x.node))
+  where
+    or_nothing : (b : Bool) → (b || false) ≡ b
+    or_nothing true = refl
+    or_nothing false = refl
+
+-- Beaten seats.
+
+-- where each outcome that is gone is gone in more
+pub beaten_more : {N : Type 0} (A : Arena N) (gone more : N → Bool) (p : N) (a k : ℕ) →
+    ((q : N) → IsIn q (A.outcomes p a k) → IsTrue (gone q) → IsTrue (more q)) → IsTrue (is_beaten A gone p a k) → IsTrue (is_beaten A more p a k)
+beaten_more A gone more p a k h b = elim (or_cases (is_empty (A.outcomes p a k)) (list_any gone (A.outcomes p a k)) b) [
+  | inl none ↦ or_left (is_empty (A.outcomes p a k)) (list_any more (A.outcomes p a k)) none
+  | inr some ↦ or_right (is_empty (A.outcomes p a k)) (list_any more (A.outcomes p a k)) (any_more gone more (A.outcomes p a k) h some)
+]
+
+pub beaten_same : {N : Type 0} (A : Arena N) (gone more : N → Bool) (p : N) (a k : ℕ) →
+    ((q : N) → IsIn q (A.outcomes p a k) → gone q ≡ more q) → is_beaten A gone p a k ≡ is_beaten A more p a k
+beaten_same A gone more p a k h = ap (λ b. is_empty (A.outcomes p a k) || b) (any_same gone more (A.outcomes p a k) h)
+
+pub beaten_is : {N : Type 0} (A : Arena N) (gone : N → Bool) (p : N) (a k : ℕ) → IsTrue (is_beaten A gone p a k) →
+    (A.outcomes p a k ≡ []) ⊎ ((q : N) × IsIn q (A.outcomes p a k) × IsTrue (gone q))
+beaten_is A gone p a k b = elim (or_cases (is_empty (A.outcomes p a k)) (list_any gone (A.outcomes p a k)) b)
+    [ inl none ↦ inl (empty_is (A.outcomes p a k) none) | inr some ↦ inr (any_true gone (A.outcomes p a k) some) ]
+
+pub beaten_none : {N : Type 0} (A : Arena N) (gone : N → Bool) (p : N) (a k : ℕ) → A.outcomes p a k ≡ [] → IsTrue (is_beaten A gone p a k)
+beaten_none A gone p a k e = or_left (is_empty (A.outcomes p a k)) (list_any gone (A.outcomes p a k)) (ap is_empty e)
+
+pub beaten_by : {N : Type 0} (A : Arena N) (gone : N → Bool) (p : N) (a k : ℕ) (q : N) → IsIn q (A.outcomes p a k) → IsTrue (gone q) → IsTrue (is_beaten A gone p a k)
+beaten_by A gone p a k q i g = or_right (is_empty (A.outcomes p a k)) (list_any gone (A.outcomes p a k)) (any_from gone q (A.outcomes p a k) i g)
+
+pub unbeaten_is : {N : Type 0} (A : Arena N) (gone : N → Bool) (p : N) (a k : ℕ) → IsFalse (is_beaten A gone p a k) →
+    (A.outcomes p a k ≢ []) × ((q : N) → IsIn q (A.outcomes p a k) → IsFalse (gone q))
+unbeaten_is A gone p a k b =
+    let (some, all) = or_parts (is_empty (A.outcomes p a k)) (list_any gone (A.outcomes p a k)) b in
+    (not_empty_ne (A.outcomes p a k) some, λ q i. any_false gone q (A.outcomes p a k) all i)
+
+pub unbeaten_from : {N : Type 0} (A : Arena N) (gone : N → Bool) (p : N) (a k : ℕ) → A.outcomes p a k ≢ [] →
+    ((q : N) → IsIn q (A.outcomes p a k) → IsFalse (gone q)) → IsFalse (is_beaten A gone p a k)
+unbeaten_from A gone p a k some all =
+    or_from (is_empty (A.outcomes p a k)) (list_any gone (A.outcomes p a k)) (ne_not_empty (A.outcomes p a k) some) (none_from gone (A.outcomes p a k) all)
+
+-- after one more entry a seat is beaten where it was, or where the entry's node is an outcome
+pub beaten_push : {N : Type 0} (A : Arena N) → IsSame A → (L : List (Entry N)) (x : Entry N) (p : N) (a k : ℕ) →
+    is_beaten A (is_listed A (L ++ x ∷ [])) p a k ≡ (is_beaten A (is_listed A L) p a k || is_among A (A.outcomes p a k) x.node)
+beaten_push A E L x p a k = same_test (is_beaten A (is_listed A (L ++ x ∷ [])) p a k) (is_beaten A (is_listed A L) p a k || is_among A (A.outcomes p a k) x.node)
+    (λ b. elim (beaten_is A (is_listed A (L ++ x ∷ [])) p a k b) [
+      | inl none ↦ or_left (is_beaten A (is_listed A L) p a k) (is_among A (A.outcomes p a k) x.node) (beaten_none A (is_listed A L) p a k none)
+      | inr some ↦
+          let (q, i, g) = some in
+          elim (or_cases (is_listed A L q) (A.same q x.node) (sym (listed_push A L x q) ∙ g)) [
+            | inl old ↦ or_left (is_beaten A (is_listed A L) p a k) (is_among A (A.outcomes p a k) x.node) (beaten_by A (is_listed A L) p a k q i old)
+            | inr new ↦ or_right (is_beaten A (is_listed A L) p a k) (is_among A (A.outcomes p a k) x.node)
+                (in_among A E (A.outcomes p a k) x.node (subst (λ r. IsIn r (A.outcomes p a k)) (E.is q x.node new) i))
+          ]
+    ])
+    (λ b. elim (or_cases (is_beaten A (is_listed A L) p a k) (is_among A (A.outcomes p a k) x.node) b) [
+      | inl old ↦ beaten_more A (is_listed A L) (is_listed A (L ++ x ∷ [])) p a k (λ q i t. listed_push A L x q ∙ or_left (is_listed A L q) (A.same q x.node) t) old
+      | inr new ↦ beaten_by A (is_listed A (L ++ x ∷ [])) p a k x.node (among_in A E (A.outcomes p a k) x.node new)
+          (listed_push A L x x.node ∙ or_right (is_listed A L x.node) (A.same x.node x.node) (E.itself x.node))
+    ])
+
+-- Reasons.
+
+-- a reason that holds goes on to hold where more is gone
+pub justified_more : {N : Type 0} (A : Arena N) (gone more : N → Bool) (p : N) (r : Reason) →
+    ((a k : ℕ) (q : N) → IsIn q (A.outcomes p a k) → IsTrue (gone q) → IsTrue (more q)) → IsTrue (is_justified A gone p r) → IsTrue (is_justified A more p r)
+justified_more A gone more p Final h j = j
+justified_more A gone more p (Act a) h j =
+    let (allowed, each) = and_parts (A.allows p a) (all_below (is_beaten A gone p a) A.seats) j in
+    and_from (A.allows p a) (all_below (is_beaten A more p a) A.seats) allowed
+    (all_below_more (is_beaten A gone p a) (is_beaten A more p a) A.seats (λ k l. beaten_more A gone more p a k (h a k)) each)
+
+pub justified_same : {N : Type 0} (A : Arena N) (gone more : N → Bool) (p : N) (r : Reason) →
+    ((a k : ℕ) (q : N) → IsIn q (A.outcomes p a k) → gone q ≡ more q) → is_justified A gone p r ≡ is_justified A more p r
+justified_same A gone more p Final h = refl
+justified_same A gone more p (Act a) h =
+    ap (λ b. A.allows p a && b) (all_below_same (is_beaten A gone p a) (is_beaten A more p a) A.seats (λ k l. beaten_same A gone more p a k (h a k)))
+
+pub justified_by : {N : Type 0} (A : Arena N) (gone : N → Bool) (p : N) (a : ℕ) → IsTrue (A.allows p a) →
+    ((k : ℕ) → k < A.seats → IsTrue (is_beaten A gone p a k)) → IsTrue (is_justified A gone p (Act a))
+justified_by A gone p a allowed each =
+    and_from (A.allows p a) (all_below (is_beaten A gone p a) A.seats) allowed (all_below_from (is_beaten A gone p a) A.seats each)
+
+pub justified_is : {N : Type 0} (A : Arena N) (gone : N → Bool) (p : N) (a : ℕ) → IsTrue (is_justified A gone p (Act a)) →
+    IsTrue (A.allows p a) × ((k : ℕ) → k < A.seats → IsTrue (is_beaten A gone p a k))
+justified_is A gone p a j =
+    let (allowed, each) = and_parts (A.allows p a) (all_below (is_beaten A gone p a) A.seats) j in
+    (allowed, λ k l. all_below_at (is_beaten A gone p a) A.seats k each l)
+
+pub unallowed_unjustified : {N : Type 0} (A : Arena N) (gone : N → Bool) (p : N) (a : ℕ) → IsFalse (A.allows p a) → IsFalse (is_justified A gone p (Act a))
+unallowed_unjustified A gone p a f = and_left (A.allows p a) (all_below (is_beaten A gone p a) A.seats) f
+
+-- where the reason doesn't hold for an allowed action, some seat is left
+pub unjustified_act : {N : Type 0} (A : Arena N) (gone : N → Bool) (p : N) (a : ℕ) → IsTrue (A.allows p a) → IsFalse (is_justified A gone p (Act a)) →
+    (k : ℕ) × (k < A.seats) × IsFalse (is_beaten A gone p a k)
+unjustified_act A gone p a allowed j = elim (and_cases (A.allows p a) (all_below (is_beaten A gone p a) A.seats) j)
+    [ inl fails ↦ absurd (both_ways (A.allows p a) fails allowed) | inr some ↦ all_below_false (is_beaten A gone p a) A.seats some ]
+
+-- Masks.
+
+pub in_mask : {N : Type 0} (A : Arena N) (gone : N → Bool) (p : N) (a k : ℕ) → IsTrue (A.allows p a) → k < A.seats → IsFalse (is_beaten A gone p a k) → IsIn k (mask A gone p a)
+in_mask A gone p a k allowed l b =
+    subst (λ ks. IsIn k ks) (sym (cond-true (A.allows p a) (filter (λ j. not (is_beaten A gone p a j)) (below A.seats)) [] allowed))
+    (in_filter (λ j. not (is_beaten A gone p a j)) k (below A.seats) (in_below A.seats k l) (not_from_false (is_beaten A gone p a k) b))
+
+pub from_mask : {N : Type 0} (A : Arena N) (gone : N → Bool) (p : N) (a k : ℕ) → IsIn k (mask A gone p a) →
+    IsTrue (A.allows p a) × (k < A.seats) × IsFalse (is_beaten A gone p a k)
+from_mask A gone p a k i = by_test (A.allows p a)
+    (λ t.
+    let (j, b) = filter_in (λ j. not (is_beaten A gone p a j)) k (below A.seats)
+    (subst (λ ks. IsIn k ks) (cond-true (A.allows p a) (filter (λ j. not (is_beaten A gone p a j)) (below A.seats)) [] t) i) in
+    (t, from_below A.seats k j, not-true (is_beaten A gone p a k) b))
+    (λ f. absurd (subst (λ ks. IsIn k ks) (cond-false (A.allows p a) (filter (λ j. not (is_beaten A gone p a j)) (below A.seats)) [] f) i))
+
+pub mask_same : {N : Type 0} (A : Arena N) (gone more : N → Bool) (p : N) (a : ℕ) →
+    ((k : ℕ) (q : N) → IsIn q (A.outcomes p a k) → gone q ≡ more q) → mask A gone p a ≡ mask A more p a
+mask_same A gone more p a h =
+    ap (λ ks. cond (A.allows p a) ks [])
+    (filter_same (λ k. not (is_beaten A gone p a k)) (λ k. not (is_beaten A more p a k)) (below A.seats) (λ k i. ap not (beaten_same A gone more p a k (h k))))
+
+-- where an action isn't allowed the mask is empty
+pub mask_none : {N : Type 0} (A : Arena N) (gone : N → Bool) (p : N) (a : ℕ) → IsFalse (A.allows p a) → mask A gone p a ≡ []
+mask_none A gone p a f = cond-false (A.allows p a) (filter (λ k. not (is_beaten A gone p a k)) (below A.seats)) [] f
+
+-- the seat stands in the mask, as a test: a mask's bit
+pub mask_has : {N : Type 0} (A : Arena N) (gone : N → Bool) (p : N) (a k : ℕ) → k < A.seats → has (mask A gone p a) k ≡ (A.allows p a && not (is_beaten A gone p a k))
+mask_has A gone p a k l = same_test (has (mask A gone p a) k) (A.allows p a && not (is_beaten A gone p a k))
+    (λ t.
+    let (j, i, e) = any_true (λ m. m == k) (mask A gone p a) t in
+    let (allowed, m, b) = from_mask A gone p a k (subst (λ m. IsIn m (mask A gone p a)) (eqb-true j k e) i) in
+    and_from (A.allows p a) (not (is_beaten A gone p a k)) allowed (not_from_false (is_beaten A gone p a k) b))
+    (λ t.
+    let (allowed, b) = and_parts (A.allows p a) (not (is_beaten A gone p a k)) t in
+    any_from (λ m. m == k) k (mask A gone p a) (in_mask A gone p a k allowed l (not-true (is_beaten A gone p a k) b)) (eq-eqb k k refl))
+
+pub mask_has_past : {N : Type 0} (A : Arena N) (gone : N → Bool) (p : N) (a k : ℕ) → A.seats ≤ k → IsFalse (has (mask A gone p a) k)
+mask_has_past A gone p a k l = none_from (λ m. m == k) (mask A gone p a)
+    (λ m i. by_test (m == k)
+    (λ t. let below_seats : m < A.seats = (from_mask A gone p a m i).1 in let same : m ≡ k = eqb-true m k t in let none : ⊥ = omega arith in absurd none)
+    (λ f. f))
+
+-- the mask is empty exactly where the action is a reason, or isn't allowed
+pub mask_empty : {N : Type 0} (A : Arena N) (gone : N → Bool) (p : N) (a : ℕ) → IsTrue (A.allows p a) → mask A gone p a ≡ [] → IsTrue (is_justified A gone p (Act a))
+mask_empty A gone p a allowed e = by_test (is_justified A gone p (Act a)) (λ t. t)
+    (λ f. let (k, l, b) = unjustified_act A gone p a allowed f in absurd (subst (λ ks. IsIn k ks) e (in_mask A gone p a k allowed l b)))
+
+pub mask_not_empty : {N : Type 0} (A : Arena N) (gone : N → Bool) (p : N) (a : ℕ) → mask A gone p a ≢ [] → IsFalse (is_justified A gone p (Act a))
+mask_not_empty A gone p a ne = by_test (is_justified A gone p (Act a))
+    (λ t. absurd (ne (nothing_in (mask A gone p a)
+    (λ k i. let (allowed, l, b) = from_mask A gone p a k i in both_ways (is_beaten A gone p a k) b ((justified_is A gone p a t).1 k l)))))
+    (λ f. f)
+  where
+    nothing_in : (ks : List ℕ) → ((k : ℕ) → IsIn k ks → ⊥) → ks ≡ []
+    nothing_in [] h = refl
+    nothing_in (k ∷ ks) h = absurd (h k (inl refl))
+
+-- What survives.
+
+pub survives_more : {N : Type 0} (A : Arena N) (Lives More : N → Type 0) (p : N) →
+    ((a k : ℕ) (q : N) → IsIn q (A.outcomes p a k) → Lives q → More q) → Survives A Lives p → Survives A More p
+survives_more A Lives More p h s = record {
+  final = s.final;
+  served = λ a allowed. let (k, l, some, all) = s.served a allowed in (k, l, some, λ q i. h a k q i (all q i));
+}
+
+-- no reason holds at a node that survives, where nothing that lives is gone
+pub unjustified : {N : Type 0} (A : Arena N) (Lives : N → Type 0) (gone : N → Bool) (p : N) (r : Reason) → Survives A Lives p →
+    ((q : N) → IsTrue (gone q) → Lives q → ⊥) → IsTrue (is_justified A gone p r) → ⊥
+unjustified A Lives gone p Final s dead j = both_ways (A.fine p) (not-true (A.fine p) j) s.final
+unjustified A Lives gone p (Act a) s dead j =
+    let (allowed, each) = justified_is A gone p a j in
+    let (k, l, some, all) = s.served a allowed in
+    elim (beaten_is A gone p a k (each k l)) [ inl none ↦ some none | inr found ↦ let (q, i, g) = found in dead q g (all q i) ]
+
+-- a node at which no reason holds survives among those that aren't gone
+pub survivor : {N : Type 0} (A : Arena N) (gone : N → Bool) (p : N) → IsTrue (A.fine p) →
+    ((a : ℕ) → IsTrue (A.allows p a) → IsFalse (is_justified A gone p (Act a))) → Survives A (λ q. IsFalse (gone q)) p
+survivor A gone p fine h = record {
+  final = fine;
+  served = λ a allowed.
+      let (k, l, b) = unjustified_act A gone p a allowed (h a allowed) in
+      let (some, all) = unbeaten_is A gone p a k b in
+      (k, l, some, all);
+}
+
+-- the same among the nodes
+pub survivor_within : {N : Type 0} (A : Arena N) → IsArena A → (gone : N → Bool) (p : N) → IsIn p A.nodes → IsTrue (A.fine p) →
+    ((a : ℕ) → IsTrue (A.allows p a) → IsFalse (is_justified A gone p (Act a))) → Survives A (λ q. IsIn q A.nodes × IsFalse (gone q)) p
+survivor_within A ok gone p i fine h =
+    survives_more A (λ q. IsFalse (gone q)) (λ q. IsIn q A.nodes × IsFalse (gone q)) p (λ a k q j f. (ok.closed p i a k q j, f)) (survivor A gone p fine h)
+
+-- Delegations.
+
+pub in_delegations : {N : Type 0} (A : Arena N) (p : N) (a k : ℕ) → IsIn p A.nodes → a < A.actions → k < A.seats →
+    IsIn (record { node = p; action = a; seat = k }) (delegations A)
+in_delegations A p a k i l m =
+    in_flat_map (λ p. flat_map (λ a. map (λ k. record { node = p; action = a; seat = k }) (below A.seats)) (below A.actions)) p
+    (record { node = p; action = a; seat = k }) A.nodes i
+    (in_flat_map (λ a. map (λ k. record { node = p; action = a; seat = k }) (below A.seats)) a (record { node = p; action = a; seat = k }) (below A.actions)
+    (in_below A.actions a l) (in_map (λ k. record { node = p; action = a; seat = k }) k (below A.seats) (in_below A.seats k m)))
+
+pub from_delegations : {N : Type 0} (A : Arena N) (d : Delegation N) → IsIn d (delegations A) → IsIn d.node A.nodes × (d.action < A.actions) × (d.seat < A.seats)
+from_delegations A d i =
+    let (p, j, l) = from_flat_map (λ p. flat_map (λ a. map (λ k. record { node = p; action = a; seat = k }) (below A.seats)) (below A.actions)) d A.nodes i in
+    let (a, m, n) = from_flat_map (λ a. map (λ k. record { node = p; action = a; seat = k }) (below A.seats)) d (below A.actions) l in
+    let (k, o, e) = from_map (λ k. record { node = p; action = a; seat = k }) d (below A.seats) n in (
+      subst (λ q. IsIn q A.nodes) (sym (ap (λ d. d.node) e)) j,
+      subst (λ b. b < A.actions) (sym (ap (λ d. d.action) e)) (from_below A.actions a m),
+      subst (λ j. j < A.seats) (sym (ap (λ d. d.seat) e)) (from_below A.seats k o),
+    )
+
+pub in_back : {N : Type 0} (A : Arena N) → IsArena A → (q p : N) (a k : ℕ) → IsIn p A.nodes → IsIn q (A.outcomes p a k) →
+    IsIn (record { node = p; action = a; seat = k }) (back A q)
+in_back A ok q p a k i j =
+    let (allowed, l, ready) = ok.served p a k q j in
+    in_filter (λ d. is_among A (A.outcomes d.node d.action d.seat) q) (record { node = p; action = a; seat = k }) (delegations A)
+    (in_delegations A p a k i (ok.allowed p a allowed) l) (in_among A ok.same (A.outcomes p a k) q j)
+
+pub from_back : {N : Type 0} (A : Arena N) → IsSame A → (q : N) (d : Delegation N) → IsIn d (back A q) →
+    IsIn d.node A.nodes × (d.action < A.actions) × (d.seat < A.seats) × IsIn q (A.outcomes d.node d.action d.seat)
+from_back A E q d i =
+    let (j, t) = filter_in (λ d. is_among A (A.outcomes d.node d.action d.seat) q) d (delegations A) i in
+    let (node, action, seat) = from_delegations A d j in
+    (node, action, seat, among_in A E (A.outcomes d.node d.action d.seat) q t)
+
+pub delegations_once : {N : Type 0} (A : Arena N) → HasNoRepeats A.nodes → HasNoRepeats (delegations A)
+delegations_once {N} A once =
+    HasNoRepeats-flat_map at_node A.nodes
+    (λ p i. HasNoRepeats-flat_map (at_action p) (below A.actions)
+    (λ a j. HasNoRepeats-map (λ k. record { node = p; action = a; seat = k }) (below A.seats) (λ k l m n e. ap (λ (d : Delegation N). d.seat) e) (HasNoRepeats-below A.seats))
+    (λ a b d j k l m. sym (action_of p a d l) ∙ action_of p b d m)
+    (HasNoRepeats-below A.actions))
+    (λ p q d i j k l. sym (node_of p d k) ∙ node_of q d l)
+    once
+  where
+    at_action : N → ℕ → List (Delegation N)
+    at_action p a = map (λ k. record { node = p; action = a; seat = k }) (below A.seats)
+
+    at_node : N → List (Delegation N)
+    at_node p = flat_map (at_action p) (below A.actions)
+
+    action_of : (p : N) (a : ℕ) (d : Delegation N) → IsIn d (at_action p a) → d.action ≡ a
+    action_of p a d i = let (k, j, e) = from_map (λ k. record { node = p; action = a; seat = k }) d (below A.seats) i in ap (λ d. d.action) e
+
+    node_of : (p : N) (d : Delegation N) → IsIn d (at_node p) → d.node ≡ p
+    node_of p d i =
+        let (a, j, l) = from_flat_map (at_action p) d (below A.actions) i in
+        let (k, m, e) = from_map (λ k. record { node = p; action = a; seat = k }) d (below A.seats) l in
+        ap (λ d. d.node) e
+
+pub back_once : {N : Type 0} (A : Arena N) (q : N) → HasNoRepeats A.nodes → HasNoRepeats (back A q)
+back_once A q once = HasNoRepeats-filter (λ d. is_among A (A.outcomes d.node d.action d.seat) q) (delegations A) (delegations_once A once)

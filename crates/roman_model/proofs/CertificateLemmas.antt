@@ -1,0 +1,287 @@
+-- Lines of certificates: what entry a line is, and where the first fault is.
+use Rattle.std.proofs.Common.{◌≡◌, ℕ, zero, suc, ◌+◌, ◌%◌, ◌^◌, ◌<◌, ◌≤◌, ◌==◌, false, ◌⊎◌, List, [], ◌∷◌, ◌++◌, map, length, take, Option, Some, None, IsFalse, option_map, slice_get, codes, decimal, refl, sym, ap, ap₂, ◌∙◌, subst, inl, inr, arith, length-append}
+use Rattle.std.specs.List.{cons_option}
+use Rattle.std.proofs.lemmas.Bool.{both_ways, or_parts, or_from, ne_eqb, eq-eqb, cases_lt}
+use Rattle.std.proofs.lemmas.List.{take-append-le, take_all, take_at}
+use Rattle.std.proofs.lemmas.List.Folds.{list_any-append}
+use Rattle.std.proofs.lemmas.List.Elements.{filter_map-append}
+use Rattle.std.proofs.lemmas.Fmt.{decimal_by_steps, decimal_injective, decimal_nonempty}
+use Rattle.roman_model.specs.Lists.{IsIn, below}
+use Rattle.roman_model.specs.System.{Sys, has, same_numbers}
+use Rattle.roman_model.specs.Arena.{Entry}
+use Rattle.roman_model.specs.Numbers.{sizes_of, count}
+use Rattle.roman_model.specs.Certificate.{head_line, count_line, reason_text, entry_line, end_line, Why, Verdict, Rejected, reasons, possible_entries, entry_of, entries_on, line_fault, faults}
+use Rattle.roman_model.specs.declared.reason.Reason.{Reason}
+use Rattle.roman_model.specs.declared.reason.Reason.TheVariants.{Final, Act}
+use Rattle.roman_model.proofs.Lists.{by_test, none_from, in_map, from_map, in_flat_map, from_flat_map, from_push, in_below, from_below, find_some, find_found, find_not_found, any_from}
+use Rattle.roman_model.proofs.SystemLemmas.{same_numbers_is, same_numbers_itself}
+use Rattle.roman_model.proofs.LineLemmas.{IsLine}
+
+-- Decimal numbers
+
+pub decimal_digits : (n : ℕ) → n < 2 ^ 64 → (b : ℕ) → IsIn b (decimal n) → (48 ≤ b) × (b ≤ 57)
+decimal_digits n h = decimal_by_steps (λ m ds. (b : ℕ) → IsIn b ds → (48 ≤ b) × (b ≤ 57)) one more n h
+  where
+    one : (m : ℕ) → m < 10 → (b : ℕ) → IsIn b ((48 + m) ∷ []) → (48 ≤ b) × (b ≤ 57)
+    one m l b (inl e) = (omega arith, omega arith)
+    one m l b (inr none) = absurd none
+
+    more : (m : ℕ) (ds : List ℕ) → 10 ≤ m → ((b : ℕ) → IsIn b ds → (48 ≤ b) × (b ≤ 57)) → (b : ℕ) → IsIn b (ds ++ ((48 + m % 10) ∷ [])) → (48 ≤ b) × (b ≤ 57)
+    more m ds l rest b i = elim (from_push b (48 + m % 10) ds i) [ inl j ↦ rest b j | inr e ↦ (omega arith, omega arith) ]
+
+-- a byte that is no digit isn't in it
+pub decimal_without : (n c : ℕ) → n < 2 ^ 64 → (c < 48) ⊎ (57 < c) → IsFalse (has (decimal n) c)
+decimal_without n c h other = none_from (λ m. m == c) (decimal n) (λ b i. ne_eqb b c (λ e. elim other [
+  | inl low ↦ (let digit = decimal_digits n h b i in let l : 48 ≤ b = digit.0 in omega arith)
+  | inr high ↦ (let digit = decimal_digits n h b i in let l : b ≤ 57 = digit.1 in omega arith)
+]))
+
+pub decimal_starts : (n : ℕ) → n < 2 ^ 64 → (b : ℕ) × (bs : List ℕ) × (decimal n ≡ b ∷ bs) × (b ≤ 57)
+decimal_starts n h = first (decimal n) (decimal_nonempty n h) (λ b i. (decimal_digits n h b i).1)
+  where
+    first : (ds : List ℕ) → 0 < length ds → ((b : ℕ) → IsIn b ds → b ≤ 57) → (b : ℕ) × (bs : List ℕ) × (ds ≡ b ∷ bs) × (b ≤ 57)
+    first [] l digits = absurd (omega arith)
+    first (d ∷ ds) l digits = (d, ds, refl, digits d (inl refl))
+
+-- Lines
+
+pub append_line : (xs ys : List ℕ) → IsLine xs → IsLine ys → IsLine (xs ++ ys)
+append_line xs ys h g = list_any-append (λ m. m == 10) xs ys ∙ or_from (has xs 10) (has ys 10) h g
+
+pub head_is_line : IsLine head_line
+head_is_line = refl
+
+pub end_is_line : IsLine end_line
+end_is_line = refl
+
+pub count_is_line : (s : Sys) → count (sizes_of s) < 2 ^ 64 → IsLine (count_line s)
+count_is_line s h = append_line (codes "pairs ") (decimal (count (sizes_of s))) refl (decimal_without (count (sizes_of s)) 10 h (inl (omega arith)))
+
+-- the reason's number is small enough for its decimal text
+abbrev pub IsSmallReason : Reason → Type 0
+IsSmallReason Final = Unit {0}
+IsSmallReason (Act a) = a < 2 ^ 64
+
+-- the entry's numbers are
+abbrev pub IsSmall : Entry ℕ → Type 0
+IsSmall x = (x.node < 2 ^ 64) × IsSmallReason x.reason
+
+pub reason_without : (r : Reason) (c : ℕ) → IsSmallReason r → (c < 48) ⊎ ((57 < c) × (c < 102)) → IsFalse (has (reason_text r) c)
+reason_without Final c h other = or_from (102 == c) false (ne_eqb 102 c (λ e. elim other [ inl low ↦ omega arith | inr high ↦ (let l : c < 102 = high.1 in omega arith) ])) refl
+reason_without (Act a) c h other = decimal_without a c h (elim other [ inl low ↦ inl low | inr high ↦ inr high.0 ])
+
+pub entry_is_line : (x : Entry ℕ) → IsSmall x → IsLine (entry_line x)
+entry_is_line x h =
+    append_line (decimal x.node) (32 ∷ reason_text x.reason) (decimal_without x.node 10 h.0 (inl (omega arith)))
+    (or_from (32 == 10) (has (reason_text x.reason) 10) refl (reason_without x.reason 10 h.1 (inl (omega arith))))
+
+-- two texts that are one at their first byte c are one before and behind it
+cut_at : (c : ℕ) (xs ys ts us : List ℕ) → IsFalse (has xs c) → IsFalse (has ys c) → xs ++ c ∷ ts ≡ ys ++ c ∷ us → (xs ≡ ys) × (ts ≡ us)
+cut_at c [] [] ts us h g e = (refl, cc)
+cut_at c [] (y ∷ ys) ts us h g e = let same : c ≡ y = cc in absurd (both_ways (y == c) (or_parts (y == c) (has ys c) g).0 (eq-eqb y c (sym same)))
+cut_at c (x ∷ xs) [] ts us h g e = let same : x ≡ c = cc in absurd (both_ways (x == c) (or_parts (x == c) (has xs c) h).0 (eq-eqb x c same))
+cut_at c (x ∷ xs) (y ∷ ys) ts us h g e =
+    let first : x ≡ y = cc in
+    let rest : xs ++ c ∷ ts ≡ ys ++ c ∷ us = cc in
+    let (front, back) = cut_at c xs ys ts us (or_parts (x == c) (has xs c) h).1 (or_parts (y == c) (has ys c) g).1 rest in
+    (ap₂ (λ z zs. z ∷ zs) first front, back)
+
+letter_is_no_number : (a : ℕ) → a < 2 ^ 64 → 102 ∷ [] ≡ decimal a → ⊥
+letter_is_no_number a h e =
+    let (b, bs, is, small) = decimal_starts a h in
+    let start : 102 ∷ [] ≡ b ∷ bs = e ∙ is in
+    let same : 102 ≡ b = cc in
+    omega arith
+
+reason_from_text : (q r : Reason) → IsSmallReason q → IsSmallReason r → reason_text q ≡ reason_text r → q ≡ r
+reason_from_text Final Final h g e = refl
+reason_from_text Final (Act b) h g e = absurd (letter_is_no_number b g e)
+reason_from_text (Act a) Final h g e = absurd (letter_is_no_number a h (sym e))
+reason_from_text (Act a) (Act b) h g e = ap Act (decimal_injective a b h g e)
+
+-- an entry is known by its text
+pub entry_from_text : (x y : Entry ℕ) → IsSmall x → IsSmall y → entry_line x ≡ entry_line y → x ≡ y
+entry_from_text x y h g e =
+    let (front, back) = cut_at 32 (decimal x.node) (decimal y.node) (reason_text x.reason) (reason_text y.reason)
+    (decimal_without x.node 32 h.0 (inl (omega arith))) (decimal_without y.node 32 g.0 (inl (omega arith))) e in
+    entry_path (decimal_injective x.node y.node h.0 g.0 front) (reason_from_text x.reason y.reason h.1 g.1 back)
+  where
+    entry_path : x.node ≡ y.node → x.reason ≡ y.reason → x ≡ y
+    entry_path m r = λ i. record { node = m i; reason = r i }
+
+-- an entry's text starts with a digit
+pub entry_starts : (x : Entry ℕ) → IsSmall x → (b : ℕ) (bs : List ℕ) → entry_line x ≡ b ∷ bs → b ≤ 57
+entry_starts x h b bs e =
+    let (c, cs, is, small) = decimal_starts x.node h.0 in
+    let start : c ∷ (cs ++ 32 ∷ reason_text x.reason) ≡ b ∷ bs = ap (λ ds. ds ++ 32 ∷ reason_text x.reason) (sym is) ∙ e in
+    let same : c ≡ b = cc in
+    omega arith
+
+pub entry_is_no_end : (x : Entry ℕ) → IsSmall x → IsFalse (same_numbers end_line (entry_line x))
+entry_is_no_end x h = by_test (same_numbers end_line (entry_line x))
+    (λ t. let l : 101 ≤ 57 = entry_starts x h 101 (110 ∷ 100 ∷ []) (sym (same_numbers_is end_line (entry_line x) t)) in absurd (omega arith))
+    (λ f. f)
+
+-- Entries that may stand in a certificate
+
+pub final_reason : (s : Sys) → IsIn Final (reasons s)
+final_reason s = inl refl
+
+pub act_reason : (s : Sys) (a : ℕ) → a < s.env.actions → IsIn (Act a) (reasons s)
+act_reason s a l = inr (in_map Act a (below s.env.actions) (in_below s.env.actions a l))
+
+pub reason_small : (s : Sys) (r : Reason) → s.env.actions ≤ 2 ^ 64 → IsIn r (reasons s) → IsSmallReason r
+reason_small s r h (inl e) = subst IsSmallReason (sym e) tt
+reason_small s r h (inr i) =
+    let (a, j, e) = from_map Act r (below s.env.actions) i in
+    let l : a < s.env.actions = from_below s.env.actions a j in
+    subst IsSmallReason (sym e) (small a l)
+  where
+    small : (a : ℕ) → a < s.env.actions → a < 2 ^ 64
+    small a l = omega arith
+
+pub in_possible : (s : Sys) (x : Entry ℕ) → x.node < count (sizes_of s) → IsIn x.reason (reasons s) → IsIn x (possible_entries s)
+in_possible s x l i =
+    in_flat_map (λ p. map (λ r. record { node = p; reason = r }) (reasons s)) x.node x (below (count (sizes_of s)))
+    (in_below (count (sizes_of s)) x.node l) (in_map (λ r. record { node = x.node; reason = r }) x.reason (reasons s) i)
+
+pub from_possible : (s : Sys) (x : Entry ℕ) → IsIn x (possible_entries s) → (x.node < count (sizes_of s)) × IsIn x.reason (reasons s)
+from_possible s x i =
+    let (p, j, k) = from_flat_map (λ p. map (λ r. record { node = p; reason = r }) (reasons s)) x (below (count (sizes_of s))) i in
+    let (r, l, e) = from_map (λ r. record { node = p; reason = r }) x (reasons s) k in
+    (subst (λ (y : Entry ℕ). y.node < count (sizes_of s)) (sym e) (from_below (count (sizes_of s)) p j), subst (λ (y : Entry ℕ). IsIn y.reason (reasons s)) (sym e) l)
+
+-- the numbers of a system are small
+pub record IsSmallSys (s : Sys) : Type 0 where
+  pub pairs : count (sizes_of s) ≤ 2 ^ 64
+  pub actions : s.env.actions ≤ 2 ^ 64
+
+pub possible_small : (s : Sys) (x : Entry ℕ) → IsSmallSys s → IsIn x (possible_entries s) → IsSmall x
+possible_small s x small i =
+    let (l, j) = from_possible s x i in
+    let pairs : count (sizes_of s) ≤ 2 ^ 64 = small.pairs in
+    let below_it : x.node < count (sizes_of s) = l in
+    (omega arith, reason_small s x.reason small.actions j)
+
+-- the line of an entry is read as that entry
+pub entry_of-line : (s : Sys) (x : Entry ℕ) → IsSmallSys s → IsIn x (possible_entries s) → entry_of s (entry_line x) ≡ Some x
+entry_of-line s x small i =
+    let (y, found) = find_found (λ y. same_numbers (entry_line y) (entry_line x)) (possible_entries s) (any_from (λ y. same_numbers (entry_line y) (entry_line x)) x (possible_entries s) i (same_numbers_itself (entry_line x))) in
+    let (j, same) = find_some (λ y. same_numbers (entry_line y) (entry_line x)) (possible_entries s) y found in
+    found ∙ ap Some (entry_from_text y x (possible_small s y small j) (possible_small s x small i) (same_numbers_is (entry_line y) (entry_line x) same))
+
+-- a line that is read as an entry is that entry's
+pub entry_of-is : (s : Sys) (line : List ℕ) (x : Entry ℕ) → entry_of s line ≡ Some x → IsIn x (possible_entries s) × (entry_line x ≡ line)
+entry_of-is s line x e =
+    let (i, same) = find_some (λ y. same_numbers (entry_line y) line) (possible_entries s) x e in
+    (i, same_numbers_is (entry_line x) line same)
+
+-- a line that is no entry's is read as none
+pub entry_of_none : (s : Sys) (line : List ℕ) → ((x : Entry ℕ) → IsIn x (possible_entries s) → entry_line x ≡ line → ⊥) → entry_of s line ≡ None
+entry_of_none s line none =
+    find_not_found (λ x. same_numbers (entry_line x) line) (possible_entries s)
+    (none_from (λ x. same_numbers (entry_line x) line) (possible_entries s)
+    (λ x i. by_test (same_numbers (entry_line x) line) (λ t. absurd (none x i (same_numbers_is (entry_line x) line t))) (λ f. f)))
+
+-- nor is one that starts with no digit
+pub entry_of_other : (s : Sys) (b : ℕ) (bs : List ℕ) → IsSmallSys s → 57 < b → entry_of s (b ∷ bs) ≡ None
+entry_of_other s b bs small h = entry_of_none s (b ∷ bs) (λ x i e. let l : b ≤ 57 = entry_starts x (possible_small s x small i) b bs e in omega arith)
+
+-- the lines of entries are read as these entries
+pub entries_on-lines : (s : Sys) (L : List (Entry ℕ)) → IsSmallSys s → ((x : Entry ℕ) → IsIn x L → IsIn x (possible_entries s)) → entries_on s (map entry_line L) ≡ L
+entries_on-lines s [] small are = refl
+entries_on-lines s (x ∷ L) small are =
+    ap (λ o. cons_option o (entries_on s (map entry_line L))) (entry_of-line s x small (are x (inl refl)))
+    ∙ ap (λ M. x ∷ M) (entries_on-lines s L small (λ y i. are y (inr i)))
+
+-- Faults
+
+-- none of the first n lines is at fault
+abbrev pub IsClean : Sys → List (List ℕ) → ℕ → Type 0
+IsClean s text n = (i : ℕ) → i < n → line_fault s (take i text) (slice_get text i) ≡ None
+
+-- what may be wrong at line i, counted from 0
+abbrev pub fault_at : Sys → List (List ℕ) → ℕ → Option Verdict
+fault_at s text i = option_map (Rejected (i + 1)) (line_fault s (take i text) (slice_get text i))
+
+pub faults_more : (s : Sys) (text : List (List ℕ)) (n : ℕ) → faults s text (suc n) ≡ faults s text n ++ cons_option (fault_at s text n) []
+faults_more s text n = filter_map-append (fault_at s text) (below n) (n ∷ [])
+
+pub faults_none : (s : Sys) (text : List (List ℕ)) (n : ℕ) → IsClean s text n → faults s text n ≡ []
+faults_none s text zero clean = refl
+faults_none s text (suc n) clean =
+    faults_more s text n
+    ∙ ap₂ (λ vs o. vs ++ cons_option (option_map (Rejected (n + 1)) o) []) (faults_none s text n (λ i l. clean i (omega arith))) (clean n (omega arith))
+
+pub faults_first : (s : Sys) (text : List (List ℕ)) (n i : ℕ) (why : Why) → IsClean s text i → line_fault s (take i text) (slice_get text i) ≡ Some why → i < n →
+    (rest : List Verdict) × (faults s text n ≡ Rejected (i + 1) why ∷ rest)
+faults_first s text zero i why clean fault l = absurd (omega arith)
+faults_first s text (suc n) i why clean fault l = elim (cases_lt i n) [
+  | inl less ↦
+      let (rest, e) = faults_first s text n i why clean fault less in
+      (rest ++ cons_option (fault_at s text n) [], faults_more s text n ∙ ap (λ vs. vs ++ cons_option (fault_at s text n) []) e)
+  | inr more ↦ last (omega arith)
+]
+  where
+    last : i ≡ n → (rest : List Verdict) × (faults s text (suc n) ≡ Rejected (i + 1) why ∷ rest)
+    last e = (
+      [],
+      faults_more s text n
+          ∙ ap (λ vs. vs ++ cons_option (fault_at s text n) []) (faults_none s text n (λ j m. clean j (omega arith)))
+          ∙ ap (λ k. cons_option (fault_at s text k) []) (sym e)
+          ∙ ap (λ o. cons_option (option_map (Rejected (i + 1)) o) []) fault,
+    )
+
+-- the lines of a text, where more follow
+take_front : {X : Type 0} (xs ys : List X) (i : ℕ) → i < length xs → take i (xs ++ ys) ≡ take i xs
+take_front xs ys i l = take-append-le i xs ys (omega arith)
+
+get_front : {X : Type 0} (xs ys : List X) (i : ℕ) → i < length xs → slice_get (xs ++ ys) i ≡ slice_get xs i
+get_front [] ys i l = absurd (omega arith)
+get_front (x ∷ xs) ys zero l = refl
+get_front (x ∷ xs) ys (suc i) l = get_front xs ys i (omega arith)
+
+get_after : {X : Type 0} (xs : List X) (y : X) (ys : List X) → slice_get (xs ++ y ∷ ys) (length xs) ≡ Some y
+get_after [] y ys = refl
+get_after (x ∷ xs) y ys = get_after xs y ys
+
+get_past : {X : Type 0} (xs : List X) → slice_get xs (length xs) ≡ None
+get_past [] = refl
+get_past (x ∷ xs) = get_past xs
+
+pub clean_front : (s : Sys) (text more : List (List ℕ)) → IsClean s text (length text) → IsClean s (text ++ more) (length text)
+clean_front s text more clean i l = ap₂ (line_fault s) (take_front text more i l) (get_front text more i l) ∙ clean i l
+
+-- one more line without a fault
+pub clean_push : (s : Sys) (text : List (List ℕ)) (line : List ℕ) → IsClean s text (length text) → line_fault s text (Some line) ≡ None → IsClean s (text ++ line ∷ []) (length (text ++ line ∷ []))
+clean_push s text line clean none i l = elim (cases_lt i (length text)) [
+  | inl less ↦ clean_front s text (line ∷ []) clean i less
+  | inr more ↦
+      let here : i ≡ length text = omega (arith, length-append text (line ∷ [])) in
+      ap (λ k. line_fault s (take k (text ++ line ∷ [])) (slice_get (text ++ line ∷ []) k)) here
+      ∙ ap₂ (line_fault s) (take_at text (line ∷ []) (length text) refl) (get_after text line []) ∙ none
+]
+
+-- the fault of the line that follows, or of there being none
+pub fault_next : (s : Sys) (text more : List (List ℕ)) (line : List ℕ) → line_fault s (take (length text) (text ++ line ∷ more)) (slice_get (text ++ line ∷ more) (length text)) ≡ line_fault s text (Some line)
+fault_next s text more line = ap₂ (line_fault s) (take_at text (line ∷ more) (length text) refl) (get_after text line more)
+
+pub fault_over : (s : Sys) (text : List (List ℕ)) → line_fault s (take (length text) text) (slice_get text (length text)) ≡ line_fault s text None
+fault_over s text = ap₂ (line_fault s) (take_all (length text) text (omega arith)) (get_past text)
+
+-- either none of the first n lines is at fault, or there is a first one that is
+pub faults_cases : (s : Sys) (text : List (List ℕ)) (n : ℕ) →
+    IsClean s text n ⊎ ((i : ℕ) × (why : Why) × (i < n) × IsClean s text i × (line_fault s (take i text) (slice_get text i) ≡ Some why))
+faults_cases s text zero = inl (λ i l. absurd (omega arith))
+faults_cases s text (suc n) = elim (faults_cases s text n) [
+  | inl clean ↦ by_fault clean (line_fault s (take n text) (slice_get text n)) refl
+  | inr found ↦ let (i, why, l, clean, fault) = found in inr (i, why, omega arith, clean, fault)
+]
+  where
+    by_fault : IsClean s text n → (o : Option Why) → line_fault s (take n text) (slice_get text n) ≡ o →
+        IsClean s text (suc n) ⊎ ((i : ℕ) × (why : Why) × (i < suc n) × IsClean s text i × (line_fault s (take i text) (slice_get text i) ≡ Some why))
+    by_fault clean None e = inl (λ i l. elim (cases_lt i n) [
+      | inl less ↦ clean i less
+      | inr more ↦ (let here : i ≡ n = omega arith in ap (λ k. line_fault s (take k text) (slice_get text k)) here ∙ e)
+    ])
+    by_fault clean (Some why) e = inr (n, why, omega arith, clean, e)

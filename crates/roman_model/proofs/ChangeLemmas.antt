@@ -1,0 +1,505 @@
+-- What a change of the seats does to systems, pairs, outcomes and removal lists.
+use Rattle.std.proofs.Common.{◌≡◌, ℕ, zero, suc, ◌<◌, ◌≤◌, Bool, true, not, ◌&&◌, ◌||◌, List, [], ◌∷◌, ◌++◌, map, length, Some, IsTrue, IsFalse, filter, flat_map, slice_get, slice_index, slice_set, remove, insert, refl, sym, ap, ap₂, ◌∙◌, subst, inl, inr, arith}
+use Rattle.std.specs.List.{list_any, AllZip}
+use Rattle.std.proofs.lemmas.Bool.{cases_eq, both_ways, or_cases, or_left, or_right, and_parts, and_from, cond-true, cond-false}
+use Rattle.std.proofs.lemmas.List.{map-append, length_push, same_from_push}
+use Rattle.std.proofs.lemmas.Option.{none-some, same_Some, slice_get_within}
+use Rattle.roman_model.specs.Lists.{IsIn, HasNoRepeats, below, all_below, is_empty}
+use Rattle.roman_model.specs.System.{Seat, Sys, Pair, IsBeh, IsSys, IsPair, is_final, all_final, env_next, beh_next, seat_next, moved, outcomes, is_allowed, is_fine, same_pair}
+use Rattle.roman_model.specs.Arena.{Entry, is_among, is_beaten, is_justified, IsOrderFrom, AreNew}
+use Rattle.roman_model.specs.Composition.{arena, AreEntries}
+use Rattle.roman_model.specs.Change.{Join, Die, set_frozen, grown, without, may_go, firsts, grown_entries, entry_without, rename, place, with_state}
+use Rattle.roman_model.specs.declared.limits.TheConstants.{MAX_SERVICES}
+use Rattle.roman_model.specs.declared.reason.Reason.{Reason}
+use Rattle.roman_model.specs.declared.reason.Reason.TheVariants.{Final, Act}
+use Rattle.roman_model.proofs.Lists.{by_test, any_true, any_from, list_any-map, is_empty-map, from_push, in_map, from_map, from_flat_map, filter_in, from_below, all_below_at, all_below_from, HasNoRepeats-map, HasNoRepeats-flat_map, HasNoRepeats-below}
+use Rattle.roman_model.proofs.SystemLemmas.{same_pair_is, same_pair_from, from_moved}
+
+-- Maps of maps
+
+-- where two functions agree on the elements
+pub flat_map_same_in : {X Y : Type 0} (f g : X → List Y) (xs : List X) → ((x : X) → IsIn x xs → f x ≡ g x) → flat_map f xs ≡ flat_map g xs
+flat_map_same_in f g [] same = refl
+flat_map_same_in f g (x ∷ xs) same = ap₂ (λ ys zs. ys ++ zs) (same x (inl refl)) (flat_map_same_in f g xs (λ y i. same y (inr i)))
+
+pub map_same_in : {X Y : Type 0} (f g : X → Y) (xs : List X) → ((x : X) → IsIn x xs → f x ≡ g x) → map f xs ≡ map g xs
+map_same_in f g [] same = refl
+map_same_in f g (x ∷ xs) same = ap₂ (λ y ys. y ∷ ys) (same x (inl refl)) (map_same_in f g xs (λ y i. same y (inr i)))
+
+-- and everywhere
+pub flat_map_same : {X Y : Type 0} (f g : X → List Y) (xs : List X) → ((x : X) → f x ≡ g x) → flat_map f xs ≡ flat_map g xs
+flat_map_same f g xs same = flat_map_same_in f g xs (λ x i. same x)
+
+pub map_same : {X Y : Type 0} (f g : X → Y) (xs : List X) → ((x : X) → f x ≡ g x) → map f xs ≡ map g xs
+map_same f g xs same = map_same_in f g xs (λ x i. same x)
+
+pub map-map : {X Y Z : Type 0} (f : Y → Z) (g : X → Y) (xs : List X) → map f (map g xs) ≡ map (λ x. f (g x)) xs
+map-map f g [] = refl
+map-map f g (x ∷ xs) = ap (λ ys. f (g x) ∷ ys) (map-map f g xs)
+
+pub map-flat_map : {X Y Z : Type 0} (f : Y → Z) (g : X → List Y) (xs : List X) → map f (flat_map g xs) ≡ flat_map (λ x. map f (g x)) xs
+map-flat_map f g [] = refl
+map-flat_map f g (x ∷ xs) = map-append f (g x) (flat_map g xs) ∙ ap (λ ys. map f (g x) ++ ys) (map-flat_map f g xs)
+
+pub flat_map-map : {X Y Z : Type 0} (f : Y → List Z) (g : X → Y) (xs : List X) → flat_map f (map g xs) ≡ flat_map (λ x. f (g x)) xs
+flat_map-map f g [] = refl
+flat_map-map f g (x ∷ xs) = ap (λ ys. f (g x) ++ ys) (flat_map-map f g xs)
+
+pub flat_map_none : {X Y : Type 0} (f : X → List Y) (xs : List X) → ((x : X) → f x ≡ []) → flat_map f xs ≡ []
+flat_map_none f [] none = refl
+flat_map_none f (x ∷ xs) none = ap₂ (λ ys zs. ys ++ zs) (none x) (flat_map_none f xs none)
+
+-- Outcomes that a function makes of others
+
+-- a seat that goes nowhere has no outcome
+pub moved_none : (s : Sys) (p : Pair) (a k : ℕ) → moved s p a k [] ≡ []
+moved_none s p a k = flat_map_none (λ e'. flat_map (λ t'. map (λ b'. record { t = t'; e = e'; bs = slice_set p.bs k b' }) []) (beh_next s.target p.t p.e a)) (env_next s.env p.e a)
+    (λ e'. flat_map_none (λ t'. map (λ b'. record { t = t'; e = e'; bs = slice_set p.bs k b' }) []) (beh_next s.target p.t p.e a) (λ t'. refl))
+
+-- where f leaves the target's state and the environment's, and makes of the states that seat j moves those that seat k moves
+pub moved_named : (s : Sys) (seats : List Seat) (p : Pair) (a j k : ℕ) (states : List ℕ) (g : List ℕ → List ℕ) (bs : List ℕ) →
+    ((b' : ℕ) → slice_set bs k b' ≡ g (slice_set p.bs j b')) →
+    moved (record { env = s.env; target = s.target; seats = seats }) (record { t = p.t; e = p.e; bs = bs }) a k states
+    ≡ map (λ q. record { t = q.t; e = q.e; bs = g q.bs }) (moved s p a j states)
+moved_named s seats p a j k states g bs is =
+    flat_map_same (λ e'. flat_map (λ t'. map (λ b'. record { t = t'; e = e'; bs = slice_set bs k b' }) states) (beh_next s.target p.t p.e a))
+    (λ e'. map f (flat_map (λ t'. map (λ b'. record { t = t'; e = e'; bs = slice_set p.bs j b' }) states) (beh_next s.target p.t p.e a)))
+    (env_next s.env p.e a)
+    (λ e'. flat_map_same (λ t'. map (λ b'. record { t = t'; e = e'; bs = slice_set bs k b' }) states) (λ t'. map f (map (λ b'. record { t = t'; e = e'; bs = slice_set p.bs j b' }) states)) (beh_next s.target p.t p.e a)
+    (λ t'. map_same (λ b'. record { t = t'; e = e'; bs = slice_set bs k b' }) (λ b'. record { t = t'; e = e'; bs = g (slice_set p.bs j b') }) states (λ b'. ap (λ cs. record { t = t'; e = e'; bs = cs }) (is b'))
+    ∙ sym (map-map f (λ b'. record { t = t'; e = e'; bs = slice_set p.bs j b' }) states))
+    ∙ sym (map-flat_map f (λ t'. map (λ b'. record { t = t'; e = e'; bs = slice_set p.bs j b' }) states) (beh_next s.target p.t p.e a)))
+    ∙ sym (map-flat_map f (λ e'. flat_map (λ t'. map (λ b'. record { t = t'; e = e'; bs = slice_set p.bs j b' }) states) (beh_next s.target p.t p.e a)) (env_next s.env p.e a))
+  where
+    f : Pair → Pair
+    f q = record { t = q.t; e = q.e; bs = g q.bs }
+
+-- Lists of seats without one
+
+pub remove_in : {X : Type 0} (x : X) (xs : List X) (k : ℕ) → IsIn x (remove xs k) → IsIn x xs
+remove_in x [] zero i = absurd i
+remove_in x [] (suc k) i = absurd i
+remove_in x (y ∷ xs) zero i = inr i
+remove_in x (y ∷ xs) (suc k) (inl e) = inl e
+remove_in x (y ∷ xs) (suc k) (inr i) = inr (remove_in x xs k i)
+
+pub length-remove : {X : Type 0} (xs : List X) (k : ℕ) → k < length xs → suc (length (remove xs k)) ≡ length xs
+length-remove [] k h = absurd (omega arith)
+length-remove (x ∷ xs) zero h = refl
+length-remove (x ∷ xs) (suc k) h = ap suc (length-remove xs k (omega arith))
+
+pub get-remove : {X : Type 0} (xs : List X) (k j : ℕ) → slice_get (remove xs k) j ≡ slice_get xs (place k j)
+get-remove [] zero j = refl
+get-remove [] (suc k) j = refl
+get-remove (x ∷ xs) zero j = refl
+get-remove (x ∷ xs) (suc k) zero = refl
+get-remove (x ∷ xs) (suc k) (suc j) = get-remove xs k j
+
+pub index-remove : (bs : List ℕ) (k j : ℕ) → slice_index (remove bs k) j ≡ slice_index bs (place k j)
+index-remove [] zero j = refl
+index-remove [] (suc k) j = refl
+index-remove (b ∷ bs) zero j = refl
+index-remove (b ∷ bs) (suc k) zero = refl
+index-remove (b ∷ bs) (suc k) (suc j) = index-remove bs k j
+
+pub set-remove : (bs : List ℕ) (k j b : ℕ) → slice_set (remove bs k) j b ≡ remove (slice_set bs (place k j) b) k
+set-remove [] zero j b = refl
+set-remove [] (suc k) j b = refl
+set-remove (c ∷ bs) zero j b = refl
+set-remove (c ∷ bs) (suc k) zero b = refl
+set-remove (c ∷ bs) (suc k) (suc j) b = ap (λ cs. c ∷ cs) (set-remove bs k j b)
+
+-- the state at another place stays
+pub index_set_place : (bs : List ℕ) (k j b : ℕ) → slice_index (slice_set bs (place k j) b) k ≡ slice_index bs k
+index_set_place [] k j b = refl
+index_set_place (c ∷ bs) zero j b = refl
+index_set_place (c ∷ bs) (suc k) zero b = refl
+index_set_place (c ∷ bs) (suc k) (suc j) b = index_set_place bs k j b
+
+pub place_within : (k j n : ℕ) → k < suc n → j < n → place k j < suc n
+place_within zero j n h l = omega arith
+place_within (suc k) zero n h l = omega arith
+place_within (suc k) (suc j) zero h l = absurd (omega arith)
+place_within (suc k) (suc j) (suc n) h l = let rest : place k j < suc n = place_within k j n (omega arith) (omega arith) in omega arith
+
+pub remove-insert : (bs : List ℕ) (k b : ℕ) → k ≤ length bs → remove (insert bs k b) k ≡ bs
+remove-insert bs zero b h = refl
+remove-insert [] (suc k) b h = absurd (omega arith)
+remove-insert (c ∷ bs) (suc k) b h = ap (λ cs. c ∷ cs) (remove-insert bs k b (omega arith))
+
+pub insert-remove : (bs : List ℕ) (k : ℕ) → k < length bs → insert (remove bs k) k (slice_index bs k) ≡ bs
+insert-remove [] k h = absurd (omega arith)
+insert-remove (c ∷ bs) zero h = refl
+insert-remove (c ∷ bs) (suc k) h = ap (λ cs. c ∷ cs) (insert-remove bs k (omega arith))
+
+pub index_insert : (bs : List ℕ) (k b : ℕ) → k ≤ length bs → slice_index (insert bs k b) k ≡ b
+index_insert bs zero b h = refl
+index_insert [] (suc k) b h = absurd (omega arith)
+index_insert (c ∷ bs) (suc k) b h = index_insert bs k b (omega arith)
+
+pub index-insert : (bs : List ℕ) (k j b : ℕ) → k ≤ length bs → slice_index (insert bs k b) (place k j) ≡ slice_index bs j
+index-insert bs zero j b h = refl
+index-insert [] (suc k) j b h = absurd (omega arith)
+index-insert (c ∷ bs) (suc k) zero b h = refl
+index-insert (c ∷ bs) (suc k) (suc j) b h = index-insert bs k j b (omega arith)
+
+pub set-insert : (bs : List ℕ) (k j b c : ℕ) → k ≤ length bs → slice_set (insert bs k b) (place k j) c ≡ insert (slice_set bs j c) k b
+set-insert bs zero j b c h = refl
+set-insert [] (suc k) j b c h = absurd (omega arith)
+set-insert (x ∷ bs) (suc k) zero b c h = refl
+set-insert (x ∷ bs) (suc k) (suc j) b c h = ap (λ cs. x ∷ cs) (set-insert bs k j b c (omega arith))
+
+-- Seats that freeze or thaw
+
+pub set_frozen_in : (seats : List Seat) (k : ℕ) (frozen : Bool) (x : Seat) → IsIn x (set_frozen seats k frozen) → (y : Seat) × IsIn y seats × (x.beh ≡ y.beh)
+set_frozen_in [] k frozen x i = absurd i
+set_frozen_in (seat ∷ seats) zero frozen x (inl e) = (seat, inl refl, ap (λ z. z.beh) e)
+set_frozen_in (seat ∷ seats) zero frozen x (inr i) = (x, inr i, refl)
+set_frozen_in (seat ∷ seats) (suc k) frozen x (inl e) = (seat, inl refl, ap (λ z. z.beh) e)
+set_frozen_in (seat ∷ seats) (suc k) frozen x (inr i) = let (y, j, e) = set_frozen_in seats k frozen x i in (y, inr j, e)
+
+pub length-set_frozen : (seats : List Seat) (k : ℕ) (frozen : Bool) → length (set_frozen seats k frozen) ≡ length seats
+length-set_frozen [] k frozen = refl
+length-set_frozen (seat ∷ seats) zero frozen = refl
+length-set_frozen (seat ∷ seats) (suc k) frozen = ap suc (length-set_frozen seats k frozen)
+
+pub states_frozen : (seats : List Seat) (k : ℕ) (frozen : Bool) → map (λ seat. seat.beh.states) (set_frozen seats k frozen) ≡ map (λ seat. seat.beh.states) seats
+states_frozen [] k frozen = refl
+states_frozen (seat ∷ seats) zero frozen = refl
+states_frozen (seat ∷ seats) (suc k) frozen = ap (λ ns. seat.beh.states ∷ ns) (states_frozen seats k frozen)
+
+pub all_final-set_frozen : (seats : List Seat) (k : ℕ) (frozen : Bool) (bs : List ℕ) → all_final (set_frozen seats k frozen) bs ≡ all_final seats bs
+all_final-set_frozen [] k frozen bs = refl
+all_final-set_frozen (seat ∷ seats) zero frozen [] = refl
+all_final-set_frozen (seat ∷ seats) zero frozen (b ∷ bs) = refl
+all_final-set_frozen (seat ∷ seats) (suc k) frozen [] = refl
+all_final-set_frozen (seat ∷ seats) (suc k) frozen (b ∷ bs) = ap (λ x. (not seat.rests || is_final seat.beh b) && x) (all_final-set_frozen seats k frozen bs)
+
+-- the system with seat k frozen or ready
+abbrev pub turned : Sys → ℕ → Bool → Sys
+turned s k frozen = record { env = s.env; target = s.target; seats = set_frozen s.seats k frozen }
+
+pub IsSys-turned : (s : Sys) (k : ℕ) (frozen : Bool) → IsSys s → IsSys (turned s k frozen)
+IsSys-turned s k frozen ok = record {
+  env = ok.env;
+  target = ok.target;
+  single = ok.single;
+  seats = λ x i. let (y, j, e) = set_frozen_in s.seats k frozen x i in subst (IsBeh s.env) (sym e) (ok.seats y j);
+  few = subst (λ n. n ≤ MAX_SERVICES) (sym (length-set_frozen s.seats k frozen)) ok.few;
+}
+
+pub set_frozen_below : (seats : List Seat) (k : ℕ) (frozen : Bool) (bs : List ℕ) → AllZip (λ seat b. b < seat.beh.states) seats bs → AllZip (λ seat b. b < seat.beh.states) (set_frozen seats k frozen) bs
+set_frozen_below [] k frozen bs h = h
+set_frozen_below (seat ∷ seats) k frozen [] h = absurd h
+set_frozen_below (seat ∷ seats) zero frozen (b ∷ bs) h = (h.0, h.1)
+set_frozen_below (seat ∷ seats) (suc k) frozen (b ∷ bs) h = (h.0, set_frozen_below seats k frozen bs h.1)
+
+pub IsPair-turned : (s : Sys) (k : ℕ) (frozen : Bool) (p : Pair) → IsPair s p → IsPair (turned s k frozen) p
+IsPair-turned s k frozen p ok = record { t = ok.t; e = ok.e; bs = set_frozen_below s.seats k frozen p.bs ok.bs }
+
+pub is_fine-turned : (s : Sys) (k : ℕ) (frozen : Bool) (p : Pair) → is_fine (turned s k frozen) p ≡ is_fine s p
+is_fine-turned s k frozen p = ap (λ x. not (is_final s.target p.t) || x) (all_final-set_frozen s.seats k frozen p.bs)
+
+-- a seat that another one's freezing or thawing leaves alone
+pub get-set_frozen : (seats : List Seat) (k j : ℕ) (frozen : Bool) → (j ≡ k → ⊥) → slice_get (set_frozen seats k frozen) j ≡ slice_get seats j
+get-set_frozen [] k j frozen ne = refl
+get-set_frozen (seat ∷ seats) zero zero frozen ne = absurd (ne refl)
+get-set_frozen (seat ∷ seats) zero (suc j) frozen ne = refl
+get-set_frozen (seat ∷ seats) (suc k) zero frozen ne = refl
+get-set_frozen (seat ∷ seats) (suc k) (suc j) frozen ne = get-set_frozen seats k j frozen (λ e. ne (ap suc e))
+
+-- a frozen seat goes nowhere
+pub seat_next-frozen : (seats : List Seat) (k b e a : ℕ) → seat_next (slice_get (set_frozen seats k true) k) b e a ≡ []
+seat_next-frozen [] k b e a = refl
+seat_next-frozen (seat ∷ seats) zero b e a = refl
+seat_next-frozen (seat ∷ seats) (suc k) b e a = seat_next-frozen seats k b e a
+
+pub outcomes-turned : (s : Sys) (k : ℕ) (frozen : Bool) (p : Pair) (a j : ℕ) → (j ≡ k → ⊥) → outcomes (turned s k frozen) p a j ≡ outcomes s p a j
+outcomes-turned s k frozen p a j ne = ap (λ o. moved s p a j (seat_next o (slice_index p.bs j) p.e a)) (get-set_frozen s.seats k j frozen ne)
+
+pub outcomes-frozen : (s : Sys) (k : ℕ) (p : Pair) (a : ℕ) → outcomes (turned s k true) p a k ≡ []
+outcomes-frozen s k p a =
+    ap (λ states. moved s p a k states) (seat_next-frozen s.seats k (slice_index p.bs k) p.e a) ∙ moved_none s p a k
+
+-- who is beaten stays so where a seat freezes
+pub freeze_beaten : (s : Sys) (k : ℕ) (gone : Pair → Bool) (p : Pair) (a j : ℕ) → IsTrue (is_beaten (arena s) gone p a j) → IsTrue (is_beaten (arena (turned s k true)) gone p a j)
+freeze_beaten s k gone p a j h = elim (cases_eq j k) [
+  | inl e ↦ subst (λ i. IsTrue (is_beaten (arena (turned s k true)) gone p a i)) (sym e) (ap (λ qs. is_empty qs || list_any gone qs) (outcomes-frozen s k p a))
+  | inr ne ↦ ap (λ qs. is_empty qs || list_any gone qs) (outcomes-turned s k true p a j ne) ∙ h
+]
+
+pub freeze_justified : (s : Sys) (k : ℕ) (gone : Pair → Bool) (p : Pair) (reason : Reason) → IsTrue (is_justified (arena s) gone p reason) → IsTrue (is_justified (arena (turned s k true)) gone p reason)
+freeze_justified s k gone p Final h = ap not (is_fine-turned s k true p) ∙ h
+freeze_justified s k gone p (Act a) h =
+    let (allowed, beaten) = and_parts (is_allowed s p a) (all_below (is_beaten (arena s) gone p a) (length s.seats)) h in
+    and_from (is_allowed s p a) (all_below (is_beaten (arena (turned s k true)) gone p a) (length (set_frozen s.seats k true))) allowed
+    (all_below_from (is_beaten (arena (turned s k true)) gone p a) (length (set_frozen s.seats k true))
+    (λ j l. freeze_beaten s k gone p a j (all_below_at (is_beaten (arena s) gone p a) (length s.seats) j beaten (subst (λ n. j < n) (length-set_frozen s.seats k true) l))))
+
+pub freeze_order : (s : Sys) (k : ℕ) (before : List Pair) (L : List (Entry Pair)) → IsOrderFrom (arena s) before L → IsOrderFrom (arena (turned s k true)) before L
+freeze_order s k before [] order = tt
+freeze_order s k before (x ∷ L) order = (order.0, freeze_justified s k (is_among (arena s) before) x.node x.reason order.1, freeze_order s k (x.node ∷ before) L order.2)
+
+-- Pairs that are told apart, and lists of new ones
+
+-- the arenas of two systems tell pairs apart alike
+pub new_same : (s r : Sys) (before : List Pair) (L : List (Entry Pair)) → AreNew (arena s) before L → AreNew (arena r) before L
+new_same s r before [] new = tt
+new_same s r before (x ∷ L) new = (new.0, new_same s r (x.node ∷ before) L new.1)
+
+pub new_from_once : (s : Sys) (before : List Pair) (L : List (Entry Pair)) → HasNoRepeats (map (λ x. x.node) L) → ((x : Entry Pair) → IsIn x L → IsIn x.node before → ⊥) → AreNew (arena s) before L
+new_from_once s before [] once apart = tt
+new_from_once s before (x ∷ L) once apart = (
+  by_test (is_among (arena s) before x.node)
+      (λ h. let (q, i, same) = any_true (same_pair x.node) before h in absurd (apart x (inl refl) (subst (λ r. IsIn r before) (sym (same_pair_is x.node q same)) i)))
+      (λ f. f),
+  new_from_once s (x.node ∷ before) L once.1 (λ y i j. next y i j),
+)
+  where
+    next : (y : Entry Pair) → IsIn y L → IsIn y.node (x.node ∷ before) → ⊥
+    next y i (inl e) = once.0 (subst (λ r. IsIn r (map (λ z. z.node) L)) e (in_map (λ z. z.node) y L i))
+    next y i (inr j) = apart y (inr i) j
+
+-- Joins
+
+-- the system with a seat that comes last
+abbrev pub joined : Sys → Seat → Sys
+joined s seat = record { env = s.env; target = s.target; seats = s.seats ++ seat ∷ [] }
+
+pub IsSys-joined : (s : Sys) (seat : Seat) → IsSys s → IsBeh s.env seat.beh → length s.seats < MAX_SERVICES → IsSys (joined s seat)
+IsSys-joined s seat ok beh room = record {
+  env = ok.env;
+  target = ok.target;
+  single = ok.single;
+  seats = λ x i. elim (from_push x seat s.seats i) [ inl j ↦ ok.seats x j | inr e ↦ subst (λ y. IsBeh s.env y.beh) (sym e) beh ];
+  few = subst (λ n. n ≤ MAX_SERVICES) (sym (length_push s.seats seat)) (omega arith);
+}
+
+pub push_below : (seats : List Seat) (seat : Seat) (bs : List ℕ) (b : ℕ) → AllZip (λ seat b. b < seat.beh.states) seats bs → b < seat.beh.states → AllZip (λ seat b. b < seat.beh.states) (seats ++ seat ∷ []) (bs ++ b ∷ [])
+push_below [] seat [] b h l = (l, tt)
+push_below [] seat (c ∷ bs) b h l = absurd h
+push_below (x ∷ seats) seat [] b h l = absurd h
+push_below (x ∷ seats) seat (c ∷ bs) b h l = (h.0, push_below seats seat bs b h.1 l)
+
+pub IsPair-grown : (s : Sys) (seat : Seat) (p : Pair) (b : ℕ) → IsPair s p → b < seat.beh.states → IsPair (joined s seat) (grown p b)
+IsPair-grown s seat p b ok l = record { t = ok.t; e = ok.e; bs = push_below s.seats seat p.bs b ok.bs l }
+
+pub join_entries : (s : Sys) (seat : Seat) (L : List (Entry Pair)) → AreEntries s L → AreEntries (joined s seat) (rename (Join seat) L)
+join_entries s seat L are x i =
+    let (y, j, k) = from_flat_map (grown_entries seat) x L i in
+    let (b, l, e) = from_map (λ b. record { node = grown y.node b; reason = y.reason }) x (below seat.beh.states) k in
+    subst (λ z. IsPair (joined s seat) z.node) (sym e) (IsPair-grown s seat y.node b (are y j) (from_below seat.beh.states b l))
+
+pub grown_apart : (p q : Pair) (b c : ℕ) → grown p b ≡ grown q c → (p ≡ q) × (b ≡ c)
+grown_apart p q b c e =
+    let (front, last) = same_from_push p.bs q.bs b c (ap (λ r. r.bs) e) in
+    (pair_path (ap (λ r. r.t) e) (ap (λ r. r.e) e) front, last)
+  where
+    pair_path : p.t ≡ q.t → p.e ≡ q.e → p.bs ≡ q.bs → p ≡ q
+    pair_path t e bs = λ i. record { t = t i; e = e i; bs = bs i }
+
+-- the nodes of the candidates
+pub join_nodes : (seat : Seat) (L : List (Entry Pair)) → map (λ x. x.node) (rename (Join seat) L) ≡ flat_map (λ p. map (grown p) (below seat.beh.states)) (map (λ x. x.node) L)
+join_nodes seat L =
+    map-flat_map (λ x. x.node) (grown_entries seat) L
+    ∙ flat_map_same (λ x. map (λ y. y.node) (grown_entries seat x)) (λ x. map (grown x.node) (below seat.beh.states)) L
+    (λ x. map-map (λ y. y.node) (λ b. record { node = grown x.node b; reason = x.reason }) (below seat.beh.states))
+    ∙ sym (flat_map-map (λ p. map (grown p) (below seat.beh.states)) (λ x. x.node) L)
+
+pub join_once : (seat : Seat) (L : List (Entry Pair)) → HasNoRepeats (map (λ x. x.node) L) → HasNoRepeats (map (λ x. x.node) (rename (Join seat) L))
+join_once seat L once =
+    subst HasNoRepeats (sym (join_nodes seat L))
+    (HasNoRepeats-flat_map (λ p. map (grown p) (below seat.beh.states)) (map (λ x. x.node) L)
+    (λ p i. HasNoRepeats-map (grown p) (below seat.beh.states) (λ b c j k e. (grown_apart p p b c e).1) (HasNoRepeats-below seat.beh.states))
+    (λ p q r i j k l.
+    let (b, m, e) = from_map (grown p) r (below seat.beh.states) k in
+    let (c, n, f) = from_map (grown q) r (below seat.beh.states) l in
+    (grown_apart p q b c (sym e ∙ f)).0)
+    once)
+
+-- Deaths
+
+-- the system without seat k
+abbrev pub left : Sys → ℕ → Sys
+left s k = record { env = s.env; target = s.target; seats = remove s.seats k }
+
+pub length-remove-le : {X : Type 0} (xs : List X) (k : ℕ) → length (remove xs k) ≤ length xs
+length-remove-le [] zero = omega arith
+length-remove-le [] (suc k) = omega arith
+length-remove-le (x ∷ xs) zero = omega arith
+length-remove-le (x ∷ xs) (suc k) = let rest : length (remove xs k) ≤ length xs = length-remove-le xs k in omega arith
+
+pub IsSys-left : (s : Sys) (k : ℕ) → IsSys s → IsSys (left s k)
+IsSys-left s k ok = record {
+  env = ok.env;
+  target = ok.target;
+  single = ok.single;
+  seats = λ x i. ok.seats x (remove_in x s.seats k i);
+  few = let less : length (remove s.seats k) ≤ length s.seats = length-remove-le s.seats k in let few : length s.seats ≤ MAX_SERVICES = ok.few in omega arith;
+}
+
+pub remove_below : (seats : List Seat) (bs : List ℕ) (k : ℕ) → AllZip (λ seat b. b < seat.beh.states) seats bs → AllZip (λ seat b. b < seat.beh.states) (remove seats k) (remove bs k)
+remove_below [] [] zero h = tt
+remove_below [] [] (suc k) h = tt
+remove_below [] (b ∷ bs) k h = absurd h
+remove_below (seat ∷ seats) [] k h = absurd h
+remove_below (seat ∷ seats) (b ∷ bs) zero h = h.1
+remove_below (seat ∷ seats) (b ∷ bs) (suc k) h = (h.0, remove_below seats bs k h.1)
+
+pub IsPair-without : (s : Sys) (k : ℕ) (p : Pair) → IsPair s p → IsPair (left s k) (without k p)
+IsPair-without s k p ok = record { t = ok.t; e = ok.e; bs = remove_below s.seats p.bs k ok.bs }
+
+pub insert_below : (seats : List Seat) (bs : List ℕ) (k b : ℕ) (seat : Seat) → slice_get seats k ≡ Some seat → AllZip (λ seat b. b < seat.beh.states) (remove seats k) bs → b < seat.beh.states →
+    AllZip (λ seat b. b < seat.beh.states) seats (insert bs k b)
+insert_below [] bs k b seat e h l = absurd (none-some seat e)
+insert_below (x ∷ seats) bs zero b seat e h l = (subst (λ (y : Seat). b < y.beh.states) (sym (same_Some x seat e)) l, h)
+insert_below (x ∷ seats) [] (suc k) b seat e h l = absurd h
+insert_below (x ∷ seats) (c ∷ bs) (suc k) b seat e h l = (h.0, insert_below seats bs k b seat e h.1 l)
+
+pub IsPair-with_state : (s : Sys) (k : ℕ) (seat : Seat) (p : Pair) (b : ℕ) → slice_get s.seats k ≡ Some seat → IsPair (left s k) p → b < seat.beh.states → IsPair s (with_state k b p)
+IsPair-with_state s k seat p b seated ok l = record { t = ok.t; e = ok.e; bs = insert_below s.seats p.bs k b seat seated ok.bs l }
+
+pub states_length : (seats : List Seat) (bs : List ℕ) → AllZip (λ seat b. b < seat.beh.states) seats bs → length bs ≡ length seats
+states_length [] [] h = refl
+states_length [] (b ∷ bs) h = absurd h
+states_length (seat ∷ seats) [] h = absurd h
+states_length (seat ∷ seats) (b ∷ bs) h = ap suc (states_length seats bs h.1)
+
+pub state_below : (seats : List Seat) (bs : List ℕ) (k : ℕ) (seat : Seat) → slice_get seats k ≡ Some seat → AllZip (λ seat b. b < seat.beh.states) seats bs → slice_index bs k < seat.beh.states
+state_below [] bs k seat e h = absurd (none-some seat e)
+state_below (x ∷ seats) [] k seat e h = absurd h
+state_below (x ∷ seats) (b ∷ bs) zero seat e h = subst (λ (y : Seat). b < y.beh.states) (same_Some x seat e) h.0
+state_below (x ∷ seats) (b ∷ bs) (suc k) seat e h = state_below seats bs k seat e h.1
+
+-- the outcomes of the other seats lose the dead one's state
+pub outcomes-without : (s : Sys) (k : ℕ) (p : Pair) (a j : ℕ) → outcomes (left s k) (without k p) a j ≡ map (without k) (outcomes s p a (place k j))
+outcomes-without s k p a j =
+    ap₂ (λ o b. moved (left s k) (without k p) a j (seat_next o b p.e a)) (get-remove s.seats k j) (index-remove p.bs k j)
+    ∙ moved_named s (remove s.seats k) p a (place k j) j (seat_next (slice_get s.seats (place k j)) (slice_index p.bs (place k j)) p.e a) (λ bs. remove bs k) (remove p.bs k)
+    (λ b'. set-remove p.bs k j b')
+
+-- and get it back
+pub outcomes-with_state : (s : Sys) (k : ℕ) (p : Pair) (b a j : ℕ) → k ≤ length p.bs → outcomes s (with_state k b p) a (place k j) ≡ map (with_state k b) (outcomes (left s k) p a j)
+outcomes-with_state s k p b a j h =
+    ap₂ (λ o c. moved s (with_state k b p) a (place k j) (seat_next o c p.e a)) (sym (get-remove s.seats k j)) (index-insert p.bs k j b h)
+    ∙ moved_named (left s k) s.seats p a j (place k j) (seat_next (slice_get (remove s.seats k) j) (slice_index p.bs j) p.e a) (λ bs. insert bs k b) (insert p.bs k b)
+    (λ b'. set-insert p.bs k j b b' h)
+
+-- an outcome of another seat leaves the state of seat k
+pub outcome_keeps : (s : Sys) (k : ℕ) (p : Pair) (a j : ℕ) (q : Pair) → IsIn q (outcomes s p a (place k j)) → slice_index q.bs k ≡ slice_index p.bs k
+outcome_keeps s k p a j q i =
+    let (step, (b', m, e)) = from_moved s p a (place k j) (seat_next (slice_get s.seats (place k j)) (slice_index p.bs (place k j)) p.e a) q i in
+    ap (λ bs. slice_index bs k) e ∙ index_set_place p.bs k j b'
+
+pub all_final-remove : (seats : List Seat) (bs : List ℕ) (k : ℕ) (seat : Seat) → slice_get seats k ≡ Some seat → k < length bs → IsTrue (not seat.rests || is_final seat.beh (slice_index bs k)) →
+    all_final seats bs ≡ all_final (remove seats k) (remove bs k)
+all_final-remove [] bs k seat e l h = absurd (none-some seat e)
+all_final-remove (x ∷ seats) [] k seat e l h = absurd (omega arith)
+all_final-remove (x ∷ seats) (b ∷ bs) zero seat e l h = ap (λ y. y && all_final seats bs) (subst (λ (y : Seat). IsTrue (not y.rests || is_final y.beh b)) (sym (same_Some x seat e)) h)
+all_final-remove (x ∷ seats) (b ∷ bs) (suc k) seat e l h = ap (λ y. (not x.rests || is_final x.beh b) && y) (all_final-remove seats bs k seat e (omega arith) h)
+
+pub is_fine-without : (s : Sys) (k : ℕ) (seat : Seat) (p : Pair) → slice_get s.seats k ≡ Some seat → IsPair s p → IsTrue (may_go k seat p) → is_fine s p ≡ is_fine (left s k) (without k p)
+is_fine-without s k seat p seated ok goes =
+    let within : k < length s.seats = slice_get_within s.seats k seat seated in
+    let long : length p.bs ≡ length s.seats = states_length s.seats p.bs ok.bs in
+    ap (λ x. not (is_final s.target p.t) || x) (all_final-remove s.seats p.bs k seat seated (omega arith) goes)
+
+-- who is beaten without the seat
+pub beaten-without : (s : Sys) (k : ℕ) (gone : Pair → Bool) (p : Pair) (a j : ℕ) →
+    is_beaten (arena (left s k)) gone (without k p) a j ≡ is_beaten (arena s) (λ q. gone (without k q)) p a (place k j)
+beaten-without s k gone p a j =
+    ap (λ qs. is_empty qs || list_any gone qs) (outcomes-without s k p a j)
+    ∙ ap₂ (λ x y. x || y) (is_empty-map (without k) (outcomes s p a (place k j))) (list_any-map (without k) gone (outcomes s p a (place k j)))
+
+pub die_beaten : (s : Sys) (k : ℕ) (seat : Seat) (gone lost : Pair → Bool) → ((q : Pair) → IsTrue (gone q) → IsTrue (may_go k seat q) → IsTrue (lost (without k q))) →
+    (p : Pair) (a j : ℕ) → IsTrue (may_go k seat p) → IsTrue (is_beaten (arena s) gone p a (place k j)) → IsTrue (is_beaten (arena (left s k)) lost (without k p) a j)
+die_beaten s k seat gone lost carries p a j goes h =
+    beaten-without s k lost p a j ∙ elim (or_cases (is_empty (outcomes s p a (place k j))) (list_any gone (outcomes s p a (place k j))) h) [
+      | inl none ↦ or_left (is_empty (outcomes s p a (place k j))) (list_any (λ q. lost (without k q)) (outcomes s p a (place k j))) none
+      | inr some ↦
+          let (q, i, t) = any_true gone (outcomes s p a (place k j)) some in
+          or_right (is_empty (outcomes s p a (place k j))) (list_any (λ q. lost (without k q)) (outcomes s p a (place k j)))
+          (any_from (λ q. lost (without k q)) q (outcomes s p a (place k j)) i
+          (carries q t (subst (λ b. IsTrue (not seat.rests || is_final seat.beh b)) (sym (outcome_keeps s k p a j q i)) goes)))
+    ]
+
+pub die_justified : (s : Sys) (k : ℕ) (seat : Seat) (gone lost : Pair → Bool) → slice_get s.seats k ≡ Some seat →
+    ((q : Pair) → IsTrue (gone q) → IsTrue (may_go k seat q) → IsTrue (lost (without k q))) →
+    (p : Pair) → IsPair s p → IsTrue (may_go k seat p) → (reason : Reason) → IsTrue (is_justified (arena s) gone p reason) → IsTrue (is_justified (arena (left s k)) lost (without k p) reason)
+die_justified s k seat gone lost seated carries p ok goes Final h = ap not (sym (is_fine-without s k seat p seated ok goes)) ∙ h
+die_justified s k seat gone lost seated carries p ok goes (Act a) h =
+    let within : k < length s.seats = slice_get_within s.seats k seat seated in
+    let shorter : suc (length (remove s.seats k)) ≡ length s.seats = length-remove s.seats k within in
+    let (allowed, beaten) = and_parts (is_allowed s p a) (all_below (is_beaten (arena s) gone p a) (length s.seats)) h in
+    and_from (is_allowed s p a) (all_below (is_beaten (arena (left s k)) lost (without k p) a) (length (remove s.seats k))) allowed
+    (all_below_from (is_beaten (arena (left s k)) lost (without k p) a) (length (remove s.seats k))
+    (λ j l. die_beaten s k seat gone lost carries p a j goes
+    (all_below_at (is_beaten (arena s) gone p a) (length s.seats) (place k j) beaten
+    (subst (λ n. place k j < n) shorter (place_within k j (length (remove s.seats k)) (subst (λ n. k < n) (sym shorter) within) l)))))
+
+-- where each pair before that may go was seen, the rest of an order is one without the seat
+pub die_order : (s : Sys) (k : ℕ) (seat : Seat) → slice_get s.seats k ≡ Some seat → (before seen : List Pair) (L : List (Entry Pair)) → AreEntries s L →
+    ((q : Pair) → IsTrue (is_among (arena s) before q) → IsTrue (may_go k seat q) → IsTrue (is_among (arena (left s k)) seen (without k q))) →
+    IsOrderFrom (arena s) before L →
+    IsOrderFrom (arena (left s k)) seen (firsts seen (map (entry_without k) (filter (λ x. may_go k seat x.node) L)))
+die_order s k seat seated before seen [] are carries order = tt
+die_order s k seat seated before seen (x ∷ L) are carries order = by_test (may_go k seat x.node)
+    (λ goes. subst (λ M. IsOrderFrom (arena (left s k)) seen (firsts seen (map (entry_without k) M))) (sym (cond-true (may_go k seat x.node) (x ∷ goers_of) goers_of goes))
+    (by_test (list_any (same_pair (without k x.node)) seen)
+    (λ known. subst (λ M. IsOrderFrom (arena (left s k)) seen M) (sym (cond-true (list_any (same_pair (without k x.node)) seen) (firsts seen rest) (entry_without k x ∷ firsts (without k x.node ∷ seen) rest) known))
+    (die_order s k seat seated (x.node ∷ before) seen L (λ y i. are y (inr i)) (still known) order.2))
+    (λ new. subst (λ M. IsOrderFrom (arena (left s k)) seen M) (sym (cond-false (list_any (same_pair (without k x.node)) seen) (firsts seen rest) (entry_without k x ∷ firsts (without k x.node ∷ seen) rest) new)) (
+      new,
+      die_justified s k seat (is_among (arena s) before) (is_among (arena (left s k)) seen) seated carries x.node (are x (inl refl)) goes x.reason order.1,
+      die_order s k seat seated (x.node ∷ before) (without k x.node ∷ seen) L (λ y i. are y (inr i)) more order.2,
+    ))))
+    (λ stays. subst (λ M. IsOrderFrom (arena (left s k)) seen (firsts seen (map (entry_without k) M))) (sym (cond-false (may_go k seat x.node) (x ∷ goers_of) goers_of stays))
+    (die_order s k seat seated (x.node ∷ before) seen L (λ y i. are y (inr i)) (others stays) order.2))
+  where
+    goers_of : List (Entry Pair)
+    goers_of = filter (λ y. may_go k seat y.node) L
+
+    rest : List (Entry Pair)
+    rest = map (entry_without k) (filter (λ y. may_go k seat y.node) L)
+
+    still : IsTrue (list_any (same_pair (without k x.node)) seen) →
+        (q : Pair) → IsTrue (is_among (arena s) (x.node ∷ before) q) → IsTrue (may_go k seat q) → IsTrue (is_among (arena (left s k)) seen (without k q))
+    still known q h goes = elim (or_cases (same_pair q x.node) (list_any (same_pair q) before) h) [
+      | inl e ↦ subst (λ r. IsTrue (list_any (same_pair (without k r)) seen)) (sym (same_pair_is q x.node e)) known
+      | inr b ↦ carries q b goes
+    ]
+
+    more : (q : Pair) → IsTrue (is_among (arena s) (x.node ∷ before) q) → IsTrue (may_go k seat q) → IsTrue (is_among (arena (left s k)) (without k x.node ∷ seen) (without k q))
+    more q h goes = elim (or_cases (same_pair q x.node) (list_any (same_pair q) before) h) [
+      | inl e ↦ or_left (same_pair (without k q) (without k x.node)) (list_any (same_pair (without k q)) seen) (same_pair_from (without k q) (without k x.node) (ap (without k) (same_pair_is q x.node e)))
+      | inr b ↦ or_right (same_pair (without k q) (without k x.node)) (list_any (same_pair (without k q)) seen) (carries q b goes)
+    ]
+
+    others : IsFalse (may_go k seat x.node) →
+        (q : Pair) → IsTrue (is_among (arena s) (x.node ∷ before) q) → IsTrue (may_go k seat q) → IsTrue (is_among (arena (left s k)) seen (without k q))
+    others stays q h goes = elim (or_cases (same_pair q x.node) (list_any (same_pair q) before) h) [
+      | inl e ↦ absurd (both_ways (may_go k seat x.node) stays (subst (λ r. IsTrue (may_go k seat r)) (same_pair_is q x.node e) goes))
+      | inr b ↦ carries q b goes
+    ]
+
+pub firsts_in : (seen : List Pair) (L : List (Entry Pair)) (x : Entry Pair) → IsIn x (firsts seen L) → IsIn x L
+firsts_in seen [] x i = absurd i
+firsts_in seen (y ∷ L) x i = by_test (list_any (same_pair y.node) seen)
+    (λ t. inr (firsts_in seen L x (subst (λ M. IsIn x M) (cond-true (list_any (same_pair y.node) seen) (firsts seen L) (y ∷ firsts (y.node ∷ seen) L) t) i)))
+    (λ f. first (subst (λ M. IsIn x M) (cond-false (list_any (same_pair y.node) seen) (firsts seen L) (y ∷ firsts (y.node ∷ seen) L) f) i) (λ j. firsts_in (y.node ∷ seen) L x j))
+  where
+    first : IsIn x (y ∷ firsts (y.node ∷ seen) L) → (IsIn x (firsts (y.node ∷ seen) L) → IsIn x L) → IsIn x (y ∷ L)
+    first (inl e) go = inl e
+    first (inr j) go = inr (go j)
+
+-- what may go leaves a pair of the list, and so does what goes
+pub die_from : (k : ℕ) (seat : Seat) (L : List (Entry Pair)) (x : Entry Pair) → IsIn x (rename (Die k seat) L) → (y : Entry Pair) × IsIn y L × IsTrue (may_go k seat y.node) × (x ≡ entry_without k y)
+die_from k seat L x i =
+    let (y, j, e) = from_map (entry_without k) x (filter (λ z. may_go k seat z.node) L) (firsts_in [] (map (entry_without k) (filter (λ z. may_go k seat z.node) L)) x i) in
+    let (l, t) = filter_in (λ z. may_go k seat z.node) y L j in
+    (y, l, t, e)
+
+pub die_entries : (s : Sys) (k : ℕ) (seat : Seat) (L : List (Entry Pair)) → AreEntries s L → AreEntries (left s k) (rename (Die k seat) L)
+die_entries s k seat L are x i =
+    let (y, j, t, e) = die_from k seat L x i in
+    subst (λ z. IsPair (left s k) z.node) (sym e) (IsPair-without s k y.node (are y j))

@@ -1,0 +1,222 @@
+-- A system as an arena, the greatest ND-simulation, and complete removal lists.
+use Rattle.std.proofs.Common.{◌≡◌, ◌≢◌, ℕ, ◌<◌, Bool, not, List, [], map, length, IsTrue, IsFalse, filter, slice_set, inl, inr, refl, sym, subst, arith}
+use Rattle.std.proofs.lemmas.Bool.{both_ways, or_cases, or_left, or_right, not-true, not-false, not_from_true, not_from_false}
+use Rattle.std.proofs.lemmas.Option.{slice_get_within}
+use Rattle.roman_model.specs.Lists.{IsIn}
+use Rattle.roman_model.specs.System.{Sys, Pair, IsSys, IsPair, SStep, is_final, all_final, pairs, outcomes, is_allowed, is_fine}
+use Rattle.roman_model.specs.Arena.{Entry, is_listed, is_justified, IsOrder, loses, Survives}
+use Rattle.roman_model.specs.Composition.{Couple, couple, Serves, Meets, IsNdSim, GreatCouple, Great, arena, AreEntries, IsComplete}
+use Rattle.roman_model.specs.Laws.{GreatestIsGreatest, OrderRefutes, OrderCompletes, UnrelatedLoses, ReplayKeeps}
+use Rattle.roman_model.specs.Offers.{is_related}
+use Rattle.roman_model.specs.declared.reason.Reason.{Reason}
+use Rattle.roman_model.specs.declared.reason.Reason.TheVariants.{Final, Act}
+use Rattle.roman_model.proofs.Lists.{by_test, same_test, in_map, from_map, in_filter, filter_in, ne_not_empty, not_empty_in, not_empty_ne, in_not_empty}
+use Rattle.roman_model.proofs.SystemLemmas.{same_pair_is, same_pair_itself, in_pairs, from_pairs, pairs_once, outcome_in, from_outcome, outcome_seat, outcome_pair, allowed_in, from_allowed, allowed_in_range}
+use Rattle.roman_model.proofs.ArenaLemmas.{IsSame, IsArena, survives_more, survivor_within, in_listed, mask_not_empty, unallowed_unjustified}
+use Rattle.roman_model.proofs.OrderLemmas.{listed_dead, replay_order, replay_keeps}
+use Rattle.roman_model.proofs.DepthLemmas.{lost_dead, unlost_survives}
+
+-- The arena of a system.
+
+pub system_is_same : (s : Sys) → IsSame (arena s)
+system_is_same s = record { is = same_pair_is; itself = same_pair_itself }
+
+pub system_is_arena : (s : Sys) → IsSys s → IsArena (arena s)
+system_is_arena s ok = record {
+  same = system_is_same s;
+  allowed = λ p a t. allowed_in_range s p a ok t;
+  closed = λ p i a k q j. in_pairs s q (outcome_pair s p a k q ok (from_pairs s p i) j);
+  served = λ p a k q i.
+      let (l, ready) = outcome_seat s p a k q i in
+      (allowed_in s p a ok (q.t, q.e, (from_outcome s p a k q i).0), l, ready);
+  once = pairs_once s;
+}
+
+-- Clause 2.
+
+pub fine_is : (s : Sys) (p : Pair) → IsTrue (is_fine s p) → IsTrue (is_final s.target p.t) → IsTrue (all_final s.seats p.bs)
+fine_is s p fine final = elim (or_cases (not (is_final s.target p.t)) (all_final s.seats p.bs) fine)
+    [ inl f ↦ absurd (both_ways (is_final s.target p.t) (not-true (is_final s.target p.t) f) final) | inr all ↦ all ]
+
+pub fine_from : (s : Sys) (p : Pair) → (IsTrue (is_final s.target p.t) → IsTrue (all_final s.seats p.bs)) → IsTrue (is_fine s p)
+fine_from s p h = by_test (is_final s.target p.t)
+    (λ t. or_right (not (is_final s.target p.t)) (all_final s.seats p.bs) (h t))
+    (λ f. or_left (not (is_final s.target p.t)) (all_final s.seats p.bs) (not_from_false (is_final s.target p.t) f))
+
+-- Clause 3: a seat serves where it has an outcome, and each outcome is related. The guards read the environment's
+-- present state, so a seat that has an outcome has one for each target step.
+
+pub serves_outcomes : (s : Sys) (Related : Couple → Type 0) (p : Pair) (a k : ℕ) → IsSys s → IsTrue (is_allowed s p a) → Serves s Related (couple p) a k →
+    (k < length s.seats) × (outcomes s p a k ≢ []) × ((q : Pair) → IsIn q (outcomes s p a k) → Related (couple q))
+serves_outcomes s Related p a k ok allowed serves =
+    let (t', e', step) = from_allowed s p a allowed in
+    let (bs', r) = (serves t' e' step).0 in (
+      slice_get_within s.seats k r.seat r.seated,
+      not_empty_ne (outcomes s p a k) (in_not_empty (record { t = t'; e = e'; bs = bs' }) (outcomes s p a k) (outcome_in s p a k t' e' bs' ok step r)),
+      λ q i. let (target, seat) = from_outcome s p a k q i in (serves q.t q.e target).1 q.bs seat,
+    )
+
+pub outcomes_serve : (s : Sys) (Related : Couple → Type 0) (p : Pair) (a k : ℕ) → IsSys s → outcomes s p a k ≢ [] →
+    ((q : Pair) → IsIn q (outcomes s p a k) → Related (couple q)) → Serves s Related (couple p) a k
+outcomes_serve s Related p a k ok some all t' e' step =
+    let (q, i) = not_empty_in (outcomes s p a k) (ne_not_empty (outcomes s p a k) some) in
+    let r : SStep s p.bs p.e a k q.bs q.e = (from_outcome s p a k q i).1 in (
+      (slice_set p.bs k r.to, record { seat = r.seat; seated = r.seated; ready = r.ready; world = step.0; to = r.to; moves = r.moves; is = refl }),
+      λ bs' other. all (record { t = t'; e = e'; bs = bs' }) (outcome_in s p a k t' e' bs' ok step other),
+    )
+
+pub meets_survives : (s : Sys) (Related : Couple → Type 0) (p : Pair) → IsSys s → Meets s Related (couple p) → Survives (arena s) (λ q. Related (couple q)) p
+meets_survives s Related p ok meets = record {
+  final = fine_from s p meets.final;
+  served = λ a allowed.
+      let (k, serves) = meets.served a (from_allowed s p a allowed) in
+      let (l, some, all) = serves_outcomes s Related p a k ok allowed serves in
+      (k, l, some, all);
+}
+
+pub survives_meets : (s : Sys) (Related : Couple → Type 0) (p : Pair) → IsSys s → Survives (arena s) (λ q. Related (couple q)) p → Meets s Related (couple p)
+survives_meets s Related p ok survives = record {
+  shared = refl;
+  final = fine_is s p survives.final;
+  served = λ a allows.
+      let (k, l, some, all) = survives.served a (allowed_in s p a ok allows) in
+      (k, outcomes_serve s Related p a k ok some all);
+}
+
+-- The greatest ND-simulation.
+
+-- the clauses go on to hold in a relation that has more
+pub meets_more : (s : Sys) (Related More : Couple → Type 0) (c : Couple) → ((d : Couple) → Related d → More d) → Meets s Related c → Meets s More c
+meets_more s Related More c more meets = record {
+  shared = meets.shared;
+  final = meets.final;
+  served = λ a allows.
+      let (k, serves) = meets.served a allows in
+      (k, λ t' e' step. let (some, all) = serves t' e' step in (some, λ bs' r. more (record { t = t'; e = e'; bs = bs'; e2 = e' }) (all bs' r)));
+}
+
+pub great_meets : (s : Sys) (c : Couple) → GreatCouple s c → Meets s (GreatCouple s) c
+great_meets s c (R, sim, i) = meets_more s (λ d. IsIn d R) (GreatCouple s) c (λ d j. (R, sim, j)) (sim c i)
+
+pub great_survives : (s : Sys) (p : Pair) → IsSys s → Great s p → Survives (arena s) (Great s) p
+great_survives s p ok great = meets_survives s (GreatCouple s) p ok (great_meets s (couple p) great)
+
+-- pairs that survive among themselves are an ND-simulation
+pub survivors_sim : (s : Sys) (ps : List Pair) → IsSys s → ((p : Pair) → IsIn p ps → Survives (arena s) (λ q. IsIn q ps) p) → IsNdSim s (map couple ps)
+survivors_sim s ps ok survive c i =
+    let (p, j, e) = from_map couple c ps i in
+    subst (Meets s (λ d. IsIn d (map couple ps))) (sym e)
+    (survives_meets s (λ d. IsIn d (map couple ps)) p ok
+    (survives_more (arena s) (λ q. IsIn q ps) (λ q. IsIn (couple q) (map couple ps)) p (λ a k q l. in_map couple q ps) (survive p j)))
+
+-- the pairs that fail the test survive among themselves: then they are related
+pub great_from : (s : Sys) (gone : Pair → Bool) → IsSys s →
+    ((p : Pair) → IsPair s p → IsFalse (gone p) → Survives (arena s) (λ q. IsIn q (pairs s) × IsFalse (gone q)) p) →
+    IsNdSim s (map couple (filter (λ p. not (gone p)) (pairs s)))
+great_from s gone ok survive = survivors_sim s (filter (λ p. not (gone p)) (pairs s)) ok
+    (λ p i.
+    let (j, t) = filter_in (λ p. not (gone p)) p (pairs s) i in
+    survives_more (arena s) (λ q. IsIn q (pairs s) × IsFalse (gone q)) (λ q. IsIn q (filter (λ p. not (gone p)) (pairs s))) p
+    (λ a k q l h. in_filter (λ p. not (gone p)) q (pairs s) h.0 (not_from_false (gone q) h.1))
+    (survive p (from_pairs s p j) (not-true (gone p) t)))
+
+pub great_in : (s : Sys) (gone : Pair → Bool) (p : Pair) → IsNdSim s (map couple (filter (λ p. not (gone p)) (pairs s))) → IsPair s p → IsFalse (gone p) → Great s p
+great_in s gone p sim ok f = (
+  map couple (filter (λ p. not (gone p)) (pairs s)),
+  sim,
+  in_map couple p (filter (λ p. not (gone p)) (pairs s)) (in_filter (λ p. not (gone p)) p (pairs s) (in_pairs s p ok) (not_from_false (gone p) f)),
+)
+
+-- the pairs that aren't lost within as many requests as there are pairs are an ND-simulation
+pub last_is_sim : (s : Sys) → IsSys s → IsNdSim s (map couple (filter (λ p. not (loses (arena s) (length (pairs s)) p)) (pairs s)))
+last_is_sim s ok = great_from s (loses (arena s) (length (pairs s))) ok
+    (λ p pair f. unlost_survives (arena s) (system_is_arena s ok) p (in_pairs s p pair) f)
+
+pub lost_unrelated : (s : Sys) (n : ℕ) (p : Pair) → IsSys s → IsTrue (loses (arena s) n p) → Great s p → ⊥
+lost_unrelated s n p ok t great = lost_dead (arena s) (Great s) (λ q. great_survives s q ok) n p t great
+
+pub related_great : (s : Sys) (p : Pair) → IsSys s → IsPair s p → IsTrue (is_related s p) → Great s p
+related_great s p ok pair t = great_in s (loses (arena s) (length (pairs s))) p (last_is_sim s ok) pair (not-true (loses (arena s) (length (pairs s)) p) t)
+
+pub great_related : (s : Sys) (p : Pair) → IsSys s → Great s p → IsTrue (is_related s p)
+great_related s p ok great = by_test (loses (arena s) (length (pairs s)) p)
+    (λ t. absurd (lost_unrelated s (length (pairs s)) p ok t great))
+    (λ f. not_from_false (loses (arena s) (length (pairs s)) p) f)
+
+-- The greatest is a simulation.
+pub greatest_is : GreatestIsGreatest
+greatest_is s ok = record {
+  closed = great_meets s;
+  holds_each = λ R sim c i. (R, sim, i);
+  finite = (
+    map couple (filter (is_related s) (pairs s)),
+    last_is_sim s ok,
+    λ p pair. (
+      λ great. in_map couple p (filter (is_related s) (pairs s)) (in_filter (is_related s) p (pairs s) (in_pairs s p pair) (great_related s p ok great)),
+      λ i. (map couple (filter (is_related s) (pairs s)), last_is_sim s ok, i),
+    ),
+  );
+}
+
+-- Removal lists.
+
+-- what is listed is lost
+pub listed_unrelated : (s : Sys) (L : List (Entry Pair)) (p : Pair) → IsSys s → IsOrder (arena s) L → IsTrue (is_listed (arena s) L p) → Great s p → ⊥
+listed_unrelated s L p ok order t great = listed_dead (arena s) (system_is_same s) (Great s) (λ q. great_survives s q ok) L order p t great
+
+pub order_refuted : OrderRefutes
+order_refuted s L ok order x i pair great = listed_unrelated s L x.node ok order (in_listed (arena s) (system_is_same s) L x i) great
+
+-- where no reason holds at an unlisted pair, the unlisted pairs are related
+pub unlisted_related : (s : Sys) (L : List (Entry Pair)) → IsSys s →
+    ((p : Pair) → IsPair s p → IsFalse (is_listed (arena s) L p) → IsTrue (is_fine s p)) →
+    ((p : Pair) → IsPair s p → IsFalse (is_listed (arena s) L p) → (a : ℕ) → IsTrue (is_allowed s p a) → IsFalse (is_justified (arena s) (is_listed (arena s) L) p (Act a))) →
+    (p : Pair) → IsPair s p → IsFalse (is_listed (arena s) L p) → Great s p
+unlisted_related s L ok fine no_reason p pair f =
+    great_in s (is_listed (arena s) L) p
+    (great_from s (is_listed (arena s) L) ok
+    (λ q q_pair g. survivor_within (arena s) (system_is_arena s ok) (is_listed (arena s) L) q (in_pairs s q q_pair) (fine q q_pair g) (no_reason q q_pair g)))
+    pair f
+
+-- an order is complete where no reason holds at an unlisted pair
+pub completed_by : (s : Sys) (L : List (Entry Pair)) → IsSys s → AreEntries s L → IsOrder (arena s) L →
+    ((p : Pair) → IsPair s p → IsFalse (is_listed (arena s) L p) → (r : Reason) → IsFalse (is_justified (arena s) (is_listed (arena s) L) p r)) → IsComplete s L
+completed_by s L ok entries order no_reason = record {
+  pairs = entries;
+  order = order;
+  exact = λ p pair. (
+    λ t great. listed_unrelated s L p ok order t great,
+    λ unrelated. by_test (is_listed (arena s) L p) (λ t. t)
+        (λ f. absurd (unrelated (unlisted_related s L ok
+        (λ q q_pair g. not-false (is_fine s q) (no_reason q q_pair g Final))
+        (λ q q_pair g a allowed. no_reason q q_pair g (Act a)) p pair f))),
+  );
+}
+
+pub order_completed : OrderCompletes
+order_completed s L ok entries order fine some_left = completed_by s L ok entries order no_reason
+  where
+    no_reason : (p : Pair) → IsPair s p → IsFalse (is_listed (arena s) L p) → (r : Reason) → IsFalse (is_justified (arena s) (is_listed (arena s) L) p r)
+    no_reason p pair f Final = not_from_true (is_fine s p) (fine p pair f)
+    no_reason p pair f (Act a) = by_test (is_allowed s p a)
+        (λ t. mask_not_empty (arena s) (is_listed (arena s) L) p a (some_left p pair f a t))
+        (λ g. unallowed_unjustified (arena s) (is_listed (arena s) L) p a g)
+
+-- a pair is listed in a complete list exactly where it isn't related
+pub complete_listed : (s : Sys) (L : List (Entry Pair)) (p : Pair) → IsSys s → IsComplete s L → IsPair s p → is_listed (arena s) L p ≡ not (is_related s p)
+complete_listed s L p ok complete pair = same_test (is_listed (arena s) L p) (not (is_related s p))
+    (λ t. by_test (is_related s p) (λ r. absurd ((complete.exact p pair).0 t (related_great s p ok pair r))) (λ f. not_from_false (is_related s p) f))
+    (λ t. (complete.exact p pair).1 (λ great. both_ways (is_related s p) (not-true (is_related s p) t) (great_related s p ok great)))
+
+-- Depth is bounded.
+pub unrelated_lost : UnrelatedLoses
+unrelated_lost s ok p pair = (
+  λ unrelated. by_test (loses (arena s) (length (pairs s)) p)
+      (λ t. (length (pairs s), omega arith, t))
+      (λ f. absurd (unrelated (related_great s p ok pair (not_from_false (loses (arena s) (length (pairs s)) p) f)))),
+  λ (n, l, t) great. lost_unrelated s n p ok t great,
+)
+
+-- The replay keeps the most.
+pub replay_kept : ReplayKeeps
+replay_kept s L new = record { order = replay_order (arena s) L new; best = λ M sub order. replay_keeps (arena s) M L sub order }

@@ -1,0 +1,155 @@
+-- Depths over any arena: within how many requests the opponent wins.
+use Rattle.std.proofs.Common.{◌≡◌, ℕ, zero, suc, ◌+◌, ◌<◌, ◌≤◌, not, ◌||◌, ◌⊎◌, List, length, Option, Some, None, IsTrue, IsFalse, filter, inl, inr, refl, sym, ap, ◌∙◌, subst, arith}
+use Rattle.std.specs.List.{list_any}
+use Rattle.std.proofs.lemmas.Bool.{both_ways, or_cases, or_parts, or_left, or_right, not-true, not-false, not_from_true, not_from_false, cases_eq, cases_lt}
+use Rattle.roman_model.specs.Lists.{IsIn, below}
+use Rattle.roman_model.specs.Arena.{Arena, Entry, is_listed, is_justified, IsOrder, loses, depth, Survives}
+use Rattle.roman_model.specs.declared.reason.Reason.{Reason}
+use Rattle.roman_model.specs.declared.reason.Reason.TheVariants.{Final, Act}
+use Rattle.roman_model.proofs.Lists.{by_test, same_test, any_true, any_from, any_false, any_same, filter_shrinks, filter_sublist, sublist_length, in_below, find_none, find_least, find_first}
+use Rattle.roman_model.proofs.ArenaLemmas.{IsArena, justified_is, justified_same, unjustified, survivor_within}
+use Rattle.roman_model.proofs.OrderLemmas.{listed_dead}
+
+-- A node is lost within more requests where it is within fewer.
+
+pub loses_up : {N : Type 0} (A : Arena N) (m n : ℕ) (p : N) → m ≤ n → IsTrue (loses A m p) → IsTrue (loses A n p)
+loses_up A m zero p l t = subst (λ k. IsTrue (loses A k p)) (let e : m ≡ 0 = omega arith in e) t
+loses_up A m (suc n) p l t = elim (cases_eq m (suc n)) [
+  | inl e ↦ subst (λ k. IsTrue (loses A k p)) e t
+  | inr ne ↦ or_left (loses A n p) (list_any (λ a. is_justified A (loses A n) p (Act a)) (below A.actions)) (loses_up A m n p (omega arith) t)
+]
+
+pub loses_down : {N : Type 0} (A : Arena N) (m n : ℕ) (p : N) → m ≤ n → IsFalse (loses A n p) → IsFalse (loses A m p)
+loses_down A m n p l f = by_test (loses A m p) (λ t. absurd (both_ways (loses A n p) f (loses_up A m n p l t))) (λ g. g)
+
+-- clause 2 holds at a node that isn't lost
+pub unlost_fine : {N : Type 0} (A : Arena N) (n : ℕ) (p : N) → IsFalse (loses A n p) → IsTrue (A.fine p)
+unlost_fine A n p f = not-false (A.fine p) (loses_down A zero n p (omega arith) f)
+
+-- no action loses a node within one request more that isn't lost by then
+pub unlost_act : {N : Type 0} (A : Arena N) → IsArena A → (n : ℕ) (p : N) (a : ℕ) → IsFalse (loses A (suc n) p) → IsTrue (A.allows p a) → IsFalse (is_justified A (loses A n) p (Act a))
+unlost_act A ok n p a f allowed =
+    any_false (λ b. is_justified A (loses A n) p (Act b)) a (below A.actions)
+    (or_parts (loses A n p) (list_any (λ b. is_justified A (loses A n) p (Act b)) (below A.actions)) f).1
+    (in_below A.actions a (ok.allowed p a allowed))
+
+-- an action that refutes a node loses it
+pub lost_act : {N : Type 0} (A : Arena N) → IsArena A → (n : ℕ) (p : N) (a : ℕ) → IsTrue (is_justified A (loses A n) p (Act a)) → IsTrue (loses A (suc n) p)
+lost_act A ok n p a j =
+    or_right (loses A n p) (list_any (λ b. is_justified A (loses A n) p (Act b)) (below A.actions))
+    (any_from (λ b. is_justified A (loses A n) p (Act b)) a (below A.actions) (in_below A.actions a (ok.allowed p a (justified_is A (loses A n) p a j).0)) j)
+
+-- Nothing that is lost lives, for any way to live that keeps itself up.
+pub lost_dead : {N : Type 0} (A : Arena N) (Lives : N → Type 0) → ((p : N) → Lives p → Survives A Lives p) → (n : ℕ) (p : N) → IsTrue (loses A n p) → Lives p → ⊥
+lost_dead A Lives lives zero p t v = both_ways (A.fine p) (not-true (A.fine p) t) (lives p v).final
+lost_dead A Lives lives (suc n) p t v = elim (or_cases (loses A n p) (list_any (λ a. is_justified A (loses A n) p (Act a)) (below A.actions)) t) [
+  | inl sooner ↦ lost_dead A Lives lives n p sooner v
+  | inr now ↦
+      let (a, i, j) = any_true (λ a. is_justified A (loses A n) p (Act a)) (below A.actions) now in
+      unjustified A Lives (loses A n) p (Act a) (lives p v) (λ q s w. lost_dead A Lives lives n q s w) j
+]
+
+-- The rounds come to an end.
+
+-- one round more loses no more nodes
+abbrev pub IsSteady : {N : Type 0} → Arena N → ℕ → Type 0
+IsSteady {N} A m = (p : N) → IsIn p A.nodes → loses A (suc m) p ≡ loses A m p
+
+-- so many nodes aren't lost
+abbrev pub unlost_count : {N : Type 0} → Arena N → ℕ → ℕ
+unlost_count A n = length (filter (λ p. not (loses A n p)) A.nodes)
+
+-- up to n the rounds come to an end, or each of them loses a node
+pub rounds : {N : Type 0} (A : Arena N) (n : ℕ) → ((m : ℕ) × (m < n) × IsSteady A m) ⊎ (unlost_count A n + n ≤ length A.nodes)
+rounds A zero =
+    let l : unlost_count A zero ≤ length A.nodes = sublist_length (filter (λ p. not (loses A zero p)) A.nodes) A.nodes (filter_sublist (λ p. not (loses A zero p)) A.nodes) in
+    inr (omega arith)
+rounds {N} A (suc n) = elim (rounds A n) [
+  | inl before ↦ let (m, l, steady) = before in inl (m, omega arith, steady)
+  | inr few ↦ elim (filter_shrinks (λ p. not (loses A n p)) (λ p. not (loses A (suc n) p)) A.nodes
+      (λ p i t. not_from_false (loses A n p) (loses_down A n (suc n) p (omega arith) (not-true (loses A (suc n) p) t)))) [
+        | inl same ↦ inl (
+          n,
+          omega arith,
+          λ p i. same_test (loses A (suc n) p) (loses A n p)
+              (λ t. not-false (loses A n p) (same p i ∙ not_from_true (loses A (suc n) p) t))
+              (λ t. loses_up A n (suc n) p (omega arith) t),
+        )
+        | inr short ↦ inr (omega arith)
+      ]
+]
+
+-- within as many rounds as there are nodes they come to an end
+pub rounds_end : {N : Type 0} (A : Arena N) → (m : ℕ) × (m ≤ length A.nodes) × IsSteady A m
+rounds_end A = elim (rounds A (suc (length A.nodes)))
+    [ inl found ↦ let (m, l, steady) = found in (m, omega arith, steady) | inr few ↦ (let none : ⊥ = omega arith in absurd none) ]
+
+-- after a steady round nothing more is lost
+pub steady_stays : {N : Type 0} (A : Arena N) → IsArena A → (m : ℕ) → IsSteady A m → (n : ℕ) → m ≤ n → (p : N) → IsIn p A.nodes → loses A n p ≡ loses A m p
+steady_stays A ok m steady zero l p i = ap (λ k. loses A k p) (let e : 0 ≡ m = omega arith in e)
+steady_stays {N} A ok m steady (suc n) l p i = elim (cases_eq m (suc n)) [
+  | inl e ↦ ap (λ k. loses A k p) (sym e)
+  | inr ne ↦
+      let before : (q : N) → IsIn q A.nodes → loses A n q ≡ loses A m q = steady_stays A ok m steady n (omega arith) in
+      ap (λ b. b || list_any (λ a. is_justified A (loses A n) p (Act a)) (below A.actions)) (before p i)
+      ∙ ap (λ b. loses A m p || b) (any_same (λ a. is_justified A (loses A n) p (Act a)) (λ a. is_justified A (loses A m) p (Act a)) (below A.actions)
+      (λ a j. justified_same A (loses A n) (loses A m) p (Act a) (λ b k q h. before q (ok.closed p i b k q h))))
+      ∙ steady p i
+]
+
+-- what isn't lost within as many requests as there are nodes is never lost
+pub last_is_steady : {N : Type 0} (A : Arena N) → IsArena A → (n : ℕ) → length A.nodes ≤ n → (p : N) → IsIn p A.nodes → loses A n p ≡ loses A (length A.nodes) p
+last_is_steady A ok n l p i =
+    let (m, k, steady) = rounds_end A in
+    steady_stays A ok m steady n (omega arith) p i ∙ sym (steady_stays A ok m steady (length A.nodes) k p i)
+
+-- the nodes that aren't lost survive among themselves
+pub unlost_survives : {N : Type 0} (A : Arena N) → IsArena A → (p : N) → IsIn p A.nodes → IsFalse (loses A (length A.nodes) p) →
+    Survives A (λ q. IsIn q A.nodes × IsFalse (loses A (length A.nodes) q)) p
+unlost_survives A ok p i f =
+    survivor_within A ok (loses A (length A.nodes)) p i (unlost_fine A (length A.nodes) p f)
+    (λ a allowed. unlost_act A ok (length A.nodes) p a (last_is_steady A ok (suc (length A.nodes)) (omega arith) p i ∙ f) allowed)
+
+-- Depths.
+
+-- a node is lost within its depth, and not sooner
+pub depth_is : {N : Type 0} (A : Arena N) (p : N) (d : ℕ) → depth A p ≡ Some d → (d ≤ length A.nodes) × IsTrue (loses A d p) × ((n : ℕ) → n < d → IsFalse (loses A n p))
+depth_is A p d e =
+    let (l, t, least) = find_least (λ n. loses A n p) (length A.nodes + 1) d e in
+    (omega arith, t, least)
+
+pub depth_from : {N : Type 0} (A : Arena N) (p : N) (d : ℕ) → d ≤ length A.nodes → IsTrue (loses A d p) → ((n : ℕ) → n < d → IsFalse (loses A n p)) → depth A p ≡ Some d
+depth_from A p d l t least = find_first (λ n. loses A n p) (length A.nodes + 1) d (omega arith) t least
+
+-- a node without a depth is never lost
+pub depth_none : {N : Type 0} (A : Arena N) → IsArena A → (p : N) → IsIn p A.nodes → depth A p ≡ None → (n : ℕ) → IsFalse (loses A n p)
+depth_none A ok p i e n =
+    let last : IsFalse (loses A (length A.nodes) p) =
+    any_false (λ m. loses A m p) (length A.nodes) (below (length A.nodes + 1)) (find_none (λ m. loses A m p) (below (length A.nodes + 1)) e)
+    (in_below (length A.nodes + 1) (length A.nodes) (omega arith)) in
+    elim (cases_lt n (length A.nodes))
+    [ inl less ↦ loses_down A n (length A.nodes) p (omega arith) last | inr more ↦ last_is_steady A ok n more p i ∙ last ]
+
+-- a node that is lost has a depth, which is no more than any number of requests within which it is lost
+pub lost_depth : {N : Type 0} (A : Arena N) → IsArena A → (p : N) → IsIn p A.nodes → (n : ℕ) → IsTrue (loses A n p) → (d : ℕ) × (d ≤ n) × (depth A p ≡ Some d)
+lost_depth A ok p i n t = by_found (depth A p) refl
+  where
+    by_found : (o : Option ℕ) → depth A p ≡ o → (d : ℕ) × (d ≤ n) × (depth A p ≡ Some d)
+    by_found None e = absurd (both_ways (loses A n p) (depth_none A ok p i e n) t)
+    by_found (Some d) e =
+        let (l, s, least) = depth_is A p d e in
+        elim (cases_lt n d) [ inl less ↦ absurd (both_ways (loses A n p) (least n less) t) | inr no_more ↦ (d, no_more, e) ]
+
+-- Settled lists.
+
+-- where an order holds a node for each reason that holds, its nodes are exactly those that are lost
+pub settled_exact : {N : Type 0} (A : Arena N) → IsArena A → (L : List (Entry N)) → IsOrder A L →
+    ((p : N) → IsIn p A.nodes → IsFalse (is_listed A L p) → (r : Reason) → IsFalse (is_justified A (is_listed A L) p r)) →
+    (p : N) → IsIn p A.nodes → is_listed A L p ≡ loses A (length A.nodes) p
+settled_exact {N} A ok L order settled p i = same_test (is_listed A L p) (loses A (length A.nodes) p)
+    (λ t. by_test (loses A (length A.nodes) p) (λ u. u)
+    (λ f. absurd (listed_dead A ok.same (λ q. IsIn q A.nodes × IsFalse (loses A (length A.nodes) q)) (λ q h. unlost_survives A ok q h.0 h.1) L order p t (i, f))))
+    (λ t. by_test (is_listed A L p) (λ u. u)
+    (λ f. absurd (lost_dead A (λ q. IsIn q A.nodes × IsFalse (is_listed A L q))
+    (λ q h. survivor_within A ok (is_listed A L) q h.0 (not-false (A.fine q) (settled q h.0 h.1 Final)) (λ a allowed. settled q h.0 h.1 (Act a)))
+    (length A.nodes) p t (i, f))))

@@ -1,0 +1,76 @@
+-- What the lines of a text are, where its first lines are known.
+use Rattle.std.proofs.Common.{◌≡◌, ◌≢◌, ℕ, ◌==◌, false, List, [], ◌∷◌, ◌++◌, IsFalse, refl, sym, ap, ◌∙◌, inl, inr, append_assoc, append-nil}
+use Rattle.std.proofs.lemmas.Bool.{or_parts, cond-false}
+use Rattle.roman_model.specs.Lists.{IsIn}
+use Rattle.roman_model.specs.Lines.{onto_first_line, lines, onto_ended_line, ended_lines, text_of}
+use Rattle.roman_model.specs.System.{has}
+
+-- the line has no newline in it
+abbrev pub IsLine : List ℕ → Type 0
+IsLine line = IsFalse (has line 10)
+
+-- so have all of them
+abbrev pub AreLines : List (List ℕ) → Type 0
+AreLines ls = (line : List ℕ) → IsIn line ls → IsLine line
+
+pub lines-line : (line rest : List ℕ) → IsLine line → lines (line ++ 10 ∷ rest) ≡ line ∷ lines rest
+lines-line [] rest h = refl
+lines-line (byte ∷ line) rest h =
+    let (first, others) = or_parts (byte == 10) (has line 10) h in
+    cond-false (byte == 10) ([] ∷ lines (line ++ 10 ∷ rest)) (onto_first_line byte (lines (line ++ 10 ∷ rest))) first
+    ∙ ap (onto_first_line byte) (lines-line line rest others)
+
+pub ended_lines-line : (line rest : List ℕ) → IsLine line → ended_lines (line ++ 10 ∷ rest) ≡ line ∷ ended_lines rest
+ended_lines-line [] rest h = refl
+ended_lines-line (byte ∷ line) rest h =
+    let (first, others) = or_parts (byte == 10) (has line 10) h in
+    cond-false (byte == 10) ([] ∷ ended_lines (line ++ 10 ∷ rest)) (onto_ended_line byte (ended_lines (line ++ 10 ∷ rest))) first
+    ∙ ap (onto_ended_line byte) (ended_lines-line line rest others)
+
+-- bytes without a newline are one line, if there are any
+pub lines_last : (line : List ℕ) → IsLine line → line ≢ [] → lines line ≡ line ∷ []
+lines_last [] h some = absurd (some refl)
+lines_last (byte ∷ []) h some =
+    let (first, others) = or_parts (byte == 10) false h in
+    cond-false (byte == 10) ([] ∷ []) ((byte ∷ []) ∷ []) first
+lines_last (byte ∷ next ∷ line) h some =
+    let (first, others) = or_parts (byte == 10) (has (next ∷ line) 10) h in
+    cond-false (byte == 10) ([] ∷ lines (next ∷ line)) (onto_first_line byte (lines (next ∷ line))) first
+    ∙ ap (onto_first_line byte) (lines_last (next ∷ line) others (λ e. nil_is_not_cons next line e))
+  where
+    nil_is_not_cons : (b : ℕ) (bs : List ℕ) → (b ∷ bs) ≢ []
+    nil_is_not_cons b bs e = let h : ⊥ = cc in h
+
+pub ended_lines_last : (line : List ℕ) → IsLine line → ended_lines line ≡ []
+ended_lines_last [] h = refl
+ended_lines_last (byte ∷ line) h =
+    let (first, others) = or_parts (byte == 10) (has line 10) h in
+    cond-false (byte == 10) ([] ∷ ended_lines line) (onto_ended_line byte (ended_lines line)) first
+    ∙ ap (onto_ended_line byte) (ended_lines_last line others)
+
+-- a line, its newline, and what follows
+text_first : (line rest more : List ℕ) → ((line ++ 10 ∷ []) ++ rest) ++ more ≡ line ++ 10 ∷ (rest ++ more)
+text_first line rest more = append_assoc (line ++ 10 ∷ []) rest more ∙ append_assoc line (10 ∷ []) (rest ++ more)
+
+pub lines-text : (ls : List (List ℕ)) (rest : List ℕ) → AreLines ls → lines (text_of ls ++ rest) ≡ ls ++ lines rest
+lines-text [] rest are = refl
+lines-text (line ∷ ls) rest are =
+    ap lines (text_first line (text_of ls) rest) ∙ lines-line line (text_of ls ++ rest) (are line (inl refl))
+    ∙ ap (λ ms. line ∷ ms) (lines-text ls rest (λ l i. are l (inr i)))
+
+pub ended_lines-text : (ls : List (List ℕ)) (rest : List ℕ) → AreLines ls → ended_lines (text_of ls ++ rest) ≡ ls ++ ended_lines rest
+ended_lines-text [] rest are = refl
+ended_lines-text (line ∷ ls) rest are =
+    ap ended_lines (text_first line (text_of ls) rest) ∙ ended_lines-line line (text_of ls ++ rest) (are line (inl refl))
+    ∙ ap (λ ms. line ∷ ms) (ended_lines-text ls rest (λ l i. are l (inr i)))
+
+-- a text of lines has those lines
+pub lines-text_of : (ls : List (List ℕ)) → AreLines ls → lines (text_of ls) ≡ ls
+lines-text_of ls are = ap lines (sym (append-nil (text_of ls))) ∙ lines-text ls [] are ∙ append-nil ls
+
+pub text_of-push : (ls : List (List ℕ)) (line : List ℕ) → text_of (ls ++ line ∷ []) ≡ text_of ls ++ line ++ 10 ∷ []
+text_of-push [] line = append-nil (line ++ 10 ∷ [])
+text_of-push (first ∷ ls) line =
+    ap (λ bs. (first ++ 10 ∷ []) ++ bs) (text_of-push ls line)
+    ∙ sym (append_assoc (first ++ 10 ∷ []) (text_of ls ++ line) (10 ∷ []))
+    ∙ ap (λ bs. bs ++ 10 ∷ []) (sym (append_assoc (first ++ 10 ∷ []) (text_of ls) line))

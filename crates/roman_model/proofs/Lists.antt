@@ -1,0 +1,448 @@
+-- Lemmas on lists and their elements, on numbers below a bound, and on tests.
+use Rattle.std.proofs.Common.{◌≡◌, ◌≢◌, ℕ, zero, suc, ◌+◌, ◌<◌, ◌≤◌, Bool, true, false, cond, ◌&&◌, ◌||◌, ◌⊎◌, ◌↔◌, List, [], ◌∷◌, ◌++◌, map, length, get_or, Option, Some, None, IsTrue, IsFalse, Contains, filter, find, flat_map, sum_by, inl, inr, refl, sym, ap, ap₂, ◌∙◌, subst, arith, add-one, length-append}
+use Rattle.std.specs.List.{list_any}
+use Rattle.std.proofs.lemmas.Bool.{false≢true, true≢false, both_ways, or_cases, or_parts, or_left, or_right, or_from, and_parts, and_from, and_cases, cond-true, cond-false, cases_eq, cases_order}
+use Rattle.std.proofs.lemmas.List.{length_push, get_or_push, get_or_append_left}
+use Rattle.std.proofs.lemmas.List.Sums.{sum_by-cons, sum_by-append}
+use Rattle.std.proofs.lemmas.List.Folds.{list_any-append, find-append}
+use Rattle.std.proofs.lemmas.List.Elements.{filter-append}
+use Rattle.std.proofs.lemmas.Option.{none-some, same_Some}
+use Rattle.std.specs.Option.{option_or}
+use Rattle.roman_model.specs.Lists.{IsIn, IsSublist, HasNoRepeats, HoldsEachOnce, below, all_below, is_empty}
+
+-- Tests.
+
+-- by cases of a test, each with what the test says
+pub by_test : {P : Type 0} (b : Bool) → (IsTrue b → P) → (IsFalse b → P) → P
+by_test true on_true on_false = on_true refl
+by_test false on_true on_false = on_false refl
+
+-- two tests that follow from each other are the same
+pub same_test : (a b : Bool) → (IsTrue a → IsTrue b) → (IsTrue b → IsTrue a) → a ≡ b
+same_test true b to back = sym (to refl)
+same_test false true to back = back refl
+same_test false false to back = refl
+
+-- Elements of lists that are made of others.
+
+pub in_append_left : {X : Type 0} (x : X) (xs ys : List X) → IsIn x xs → IsIn x (xs ++ ys)
+in_append_left x (y ∷ xs) ys (inl e) = inl e
+in_append_left x (y ∷ xs) ys (inr i) = inr (in_append_left x xs ys i)
+in_append_left x [] ys i = absurd i
+
+pub in_append_right : {X : Type 0} (x : X) (xs ys : List X) → IsIn x ys → IsIn x (xs ++ ys)
+in_append_right x [] ys i = i
+in_append_right x (y ∷ xs) ys i = inr (in_append_right x xs ys i)
+
+pub from_append : {X : Type 0} (x : X) (xs ys : List X) → IsIn x (xs ++ ys) → IsIn x xs ⊎ IsIn x ys
+from_append x [] ys i = inr i
+from_append x (y ∷ xs) ys (inl e) = inl (inl e)
+from_append x (y ∷ xs) ys (inr i) = elim (from_append x xs ys i) [ inl left ↦ inl (inr left) | inr right ↦ inr right ]
+
+pub in_push : {X : Type 0} (x : X) (xs : List X) → IsIn x (xs ++ x ∷ [])
+in_push x xs = in_append_right x xs (x ∷ []) (inl refl)
+
+pub from_push : {X : Type 0} (x y : X) (xs : List X) → IsIn x (xs ++ y ∷ []) → IsIn x xs ⊎ (x ≡ y)
+from_push x y xs i = elim (from_append x xs (y ∷ []) i) [ inl left ↦ inl left | inr right ↦ elim right [ inl e ↦ inr e | inr none ↦ absurd none ] ]
+
+pub in_map : {X Y : Type 0} (f : X → Y) (x : X) (xs : List X) → IsIn x xs → IsIn (f x) (map f xs)
+in_map f x [] i = absurd i
+in_map f x (y ∷ xs) (inl e) = inl (ap f e)
+in_map f x (y ∷ xs) (inr i) = inr (in_map f x xs i)
+
+pub from_map : {X Y : Type 0} (f : X → Y) (y : Y) (xs : List X) → IsIn y (map f xs) → (x : X) × IsIn x xs × (y ≡ f x)
+from_map f y [] i = absurd i
+from_map f y (x ∷ xs) (inl e) = (x, inl refl, e)
+from_map f y (x ∷ xs) (inr i) = let (z, j, e) = from_map f y xs i in (z, inr j, e)
+
+pub in_flat_map : {X Y : Type 0} (f : X → List Y) (x : X) (y : Y) (xs : List X) → IsIn x xs → IsIn y (f x) → IsIn y (flat_map f xs)
+in_flat_map f x y [] i j = absurd i
+in_flat_map f x y (z ∷ xs) (inl e) j = in_append_left y (f z) (flat_map f xs) (subst (λ w. IsIn y (f w)) e j)
+in_flat_map f x y (z ∷ xs) (inr i) j = in_append_right y (f z) (flat_map f xs) (in_flat_map f x y xs i j)
+
+pub from_flat_map : {X Y : Type 0} (f : X → List Y) (y : Y) (xs : List X) → IsIn y (flat_map f xs) → (x : X) × IsIn x xs × IsIn y (f x)
+from_flat_map f y [] i = absurd i
+from_flat_map f y (x ∷ xs) i = elim (from_append y (f x) (flat_map f xs) i) [ inl here ↦ (x, inl refl, here) | inr rest ↦ let (z, j, k) = from_flat_map f y xs rest in (z, inr j, k) ]
+
+pub in_filter : {X : Type 0} (p : X → Bool) (x : X) (xs : List X) → IsIn x xs → IsTrue (p x) → IsIn x (filter p xs)
+in_filter p x [] i t = absurd i
+in_filter p x (y ∷ xs) (inl e) t = subst (λ ys. IsIn x ys) (sym (cond-true (p y) (y ∷ filter p xs) (filter p xs) (subst (λ w. IsTrue (p w)) e t))) (inl e)
+in_filter p x (y ∷ xs) (inr i) t =
+    let rest : IsIn x (filter p xs) = in_filter p x xs i t in
+    elim (p y) as (λ b. IsIn x (cond b (y ∷ filter p xs) (filter p xs))) [ true ↦ inr rest | false ↦ rest ]
+
+pub filter_in : {X : Type 0} (p : X → Bool) (x : X) (xs : List X) → IsIn x (filter p xs) → IsIn x xs × IsTrue (p x)
+filter_in p x [] i = absurd i
+filter_in p x (y ∷ xs) i = by_test (p y)
+    (λ t. kept t (subst (λ ys. IsIn x ys) (cond-true (p y) (y ∷ filter p xs) (filter p xs) t) i) (λ j. filter_in p x xs j))
+    (λ f. let (j, t) = filter_in p x xs (subst (λ ys. IsIn x ys) (cond-false (p y) (y ∷ filter p xs) (filter p xs) f) i) in (inr j, t))
+  where
+    kept : IsTrue (p y) → IsIn x (y ∷ filter p xs) → (IsIn x (filter p xs) → IsIn x xs × IsTrue (p x)) → IsIn x (y ∷ xs) × IsTrue (p x)
+    kept passes (inl e) rest = (inl e, subst (λ w. IsTrue (p w)) (sym e) passes)
+    kept passes (inr j) rest = let (k, t) = rest j in (inr k, t)
+
+-- `IsIn` and std's `Contains`
+
+pub contains_in : {X : Type 0} (xs : List X) (x : X) → Contains xs x → IsIn x xs
+contains_in [] x (k, l, e) = (let none : ⊥ = omega arith in absurd none)
+contains_in (y ∷ xs) x (zero, l, e) = inl (sym e)
+contains_in (y ∷ xs) x (suc k, l, e) = inr (contains_in xs x (k, omega arith, e))
+
+pub in_contains : {X : Type 0} (xs : List X) (x : X) → IsIn x xs → Contains xs x
+in_contains [] x i = absurd i
+in_contains (y ∷ xs) x (inl e) = (0, omega arith, sym e)
+in_contains (y ∷ xs) x (inr i) = let (k, l, e) = in_contains xs x i in (suc k, omega arith, e)
+
+-- A test of some element.
+
+pub any_true : {X : Type 0} (p : X → Bool) (xs : List X) → IsTrue (list_any p xs) → (x : X) × IsIn x xs × IsTrue (p x)
+any_true p [] h = absurd (false≢true h)
+any_true p (x ∷ xs) h = elim (or_cases (p x) (list_any p xs) h) [ inl here ↦ (x, inl refl, here) | inr rest ↦ let (y, i, t) = any_true p xs rest in (y, inr i, t) ]
+
+pub any_from : {X : Type 0} (p : X → Bool) (x : X) (xs : List X) → IsIn x xs → IsTrue (p x) → IsTrue (list_any p xs)
+any_from p x [] i t = absurd i
+any_from p x (y ∷ xs) (inl e) t = or_left (p y) (list_any p xs) (subst (λ w. IsTrue (p w)) e t)
+any_from p x (y ∷ xs) (inr i) t = or_right (p y) (list_any p xs) (any_from p x xs i t)
+
+pub any_false : {X : Type 0} (p : X → Bool) (x : X) (xs : List X) → IsFalse (list_any p xs) → IsIn x xs → IsFalse (p x)
+any_false p x [] h i = absurd i
+any_false p x (y ∷ xs) h (inl e) = subst (λ w. IsFalse (p w)) (sym e) (or_parts (p y) (list_any p xs) h).0
+any_false p x (y ∷ xs) h (inr i) = any_false p x xs (or_parts (p y) (list_any p xs) h).1 i
+
+pub none_from : {X : Type 0} (p : X → Bool) (xs : List X) → ((x : X) → IsIn x xs → IsFalse (p x)) → IsFalse (list_any p xs)
+none_from p [] h = refl
+none_from p (x ∷ xs) h = or_from (p x) (list_any p xs) (h x (inl refl)) (none_from p xs (λ y i. h y (inr i)))
+
+-- where each element that passes p passes q
+pub any_more : {X : Type 0} (p q : X → Bool) (xs : List X) → ((x : X) → IsIn x xs → IsTrue (p x) → IsTrue (q x)) → IsTrue (list_any p xs) → IsTrue (list_any q xs)
+any_more p q xs more h = let (x, i, t) = any_true p xs h in any_from q x xs i (more x i t)
+
+-- where the tests agree on the elements
+pub any_same : {X : Type 0} (p q : X → Bool) (xs : List X) → ((x : X) → IsIn x xs → p x ≡ q x) → list_any p xs ≡ list_any q xs
+any_same p q [] same = refl
+any_same p q (x ∷ xs) same = ap₂ (λ a b. a || b) (same x (inl refl)) (any_same p q xs (λ y i. same y (inr i)))
+
+pub list_any-map : {X Y : Type 0} (f : X → Y) (p : Y → Bool) (xs : List X) → list_any p (map f xs) ≡ list_any (λ x. p (f x)) xs
+list_any-map f p [] = refl
+list_any-map f p (x ∷ xs) = ap (λ b. p (f x) || b) (list_any-map f p xs)
+
+pub list_any-flat_map : {X Y : Type 0} (f : X → List Y) (p : Y → Bool) (xs : List X) → list_any p (flat_map f xs) ≡ list_any (λ x. list_any p (f x)) xs
+list_any-flat_map f p [] = refl
+list_any-flat_map f p (x ∷ xs) = list_any-append p (f x) (flat_map f xs) ∙ ap (λ b. list_any p (f x) || b) (list_any-flat_map f p xs)
+
+-- over a list that has each element of another, a test passes where it passes over that
+pub any_within : {X : Type 0} (p : X → Bool) (xs ys : List X) → ((x : X) → IsIn x xs → IsIn x ys) → IsTrue (list_any p xs) → IsTrue (list_any p ys)
+any_within p xs ys within h = let (x, i, t) = any_true p xs h in any_from p x ys (within x i) t
+
+-- Whether a list is empty.
+
+pub empty_is : {X : Type 0} (xs : List X) → IsTrue (is_empty xs) → xs ≡ []
+empty_is [] h = refl
+empty_is (x ∷ xs) h = absurd (false≢true h)
+
+pub in_not_empty : {X : Type 0} (x : X) (xs : List X) → IsIn x xs → IsFalse (is_empty xs)
+in_not_empty x [] i = absurd i
+in_not_empty x (y ∷ xs) i = refl
+
+pub not_empty_in : {X : Type 0} (xs : List X) → IsFalse (is_empty xs) → (x : X) × IsIn x xs
+not_empty_in [] h = absurd (true≢false h)
+not_empty_in (x ∷ xs) h = (x, inl refl)
+
+pub not_empty_ne : {X : Type 0} (xs : List X) → IsFalse (is_empty xs) → xs ≢ []
+not_empty_ne xs h e = both_ways (is_empty xs) h (ap is_empty e)
+
+pub ne_not_empty : {X : Type 0} (xs : List X) → xs ≢ [] → IsFalse (is_empty xs)
+ne_not_empty [] h = absurd (h refl)
+ne_not_empty (x ∷ xs) h = refl
+
+pub is_empty-map : {X Y : Type 0} (f : X → Y) (xs : List X) → is_empty (map f xs) ≡ is_empty xs
+is_empty-map f [] = refl
+is_empty-map f (x ∷ xs) = refl
+
+-- Numbers below a bound.
+
+pub in_below : (n i : ℕ) → i < n → IsIn i (below n)
+in_below zero i l = let none : ⊥ = omega arith in absurd none
+in_below (suc n) i l = elim (cases_eq i n) [
+  | inl e ↦ subst (λ k. IsIn k (below n ++ n ∷ [])) (sym e) (in_push n (below n))
+  | inr ne ↦ in_append_left i (below n) (n ∷ []) (in_below n i (omega arith))
+]
+
+pub from_below : (n i : ℕ) → IsIn i (below n) → i < n
+from_below zero i h = absurd h
+from_below (suc n) i h = elim (from_push i n (below n) h) [ inl j ↦ let l : i < n = from_below n i j in omega arith | inr e ↦ omega arith ]
+
+pub length-below : (n : ℕ) → length (below n) ≡ n
+length-below zero = refl
+length-below (suc n) = length_push (below n) n ∙ ap (λ m. m + 1) (length-below n) ∙ add-one n
+
+pub get_or-below : (n i d : ℕ) → i < n → get_or (below n) i d ≡ i
+get_or-below zero i d l = let none : ⊥ = omega arith in absurd none
+get_or-below (suc n) i d l = elim (cases_eq i n) [
+  | inl e ↦ get_or_push (below n) n d i (length-below n ∙ sym e) ∙ sym e
+  | inr ne ↦
+      let small : i < n = omega arith in
+      get_or_append_left (below n) (n ∷ []) d i (subst (λ m. i < m) (sym (length-below n)) small) ∙ get_or-below n i d small
+]
+
+pub all_below_at : (p : ℕ → Bool) (n i : ℕ) → IsTrue (all_below p n) → i < n → IsTrue (p i)
+all_below_at p zero i h l = let none : ⊥ = omega arith in absurd none
+all_below_at p (suc n) i h l =
+    let (before, last) = and_parts (all_below p n) (p n) h in
+    elim (cases_eq i n) [ inl e ↦ subst (λ k. IsTrue (p k)) (sym e) last | inr ne ↦ all_below_at p n i before (omega arith) ]
+
+pub all_below_from : (p : ℕ → Bool) (n : ℕ) → ((i : ℕ) → i < n → IsTrue (p i)) → IsTrue (all_below p n)
+all_below_from p zero h = refl
+all_below_from p (suc n) h = and_from (all_below p n) (p n) (all_below_from p n (λ i l. h i (omega arith))) (h n (omega arith))
+
+-- a number that fails
+pub all_below_false : (p : ℕ → Bool) (n : ℕ) → IsFalse (all_below p n) → (i : ℕ) × (i < n) × IsFalse (p i)
+all_below_false p zero h = absurd (true≢false h)
+all_below_false p (suc n) h = elim (and_cases (all_below p n) (p n) h)
+    [ inl before ↦ let (i, l, f) = all_below_false p n before in (i, omega arith, f) | inr last ↦ (n, omega arith, last) ]
+
+pub all_below_not : (p : ℕ → Bool) (n i : ℕ) → i < n → IsFalse (p i) → IsFalse (all_below p n)
+all_below_not p n i l fails = by_test (all_below p n) (λ t. absurd (both_ways (p i) fails (all_below_at p n i t l))) (λ f. f)
+
+pub all_below_more : (p q : ℕ → Bool) (n : ℕ) → ((i : ℕ) → i < n → IsTrue (p i) → IsTrue (q i)) → IsTrue (all_below p n) → IsTrue (all_below q n)
+all_below_more p q n more h = all_below_from q n (λ i l. more i l (all_below_at p n i h l))
+
+pub all_below_same : (p q : ℕ → Bool) (n : ℕ) → ((i : ℕ) → i < n → p i ≡ q i) → all_below p n ≡ all_below q n
+all_below_same p q zero same = refl
+all_below_same p q (suc n) same = ap₂ (λ a b. a && b) (all_below_same p q n (λ i l. same i (omega arith))) (same n (omega arith))
+
+pub filter_below_more : (p : ℕ → Bool) (n : ℕ) → filter p (below (suc n)) ≡ filter p (below n) ++ cond (p n) (n ∷ []) []
+filter_below_more p n = filter-append p (below n) (n ∷ [])
+
+-- The first element that passes.
+
+pub find_some : {X : Type 0} (p : X → Bool) (xs : List X) (x : X) → find p xs ≡ Some x → IsIn x xs × IsTrue (p x)
+find_some p [] x e = absurd (none-some x e)
+find_some p (y ∷ xs) x e = by_test (p y)
+    (λ here. let same : y ≡ x = same_Some y x (sym (cond-true (p y) (Some y) (find p xs) here) ∙ e) in (inl (sym same), subst (λ w. IsTrue (p w)) same here))
+    (λ f. let (i, t) = find_some p xs x (sym (cond-false (p y) (Some y) (find p xs) f) ∙ e) in (inr i, t))
+
+pub find_none : {X : Type 0} (p : X → Bool) (xs : List X) → find p xs ≡ None → IsFalse (list_any p xs)
+find_none p [] e = refl
+find_none p (y ∷ xs) e = by_test (p y)
+    (λ t. absurd (none-some y (sym e ∙ cond-true (p y) (Some y) (find p xs) t)))
+    (λ f. or_from (p y) (list_any p xs) f (find_none p xs (sym (cond-false (p y) (Some y) (find p xs) f) ∙ e)))
+
+-- where some element passes, one is found
+pub find_found : {X : Type 0} (p : X → Bool) (xs : List X) → IsTrue (list_any p xs) → (x : X) × (find p xs ≡ Some x)
+find_found {X} p xs h = by_found (find p xs) refl
+  where
+    by_found : (o : Option X) → find p xs ≡ o → (x : X) × (find p xs ≡ Some x)
+    by_found None e = absurd (both_ways (list_any p xs) (find_none p xs e) h)
+    by_found (Some x) e = (x, e)
+
+pub find_not_found : {X : Type 0} (p : X → Bool) (xs : List X) → IsFalse (list_any p xs) → find p xs ≡ None
+find_not_found p [] h = refl
+find_not_found p (y ∷ xs) h =
+    let (here, rest) = or_parts (p y) (list_any p xs) h in
+    cond-false (p y) (Some y) (find p xs) here ∙ find_not_found p xs rest
+
+-- among the numbers below n the first one is the least
+pub find_least : (p : ℕ → Bool) (n i : ℕ) → find p (below n) ≡ Some i → (i < n) × IsTrue (p i) × ((j : ℕ) → j < i → IsFalse (p j))
+find_least p zero i e = absurd (none-some i e)
+find_least p (suc n) i e = by_before (find p (below n)) refl (λ k found. find_least p n k found)
+  where
+    by_before : (o : Option ℕ) → find p (below n) ≡ o →
+        ((k : ℕ) → find p (below n) ≡ Some k → (k < n) × IsTrue (p k) × ((j : ℕ) → j < k → IsFalse (p j))) →
+        (i < suc n) × IsTrue (p i) × ((j : ℕ) → j < i → IsFalse (p j))
+    by_before (Some k) before earlier =
+        let same : k ≡ i = same_Some k i (sym (find-append p (below n) (n ∷ []) ∙ ap (λ o. option_or o (find p (n ∷ []))) before) ∙ e) in
+        let (l, t, least) = earlier k before in
+        (omega arith, subst (λ w. IsTrue (p w)) same t, λ j m. least j (omega arith))
+    by_before None before earlier =
+        let last : find p (n ∷ []) ≡ Some i = sym (find-append p (below n) (n ∷ []) ∙ ap (λ o. option_or o (find p (n ∷ []))) before) ∙ e in
+        let (here, t) = find_some p (n ∷ []) i last in
+        let same : i ≡ n = elim here [ inl h ↦ h | inr none ↦ absurd none ] in
+        (omega arith, t, λ j m. any_false p j (below n) (find_none p (below n) before) (in_below n j (omega arith)))
+
+-- the first number of which nothing less passes
+pub find_first : (p : ℕ → Bool) (n i : ℕ) → i < n → IsTrue (p i) → ((j : ℕ) → j < i → IsFalse (p j)) → find p (below n) ≡ Some i
+find_first p n i l t least =
+    let (k, found) = find_found p (below n) (any_from p i (below n) (in_below n i l) t) in
+    let (m, passes, before) = find_least p n k found in
+    by_order k found passes before (cases_order i k)
+  where
+    by_order : (k : ℕ) → find p (below n) ≡ Some k → IsTrue (p k) → ((j : ℕ) → j < k → IsFalse (p j)) → (i ≡ k) ⊎ ((i < k) ⊎ (k < i)) → find p (below n) ≡ Some i
+    by_order k found passes before (inl e) = found ∙ ap Some (sym e)
+    by_order k found passes before (inr (inl less)) = absurd (both_ways (p i) (before i less) t)
+    by_order k found passes before (inr (inr more)) = absurd (both_ways (p k) (least k more) passes)
+
+-- Filters.
+
+-- where the tests agree on the elements
+pub filter_same : {X : Type 0} (p q : X → Bool) (xs : List X) → ((x : X) → IsIn x xs → p x ≡ q x) → filter p xs ≡ filter q xs
+filter_same p q [] same = refl
+filter_same p q (x ∷ xs) same =
+    ap₂ (λ b ys. cond b (x ∷ ys) ys) (same x (inl refl)) (filter_same p q xs (λ y i. same y (inr i)))
+
+-- a filter that keeps nothing that another drops keeps the same, or is shorter
+pub filter_shrinks : {X : Type 0} (p q : X → Bool) (xs : List X) → ((x : X) → IsIn x xs → IsTrue (q x) → IsTrue (p x)) →
+    ((x : X) → IsIn x xs → p x ≡ q x) ⊎ (length (filter q xs) < length (filter p xs))
+filter_shrinks p q [] less = inl (λ x i. absurd i)
+filter_shrinks {X} p q (y ∷ xs) less = by_tests (p y) (q y) refl refl (filter_shrinks p q xs (λ x i. less x (inr i)))
+  where
+    more : (a b : Bool) → p y ≡ a → q y ≡ b → IsFalse a → IsTrue b → ⊥
+    more a b pa qb fa tb = both_ways (p y) (pa ∙ fa) (less y (inl refl) (qb ∙ tb))
+
+    still : (a : Bool) → p y ≡ a → q y ≡ a → ((x : X) → IsIn x xs → p x ≡ q x) → (x : X) → IsIn x (y ∷ xs) → p x ≡ q x
+    still a pa qa same x (inl e) = ap p e ∙ pa ∙ sym qa ∙ ap q (sym e)
+    still a pa qa same x (inr i) = same x i
+
+    by_tests : (a b : Bool) → p y ≡ a → q y ≡ b →
+        ((x : X) → IsIn x xs → p x ≡ q x) ⊎ (length (filter q xs) < length (filter p xs)) →
+        ((x : X) → IsIn x (y ∷ xs) → p x ≡ q x) ⊎ (length (filter q (y ∷ xs)) < length (filter p (y ∷ xs)))
+    by_tests true true pa qb (inl same) = inl (still true pa qb same)
+    by_tests true true pa qb (inr short) = inr (rw (pa, qb) (omega arith))
+    by_tests false false pa qb (inl same) = inl (still false pa qb same)
+    by_tests false false pa qb (inr short) = inr (rw (pa, qb) short)
+    by_tests true false pa qb (inl same) = inr (rw (pa, qb, filter_same p q xs same) (omega arith))
+    by_tests true false pa qb (inr short) = inr (rw (pa, qb) (omega arith))
+    by_tests false true pa qb rest = absurd (more false true pa qb refl refl)
+
+-- Sublists.
+
+pub sublist_none : {X : Type 0} (ys : List X) → IsSublist [] ys
+sublist_none ys = tt
+
+pub sublist_skip : {X : Type 0} (xs ys : List X) (y : X) → IsSublist xs ys → IsSublist xs (y ∷ ys)
+sublist_skip [] ys y s = tt
+sublist_skip (x ∷ xs) ys y s = inr s
+
+pub sublist_itself : {X : Type 0} (xs : List X) → IsSublist xs xs
+sublist_itself [] = tt
+sublist_itself (x ∷ xs) = inl (refl, sublist_itself xs)
+
+pub sublist_in : {X : Type 0} (x : X) (xs ys : List X) → IsSublist xs ys → IsIn x xs → IsIn x ys
+sublist_in x [] ys s i = absurd i
+sublist_in x (z ∷ xs) [] s i = absurd s
+sublist_in x (z ∷ xs) (y ∷ ys) (inl (e, s)) (inl f) = inl (f ∙ e)
+sublist_in x (z ∷ xs) (y ∷ ys) (inl (e, s)) (inr i) = inr (sublist_in x xs ys s i)
+sublist_in x (z ∷ xs) (y ∷ ys) (inr s) i = inr (sublist_in x (z ∷ xs) ys s i)
+
+pub sublist_length : {X : Type 0} (xs ys : List X) → IsSublist xs ys → length xs ≤ length ys
+sublist_length [] ys s = omega arith
+sublist_length (x ∷ xs) [] s = absurd s
+sublist_length (x ∷ xs) (y ∷ ys) (inl (e, s)) = let l : length xs ≤ length ys = sublist_length xs ys s in omega arith
+sublist_length (x ∷ xs) (y ∷ ys) (inr s) = let l : length (x ∷ xs) ≤ length ys = sublist_length (x ∷ xs) ys s in omega arith
+
+pub filter_sublist : {X : Type 0} (p : X → Bool) (xs : List X) → IsSublist (filter p xs) xs
+filter_sublist p [] = tt
+filter_sublist p (x ∷ xs) =
+    let rest : IsSublist (filter p xs) xs = filter_sublist p xs in
+    elim (p x) as (λ b. IsSublist (cond b (x ∷ filter p xs) (filter p xs)) (x ∷ xs)) [ true ↦ inl (refl, rest) | false ↦ sublist_skip (filter p xs) xs x rest ]
+
+-- Lists without repeats.
+
+-- the list up to an element, and after it
+pub split_at : {X : Type 0} (x : X) (xs : List X) → IsIn x xs → (before : List X) × (after : List X) × (xs ≡ before ++ x ∷ after)
+split_at x [] i = absurd i
+split_at x (y ∷ xs) (inl e) = ([], xs, ap (λ z. z ∷ xs) (sym e))
+split_at x (y ∷ xs) (inr i) = let (before, after, e) = split_at x xs i in (y ∷ before, after, ap (λ zs. y ∷ zs) e)
+
+-- a list without repeats, each element of which is in another, is no longer than that
+pub no_longer : {X : Type 0} (xs ys : List X) → HasNoRepeats xs → ((x : X) → IsIn x xs → IsIn x ys) → length xs ≤ length ys
+no_longer [] ys once within = omega arith
+no_longer {X} (x ∷ xs) ys once within =
+    let (before, after, e) = split_at x ys (within x (inl refl)) in
+    let others : (z : X) → IsIn z xs → IsIn z (before ++ after) = λ z i. other before after z i (subst (λ zs. IsIn z zs) e (within z (inr i))) in
+    let rest : length xs ≤ length (before ++ after) = no_longer xs (before ++ after) once.1 others in
+    let there : length ys ≡ length (before ++ x ∷ after) = ap length e in
+    omega (arith, length-append before after, length-append before (x ∷ after))
+  where
+    other : (before after : List X) (z : X) → IsIn z xs → IsIn z (before ++ x ∷ after) → IsIn z (before ++ after)
+    other before after z i j = elim (from_append z before (x ∷ after) j) [
+      | inl left ↦ in_append_left z before after left
+      | inr right ↦ elim right [ inl same ↦ absurd (once.0 (subst (λ w. IsIn w xs) same i)) | inr rest ↦ in_append_right z before after rest ]
+    ]
+
+-- two lists without repeats that have the same elements are equally long
+pub same_length : {X : Type 0} (xs ys : List X) → HasNoRepeats xs → HasNoRepeats ys → ((x : X) → IsIn x xs ↔ IsIn x ys) → length xs ≡ length ys
+same_length xs ys xs_once ys_once same =
+    let up : length xs ≤ length ys = no_longer xs ys xs_once (λ x. (same x).0) in
+    let down : length ys ≤ length xs = no_longer ys xs ys_once (λ x. (same x).1) in
+    omega arith
+
+pub HoldsEachOnce-length : {X : Type 0} (xs ys : List X) → HoldsEachOnce xs ys → HasNoRepeats ys → length xs ≡ length ys
+HoldsEachOnce-length xs ys each once = same_length xs ys each.once once each.same
+
+pub HasNoRepeats-append : {X : Type 0} (xs ys : List X) → HasNoRepeats xs → HasNoRepeats ys → ((x : X) → IsIn x xs → IsIn x ys → ⊥) → HasNoRepeats (xs ++ ys)
+HasNoRepeats-append [] ys xs_once ys_once apart = ys_once
+HasNoRepeats-append (x ∷ xs) ys xs_once ys_once apart = (
+  λ i. elim (from_append x xs ys i) [ inl left ↦ xs_once.0 left | inr right ↦ apart x (inl refl) right ],
+  HasNoRepeats-append xs ys xs_once.1 ys_once (λ z i. apart z (inr i)),
+)
+
+pub HasNoRepeats-push : {X : Type 0} (xs : List X) (x : X) → HasNoRepeats xs → (IsIn x xs → ⊥) → HasNoRepeats (xs ++ x ∷ [])
+HasNoRepeats-push xs x once new = HasNoRepeats-append xs (x ∷ []) once (λ none. absurd none, tt) (λ y i j. elim j [ inl e ↦ new (subst (λ w. IsIn w xs) e i) | inr none ↦ absurd none ])
+
+pub HasNoRepeats-below : (n : ℕ) → HasNoRepeats (below n)
+HasNoRepeats-below zero = tt
+HasNoRepeats-below (suc n) = HasNoRepeats-push (below n) n (HasNoRepeats-below n) (λ i. let l : n < n = from_below n n i in omega arith)
+
+pub HasNoRepeats-filter : {X : Type 0} (p : X → Bool) (xs : List X) → HasNoRepeats xs → HasNoRepeats (filter p xs)
+HasNoRepeats-filter p [] once = tt
+HasNoRepeats-filter p (x ∷ xs) once =
+    let rest : HasNoRepeats (filter p xs) = HasNoRepeats-filter p xs once.1 in
+    elim (p x) as (λ b. HasNoRepeats (cond b (x ∷ filter p xs) (filter p xs))) [ true ↦ (λ i. once.0 (filter_in p x xs i).0, rest) | false ↦ rest ]
+
+-- where the function tells the elements apart
+pub HasNoRepeats-map : {X Y : Type 0} (f : X → Y) (xs : List X) → ((x y : X) → IsIn x xs → IsIn y xs → f x ≡ f y → x ≡ y) → HasNoRepeats xs → HasNoRepeats (map f xs)
+HasNoRepeats-map f [] apart once = tt
+HasNoRepeats-map f (x ∷ xs) apart once = (
+  λ i. let (y, j, e) = from_map f (f x) xs i in once.0 (subst (λ w. IsIn w xs) (sym (apart x y (inl refl) (inr j) e)) j),
+  HasNoRepeats-map f xs (λ y z i j. apart y z (inr i) (inr j)) once.1,
+)
+
+-- where no list has an element of another's
+pub HasNoRepeats-flat_map : {X Y : Type 0} (f : X → List Y) (xs : List X) → ((x : X) → IsIn x xs → HasNoRepeats (f x)) →
+    ((x y : X) (z : Y) → IsIn x xs → IsIn y xs → IsIn z (f x) → IsIn z (f y) → x ≡ y) → HasNoRepeats xs → HasNoRepeats (flat_map f xs)
+HasNoRepeats-flat_map f [] each apart once = tt
+HasNoRepeats-flat_map f (x ∷ xs) each apart once =
+    HasNoRepeats-append (f x) (flat_map f xs) (each x (inl refl))
+    (HasNoRepeats-flat_map f xs (λ y i. each y (inr i)) (λ y w z i j. apart y w z (inr i) (inr j)) once.1)
+    (λ z i j. let (y, k, l) = from_flat_map f z xs j in once.0 (subst (λ w. IsIn w xs) (sym (apart x y z (inl refl) (inr k) i l)) k))
+
+-- Filters and sums of lists that are made of others.
+
+pub filter-map : {X Y : Type 0} (p : Y → Bool) (f : X → Y) (xs : List X) → filter p (map f xs) ≡ map f (filter (λ x. p (f x)) xs)
+filter-map p f [] = refl
+filter-map p f (x ∷ xs) = ap (λ ys. cond (p (f x)) (f x ∷ ys) ys) (filter-map p f xs) ∙ moved (p (f x))
+  where
+    moved : (b : Bool) → cond b (f x ∷ map f (filter (λ y. p (f y)) xs)) (map f (filter (λ y. p (f y)) xs)) ≡ map f (cond b (x ∷ filter (λ y. p (f y)) xs) (filter (λ y. p (f y)) xs))
+    moved true = refl
+    moved false = refl
+
+pub filter-flat_map : {X Y : Type 0} (p : Y → Bool) (f : X → List Y) (xs : List X) → filter p (flat_map f xs) ≡ flat_map (λ x. filter p (f x)) xs
+filter-flat_map p f [] = refl
+filter-flat_map p f (x ∷ xs) = filter-append p (f x) (flat_map f xs) ∙ ap (λ ys. filter p (f x) ++ ys) (filter-flat_map p f xs)
+
+pub sum_by-map : {X Y : Type 0} (g : Y → ℕ) (f : X → Y) (xs : List X) → sum_by g (map f xs) ≡ sum_by (λ x. g (f x)) xs
+sum_by-map g f [] = refl
+sum_by-map g f (x ∷ xs) = sum_by-cons g (f x) (map f xs) ∙ ap (λ n. g (f x) + n) (sum_by-map g f xs) ∙ sym (sum_by-cons (λ y. g (f y)) x xs)
+
+-- where the functions agree on the elements
+pub sum_by_same : {X : Type 0} (f g : X → ℕ) (xs : List X) → ((x : X) → IsIn x xs → f x ≡ g x) → sum_by f xs ≡ sum_by g xs
+sum_by_same f g [] same = refl
+sum_by_same f g (x ∷ xs) same =
+    sum_by-cons f x xs ∙ ap₂ (λ a b. a + b) (same x (inl refl)) (sum_by_same f g xs (λ y i. same y (inr i))) ∙ sym (sum_by-cons g x xs)
+
+-- over a list without repeats, each element of which is in another, a sum is no more than over that
+pub sum_by_within : {X : Type 0} (f : X → ℕ) (xs ys : List X) → HasNoRepeats xs → ((x : X) → IsIn x xs → IsIn x ys) → sum_by f xs ≤ sum_by f ys
+sum_by_within f [] ys once within = omega arith
+sum_by_within {X} f (x ∷ xs) ys once within =
+    let (before, after, e) = split_at x ys (within x (inl refl)) in
+    let others : (z : X) → IsIn z xs → IsIn z (before ++ after) = λ z i. other before after z i (subst (λ zs. IsIn z zs) e (within z (inr i))) in
+    let rest : sum_by f xs ≤ sum_by f (before ++ after) = sum_by_within f xs (before ++ after) once.1 others in
+    let there : sum_by f ys ≡ sum_by f (before ++ x ∷ after) = ap (sum_by f) e in
+    omega (arith, sum_by-append f before after, sum_by-append f before (x ∷ after), sum_by-cons f x after, sum_by-cons f x xs)
+  where
+    other : (before after : List X) (z : X) → IsIn z xs → IsIn z (before ++ x ∷ after) → IsIn z (before ++ after)
+    other before after z i j = elim (from_append z before (x ∷ after) j) [
+      | inl left ↦ in_append_left z before after left
+      | inr right ↦ elim right [ inl same ↦ absurd (once.0 (subst (λ w. IsIn w xs) same i)) | inr rest ↦ in_append_right z before after rest ]
+    ]

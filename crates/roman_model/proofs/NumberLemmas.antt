@@ -1,0 +1,378 @@
+-- Numbers of lists of states, and of pairs: bounds, and what becomes of a number where a state changes, comes or goes.
+use Rattle.std.proofs.Common.{◌≡◌, ℕ, zero, suc, ◌+◌, ◌*◌, ◌/◌, ◌%◌, ◌<◌, List, [], ◌∷◌, ◌++◌, map, length, take, drop, slice_index, slice_set, remove, insert, refl, sym, ap, ◌∙◌, arith, add-one, div-add-mod'}
+use Rattle.std.specs.List.{AllZip}
+use Rattle.std.proofs.lemmas.Nat.{mul-add-lt, div-mul-add, mod-mul-add, div_below, mod_below}
+use Rattle.roman_model.specs.Lists.{product_of}
+use Rattle.roman_model.specs.System.{Seat, Sys, Pair, IsPair}
+use Rattle.roman_model.specs.Numbers.{Sizes, sizes_of, IsPairOf, grown_sizes, sizes_without, count, states_number, states_at, number, pair_at, NumbersArePairs}
+use Rattle.roman_model.specs.Change.{grown, without, with_state}
+use Rattle.roman_model.specs.Laws.{PairsAreNumbered}
+
+-- one state for each size, below it
+abbrev pub AreBelow : List ℕ → List ℕ → Type 0
+AreBelow sizes bs = AllZip (λ size b. b < size) sizes bs
+
+pub AreBelow-length : (sizes bs : List ℕ) → AreBelow sizes bs → length bs ≡ length sizes
+AreBelow-length [] [] h = refl
+AreBelow-length [] (b ∷ bs) h = elim h [ ]
+AreBelow-length (size ∷ sizes) [] h = elim h [ ]
+AreBelow-length (size ∷ sizes) (b ∷ bs) h = ap suc (AreBelow-length sizes bs h.1)
+
+pub states_number_below : (sizes bs : List ℕ) → AreBelow sizes bs → states_number sizes bs < product_of sizes
+states_number_below [] [] h = omega arith
+states_number_below [] (b ∷ bs) h = elim h [ ]
+states_number_below (size ∷ sizes) [] h = elim h [ ]
+states_number_below (size ∷ sizes) (b ∷ bs) h =
+    let rest : states_number sizes bs < product_of sizes = states_number_below sizes bs h.1 in
+    let here : b * product_of sizes + states_number sizes bs < product_of sizes * size = mul-add-lt b (product_of sizes) (states_number sizes bs) size h.0 rest in
+    omega arith
+
+pub states_at-number : (sizes bs : List ℕ) → AreBelow sizes bs → states_at sizes (states_number sizes bs) ≡ bs
+states_at-number [] [] h = refl
+states_at-number [] (b ∷ bs) h = elim h [ ]
+states_at-number (size ∷ sizes) [] h = elim h [ ]
+states_at-number (size ∷ sizes) (b ∷ bs) h =
+    let rest : states_number sizes bs < product_of sizes = states_number_below sizes bs h.1 in
+    rw (div-mul-add b (product_of sizes) (states_number sizes bs) rest, mod-mul-add b (product_of sizes) (states_number sizes bs) rest, states_at-number sizes bs h.1) refl
+
+-- a factor of a product that has something below it isn't 0
+factor_pos : (i a b : ℕ) → i < a * b → 0 < b
+factor_pos i a zero h = omega arith
+factor_pos i a (suc b) h = omega arith
+
+pub AreBelow-at : (sizes : List ℕ) (i : ℕ) → i < product_of sizes → AreBelow sizes (states_at sizes i)
+AreBelow-at [] i h = tt
+AreBelow-at (size ∷ sizes) i h =
+    let pos : 0 < product_of sizes = factor_pos i size (product_of sizes) h in
+    (div_below i (product_of sizes) size pos h, AreBelow-at sizes (i % product_of sizes) (mod_below i (product_of sizes) pos))
+
+pub states_number-at : (sizes : List ℕ) (i : ℕ) → i < product_of sizes → states_number sizes (states_at sizes i) ≡ i
+states_number-at [] zero h = refl
+states_number-at [] (suc i) h = omega arith
+states_number-at (size ∷ sizes) i h =
+    let pos : 0 < product_of sizes = factor_pos i size (product_of sizes) h in
+    let rest : states_number sizes (states_at sizes (i % product_of sizes)) ≡ i % product_of sizes = states_number-at sizes (i % product_of sizes) (mod_below i (product_of sizes) pos) in
+    rw rest (div-add-mod' i (product_of sizes))
+
+-- Where a list of states is cut in two, or at a place
+
+product_append : (ms ns : List ℕ) → product_of (ms ++ ns) ≡ product_of ms * product_of ns
+product_append [] ns = omega arith
+product_append (m ∷ ms) ns = rw (product_append ms ns) (omega arith)
+
+states_number-append : (ms ns bs cs : List ℕ) → length bs ≡ length ms → states_number (ms ++ ns) (bs ++ cs) ≡ states_number ms bs * product_of ns + states_number ns cs
+states_number-append [] ns [] cs h = omega arith
+states_number-append [] ns (b ∷ bs) cs h = omega arith
+states_number-append (m ∷ ms) ns [] cs h = omega arith
+states_number-append (m ∷ ms) ns (b ∷ bs) cs h = rw (product_append ms ns, states_number-append ms ns bs cs (omega arith)) (omega arith)
+
+product_split : (sizes : List ℕ) (k : ℕ) → k < length sizes → product_of sizes ≡ product_of (take k sizes) * (slice_index sizes k * product_of (drop (k + 1) sizes))
+product_split [] k h = omega arith
+product_split (size ∷ sizes) zero h = omega arith
+product_split (size ∷ sizes) (suc k) h =
+    let rest : product_of sizes ≡ product_of (take k sizes) * (slice_index sizes k * product_of (drop (k + 1) sizes)) = product_split sizes k (omega arith) in
+    let rest' : product_of sizes ≡ product_of (take k sizes) * (slice_index sizes k * product_of (drop (suc k) sizes)) = rw add-one at rest in
+    rw (add-one, rest') (omega arith)
+
+-- the number at place k: what stands before it, the state, and what stands behind it
+pub states_number-split : (sizes bs : List ℕ) (k : ℕ) → k < length sizes → length bs ≡ length sizes →
+    states_number sizes bs
+    ≡ (states_number (take k sizes) (take k bs) * slice_index sizes k + slice_index bs k) * product_of (drop (k + 1) sizes)
+    + states_number (drop (k + 1) sizes) (drop (k + 1) bs)
+states_number-split [] bs k h l = omega arith
+states_number-split (size ∷ sizes) [] k h l = omega arith
+states_number-split (size ∷ sizes) (b ∷ bs) zero h l = omega arith
+states_number-split (size ∷ sizes) (b ∷ bs) (suc k) h l =
+    let cut : product_of sizes ≡ product_of (take k sizes) * (slice_index sizes k * product_of (drop (suc k) sizes)) = rw add-one at (product_split sizes k (omega arith)) in
+    let rest : states_number sizes bs
+    ≡ (states_number (take k sizes) (take k bs) * slice_index sizes k + slice_index bs k) * product_of (drop (suc k) sizes)
+    + states_number (drop (suc k) sizes) (drop (suc k) bs) = rw add-one at (states_number-split sizes bs k (omega arith) (omega arith)) in
+    rw (add-one, cut, rest) (omega arith)
+
+-- Lists of states that stay below their sizes
+
+pub AreBelow-index : (sizes bs : List ℕ) (k : ℕ) → AreBelow sizes bs → k < length sizes → slice_index bs k < slice_index sizes k
+AreBelow-index [] bs k h l = omega arith
+AreBelow-index (size ∷ sizes) [] k h l = elim h [ ]
+AreBelow-index (size ∷ sizes) (b ∷ bs) zero h l = h.0
+AreBelow-index (size ∷ sizes) (b ∷ bs) (suc k) h l = AreBelow-index sizes bs k h.1 (omega arith)
+
+pub AreBelow-set : (sizes bs : List ℕ) (k b : ℕ) → AreBelow sizes bs → b < slice_index sizes k → AreBelow sizes (slice_set bs k b)
+AreBelow-set [] [] k b h l = h
+AreBelow-set [] (x ∷ bs) k b h l = elim h [ ]
+AreBelow-set (size ∷ sizes) [] k b h l = elim h [ ]
+AreBelow-set (size ∷ sizes) (x ∷ bs) zero b h l = (l, h.1)
+AreBelow-set (size ∷ sizes) (x ∷ bs) (suc k) b h l = (h.0, AreBelow-set sizes bs k b h.1 l)
+
+pub AreBelow-append : (ms ns bs cs : List ℕ) → AreBelow ms bs → AreBelow ns cs → AreBelow (ms ++ ns) (bs ++ cs)
+AreBelow-append [] ns [] cs h g = g
+AreBelow-append [] ns (b ∷ bs) cs h g = elim h [ ]
+AreBelow-append (m ∷ ms) ns [] cs h g = elim h [ ]
+AreBelow-append (m ∷ ms) ns (b ∷ bs) cs h g = (h.0, AreBelow-append ms ns bs cs h.1 g)
+
+pub AreBelow-take : (sizes bs : List ℕ) (k : ℕ) → AreBelow sizes bs → AreBelow (take k sizes) (take k bs)
+AreBelow-take sizes bs zero h = tt
+AreBelow-take [] [] (suc k) h = tt
+AreBelow-take [] (b ∷ bs) (suc k) h = elim h [ ]
+AreBelow-take (size ∷ sizes) [] (suc k) h = elim h [ ]
+AreBelow-take (size ∷ sizes) (b ∷ bs) (suc k) h = (h.0, AreBelow-take sizes bs k h.1)
+
+pub AreBelow-drop : (sizes bs : List ℕ) (k : ℕ) → AreBelow sizes bs → AreBelow (drop k sizes) (drop k bs)
+AreBelow-drop sizes bs zero h = h
+AreBelow-drop [] [] (suc k) h = tt
+AreBelow-drop [] (b ∷ bs) (suc k) h = elim h [ ]
+AreBelow-drop (size ∷ sizes) [] (suc k) h = elim h [ ]
+AreBelow-drop (size ∷ sizes) (b ∷ bs) (suc k) h = AreBelow-drop sizes bs k h.1
+
+pub AreBelow-remove : (sizes bs : List ℕ) (k : ℕ) → AreBelow sizes bs → AreBelow (remove sizes k) (remove bs k)
+AreBelow-remove sizes bs k h =
+    AreBelow-append (take k sizes) (drop (suc k) sizes) (take k bs) (drop (suc k) bs) (AreBelow-take sizes bs k h) (AreBelow-drop sizes bs (suc k) h)
+
+pub AreBelow-insert : (sizes bs : List ℕ) (k b : ℕ) → k < length sizes → AreBelow (remove sizes k) bs → b < slice_index sizes k → AreBelow sizes (insert bs k b)
+AreBelow-insert [] bs k b h below l = absurd (omega arith)
+AreBelow-insert (size ∷ sizes) bs zero b h below l = (l, below)
+AreBelow-insert (size ∷ sizes) [] (suc k) b h below l = elim below [ ]
+AreBelow-insert (size ∷ sizes) (x ∷ bs) (suc k) b h below l = (below.0, AreBelow-insert sizes bs k b (omega arith) below.1 l)
+
+-- What becomes of the number of a list of states
+
+-- with another state at place k
+pub states_number-set : (sizes bs : List ℕ) (k b : ℕ) → k < length sizes → length bs ≡ length sizes →
+    states_number sizes (slice_set bs k b) + slice_index bs k * product_of (drop (k + 1) sizes) ≡ states_number sizes bs + b * product_of (drop (k + 1) sizes)
+states_number-set [] bs k b h l = omega arith
+states_number-set (size ∷ sizes) [] k b h l = omega arith
+states_number-set (size ∷ sizes) (x ∷ bs) zero b h l = omega arith
+states_number-set (size ∷ sizes) (x ∷ bs) (suc k) b h l =
+    let rest : states_number sizes (slice_set bs k b) + slice_index bs k * product_of (drop (suc k) sizes) ≡ states_number sizes bs + b * product_of (drop (suc k) sizes) =
+    rw add-one at (states_number-set sizes bs k b (omega arith) (omega arith)) in
+    rw add-one (omega arith)
+
+-- the state at place k is a digit of the number
+pub state_from_number : (sizes bs : List ℕ) (k : ℕ) → AreBelow sizes bs → k < length sizes →
+    slice_index bs k ≡ states_number sizes bs / product_of (drop (k + 1) sizes) % slice_index sizes k
+state_from_number sizes bs k h l =
+    let low : states_number (drop (k + 1) sizes) (drop (k + 1) bs) < product_of (drop (k + 1) sizes) = states_number_below (drop (k + 1) sizes) (drop (k + 1) bs) (AreBelow-drop sizes bs (k + 1) h) in
+    rw (
+      states_number-split sizes bs k l (AreBelow-length sizes bs h),
+      div-mul-add (states_number (take k sizes) (take k bs) * slice_index sizes k + slice_index bs k) (product_of (drop (k + 1) sizes)) (states_number (drop (k + 1) sizes) (drop (k + 1) bs)) low,
+    )
+    (sym (mod-mul-add (states_number (take k sizes) (take k bs)) (slice_index sizes k) (slice_index bs k) (AreBelow-index sizes bs k h l)))
+
+pub length-states_at : (sizes : List ℕ) (i : ℕ) → length (states_at sizes i) ≡ length sizes
+length-states_at [] i = refl
+length-states_at (size ∷ sizes) i = ap suc (length-states_at sizes (i % product_of sizes))
+
+pub states_at-index : (sizes : List ℕ) (i k : ℕ) → i < product_of sizes → k < length sizes →
+    slice_index (states_at sizes i) k ≡ i / product_of (drop (k + 1) sizes) % slice_index sizes k
+states_at-index sizes i k h l =
+    state_from_number sizes (states_at sizes i) k (AreBelow-at sizes i h) l
+    ∙ ap (λ x. x / product_of (drop (k + 1) sizes) % slice_index sizes k) (states_number-at sizes i h)
+
+-- the numbers of what stands before and behind place k
+pub states_before : (sizes bs : List ℕ) (k : ℕ) → AreBelow sizes bs → k < length sizes →
+    states_number (take k sizes) (take k bs) ≡ states_number sizes bs / product_of (drop (k + 1) sizes) / slice_index sizes k
+states_before sizes bs k h l =
+    let low : states_number (drop (k + 1) sizes) (drop (k + 1) bs) < product_of (drop (k + 1) sizes) = states_number_below (drop (k + 1) sizes) (drop (k + 1) bs) (AreBelow-drop sizes bs (k + 1) h) in
+    rw (
+      states_number-split sizes bs k l (AreBelow-length sizes bs h),
+      div-mul-add (states_number (take k sizes) (take k bs) * slice_index sizes k + slice_index bs k) (product_of (drop (k + 1) sizes)) (states_number (drop (k + 1) sizes) (drop (k + 1) bs)) low,
+    )
+    (sym (div-mul-add (states_number (take k sizes) (take k bs)) (slice_index sizes k) (slice_index bs k) (AreBelow-index sizes bs k h l)))
+
+pub states_behind : (sizes bs : List ℕ) (k : ℕ) → AreBelow sizes bs → k < length sizes →
+    states_number (drop (k + 1) sizes) (drop (k + 1) bs) ≡ states_number sizes bs % product_of (drop (k + 1) sizes)
+states_behind sizes bs k h l =
+    let low : states_number (drop (k + 1) sizes) (drop (k + 1) bs) < product_of (drop (k + 1) sizes) = states_number_below (drop (k + 1) sizes) (drop (k + 1) bs) (AreBelow-drop sizes bs (k + 1) h) in
+    rw (states_number-split sizes bs k l (AreBelow-length sizes bs h))
+    (sym (mod-mul-add (states_number (take k sizes) (take k bs) * slice_index sizes k + slice_index bs k) (product_of (drop (k + 1) sizes)) (states_number (drop (k + 1) sizes) (drop (k + 1) bs)) low))
+
+-- without the state at place k
+pub states_number-remove : (sizes bs : List ℕ) (k : ℕ) → AreBelow sizes bs → k < length sizes →
+    states_number (remove sizes k) (remove bs k)
+    ≡ states_number sizes bs / product_of (drop (k + 1) sizes) / slice_index sizes k * product_of (drop (k + 1) sizes)
+    + states_number sizes bs % product_of (drop (k + 1) sizes)
+states_number-remove sizes bs k h l =
+    let cut : states_number (remove sizes k) (remove bs k) ≡ states_number (take k sizes) (take k bs) * product_of (drop (suc k) sizes) + states_number (drop (suc k) sizes) (drop (suc k) bs) =
+    states_number-append (take k sizes) (drop (suc k) sizes) (take k bs) (drop (suc k) bs) (AreBelow-length (take k sizes) (take k bs) (AreBelow-take sizes bs k h)) in
+    let before : states_number (take k sizes) (take k bs) ≡ states_number sizes bs / product_of (drop (suc k) sizes) / slice_index sizes k = rw add-one at (states_before sizes bs k h l) in
+    let behind : states_number (drop (suc k) sizes) (drop (suc k) bs) ≡ states_number sizes bs % product_of (drop (suc k) sizes) = rw add-one at (states_behind sizes bs k h l) in
+    rw (add-one, ← before, ← behind) cut
+
+-- with a state that comes last
+pub states_number-push : (sizes bs : List ℕ) (size b : ℕ) → length bs ≡ length sizes → states_number (sizes ++ size ∷ []) (bs ++ b ∷ []) ≡ states_number sizes bs * size + b
+states_number-push sizes bs size b h = states_number-append sizes (size ∷ []) bs (b ∷ []) h ∙ omega arith
+
+pub states_at-push : (sizes : List ℕ) (size i b : ℕ) → i < product_of sizes → b < size → states_at (sizes ++ size ∷ []) (i * size + b) ≡ states_at sizes i ++ b ∷ []
+states_at-push sizes size i b h l =
+    let is : states_number (sizes ++ size ∷ []) (states_at sizes i ++ b ∷ []) ≡ i * size + b =
+    states_number-push sizes (states_at sizes i) size b (AreBelow-length sizes (states_at sizes i) (AreBelow-at sizes i h)) ∙ ap (λ x. x * size + b) (states_number-at sizes i h) in
+    rw (← is) (states_at-number (sizes ++ size ∷ []) (states_at sizes i ++ b ∷ []) (AreBelow-append sizes (size ∷ []) (states_at sizes i) (b ∷ []) (AreBelow-at sizes i h) (l, tt)))
+
+-- Pairs and their numbers
+
+pub number_below : (n : Sizes) (p : Pair) → IsPairOf n p → number n p < count n
+number_below n p ok =
+    let part : p.t * n.env + p.e < n.env * n.target = mul-add-lt p.t n.env p.e n.target ok.t ok.e in
+    let all : (p.t * n.env + p.e) * product_of n.seats + states_number n.seats p.bs < product_of n.seats * (n.env * n.target) =
+    mul-add-lt (p.t * n.env + p.e) (product_of n.seats) (states_number n.seats p.bs) (n.env * n.target) part (states_number_below n.seats p.bs ok.bs) in
+    omega arith
+
+-- the number's parts: the target's state and the environment's, and the list of states
+pub parts_of_number : (n : Sizes) (p : Pair) → IsPairOf n p →
+    (number n p / product_of n.seats / n.env ≡ p.t) × (number n p / product_of n.seats % n.env ≡ p.e) × (number n p % product_of n.seats ≡ states_number n.seats p.bs)
+parts_of_number n p ok =
+    let low : states_number n.seats p.bs < product_of n.seats = states_number_below n.seats p.bs ok.bs in
+    let high : number n p / product_of n.seats ≡ p.t * n.env + p.e = div-mul-add (p.t * n.env + p.e) (product_of n.seats) (states_number n.seats p.bs) low in (
+      rw high (div-mul-add p.t n.env p.e ok.e),
+      rw high (mod-mul-add p.t n.env p.e ok.e),
+      mod-mul-add (p.t * n.env + p.e) (product_of n.seats) (states_number n.seats p.bs) low,
+    )
+
+-- two pairs with equal parts are one
+same_parts : (t u e f : ℕ) (bs cs : List ℕ) → t ≡ u → e ≡ f → bs ≡ cs → ◌≡◌ {A = Pair} (record { t = t; e = e; bs = bs }) (record { t = u; e = f; bs = cs })
+same_parts t u e f bs cs x y z = rw (x, y, z) refl
+
+pub pair_at-number : (n : Sizes) (p : Pair) → IsPairOf n p → pair_at n (number n p) ≡ p
+pair_at-number n p ok =
+    let parts = parts_of_number n p ok in
+    same_parts (number n p / product_of n.seats / n.env) p.t (number n p / product_of n.seats % n.env) p.e (states_at n.seats (number n p % product_of n.seats)) p.bs
+    parts.0 parts.1 (ap (states_at n.seats) parts.2 ∙ states_at-number n.seats p.bs ok.bs)
+
+pub IsPairOf-at : (n : Sizes) (i : ℕ) → i < count n → IsPairOf n (pair_at n i)
+IsPairOf-at n i h =
+    let seats : 0 < product_of n.seats = factor_pos i (n.target * n.env) (product_of n.seats) h in
+    let part : i / product_of n.seats < n.target * n.env = div_below i (product_of n.seats) (n.target * n.env) seats h in
+    let env : 0 < n.env = factor_pos (i / product_of n.seats) n.target n.env part in
+    record {
+      t = div_below (i / product_of n.seats) n.env n.target env part;
+      e = mod_below (i / product_of n.seats) n.env env;
+      bs = AreBelow-at n.seats (i % product_of n.seats) (mod_below i (product_of n.seats) seats);
+    }
+
+pub number-pair_at : (n : Sizes) (i : ℕ) → i < count n → number n (pair_at n i) ≡ i
+number-pair_at n i h =
+    let seats : 0 < product_of n.seats = factor_pos i (n.target * n.env) (product_of n.seats) h in
+    rw (states_number-at n.seats (i % product_of n.seats) (mod_below i (product_of n.seats) seats), div-add-mod' (i / product_of n.seats) n.env)
+    (div-add-mod' i (product_of n.seats))
+
+-- a pair's number is that of one list of states
+number-list : (n : Sizes) (p : Pair) → number n p ≡ states_number (n.target ∷ n.env ∷ n.seats) (p.t ∷ p.e ∷ p.bs)
+number-list n p = omega arith
+
+AreBelow-list : (n : Sizes) (p : Pair) → IsPairOf n p → AreBelow (n.target ∷ n.env ∷ n.seats) (p.t ∷ p.e ∷ p.bs)
+AreBelow-list n p ok = (ok.t, (ok.e, ok.bs))
+
+-- each state of the pair is a digit of its number
+pub part_from_number : (n : Sizes) (p : Pair) (k : ℕ) → IsPairOf n p → k < length n.seats →
+    slice_index p.bs k ≡ number n p / product_of (drop (k + 1) n.seats) % slice_index n.seats k
+part_from_number n p k ok h =
+    let list : slice_index p.bs k ≡ states_number (n.target ∷ n.env ∷ n.seats) (p.t ∷ p.e ∷ p.bs) / product_of (drop (suc k) n.seats) % slice_index n.seats k =
+    rw add-one at (state_from_number (n.target ∷ n.env ∷ n.seats) (p.t ∷ p.e ∷ p.bs) (suc (suc k)) (AreBelow-list n p ok) (omega arith)) in
+    rw (add-one, number-list n p) list
+
+pub part_at : (n : Sizes) (i k : ℕ) → i < count n → k < length n.seats →
+    slice_index (states_at n.seats (i % product_of n.seats)) k ≡ i / product_of (drop (k + 1) n.seats) % slice_index n.seats k
+part_at n i k h l = part_from_number n (pair_at n i) k (IsPairOf-at n i h) l ∙ ap (λ x. x / product_of (drop (k + 1) n.seats) % slice_index n.seats k) (number-pair_at n i h)
+
+-- the number of a pair that differs in the target's state, the environment's, and that of seat k
+pub number-moved : (n : Sizes) (p : Pair) (t e k b : ℕ) → k < length n.seats → length p.bs ≡ length n.seats →
+    number n (record { t = t; e = e; bs = slice_set p.bs k b }) + ((p.t * n.env + p.e) * product_of n.seats + slice_index p.bs k * product_of (drop (k + 1) n.seats))
+    ≡ number n p + ((t * n.env + e) * product_of n.seats + b * product_of (drop (k + 1) n.seats))
+number-moved n p t e k b h l =
+    let states : states_number n.seats (slice_set p.bs k b) + slice_index p.bs k * product_of (drop (k + 1) n.seats) ≡ states_number n.seats p.bs + b * product_of (drop (k + 1) n.seats) =
+    states_number-set n.seats p.bs k b h l in
+    omega arith
+
+-- the number of a pair that differs in the state of seat k
+pub number-set : (n : Sizes) (p : Pair) (k b : ℕ) → k < length n.seats → length p.bs ≡ length n.seats →
+    number n (record { t = p.t; e = p.e; bs = slice_set p.bs k b }) + slice_index p.bs k * product_of (drop (k + 1) n.seats)
+    ≡ number n p + b * product_of (drop (k + 1) n.seats)
+number-set n p k b h l =
+    let states : states_number n.seats (slice_set p.bs k b) + slice_index p.bs k * product_of (drop (k + 1) n.seats) ≡ states_number n.seats p.bs + b * product_of (drop (k + 1) n.seats) =
+    states_number-set n.seats p.bs k b h l in
+    omega arith
+
+pub IsPairOf-moved : (n : Sizes) (p : Pair) (t e k b : ℕ) → IsPairOf n p → t < n.target → e < n.env → b < slice_index n.seats k → IsPairOf n (record { t = t; e = e; bs = slice_set p.bs k b })
+IsPairOf-moved n p t e k b ok x y z = record { t = x; e = y; bs = AreBelow-set n.seats p.bs k b ok.bs z }
+
+-- Pairs that grow by a state, or lose one
+
+pub IsPairOf-grown : (n : Sizes) (p : Pair) (size b : ℕ) → IsPairOf n p → b < size → IsPairOf (grown_sizes n size) (grown p b)
+IsPairOf-grown n p size b ok h = record { t = ok.t; e = ok.e; bs = AreBelow-append n.seats (size ∷ []) p.bs (b ∷ []) ok.bs (h, tt) }
+
+pub count-grown : (n : Sizes) (size : ℕ) → count (grown_sizes n size) ≡ count n * size
+count-grown n size = rw (product_append n.seats (size ∷ [])) (omega arith)
+
+pub number-grown : (n : Sizes) (p : Pair) (size b : ℕ) → IsPairOf n p → number (grown_sizes n size) (grown p b) ≡ number n p * size + b
+number-grown n p size b ok =
+    rw (product_append n.seats (size ∷ []), states_number-push n.seats p.bs size b (AreBelow-length n.seats p.bs ok.bs)) (omega arith)
+
+pub pair_at-grown : (n : Sizes) (size i b : ℕ) → i < count n → b < size → pair_at (grown_sizes n size) (i * size + b) ≡ grown (pair_at n i) b
+pair_at-grown n size i b h l =
+    let ok : IsPairOf n (pair_at n i) = IsPairOf-at n i h in
+    let is : number (grown_sizes n size) (grown (pair_at n i) b) ≡ i * size + b = number-grown n (pair_at n i) size b ok ∙ ap (λ x. x * size + b) (number-pair_at n i h) in
+    ap (pair_at (grown_sizes n size)) (sym is) ∙ pair_at-number (grown_sizes n size) (grown (pair_at n i) b) (IsPairOf-grown n (pair_at n i) size b ok l)
+
+pub IsPairOf-without : (n : Sizes) (p : Pair) (k : ℕ) → IsPairOf n p → IsPairOf (sizes_without k n) (without k p)
+IsPairOf-without n p k ok = record { t = ok.t; e = ok.e; bs = AreBelow-remove n.seats p.bs k ok.bs }
+
+pub IsPairOf-insert : (n : Sizes) (p : Pair) (k b : ℕ) → k < length n.seats → IsPairOf (sizes_without k n) p → b < slice_index n.seats k → IsPairOf n (with_state k b p)
+IsPairOf-insert n p k b h ok l = record { t = ok.t; e = ok.e; bs = AreBelow-insert n.seats p.bs k b h ok.bs l }
+
+pub number-without : (n : Sizes) (p : Pair) (k : ℕ) → IsPairOf n p → k < length n.seats →
+    number (sizes_without k n) (without k p)
+    ≡ number n p / product_of (drop (k + 1) n.seats) / slice_index n.seats k * product_of (drop (k + 1) n.seats) + number n p % product_of (drop (k + 1) n.seats)
+number-without n p k ok h =
+    let list : states_number (n.target ∷ n.env ∷ remove n.seats k) (p.t ∷ p.e ∷ remove p.bs k)
+    ≡ states_number (n.target ∷ n.env ∷ n.seats) (p.t ∷ p.e ∷ p.bs) / product_of (drop (suc k) n.seats) / slice_index n.seats k * product_of (drop (suc k) n.seats)
+    + states_number (n.target ∷ n.env ∷ n.seats) (p.t ∷ p.e ∷ p.bs) % product_of (drop (suc k) n.seats) =
+    rw add-one at (states_number-remove (n.target ∷ n.env ∷ n.seats) (p.t ∷ p.e ∷ p.bs) (suc (suc k)) (AreBelow-list n p ok) (omega arith)) in
+    rw (add-one, number-list n p) (number-list (sizes_without k n) (without k p) ∙ list)
+
+-- the number without the k-th state
+abbrev pub number_without : ℕ → Sizes → ℕ → ℕ
+number_without k n i = i / product_of (drop (k + 1) n.seats) / slice_index n.seats k * product_of (drop (k + 1) n.seats) + i % product_of (drop (k + 1) n.seats)
+
+pub number_without-is : (n : Sizes) (i k : ℕ) → i < count n → k < length n.seats → number (sizes_without k n) (without k (pair_at n i)) ≡ number_without k n i
+number_without-is n i k h l = number-without n (pair_at n i) k (IsPairOf-at n i h) l ∙ ap (number_without k n) (number-pair_at n i h)
+
+pub pair_at-without : (n : Sizes) (i k : ℕ) → i < count n → k < length n.seats → pair_at (sizes_without k n) (number_without k n i) ≡ without k (pair_at n i)
+pair_at-without n i k h l =
+    ap (pair_at (sizes_without k n)) (sym (number_without-is n i k h l))
+    ∙ pair_at-number (sizes_without k n) (without k (pair_at n i)) (IsPairOf-without n (pair_at n i) k (IsPairOf-at n i h))
+
+pub count-without : (n : Sizes) (k : ℕ) → k < length n.seats → count n ≡ count (sizes_without k n) * slice_index n.seats k
+count-without n k h =
+    let cut : product_of n.seats ≡ product_of (take k n.seats) * (slice_index n.seats k * product_of (drop (suc k) n.seats)) = rw add-one at (product_split n.seats k h) in
+    rw (cut, product_append (take k n.seats) (drop (suc k) n.seats)) (omega arith)
+
+-- Pairs of a system
+
+pub states_below : (seats : List Seat) (bs : List ℕ) → AllZip (λ seat b. b < seat.beh.states) seats bs → AreBelow (map (λ seat. seat.beh.states) seats) bs
+states_below [] [] h = tt
+states_below [] (b ∷ bs) h = elim h [ ]
+states_below (seat ∷ seats) [] h = elim h [ ]
+states_below (seat ∷ seats) (b ∷ bs) h = (h.0, states_below seats bs h.1)
+
+pub below_states : (seats : List Seat) (bs : List ℕ) → AreBelow (map (λ seat. seat.beh.states) seats) bs → AllZip (λ seat b. b < seat.beh.states) seats bs
+below_states [] [] h = tt
+below_states [] (b ∷ bs) h = elim h [ ]
+below_states (seat ∷ seats) [] h = elim h [ ]
+below_states (seat ∷ seats) (b ∷ bs) h = (h.0, below_states seats bs h.1)
+
+pub IsPairOf-from : (s : Sys) (p : Pair) → IsPair s p → IsPairOf (sizes_of s) p
+IsPairOf-from s p ok = record { t = ok.t; e = ok.e; bs = states_below s.seats p.bs ok.bs }
+
+pub IsPair-from : (s : Sys) (p : Pair) → IsPairOf (sizes_of s) p → IsPair s p
+IsPair-from s p ok = record { t = ok.t; e = ok.e; bs = below_states s.seats p.bs ok.bs }
+
+pub numbers_are_pairs : (s : Sys) → NumbersArePairs s
+numbers_are_pairs s = record {
+  below = λ p ok. number_below (sizes_of s) p (IsPairOf-from s p ok);
+  back = λ p ok. pair_at-number (sizes_of s) p (IsPairOf-from s p ok);
+  pair = λ i h. IsPair-from s (pair_at (sizes_of s) i) (IsPairOf-at (sizes_of s) i h);
+  there = λ i h. number-pair_at (sizes_of s) i h;
+}
+
+pub pairs_are_numbered : PairsAreNumbered
+pairs_are_numbered s ok = numbers_are_pairs s

@@ -1,0 +1,106 @@
+-- The arena over the numbers of pairs, and that over the pairs, carry over to each other.
+use Rattle.std.proofs.Common.{◌≡◌, ℕ, ◌<◌, ◌==◌, List, [], ◌∷◌, map, IsTrue, refl, sym, ap, ap₂, ◌∙◌, subst, inl, inr}
+use Rattle.std.proofs.lemmas.Bool.{eqb-true, eq-eqb}
+use Rattle.roman_model.specs.Lists.{IsIn}
+use Rattle.roman_model.specs.System.{Sys, Pair, IsSys, IsPair, outcomes, is_allowed, is_fine, same_pair}
+use Rattle.roman_model.specs.Arena.{Entry, is_listed, mask, IsOrder, is_justified}
+use Rattle.roman_model.specs.declared.reason.Reason.{Reason}
+use Rattle.roman_model.specs.Composition.{arena, AreEntries}
+use Rattle.roman_model.specs.Numbers.{sizes_of, count, number, pair_at, numbered, entry_at}
+use Rattle.roman_model.specs.Laws.{OrderCompletes, NumberedCompletes}
+use Rattle.roman_model.proofs.Lists.{same_test, from_map}
+use Rattle.roman_model.proofs.SystemLemmas.{same_pair_is, same_pair_from, outcome_pair}
+use Rattle.roman_model.proofs.NumberLemmas.{numbers_are_pairs}
+use Rattle.roman_model.proofs.Renames.{Renames, listed_renamed, mask_renamed, order_renamed, justified_renamed}
+
+module _ (s : Sys) where
+  -- the number is that of a pair
+  abbrev pub IsNumber : ℕ → Type 0
+  IsNumber i = i < count (sizes_of s)
+
+  -- a map back and forth over pairs is none
+  there_and_back : (ps : List Pair) → ((p : Pair) → IsIn p ps → IsPair s p) → map (pair_at (sizes_of s)) (map (number (sizes_of s)) ps) ≡ ps
+  there_and_back [] ok = refl
+  there_and_back (p ∷ ps) ok = ap₂ (λ q qs. q ∷ qs) ((numbers_are_pairs s).back p (ok p (inl refl))) (there_and_back ps (λ q i. ok q (inr i)))
+
+  pub outcomes_named : IsSys s → (p : Pair) → IsPair s p → (a k : ℕ) → map (pair_at (sizes_of s)) (map (number (sizes_of s)) (outcomes s p a k)) ≡ outcomes s p a k
+  outcomes_named sys p ok a k = there_and_back (outcomes s p a k) (λ q i. outcome_pair s p a k q sys ok i)
+
+  -- numbers name pairs
+  pub numbers_rename : IsSys s → Renames (numbered s) (arena s) (pair_at (sizes_of s)) IsNumber
+  numbers_rename sys = record {
+    same = λ i j below_i below_j. same_test (i == j) (same_pair (pair_at (sizes_of s) i) (pair_at (sizes_of s) j))
+        (λ h. same_pair_from (pair_at (sizes_of s) i) (pair_at (sizes_of s) j) (ap (pair_at (sizes_of s)) (eqb-true i j h)))
+        (λ h. eq-eqb i j (sym ((numbers_are_pairs s).there i below_i) ∙ ap (number (sizes_of s)) (same_pair_is (pair_at (sizes_of s) i) (pair_at (sizes_of s) j) h) ∙ (numbers_are_pairs s).there j below_j));
+    actions = refl;
+    seats = refl;
+    ready = λ k. refl;
+    fine = λ i l. refl;
+    allows = λ i l a. refl;
+    outcomes = λ i l a k. outcomes_named sys (pair_at (sizes_of s) i) ((numbers_are_pairs s).pair i l) a k;
+    within = λ i l a k j h.
+        let (q, m, e) = from_map (number (sizes_of s)) j (outcomes s (pair_at (sizes_of s) i) a k) h in
+        subst IsNumber (sym e) ((numbers_are_pairs s).below q (outcome_pair s (pair_at (sizes_of s) i) a k q sys ((numbers_are_pairs s).pair i l) m));
+  }
+
+  -- and pairs name numbers
+  pub pairs_rename : IsSys s → Renames (arena s) (numbered s) (number (sizes_of s)) (IsPair s)
+  pairs_rename sys = record {
+    same = λ p q ok_p ok_q. same_test (same_pair p q) (number (sizes_of s) p == number (sizes_of s) q)
+        (λ h. eq-eqb (number (sizes_of s) p) (number (sizes_of s) q) (ap (number (sizes_of s)) (same_pair_is p q h)))
+        (λ h. same_pair_from p q (sym ((numbers_are_pairs s).back p ok_p) ∙ ap (pair_at (sizes_of s)) (eqb-true (number (sizes_of s) p) (number (sizes_of s) q) h) ∙ (numbers_are_pairs s).back q ok_q));
+    actions = refl;
+    seats = refl;
+    ready = λ k. refl;
+    fine = λ p ok. ap (is_fine s) (sym ((numbers_are_pairs s).back p ok));
+    allows = λ p ok a. ap (λ q. is_allowed s q a) (sym ((numbers_are_pairs s).back p ok));
+    outcomes = λ p ok a k. ap (λ q. map (number (sizes_of s)) (outcomes s q a k)) (sym ((numbers_are_pairs s).back p ok));
+    within = λ p ok a k q i. outcome_pair s p a k q sys ok i;
+  }
+
+  -- the entries are of numbers of pairs
+  abbrev pub AreNumbers : List (Entry ℕ) → Type 0
+  AreNumbers L = (x : Entry ℕ) → IsIn x L → x.node < count (sizes_of s)
+
+  pub entries_at : (L : List (Entry ℕ)) → AreNumbers L → AreEntries s (map (entry_at s) L)
+  entries_at L are x i =
+      let (y, j, e) = from_map (entry_at s) x L i in
+      subst (λ z. IsPair s z.node) (sym e) ((numbers_are_pairs s).pair y.node (are y j))
+
+  -- a number is listed where its pair is
+  pub listed_at : IsSys s → (L : List (Entry ℕ)) → AreNumbers L → (i : ℕ) → IsNumber i →
+      is_listed (numbered s) L i ≡ is_listed (arena s) (map (entry_at s) L) (pair_at (sizes_of s) i)
+  listed_at sys L are i l = listed_renamed (numbered s) (arena s) (pair_at (sizes_of s)) IsNumber (numbers_rename sys) L i are l
+
+  pub mask_at : IsSys s → (L : List (Entry ℕ)) → AreNumbers L → (i : ℕ) → IsNumber i → (a : ℕ) →
+      mask (numbered s) (is_listed (numbered s) L) i a ≡ mask (arena s) (is_listed (arena s) (map (entry_at s) L)) (pair_at (sizes_of s) i) a
+  mask_at sys L are i l a =
+      mask_renamed (numbered s) (arena s) (pair_at (sizes_of s)) IsNumber (numbers_rename sys)
+      (is_listed (numbered s) L) (is_listed (arena s) (map (entry_at s) L)) (λ j m. listed_at sys L are j m) i l a
+
+  -- a reason holds at a number where it holds at its pair
+  pub justified_at : IsSys s → (L : List (Entry ℕ)) → AreNumbers L → (i : ℕ) → IsNumber i → (r : Reason) →
+      is_justified (numbered s) (is_listed (numbered s) L) i r ≡ is_justified (arena s) (is_listed (arena s) (map (entry_at s) L)) (pair_at (sizes_of s) i) r
+  justified_at sys L are i l r =
+      justified_renamed (numbered s) (arena s) (pair_at (sizes_of s)) IsNumber (numbers_rename sys)
+      (is_listed (numbered s) L) (is_listed (arena s) (map (entry_at s) L)) (λ j m. listed_at sys L are j m) i l r
+
+  pub order_at : IsSys s → (L : List (Entry ℕ)) → AreNumbers L → IsOrder (numbered s) L → IsOrder (arena s) (map (entry_at s) L)
+  order_at sys L are order = order_renamed (numbered s) (arena s) (pair_at (sizes_of s)) IsNumber (numbers_rename sys) L are order
+
+-- a settled list over numbers is complete, since one over pairs is
+pub numbered_completes_by : OrderCompletes → NumberedCompletes
+numbered_completes_by completes s L sys are order fine masked =
+    completes s (map (entry_at s) L) sys (entries_at s L are) (order_at s sys L are order)
+    (λ p ok unlisted.
+    let i : IsNumber s (number (sizes_of s) p) = (numbers_are_pairs s).below p ok in
+    let is : pair_at (sizes_of s) (number (sizes_of s) p) ≡ p = (numbers_are_pairs s).back p ok in
+    subst (λ q. IsTrue (is_fine s q)) is (fine (number (sizes_of s) p) i
+    (listed_at s sys L are (number (sizes_of s) p) i ∙ ap (is_listed (arena s) (map (entry_at s) L)) is ∙ unlisted)))
+    (λ p ok unlisted a allowed empty.
+    let i : IsNumber s (number (sizes_of s) p) = (numbers_are_pairs s).below p ok in
+    let is : pair_at (sizes_of s) (number (sizes_of s) p) ≡ p = (numbers_are_pairs s).back p ok in
+    masked (number (sizes_of s) p) i
+    (listed_at s sys L are (number (sizes_of s) p) i ∙ ap (is_listed (arena s) (map (entry_at s) L)) is ∙ unlisted)
+    a (subst (λ q. IsTrue (is_allowed s q a)) (sym is) allowed)
+    (mask_at s sys L are (number (sizes_of s) p) i a ∙ ap (λ q. mask (arena s) (is_listed (arena s) (map (entry_at s) L)) q a) is ∙ empty))

@@ -1,0 +1,152 @@
+-- Removal lists over the numbers of pairs: the laws of their arena, complete lists, and counts of pairs.
+use Rattle.std.proofs.Common.{◌≡◌, ℕ, ◌+◌, ◌<◌, ◌≤◌, not, List, [], map, length, IsTrue, IsFalse, filter, sum_by, refl, sym, ap, ◌∙◌, subst, arith}
+use Rattle.std.proofs.lemmas.Bool.{both_ways, eqb-true, eq-eqb, not-false}
+use Rattle.std.proofs.lemmas.List.{length-map}
+use Rattle.std.proofs.lemmas.List.Filters.{length-filter_both}
+use Rattle.roman_model.specs.Lists.{IsIn, HasNoRepeats, below}
+use Rattle.roman_model.specs.System.{Sys, Pair, IsSys, IsPair, pairs, outcomes}
+use Rattle.roman_model.specs.Arena.{Entry, is_listed, is_justified, mask, IsOrder, loses, choices}
+use Rattle.roman_model.specs.Composition.{arena, IsComplete}
+use Rattle.roman_model.specs.Numbers.{sizes_of, count, number, pair_at, numbered, entry_at, IsCompleteList}
+use Rattle.roman_model.specs.Offers.{is_related, offers, choice_count}
+use Rattle.roman_model.specs.declared.reason.Reason.{Reason}
+use Rattle.roman_model.specs.declared.reason.Reason.TheVariants.{Final, Act}
+use Rattle.roman_model.proofs.Lists.{in_map, from_map, in_filter, filter_in, in_below, from_below, length-below, same_length, sum_by-map, sum_by_same, sum_by_within, HasNoRepeats-map, HasNoRepeats-filter, HasNoRepeats-below}
+use Rattle.roman_model.proofs.SystemLemmas.{in_pairs, from_pairs, pairs_once, outcome_pair}
+use Rattle.roman_model.proofs.ArenaLemmas.{IsSame, IsArena, in_listed, listed_in, mask_empty, mask_same}
+use Rattle.roman_model.proofs.OrderLemmas.{order_new, new_once}
+use Rattle.roman_model.proofs.CompositionLemmas.{system_is_same, system_is_arena, complete_listed, order_completed}
+use Rattle.roman_model.proofs.NumberLemmas.{numbers_are_pairs}
+use Rattle.roman_model.proofs.Renames.{loses_renamed}
+use Rattle.roman_model.proofs.NumberedArena.{IsNumber, numbers_rename, AreNumbers, listed_at, mask_at, numbered_completes_by}
+
+-- The laws of the arena over numbers.
+
+pub numbered_is_same : (s : Sys) → IsSame (numbered s)
+numbered_is_same s = record { is = λ p q t. eqb-true p q t; itself = λ p. eq-eqb p p refl }
+
+pub numbered_is_arena : (s : Sys) → IsSys s → IsArena (numbered s)
+numbered_is_arena s ok = record {
+  same = numbered_is_same s;
+  allowed = λ i a t. (system_is_arena s ok).allowed (pair_at (sizes_of s) i) a t;
+  closed = λ i h a k j l.
+      let (q, m, e) = from_map (number (sizes_of s)) j (outcomes s (pair_at (sizes_of s) i) a k) l in
+      let pair : IsPair s (pair_at (sizes_of s) i) = (numbers_are_pairs s).pair i (from_below (count (sizes_of s)) i h) in
+      in_below (count (sizes_of s)) j
+      (subst (λ n. n < count (sizes_of s)) (sym e) ((numbers_are_pairs s).below q (outcome_pair s (pair_at (sizes_of s) i) a k q ok pair m)));
+  served = λ i a k j l.
+      let (q, m, e) = from_map (number (sizes_of s)) j (outcomes s (pair_at (sizes_of s) i) a k) l in
+      (system_is_arena s ok).served (pair_at (sizes_of s) i) a k q m;
+  once = HasNoRepeats-below (count (sizes_of s));
+}
+
+-- Complete lists.
+
+-- a list of numbers to which no reason adds one is complete
+pub numbered_completed_by : (s : Sys) (L : List (Entry ℕ)) → IsSys s → AreNumbers s L → IsOrder (numbered s) L →
+    ((i : ℕ) → i < count (sizes_of s) → IsFalse (is_listed (numbered s) L i) → (r : Reason) → IsFalse (is_justified (numbered s) (is_listed (numbered s) L) i r)) →
+    IsCompleteList s L
+numbered_completed_by s L ok are order no_reason =
+    numbered_completes_by order_completed s L ok are order
+    (λ i l f. not-false ((numbered s).fine i) (no_reason i l f Final))
+    (λ i l f a allowed empty.
+    both_ways (is_justified (numbered s) (is_listed (numbered s) L) i (Act a)) (no_reason i l f (Act a))
+    (mask_empty (numbered s) (is_listed (numbered s) L) i a allowed empty))
+
+-- in a complete list the numbers of the pairs that aren't related are listed
+pub numbered_listed : (s : Sys) (L : List (Entry ℕ)) (i : ℕ) → IsSys s → AreNumbers s L → IsCompleteList s L → i < count (sizes_of s) →
+    is_listed (numbered s) L i ≡ not (is_related s (pair_at (sizes_of s) i))
+numbered_listed s L i ok are complete l =
+    listed_at s ok L are i l ∙ complete_listed s (map (entry_at s) L) (pair_at (sizes_of s) i) ok complete ((numbers_are_pairs s).pair i l)
+
+-- its masks are the offers
+pub numbered_offers : (s : Sys) (L : List (Entry ℕ)) (i a : ℕ) → IsSys s → AreNumbers s L → IsCompleteList s L → i < count (sizes_of s) →
+    mask (numbered s) (is_listed (numbered s) L) i a ≡ offers s (pair_at (sizes_of s) i) a
+numbered_offers s L i a ok are complete l =
+    mask_at s ok L are i l a
+    ∙ mask_same (arena s) (is_listed (arena s) (map (entry_at s) L)) (λ q. not (is_related s q)) (pair_at (sizes_of s) i) a
+    (λ k q j. complete_listed s (map (entry_at s) L) q ok complete (outcome_pair s (pair_at (sizes_of s) i) a k q ok ((numbers_are_pairs s).pair i l) j))
+
+-- Depths.
+
+pub numbered_loses : (s : Sys) (n i : ℕ) → IsSys s → i < count (sizes_of s) → loses (numbered s) n i ≡ loses (arena s) n (pair_at (sizes_of s) i)
+numbered_loses s n i ok l = loses_renamed (numbered s) (arena s) (pair_at (sizes_of s)) (IsNumber s) (numbers_rename s ok) n i l
+
+-- Counts.
+
+-- the pairs of the numbers below the count
+abbrev pub numbered_pairs : Sys → List Pair
+numbered_pairs s = map (pair_at (sizes_of s)) (below (count (sizes_of s)))
+
+pub numbered_pairs_once : (s : Sys) → HasNoRepeats (numbered_pairs s)
+numbered_pairs_once s =
+    HasNoRepeats-map (pair_at (sizes_of s)) (below (count (sizes_of s)))
+    (λ i j k l e.
+    sym ((numbers_are_pairs s).there i (from_below (count (sizes_of s)) i k)) ∙ ap (number (sizes_of s)) e
+    ∙ (numbers_are_pairs s).there j (from_below (count (sizes_of s)) j l))
+    (HasNoRepeats-below (count (sizes_of s)))
+
+pub in_numbered_pairs : (s : Sys) (p : Pair) → IsIn p (pairs s) → IsIn p (numbered_pairs s)
+in_numbered_pairs s p i =
+    let pair : IsPair s p = from_pairs s p i in
+    subst (λ q. IsIn q (numbered_pairs s)) ((numbers_are_pairs s).back p pair)
+    (in_map (pair_at (sizes_of s)) (number (sizes_of s) p) (below (count (sizes_of s)))
+    (in_below (count (sizes_of s)) (number (sizes_of s) p) ((numbers_are_pairs s).below p pair)))
+
+pub from_numbered_pairs : (s : Sys) (p : Pair) → IsIn p (numbered_pairs s) → IsIn p (pairs s)
+from_numbered_pairs s p i =
+    let (n, j, e) = from_map (pair_at (sizes_of s)) p (below (count (sizes_of s))) i in
+    in_pairs s p (subst (IsPair s) (sym e) ((numbers_are_pairs s).pair n (from_below (count (sizes_of s)) n j)))
+
+-- there are as many numbers as pairs
+pub length-pairs : (s : Sys) → length (pairs s) ≡ count (sizes_of s)
+length-pairs s =
+    same_length (pairs s) (numbered_pairs s) (pairs_once s) (numbered_pairs_once s) (λ p. (in_numbered_pairs s p, from_numbered_pairs s p))
+    ∙ length-map (below (count (sizes_of s))) (pair_at (sizes_of s)) ∙ length-below (count (sizes_of s))
+
+-- a sum over the pairs is one over their numbers
+pub sum_over_pairs : (s : Sys) (g : Pair → ℕ) → sum_by g (pairs s) ≡ sum_by (λ i. g (pair_at (sizes_of s) i)) (below (count (sizes_of s)))
+sum_over_pairs s g =
+    let up : sum_by g (pairs s) ≤ sum_by g (numbered_pairs s) = sum_by_within g (pairs s) (numbered_pairs s) (pairs_once s) (in_numbered_pairs s) in
+    let down : sum_by g (numbered_pairs s) ≤ sum_by g (pairs s) = sum_by_within g (numbered_pairs s) (pairs s) (numbered_pairs_once s) (from_numbered_pairs s) in
+    let same : sum_by g (pairs s) ≡ sum_by g (numbered_pairs s) = omega arith in
+    same ∙ sum_by-map g (pair_at (sizes_of s)) (below (count (sizes_of s)))
+
+-- a complete list over numbers has as many choices as the offers
+pub numbered_choices : (s : Sys) (L : List (Entry ℕ)) → IsSys s → AreNumbers s L → IsCompleteList s L → choices (numbered s) (is_listed (numbered s) L) ≡ choice_count s
+numbered_choices s L ok are complete =
+    sum_by_same (λ i. sum_by (λ a. length (mask (numbered s) (is_listed (numbered s) L) i a)) (below s.env.actions))
+    (λ i. sum_by (λ a. length (offers s (pair_at (sizes_of s) i) a)) (below s.env.actions)) (below (count (sizes_of s)))
+    (λ i j. sum_by_same (λ a. length (mask (numbered s) (is_listed (numbered s) L) i a)) (λ a. length (offers s (pair_at (sizes_of s) i) a)) (below s.env.actions)
+    (λ a k. ap length (numbered_offers s L i a ok are complete (from_below (count (sizes_of s)) i j))))
+    ∙ sym (sum_over_pairs s (λ p. sum_by (λ a. length (offers s p a)) (below s.env.actions)))
+
+-- the related pairs are as many as a complete list leaves
+pub related_count : (s : Sys) (L : List (Entry Pair)) → IsSys s → IsComplete s L → length (filter (is_related s) (pairs s)) + length L ≡ length (pairs s)
+related_count s L ok complete =
+    let listed : length L ≡ length (filter (λ p. not (is_related s p)) (pairs s)) =
+    sym (length-map L (λ x. x.node))
+    ∙ same_length (map (λ x. x.node) L) (filter (λ p. not (is_related s p)) (pairs s))
+    (new_once (arena s) (system_is_same s) [] L (order_new (arena s) L complete.order))
+    (HasNoRepeats-filter (λ p. not (is_related s p)) (pairs s) (pairs_once s))
+    (λ p. (unrelated p, listed_node p)) in
+    let both : length (filter (is_related s) (pairs s)) + length (filter (λ p. not (is_related s p)) (pairs s)) ≡ length (pairs s) =
+    length-filter_both (is_related s) (λ p. not (is_related s p)) (λ p. refl) (pairs s) in
+    omega arith
+  where
+    unrelated : (p : Pair) → IsIn p (map (λ x. x.node) L) → IsIn p (filter (λ q. not (is_related s q)) (pairs s))
+    unrelated p i =
+        let (x, j, e) = from_map (λ x. x.node) p L i in
+        let pair : IsPair s p = subst (IsPair s) (sym e) (complete.pairs x j) in
+        in_filter (λ q. not (is_related s q)) p (pairs s) (in_pairs s p pair)
+        (sym (complete_listed s L p ok complete pair) ∙ subst (λ q. IsTrue (is_listed (arena s) L q)) (sym e) (in_listed (arena s) (system_is_same s) L x j))
+
+    listed_node : (p : Pair) → IsIn p (filter (λ q. not (is_related s q)) (pairs s)) → IsIn p (map (λ x. x.node) L)
+    listed_node p i =
+        let (j, t) = filter_in (λ q. not (is_related s q)) p (pairs s) i in
+        let (x, k, e) = listed_in (arena s) (system_is_same s) L p (complete_listed s L p ok complete (from_pairs s p j) ∙ t) in
+        subst (λ q. IsIn q (map (λ y. y.node) L)) (sym e) (in_map (λ y. y.node) x L k)
+
+pub numbered_related_count : (s : Sys) (L : List (Entry ℕ)) → IsSys s → IsCompleteList s L → length (filter (is_related s) (pairs s)) + length L ≡ count (sizes_of s)
+numbered_related_count s L ok complete =
+    ap (λ n. length (filter (is_related s) (pairs s)) + n) (sym (length-map L (entry_at s))) ∙ related_count s (map (entry_at s) L) ok complete ∙ length-pairs s

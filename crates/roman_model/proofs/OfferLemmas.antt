@@ -1,0 +1,71 @@
+-- The offers, and what follows where they are taken.
+use Rattle.std.proofs.Common.{◌≡◌, ◌≢◌, ℕ, ◌<◌, not, List, [], ◌∷◌, length, IsTrue}
+use Rattle.std.proofs.lemmas.Bool.{not-false, not_from_true}
+use Rattle.roman_model.specs.Lists.{IsIn}
+use Rattle.roman_model.specs.System.{Sys, Pair, IsSys, IsPair, outcomes, is_allowed}
+use Rattle.roman_model.specs.Arena.{Entry, is_listed, mask, choices}
+use Rattle.roman_model.specs.Composition.{GreatCouple, Great, arena, IsComplete}
+use Rattle.roman_model.specs.Offers.{is_related, offers, choice_count, OffersAreGenerator, FollowingStays}
+use Rattle.roman_model.proofs.Lists.{in_not_empty, not_empty_ne}
+use Rattle.roman_model.proofs.SystemLemmas.{outcome_pair, from_pairs}
+use Rattle.roman_model.proofs.ArenaLemmas.{unbeaten_is, unbeaten_from, in_mask, from_mask, mask_same}
+use Rattle.roman_model.proofs.WorkLemmas.{choices_same}
+use Rattle.roman_model.proofs.CompositionLemmas.{serves_outcomes, outcomes_serve, great_survives, related_great, great_related, complete_listed}
+
+-- an offered seat has an outcome, and its outcomes are related
+pub offer_is : (s : Sys) (p : Pair) (a k : ℕ) → IsSys s → IsPair s p → IsIn k (offers s p a) →
+    IsTrue (is_allowed s p a) × (k < length s.seats) × (outcomes s p a k ≢ []) × ((q : Pair) → IsIn q (outcomes s p a k) → Great s q)
+offer_is s p a k ok pair i =
+    let (allowed, l, unbeaten) = from_mask (arena s) (λ q. not (is_related s q)) p a k i in
+    let (some, all) = unbeaten_is (arena s) (λ q. not (is_related s q)) p a k unbeaten in
+    (allowed, l, some, λ q j. related_great s q ok (outcome_pair s p a k q ok pair j) (not-false (is_related s q) (all q j)))
+
+pub in_offers : (s : Sys) (p : Pair) (a k : ℕ) → IsSys s → IsTrue (is_allowed s p a) → k < length s.seats → outcomes s p a k ≢ [] →
+    ((q : Pair) → IsIn q (outcomes s p a k) → Great s q) → IsIn k (offers s p a)
+in_offers s p a k ok allowed l some all =
+    in_mask (arena s) (λ q. not (is_related s q)) p a k allowed l
+    (unbeaten_from (arena s) (λ q. not (is_related s q)) p a k some (λ q j. not_from_true (is_related s q) (great_related s q ok (all q j))))
+
+-- the mask of a complete list is the offers
+pub mask_is_offers : (s : Sys) (L : List (Entry Pair)) (p : Pair) (a : ℕ) → IsSys s → IsComplete s L → IsPair s p → mask (arena s) (is_listed (arena s) L) p a ≡ offers s p a
+mask_is_offers s L p a ok complete pair =
+    mask_same (arena s) (is_listed (arena s) L) (λ q. not (is_related s q)) p a (λ k q i. complete_listed s L q ok complete (outcome_pair s p a k q ok pair i))
+
+-- The offers are those of the orchestrator generator.
+pub offers_are : OffersAreGenerator
+offers_are s ok = record {
+  related = λ p pair. (related_great s p ok pair, great_related s p ok);
+  offered = λ p pair a allowed k. (
+    λ i.
+        let (allows, l, some, all) = offer_is s p a k ok pair i in
+        (l, outcomes_serve s (GreatCouple s) p a k ok some all),
+    λ h.
+        let (l, some, all) = serves_outcomes s (GreatCouple s) p a k ok allowed h.1 in
+        in_offers s p a k ok allowed l some all,
+  );
+  masked = λ L complete p pair a. mask_is_offers s L p a ok complete pair;
+}
+
+-- at a related pair each allowed action has an offer
+pub related_offers : (s : Sys) (p : Pair) (a : ℕ) → IsSys s → Great s p → IsTrue (is_allowed s p a) → offers s p a ≢ []
+related_offers s p a ok great allowed =
+    let (k, l, some, all) = (great_survives s p ok great).served a allowed in
+    not_empty_ne (offers s p a) (in_not_empty k (offers s p a) (in_offers s p a k ok allowed l some all))
+
+-- Whoever follows the offers stays related.
+pub following_related : FollowingStays
+following_related s ok p pair great [] follows = record {
+  related = great;
+  offered = λ a allowed. related_offers s p a ok great allowed;
+  final = (great_survives s p ok great).final;
+}
+following_related s ok p pair great (m ∷ ms) follows =
+    let (allowed, offered, reached, rest) = follows in
+    let (allows, l, some, all) = offer_is s p m.action m.seat ok pair offered in
+    following_related s ok m.to (outcome_pair s p m.action m.seat m.to ok pair reached) (all m.to reached) ms rest
+
+-- any complete list has as many choices as the offers
+pub complete_choices : (s : Sys) (L : List (Entry Pair)) → IsSys s → IsComplete s L → choices (arena s) (is_listed (arena s) L) ≡ choice_count s
+complete_choices s L ok complete =
+    choices_same (arena s) (is_listed (arena s) L) (λ q. not (is_related s q))
+    (λ p i a k q j. complete_listed s L q ok complete (outcome_pair s p a k q ok (from_pairs s p i) j))

@@ -1,0 +1,255 @@
+-- Removal lists and replays over any arena.
+use Rattle.std.proofs.Common.{◌≡◌, ℕ, ◌≤◌, Bool, true, false, cond, ◌||◌, List, [], ◌∷◌, ◌++◌, map, length, take, drop, IsTrue, IsFalse, inl, inr, refl, sym, ap, ap₂, ◌∙◌, subst, append-nil, take-append-drop}
+use Rattle.std.proofs.lemmas.Bool.{false≢true, both_ways, or_cases, or_parts, or_left, or_right, or_from, cond-true, cond-false}
+use Rattle.std.proofs.lemmas.List.{length-map}
+use Rattle.roman_model.specs.Lists.{IsIn, IsSublist, HasNoRepeats}
+use Rattle.roman_model.specs.Arena.{Arena, Entry, is_among, is_listed, is_justified, IsOrderFrom, IsOrder, AreNew, replay_from, replay, Survives}
+use Rattle.roman_model.proofs.Lists.{by_test, from_map, sublist_skip, no_longer}
+use Rattle.roman_model.proofs.ArenaLemmas.{IsSame, same_from, listed_in, listed_among, justified_more, justified_same, unjustified}
+
+-- How removal lists are made, and parts of them.
+
+pub order_from_push : {N : Type 0} (A : Arena N) (before : List N) (L : List (Entry N)) (x : Entry N) → IsOrderFrom A before L →
+    IsFalse (is_among A before x.node) → IsFalse (is_listed A L x.node) →
+    IsTrue (is_justified A (λ q. is_among A before q || is_listed A L q) x.node x.reason) → IsOrderFrom A before (L ++ x ∷ [])
+order_from_push A before [] x order new unlisted j =
+    (new, justified_more A (λ q. is_among A before q || false) (is_among A before) x.node x.reason (λ a k q i t. from_or_false (is_among A before q) t) j, tt)
+  where
+    from_or_false : (b : Bool) → IsTrue (b || false) → IsTrue b
+    from_or_false true t = refl
+    from_or_false false t = absurd (false≢true t)
+order_from_push A before (y ∷ L) x order new unlisted j =
+    let (other, rest) = or_parts (A.same x.node y.node) (is_listed A L x.node) unlisted in (
+      order.0,
+      order.1,
+      order_from_push A (y.node ∷ before) L x order.2 (or_from (A.same x.node y.node) (is_among A before x.node) other new) rest
+          (justified_more A (λ q. is_among A before q || is_listed A (y ∷ L) q) (λ q. is_among A (y.node ∷ before) q || is_listed A L q) x.node x.reason
+          (λ a k q i t. moved_on (A.same q y.node) (is_among A before q) (is_listed A L q) t) j),
+    )
+  where
+    moved_on : (a b c : Bool) → IsTrue (b || (a || c)) → IsTrue ((a || b) || c)
+    moved_on true b c t = refl
+    moved_on false b c t = t
+
+-- an entry that the list justifies can stand at its end
+pub order_push : {N : Type 0} (A : Arena N) (L : List (Entry N)) (x : Entry N) → IsOrder A L → IsFalse (is_listed A L x.node) →
+    IsTrue (is_justified A (is_listed A L) x.node x.reason) → IsOrder A (L ++ x ∷ [])
+order_push A L x order unlisted j = order_from_push A [] L x order refl unlisted j
+
+pub order_from_left : {N : Type 0} (A : Arena N) (before : List N) (L M : List (Entry N)) → IsOrderFrom A before (L ++ M) → IsOrderFrom A before L
+order_from_left A before [] M order = tt
+order_from_left A before (x ∷ L) M order = (order.0, order.1, order_from_left A (x.node ∷ before) L M order.2)
+
+-- the front of a removal list is one
+pub order_left : {N : Type 0} (A : Arena N) (L M : List (Entry N)) → IsOrder A (L ++ M) → IsOrder A L
+order_left A L M order = order_from_left A [] L M order
+
+pub order_take : {N : Type 0} (A : Arena N) (n : ℕ) (L : List (Entry N)) → IsOrder A L → IsOrder A (take n L)
+order_take A n L order = order_left A (take n L) (drop n L) (subst (λ M. IsOrder A M) (sym (take-append-drop n L)) order)
+
+pub order_from_new : {N : Type 0} (A : Arena N) (before : List N) (L : List (Entry N)) → IsOrderFrom A before L → AreNew A before L
+order_from_new A before [] order = tt
+order_from_new A before (x ∷ L) order = (order.0, order_from_new A (x.node ∷ before) L order.2)
+
+-- the nodes of a removal list are distinct
+pub order_new : {N : Type 0} (A : Arena N) (L : List (Entry N)) → IsOrder A L → AreNew A [] L
+order_new A L order = order_from_new A [] L order
+
+-- where fewer nodes stand before, the same nodes are new
+pub new_less : {N : Type 0} (A : Arena N) (less before : List N) (L : List (Entry N)) → ((q : N) → IsTrue (is_among A less q) → IsTrue (is_among A before q)) →
+    AreNew A before L → AreNew A less L
+new_less A less before [] h new = tt
+new_less A less before (x ∷ L) h new = (
+  by_test (is_among A less x.node) (λ t. absurd (both_ways (is_among A before x.node) new.0 (h x.node t))) (λ f. f),
+  new_less A (x.node ∷ less) (x.node ∷ before) L (λ q t. elim (or_cases (A.same q x.node) (is_among A less q) t)
+      [ inl here ↦ or_left (A.same q x.node) (is_among A before q) here | inr rest ↦ or_right (A.same q x.node) (is_among A before q) (h q rest) ]) new.1,
+)
+
+-- a node that stands before is none of the list
+pub new_apart : {N : Type 0} (A : Arena N) → IsSame A → (before : List N) (L : List (Entry N)) (x : Entry N) → AreNew A before L → IsIn x L → IsFalse (is_among A before x.node)
+new_apart A E before [] x new i = absurd i
+new_apart A E before (y ∷ L) x new (inl e) = subst (λ z. IsFalse (is_among A before z.node)) (sym e) new.0
+new_apart A E before (y ∷ L) x new (inr i) = (or_parts (A.same x.node y.node) (is_among A before x.node) (new_apart A E (y.node ∷ before) L x new.1 i)).1
+
+pub new_once : {N : Type 0} (A : Arena N) → IsSame A → (before : List N) (L : List (Entry N)) → AreNew A before L → HasNoRepeats (map (λ x. x.node) L)
+new_once A E before [] new = tt
+new_once A E before (x ∷ L) new = (
+  λ i.
+      let (y, j, e) = from_map (λ y. y.node) x.node L i in
+      let apart : IsFalse (A.same y.node x.node) = (or_parts (A.same y.node x.node) (is_among A before y.node) (new_apart A E (x.node ∷ before) L y new.1 j)).0 in
+      both_ways (A.same y.node x.node) apart (same_from A E y.node x.node (sym e)),
+  new_once A E (x.node ∷ before) L new.1,
+)
+
+-- a removal list has no more entries than there are nodes
+pub order_fits : {N : Type 0} (A : Arena N) → IsSame A → (L : List (Entry N)) → IsOrder A L → ((x : Entry N) → IsIn x L → IsIn x.node A.nodes) → length L ≤ length A.nodes
+order_fits A E L order within =
+    subst (λ n. n ≤ length A.nodes) (length-map L (λ x. x.node))
+    (no_longer (map (λ x. x.node) L) A.nodes (new_once A E [] L (order_new A L order))
+    (λ p i. let (x, j, e) = from_map (λ x. x.node) p L i in subst (λ q. IsIn q A.nodes) (sym e) (within x j)))
+
+-- an entry's reason holds where its list is gone
+pub order_from_justified : {N : Type 0} (A : Arena N) (before : List N) (L : List (Entry N)) (x : Entry N) → IsOrderFrom A before L → IsIn x L →
+    IsTrue (is_justified A (λ q. is_among A before q || is_listed A L q) x.node x.reason)
+order_from_justified A before [] x order i = absurd i
+order_from_justified A before (y ∷ L) x order (inl e) =
+    subst (λ z. IsTrue (is_justified A (λ q. is_among A before q || is_listed A (y ∷ L) q) z.node z.reason)) (sym e)
+    (justified_more A (is_among A before) (λ q. is_among A before q || is_listed A (y ∷ L) q) y.node y.reason
+    (λ a k q j t. or_left (is_among A before q) (is_listed A (y ∷ L) q) t) order.1)
+order_from_justified A before (y ∷ L) x order (inr i) =
+    justified_more A (λ q. is_among A (y.node ∷ before) q || is_listed A L q) (λ q. is_among A before q || is_listed A (y ∷ L) q) x.node x.reason
+    (λ a k q j t. moved_back (A.same q y.node) (is_among A before q) (is_listed A L q) t) (order_from_justified A (y.node ∷ before) L x order.2 i)
+  where
+    moved_back : (a b c : Bool) → IsTrue ((a || b) || c) → IsTrue (b || (a || c))
+    moved_back true true c t = refl
+    moved_back true false c t = refl
+    moved_back false b c t = t
+
+pub order_justified : {N : Type 0} (A : Arena N) (L : List (Entry N)) (x : Entry N) → IsOrder A L → IsIn x L → IsTrue (is_justified A (is_listed A L) x.node x.reason)
+order_justified A L x order i = order_from_justified A [] L x order i
+
+-- Nothing that is listed lives, for any way to live that keeps itself up.
+
+pub listed_from_dead : {N : Type 0} (A : Arena N) → IsSame A → (Lives : N → Type 0) → ((p : N) → Lives p → Survives A Lives p) → (before : List N) (L : List (Entry N)) →
+    IsOrderFrom A before L → ((p : N) → IsTrue (is_among A before p) → Lives p → ⊥) → (x : Entry N) → IsIn x L → Lives x.node → ⊥
+listed_from_dead A E Lives lives before [] order dead x i = absurd i
+listed_from_dead A E Lives lives before (y ∷ L) order dead x i =
+    let first : Lives y.node → ⊥ = λ v. unjustified A Lives (is_among A before) y.node y.reason (lives y.node v) dead order.1 in
+    elim i [
+      | inl e ↦ λ v. first (subst (λ z. Lives z.node) e v)
+      | inr j ↦ listed_from_dead A E Lives lives (y.node ∷ before) L order.2
+          (λ p t v. elim (or_cases (A.same p y.node) (is_among A before p) t) [ inl here ↦ first (subst Lives (E.is p y.node here) v) | inr rest ↦ dead p rest v ]) x j
+    ]
+
+pub listed_dead : {N : Type 0} (A : Arena N) → IsSame A → (Lives : N → Type 0) → ((p : N) → Lives p → Survives A Lives p) → (L : List (Entry N)) → IsOrder A L →
+    (p : N) → IsTrue (is_listed A L p) → Lives p → ⊥
+listed_dead A E Lives lives L order p t v =
+    let (x, i, e) = listed_in A E L p t in
+    listed_from_dead A E Lives lives [] L order (λ q none. absurd (false≢true none)) x i (subst Lives e v)
+
+-- Replays.
+
+-- a replay is a removal list
+pub replay_from_order : {N : Type 0} (A : Arena N) (before kept : List N) (L : List (Entry N)) → AreNew A before L →
+    ((q : N) → IsTrue (is_among A kept q) → IsTrue (is_among A before q)) → IsOrderFrom A kept (replay_from A kept L)
+replay_from_order A before kept [] new within = tt
+replay_from_order {N} A before kept (x ∷ L) new within =
+    let new_here : IsFalse (is_among A kept x.node) =
+    by_test (is_among A kept x.node) (λ t. absurd (both_ways (is_among A before x.node) new.0 (within x.node t))) (λ f. f) in
+    by_test (is_justified A (is_among A kept) x.node x.reason)
+    (λ t. subst (λ M. IsOrderFrom A kept M) (sym (cond-true (is_justified A (is_among A kept) x.node x.reason) (x ∷ replay_from A (x.node ∷ kept) L) (replay_from A kept L) t)) (
+      new_here,
+      t,
+      replay_from_order A (x.node ∷ before) (x.node ∷ kept) L new.1
+          (λ q s. elim (or_cases (A.same q x.node) (is_among A kept q) s)
+          [ inl here ↦ or_left (A.same q x.node) (is_among A before q) here | inr rest ↦ or_right (A.same q x.node) (is_among A before q) (within q rest) ]),
+    ))
+    (λ f. subst (λ M. IsOrderFrom A kept M) (sym (cond-false (is_justified A (is_among A kept) x.node x.reason) (x ∷ replay_from A (x.node ∷ kept) L) (replay_from A kept L) f))
+    (replay_from_order A (x.node ∷ before) kept L new.1 (λ q s. or_right (A.same q x.node) (is_among A before q) (within q s))))
+
+pub replay_order : {N : Type 0} (A : Arena N) (L : List (Entry N)) → AreNew A [] L → IsOrder A (replay A L)
+replay_order A L new = replay_from_order A [] [] L new (λ q t. t)
+
+-- a replay keeps each sublist that is a removal list
+pub replay_from_keeps : {N : Type 0} (A : Arena N) (before kept : List N) (M L : List (Entry N)) → IsSublist M L → IsOrderFrom A before M →
+    ((q : N) → IsTrue (is_among A before q) → IsTrue (is_among A kept q)) → IsSublist M (replay_from A kept L)
+replay_from_keeps A before kept [] L s order within = tt
+replay_from_keeps A before kept (m ∷ M) [] s order within = absurd s
+replay_from_keeps A before kept (m ∷ M) (x ∷ L) (inl (e, s)) order within =
+    let holds : IsTrue (is_justified A (is_among A kept) x.node x.reason) =
+    subst (λ z. IsTrue (is_justified A (is_among A kept) z.node z.reason)) e
+    (justified_more A (is_among A before) (is_among A kept) m.node m.reason (λ a k q i t. within q t) order.1) in
+    subst (λ R. IsSublist (m ∷ M) R) (sym (cond-true (is_justified A (is_among A kept) x.node x.reason) (x ∷ replay_from A (x.node ∷ kept) L) (replay_from A kept L) holds))
+    (inl (
+      e,
+      replay_from_keeps A (m.node ∷ before) (x.node ∷ kept) M L s order.2
+          (λ q t. elim (or_cases (A.same q m.node) (is_among A before q) t) [
+            | inl here ↦ or_left (A.same q x.node) (is_among A kept q) (subst (λ z. IsTrue (A.same q z.node)) e here)
+            | inr rest ↦ or_right (A.same q x.node) (is_among A kept q) (within q rest)
+          ]),
+    ))
+replay_from_keeps A before kept (m ∷ M) (x ∷ L) (inr s) order within =
+    by_test (is_justified A (is_among A kept) x.node x.reason)
+    (λ t. subst (λ R. IsSublist (m ∷ M) R) (sym (cond-true (is_justified A (is_among A kept) x.node x.reason) (x ∷ replay_from A (x.node ∷ kept) L) (replay_from A kept L) t))
+    (sublist_skip (m ∷ M) (replay_from A (x.node ∷ kept) L) x
+    (replay_from_keeps A before (x.node ∷ kept) (m ∷ M) L s order (λ q r. or_right (A.same q x.node) (is_among A kept q) (within q r)))))
+    (λ f. subst (λ R. IsSublist (m ∷ M) R) (sym (cond-false (is_justified A (is_among A kept) x.node x.reason) (x ∷ replay_from A (x.node ∷ kept) L) (replay_from A kept L) f))
+    (replay_from_keeps A before kept (m ∷ M) L s order within))
+
+pub replay_keeps : {N : Type 0} (A : Arena N) (M L : List (Entry N)) → IsSublist M L → IsOrder A M → IsSublist M (replay A L)
+replay_keeps A M L s order = replay_from_keeps A [] [] M L s order (λ q t. t)
+
+-- the replay of a removal list is all of it
+pub replay_from_whole : {N : Type 0} (A : Arena N) (before : List N) (L : List (Entry N)) → IsOrderFrom A before L → replay_from A before L ≡ L
+replay_from_whole A before [] order = refl
+replay_from_whole A before (x ∷ L) order =
+    cond-true (is_justified A (is_among A before) x.node x.reason) (x ∷ replay_from A (x.node ∷ before) L) (replay_from A before L) order.1
+    ∙ ap (λ M. x ∷ M) (replay_from_whole A (x.node ∷ before) L order.2)
+
+pub replay_whole : {N : Type 0} (A : Arena N) (L : List (Entry N)) → IsOrder A L → replay A L ≡ L
+replay_whole A L order = replay_from_whole A [] L order
+
+pub replay_from_sublist : {N : Type 0} (A : Arena N) (kept : List N) (L : List (Entry N)) → IsSublist (replay_from A kept L) L
+replay_from_sublist A kept [] = tt
+replay_from_sublist A kept (x ∷ L) =
+    let here : IsSublist (replay_from A (x.node ∷ kept) L) L = replay_from_sublist A (x.node ∷ kept) L in
+    let rest : IsSublist (replay_from A kept L) L = replay_from_sublist A kept L in
+    elim (is_justified A (is_among A kept) x.node x.reason) as (λ b. IsSublist (cond b (x ∷ replay_from A (x.node ∷ kept) L) (replay_from A kept L)) (x ∷ L))
+    [ true ↦ inl (refl, here) | false ↦ sublist_skip (replay_from A kept L) L x rest ]
+
+pub replay_sublist : {N : Type 0} (A : Arena N) (L : List (Entry N)) → IsSublist (replay A L) L
+replay_sublist A L = replay_from_sublist A [] L
+
+-- replays that begin with the same nodes are the same
+pub replay_from_same : {N : Type 0} (A : Arena N) (kept others : List N) (L : List (Entry N)) → ((q : N) → is_among A kept q ≡ is_among A others q) → replay_from A kept L ≡ replay_from A others L
+replay_from_same A kept others [] same = refl
+replay_from_same A kept others (x ∷ L) same =
+    ap₂ (λ b M. cond b (x ∷ replay_from A (x.node ∷ kept) L) M)
+    (justified_same A (is_among A kept) (is_among A others) x.node x.reason (λ a k q i. same q)) (replay_from_same A kept others L same)
+    ∙ ap (λ M. cond (is_justified A (is_among A others) x.node x.reason) (x ∷ M) (replay_from A others L))
+    (replay_from_same A (x.node ∷ kept) (x.node ∷ others) L (λ q. ap (λ b. A.same q x.node || b) (same q)))
+
+-- the test doesn't see where in the list a node stands
+pub middle_first : {N : Type 0} (A : Arena N) (ps qs : List N) (p q : N) → is_among A (ps ++ p ∷ qs) q ≡ is_among A (p ∷ (ps ++ qs)) q
+middle_first A [] qs p q = refl
+middle_first A (r ∷ ps) qs p q = ap (λ b. A.same q r || b) (middle_first A ps qs p q) ∙ turned (A.same q r) (A.same q p) (is_among A (ps ++ qs) q)
+  where
+    turned : (a b c : Bool) → (a || (b || c)) ≡ (b || (a || c))
+    turned true true c = refl
+    turned true false c = refl
+    turned false b c = refl
+
+pub replay_from_append : {N : Type 0} (A : Arena N) (kept : List N) (L M : List (Entry N)) →
+    replay_from A kept (L ++ M) ≡ replay_from A kept L ++ replay_from A (map (λ x. x.node) (replay_from A kept L) ++ kept) M
+replay_from_append A kept [] M = refl
+replay_from_append A kept (x ∷ L) M = by_test (is_justified A (is_among A kept) x.node x.reason)
+    (λ t.
+    cond-true (is_justified A (is_among A kept) x.node x.reason) (x ∷ replay_from A (x.node ∷ kept) (L ++ M)) (replay_from A kept (L ++ M)) t
+    ∙ ap (λ R. x ∷ R) (replay_from_append A (x.node ∷ kept) L M)
+    ∙ ap (λ R. x ∷ (replay_from A (x.node ∷ kept) L ++ R))
+    (replay_from_same A (map (λ y. y.node) (replay_from A (x.node ∷ kept) L) ++ x.node ∷ kept) (x.node ∷ (map (λ y. y.node) (replay_from A (x.node ∷ kept) L) ++ kept)) M
+    (λ q. middle_first A (map (λ y. y.node) (replay_from A (x.node ∷ kept) L)) kept x.node q))
+    ∙ sym (ap (λ R. R ++ replay_from A (map (λ y. y.node) R ++ kept) M)
+    (cond-true (is_justified A (is_among A kept) x.node x.reason) (x ∷ replay_from A (x.node ∷ kept) L) (replay_from A kept L) t)))
+    (λ f.
+    cond-false (is_justified A (is_among A kept) x.node x.reason) (x ∷ replay_from A (x.node ∷ kept) (L ++ M)) (replay_from A kept (L ++ M)) f
+    ∙ replay_from_append A kept L M
+    ∙ sym (ap (λ R. R ++ replay_from A (map (λ y. y.node) R ++ kept) M)
+    (cond-false (is_justified A (is_among A kept) x.node x.reason) (x ∷ replay_from A (x.node ∷ kept) L) (replay_from A kept L) f)))
+
+-- a replay goes on from the nodes that it has kept
+pub replay_append : {N : Type 0} (A : Arena N) (L M : List (Entry N)) → replay A (L ++ M) ≡ replay A L ++ replay_from A (map (λ x. x.node) (replay A L)) M
+replay_append A L M = replay_from_append A [] L M ∙ ap (λ ps. replay A L ++ replay_from A ps M) (append-nil (map (λ x. x.node) (replay A L)))
+
+-- one more entry is kept where the replay so far justifies it
+pub replay_push : {N : Type 0} (A : Arena N) (L : List (Entry N)) (x : Entry N) →
+    replay A (L ++ x ∷ []) ≡ cond (is_justified A (is_listed A (replay A L)) x.node x.reason) (replay A L ++ x ∷ []) (replay A L)
+replay_push A L x =
+    replay_append A L (x ∷ [])
+    ∙ ap (λ b. replay A L ++ cond b (x ∷ []) [])
+    (justified_same A (is_among A (map (λ y. y.node) (replay A L))) (is_listed A (replay A L)) x.node x.reason (λ a k q i. sym (listed_among A (replay A L) q)))
+    ∙ pushed (is_justified A (is_listed A (replay A L)) x.node x.reason)
+  where
+    pushed : (b : Bool) → (replay A L ++ cond b (x ∷ []) []) ≡ cond b (replay A L ++ x ∷ []) (replay A L)
+    pushed true = refl
+    pushed false = append-nil (replay A L)

@@ -1,0 +1,276 @@
+-- Lemmas on the pairs of a system, its steps and outcomes.
+use Rattle.std.proofs.Common.{◌≡◌, ℕ, zero, suc, ◌<◌, ◌==◌, not, ◌&&◌, List, [], ◌∷◌, map, length, Option, Some, None, IsTrue, IsFalse, flat_map, slice_get, slice_index, slice_set, inl, inr, refl, sym, ap, ap₂, ◌∙◌, subst}
+use Rattle.std.specs.List.{AllZip}
+use Rattle.std.proofs.lemmas.Bool.{false≢true, and_parts, and_from, not-true, not_from_false, eqb-true, eq-eqb, cond-true, cond-false}
+use Rattle.std.proofs.lemmas.Option.{none-some, same_Some, slice_get_within}
+use Rattle.roman_model.specs.Lists.{IsIn, HasNoRepeats, below, is_empty}
+use Rattle.roman_model.specs.System.{Env, Beh, Seat, Sys, Pair, has, has_triple, has_move, IsEnv, IsBeh, IsSys, IsPair, TStep, SStep, Allows, combinations, pairs, env_next, beh_next, env_prev, beh_prev, seat_next, moved, outcomes, is_allowed, is_ready, same_numbers, same_pair}
+use Rattle.roman_model.proofs.Lists.{by_test, in_map, from_map, in_flat_map, from_flat_map, in_filter, filter_in, any_true, in_not_empty, not_empty_in, in_below, from_below, HasNoRepeats-map, HasNoRepeats-flat_map, HasNoRepeats-below}
+
+-- Equal pairs.
+
+pub same_numbers_is : (ms ns : List ℕ) → IsTrue (same_numbers ms ns) → ms ≡ ns
+same_numbers_is [] [] h = refl
+same_numbers_is [] (n ∷ ns) h = absurd (false≢true h)
+same_numbers_is (m ∷ ms) [] h = absurd (false≢true h)
+same_numbers_is (m ∷ ms) (n ∷ ns) h =
+    let (first, rest) = and_parts (m == n) (same_numbers ms ns) h in
+    ap₂ (λ k ks. k ∷ ks) (eqb-true m n first) (same_numbers_is ms ns rest)
+
+pub same_numbers_itself : (ns : List ℕ) → IsTrue (same_numbers ns ns)
+same_numbers_itself [] = refl
+same_numbers_itself (n ∷ ns) = and_from (n == n) (same_numbers ns ns) (eq-eqb n n refl) (same_numbers_itself ns)
+
+pub same_pair_is : (p q : Pair) → IsTrue (same_pair p q) → p ≡ q
+same_pair_is p q h =
+    let (front, numbers) = and_parts (p.t == q.t && p.e == q.e) (same_numbers p.bs q.bs) h in
+    let (targets, envs) = and_parts (p.t == q.t) (p.e == q.e) front in
+    pair_path (eqb-true p.t q.t targets) (eqb-true p.e q.e envs) (same_numbers_is p.bs q.bs numbers)
+  where
+    pair_path : p.t ≡ q.t → p.e ≡ q.e → p.bs ≡ q.bs → p ≡ q
+    pair_path t e bs = λ i. record { t = t i; e = e i; bs = bs i }
+
+pub same_pair_itself : (p : Pair) → IsTrue (same_pair p p)
+same_pair_itself p =
+    and_from (p.t == p.t && p.e == p.e) (same_numbers p.bs p.bs)
+    (and_from (p.t == p.t) (p.e == p.e) (eq-eqb p.t p.t refl) (eq-eqb p.e p.e refl))
+    (same_numbers_itself p.bs)
+
+pub same_pair_from : (p q : Pair) → p ≡ q → IsTrue (same_pair p q)
+same_pair_from p q e = subst (λ r. IsTrue (same_pair p r)) e (same_pair_itself p)
+
+-- The pairs of a system.
+
+pub in_combinations : (seats : List Seat) (bs : List ℕ) → AllZip (λ seat b. b < seat.beh.states) seats bs → IsIn bs (combinations seats)
+in_combinations [] [] h = inl refl
+in_combinations [] (b ∷ bs) h = absurd h
+in_combinations (seat ∷ seats) [] h = absurd h
+in_combinations (seat ∷ seats) (b ∷ bs) h =
+    in_flat_map (λ c. map (λ cs. c ∷ cs) (combinations seats)) b (b ∷ bs) (below seat.beh.states) (in_below seat.beh.states b h.0)
+    (in_map (λ cs. b ∷ cs) bs (combinations seats) (in_combinations seats bs h.1))
+
+pub from_combinations : (seats : List Seat) (bs : List ℕ) → IsIn bs (combinations seats) → AllZip (λ seat b. b < seat.beh.states) seats bs
+from_combinations [] bs (inl e) = subst (λ cs. AllZip (λ (seat : Seat) (b : ℕ). b < seat.beh.states) [] cs) (sym e) tt
+from_combinations [] bs (inr i) = absurd i
+from_combinations (seat ∷ seats) bs i =
+    let (b, j, k) = from_flat_map (λ c. map (λ cs. c ∷ cs) (combinations seats)) bs (below seat.beh.states) i in
+    let (cs, l, e) = from_map (λ ds. b ∷ ds) bs (combinations seats) k in
+    subst (λ ds. AllZip (λ (seat : Seat) (b : ℕ). b < seat.beh.states) (seat ∷ seats) ds) (sym e) (from_below seat.beh.states b j, from_combinations seats cs l)
+
+pub in_pairs : (s : Sys) (p : Pair) → IsPair s p → IsIn p (pairs s)
+in_pairs s p ok =
+    in_flat_map (λ t. flat_map (λ e. map (λ bs. record { t = t; e = e; bs = bs }) (combinations s.seats)) (below s.env.states)) p.t p
+    (below s.target.states) (in_below s.target.states p.t ok.t)
+    (in_flat_map (λ e. map (λ bs. record { t = p.t; e = e; bs = bs }) (combinations s.seats)) p.e p (below s.env.states) (in_below s.env.states p.e ok.e)
+    (in_map (λ bs. record { t = p.t; e = p.e; bs = bs }) p.bs (combinations s.seats) (in_combinations s.seats p.bs ok.bs)))
+
+pub from_pairs : (s : Sys) (p : Pair) → IsIn p (pairs s) → IsPair s p
+from_pairs s p i =
+    let (t, j, k) = from_flat_map (λ t. flat_map (λ e. map (λ bs. record { t = t; e = e; bs = bs }) (combinations s.seats)) (below s.env.states)) p (below s.target.states) i in
+    let (e, l, m) = from_flat_map (λ e. map (λ bs. record { t = t; e = e; bs = bs }) (combinations s.seats)) p (below s.env.states) k in
+    let (bs, n, same) = from_map (λ bs. record { t = t; e = e; bs = bs }) p (combinations s.seats) m in
+    subst (IsPair s) (sym same) (record { t = from_below s.target.states t j; e = from_below s.env.states e l; bs = from_combinations s.seats bs n })
+
+pub combinations_once : (seats : List Seat) → HasNoRepeats (combinations seats)
+combinations_once [] = (λ none. absurd none, tt)
+combinations_once (seat ∷ seats) =
+    HasNoRepeats-flat_map (λ b. map (λ bs. b ∷ bs) (combinations seats)) (below seat.beh.states)
+    (λ b i. HasNoRepeats-map (λ bs. b ∷ bs) (combinations seats) (λ bs cs j k e. ap tail e) (combinations_once seats))
+    (λ b c bs i j k l.
+    let (cs, m, e) = from_map (λ ds. b ∷ ds) bs (combinations seats) k in
+    let (ds, n, f) = from_map (λ es. c ∷ es) bs (combinations seats) l in
+    ap head (sym e ∙ f))
+    (HasNoRepeats-below seat.beh.states)
+  where
+    head : List ℕ → ℕ
+    head [] = 0
+    head (b ∷ bs) = b
+
+    tail : List ℕ → List ℕ
+    tail [] = []
+    tail (b ∷ bs) = bs
+
+pub pairs_once : (s : Sys) → HasNoRepeats (pairs s)
+pairs_once s =
+    HasNoRepeats-flat_map of_target (below s.target.states)
+    (λ t i. HasNoRepeats-flat_map (of_both t) (below s.env.states)
+    (λ e j. HasNoRepeats-map (λ bs. record { t = t; e = e; bs = bs }) (combinations s.seats) (λ bs cs k l f. ap (λ p. p.bs) f) (combinations_once s.seats))
+    (λ e d p j k l m. sym (env_of t e p l) ∙ env_of t d p m)
+    (HasNoRepeats-below s.env.states))
+    (λ t u p i j k l. sym (target_of t p k) ∙ target_of u p l)
+    (HasNoRepeats-below s.target.states)
+  where
+    of_both : ℕ → ℕ → List Pair
+    of_both t e = map (λ bs. record { t = t; e = e; bs = bs }) (combinations s.seats)
+
+    of_target : ℕ → List Pair
+    of_target t = flat_map (of_both t) (below s.env.states)
+
+    env_of : (t e : ℕ) (p : Pair) → IsIn p (of_both t e) → p.e ≡ e
+    env_of t e p i = let (bs, j, f) = from_map (λ bs. record { t = t; e = e; bs = bs }) p (combinations s.seats) i in ap (λ q. q.e) f
+
+    target_of : (t : ℕ) (p : Pair) → IsIn p (of_target t) → p.t ≡ t
+    target_of t p i =
+        let (e, j, k) = from_flat_map (of_both t) p (below s.env.states) i in
+        let (bs, l, f) = from_map (λ bs. record { t = t; e = e; bs = bs }) p (combinations s.seats) k in
+        ap (λ q. q.t) f
+
+-- Triples and moves are in range.
+
+pub triple_in_range : (env : Env) (e a e' : ℕ) → IsEnv env → IsTrue (has_triple env e a e') → (e < env.states) × (a < env.actions) × (e' < env.states)
+triple_in_range env e a e' ok h =
+    let (x, i, t) = any_true (λ x. x.from == e && x.action == a && x.to == e') env.triples h in
+    let (front, to) = and_parts (x.from == e && x.action == a) (x.to == e') t in
+    let (from, action) = and_parts (x.from == e) (x.action == a) front in
+    let (l, m, n) = ok.triples x i in
+    (subst (λ y. y < env.states) (eqb-true x.from e from) l, subst (λ y. y < env.actions) (eqb-true x.action a action) m, subst (λ y. y < env.states) (eqb-true x.to e' to) n)
+
+pub move_in_range : (env : Env) (beh : Beh) (b e a b' : ℕ) → IsBeh env beh → IsTrue (has_move beh b e a b') →
+    (b < beh.states) × (e < env.states) × (a < env.actions) × (b' < beh.states)
+move_in_range env beh b e a b' ok h =
+    let (m, i, t) = any_true (λ m. m.from == b && m.action == a && has m.guard e && m.to == b') beh.steps h in
+    let (front, to) = and_parts (m.from == b && m.action == a && has m.guard e) (m.to == b') t in
+    let (middle, guard) = and_parts (m.from == b && m.action == a) (has m.guard e) front in
+    let (from, action) = and_parts (m.from == b) (m.action == a) middle in
+    let (g, j, same) = any_true (λ n. n == e) m.guard guard in
+    let (k, l, n) = ok.steps m i in (
+      subst (λ y. y < beh.states) (eqb-true m.from b from) k,
+      subst (λ y. y < env.states) (eqb-true g e same) (ok.guards m i g j),
+      subst (λ y. y < env.actions) (eqb-true m.action a action) l,
+      subst (λ y. y < beh.states) (eqb-true m.to b' to) n,
+    )
+
+-- Next states.
+
+pub in_env_next : (env : Env) (e a e' : ℕ) → IsEnv env → IsTrue (has_triple env e a e') → IsIn e' (env_next env e a)
+in_env_next env e a e' ok h =
+    in_filter (has_triple env e a) e' (below env.states) (in_below env.states e' (triple_in_range env e a e' ok h).2) h
+
+pub from_env_next : (env : Env) (e a e' : ℕ) → IsIn e' (env_next env e a) → IsTrue (has_triple env e a e')
+from_env_next env e a e' i = (filter_in (has_triple env e a) e' (below env.states) i).1
+
+pub in_beh_next : (env : Env) (beh : Beh) (b e a b' : ℕ) → IsBeh env beh → IsTrue (has_move beh b e a b') → IsIn b' (beh_next beh b e a)
+in_beh_next env beh b e a b' ok h =
+    in_filter (has_move beh b e a) b' (below beh.states) (in_below beh.states b' (move_in_range env beh b e a b' ok h).3) h
+
+pub from_beh_next : (beh : Beh) (b e a b' : ℕ) → IsIn b' (beh_next beh b e a) → IsTrue (has_move beh b e a b')
+from_beh_next beh b e a b' i = (filter_in (has_move beh b e a) b' (below beh.states) i).1
+
+pub in_seat_next : (env : Env) (seat : Seat) (b e a b' : ℕ) → IsBeh env seat.beh → IsFalse seat.frozen → IsTrue (has_move seat.beh b e a b') →
+    IsIn b' (seat_next (Some seat) b e a)
+in_seat_next env seat b e a b' ok ready h =
+    subst (λ ns. IsIn b' ns) (sym (cond-false seat.frozen [] (beh_next seat.beh b e a) ready)) (in_beh_next env seat.beh b e a b' ok h)
+
+pub from_seat_next : (o : Option Seat) (b e a b' : ℕ) → IsIn b' (seat_next o b e a) →
+    (seat : Seat) × (o ≡ Some seat) × IsFalse seat.frozen × IsTrue (has_move seat.beh b e a b')
+from_seat_next None b e a b' i = absurd i
+from_seat_next (Some seat) b e a b' i = by_test seat.frozen
+    (λ frozen. absurd (subst (λ ns. IsIn b' ns) (cond-true seat.frozen [] (beh_next seat.beh b e a) frozen) i))
+    (λ ready. (seat, refl, ready, from_beh_next seat.beh b e a b' (subst (λ ns. IsIn b' ns) (cond-false seat.frozen [] (beh_next seat.beh b e a) ready) i)))
+
+-- States before.
+
+pub in_env_prev : (env : Env) (e a e' : ℕ) → IsEnv env → IsTrue (has_triple env e a e') → IsIn e (env_prev env e' a)
+in_env_prev env e a e' ok h =
+    in_filter (λ d. has_triple env d a e') e (below env.states) (in_below env.states e (triple_in_range env e a e' ok h).0) h
+
+pub from_env_prev : (env : Env) (e a e' : ℕ) → IsIn e (env_prev env e' a) → IsTrue (has_triple env e a e')
+from_env_prev env e a e' i = (filter_in (λ d. has_triple env d a e') e (below env.states) i).1
+
+pub in_beh_prev : (env : Env) (beh : Beh) (b e a b' : ℕ) → IsBeh env beh → IsTrue (has_move beh b e a b') → IsIn b (beh_prev beh b' e a)
+in_beh_prev env beh b e a b' ok h =
+    in_filter (λ c. has_move beh c e a b') b (below beh.states) (in_below beh.states b (move_in_range env beh b e a b' ok h).0) h
+
+pub from_beh_prev : (beh : Beh) (b e a b' : ℕ) → IsIn b (beh_prev beh b' e a) → IsTrue (has_move beh b e a b')
+from_beh_prev beh b e a b' i = (filter_in (λ c. has_move beh c e a b') b (below beh.states) i).1
+
+-- The seat that a list of seats has at a place.
+pub seat_in : (seats : List Seat) (k : ℕ) (seat : Seat) → slice_get seats k ≡ Some seat → IsIn seat seats
+seat_in [] k seat e = absurd (none-some seat e)
+seat_in (x ∷ seats) zero seat e = inl (sym (same_Some x seat e))
+seat_in (x ∷ seats) (suc k) seat e = inr (seat_in seats k seat e)
+
+-- Outcomes are the ends of joint steps.
+
+pub in_moved : (s : Sys) (p : Pair) (a k : ℕ) (states : List ℕ) (t' e' b' : ℕ) → IsSys s → TStep s p.t p.e a t' e' → IsIn b' states →
+    IsIn (record { t = t'; e = e'; bs = slice_set p.bs k b' }) (moved s p a k states)
+in_moved s p a k states t' e' b' ok step i =
+    in_flat_map (λ e'. flat_map (λ t'. map (λ b'. record { t = t'; e = e'; bs = slice_set p.bs k b' }) states) (beh_next s.target p.t p.e a))
+    e' (record { t = t'; e = e'; bs = slice_set p.bs k b' }) (env_next s.env p.e a) (in_env_next s.env p.e a e' ok.env step.0)
+    (in_flat_map (λ t'. map (λ b'. record { t = t'; e = e'; bs = slice_set p.bs k b' }) states)
+    t' (record { t = t'; e = e'; bs = slice_set p.bs k b' }) (beh_next s.target p.t p.e a) (in_beh_next s.env s.target p.t p.e a t' ok.target step.1)
+    (in_map (λ b'. record { t = t'; e = e'; bs = slice_set p.bs k b' }) b' states i))
+
+pub from_moved : (s : Sys) (p : Pair) (a k : ℕ) (states : List ℕ) (q : Pair) → IsIn q (moved s p a k states) →
+    TStep s p.t p.e a q.t q.e × ((b' : ℕ) × IsIn b' states × (q.bs ≡ slice_set p.bs k b'))
+from_moved s p a k states q i =
+    let (e', j, l) = from_flat_map (λ e'. flat_map (λ t'. map (λ b'. record { t = t'; e = e'; bs = slice_set p.bs k b' }) states) (beh_next s.target p.t p.e a)) q (env_next s.env p.e a) i in
+    let (t', m, n) = from_flat_map (λ t'. map (λ b'. record { t = t'; e = e'; bs = slice_set p.bs k b' }) states) q (beh_next s.target p.t p.e a) l in
+    let (b', o, same) = from_map (λ b'. record { t = t'; e = e'; bs = slice_set p.bs k b' }) q states n in (
+      (
+        subst (λ e. IsTrue (has_triple s.env p.e a e)) (sym (ap (λ r. r.e) same)) (from_env_next s.env p.e a e' j),
+        subst (λ t. IsTrue (has_move s.target p.t p.e a t)) (sym (ap (λ r. r.t) same)) (from_beh_next s.target p.t p.e a t' m),
+      ),
+      (b', o, ap (λ r. r.bs) same),
+    )
+
+pub outcome_in : (s : Sys) (p : Pair) (a k t' e' : ℕ) (bs' : List ℕ) → IsSys s → TStep s p.t p.e a t' e' → SStep s p.bs p.e a k bs' e' →
+    IsIn (record { t = t'; e = e'; bs = bs' }) (outcomes s p a k)
+outcome_in s p a k t' e' bs' ok step r =
+    let next : IsIn r.to (seat_next (slice_get s.seats k) (slice_index p.bs k) p.e a) =
+    subst (λ o. IsIn r.to (seat_next o (slice_index p.bs k) p.e a)) (sym r.seated)
+    (in_seat_next s.env r.seat (slice_index p.bs k) p.e a r.to (ok.seats r.seat (seat_in s.seats k r.seat r.seated)) r.ready r.moves) in
+    subst (λ bs. IsIn (record { t = t'; e = e'; bs = bs }) (outcomes s p a k)) (sym r.is)
+    (in_moved s p a k (seat_next (slice_get s.seats k) (slice_index p.bs k) p.e a) t' e' r.to ok step next)
+
+pub from_outcome : (s : Sys) (p : Pair) (a k : ℕ) (q : Pair) → IsIn q (outcomes s p a k) → TStep s p.t p.e a q.t q.e × SStep s p.bs p.e a k q.bs q.e
+from_outcome s p a k q i =
+    let (step, (b', j, e)) = from_moved s p a k (seat_next (slice_get s.seats k) (slice_index p.bs k) p.e a) q i in
+    let (seat, seated, ready, moves) = from_seat_next (slice_get s.seats k) (slice_index p.bs k) p.e a b' j in
+    (step, record { seat = seat; seated = seated; ready = ready; world = step.0; to = b'; moves = moves; is = e })
+
+-- An outcome comes by a seat that is there and ready.
+pub outcome_seat : (s : Sys) (p : Pair) (a k : ℕ) (q : Pair) → IsIn q (outcomes s p a k) → (k < length s.seats) × IsTrue (is_ready (slice_get s.seats k))
+outcome_seat s p a k q i =
+    let r : SStep s p.bs p.e a k q.bs q.e = (from_outcome s p a k q i).1 in
+    (slice_get_within s.seats k r.seat r.seated, subst (λ o. IsTrue (is_ready o)) (sym r.seated) (not_from_false r.seat.frozen r.ready))
+
+-- A list of one state for each seat stays one where a state of a seat takes another's place.
+pub states_set : (seats : List Seat) (bs : List ℕ) (k b : ℕ) (seat : Seat) → AllZip (λ seat b. b < seat.beh.states) seats bs →
+    slice_get seats k ≡ Some seat → b < seat.beh.states → AllZip (λ seat b. b < seat.beh.states) seats (slice_set bs k b)
+states_set [] [] k b seat h e l = absurd (none-some seat e)
+states_set [] (c ∷ bs) k b seat h e l = absurd h
+states_set (x ∷ seats) [] k b seat h e l = absurd h
+states_set (x ∷ seats) (c ∷ bs) zero b seat h e l = (subst (λ (y : Seat). b < y.beh.states) (sym (same_Some x seat e)) l, h.1)
+states_set (x ∷ seats) (c ∷ bs) (suc k) b seat h e l = (h.0, states_set seats bs k b seat h.1 e l)
+
+pub outcome_pair : (s : Sys) (p : Pair) (a k : ℕ) (q : Pair) → IsSys s → IsPair s p → IsIn q (outcomes s p a k) → IsPair s q
+outcome_pair s p a k q ok pair i =
+    let (step, r) = from_outcome s p a k q i in
+    record {
+      t = (move_in_range s.env s.target p.t p.e a q.t ok.target step.1).3;
+      e = (triple_in_range s.env p.e a q.e ok.env step.0).2;
+      bs = subst (λ bs. AllZip (λ (seat : Seat) (b : ℕ). b < seat.beh.states) s.seats bs) (sym r.is)
+          (states_set s.seats p.bs k r.to r.seat pair.bs r.seated
+          (move_in_range s.env r.seat.beh (slice_index p.bs k) p.e a r.to (ok.seats r.seat (seat_in s.seats k r.seat r.seated)) r.moves).3);
+    }
+
+-- Allowed actions.
+
+pub allowed_in : (s : Sys) (p : Pair) (a : ℕ) → IsSys s → Allows s p.t p.e a → IsTrue (is_allowed s p a)
+allowed_in s p a ok (t', e', step) =
+    and_from (not (is_empty (env_next s.env p.e a))) (not (is_empty (beh_next s.target p.t p.e a)))
+    (not_from_false (is_empty (env_next s.env p.e a)) (in_not_empty e' (env_next s.env p.e a) (in_env_next s.env p.e a e' ok.env step.0)))
+    (not_from_false (is_empty (beh_next s.target p.t p.e a)) (in_not_empty t' (beh_next s.target p.t p.e a) (in_beh_next s.env s.target p.t p.e a t' ok.target step.1)))
+
+pub from_allowed : (s : Sys) (p : Pair) (a : ℕ) → IsTrue (is_allowed s p a) → Allows s p.t p.e a
+from_allowed s p a h =
+    let (envs, targets) = and_parts (not (is_empty (env_next s.env p.e a))) (not (is_empty (beh_next s.target p.t p.e a))) h in
+    let (e', i) = not_empty_in (env_next s.env p.e a) (not-true (is_empty (env_next s.env p.e a)) envs) in
+    let (t', j) = not_empty_in (beh_next s.target p.t p.e a) (not-true (is_empty (beh_next s.target p.t p.e a)) targets) in
+    (t', e', (from_env_next s.env p.e a e' i, from_beh_next s.target p.t p.e a t' j))
+
+pub allowed_in_range : (s : Sys) (p : Pair) (a : ℕ) → IsSys s → IsTrue (is_allowed s p a) → a < s.env.actions
+allowed_in_range s p a ok h =
+    let (t', e', step) = from_allowed s p a h in
+    (triple_in_range s.env p.e a e' ok.env step.0).1

@@ -1,0 +1,5 @@
+use Rattle.roman_model.proofs.ChangeLaws as laws
+use Rattle.roman_model.proofs.changes.renaming_keeps.Goals as goal
+
+pub returns : goal.returns
+returns c = record { kept = laws.renaming_keeps }

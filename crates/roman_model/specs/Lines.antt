@@ -1,0 +1,27 @@
+-- Texts of lines.
+use Rattle.std.specs.Prelude.{ℕ, ◌==◌, List, [], ◌∷◌, ◌++◌, if◌then◌else◌}
+use Rattle.std.specs.List.{flat_map}
+
+-- the byte before the first line
+abbrev pub onto_first_line : ℕ → List (List ℕ) → List (List ℕ)
+onto_first_line byte [] = (byte ∷ []) ∷ []
+onto_first_line byte (line ∷ lines) = (byte ∷ line) ∷ lines
+
+-- the lines of a text: each ends at its newline, which is no part of it, or at the end of the bytes
+abbrev pub lines : List ℕ → List (List ℕ)
+lines [] = []
+lines (byte ∷ bytes) = if byte == 10 then [] ∷ lines bytes else onto_first_line byte (lines bytes)
+
+-- the byte before the first line, if there is one
+abbrev pub onto_ended_line : ℕ → List (List ℕ) → List (List ℕ)
+onto_ended_line byte [] = []
+onto_ended_line byte (line ∷ lines) = (byte ∷ line) ∷ lines
+
+-- the lines of a text that end with a newline
+abbrev pub ended_lines : List ℕ → List (List ℕ)
+ended_lines [] = []
+ended_lines (byte ∷ bytes) = if byte == 10 then [] ∷ ended_lines bytes else onto_ended_line byte (ended_lines bytes)
+
+-- the text of those lines, each with a newline
+abbrev pub text_of : List (List ℕ) → List ℕ
+text_of lines = flat_map (λ line. line ++ 10 ∷ []) lines

@@ -1,0 +1,69 @@
+//! The laws over the definitions alone: each is the contract of a function that does nothing.
+
+ghost use Rattle.roman_model.specs.Laws.{
+  GreatestIsGreatest,
+  OrderCompletes,
+  OrderRefutes,
+  ReplayKeeps,
+  UnrelatedLoses,
+};
+ghost use Rattle.roman_model.specs.Offers.{FollowingStays, OffersAreGenerator};
+ghost use Rattle.roman_model.specs.Play.{DepthIsLeast, DepthWins, OrderWins};
+
+/// The related pairs, as couples, meet the three clauses of an ND-simulation, each
+/// ND-simulation is part of them, and a finite one holds them all.
+pub fn greatest_is_greatest()
+    ensures greatest { GreatestIsGreatest }
+{}
+
+/// No pair of a removal list is related.
+pub fn order_refutes()
+    ensures refuted { OrderRefutes }
+{}
+
+/// A removal list is complete where every unlisted pair meets clause 2 and has a seat left for
+/// each allowed action.
+pub fn order_completes()
+    ensures complete { OrderCompletes }
+{}
+
+/// A pair is unrelated exactly where the opponent wins from it within as many requests as there
+/// are pairs.
+pub fn unrelated_loses()
+    ensures lost { UnrelatedLoses }
+{}
+
+/// The replay of a list with distinct pairs is a removal list, and keeps each sublist that is
+/// one.
+pub fn replay_keeps()
+    ensures kept { ReplayKeeps }
+{}
+
+/// The offers are those of the orchestrator generator, and the masks of any complete removal
+/// list.
+pub fn offers_are_generator()
+    ensures offered { OffersAreGenerator }
+{}
+
+/// Whoever starts at a related pair and follows the offers stays related.
+pub fn following_stays()
+    ensures related { FollowingStays }
+{}
+
+/// From a pair of a removal list the opponent that plays by it wins within as many requests as
+/// the list has entries, whichever seats serve.
+pub fn order_wins()
+    ensures won { OrderWins }
+{}
+
+/// From a pair of depth n the opponent that plays by the depth wins within n requests, whichever
+/// seats serve.
+pub fn depth_wins()
+    ensures won { DepthWins }
+{}
+
+/// The depth of a pair is the least number of requests within which the opponent wins from it: a
+/// pair that isn't lost by then has a seat for each allowed action that holds out.
+pub fn depth_is_least()
+    ensures least { DepthIsLeast }
+{}

@@ -1,0 +1,3 @@
+pub mod Board
+pub mod Flags
+pub mod Sound
