@@ -8,9 +8,20 @@ use Rattle.std.proofs.lemmas.List.{append-nil, take_all, take-append-le, length-
 use Rattle.std.proofs.lemmas.List.Elements.{All-cons, All-nil, All-push}
 use Rattle.std.proofs.lemmas.List.Splits.{slice_split-cons_no, slice_split_none, slice_split_at}
 use Rattle.std.specs.List.{slice_split, onto_first, All}
-use Rattle.roman_text.specs.Lines.{is_newline, last_line, lines_of, all_but_last, last_part, whole_lines, unfinished, with_newline, HasNoNewline, IsSplit, HasTaken, kept}
+use Rattle.roman_model.specs.Lines.{lines, onto_first_line, ended_lines, onto_ended_line, text_of}
+use Rattle.roman_text.specs.Lines.{is_newline, last_part, unfinished, with_newline, HasNoNewline, IsSplit, HasTaken, kept}
 
 -- ---- parts
+
+-- all parts but the last
+abbrev all_but_last : {X : Type 0} → List X → List X
+all_but_last [] = []
+all_but_last (x ∷ []) = []
+all_but_last (x ∷ y ∷ more) = x ∷ all_but_last (y ∷ more)
+
+-- the parts between newlines, but the last
+whole_lines : List ℕ → List (List ℕ)
+whole_lines bytes = all_but_last (slice_split is_newline bytes)
 
 -- all but the last of two lists of parts, the second of which has some
 all_but_last-append : {X : Type 0} (xs : List X) (y : X) (ys : List X) → all_but_last (xs ++ y ∷ ys) ≡ xs ++ all_but_last (y ∷ ys)
@@ -78,14 +89,62 @@ module _ {X : Type 0} (p : X → Bool) where
 
 -- ---- lines
 
--- the lines of a text that goes on: those that were whole stay, and the unfinished one goes on
-pub whole_lines-append : (xs ys : List ℕ) → whole_lines (xs ++ ys) ≡ whole_lines xs ++ whole_lines (unfinished xs ++ ys)
+ended_step : (b : Bool) (x : ℕ) (part : List ℕ) (parts : List (List ℕ)) → cond b ([] ∷ all_but_last (part ∷ parts)) (onto_ended_line x (all_but_last (part ∷ parts)))
+    ≡ all_but_last (cond b ([] ∷ part ∷ parts) (onto_first x (part ∷ parts)))
+ended_step true x part parts = refl
+ended_step false x part [] = refl
+ended_step false x part (q ∷ qs) = refl
+
+ended_at : (b : Bool) (x : ℕ) (ended : List (List ℕ)) (ps : List (List ℕ)) (part : List ℕ) (parts : List (List ℕ)) → ps ≡ part ∷ parts → ended ≡ all_but_last ps
+    → cond b ([] ∷ ended) (onto_ended_line x ended) ≡ all_but_last (cond b ([] ∷ ps) (onto_first x ps))
+ended_at b x ended ps part parts s h = rw (h, s) (ended_step b x part parts)
+
+-- the lines that end with a newline are the parts between newlines but the last
+ended_lines_are : (bytes : List ℕ) → ended_lines bytes ≡ whole_lines bytes
+unfolding whole_lines
+ended_lines_are [] = refl
+ended_lines_are (x ∷ xs) = let f = first_part is_newline xs in ended_at (is_newline x) x (ended_lines xs) (slice_split is_newline xs) f.0 f.1 f.2 (ended_lines_are xs)
+
+-- the line that is left at the end of a text, if any bytes are
+abbrev last_line : List ℕ → List (List ℕ)
+last_line [] = []
+last_line (x ∷ xs) = (x ∷ xs) ∷ []
+
+lines_step : (b : Bool) (x : ℕ) (part : List ℕ) (parts : List (List ℕ))
+    → cond b ([] ∷ (all_but_last (part ∷ parts) ++ last_line (last_part (part ∷ parts)))) (onto_first_line x (all_but_last (part ∷ parts) ++ last_line (last_part (part ∷ parts))))
+    ≡ all_but_last (cond b ([] ∷ part ∷ parts) (onto_first x (part ∷ parts))) ++ last_line (last_part (cond b ([] ∷ part ∷ parts) (onto_first x (part ∷ parts))))
+lines_step true x part parts = refl
+lines_step false x [] [] = refl
+lines_step false x (y ∷ ys) [] = refl
+lines_step false x part (q ∷ qs) = refl
+
+lines_at : (b : Bool) (x : ℕ) (all : List (List ℕ)) (ps : List (List ℕ)) (part : List ℕ) (parts : List (List ℕ)) → ps ≡ part ∷ parts → all ≡ all_but_last ps ++ last_line (last_part ps)
+    → cond b ([] ∷ all) (onto_first_line x all) ≡ all_but_last (cond b ([] ∷ ps) (onto_first x ps)) ++ last_line (last_part (cond b ([] ∷ ps) (onto_first x ps)))
+lines_at b x all ps part parts s h = rw (h, s) (lines_step b x part parts)
+
+lines_of_parts : (bytes : List ℕ) → lines bytes ≡ all_but_last (slice_split is_newline bytes) ++ last_line (last_part (slice_split is_newline bytes))
+lines_of_parts [] = refl
+lines_of_parts (x ∷ xs) = let f = first_part is_newline xs in lines_at (is_newline x) x (lines xs) (slice_split is_newline xs) f.0 f.1 f.2 (lines_of_parts xs)
+
+-- the lines of a text are those that end with a newline and what is unfinished
+lines_are_ended : (bytes : List ℕ) → lines bytes ≡ ended_lines bytes ++ last_line (unfinished bytes)
 unfolding whole_lines unfinished
-whole_lines-append xs ys = rw (slice_split-append is_newline xs ys) (all_but_last-split is_newline (all_but_last (slice_split is_newline xs)) (last_part (slice_split is_newline xs) ++ ys))
+lines_are_ended bytes = lines_of_parts bytes ∙ ap (λ (front : List (List ℕ)). front ++ last_line (last_part (slice_split is_newline bytes))) (sym (ended_lines_are bytes))
+
+-- the lines of a text that goes on: those that have ended stay, and the unfinished one goes on
+pub ended_lines-append : (xs ys : List ℕ) → ended_lines (xs ++ ys) ≡ ended_lines xs ++ ended_lines (unfinished xs ++ ys)
+unfolding whole_lines unfinished
+ended_lines-append xs ys =
+    ended_lines_are (xs ++ ys)
+    ∙ (rw (slice_split-append is_newline xs ys)
+    (all_but_last-split is_newline (all_but_last (slice_split is_newline xs)) (last_part (slice_split is_newline xs) ++ ys))
+    ∙ ap2 (sym (ended_lines_are xs)) (sym (ended_lines_are (last_part (slice_split is_newline xs) ++ ys)))) where
+      ap2 : {a b c d : List (List ℕ)} → a ≡ b → c ≡ d → a ++ c ≡ b ++ d
+      ap2 {a} {b} {c} {d} e h = rw (e, h)
 
 -- what is unfinished in a text that goes on
 pub unfinished-append : (xs ys : List ℕ) → unfinished (xs ++ ys) ≡ unfinished (unfinished xs ++ ys)
-unfolding whole_lines unfinished
+unfolding unfinished
 unfinished-append xs ys = rw (slice_split-append is_newline xs ys) (last_part-split is_newline (all_but_last (slice_split is_newline xs)) (last_part (slice_split is_newline xs) ++ ys))
 
 -- the unfinished line has no newline
@@ -93,47 +152,43 @@ pub unfinished-free : (xs : List ℕ) → HasNoNewline (unfinished xs)
 unfolding unfinished
 unfinished-free xs = last_part-fails is_newline xs
 
--- a line that a newline ends is whole
-pub whole_lines-line : (line : List ℕ) (byte : ℕ) → HasNoNewline line → is_newline byte ≡ true → whole_lines (line ++ byte ∷ []) ≡ line ∷ []
+-- a line that a newline ends
+pub ended_lines_one : (line : List ℕ) (byte : ℕ) → HasNoNewline line → is_newline byte ≡ true → ended_lines (line ++ byte ∷ []) ≡ line ∷ []
 unfolding whole_lines
-whole_lines-line line byte free e = rw (slice_split_at is_newline line byte [] free e)
+ended_lines_one line byte free e = ended_lines_are (line ++ byte ∷ []) ∙ rw (slice_split_at is_newline line byte [] free e)
 
-pub unfinished-line : (line : List ℕ) (byte : ℕ) → HasNoNewline line → is_newline byte ≡ true → unfinished (line ++ byte ∷ []) ≡ []
+unfinished_one : (line : List ℕ) (byte : ℕ) → HasNoNewline line → is_newline byte ≡ true → unfinished (line ++ byte ∷ []) ≡ []
 unfolding unfinished
-unfinished-line line byte free e = rw (slice_split_at is_newline line byte [] free e)
+unfinished_one line byte free e = rw (slice_split_at is_newline line byte [] free e)
 
--- where no newline is, no line is whole
-pub whole_lines-free : (line : List ℕ) → HasNoNewline line → whole_lines line ≡ []
+-- where no newline is, no line has ended
+pub ended_lines_none : (line : List ℕ) → HasNoNewline line → ended_lines line ≡ []
 unfolding whole_lines
-whole_lines-free line free = rw (slice_split_none is_newline line free)
+ended_lines_none line free = ended_lines_are line ∙ rw (slice_split_none is_newline line free)
 
-pub unfinished-all : (line : List ℕ) → HasNoNewline line → unfinished line ≡ line
+pub unfinished_all : (line : List ℕ) → HasNoNewline line → unfinished line ≡ line
 unfolding unfinished
-unfinished-all line free = rw (slice_split_none is_newline line free)
+unfinished_all line free = rw (slice_split_none is_newline line free)
 
--- one byte more that is a newline: the unfinished line is whole
-pub whole_lines-newline : (bytes : List ℕ) (byte : ℕ) → is_newline byte ≡ true → whole_lines (bytes ++ byte ∷ []) ≡ whole_lines bytes ++ unfinished bytes ∷ []
-whole_lines-newline bytes byte e =
-    whole_lines-append bytes (byte ∷ []) ∙ ap (λ (more : List (List ℕ)). whole_lines bytes ++ more) (whole_lines-line (unfinished bytes) byte (unfinished-free bytes) e)
+-- one byte more that is a newline: the unfinished line has ended
+pub ended_lines-newline : (bytes : List ℕ) (byte : ℕ) → is_newline byte ≡ true → ended_lines (bytes ++ byte ∷ []) ≡ ended_lines bytes ++ unfinished bytes ∷ []
+ended_lines-newline bytes byte e =
+    ended_lines-append bytes (byte ∷ []) ∙ ap (λ (more : List (List ℕ)). ended_lines bytes ++ more) (ended_lines_one (unfinished bytes) byte (unfinished-free bytes) e)
 
 pub unfinished-newline : (bytes : List ℕ) (byte : ℕ) → is_newline byte ≡ true → unfinished (bytes ++ byte ∷ []) ≡ []
-unfinished-newline bytes byte e = unfinished-append bytes (byte ∷ []) ∙ unfinished-line (unfinished bytes) byte (unfinished-free bytes) e
+unfinished-newline bytes byte e = unfinished-append bytes (byte ∷ []) ∙ unfinished_one (unfinished bytes) byte (unfinished-free bytes) e
 
 -- one byte more that is another: the unfinished line goes on
-pub whole_lines-other : (bytes : List ℕ) (byte : ℕ) → is_newline byte ≡ false → whole_lines (bytes ++ byte ∷ []) ≡ whole_lines bytes
-whole_lines-other bytes byte e =
+pub ended_lines-other : (bytes : List ℕ) (byte : ℕ) → is_newline byte ≡ false → ended_lines (bytes ++ byte ∷ []) ≡ ended_lines bytes
+ended_lines-other bytes byte e =
     let free : HasNoNewline (unfinished bytes ++ byte ∷ []) = All-push (λ b. is_newline b ≡ false) (unfinished bytes) byte (unfinished-free bytes) e in
-    whole_lines-append bytes (byte ∷ [])
-    ∙ (ap (λ (more : List (List ℕ)). whole_lines bytes ++ more) (whole_lines-free (unfinished bytes ++ byte ∷ []) free) ∙ append-nil (whole_lines bytes))
+    ended_lines-append bytes (byte ∷ [])
+    ∙ (ap (λ (more : List (List ℕ)). ended_lines bytes ++ more) (ended_lines_none (unfinished bytes ++ byte ∷ []) free) ∙ append-nil (ended_lines bytes))
 
 pub unfinished-other : (bytes : List ℕ) (byte : ℕ) → is_newline byte ≡ false → unfinished (bytes ++ byte ∷ []) ≡ unfinished bytes ++ byte ∷ []
 unfinished-other bytes byte e =
     let free : HasNoNewline (unfinished bytes ++ byte ∷ []) = All-push (λ b. is_newline b ≡ false) (unfinished bytes) byte (unfinished-free bytes) e in
-    unfinished-append bytes (byte ∷ []) ∙ unfinished-all (unfinished bytes ++ byte ∷ []) free
-
-pub whole_lines-nil : whole_lines [] ≡ []
-unfolding whole_lines
-whole_lines-nil = refl
+    unfinished-append bytes (byte ∷ []) ∙ unfinished_all (unfinished bytes ++ byte ∷ []) free
 
 pub unfinished-nil : unfinished [] ≡ []
 unfolding unfinished
@@ -141,23 +196,22 @@ unfinished-nil = refl
 
 -- ---- the text of lines
 
-parts_of_lines : (lines : List (List ℕ)) (rest : List ℕ) → All HasNoNewline lines → HasNoNewline rest → slice_split is_newline (flat_map with_newline lines ++ rest) ≡ lines ++ rest ∷ []
+parts_of_lines : (ls : List (List ℕ)) (rest : List ℕ) → All HasNoNewline ls → HasNoNewline rest → slice_split is_newline (text_of ls ++ rest) ≡ ls ++ rest ∷ []
 parts_of_lines [] rest each last = slice_split_none is_newline rest last
-parts_of_lines (line ∷ lines) rest each last =
-    let more : List ℕ = flat_map with_newline lines ++ rest in
-    let regrouped : (with_newline line ++ flat_map with_newline lines) ++ rest ≡ line ++ 10 ∷ more =
-    append_assoc (line ++ 10 ∷ []) (flat_map with_newline lines) rest ∙ append_assoc line (10 ∷ []) more in
+parts_of_lines (line ∷ ls) rest each last =
+    let more : List ℕ = text_of ls ++ rest in
+    let regrouped : (with_newline line ++ text_of ls) ++ rest ≡ line ++ 10 ∷ more =
+    append_assoc (line ++ 10 ∷ []) (text_of ls) rest ∙ append_assoc line (10 ∷ []) more in
     rw regrouped (slice_split_at is_newline line 10 more (each 0 line (omega arith)) refl
-    ∙ ap (λ (parts : List (List ℕ)). line ∷ parts) (parts_of_lines lines rest (λ k d h. each (suc k) d (omega arith)) last))
+    ∙ ap (λ (parts : List (List ℕ)). line ∷ parts) (parts_of_lines ls rest (λ k d h. each (suc k) d (omega arith)) last))
 
 -- no other lines are those of the bytes
-pub lines_only : (bytes : List ℕ) (lines : List (List ℕ)) (rest : List ℕ) → IsSplit bytes lines rest → (lines ≡ whole_lines bytes) × (rest ≡ unfinished bytes)
+pub lines_only : (bytes : List ℕ) (ls : List (List ℕ)) (rest : List ℕ) → IsSplit bytes ls rest → (ls ≡ ended_lines bytes) × (rest ≡ unfinished bytes)
 unfolding whole_lines unfinished
-lines_only bytes lines rest split =
-    let parts : slice_split is_newline bytes ≡ lines ++ rest ∷ [] = rw split.whole (parts_of_lines lines rest split.each split.last) in (
-      sym (ap all_but_last parts ∙ (all_but_last-append lines rest [] ∙ append-nil lines)),
-      sym (ap last_part parts ∙ last_part-append lines rest []),
-    )
+lines_only bytes ls rest split =
+    let parts : slice_split is_newline bytes ≡ ls ++ rest ∷ [] = rw split.whole (parts_of_lines ls rest split.each split.last) in
+    let ended : ended_lines bytes ≡ ls = ended_lines_are bytes ∙ (ap all_but_last parts ∙ (all_but_last-append ls rest [] ∙ append-nil ls)) in
+    (sym ended, sym (ap last_part parts ∙ last_part-append ls rest []))
 
 text_of_parts : List (List ℕ) → List ℕ
 text_of_parts parts = flat_map with_newline (all_but_last parts) ++ last_part parts
@@ -197,9 +251,9 @@ all_but_last-all P (x ∷ []) h = All-nil P
 all_but_last-all P (x ∷ y ∷ more) h = All-cons P x (all_but_last (y ∷ more)) (h 0 x (omega arith)) (all_but_last-all P (y ∷ more) (λ k d lt. h (suc k) d (omega arith)))
 
 -- the bytes are their whole lines and what is unfinished
-pub lines_are : (bytes : List ℕ) → IsSplit bytes (whole_lines bytes) (unfinished bytes)
+pub lines_are : (bytes : List ℕ) → IsSplit bytes (ended_lines bytes) (unfinished bytes)
 unfolding whole_lines unfinished
-lines_are bytes = record {
+lines_are bytes = rw (ended_lines_are bytes) record {
   whole = unfold text_of_parts in sym (text_same bytes);
   each = all_but_last-all HasNoNewline (slice_split is_newline bytes) (parts_free bytes);
   last = last_part-fails is_newline bytes;
@@ -246,13 +300,13 @@ kept-empty (x ∷ xs) h = absurd (omega (arith, length-take 257 (x ∷ xs)))
 
 -- before the first byte
 pub HasTaken-start : HasTaken [] [] []
-HasTaken-start = record { whole = sym whole_lines-nil; rest = sym (ap kept unfinished-nil ∙ kept-nil) }
+HasTaken-start = record { whole = refl; rest = sym (ap kept unfinished-nil ∙ kept-nil) }
 
 -- a newline: what is held is the line that it ends, as much of it as is kept, and a cleared splitter holds nothing of the next
 pub HasTaken-newline : (bytes : List ℕ) (lines : List (List ℕ)) (held : List ℕ) (byte : ℕ) → is_newline byte ≡ true → HasTaken bytes lines held
     → HasTaken (bytes ++ byte ∷ []) (lines ++ unfinished bytes ∷ []) []
 HasTaken-newline bytes lines held byte e t = record {
-  whole = ap (λ (front : List (List ℕ)). front ++ unfinished bytes ∷ []) t.whole ∙ sym (whole_lines-newline bytes byte e);
+  whole = ap (λ (front : List (List ℕ)). front ++ unfinished bytes ∷ []) t.whole ∙ sym (ended_lines-newline bytes byte e);
   rest = sym (ap kept (unfinished-newline bytes byte e) ∙ kept-nil);
 }
 
@@ -260,7 +314,7 @@ HasTaken-newline bytes lines held byte e t = record {
 pub HasTaken-other : (bytes : List ℕ) (lines : List (List ℕ)) (held : List ℕ) (byte : ℕ) → is_newline byte ≡ false → HasTaken bytes lines held
     → HasTaken (bytes ++ byte ∷ []) lines (kept (held ++ byte ∷ []))
 HasTaken-other bytes lines held byte e t = record {
-  whole = t.whole ∙ sym (whole_lines-other bytes byte e);
+  whole = t.whole ∙ sym (ended_lines-other bytes byte e);
   rest = rw t.rest (kept-push (unfinished bytes) byte ∙ sym (ap kept (unfinished-other bytes byte e)));
 }
 
@@ -282,15 +336,17 @@ push_full bytes held len byte same size low high =
 
 -- ---- the end of a stream
 
+some_line : (line : List ℕ) → ltb 0 (length (kept line)) ≡ true → last_line line ≡ line ∷ []
+some_line [] h = absurd (let lt = ltb-true 0 (length (kept [])) h in omega (arith, length-kept []))
+some_line (x ∷ xs) h = refl
+
 -- where some bytes of the last line are held, it is a line
-pub lines_of-rest : (bytes : List ℕ) → ltb 0 (length (kept (unfinished bytes))) ≡ true → lines_of bytes ≡ whole_lines bytes ++ unfinished bytes ∷ []
-lines_of-rest bytes h = ap (λ (more : List (List ℕ)). whole_lines bytes ++ more) (some (unfinished bytes) h) where
-  some : (line : List ℕ) → ltb 0 (length (kept line)) ≡ true → last_line line ≡ line ∷ []
-  some [] h = absurd (let lt = ltb-true 0 (length (kept [])) h in omega (arith, length-kept []))
-  some (x ∷ xs) h = refl
+pub lines_rest : (bytes : List ℕ) → ltb 0 (length (kept (unfinished bytes))) ≡ true → lines bytes ≡ ended_lines bytes ++ unfinished bytes ∷ []
+lines_rest bytes h = lines_are_ended bytes ∙ ap (λ (more : List (List ℕ)). ended_lines bytes ++ more) (some_line (unfinished bytes) h)
 
 -- where none are, there is no other line
-pub lines_of-none : (bytes : List ℕ) → ltb 0 (length (kept (unfinished bytes))) ≡ false → lines_of bytes ≡ whole_lines bytes
-lines_of-none bytes h =
+pub lines_none : (bytes : List ℕ) → ltb 0 (length (kept (unfinished bytes))) ≡ false → lines bytes ≡ ended_lines bytes
+lines_none bytes h =
     let low = ltb-false 0 (length (kept (unfinished bytes))) h in
-    ap (λ (line : List ℕ). whole_lines bytes ++ last_line line) (kept-empty (unfinished bytes) (omega arith)) ∙ append-nil (whole_lines bytes)
+    lines_are_ended bytes
+    ∙ (ap (λ (line : List ℕ). ended_lines bytes ++ last_line line) (kept-empty (unfinished bytes) (omega arith)) ∙ append-nil (ended_lines bytes))

@@ -1,6 +1,7 @@
 //! Laws over the definitions of lines and shapes, each the contract of a function with no body.
 ghost use Rattle.std.specs.Prelude.{◌≡◌, ◌≢◌, ℕ, List};
-ghost use Rattle.roman_text.specs.Lines.{IsSplit, whole_lines, unfinished, kept};
+ghost use Rattle.roman_model.specs.Lines.{ended_lines};
+ghost use Rattle.roman_text.specs.Lines.{IsSplit, unfinished, kept};
 ghost use Rattle.roman_text.specs.Shapes.{LineShape, nothing, spelling, shape_of, shape_of_words};
 
 use crate::errors::LineError;
@@ -8,8 +9,8 @@ use crate::errors::LineError;
 /// The lines of some bytes are what stands before each newline, and no other lines are: so they
 /// don't depend on the pieces in which the bytes come.
 pub fn split_lines()
-    ensures are { (bytes : List ℕ) → IsSplit bytes (whole_lines bytes) (unfinished bytes) }
-    ensures only { (bytes : List ℕ) (lines : List (List ℕ)) (rest : List ℕ) → IsSplit bytes lines rest → (lines ≡ whole_lines bytes) × (rest ≡ unfinished bytes) }
+    ensures are { (bytes : List ℕ) → IsSplit bytes (ended_lines bytes) (unfinished bytes) }
+    ensures only { (bytes : List ℕ) (lines : List (List ℕ)) (rest : List ℕ) → IsSplit bytes lines rest → (lines ≡ ended_lines bytes) × (rest ≡ unfinished bytes) }
 {}
 
 /// Each event has the words of its line, and those words alone are that event. Words without a shape
