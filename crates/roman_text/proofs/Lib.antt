@@ -1,0 +1,4 @@
+pub mod LineLemmas
+mod WordLemmas
+mod ShapeLemmas
+pub mod PageLemmas

@@ -1,0 +1,121 @@
+-- The words of a line, from its first word on.
+use Rattle.std.proofs.Common.{◌≡◌, ℕ, suc, ◌+◌, ◌<◌, ◌≤◌, List, [], ◌∷◌, length, take, drop, get_or, filter, Bool, true, false, not, cond, None, Some, unwrap_or, refl, sym, ap, ◌∙◌, arith, drop-cons}
+use borrow.Author.Tests.{ltb-true, ltb-false, not-true}
+use Rattle.std.proofs.lemmas.List.{drop_all}
+use Rattle.std.proofs.lemmas.List.Splits.{slice_split-cons_yes, slice_split-cons_no}
+use Rattle.std.proofs.lemmas.List.Sums.{passes_at_first}
+use Rattle.std.proofs.Math.Dec.{ltb}
+use Rattle.std.specs.List.{slice_split, onto_first, position, position_or_len}
+use Rattle.roman_text.specs.Shapes.{is_blank, is_part, is_word, words_of}
+
+-- ---- places in a list
+
+within_step : (b : Bool) (m n : ℕ) → m ≤ n → cond b (1 + m) 0 ≤ suc n
+within_step true m n h = omega arith
+within_step false m n h = omega arith
+
+-- the first place that passes is at most the end
+pub position_or_len-le : {X : Type 0} (p : X → Bool) (xs : List X) → position_or_len p xs ≤ length xs
+position_or_len-le p [] = omega arith
+position_or_len-le p (x ∷ xs) = within_step (not (p x)) (position_or_len p xs) (length xs) (position_or_len-le p xs)
+
+unwrap_step : (b : Bool) (m n : ℕ) → ltb m n ≡ b → m ≤ n → unwrap_or (cond b (Some m) None) n ≡ m
+unwrap_step true m n e h = refl
+unwrap_step false m n e h = let low : n ≤ m = ltb-false m n e in omega arith
+
+-- the first place that passes, or the end
+pub unwrap_or-position : {X : Type 0} (p : X → Bool) (xs : List X) → unwrap_or (position p xs) (length xs) ≡ position_or_len p xs
+unwrap_or-position p xs = unwrap_step (ltb (position_or_len p xs) (length xs)) (position_or_len p xs) (length xs) refl (position_or_len-le p xs)
+
+none_step : (b : Bool) (m n : ℕ) → ltb m n ≡ b → cond b (Some m) None ≡ None → n ≤ m
+none_step true m n e h = absurd (cc)
+none_step false m n e h = ltb-false m n e
+
+some_step : (b : Bool) (m n i : ℕ) → ltb m n ≡ b → cond b (Some m) None ≡ Some i → (i ≡ m) × (m < n)
+some_step true m n i e h = (cc, ltb-true m n e)
+some_step false m n i e h = absurd (cc)
+
+-- ---- words
+
+-- a blank at the front separates nothing
+words_of-blank : (byte : ℕ) (line : List ℕ) → is_blank byte ≡ true → words_of (byte ∷ line) ≡ words_of line
+unfolding words_of
+words_of-blank byte line e = ap (filter is_word) (slice_split-cons_yes is_blank byte line e)
+
+start_step : (b : Bool) (x : ℕ) (xs : List ℕ) (n : ℕ) → is_blank x ≡ b → words_of (drop n xs) ≡ words_of xs
+    → words_of (drop (cond (not (not b)) (1 + n) 0) (x ∷ xs)) ≡ words_of (x ∷ xs)
+start_step true x xs n e h = let next : 1 + n ≡ suc n = omega arith in rw next (h ∙ sym (words_of-blank x xs e))
+start_step false x xs n e h = refl
+
+-- the blanks at the front have no words
+words_of-start : (line : List ℕ) → words_of (drop (position_or_len is_part line) line) ≡ words_of line
+words_of-start [] = refl
+words_of-start (x ∷ xs) = start_step (is_blank x) x xs (position_or_len is_part xs) refl (words_of-start xs)
+
+words_of-nil : words_of [] ≡ []
+unfolding words_of
+words_of-nil = refl
+
+-- a line of blanks has no words
+pub no_words : (line : List ℕ) → position is_part line ≡ None → words_of line ≡ []
+no_words line h =
+    let end = none_step (ltb (position_or_len is_part line) (length line)) (position_or_len is_part line) (length line) refl h in
+    sym (words_of-start line) ∙ (ap words_of (drop_all (position_or_len is_part line) line end) ∙ words_of-nil)
+
+-- the parts of a line after the one at its front
+record IsFront (line : List ℕ) (n : ℕ) : Type 0 where
+  more : List (List ℕ)
+  parts : slice_split is_blank line ≡ take n line ∷ more
+  words : filter is_word more ≡ words_of (drop n line)
+
+front_step : (b : Bool) (x : ℕ) (xs : List ℕ) (n : ℕ) → is_blank x ≡ b → IsFront xs n → IsFront (x ∷ xs) (cond (not b) (1 + n) 0)
+unfolding words_of
+front_step true x xs n e f = record {
+  more = slice_split is_blank xs;
+  parts = slice_split-cons_yes is_blank x xs e;
+  words = sym (words_of-blank x xs e);
+}
+front_step false x xs n e f =
+    let next : 1 + n ≡ suc n = omega arith in
+    record {
+      more = f.more;
+      parts = rw next (slice_split-cons_no is_blank x xs e ∙ ap (onto_first x) f.parts);
+      words = rw next f.words;
+    }
+
+front_of : (line : List ℕ) → IsFront line (position_or_len is_blank line)
+front_of [] = record { more = []; parts = refl; words = sym words_of-nil }
+front_of (x ∷ xs) = front_step (is_blank x) x xs (position_or_len is_blank xs) refl (front_of xs)
+
+word_step : (b : Bool) (x : ℕ) (xs : List ℕ) (n : ℕ) → b ≡ false → is_word (take (cond (not b) (1 + n) 0) (x ∷ xs)) ≡ true
+word_step b x xs n e = let next : 1 + n ≡ suc n = omega arith in rw (e, next)
+
+-- the word at the front of a line that begins with no blank
+word_at : (x : ℕ) (xs : List ℕ) → is_blank x ≡ false
+    → words_of (x ∷ xs) ≡ take (position_or_len is_blank (x ∷ xs)) (x ∷ xs) ∷ words_of (drop (position_or_len is_blank (x ∷ xs)) (x ∷ xs))
+unfolding words_of
+word_at x xs e =
+    let f = front_of (x ∷ xs) in
+    let some = word_step (is_blank x) x xs (position_or_len is_blank xs) e in
+    ap (filter is_word) f.parts ∙ keeps (take (position_or_len is_blank (x ∷ xs)) (x ∷ xs)) f.more some
+    ∙ ap (λ (rest : List (List ℕ)). take (position_or_len is_blank (x ∷ xs)) (x ∷ xs) ∷ rest) f.words where
+      keeps : (word : List ℕ) (more : List (List ℕ)) → is_word word ≡ true → filter is_word (word ∷ more) ≡ word ∷ filter is_word more
+      keeps word more h = rw h
+
+word_in : (line : List ℕ) (x : ℕ) (xs : List ℕ) → line ≡ x ∷ xs → is_blank x ≡ false
+    → words_of line ≡ take (position_or_len is_blank line) line ∷ words_of (drop (position_or_len is_blank line) line)
+word_in line x xs s e = rw s (word_at x xs e)
+
+-- the first word of a line, and the words after it
+pub word_first : (line rest a b : List ℕ) (i j : ℕ) → position is_part line ≡ Some i → rest ≡ drop i line → j ≡ position_or_len is_blank rest
+    → a ≡ take j rest → b ≡ drop j rest → words_of line ≡ a ∷ words_of b
+word_first line rest a b i j found is_rest is_end is_a is_b =
+    let n = position_or_len is_part line in
+    let at = some_step (ltb n (length line)) n (length line) i refl found in
+    let begins : rest ≡ get_or line n 0 ∷ drop (suc n) line = is_rest ∙ (ap (λ (k : ℕ). drop k line) at.0 ∙ drop-cons line n 0 at.1) in
+    let here : words_of line ≡ words_of rest = sym (words_of-start line) ∙ ap words_of (sym (is_rest ∙ ap (λ (k : ℕ). drop k line) at.0)) in
+    let is_mark : is_blank (get_or line n 0) ≡ false = not-true (is_blank (get_or line n 0)) (passes_at_first is_part line 0 at.1) in
+    here ∙ rw (is_a, is_b, is_end) (word_in rest (get_or line n 0) (drop (suc n) line) begins is_mark)
+
+-- where a word ends
+pub ruleset places = (unwrap_or-position, position_or_len-le)

@@ -1,0 +1,27 @@
+//! Laws over the definitions of lines and shapes, each the contract of a function with no body.
+ghost use Rattle.std.specs.Prelude.{◌≡◌, ◌≢◌, ℕ, List};
+ghost use Rattle.roman_model.specs.Lines.{ended_lines};
+ghost use Rattle.roman_text.specs.Lines.{IsSplit, unfinished, kept};
+ghost use Rattle.roman_text.specs.Shapes.{LineShape, nothing, spelling, shape_of, shape_of_words};
+
+use crate::errors::LineError;
+
+/// The lines of some bytes are what stands before each newline, and no other lines are: so they
+/// don't depend on the pieces in which the bytes come.
+pub fn split_lines()
+    ensures are { (bytes : List ℕ) → IsSplit bytes (ended_lines bytes) (unfinished bytes) }
+    ensures only { (bytes : List ℕ) (lines : List (List ℕ)) (rest : List ℕ) → IsSplit bytes lines rest → (lines ≡ ended_lines bytes) × (rest ≡ unfinished bytes) }
+{}
+
+/// Each event has the words of its line, and those words alone are that event. Words without a shape
+/// are those of no event.
+pub fn spell_events()
+    ensures read { (event : LineShape) → shape_of_words (spelling event) ≡ Ok event }
+    ensures only { (words : List (List ℕ)) (event : LineShape) → shape_of_words words ≡ Ok event → event ≢ nothing → words ≡ spelling event }
+    ensures form { (words : List (List ℕ)) (event : LineShape) → shape_of_words words ≡ Err LineError.Form → words ≢ spelling event }
+{}
+
+/// As much of a line as a splitter holds tells the line's shape.
+pub fn keep_shapes()
+    ensures kept { (line : List ℕ) → shape_of (kept line) ≡ shape_of line }
+{}

@@ -1,0 +1,29 @@
+//! Session lines, replies and report lines, as they stand in texts.
+//!
+//! A [`Splitter`] finds the lines of a stream of bytes, in whatever pieces it comes. [`parse_line`]
+//! reads the event that a line is. [`put_reply`] and [`put_report_line`] write a line to a sink at
+//! once, and a [`Page`] gathers many of them. Nothing here takes memory.
+#![tactic(auto)]
+
+mod errors;
+mod events;
+pub mod laws;
+mod lines;
+mod page;
+mod parsing;
+mod piece;
+mod replies;
+mod report;
+#[cfg(test)]
+mod tests;
+mod words;
+mod writing;
+
+pub use errors::LineError;
+pub use events::Event;
+pub use lines::Splitter;
+pub use page::Page;
+pub use parsing::parse_line;
+pub use replies::Reply;
+pub use report::ReportLine;
+pub use writing::{put_reply, put_report_line};

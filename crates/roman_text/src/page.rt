@@ -1,0 +1,123 @@
+//! Output that is gathered in a buffer of fixed size.
+ghost use Rattle.std.specs.Prelude.{◌≡◌, ◌+◌, ◌≤◌, ◌++◌, [], length};
+ghost use Rattle.roman_io.specs.Faults.{HasCause};
+ghost use Rattle.roman_io.specs.Sink.{Puts};
+ghost use Rattle.roman_text.specs.Pages.{Gathers};
+ghost use Rattle.roman_text.specs.Replies.{reply_text};
+ghost use Rattle.roman_text.specs.Report.{line_text};
+
+use crate::replies::{Reply, reply_piece};
+use crate::report::{ReportLine, report_piece};
+use roman_io::{Failed, Sink};
+use std::marker::Model;
+
+// The greatest number of bytes that a page holds.
+const ROOM: usize = 4096;
+
+/// Bytes on their way to a sink, so that many short ones are put as one piece. Contracts see the
+/// bytes that are held: the sink has those before them.
+#[derive(Drop)]
+pub struct Page {
+    bytes: [u8; ROOM],
+    len: usize,
+}
+
+impl Model for Page {
+    ghost use Rattle.std.specs.Prelude.{List, ℕ, ◌≤◌, take};
+
+    ghost Value = { List ℕ };
+
+    ghost view = { λ p. take p.len p.bytes };
+
+    ghost invariant = { λ p. p.len ≤ 4096 };
+}
+
+impl Page {
+    /// A page that holds nothing.
+    pub fn new() -> Page
+        ensures empty { result ≡ [] }
+    {
+        Page {
+            bytes: [0; ROOM],
+            len: 0,
+        }
+    }
+
+    /// Takes bytes behind those that are held. Where they have no room, what is held is put first.
+    /// A failed call leaves the page empty.
+    pub fn push<O: Sink>(&mut self, bytes: &[u8], out: &mut O) -> Result<(), Failed>
+        ensures gathers { Gathers (O.written out.old) (O.written out.new) self.new (self.old ++ bytes.now) result }
+        ensures cause { HasCause (O.faults out.old) (O.faults out.new) result }
+    {
+        if bytes.len() <= self.room() {
+            self.add(bytes);
+            return Ok(());
+        }
+        self.flush(out)?;
+        self.begin(bytes, out)
+    }
+
+    /// Puts what is held, as one piece. The page is empty then, whatever the answer.
+    pub fn flush<O: Sink>(&mut self, out: &mut O) -> Result<(), Failed>
+        ensures puts { Puts (O.written out.old) (O.written out.new) self.old result }
+        ensures empty { self.new ≡ [] }
+        ensures cause { HasCause (O.faults out.old) (O.faults out.new) result }
+    {
+        if self.len == 0 {
+            return Ok(());
+        }
+        let result = out.put(&self.bytes[..self.len]);
+        self.len = 0;
+        result
+    }
+
+    /// Takes a reply, as [`Page::push`] takes bytes.
+    pub fn push_reply<O: Sink>(&mut self, reply: &Reply, out: &mut O) -> Result<(), Failed>
+        ensures gathers { Gathers (O.written out.old) (O.written out.new) self.new (self.old ++ reply_text reply.now) result }
+        ensures cause { HasCause (O.faults out.old) (O.faults out.new) result }
+    {
+        self.push(reply_piece(reply).bytes(), out)
+    }
+
+    /// Takes a report line, as [`Page::push`] takes bytes.
+    pub fn push_report_line<O: Sink>(
+        &mut self,
+        line: &ReportLine,
+        out: &mut O,
+    ) -> Result<(), Failed>
+        ensures gathers { Gathers (O.written out.old) (O.written out.new) self.new (self.old ++ line_text line.now) result }
+        ensures cause { HasCause (O.faults out.old) (O.faults out.new) result }
+    {
+        self.push(report_piece(line).bytes(), out)
+    }
+
+    // Takes bytes on an empty page, or puts them at once where it is too small for them.
+    fn begin<O: Sink>(&mut self, bytes: &[u8], out: &mut O) -> Result<(), Failed>
+        requires { self.old ≡ [] }
+        ensures gathers { Gathers (O.written out.old) (O.written out.new) self.new bytes.now result }
+        ensures cause { HasCause (O.faults out.old) (O.faults out.new) result }
+    {
+        if bytes.len() > ROOM {
+            return out.put(bytes);
+        }
+        self.add(bytes);
+        Ok(())
+    }
+
+    // How many more bytes have room.
+    fn room(&self) -> usize
+        ensures { result + length self.now ≡ 4096 }
+    {
+        ROOM - self.len
+    }
+
+    // Adds bytes that have room.
+    fn add(&mut self, bytes: &[u8])
+        requires { length self.old + length bytes.now ≤ 4096 }
+        ensures { self.new ≡ self.old ++ bytes.now }
+    {
+        let end = self.len + bytes.len();
+        self.bytes[self.len..end].copy_from_slice(bytes);
+        self.len = end;
+    }
+}

@@ -1,0 +1,162 @@
+//! The events of lines.
+ghost use Rattle.std.specs.Prelude.{◌≡◌, ◌<◌, ◌↔◌, length};
+ghost use Rattle.std.specs.Str.{bytes_eq};
+ghost use Rattle.roman_text.specs.Shapes.{Shapes, shape_of, words_of, by_words, alone, with_one, with_two, with_three, with_four};
+
+use crate::errors::LineError;
+use crate::events::Event;
+use crate::words::{first_word, is_comment, without_return};
+use roman_model::MAX_LINE_BYTES;
+
+/// The event that a line is. The words of the event are parts of the line.
+///
+/// A byte 13 at the end of the line is dropped. Words are separated by spaces and tabs. A line
+/// without words, and one whose first word begins with `#`, are [`Event::Nothing`].
+pub fn parse_line(line: &[u8]) -> Result<Event<'_>, LineError>
+    ensures shape { Shapes (shape_of line.now) result }
+    ensures too_long { (result ≡ Err LineError.TooLong) ↔ (256 < length line.now) }
+{
+    if line.len() > MAX_LINE_BYTES as usize {
+        return Err(LineError::TooLong);
+    }
+    let Some((word, rest)) = first_word(without_return(line)) else {
+        return Ok(Event::Nothing);
+    };
+    if is_comment(word) {
+        return Ok(Event::Nothing);
+    }
+    by_words(word, rest)
+}
+
+// The event of a first word and the words of the rest.
+fn by_words<'a>(word: &[u8], rest: &'a [u8]) -> Result<Event<'a>, LineError>
+    ensures { Shapes (by_words word.now (words_of rest.now)) result }
+{
+    let Some((a, rest)) = first_word(rest) else {
+        return alone(word);
+    };
+    let Some((b, rest)) = first_word(rest) else {
+        return with_one(word, a);
+    };
+    let Some((c, rest)) = first_word(rest) else {
+        return with_two(word, a, b);
+    };
+    let Some((d, rest)) = first_word(rest) else {
+        return with_three(word, a, b, c);
+    };
+    let Some(_) = first_word(rest) else {
+        return with_four(word, a, b, c, d);
+    };
+    Err(LineError::Form)
+}
+
+// Whether a word is this one.
+fn is(word: &[u8], text: &str) -> bool
+    ensures { result ≡ bytes_eq word.now text.now }
+{
+    word == text.as_bytes()
+}
+
+// The event of one word.
+fn alone<'a>(word: &[u8]) -> Result<Event<'a>, LineError>
+    ensures { Shapes (alone word.now) result }
+{
+    if is(word, "abort") {
+        return Ok(Event::Abort);
+    }
+    if is(word, "report") {
+        return Ok(Event::Report);
+    }
+    if is(word, "explain") {
+        return Ok(Event::Explain);
+    }
+    if is(word, "quit") {
+        return Ok(Event::Quit);
+    }
+    Err(LineError::Form)
+}
+
+// The event of a word and one operand.
+fn with_one<'a>(word: &[u8], a: &'a [u8]) -> Result<Event<'a>, LineError>
+    ensures { Shapes (with_one word.now a.now) result }
+{
+    if is(word, "do") {
+        return Ok(Event::Ask(a));
+    }
+    if is(word, "use") {
+        return Ok(Event::Hand(a));
+    }
+    if is(word, "freeze") {
+        return Ok(Event::Freeze(a));
+    }
+    if is(word, "thaw") {
+        return Ok(Event::Thaw(a));
+    }
+    if is(word, "die") {
+        return Ok(Event::Die(a));
+    }
+    if is(word, "jumpenv") {
+        return Ok(Event::JumpEnv(a));
+    }
+    Err(LineError::Form)
+}
+
+// The event of a word and two operands.
+fn with_two<'a>(word: &[u8], a: &'a [u8], b: &'a [u8]) -> Result<Event<'a>, LineError>
+    ensures { Shapes (with_two word.now a.now b.now) result }
+{
+    if is(word, "saw") {
+        return Ok(Event::Saw { state: a, env: b });
+    }
+    if is(word, "jump") {
+        return Ok(Event::Jump {
+            service: a,
+            state: b,
+        });
+    }
+    Err(LineError::Form)
+}
+
+// The event of a word and three operands.
+fn with_three<'a>(
+    word: &[u8],
+    service: &'a [u8],
+    behaviour: &'a [u8],
+    state: &'a [u8],
+) -> Result<Event<'a>, LineError>
+    ensures { Shapes (with_three word.now service.now behaviour.now state.now) result }
+{
+    if !is(word, "join") {
+        return Err(LineError::Form);
+    }
+    Ok(Event::Join {
+        service,
+        behaviour,
+        state,
+        loose: false,
+    })
+}
+
+// The event of a word, three operands and `loose`.
+fn with_four<'a>(
+    word: &[u8],
+    service: &'a [u8],
+    behaviour: &'a [u8],
+    state: &'a [u8],
+    last: &[u8],
+) -> Result<Event<'a>, LineError>
+    ensures { Shapes (with_four word.now service.now behaviour.now state.now last.now) result }
+{
+    if !is(word, "join") {
+        return Err(LineError::Form);
+    }
+    if !is(last, "loose") {
+        return Err(LineError::Form);
+    }
+    Ok(Event::Join {
+        service,
+        behaviour,
+        state,
+        loose: true,
+    })
+}

@@ -1,0 +1,116 @@
+//! The lines of a report.
+ghost use Rattle.std.specs.Prelude.{◌≡◌, ◌≤◌, [], length, codes, if◌then◌else◌};
+ghost use Rattle.roman_text.specs.Lines.{with_newline};
+ghost use Rattle.roman_text.specs.Report.{line_text};
+
+use crate::piece::Piece;
+use roman_read::Name;
+
+/// A line of a report, or a part of one.
+#[derive(Clone, Copy, Debug, PartialEq, Eq)]
+pub enum ReportLine {
+    /// How many pairs there are.
+    Pairs(u32),
+    /// How many pairs are related.
+    Related(u32),
+    /// The present environment state.
+    Environment(Name),
+    /// The present target state.
+    Target {
+        /// The state.
+        state: Name,
+        /// The target may rest there.
+        is_final: bool,
+    },
+    /// A service.
+    Service {
+        /// Its name.
+        name: Name,
+        /// The name of its behaviour.
+        behaviour: Name,
+        /// Its present state.
+        state: Name,
+        /// It takes no delegations.
+        frozen: bool,
+        /// Its finality is never asked for.
+        loose: bool,
+    },
+    /// Whether a composition exists from the present pair.
+    Answer(bool),
+    /// The beginning of the line that lists the services offered for this action.
+    Offer(Name),
+    /// A service that is offered.
+    Serves(Name),
+    /// The end of the line that lists services.
+    Stop,
+    /// The last line.
+    End,
+}
+
+/// The bytes of a report line.
+pub fn report_piece(line: &ReportLine) -> Piece
+    ensures { result ≡ line_text line.now }
+{
+    let text = Piece::new();
+    match line {
+        ReportLine::Pairs(n) => text.text(b"pairs ").number(*n).text(b"\n"),
+        ReportLine::Related(n) => text.text(b"related ").number(*n).text(b"\n"),
+        ReportLine::Environment(state) => text.text(b"environment ").name(state).text(b"\n"),
+        ReportLine::Target { state, is_final } => {
+            let text = text.text(b"target ").name(state);
+            text.text(target_end(*is_final))
+        }
+        ReportLine::Answer(composes) => text.text(b"answer ").text(answer_end(*composes)),
+        ReportLine::Offer(action) => text.text(b"offer ").name(action).text(b":"),
+        ReportLine::Serves(service) => text.text(b" ").name(service),
+        ReportLine::Stop => text.text(b"\n"),
+        ReportLine::End => text.text(b"end\n"),
+        ReportLine::Service {
+            name,
+            behaviour,
+            state,
+            frozen,
+            loose,
+        } => {
+            let text = text.text(b"service ").name(name).text(b" ").name(behaviour);
+            let text = text.text(b" ").name(state);
+            text.text(phase_text(*frozen)).text(service_end(*loose))
+        }
+    }
+}
+
+// The end of the line of a target.
+fn target_end(is_final: bool) -> &'static [u8]
+    ensures text { result.now ≡ with_newline (if is_final then codes " final" else codes " running") }
+    ensures short { length result.now ≤ 9 }
+{
+    if is_final { b" final\n" } else { b" running\n" }
+}
+
+// The end of the line of an answer.
+fn answer_end(composes: bool) -> &'static [u8]
+    ensures text { result.now ≡ with_newline (if composes then codes "composition" else codes "none") }
+    ensures short { length result.now ≤ 12 }
+{
+    if composes {
+        b"composition\n"
+    } else {
+        b"none\n"
+    }
+}
+
+// Whether a service takes delegations.
+fn phase_text(frozen: bool) -> &'static [u8]
+    ensures text { result.now ≡ (if frozen then codes " frozen" else codes " ready") }
+    ensures short { length result.now ≤ 7 }
+{
+    if frozen { b" frozen" } else { b" ready" }
+}
+
+// The end of the line of a service.
+fn service_end(loose: bool) -> &'static [u8]
+    ensures text { result.now ≡ with_newline (if loose then codes " loose" else []) }
+    ensures short { length result.now ≤ 7 }
+{
+    if loose { b" loose\n" } else { b"\n" }
+}

@@ -1,0 +1,61 @@
+//! The words of a line.
+ghost use Rattle.std.specs.Prelude.{◌≡◌, ◌≤◌, position, length};
+ghost use Rattle.std.specs.List.{position_or_len};
+ghost use Rattle.std.specs.Str.Lines.{strip_carriage_return};
+ghost use Rattle.roman_text.specs.Shapes.{IsFirstWord, is_blank, is_comment, is_part};
+
+// Whether the byte separates words.
+fn is_blank(byte: u8) -> bool
+    ensures { result ≡ is_blank byte }
+{
+    byte == b' ' || byte == b'\t'
+}
+
+// Where the first word begins, if there is one.
+fn word_start(line: &[u8]) -> Option<usize>
+    ensures { result ≡ position is_part line.now }
+{
+    line.iter().position(|&byte| !is_blank(byte))
+}
+
+// Where the first blank is, if there is one.
+fn first_blank(line: &[u8]) -> Option<usize>
+    ensures { result ≡ position is_blank line.now }
+{
+    line.iter().position(|&byte| is_blank(byte))
+}
+
+// Where the word at the front ends.
+#[tactic(auto, using(crate::proofs::WordLemmas::places))]
+fn word_end(line: &[u8]) -> usize
+    ensures end { result ≡ position_or_len is_blank line.now }
+    ensures within { result ≤ length line.now }
+{
+    first_blank(line).unwrap_or(line.len())
+}
+
+/// The first word of a line, and what follows it; `None` where the line has no word.
+pub fn first_word(line: &[u8]) -> Option<(&[u8], &[u8])>
+    ensures { IsFirstWord line.now result }
+{
+    let start = word_start(line)?;
+    let words = &line[start..];
+    Some(words.split_at(word_end(words)))
+}
+
+/// Whether a first word makes its line a comment.
+pub fn is_comment(word: &[u8]) -> bool
+    ensures { result ≡ is_comment word.now }
+{
+    word.starts_with(b"#")
+}
+
+/// The line without the one byte 13 at its end, if it has one.
+pub fn without_return(line: &[u8]) -> &[u8]
+    ensures { result.now ≡ strip_carriage_return line.now }
+{
+    match line.last() {
+        Some(b'\r') => &line[..line.len() - 1],
+        _ => line,
+    }
+}

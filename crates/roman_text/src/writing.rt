@@ -1,0 +1,26 @@
+//! Single lines that are put to a sink.
+ghost use Rattle.std.specs.Prelude.{◌≡◌};
+ghost use Rattle.roman_io.specs.Faults.{HasCause};
+ghost use Rattle.roman_io.specs.Sink.{Puts};
+ghost use Rattle.roman_text.specs.Replies.{reply_text};
+ghost use Rattle.roman_text.specs.Report.{line_text};
+
+use crate::replies::{Reply, reply_piece};
+use crate::report::{ReportLine, report_piece};
+use roman_io::{Failed, Sink};
+
+/// Writes a reply, as one piece. A failed call writes a prefix of it.
+pub fn put_reply<O: Sink>(out: &mut O, reply: &Reply) -> Result<(), Failed>
+    ensures puts { Puts (O.written out.old) (O.written out.new) (reply_text reply.now) result }
+    ensures cause { HasCause (O.faults out.old) (O.faults out.new) result }
+{
+    out.put(reply_piece(reply).bytes())
+}
+
+/// Writes a report line, as one piece. A failed call writes a prefix of it.
+pub fn put_report_line<O: Sink>(out: &mut O, line: &ReportLine) -> Result<(), Failed>
+    ensures puts { Puts (O.written out.old) (O.written out.new) (line_text line.now) result }
+    ensures cause { HasCause (O.faults out.old) (O.faults out.new) result }
+{
+    out.put(report_piece(line).bytes())
+}
