@@ -1,0 +1,271 @@
+-- What the cells of a table have after one step more.
+use Rattle.std.proofs.Common.{◌≡◌, ◌≢◌, ℕ, zero, suc, ◌+◌, ◌-◌, ◌*◌, ◌%◌, ◌^◌, ◌<◌, ◌≤◌, ◌⊎◌, ◌==◌, ◌&&◌, ◌||◌, Bool, true, false, IsTrue, nat_lt, List, [], ◌∷◌, ◌++◌, length, get_or, set, take, replicate, refl, sym, ap, ap₂, ◌∙◌, subst, inl, inr, arith}
+use Rattle.std.specs.Int.{bit_at, w64}
+use Rattle.std.specs.Int.RustNames.{bit_or}
+use Rattle.std.specs.List.{list_any}
+use Rattle.std.proofs.lemmas.Bool.{false≢true, true≢false, cases_eq, cases_lt, cases_order, eq-eqb, ne_eqb, eqb-true, lt-ltb, le-ltb, and_parts, and_from}
+use Rattle.std.proofs.lemmas.List.{get_or-set_same, get_or-set_other, get_or-replicate, get_or_past, length-replicate}
+use Rattle.std.proofs.lemmas.List.Folds.{list_any_more}
+use Rattle.std.proofs.lemmas.Nat.{same_from_place}
+use Rattle.std.proofs.lemmas.Nat.Bits.{bit_at-zero, bit_at_set_same, bit_at_set_other}
+use Rattle.roman_model.proofs.Lists.{same_test}
+use Rattle.roman_guard.specs.Meaning.{has_state}
+use Rattle.roman_parts.specs.Cells.{cell_has, Marks, is_triple, leads, leads_back, HasCells, is_move, goes, goes_back, HasGuardedCells, MarksMove}
+
+or_false : (x : Bool) → x ≡ (x || false)
+or_false true = refl
+or_false false = refl
+
+or_true : (x : Bool) → true ≡ (x || true)
+or_true true = refl
+or_true false = refl
+
+-- n put into a mask
+pub has_set : (mask n m : ℕ) → n < 64 → has_state (bit_or mask (1 * 2 ^ n % 2 ^ 64)) m ≡ (has_state mask m || m == n)
+has_set mask n m small = elim (cases_eq m n) [
+  | inl e ↦
+      ap (λ b. b == 1) (subst (λ j. bit_at (bit_or mask (1 * 2 ^ n % 2 ^ 64)) j ≡ 1) (sym e) (bit_at_set_same w64 mask n small))
+      ∙ or_true (has_state mask m)
+      ∙ ap (λ b. has_state mask m || b) (sym (eq-eqb m n e))
+  | inr ne ↦
+      ap (λ b. b == 1) (bit_at_set_other w64 mask n small m ne)
+      ∙ or_false (has_state mask m)
+      ∙ ap (λ b. has_state mask m || b) (sym (ne_eqb m n ne))
+]
+
+-- the bit of n set in mask k
+pub marks_set : (masks : List ℕ) (k n : ℕ) → k < length masks → n < 64 → Marks masks (set masks k (bit_or (get_or masks k 0) (1 * 2 ^ n % 2 ^ 64))) k n
+unfolding cell_has
+marks_set masks k n within small = record { has = has }
+  where
+    here : (m : ℕ) → has_state (get_or (set masks k (bit_or (get_or masks k 0) (1 * 2 ^ n % 2 ^ 64))) k 0) m ≡ (has_state (get_or masks k 0) m || m == n)
+    here m =
+        ap (λ mask. has_state mask m) (get_or-set_same masks k (bit_or (get_or masks k 0) (1 * 2 ^ n % 2 ^ 64)) 0 within)
+        ∙ has_set (get_or masks k 0) n m small
+    has : (j m : ℕ) → has_state (get_or (set masks k (bit_or (get_or masks k 0) (1 * 2 ^ n % 2 ^ 64))) j 0) m ≡ (has_state (get_or masks j 0) m || (j == k && m == n))
+    has j m = elim (cases_eq j k) [
+      | inl e ↦
+          subst (λ i. has_state (get_or (set masks k (bit_or (get_or masks k 0) (1 * 2 ^ n % 2 ^ 64))) i 0) m ≡ (has_state (get_or masks i 0) m || (i == k && m == n))) (sym e)
+          (here m ∙ ap (λ b. has_state (get_or masks k 0) m || (b && m == n)) (sym (eq-eqb k k refl)))
+      | inr ne ↦
+          ap (λ mask. has_state mask m) (get_or-set_other masks k j (bit_or (get_or masks k 0) (1 * 2 ^ n % 2 ^ 64)) 0 ne)
+          ∙ or_false (has_state (get_or masks j 0) m)
+          ∙ ap (λ b. has_state (get_or masks j 0) m || (b && m == n)) (sym (ne_eqb j k ne))
+    ]
+
+pub ruleset marking = (marks_set)
+
+-- The table of an environment.
+
+-- masks of nothing
+pub empty_has : (size j m : ℕ) → cell_has (replicate size 0) j m ≡ false
+unfolding cell_has
+empty_has size j m = ap (λ mask. has_state mask m) zero_at ∙ ap (λ b. b == 1) (bit_at-zero m)
+  where
+    zero_at : get_or {A = ℕ} (replicate size 0) j 0 ≡ 0
+    zero_at = elim (cases_lt j size) [ inl less ↦ get_or-replicate size j 0 0 less | inr past ↦ get_or_past (replicate size 0) j 0 (omega (arith, length-replicate {A = ℕ})) ]
+
+-- two places in a table are the same where their row and column are
+same_place : (e a e1 a1 w : ℕ) → a < w → a1 < w → (e * w + a == e1 * w + a1) ≡ (e == e1 && a == a1)
+same_place e a e1 a1 w h h1 = same_test (e * w + a == e1 * w + a1) (e == e1 && a == a1)
+    (λ t. let (row, column) = same_from_place e a e1 a1 w h h1 (eqb-true (e * w + a) (e1 * w + a1) t) in and_from (e == e1) (a == a1) (eq-eqb e e1 row) (eq-eqb a a1 column))
+    (λ t. let (row, column) = and_parts (e == e1) (a == a1) t in eq-eqb (e * w + a) (e1 * w + a1) (ap₂ (λ i j. i * w + j) (eqb-true e e1 row) (eqb-true a a1 column)))
+
+-- the other way round
+pub same_eqb : (a b : ℕ) → (a == b) ≡ (b == a)
+same_eqb a b = same_test (a == b) (b == a) (λ t. eq-eqb b a (sym (eqb-true a b t))) (λ t. eq-eqb a b (sym (eqb-true b a t)))
+
+-- where the test grows by what is put into the cell
+has_cells_more : (actions : ℕ) (test more : ℕ → ℕ → ℕ → Bool) (old new : List ℕ) (e a n : ℕ) → a < actions → HasCells actions test old → Marks old new (e * actions + a) n →
+    ((e1 a1 n1 : ℕ) → more e1 a1 n1 ≡ (test e1 a1 n1 || ((e1 == e && a1 == a) && n1 == n))) → HasCells actions more new
+has_cells_more actions test more old new e a n within cells marks grows = record {
+  has = λ e1 a1 n1 less.
+      marks.has (e1 * actions + a1) n1
+      ∙ ap₂ (λ p q. p || (q && n1 == n)) (cells.has e1 a1 n1 less) (same_place e1 a1 e a actions less within)
+      ∙ sym (grows e1 a1 n1);
+}
+
+pub leads_none : (actions size : ℕ) → HasCells actions (leads []) (replicate size 0)
+unfolding leads
+leads_none actions size = record { has = λ e a n less. empty_has size (e * actions + a) n }
+
+-- a step that is put in front of those three tests, or behind them
+and_turned : (x y z : Bool) → ((x && y) && z) ≡ ((z && y) && x)
+and_turned true true true = refl
+and_turned true true false = refl
+and_turned true false true = refl
+and_turned true false false = refl
+and_turned false true true = refl
+and_turned false true false = refl
+and_turned false false true = refl
+and_turned false false false = refl
+
+is_triple-turned : (t : ℕ × ℕ × ℕ) (e a n : ℕ) → is_triple t e a n ≡ ((e == t.0 && a == t.1) && n == t.2)
+unfolding is_triple
+is_triple-turned t e a n = ap₂ (λ p q. p && q) (ap₂ (λ p q. p && q) (same_eqb t.0 e) (same_eqb t.1 a)) (same_eqb t.2 n)
+
+leads-more : (steps : List (ℕ × ℕ × ℕ)) (i e a n : ℕ) → i < length steps →
+    leads (take (i + 1) steps) e a n ≡ (leads (take i steps) e a n || is_triple (get_or steps i (0, 0, 0)) e a n)
+unfolding leads
+leads-more steps i e a n less = list_any_more (λ x. is_triple x e a n) steps i (0, 0, 0) less
+
+pub leads_more : (actions : ℕ) (steps : List (ℕ × ℕ × ℕ)) (i : ℕ) (old new : List ℕ) → i < length steps → HasCells actions (leads (take i steps)) old →
+    let t = get_or steps i (0, 0, 0) in t.1 < actions → Marks old new (t.0 * actions + t.1) t.2 → HasCells actions (leads (take (i + 1) steps)) new
+leads_more actions steps i old new less cells within marks =
+    let t : ℕ × ℕ × ℕ = get_or steps i (0, 0, 0) in
+    has_cells_more actions (leads (take i steps)) (leads (take (i + 1) steps)) old new t.0 t.1 t.2 within cells marks
+    (λ e a n. leads-more steps i e a n less ∙ ap (λ b. leads (take i steps) e a n || b) (is_triple-turned t e a n))
+
+pub leads_back_none : (actions size : ℕ) → HasCells actions (leads_back []) (replicate size 0)
+unfolding leads leads_back
+leads_back_none actions size = record { has = λ e a n less. empty_has size (e * actions + a) n }
+
+pub leads_back_more : (actions : ℕ) (steps : List (ℕ × ℕ × ℕ)) (i : ℕ) (old new : List ℕ) → i < length steps → HasCells actions (leads_back (take i steps)) old →
+    let t = get_or steps i (0, 0, 0) in t.1 < actions → Marks old new (t.2 * actions + t.1) t.0 → HasCells actions (leads_back (take (i + 1) steps)) new
+unfolding leads_back
+leads_back_more actions steps i old new less cells within marks =
+    let t : ℕ × ℕ × ℕ = get_or steps i (0, 0, 0) in
+    has_cells_more actions (leads_back (take i steps)) (leads_back (take (i + 1) steps)) old new t.2 t.1 t.0 within cells marks
+    (λ e' a e. leads-more steps i e a e' less
+    ∙ ap (λ b. leads (take i steps) e a e' || b) (is_triple-turned t e a e' ∙ and_turned (e == t.0) (a == t.1) (e' == t.2)))
+
+-- The table of a behaviour.
+
+same_place3 : (b e a b1 e1 a1 env_states actions : ℕ) → e < env_states → e1 < env_states → a < actions → a1 < actions →
+    ((b * env_states + e) * actions + a == (b1 * env_states + e1) * actions + a1) ≡ ((b == b1 && e == e1) && a == a1)
+same_place3 b e a b1 e1 a1 env_states actions he he1 ha ha1 =
+    same_place (b * env_states + e) a (b1 * env_states + e1) a1 actions ha ha1 ∙ ap (λ p. p && a == a1) (same_place b e b1 e1 env_states he he1)
+
+-- the step was put into the cells of the environment states below the bound
+pub record MarksBelow (env_states actions bound : ℕ) (old new : List ℕ) (move : ℕ × ℕ × ℕ × ℕ) : Type 0 where
+  pub has : (b e a n : ℕ) → e < env_states → a < actions →
+      cell_has new ((b * env_states + e) * actions + a) n ≡ (cell_has old ((b * env_states + e) * actions + a) n || (is_move move b e a n && nat_lt e bound))
+
+pub marks_none : (env_states actions : ℕ) (old : List ℕ) (move : ℕ × ℕ × ℕ × ℕ) → MarksBelow env_states actions 0 old old move
+marks_none env_states actions old move = record {
+  has = λ b e a n he ha. or_false (cell_has old ((b * env_states + e) * actions + a) n)
+      ∙ ap (λ p. cell_has old ((b * env_states + e) * actions + a) n || p) (and_false (is_move move b e a n) ∙ ap (λ p. is_move move b e a n && p) (sym (le-ltb e 0 (omega arith))));
+}
+  where
+    and_false : (x : Bool) → false ≡ (x && false)
+    and_false true = refl
+    and_false false = refl
+
+below_next : (e bound : ℕ) → nat_lt e (bound + 1) ≡ (nat_lt e bound || e == bound)
+below_next e bound = elim (cases_order e bound) [
+  | inl same ↦ lt-ltb e (bound + 1) (omega arith) ∙ or_true (nat_lt e bound) ∙ ap (λ p. nat_lt e bound || p) (sym (eq-eqb e bound same))
+  | inr (inl less) ↦ lt-ltb e (bound + 1) (omega arith) ∙ ap (λ p. p || e == bound) (sym (lt-ltb e bound less))
+  | inr (inr more) ↦ le-ltb e (bound + 1) (omega arith) ∙ sym (ne_eqb e bound (λ same. omega arith)) ∙ ap (λ p. p || e == bound) (sym (le-ltb e bound (omega arith)))
+]
+
+one_more : (p q r s t u v : Bool) → (v ≡ true → s ≡ true) →
+    ((p || ((((q && r) && s) && t) && u)) || (((q && v) && r) && t)) ≡ (p || ((((q && r) && s) && t) && (u || v)))
+one_more true q r s t u v h = refl
+one_more false false r s t u v h = refl
+one_more false true false s t u true h = refl
+one_more false true false s t u false h = refl
+one_more false true true true true u true h = refl
+one_more false true true true false u true h = refl
+one_more false true true true true u false h = refl
+one_more false true true true false u false h = refl
+one_more false true true false t u true h = absurd (false≢true (h refl))
+one_more false true true false t u false h = refl
+
+-- an environment state of the guard, whose cell is marked
+pub marks_more : (env_states actions bound : ℕ) (old mid new : List ℕ) (move : ℕ × ℕ × ℕ × ℕ) → bound < env_states → move.2 < actions → has_state move.1 bound ≡ true →
+    MarksBelow env_states actions bound old mid move → Marks mid new ((move.0 * env_states + bound) * actions + move.2) move.3 →
+    MarksBelow env_states actions (bound + 1) old new move
+unfolding is_move
+marks_more env_states actions bound old mid new move hb hm has_it below marks = record {
+  has = λ b e a n he ha.
+      let place : ℕ = (b * env_states + e) * actions + a in
+      marks.has place n
+      ∙ ap₂ (λ p q. p || (q && n == move.3)) (below.has b e a n he ha) (same_place3 b e a move.0 bound move.2 env_states actions he hb ha hm)
+      ∙ ap (λ p. (cell_has old place n || (is_move move b e a n && nat_lt e bound)) || p)
+      (ap₂ (λ p q. p && q) (ap₂ (λ p q. (p && e == bound) && q) (same_eqb b move.0) (same_eqb a move.2)) (same_eqb n move.3))
+      ∙ one_more (cell_has old place n) (move.0 == b) (move.2 == a) (has_state move.1 e) (move.3 == n) (nat_lt e bound) (e == bound)
+      (λ t. subst (λ i. has_state move.1 i ≡ true) (sym (eqb-true e bound t)) has_it)
+      ∙ ap (λ p. cell_has old place n || (is_move move b e a n && p)) (sym (below_next e bound));
+}
+
+one_less : (q r s t u v : Bool) → (v ≡ true → s ≡ false) → ((((q && r) && s) && t) && u) ≡ ((((q && r) && s) && t) && (u || v))
+one_less false r s t u v h = refl
+one_less true false s t u v h = refl
+one_less true true false t u v h = refl
+one_less true true true t u true h = absurd (true≢false (h refl))
+one_less true true true true u false h = or_false u
+one_less true true true false u false h = refl
+
+-- an environment state that the guard lacks
+pub marks_same : (env_states actions bound : ℕ) (old new : List ℕ) (move : ℕ × ℕ × ℕ × ℕ) → has_state move.1 bound ≡ false →
+    MarksBelow env_states actions bound old new move → MarksBelow env_states actions (bound + 1) old new move
+unfolding is_move
+marks_same env_states actions bound old new move lacks below = record {
+  has = λ b e a n he ha.
+      let place : ℕ = (b * env_states + e) * actions + a in
+      below.has b e a n he ha
+      ∙ ap (λ p. cell_has old place n || p)
+      (one_less (move.0 == b) (move.2 == a) (has_state move.1 e) (move.3 == n) (nat_lt e bound) (e == bound)
+      (λ t. subst (λ i. has_state move.1 i ≡ false) (sym (eqb-true e bound t)) lacks)
+      ∙ ap (λ p. is_move move b e a n && p) (sym (below_next e bound)));
+}
+
+pub marks_all : (env_states actions : ℕ) (old new : List ℕ) (move : ℕ × ℕ × ℕ × ℕ) → MarksBelow env_states actions env_states old new move → MarksMove env_states actions old new move
+marks_all env_states actions old new move below = record {
+  has = λ b e a n he ha. below.has b e a n he ha
+      ∙ ap (λ p. cell_has old ((b * env_states + e) * actions + a) n || p) (ap (λ p. is_move move b e a n && p) (lt-ltb e env_states he) ∙ and_true (is_move move b e a n));
+}
+  where
+    and_true : (x : Bool) → (x && true) ≡ x
+    and_true true = refl
+    and_true false = refl
+
+-- a step that is put into the cells
+goes-more : (steps : List (ℕ × ℕ × ℕ × ℕ)) (i : ℕ) (m : ℕ × ℕ × ℕ × ℕ) (b e a n : ℕ) → i < length steps → m ≡ get_or steps i m →
+    goes (take (i + 1) steps) b e a n ≡ (goes (take i steps) b e a n || is_move m b e a n)
+unfolding goes
+goes-more steps i m b e a n less at =
+    list_any_more (λ x. is_move x b e a n) steps i m less ∙ ap (λ x. list_any (λ y. is_move y b e a n) (take i steps) || is_move x b e a n) (sym at)
+
+pub goes_none : (env_states actions size : ℕ) → HasGuardedCells env_states actions (goes []) (replicate size 0)
+unfolding goes
+goes_none env_states actions size = record { has = λ b e a n he ha. empty_has size ((b * env_states + e) * actions + a) n }
+
+pub goes_more : (env_states actions : ℕ) (steps : List (ℕ × ℕ × ℕ × ℕ)) (i : ℕ) (m : ℕ × ℕ × ℕ × ℕ) (old new : List ℕ) → i < length steps → m ≡ get_or steps i m →
+    HasGuardedCells env_states actions (goes (take i steps)) old → MarksMove env_states actions old new m →
+    HasGuardedCells env_states actions (goes (take (i + 1) steps)) new
+goes_more env_states actions steps i m old new less at cells marks = record {
+  has = λ b e a n he ha.
+      marks.has b e a n he ha
+      ∙ ap (λ p. p || is_move m b e a n) (cells.has b e a n he ha)
+      ∙ sym (goes-more steps i m b e a n less at);
+}
+
+pub goes_back_none : (env_states actions size : ℕ) → HasGuardedCells env_states actions (goes_back []) (replicate size 0)
+unfolding goes goes_back
+goes_back_none env_states actions size = record { has = λ b e a n he ha. empty_has size ((b * env_states + e) * actions + a) n }
+
+and_last : (x : Bool) → (x && false) ≡ false
+and_last true = refl
+and_last false = refl
+
+four_turned : (x y z w : Bool) → (((x && y) && z) && w) ≡ (((w && y) && z) && x)
+four_turned true y z true = refl
+four_turned true y z false = and_last ((true && y) && z)
+four_turned false y z true = sym (and_last ((true && y) && z))
+four_turned false y z false = refl
+
+is_move-turned : (m : ℕ × ℕ × ℕ × ℕ) (b e a n : ℕ) → is_move (m.3, m.1, m.2, m.0) n e a b ≡ is_move m b e a n
+unfolding is_move
+is_move-turned m b e a n = four_turned (m.3 == n) (m.2 == a) (has_state m.1 e) (m.0 == b)
+
+pub goes_back_more : (env_states actions : ℕ) (steps : List (ℕ × ℕ × ℕ × ℕ)) (i : ℕ) (m : ℕ × ℕ × ℕ × ℕ) (old new : List ℕ) → i < length steps → m ≡ get_or steps i m →
+    HasGuardedCells env_states actions (goes_back (take i steps)) old → MarksMove env_states actions old new (m.3, m.1, m.2, m.0) →
+    HasGuardedCells env_states actions (goes_back (take (i + 1) steps)) new
+unfolding goes_back
+goes_back_more env_states actions steps i m old new less at cells marks = record {
+  has = λ n e a b he ha.
+      marks.has n e a b he ha
+      ∙ ap₂ (λ p q. p || q) (cells.has n e a b he ha) (is_move-turned m b e a n)
+      ∙ sym (goes-more steps i m b e a n less at);
+}

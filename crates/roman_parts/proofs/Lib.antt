@@ -1,0 +1,8 @@
+mod RowLemmas
+mod SetLemmas
+mod CellLemmas
+pub mod NormalLemmas
+mod TableLemmas
+mod ReadingLemmas
+mod GuardLemmas
+mod StepLemmas

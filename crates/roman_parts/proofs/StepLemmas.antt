@@ -1,0 +1,45 @@
+-- Lists of three and four items, and lists of steps that are read one by one.
+use Rattle.std.proofs.Common.{◌≡◌, ℕ, suc, List, [], ◌∷◌, length, get_or, Some, None, refl, sym, ap, ◌∙◌, arith}
+use Rattle.std.proofs.lemmas.List.{map_push}
+use Rattle.serde_json.specs.View.{view, items_view}
+use Rattle.serde_json.specs.declared.value.Value.{Value}
+use Rattle.roman_read.proofs.Each.{at_start, pushed_on, pushed_ends, is_done}
+use Rattle.roman_parts.specs.Steps.{three_of, four_of}
+
+pub three_of-items : (items : List Value) (a b c : Value) → length items ≡ 3 → a ≡ get_or items 0 a → b ≡ get_or items 1 b → c ≡ get_or items 2 c
+    → three_of (items_view items) ≡ Some (view a, view b, view c)
+three_of-items [] a b c h p q r = absurd (omega (arith, h))
+three_of-items (x ∷ []) a b c h p q r = absurd (omega (arith, h))
+three_of-items (x ∷ y ∷ []) a b c h p q r = absurd (omega (arith, h))
+three_of-items (x ∷ y ∷ z ∷ []) a b c h p q r = rw (p, q, r)
+three_of-items (x ∷ y ∷ z ∷ w ∷ items) a b c h p q r = absurd (omega (arith, h))
+
+pub three_of-others : (items : List Value) → (length items ≡ 3 → ⊥) → three_of (items_view items) ≡ None
+three_of-others [] h = refl
+three_of-others (x ∷ []) h = refl
+three_of-others (x ∷ y ∷ []) h = refl
+three_of-others (x ∷ y ∷ z ∷ []) h = absurd (h refl)
+three_of-others (x ∷ y ∷ z ∷ w ∷ items) h = refl
+
+pub four_of-items : (items : List Value) (a b c d : Value) → length items ≡ 4 → a ≡ get_or items 0 a → b ≡ get_or items 1 b → c ≡ get_or items 2 c → d ≡ get_or items 3 d
+    → four_of (items_view items) ≡ Some (view a, view b, view c, view d)
+four_of-items [] a b c d h p q r s = absurd (omega (arith, h))
+four_of-items (x ∷ []) a b c d h p q r s = absurd (omega (arith, h))
+four_of-items (x ∷ y ∷ []) a b c d h p q r s = absurd (omega (arith, h))
+four_of-items (x ∷ y ∷ z ∷ []) a b c d h p q r s = absurd (omega (arith, h))
+four_of-items (x ∷ y ∷ z ∷ w ∷ []) a b c d h p q r s = rw (p, q, r, s)
+four_of-items (x ∷ y ∷ z ∷ w ∷ v ∷ items) a b c d h p q r s = absurd (omega (arith, h))
+
+pub four_of-others : (items : List Value) → (length items ≡ 4 → ⊥) → four_of (items_view items) ≡ None
+four_of-others [] h = refl
+four_of-others (x ∷ []) h = refl
+four_of-others (x ∷ y ∷ []) h = refl
+four_of-others (x ∷ y ∷ z ∷ []) h = refl
+four_of-others (x ∷ y ∷ z ∷ w ∷ []) h = absurd (h refl)
+four_of-others (x ∷ y ∷ z ∷ w ∷ v ∷ items) h = refl
+
+-- what the parts of a step rest on
+pub ruleset items = (three_of-items, three_of-others, four_of-items, four_of-others)
+
+-- what lists of steps rest on
+pub ruleset step_lists = (at_start, pushed_on, pushed_ends, is_done, map_push)

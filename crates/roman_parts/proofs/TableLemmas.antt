@@ -1,0 +1,229 @@
+-- Rows that were laid out from the masks of a list of steps hold the steps of the record in normal form.
+use Rattle.std.proofs.Common.{◌≡◌, ℕ, zero, suc, ◌+◌, ◌-◌, ◌*◌, ◌<◌, ◌≤◌, ◌==◌, ◌&&◌, Bool, true, false, IsTrue, List, [], ◌∷◌, ◌++◌, map, length, get_or, All, Some, slice_get, filter, flat_map, refl, sym, ap, ap₂, ◌∙◌, subst, inl, inr, arith}
+use Rattle.std.specs.List.{list_any}
+use Rattle.std.proofs.lemmas.Bool.{false_from_ne_true, and_parts, eqb-true, eq-eqb}
+use Rattle.std.proofs.lemmas.List.{get_or-map, length-map}
+use Rattle.std.proofs.lemmas.List.Elements.{filter-append, All-filter, All-contains, All-same}
+use Rattle.std.proofs.lemmas.Option.{slice_get-get_or, get_or_from_slice_get, same_Some}
+use Rattle.std.proofs.lemmas.Nat.{mul-add-lt}
+use Rattle.roman_model.specs.Lists.{IsIn, below}
+use Rattle.roman_model.specs.System.{Triple, Env, Move, Beh, has_triple, has_move, IsEnv, IsBeh, env_next, env_prev, beh_next, beh_prev, has, is_final}
+use Rattle.roman_model.specs.Normal.{normal_env, normal_beh, guarded_step}
+use Rattle.roman_model.specs.declared.limits.TheConstants.{MAX_STATES, MAX_ACTIONS}
+use Rattle.roman_model.proofs.Lists.{same_test, any_true, any_from, any_same, in_contains, in_below, from_below, in_filter, filter_in, filter_same, list_any-map, length-below, get_or-below}
+use Rattle.roman_guard.specs.Meaning.{has_state, states_below, states_of}
+use Rattle.roman_guard.proofs.StateLemmas.{states_below-zero, states_below-suc, states_below-same, states_below-past}
+use Rattle.roman_parts.specs.Listed.{triple_of, listed_env, move_of, listed_beh, AreTriples, AreMoves}
+use Rattle.roman_parts.specs.Cells.{cell_has, is_triple, leads, leads_back, HasCells, is_move, goes, goes_back, HasGuardedCells}
+use Rattle.roman_parts.specs.Tables.{row_triples, HasRows, GuardedBeh, row_moves, HasGuardedRows}
+use Rattle.roman_parts.proofs.NormalLemmas.{env_next-normal, env_prev-normal, IsEnv-normal, beh_next-normal, beh_prev-normal, IsOver-normal, is_final-normal}
+
+-- the numbers below a bound that pass
+states_below-filter : (p : ℕ → Bool) (n : ℕ) → states_below p n ≡ filter p (below n)
+states_below-filter p zero = states_below-zero p
+states_below-filter p (suc n) = states_below-suc p n ∙ ap (λ xs. xs ++ filter p (n ∷ [])) (states_below-filter p n) ∙ sym (filter-append p (below n) (n ∷ []))
+
+-- a mask that has what passes has the numbers below the bound that pass, where none passes from there on
+mask_filter : (mask n : ℕ) (p : ℕ → Bool) → n ≤ 64 → ((i : ℕ) → has_state mask i ≡ p i) → ((i : ℕ) → n ≤ i → p i ≡ false) → states_of mask ≡ filter p (below n)
+mask_filter mask n p small same past =
+    let whole : 64 ≡ n + (64 - n) = omega arith in
+    states_below-same (has_state mask) p 64 (λ i less. same i) ∙ ap (states_below p) whole ∙ states_below-past p n (64 - n) past ∙ states_below-filter p n
+
+-- the row of a cell
+row_of_cell : (masks : List ℕ) (k n : ℕ) (p : ℕ → Bool) → k < length masks → n ≤ 64 → ((i : ℕ) → cell_has masks k i ≡ p i) → ((i : ℕ) → n ≤ i → p i ≡ false) →
+    slice_get (map states_of masks) k ≡ Some (filter p (below n))
+unfolding cell_has
+row_of_cell masks k n p within small same past =
+    slice_get-get_or (map states_of masks) k [] (omega (arith, length-map masks states_of))
+    ∙ ap Some (get_or-map states_of masks k 0 [] within ∙ mask_filter (get_or masks k 0) n p small same past)
+
+-- the steps of the list are those of the record
+leads_is : (states actions start : ℕ) (steps : List (ℕ × ℕ × ℕ)) (e a e' : ℕ) → leads steps e a e' ≡ has_triple (listed_env states actions start steps) e a e'
+unfolding leads is_triple
+leads_is states actions start steps e a e' = sym (list_any-map triple_of _ steps)
+
+-- a step that is listed is in range
+leads_in_range : (states actions : ℕ) (steps : List (ℕ × ℕ × ℕ)) (e a e' : ℕ) → AreTriples states actions steps → IsTrue (leads steps e a e') → (e < states) × (a < actions) × (e' < states)
+unfolding leads is_triple
+leads_in_range states actions steps e a e' range t =
+    let (x, i, passes) = any_true _ steps t in
+    let (front, to) = and_parts (x.0 == e && x.1 == a) (x.2 == e') passes in
+    let (from, action) = and_parts (x.0 == e) (x.1 == a) front in
+    let (l, m, n) = All-contains (λ y. (y.0 < states) × (y.1 < actions) × (y.2 < states)) steps x range (in_contains steps x i) in
+    (subst (λ k. k < states) (eqb-true x.0 e from) l, subst (λ k. k < actions) (eqb-true x.1 a action) m, subst (λ k. k < states) (eqb-true x.2 e' to) n)
+
+flat_map_same : {X Y : Type 0} (f g : X → List Y) (xs : List X) → ((x : X) → IsIn x xs → f x ≡ g x) → flat_map f xs ≡ flat_map g xs
+flat_map_same f g [] same = refl
+flat_map_same f g (x ∷ xs) same = ap₂ (λ ys zs. ys ++ zs) (same x (inl refl)) (flat_map_same f g xs (λ y i. same y (inr i)))
+
+-- rows with the next states have the triples of the normal form
+row_triples-normal : (env : Env) (rows : List (List ℕ)) →
+    ((e a : ℕ) → e < env.states → a < env.actions → slice_get rows (e * env.actions + a) ≡ Some (env_next env e a)) →
+    row_triples env.states env.actions rows ≡ (normal_env env).triples
+unfolding row_triples
+row_triples-normal env rows next =
+    flat_map_same _ _ (below env.states) (λ e ie. flat_map_same _ _ (below env.actions) (λ a ia.
+    ap (map (λ e'. record { from = e; action = a; to = e' }))
+    (get_or_from_slice_get rows (e * env.actions + a) (env_next env e a) [] (next e a (from_below env.states e ie) (from_below env.actions a ia)))))
+
+all_below_bound : (n : ℕ) → All (λ x. x < n) (below n)
+all_below_bound n = λ k d less. subst (λ x. x < n) (sym (get_or-below n k d (omega (arith, length-below n)))) (omega (arith, length-below n))
+
+-- the masks of a list of steps, laid out as rows
+module _ (states actions start : ℕ) (steps : List (ℕ × ℕ × ℕ)) (to from : List ℕ)
+    (many_states : (0 < states) × (states ≤ MAX_STATES)) (many_actions : (0 < actions) × (actions ≤ MAX_ACTIONS)) (starts : start < states)
+    (range : AreTriples states actions steps)
+    (to_len : length to ≡ states * actions) (from_len : length from ≡ states * actions)
+    (to_has : HasCells actions (leads steps) to) (from_has : HasCells actions (leads_back steps) from) where
+  steps_in_range : (e a e' : ℕ) → IsTrue (has_triple (listed_env states actions start steps) e a e') → (e < states) × (a < actions) × (e' < states)
+  steps_in_range e a e' t = leads_in_range states actions steps e a e' range (leads_is states actions start steps e a e' ∙ t)
+
+  next_row : (e a : ℕ) → e < states → a < actions → slice_get (map states_of to) (e * actions + a) ≡ Some (env_next (listed_env states actions start steps) e a)
+  next_row e a he ha =
+      row_of_cell to (e * actions + a) states (has_triple (listed_env states actions start steps) e a) (omega (arith, mul-add-lt e actions a states he ha)) (omega arith)
+      (λ e'. to_has.has e a e' ha ∙ leads_is states actions start steps e a e')
+      (λ e' past. false_from_ne_true _ (λ t. let (l, m, n) = steps_in_range e a e' t in let none : ⊥ = omega arith in none))
+
+  prev_row : (e' a : ℕ) → e' < states → a < actions → slice_get (map states_of from) (e' * actions + a) ≡ Some (env_prev (listed_env states actions start steps) e' a)
+  unfolding leads_back
+  prev_row e' a he' ha =
+      row_of_cell from (e' * actions + a) states (λ e. has_triple (listed_env states actions start steps) e a e') (omega (arith, mul-add-lt e' actions a states he' ha)) (omega arith)
+      (λ e. from_has.has e' a e ha ∙ leads_is states actions start steps e a e')
+      (λ e past. false_from_ne_true _ (λ t. let (l, m, n) = steps_in_range e a e' t in let none : ⊥ = omega arith in none))
+
+  -- are the triples of the normal form
+  pub laid_triples : row_triples states actions (map states_of to) ≡ (normal_env (listed_env states actions start steps)).triples
+  laid_triples = row_triples-normal (listed_env states actions start steps) (map states_of to) next_row
+
+  -- and serve its look-ups
+  pub laid_rows : HasRows (normal_env (listed_env states actions start steps)) (map states_of to) (map states_of from)
+  laid_rows = record {
+    known = IsEnv-normal (listed_env states actions start steps) many_states many_actions starts;
+    next = λ e a he ha. next_row e a he ha ∙ ap Some (sym (env_next-normal (listed_env states actions start steps) e a he ha));
+    prev = λ e' a he' ha. prev_row e' a he' ha ∙ ap Some (sym (env_prev-normal (listed_env states actions start steps) e' a he' ha));
+  }
+
+-- what a look-up gives is below the number of states
+pub next_below : (env : Env) (to from : List (List ℕ)) (e a k : ℕ) (xs : List ℕ) → HasRows env to from → e < env.states → a < env.actions →
+    k ≡ e * env.actions + a → slice_get to k ≡ Some xs → All (λ x. x < env.states) xs
+next_below env to from e a k xs rows he ha place row =
+    All-same (λ x. x < env.states) xs (env_next env e a) (same_Some _ _ (sym row ∙ ap (slice_get to) place ∙ rows.next e a he ha))
+    (All-filter (has_triple env e a) (λ x. x < env.states) (below env.states) (all_below_bound env.states))
+
+pub prev_below : (env : Env) (to from : List (List ℕ)) (e' a k : ℕ) (xs : List ℕ) → HasRows env to from → e' < env.states → a < env.actions →
+    k ≡ e' * env.actions + a → slice_get from k ≡ Some xs → All (λ x. x < env.states) xs
+prev_below env to from e' a k xs rows he' ha place row =
+    All-same (λ x. x < env.states) xs (env_prev env e' a) (same_Some _ _ (sym row ∙ ap (slice_get from) place ∙ rows.prev e' a he' ha))
+    (All-filter (λ e. has_triple env e a e') (λ x. x < env.states) (below env.states) (all_below_bound env.states))
+
+-- The table of a behaviour.
+
+-- a number below the bound is among those that pass where it passes
+has_filter : (p : ℕ → Bool) (n i : ℕ) → i < n → has (filter p (below n)) i ≡ p i
+has_filter p n i less = same_test (has (filter p (below n)) i) (p i)
+    (λ t. let (k, ik, same) = any_true (λ m. m == i) (filter p (below n)) t in subst (λ m. IsTrue (p m)) (eqb-true k i same) (filter_in p k (below n) ik).1)
+    (λ t. any_from (λ m. m == i) i (filter p (below n)) (in_filter p i (below n) (in_below n i less) t) (eq-eqb i i refl))
+
+has_states_below : (p : ℕ → Bool) (n i : ℕ) → i < n → has (states_below p n) i ≡ p i
+has_states_below p n i less = ap (λ xs. has xs i) (states_below-filter p n) ∙ has_filter p n i less
+
+pub has_states_of : (mask i : ℕ) → i < 64 → has (states_of mask) i ≡ has_state mask i
+has_states_of mask i less = has_states_below (has_state mask) 64 i less
+
+-- the steps of the list are those of the record
+goes_is : (states start : ℕ) (finals : List ℕ) (steps : List (ℕ × ℕ × ℕ × ℕ)) (b e a b' : ℕ) → e < 64 → goes steps b e a b' ≡ has_move (listed_beh states start finals steps) b e a b'
+unfolding goes is_move
+goes_is states start finals steps b e a b' small =
+    any_same _ _ steps (λ m i. ap (λ p. m.0 == b && m.2 == a && p && m.3 == b') (sym (has_states_of m.1 e small))) ∙ sym (list_any-map move_of _ steps)
+
+goes_in_range : (states actions : ℕ) (steps : List (ℕ × ℕ × ℕ × ℕ)) (b e a b' : ℕ) → AreMoves states actions steps → IsTrue (goes steps b e a b') → (b < states) × (a < actions) × (b' < states)
+unfolding goes is_move
+goes_in_range states actions steps b e a b' range t =
+    let (x, i, passes) = any_true _ steps t in
+    let (front, to) = and_parts (x.0 == b && x.2 == a && has_state x.1 e) (x.3 == b') passes in
+    let (ends, guard) = and_parts (x.0 == b && x.2 == a) (has_state x.1 e) front in
+    let (from, action) = and_parts (x.0 == b) (x.2 == a) ends in
+    let (l, m, n) = All-contains (λ y. (y.0 < states) × (y.2 < actions) × (y.3 < states)) steps x range (in_contains steps x i) in
+    (subst (λ k. k < states) (eqb-true x.0 b from) l, subst (λ k. k < actions) (eqb-true x.2 a action) m, subst (λ k. k < states) (eqb-true x.3 b' to) n)
+
+-- rows with the next states have the steps of the normal form
+row_moves-normal : (env_states actions : ℕ) (beh : Beh) (rows : List (List ℕ)) →
+    ((b e a : ℕ) → b < beh.states → e < env_states → a < actions → slice_get rows ((b * env_states + e) * actions + a) ≡ Some (beh_next beh b e a)) →
+    row_moves beh.states env_states actions rows ≡ (normal_beh env_states actions beh).steps
+unfolding row_moves
+row_moves-normal env_states actions beh rows next =
+    flat_map_same _ _ (below beh.states) (λ b ib. flat_map_same _ _ (below actions) (λ a ia. flat_map_same _ _ (below beh.states) (λ b' ib'.
+    ap (guarded_step b a b') (filter_same _ _ (below env_states) (λ e ie.
+    ap (λ xs. has xs b')
+    (get_or_from_slice_get rows ((b * env_states + e) * actions + a) (beh_next beh b e a) []
+    (next b e a (from_below beh.states b ib) (from_below env_states e ie) (from_below actions a ia)))
+    ∙ has_filter (has_move beh b e a) beh.states b' (from_below beh.states b' ib'))))))
+
+-- the masks of a list of steps, laid out as rows
+module _ (states env_states actions start : ℕ) (finals : List ℕ) (steps : List (ℕ × ℕ × ℕ × ℕ)) (mask : ℕ) (to from : List ℕ)
+    (many_states : (0 < states) × (states ≤ MAX_STATES)) (many_env_states : (0 < env_states) × (env_states ≤ MAX_STATES))
+    (many_actions : (0 < actions) × (actions ≤ MAX_ACTIONS)) (starts : start < states)
+    (ends : All (λ b. b < states) finals) (range : AreMoves states actions steps)
+    (mask_has : (b : ℕ) → has_state mask b ≡ has finals b)
+    (to_len : length to ≡ states * env_states * actions) (from_len : length from ≡ states * env_states * actions)
+    (to_has : HasGuardedCells env_states actions (goes steps) to) (from_has : HasGuardedCells env_states actions (goes_back steps) from) where
+  moves_in_range : (b e a b' : ℕ) → e < env_states → IsTrue (has_move (listed_beh states start finals steps) b e a b') → (b < states) × (a < actions) × (b' < states)
+  moves_in_range b e a b' he t = goes_in_range states actions steps b e a b' range (goes_is states start finals steps b e a b' (omega arith) ∙ t)
+
+  place : (b e a : ℕ) → b < states → e < env_states → a < actions → (b * env_states + e) * actions + a < states * env_states * actions
+  place b e a hb he ha =
+      let row : b * env_states + e < states * env_states = omega (arith, mul-add-lt b env_states e states hb he) in
+      omega (arith, mul-add-lt (b * env_states + e) actions a (states * env_states) row ha)
+
+  out_row : (b e a : ℕ) → b < states → e < env_states → a < actions →
+      slice_get (map states_of to) ((b * env_states + e) * actions + a) ≡ Some (beh_next (listed_beh states start finals steps) b e a)
+  out_row b e a hb he ha =
+      row_of_cell to ((b * env_states + e) * actions + a) states (has_move (listed_beh states start finals steps) b e a) (omega (arith, place b e a hb he ha)) (omega arith)
+      (λ b'. to_has.has b e a b' he ha ∙ goes_is states start finals steps b e a b' (omega arith))
+      (λ b' past. false_from_ne_true _ (λ t. let (l, m, n) = moves_in_range b e a b' he t in let none : ⊥ = omega arith in none))
+
+  into_row : (b' e a : ℕ) → b' < states → e < env_states → a < actions →
+      slice_get (map states_of from) ((b' * env_states + e) * actions + a) ≡ Some (beh_prev (listed_beh states start finals steps) b' e a)
+  unfolding goes_back
+  into_row b' e a hb' he ha =
+      row_of_cell from ((b' * env_states + e) * actions + a) states (λ b. has_move (listed_beh states start finals steps) b e a b') (omega (arith, place b' e a hb' he ha)) (omega arith)
+      (λ b. from_has.has b' e a b he ha ∙ goes_is states start finals steps b e a b' (omega arith))
+      (λ b past. false_from_ne_true _ (λ t. let (l, m, n) = moves_in_range b e a b' he t in let none : ⊥ = omega arith in none))
+
+  -- are the steps of the normal form
+  pub laid_moves : row_moves states env_states actions (map states_of to) ≡ (normal_beh env_states actions (listed_beh states start finals steps)).steps
+  laid_moves = row_moves-normal env_states actions (listed_beh states start finals steps) (map states_of to) out_row
+
+  -- with its final states
+  pub laid_finals : states_of mask ≡ (normal_beh env_states actions (listed_beh states start finals steps)).finals
+  laid_finals =
+      mask_filter mask states (has finals) (omega arith) mask_has
+      (λ b past. false_from_ne_true _ (λ t.
+      let (k, ik, same) = any_true (λ m. m == b) finals t in
+      let l : k < states = All-contains (λ b. b < states) finals k ends (in_contains finals k ik) in
+      let e : k ≡ b = eqb-true k b same in
+      let none : ⊥ = omega arith in none))
+
+  -- and serve its look-ups
+  pub laid_guarded_rows : HasGuardedRows (record { env_states = env_states; actions = actions; beh = normal_beh env_states actions (listed_beh states start finals steps) }) mask (map states_of to) (map states_of from)
+  laid_guarded_rows = record {
+    env_states = many_env_states;
+    actions = many_actions;
+    known = IsOver-normal env_states actions (listed_beh states start finals steps) many_states starts;
+    final = λ b hb. is_final-normal env_states actions (listed_beh states start finals steps) b hb ∙ sym (mask_has b);
+    next = λ b e a hb he ha. out_row b e a hb he ha ∙ ap Some (sym (beh_next-normal env_states actions (listed_beh states start finals steps) b e a hb he ha));
+    prev = λ b' e a hb' he ha. into_row b' e a hb' he ha ∙ ap Some (sym (beh_prev-normal env_states actions (listed_beh states start finals steps) b' e a hb' he ha));
+  }
+
+-- what a look-up gives is below the number of states
+pub out_below : (g : GuardedBeh) (mask : ℕ) (to from : List (List ℕ)) (b e a k : ℕ) (xs : List ℕ) → HasGuardedRows g mask to from → b < g.beh.states → e < g.env_states → a < g.actions →
+    k ≡ (b * g.env_states + e) * g.actions + a → slice_get to k ≡ Some xs → All (λ x. x < g.beh.states) xs
+out_below g mask to from b e a k xs rows hb he ha at row =
+    All-same (λ x. x < g.beh.states) xs (beh_next g.beh b e a) (same_Some _ _ (sym row ∙ ap (slice_get to) at ∙ rows.next b e a hb he ha))
+    (All-filter (has_move g.beh b e a) (λ x. x < g.beh.states) (below g.beh.states) (all_below_bound g.beh.states))
+
+pub into_below : (g : GuardedBeh) (mask : ℕ) (to from : List (List ℕ)) (b' e a k : ℕ) (xs : List ℕ) → HasGuardedRows g mask to from → b' < g.beh.states → e < g.env_states → a < g.actions →
+    k ≡ (b' * g.env_states + e) * g.actions + a → slice_get from k ≡ Some xs → All (λ x. x < g.beh.states) xs
+into_below g mask to from b' e a k xs rows hb' he ha at row =
+    All-same (λ x. x < g.beh.states) xs (beh_prev g.beh b' e a) (same_Some _ _ (sym row ∙ ap (slice_get from) at ∙ rows.prev b' e a hb' he ha))
+    (All-filter (λ b. has_move g.beh b e a b') (λ x. x < g.beh.states) (below g.beh.states) (all_below_bound g.beh.states))

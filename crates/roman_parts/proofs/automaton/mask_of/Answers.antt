@@ -1,0 +1,15 @@
+use Rattle.std.proofs.Common.{◌≡◌, ℕ, ◌||◌, ◌==◌, get_or, sym, ap, ap₂, ◌∙◌, arith}
+use Rattle.std.proofs.lemmas.List.Folds.{list_any_more}
+use Rattle.std.proofs.lemmas.Nat.Bits.{bit_at-zero}
+use Rattle.roman_parts.proofs.CellLemmas.{has_set, same_eqb}
+use Rattle.roman_parts.proofs.automaton.mask_of.Goals as goal
+
+pub loop-b-init : goal.loop-b-init
+loop-b-init c = λ n. ap (λ b. b == 1) (bit_at-zero n)
+
+pub loop-b-preserved : goal.loop-b-preserved
+loop-b-preserved c = λ n.
+    let x : ℕ = get_or c.args.states.now c.loop-b.b-index 0 in
+    has_set c.loop-b.mask x n (c.requires c.loop-b.b-index 0 (omega arith))
+    ∙ ap₂ (λ p q. p || q) (c.loop-b.invariant n) (same_eqb n x)
+    ∙ sym (list_any_more (λ m. m == n) c.args.states.now c.loop-b.b-index 0 (omega arith))

@@ -1,0 +1,8 @@
+use Rattle.std.proofs.Common.{◌≡◌, ℕ, take}
+use Rattle.roman_guard.specs.Meaning.{has_state}
+use Rattle.roman_model.specs.System.{has}
+use Rattle.roman_parts.proofs.automaton.mask_of.Given as goal
+
+-- the mask has the states so far
+abbrev pub invariant-loop-b : goal.invariant-loop-b
+invariant-loop-b l = (n : ℕ) → has_state l.mask n ≡ has (take l.b-index l.states) n

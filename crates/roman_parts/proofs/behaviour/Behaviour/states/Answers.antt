@@ -1,0 +1,4 @@
+use Rattle.roman_parts.proofs.behaviour.Behaviour.states.Goals as goal
+
+pub returns-clause-known : goal.returns-clause-known
+returns-clause-known c = rw (← c.self.view_is) c.self.invariant.known

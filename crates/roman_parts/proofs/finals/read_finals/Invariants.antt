@@ -1,0 +1,16 @@
+-- The final states so far are in range, and what is left gives what all items give.
+use Rattle.std.proofs.Common.{◌<◌, [], length}
+use Rattle.std.specs.List.{All}
+use Rattle.serde_json.specs.View.{items_view}
+use Rattle.roman_read.specs.Items.{each_item, pushing}
+use Rattle.roman_read.proofs.Each.{IsLeft}
+use Rattle.roman_parts.specs.Lists.{place_in}
+use Rattle.roman_parts.specs.declared.error.List.TheVariants.{Finals}
+use Rattle.roman_parts.proofs.finals.read_finals.Given as goal
+
+abbrev pub invariant-loop-i : goal.invariant-loop-i
+invariant-loop-i l = record {
+  within : All (λ b. b < length l.states) l.finals.items;
+  left : IsLeft (pushing (place_in l.states Finals)) l.items l.i l.finals.items
+      (each_item (pushing (place_in l.states Finals)) 0 [] (items_view l.items));
+}

@@ -1,0 +1,12 @@
+-- What is left gives what all items give.
+use Rattle.std.proofs.Common.{[]}
+use Rattle.serde_json.specs.View.{items_view}
+use Rattle.roman_read.specs.Items.{each_item, pushing}
+use Rattle.roman_read.proofs.Each.{IsLeft}
+use Rattle.roman_parts.specs.Guards.{state_in}
+use Rattle.roman_parts.proofs.guards.read_places.Given as goal
+
+abbrev pub invariant-loop-item : goal.invariant-loop-item
+invariant-loop-item l =
+    IsLeft (pushing (state_in l.states l.index)) l.items l.item-index l.places.items
+    (each_item (pushing (state_in l.states l.index)) 0 [] (items_view l.items))

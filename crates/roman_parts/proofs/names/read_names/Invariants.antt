@@ -1,0 +1,13 @@
+-- The names so far are as many as the items so far, and what is left gives what all items give.
+use Rattle.std.proofs.Common.{◌≡◌, ℕ, List, [], length}
+use Rattle.serde_json.specs.View.{items_view}
+use Rattle.roman_read.specs.Items.{each_item}
+use Rattle.roman_read.proofs.Each.{IsLeft}
+use Rattle.roman_parts.specs.Lists.{name_step}
+use Rattle.roman_parts.proofs.names.read_names.Given as goal
+
+abbrev pub invariant-loop-i : goal.invariant-loop-i
+invariant-loop-i l = record {
+  count : length l.names ≡ l.i;
+  left : IsLeft (name_step l.place) l.items l.i l.names (each_item (name_step l.place) 0 [] (items_view l.items));
+}

@@ -1,0 +1,10 @@
+use Rattle.std.proofs.Common.{◌≡◌, ◌++◌, length}
+use Rattle.roman_guard.specs.Meaning.{states_of}
+use Rattle.roman_parts.proofs.rows.push_states.Given as goal
+
+-- the items so far, and then the states that are left
+abbrev pub invariant-loop-rest : goal.invariant-loop-rest
+invariant-loop-rest l = l.items.items ++ states_of l.rest ≡ l.initial.items.items ++ states_of l.mask
+
+abbrev pub decreases-loop-rest : goal.decreases-loop-rest
+decreases-loop-rest l = length (states_of l.rest)

@@ -1,0 +1,15 @@
+-- The steps so far are in range, and what is left gives what all items give.
+use Rattle.std.proofs.Common.{[], length, map}
+use Rattle.serde_json.specs.View.{items_view}
+use Rattle.roman_read.specs.Items.{each_item, pushing}
+use Rattle.roman_read.proofs.Each.{IsLeft}
+use Rattle.roman_parts.specs.Listed.{move_of, AreMoves}
+use Rattle.roman_parts.specs.Steps.{move_item}
+use Rattle.roman_parts.proofs.steps.read_moves.Given as goal
+
+abbrev pub invariant-loop-i : goal.invariant-loop-i
+invariant-loop-i l = record {
+  within : AreMoves (length l.states) (length l.actions) l.steps.items;
+  left : IsLeft (pushing (move_item l.env_states l.actions l.states)) l.items l.i (map move_of l.steps.items)
+      (each_item (pushing (move_item l.env_states l.actions l.states)) 0 [] (items_view l.items));
+}

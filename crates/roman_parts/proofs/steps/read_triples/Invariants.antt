@@ -1,0 +1,15 @@
+-- The steps so far are in range, and what is left gives what all items give.
+use Rattle.std.proofs.Common.{[], length, map}
+use Rattle.serde_json.specs.View.{items_view}
+use Rattle.roman_read.specs.Items.{each_item, pushing}
+use Rattle.roman_read.proofs.Each.{IsLeft}
+use Rattle.roman_parts.specs.Listed.{triple_of, AreTriples}
+use Rattle.roman_parts.specs.Steps.{triple_item}
+use Rattle.roman_parts.proofs.steps.read_triples.Given as goal
+
+abbrev pub invariant-loop-i : goal.invariant-loop-i
+invariant-loop-i l = record {
+  within : AreTriples (length l.states) (length l.actions) l.steps.items;
+  left : IsLeft (pushing (triple_item l.states l.actions)) l.items l.i (map triple_of l.steps.items)
+      (each_item (pushing (triple_item l.states l.actions)) 0 [] (items_view l.items));
+}

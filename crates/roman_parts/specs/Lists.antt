@@ -1,0 +1,42 @@
+-- The lists of a part: names, places of names, final states and steps.
+use Rattle.std.specs.Prelude.{ℕ, ◌++◌, List, [], ◌∷◌, Result, is_none, codes}
+use Rattle.serde_json.specs.Data.{Data}
+use Rattle.roman_read.specs.Items.{◌>>=◌, each_item, pushing}
+use Rattle.roman_read.specs.Json.{member_of, text_of}
+use Rattle.roman_read.specs.Names.{is_name, place_of}
+use Rattle.roman_read.specs.declared.rules.Kind.TheVariants as kind
+use Rattle.roman_parts.specs.Reading.{looked, found, check, items_at, counted_items}
+use Rattle.roman_parts.specs.declared.error.List.{List as Place}
+use Rattle.roman_parts.specs.declared.error.List.TheVariants.{Start, Finals}
+use Rattle.roman_parts.specs.declared.error.PartError.{PartError}
+
+-- the next item of a list of names, behind those before it
+unfoldable pub name_step : Place → ℕ → List (List ℕ) → Data → Result (List (List ℕ)) PartError
+name_step list i names d = do
+  text ← looked list i (text_of d)
+  name ← check (is_name text) kind.BadName list i text
+  check (is_none (place_of names name)) kind.Repeated list i (names ++ name ∷ [])
+
+-- a member that is a list of 1 to so many names
+unfoldable pub names_of : Place → List ℕ → ℕ → Data → Result (List (List ℕ)) PartError
+names_of list member most d = do
+  items ← counted_items list member 1 most d
+  each_item (name_step list) 0 [] items
+
+-- the place of a text among names
+unfoldable pub place_in : List (List ℕ) → Place → ℕ → Data → Result ℕ PartError
+place_in names list i d = do
+  text ← looked list i (text_of d)
+  found kind.Unknown list i (place_of names text)
+
+-- the start state
+unfoldable pub start_of : List (List ℕ) → Data → Result ℕ PartError
+start_of states d = do
+  start ← looked Start 0 (member_of d (codes "start"))
+  place_in states Start 0 start
+
+-- the final states
+unfoldable pub finals_of : List (List ℕ) → Data → Result (List ℕ) PartError
+finals_of states d = do
+  items ← items_at Finals (codes "final") d
+  each_item (pushing (place_in states Finals)) 0 [] items

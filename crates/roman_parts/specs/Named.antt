@@ -1,0 +1,28 @@
+-- Environments, behaviours and targets with the names of their states and actions.
+use Rattle.std.specs.Prelude.{◌≡◌, ℕ, List}
+use Rattle.roman_model.specs.System.{Env, Beh, IsBeh}
+
+-- an environment: the names of its states and actions, each a list of bytes, and the record in normal form
+pub record NamedEnv : Type 0 where
+  pub states : List (List ℕ)
+  pub actions : List (List ℕ)
+  pub env : Env
+
+-- a behaviour: its name, the names of its states, the numbers of states and actions of its environment, and the record in normal form
+pub record NamedBeh : Type 0 where
+  pub name : List ℕ
+  pub states : List (List ℕ)
+  pub env_states : ℕ
+  pub actions : ℕ
+  pub beh : Beh
+
+-- a target: the names of its states, the numbers of states and actions of its environment, and the record in normal form
+pub record NamedTarget : Type 0 where
+  pub states : List (List ℕ)
+  pub env_states : ℕ
+  pub actions : ℕ
+  pub beh : Beh
+
+-- the behaviour's numbers are in range over an environment with so many states and actions
+abbrev pub IsOver : ℕ → ℕ → Beh → Type 0
+IsOver env_states actions beh = (env : Env) → env.states ≡ env_states → env.actions ≡ actions → IsBeh env beh

@@ -1,0 +1,47 @@
+-- Readings of a part that may be refused, each refusal with its place.
+use Rattle.std.specs.Prelude.{◌≡◌, ℕ, ◌&&◌, Bool, List, Option, Result, Ok, Err, nat_le, if◌then◌else◌}
+use Rattle.std.specs.Option.{ok_or}
+use Rattle.serde_json.specs.Data.{Data, Items}
+use Rattle.serde_json.specs.Events.{items_len}
+use Rattle.roman_read.specs.Items.{◌>>=◌}
+use Rattle.roman_read.specs.Json.{member_of, list_of}
+use Rattle.roman_read.specs.Kinds.{kind_of}
+use Rattle.roman_read.specs.declared.rules.Kind.{Kind}
+use Rattle.roman_read.specs.declared.rules.Kind.TheVariants as kind
+use Rattle.roman_read.specs.declared.rules.Miss.{Miss}
+use Rattle.roman_parts.specs.declared.error.List.{List as Place}
+use Rattle.roman_parts.specs.declared.error.PartError.{PartError}
+use Rattle.roman_parts.specs.declared.error.PartError.TheVariants.{Refused, Memory}
+
+-- what a look finds, and what it misses is refused there
+abbrev pub looked : {X : Type 0} → Place → ℕ → Result X Miss → Result X PartError
+looked list i (Ok x) = Ok x
+looked list i (Err miss) = Err (Refused (kind_of miss) list i)
+
+-- what is there, and where there is nothing the rule is broken
+abbrev pub found : {X : Type 0} → Kind → Place → ℕ → Option X → Result X PartError
+found rule list i there = ok_or there (Refused rule list i)
+
+-- the value, where it keeps the rule
+abbrev pub check : {X : Type 0} → Bool → Kind → Place → ℕ → X → Result X PartError
+check keeps rule list i x = if keeps then Ok x else Err (Refused rule list i)
+
+-- the items of a member that is a list
+unfoldable pub items_at : Place → List ℕ → Data → Result Items PartError
+items_at list name d = looked list 0 (member_of d name) >>= (λ m. looked list 0 (list_of m))
+
+-- the items of a member that is a list of so many items at least and at most
+unfoldable pub counted_items : Place → List ℕ → ℕ → ℕ → Data → Result Items PartError
+counted_items list name least most d = do
+  items ← items_at list name d
+  check (nat_le least (items_len items) && nat_le (items_len items) most) kind.Count list 0 items
+
+-- a refusal is the one that the definition gives; want of memory says nothing of it
+abbrev pub Fails : {Y : Type 0} → PartError → Result Y PartError → Type 0
+Fails Memory reading = Unit {0}
+Fails (Refused rule list i) reading = reading ≡ Err (Refused rule list i)
+
+-- what the code reads, seen through a view, is what the definition gives, and so is what it refuses
+abbrev pub Gives : {X Y : Type 0} → (X → Y) → Result X PartError → Result Y PartError → Type 0
+Gives view (Ok x) reading = reading ≡ Ok (view x)
+Gives view (Err error) reading = Fails error reading

@@ -1,0 +1,138 @@
+//! What behaviours and targets have in common.
+ghost use Rattle.std.specs.Prelude.{◌≡◌, ℕ, ◌<◌, ◌≤◌, length, All, IfOk};
+ghost use Rattle.roman_guard.specs.Meaning.{has_state};
+ghost use Rattle.roman_model.specs.System.{has, beh_next, beh_prev, is_final};
+ghost use Rattle.roman_model.specs.Normal.{normal_beh};
+ghost use Rattle.roman_parts.specs.Listed.{listed_beh, AreMoves};
+
+use crate::masks::{Cells, into_masks, out_masks};
+use crate::rows::Rows;
+use roman_guard::StateSet;
+use roman_model::{MAX_ACTIONS, MAX_STATES};
+use std::alloc::{AllocError, Global};
+use std::marker::Model;
+
+/// Finite sets of states and final states, a start state and guarded steps. Contracts see its
+/// record in normal form, and how many states and actions its environment has.
+#[derive(Drop)]
+pub(crate) struct Automaton {
+    cells: Cells,
+    start: u8,
+    // Bit b is set where b is a final state.
+    finals: u64,
+    // The rows of state b, environment state e and action a: to which states they go, and from
+    // which they go to b.
+    next: Rows,
+    prev: Rows,
+}
+
+impl Model for Automaton {
+    ghost use Rattle.roman_guard.specs.Meaning.{states_of};
+    ghost use Rattle.roman_parts.specs.Tables.{GuardedBeh, row_moves, HasGuardedRows};
+
+    ghost Value = { GuardedBeh };
+
+    ghost view = { λ s. record {
+        env_states = s.cells.env_states;
+        actions = s.cells.actions;
+        beh = record {
+            states = s.cells.states;
+            start = s.start;
+            finals = states_of s.finals;
+            steps = row_moves s.cells.states s.cells.env_states s.cells.actions s.next;
+        };
+    } };
+
+    ghost invariant = { λ s. HasGuardedRows (record {
+        env_states = s.cells.env_states;
+        actions = s.cells.actions;
+        beh = record {
+            states = s.cells.states;
+            start = s.start;
+            finals = states_of s.finals;
+            steps = row_moves s.cells.states s.cells.env_states s.cells.actions s.next;
+        };
+    }) s.finals s.next s.prev };
+}
+
+impl Automaton {
+    /// The automaton with these numbers, final states and steps (b, G, a, b').
+    pub(crate) fn from_lists(
+        alloc: Global,
+        cells: Cells,
+        start: u8,
+        finals: &[u8],
+        steps: &[(u8, StateSet, u8, u8)],
+    ) -> Result<Automaton, AllocError>
+        requires states { (0 < cells.states) × (cells.states ≤ MAX_STATES) }
+        requires env_states { (0 < cells.env_states) × (cells.env_states ≤ MAX_STATES) }
+        requires actions { (0 < cells.actions) × (cells.actions ≤ MAX_ACTIONS) }
+        requires start { start < cells.states }
+        requires finals { All (λ b. b < cells.states) finals.now }
+        requires steps { AreMoves cells.states cells.actions steps.now }
+        ensures env_states { IfOk result (λ made. made.env_states ≡ cells.env_states) }
+        ensures actions { IfOk result (λ made. made.actions ≡ cells.actions) }
+        ensures normal { IfOk result (λ made. made.beh
+            ≡ normal_beh cells.env_states cells.actions (listed_beh cells.states start finals.now steps.now)) }
+    {
+        let next = Rows::of_masks(alloc, &out_masks(alloc, cells, steps)?)?;
+        let prev = Rows::of_masks(alloc, &into_masks(alloc, cells, steps)?)?;
+        Ok(Automaton {
+            cells,
+            start,
+            finals: mask_of(finals),
+            next,
+            prev,
+        })
+    }
+
+    /// The start state.
+    pub(crate) fn start(&self) -> u8
+        ensures start { result ≡ self.now.beh.start }
+        ensures within { result < self.now.beh.states }
+    {
+        self.start
+    }
+
+    /// Whether `b` is a final state.
+    pub(crate) fn is_final(&self, b: u8) -> bool
+        requires { b < self.now.beh.states }
+        ensures { result ≡ is_final self.now.beh b }
+    {
+        (self.finals >> b) & 1 == 1
+    }
+
+    /// The states to which action `a` goes from state `b` in environment state `e`, rising.
+    pub(crate) fn next(&self, b: u8, e: u8, a: u8) -> &[u8]
+        requires state { b < self.now.beh.states }
+        requires env_state { e < self.now.env_states }
+        requires action { a < self.now.actions }
+        ensures next { result.now ≡ beh_next self.now.beh b e a }
+        ensures below { All (λ to. to < self.now.beh.states) result.now }
+    {
+        self.next.row(self.cells.at(b, e, a))
+    }
+
+    /// The states from which action `a` goes to state `b` in environment state `e`, rising.
+    pub(crate) fn prev(&self, b: u8, e: u8, a: u8) -> &[u8]
+        requires state { b < self.now.beh.states }
+        requires env_state { e < self.now.env_states }
+        requires action { a < self.now.actions }
+        ensures prev { result.now ≡ beh_prev self.now.beh b e a }
+        ensures below { All (λ from. from < self.now.beh.states) result.now }
+    {
+        self.prev.row(self.cells.at(b, e, a))
+    }
+}
+
+// The mask of the states that are listed.
+fn mask_of(states: &[u8]) -> u64
+    requires { All (λ b. b < 64) states.now }
+    ensures { (b : ℕ) → has_state result b ≡ has states.now b }
+{
+    let mut mask: u64 = 0;
+    for &b in states {
+        mask |= 1 << b;
+    }
+    mask
+}

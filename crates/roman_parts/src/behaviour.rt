@@ -1,0 +1,128 @@
+//! Behaviours.
+ghost use Rattle.std.specs.Prelude.{◌≡◌, ℕ, ◌<◌, ◌≤◌, length, All, IfOk};
+ghost use Rattle.roman_model.specs.System.{beh_next, beh_prev, is_final};
+ghost use Rattle.roman_model.specs.Normal.{normal_beh};
+ghost use Rattle.roman_parts.specs.Listed.{listed_beh, AreMoves};
+ghost use Rattle.roman_parts.specs.Named.{IsOver};
+
+use crate::automaton::Automaton;
+use crate::environment::Environment;
+use crate::masks::Cells;
+use roman_guard::StateSet;
+use roman_model::MAX_STATES;
+use roman_read::{Name, NameTable};
+use std::alloc::{AllocError, Global};
+use std::marker::Model;
+
+/// A behaviour over an environment: a finite set of states, a start state, final states, in which it
+/// may safely be stopped, and steps (b, G, a, b') for the environment states in the guard G. Contracts
+/// see its names, its record in normal form, and how many states and actions its environment has.
+#[derive(Drop)]
+pub struct Behaviour {
+    name: Name,
+    states: NameTable,
+    automaton: Automaton,
+}
+
+impl Model for Behaviour {
+    ghost use Rattle.roman_parts.specs.Named.{NamedBeh};
+    ghost use Rattle.roman_parts.specs.Tables.{IsNamed};
+
+    ghost Value = { NamedBeh };
+
+    ghost view = { λ s. record {
+        name = s.name;
+        states = s.states;
+        env_states = s.automaton.env_states;
+        actions = s.automaton.actions;
+        beh = s.automaton.beh;
+    } };
+
+    ghost invariant = { λ s. IsNamed s.states s.automaton };
+}
+
+impl Behaviour {
+    /// The behaviour over `env` with these names, start state, final states and steps (b, G, a, b').
+    /// Final states and steps may repeat.
+    pub fn from_lists(
+        alloc: Global,
+        name: Name,
+        states: NameTable,
+        start: u8,
+        finals: &[u8],
+        steps: &[(u8, StateSet, u8, u8)],
+        env: &Environment,
+    ) -> Result<Behaviour, AllocError>
+        requires states { (0 < length states) × (length states ≤ MAX_STATES) }
+        requires start { start < length states }
+        requires finals { All (λ b. b < length states) finals.now }
+        requires steps { AreMoves (length states) env.now.env.actions steps.now }
+        ensures names { IfOk result (λ made. (made.name ≡ name) × (made.states ≡ states)) }
+        ensures over { IfOk result
+            (λ made. (made.env_states ≡ env.now.env.states) × (made.actions ≡ env.now.env.actions)) }
+        ensures normal { IfOk result (λ made. made.beh
+            ≡ normal_beh env.now.env.states env.now.env.actions (listed_beh (length states) start finals.now steps.now)) }
+    {
+        let cells = Cells::over(&states, env);
+        let automaton = Automaton::from_lists(alloc, cells, start, finals, steps)?;
+        Ok(Behaviour {
+            name,
+            states,
+            automaton,
+        })
+    }
+
+    /// The behaviour's name.
+    pub fn name(&self) -> &Name
+        ensures { result.now ≡ self.now.name }
+    {
+        &self.name
+    }
+
+    /// The names of the states, by number.
+    pub fn states(&self) -> &NameTable
+        ensures names { result.now ≡ self.now.states }
+        ensures count { length self.now.states ≡ self.now.beh.states }
+        ensures known { IsOver self.now.env_states self.now.actions self.now.beh }
+    {
+        &self.states
+    }
+
+    /// The start state.
+    pub fn start(&self) -> u8
+        ensures start { result ≡ self.now.beh.start }
+        ensures within { result < self.now.beh.states }
+    {
+        self.automaton.start()
+    }
+
+    /// Whether `b` is a final state.
+    pub fn is_final(&self, b: u8) -> bool
+        requires { b < self.now.beh.states }
+        ensures { result ≡ is_final self.now.beh b }
+    {
+        self.automaton.is_final(b)
+    }
+
+    /// The states to which action `a` goes from state `b` in environment state `e`, rising.
+    pub fn out(&self, b: u8, e: u8, a: u8) -> &[u8]
+        requires state { b < self.now.beh.states }
+        requires env_state { e < self.now.env_states }
+        requires action { a < self.now.actions }
+        ensures next { result.now ≡ beh_next self.now.beh b e a }
+        ensures below { All (λ to. to < self.now.beh.states) result.now }
+    {
+        self.automaton.next(b, e, a)
+    }
+
+    /// The states from which action `a` goes to state `b2` in environment state `e`, rising.
+    pub fn into(&self, b2: u8, e: u8, a: u8) -> &[u8]
+        requires state { b2 < self.now.beh.states }
+        requires env_state { e < self.now.env_states }
+        requires action { a < self.now.actions }
+        ensures prev { result.now ≡ beh_prev self.now.beh b2 e a }
+        ensures below { All (λ from. from < self.now.beh.states) result.now }
+    {
+        self.automaton.prev(b2, e, a)
+    }
+}

@@ -1,0 +1,130 @@
+//! Environments.
+ghost use Rattle.std.specs.Prelude.{◌≡◌, ℕ, ◌<◌, ◌≤◌, length, All, IfOk};
+ghost use Rattle.roman_model.specs.System.{IsEnv, env_next, env_prev};
+ghost use Rattle.roman_model.specs.Normal.{normal_env};
+ghost use Rattle.roman_parts.specs.Listed.{listed_env, AreTriples};
+
+use crate::masks::{next_masks, prev_masks};
+use crate::rows::Rows;
+use roman_model::{MAX_ACTIONS, MAX_STATES};
+use roman_read::NameTable;
+use std::alloc::{AllocError, Global};
+use std::marker::Model;
+
+/// An environment: finite sets of states and actions, a start state and steps (e, a, e'). An action
+/// may lead from a state to several states, or to none. Contracts see its names, and its record in
+/// normal form.
+#[derive(Drop)]
+pub struct Environment {
+    states: NameTable,
+    actions: NameTable,
+    start: u8,
+    // The rows of state e and action a: to which states it leads, and from which it leads to e.
+    next: Rows,
+    prev: Rows,
+}
+
+impl Model for Environment {
+    ghost use Rattle.std.specs.Prelude.{length};
+    ghost use Rattle.roman_parts.specs.Named.{NamedEnv};
+    ghost use Rattle.roman_parts.specs.Tables.{row_triples, HasRows};
+
+    ghost Value = { NamedEnv };
+
+    ghost view = { λ s. record {
+        states = s.states;
+        actions = s.actions;
+        env = record {
+            states = length s.states;
+            actions = length s.actions;
+            start = s.start;
+            triples = row_triples (length s.states) (length s.actions) s.next;
+        };
+    } };
+
+    ghost invariant = { λ s. HasRows (record {
+        states = length s.states;
+        actions = length s.actions;
+        start = s.start;
+        triples = row_triples (length s.states) (length s.actions) s.next;
+    }) s.next s.prev };
+}
+
+impl Environment {
+    /// The environment with these names, start state and steps (e, a, e'). Steps may repeat.
+    pub fn from_lists(
+        alloc: Global,
+        states: NameTable,
+        actions: NameTable,
+        start: u8,
+        steps: &[(u8, u8, u8)],
+    ) -> Result<Environment, AllocError>
+        requires states { (0 < length states) × (length states ≤ MAX_STATES) }
+        requires actions { (0 < length actions) × (length actions ≤ MAX_ACTIONS) }
+        requires start { start < length states }
+        requires steps { AreTriples (length states) (length actions) steps.now }
+        ensures names { IfOk result (λ made. (made.states ≡ states) × (made.actions ≡ actions)) }
+        ensures normal { IfOk result
+            (λ made. made.env ≡ normal_env (listed_env (length states) (length actions) start steps.now)) }
+    {
+        let height = states.len() as usize;
+        let width = actions.len() as usize;
+        let next = Rows::of_masks(alloc, &next_masks(alloc, height, width, steps)?)?;
+        let prev = Rows::of_masks(alloc, &prev_masks(alloc, height, width, steps)?)?;
+        Ok(Environment {
+            states,
+            actions,
+            start,
+            next,
+            prev,
+        })
+    }
+
+    /// The names of the states, by number.
+    pub fn states(&self) -> &NameTable
+        ensures names { result.now ≡ self.now.states }
+        ensures count { length self.now.states ≡ self.now.env.states }
+        ensures known { IsEnv self.now.env }
+    {
+        &self.states
+    }
+
+    /// The names of the actions, by number.
+    pub fn actions(&self) -> &NameTable
+        ensures names { result.now ≡ self.now.actions }
+        ensures count { length self.now.actions ≡ self.now.env.actions }
+        ensures known { IsEnv self.now.env }
+    {
+        &self.actions
+    }
+
+    /// The start state.
+    pub fn start(&self) -> u8
+        ensures start { result ≡ self.now.env.start }
+        ensures within { result < self.now.env.states }
+    {
+        self.start
+    }
+
+    /// The states to which action `a` leads from state `e`, rising.
+    pub fn next(&self, e: u8, a: u8) -> &[u8]
+        requires state { e < self.now.env.states }
+        requires action { a < self.now.env.actions }
+        ensures next { result.now ≡ env_next self.now.env e a }
+        ensures below { All (λ to. to < self.now.env.states) result.now }
+    {
+        let width = self.actions.len() as usize;
+        self.next.row(e as usize * width + a as usize)
+    }
+
+    /// The states from which action `a` leads to state `e`, rising.
+    pub fn prev(&self, e: u8, a: u8) -> &[u8]
+        requires state { e < self.now.env.states }
+        requires action { a < self.now.env.actions }
+        ensures prev { result.now ≡ env_prev self.now.env e a }
+        ensures below { All (λ from. from < self.now.env.states) result.now }
+    {
+        let width = self.actions.len() as usize;
+        self.prev.row(e as usize * width + a as usize)
+    }
+}

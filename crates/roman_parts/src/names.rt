@@ -1,0 +1,90 @@
+//! Lists of names, and names of a list.
+ghost use Rattle.std.specs.Prelude.{◌≡◌, ◌+◌, ◌-◌, ◌^◌, ◌<◌, ◌≤◌, length, IfOk, OnOk};
+ghost use Rattle.serde_json.specs.View.{view};
+ghost use Rattle.roman_parts.specs.Reading.{Gives};
+ghost use Rattle.roman_parts.specs.Lists.{name_step, names_of, place_in, start_of};
+
+use crate::error::{List, PartError};
+use crate::reading::{counted_member, missed, refused};
+use roman_read::{AddError, Kind, Name, NameTable, member, text};
+use serde_json::Value;
+use std::alloc::Global;
+
+#[tactic(auto, using(roman_read::proofs::Each::each), unfolding(crate::specs::Lists::names_of))]
+/// The names of a member that is a list of 1 to `most` names.
+pub(crate) fn read_names(
+    alloc: Global,
+    v: &Value,
+    key: &str,
+    place: List,
+    most: u32,
+) -> Result<NameTable, PartError>
+    requires { most ≤ 64 }
+    ensures names { Gives (λ x. x) result (names_of place key.now most (view v.now)) }
+    ensures some { IfOk result (λ names. 0 < length names) }
+    ensures few { IfOk result (λ names. length names ≤ most) }
+{
+    let items = counted_member(v, key, place, 1, most)?;
+    let mut names = NameTable::new(alloc);
+    for (i, item) in items.iter().enumerate() {
+        add_name(&mut names, item, place, i as u32)?;
+    }
+    Ok(names)
+}
+
+#[tactic(auto, unfolding(crate::specs::Lists::name_step))]
+// Adds the next name of a list.
+fn add_name(names: &mut NameTable, item: &Value, place: List, index: u32) -> Result<(), PartError>
+    requires { length names.old < 2 ^ 32 - 1 }
+    ensures step { Gives (λ _. names.new) result (name_step place index names.old (view item.now)) }
+    ensures longer { OnOk result (length names.new ≡ length names.old + 1) }
+{
+    let text = match text(item) {
+        Ok(text) => text,
+        Err(miss) => return Err(missed(miss, place, index)),
+    };
+    let name = match Name::new(text.as_bytes()) {
+        Some(name) => name,
+        None => return Err(refused(Kind::BadName, place, index)),
+    };
+    match names.add(name) {
+        Ok(_) => Ok(()),
+        Err(AddError::Repeated(_)) => Err(refused(Kind::Repeated, place, index)),
+        Err(AddError::Memory) => Err(PartError::Memory),
+    }
+}
+
+#[tactic(auto, unfolding(crate::specs::Lists::place_in))]
+/// The place of the name that a value is.
+pub(crate) fn place_in(
+    names: &NameTable,
+    v: &Value,
+    place: List,
+    index: u32,
+) -> Result<u8, PartError>
+    requires { length names.now ≤ 64 }
+    ensures place { Gives (λ x. x) result (place_in names.now place index (view v.now)) }
+    ensures within { IfOk result (λ found. found < length names.now) }
+{
+    let text = match text(v) {
+        Ok(text) => text,
+        Err(miss) => return Err(missed(miss, place, index)),
+    };
+    match names.find(text.as_bytes()) {
+        Some(found) => Ok(found as u8),
+        None => Err(refused(Kind::Unknown, place, index)),
+    }
+}
+
+#[tactic(auto, unfolding(crate::specs::Lists::start_of))]
+/// The start state.
+pub(crate) fn read_start(states: &NameTable, v: &Value) -> Result<u8, PartError>
+    requires { length states.now ≤ 64 }
+    ensures start { Gives (λ x. x) result (start_of states.now (view v.now)) }
+    ensures within { IfOk result (λ start. start < length states.now) }
+{
+    match member(v, "start") {
+        Ok(start) => place_in(states, start, List::Start, 0),
+        Err(miss) => Err(missed(miss, List::Start, 0)),
+    }
+}

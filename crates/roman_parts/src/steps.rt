@@ -1,0 +1,115 @@
+//! Transitions.
+ghost use Rattle.std.specs.Prelude.{◌≡◌, ◌<◌, ◌≤◌, IfOk, length, map, option_map};
+ghost use Rattle.serde_json.specs.View.{view, items_view};
+ghost use Rattle.roman_guard.specs.Meaning.{states_of};
+ghost use Rattle.roman_parts.specs.Listed.{triple_of, move_of, AreTriples, AreMoves};
+ghost use Rattle.roman_parts.specs.Reading.{Gives};
+ghost use Rattle.roman_parts.specs.Steps.{triple_item, triples_of, move_item, moves_of};
+
+use crate::error::{List, PartError};
+use crate::guards::read_states;
+use crate::names::place_in;
+use crate::reading::{counted_member, list_at, refused};
+use roman_guard::StateSet;
+use roman_model::MAX_STEPS;
+use roman_read::{Kind, NameTable};
+use serde_json::Value;
+use std::alloc::Global;
+
+#[tactic(auto, using(crate::proofs::StepLemmas::step_lists), unfolding(crate::specs::Steps::triples_of))]
+/// The transitions of an environment.
+pub(crate) fn read_triples(
+    alloc: Global,
+    states: &NameTable,
+    actions: &NameTable,
+    v: &Value,
+) -> Result<Vec<(u8, u8, u8)>, PartError>
+    requires states { length states.now ≤ 64 }
+    requires actions { length actions.now ≤ 64 }
+    ensures steps { Gives (λ steps. map triple_of steps.items) result
+        (triples_of states.now actions.now (view v.now)) }
+    ensures within { IfOk result
+        (λ steps. AreTriples (length states.now) (length actions.now) steps.items) }
+{
+    let items = counted_member(v, "steps", List::Steps, 0, MAX_STEPS)?;
+    let mut steps = Vec::with_capacity(alloc, items.len())?;
+    for (i, item) in items.iter().enumerate() {
+        steps.push(read_triple(states, actions, item, i as u32)?)?;
+    }
+    Ok(steps)
+}
+
+#[tactic(auto, using(crate::proofs::StepLemmas::items), unfolding(crate::specs::Steps::triple_item))]
+// One transition of an environment.
+fn read_triple(
+    states: &NameTable,
+    actions: &NameTable,
+    v: &Value,
+    index: u32,
+) -> Result<(u8, u8, u8), PartError>
+    requires states { length states.now ≤ 64 }
+    requires actions { length actions.now ≤ 64 }
+    ensures step { Gives triple_of result (triple_item states.now actions.now index (view v.now)) }
+    ensures within { IfOk result (λ t. (t.0 < length states.now) × (t.1 < length actions.now) × (t.2 < length states.now)) }
+{
+    let items = list_at(v, List::Steps, index)?;
+    let [from, action, to] = items else {
+        return Err(refused(Kind::Form, List::Steps, index));
+    };
+    let from = place_in(states, from, List::Steps, index)?;
+    let action = place_in(actions, action, List::Steps, index)?;
+    let to = place_in(states, to, List::Steps, index)?;
+    Ok((from, action, to))
+}
+
+#[tactic(auto, using(crate::proofs::StepLemmas::step_lists), unfolding(crate::specs::Steps::moves_of))]
+/// The transitions of a behaviour.
+pub(crate) fn read_moves(
+    alloc: Global,
+    env_states: &NameTable,
+    actions: &NameTable,
+    states: &NameTable,
+    v: &Value,
+) -> Result<Vec<(u8, StateSet, u8, u8)>, PartError>
+    requires env_states { length env_states.now ≤ 64 }
+    requires actions { length actions.now ≤ 64 }
+    requires states { length states.now ≤ 64 }
+    ensures steps { Gives (λ steps. map move_of steps.items) result
+        (moves_of env_states.now actions.now states.now (view v.now)) }
+    ensures within { IfOk result
+        (λ steps. AreMoves (length states.now) (length actions.now) steps.items) }
+{
+    let items = counted_member(v, "steps", List::Steps, 0, MAX_STEPS)?;
+    let mut steps = Vec::with_capacity(alloc, items.len())?;
+    for (i, item) in items.iter().enumerate() {
+        steps.push(read_move(alloc, env_states, actions, states, item, i as u32)?)?;
+    }
+    Ok(steps)
+}
+
+#[tactic(auto, using(crate::proofs::StepLemmas::items), unfolding(crate::specs::Steps::move_item))]
+// One transition of a behaviour.
+fn read_move(
+    alloc: Global,
+    env_states: &NameTable,
+    actions: &NameTable,
+    states: &NameTable,
+    v: &Value,
+    index: u32,
+) -> Result<(u8, StateSet, u8, u8), PartError>
+    requires env_states { length env_states.now ≤ 64 }
+    requires actions { length actions.now ≤ 64 }
+    requires states { length states.now ≤ 64 }
+    ensures step { Gives move_of result (move_item env_states.now actions.now states.now index (view v.now)) }
+    ensures within { IfOk result (λ m. (m.0 < length states.now) × (m.2 < length actions.now) × (m.3 < length states.now)) }
+{
+    let items = list_at(v, List::Steps, index)?;
+    let [from, guard, action, to] = items else {
+        return Err(refused(Kind::Form, List::Steps, index));
+    };
+    let from = place_in(states, from, List::Steps, index)?;
+    let guard = read_states(alloc, env_states, guard, index)?;
+    let action = place_in(actions, action, List::Steps, index)?;
+    let to = place_in(states, to, List::Steps, index)?;
+    Ok((from, guard, action, to))
+}

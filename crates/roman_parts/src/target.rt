@@ -1,0 +1,136 @@
+//! Targets.
+ghost use Rattle.std.specs.Prelude.{◌≡◌, ℕ, ◌<◌, ◌≤◌, ◌&&◌, ◌∷◌, [], not, length, All, IfOk, IfSome, MatchOption};
+ghost use Rattle.roman_model.specs.Lists.{is_empty};
+ghost use Rattle.roman_model.specs.System.{IsDeterministic, env_next, beh_next, beh_prev, is_final};
+ghost use Rattle.roman_model.specs.Normal.{normal_beh};
+ghost use Rattle.roman_parts.specs.Listed.{listed_beh, AreMoves};
+ghost use Rattle.roman_parts.specs.Named.{IsOver};
+
+use crate::automaton::Automaton;
+use crate::environment::Environment;
+use crate::masks::Cells;
+use roman_guard::StateSet;
+use roman_model::MAX_STATES;
+use roman_read::NameTable;
+use std::alloc::{AllocError, Global};
+use std::marker::Model;
+
+/// A target over an environment: a behaviour that goes to at most one state from any state, by any
+/// action, in any environment state. Contracts see the names of its states, its record in normal
+/// form, and how many states and actions its environment has.
+#[derive(Drop)]
+pub struct Target {
+    states: NameTable,
+    automaton: Automaton,
+}
+
+impl Model for Target {
+    ghost use Rattle.roman_parts.specs.Named.{NamedTarget};
+    ghost use Rattle.roman_parts.specs.Tables.{IsNamedTarget};
+
+    ghost Value = { NamedTarget };
+
+    ghost view = { λ s. record {
+        states = s.states;
+        env_states = s.automaton.env_states;
+        actions = s.automaton.actions;
+        beh = s.automaton.beh;
+    } };
+
+    ghost invariant = { λ s. IsNamedTarget s.states s.automaton };
+}
+
+impl Target {
+    /// The target over `env` with these names, start state, final states and steps (t, G, a, t').
+    /// Final states and steps may repeat.
+    pub fn from_lists(
+        alloc: Global,
+        states: NameTable,
+        start: u8,
+        finals: &[u8],
+        steps: &[(u8, StateSet, u8, u8)],
+        env: &Environment,
+    ) -> Result<Target, AllocError>
+        requires states { (0 < length states) × (length states ≤ MAX_STATES) }
+        requires start { start < length states }
+        requires finals { All (λ t. t < length states) finals.now }
+        requires steps { AreMoves (length states) env.now.env.actions steps.now }
+        requires single { IsDeterministic
+            (normal_beh env.now.env.states env.now.env.actions (listed_beh (length states) start finals.now steps.now)) }
+        ensures names { IfOk result (λ made. made.states ≡ states) }
+        ensures over { IfOk result
+            (λ made. (made.env_states ≡ env.now.env.states) × (made.actions ≡ env.now.env.actions)) }
+        ensures normal { IfOk result (λ made. made.beh
+            ≡ normal_beh env.now.env.states env.now.env.actions (listed_beh (length states) start finals.now steps.now)) }
+    {
+        let cells = Cells::over(&states, env);
+        let automaton = Automaton::from_lists(alloc, cells, start, finals, steps)?;
+        Ok(Target { states, automaton })
+    }
+
+    /// The names of the states, by number.
+    pub fn states(&self) -> &NameTable
+        ensures names { result.now ≡ self.now.states }
+        ensures count { length self.now.states ≡ self.now.beh.states }
+        ensures known { IsOver self.now.env_states self.now.actions self.now.beh }
+        ensures single { IsDeterministic self.now.beh }
+    {
+        &self.states
+    }
+
+    /// The start state.
+    pub fn start(&self) -> u8
+        ensures start { result ≡ self.now.beh.start }
+        ensures within { result < self.now.beh.states }
+    {
+        self.automaton.start()
+    }
+
+    /// Whether `t` is a final state.
+    pub fn is_final(&self, t: u8) -> bool
+        requires { t < self.now.beh.states }
+        ensures { result ≡ is_final self.now.beh t }
+    {
+        self.automaton.is_final(t)
+    }
+
+    /// The state to which action `a` goes from state `t` in environment state `e`, if it goes to one.
+    pub fn step(&self, t: u8, e: u8, a: u8) -> Option<u8>
+        requires state { t < self.now.beh.states }
+        requires env_state { e < self.now.env_states }
+        requires action { a < self.now.actions }
+        ensures next { MatchOption result
+            (beh_next self.now.beh t e a ≡ []) (λ to. beh_next self.now.beh t e a ≡ to ∷ []) }
+        ensures below { IfSome result (λ to. to < self.now.beh.states) }
+    {
+        let _states = &self.states;
+        self.automaton.next(t, e, a).first().copied()
+    }
+
+    /// The states from which action `a` goes to state `t2` in environment state `e`, rising.
+    pub fn into(&self, t2: u8, e: u8, a: u8) -> &[u8]
+        requires state { t2 < self.now.beh.states }
+        requires env_state { e < self.now.env_states }
+        requires action { a < self.now.actions }
+        ensures prev { result.now ≡ beh_prev self.now.beh t2 e a }
+        ensures below { All (λ from. from < self.now.beh.states) result.now }
+    {
+        self.automaton.prev(t2, e, a)
+    }
+
+    /// Whether the target allows action `a` in its state `t` and the state `e` of its environment
+    /// `env`: both go somewhere by it.
+    pub fn allows(&self, env: &Environment, t: u8, e: u8, a: u8) -> bool
+        requires env_states { env.now.env.states ≡ self.now.env_states }
+        requires actions { env.now.env.actions ≡ self.now.actions }
+        requires state { t < self.now.beh.states }
+        requires env_state { e < self.now.env_states }
+        requires action { a < self.now.actions }
+        ensures { result
+            ≡ (not (is_empty (env_next env.now.env e a)) && not (is_empty (beh_next self.now.beh t e a))) }
+    {
+        let ends = env.next(e, a).is_empty();
+        let stops = self.automaton.next(t, e, a).is_empty();
+        !ends && !stops
+    }
+}
