@@ -1,6 +1,14 @@
 //! System documents on a shelf.
 #![tactic(auto)]
 
+mod file_name;
+mod header;
+mod library;
+mod looks;
+mod refusal;
 mod text;
 
+pub use file_name::FileName;
+pub use library::{Library, Service};
+pub use refusal::{LoadError, Part, Refusal};
 pub use text::{DocError, document};
