@@ -41,3 +41,21 @@ IsCause old new error.Memory = new ≡ old
 abbrev pub CausesLoad : {T : Type 0} → ℕ → ℕ → Result T LoadError → Type 0
 CausesLoad old new (Ok x) = new ≡ old
 CausesLoad old new (Err e) = IsCause old new e
+
+-- the error is the refusal in its place, unless memory runs out
+abbrev pub IsRefusal : Refusal → LoadError → Type 0
+IsRefusal refusal error.Fault = ⊥
+IsRefusal refusal (error.Refused given) = given ≡ refusal
+IsRefusal refusal error.Memory = Unit {0}
+
+-- a part's error in its place
+abbrev pub PlacesError : List ℕ → Part → PartError → LoadError → Type 0
+PlacesError document part (part_error.Refused kind list index) given = IsRefusal (refusal_of document part (part_error.Refused kind list index)) given
+PlacesError document part part_error.Memory given = given ≡ error.Memory
+
+-- what was read stays, and an error is put in its place
+abbrev pub Places : {X : Type 0} → List ℕ → Part → Result X PartError → Result X LoadError → Type 0
+Places document part (Ok x) (Ok y) = y ≡ x
+Places document part (Ok x) (Err given) = ⊥
+Places document part (Err e) (Ok y) = ⊥
+Places document part (Err e) (Err given) = PlacesError document part e given

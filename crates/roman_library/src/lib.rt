@@ -5,7 +5,11 @@ mod file_name;
 mod header;
 mod library;
 mod looks;
+mod names;
+mod part_file;
+mod placing;
 mod refusal;
+mod services;
 mod text;
 
 pub use file_name::FileName;
