@@ -6,3 +6,5 @@ mod TableLemmas
 mod ReadingLemmas
 mod GuardLemmas
 mod StepLemmas
+mod ChoiceLemmas
+mod SingleLemmas

@@ -88,7 +88,7 @@ from_normal_steps env_states actions beh m i =
     λ e ie. let (it, step) = filter_in (λ e. has_move beh b e a b') e (below env_states) ie in (from_below env_states e it, step))
 
 -- the test of a step, by its parts
-move_test : (m : Move) (b e a b' : ℕ) → IsTrue (m.from == b && m.action == a && has m.guard e && m.to == b') →
+pub move_test : (m : Move) (b e a b' : ℕ) → IsTrue (m.from == b && m.action == a && has m.guard e && m.to == b') →
     (m.from ≡ b) × (m.action ≡ a) × IsIn e m.guard × (m.to ≡ b')
 move_test m b e a b' t =
     let (front, to) = and_parts (m.from == b && m.action == a && has m.guard e) (m.to == b') t in

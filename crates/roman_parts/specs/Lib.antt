@@ -7,3 +7,5 @@ pub mod Reading
 pub mod Lists
 pub mod Guards
 pub mod Steps
+pub mod Choices
+pub mod Parts

@@ -1,5 +1,5 @@
 //! Guards.
-ghost use Rattle.std.specs.Prelude.{◌≡◌, ◌≤◌, length, map, option_map, []};
+ghost use Rattle.std.specs.Prelude.{◌≡◌, ◌^◌, ◌<◌, ◌≤◌, IfOk, length, map, option_map, []};
 ghost use Rattle.serde_json.specs.View.{view, items_view};
 ghost use Rattle.roman_guard.specs.Meaning.{holds, states_of};
 ghost use Rattle.roman_read.specs.Items.{each_item, pushing};
@@ -23,7 +23,8 @@ pub(crate) fn read_states(
     index: u32,
 ) -> Result<StateSet, PartError>
     requires { length states.now ≤ 64 }
-    ensures { Gives states_of result (guarded_states states.now index (view v.now)) }
+    ensures states { Gives states_of result (guarded_states states.now index (view v.now)) }
+    ensures below { IfOk result (λ set. set < 2 ^ length states.now) }
 {
     let guard = read_guard(alloc, states, v, index)?;
     Ok(compile(&guard, states.len() as u8))

@@ -3,12 +3,14 @@
 
 mod automaton;
 mod behaviour;
+mod choice;
 mod environment;
 mod error;
 mod finals;
 mod guards;
 mod masks;
 mod names;
+mod parts;
 mod reading;
 mod rows;
 mod steps;
@@ -17,4 +19,6 @@ mod target;
 pub use behaviour::Behaviour;
 pub use environment::Environment;
 pub use error::{List, PartError};
+pub use parts::{read_behaviour, read_environment, read_target};
+pub use roman_read::{Kind, Name, NameTable};
 pub use target::Target;

@@ -1,5 +1,5 @@
 //! Transitions.
-ghost use Rattle.std.specs.Prelude.{◌≡◌, ◌<◌, ◌≤◌, IfOk, length, map, option_map};
+ghost use Rattle.std.specs.Prelude.{◌≡◌, ◌^◌, ◌<◌, ◌≤◌, All, IfOk, length, map};
 ghost use Rattle.serde_json.specs.View.{view, items_view};
 ghost use Rattle.roman_guard.specs.Meaning.{states_of};
 ghost use Rattle.roman_parts.specs.Listed.{triple_of, move_of, AreTriples, AreMoves};
@@ -78,6 +78,9 @@ pub(crate) fn read_moves(
         (moves_of env_states.now actions.now states.now (view v.now)) }
     ensures within { IfOk result
         (λ steps. AreMoves (length states.now) (length actions.now) steps.items) }
+    ensures guards { IfOk result
+        (λ steps. All (λ m. m.1 < 2 ^ length env_states.now) steps.items) }
+    ensures few { IfOk result (λ steps. length steps.items ≤ MAX_STEPS) }
 {
     let items = counted_member(v, "steps", List::Steps, 0, MAX_STEPS)?;
     let mut steps = Vec::with_capacity(alloc, items.len())?;
@@ -102,6 +105,7 @@ fn read_move(
     requires states { length states.now ≤ 64 }
     ensures step { Gives move_of result (move_item env_states.now actions.now states.now index (view v.now)) }
     ensures within { IfOk result (λ m. (m.0 < length states.now) × (m.2 < length actions.now) × (m.3 < length states.now)) }
+    ensures guard { IfOk result (λ m. m.1 < 2 ^ length env_states.now) }
 {
     let items = list_at(v, List::Steps, index)?;
     let [from, guard, action, to] = items else {

@@ -1,5 +1,6 @@
--- The steps so far are in range, and what is left gives what all items give.
-use Rattle.std.proofs.Common.{[], length, map}
+-- The steps so far are in range and as many as the items so far, and what is left gives what all items give.
+use Rattle.std.proofs.Common.{◌≡◌, ◌<◌, ◌^◌, [], length, map}
+use Rattle.std.specs.List.{All}
 use Rattle.serde_json.specs.View.{items_view}
 use Rattle.roman_read.specs.Items.{each_item, pushing}
 use Rattle.roman_read.proofs.Each.{IsLeft}
@@ -9,7 +10,9 @@ use Rattle.roman_parts.proofs.steps.read_moves.Given as goal
 
 abbrev pub invariant-loop-i : goal.invariant-loop-i
 invariant-loop-i l = record {
+  count : length l.steps.items ≡ l.i;
   within : AreMoves (length l.states) (length l.actions) l.steps.items;
+  guards : All (λ m. m.1 < 2 ^ length l.env_states) l.steps.items;
   left : IsLeft (pushing (move_item l.env_states l.actions l.states)) l.items l.i (map move_of l.steps.items)
       (each_item (pushing (move_item l.env_states l.actions l.states)) 0 [] (items_view l.items));
 }

@@ -1,0 +1,105 @@
+-- Choices between steps, found pair by pair.
+use Rattle.std.proofs.Common.{◌≡◌, ℕ, zero, suc, ◌+◌, ◌<◌, ◌≤◌, ◌==◌, ◌&&◌, ◌^◌, not, List, [], ◌∷◌, length, get_or, take, map, filter, find, cond, All, Bool, true, false, Option, Some, None, is_some, option_map, IsTrue, IsFalse, refl, sym, ap, ◌∙◌, arith, slice_get, below_more, inl, inr}
+use Rattle.std.specs.List.{list_any, range_with_len}
+use Rattle.std.proofs.lemmas.Bool.{and_from, and_parts, cond-true, cond-false, eq-eqb, eqb-true, ne_eqb}
+use Rattle.std.proofs.lemmas.List.{get_or-map, get_or-take, length-map, length-take}
+use Rattle.std.proofs.lemmas.Option.{slice_get-get_or}
+use Rattle.roman_model.specs.Lists.{below}
+use Rattle.roman_model.specs.System.{Move, has}
+use Rattle.roman_model.proofs.Lists.{find_first, find_not_found, none_from, from_below}
+use Rattle.roman_guard.specs.Meaning.{has_state, has_both, states_of, states_below, least_below}
+use Rattle.roman_parts.specs.Listed.{move_of}
+use Rattle.roman_parts.specs.Choices.{first_below, choice_between, choice_at, choice_with, choice_of}
+use Rattle.roman_parts.proofs.TableLemmas.{has_states_of}
+
+-- ---- the least number at which something is given
+
+-- nothing is given at the numbers below k
+pub record NoneBelow {X : Type 0} (f : ℕ → Option X) (k : ℕ) : Type 0 where
+  pub none : (j : ℕ) → j < k → f j ≡ None
+
+module _ {X : Type 0} (f : ℕ → Option X) where
+  pub none_below_zero : NoneBelow f 0
+  none_below_zero = record { none = λ j h. absurd (omega arith) }
+
+  pub none_below_more : (k : ℕ) → f k ≡ None → NoneBelow f k → NoneBelow f (k + 1)
+  none_below_more k here before = record { none = below_more (λ j. f j ≡ None) k before.none here }
+
+  pub first_below-found : (n k : ℕ) (x : X) → k < n → f k ≡ Some x → NoneBelow f k → first_below f n ≡ Some (k, x)
+  unfolding first_below
+  first_below-found n k x h is before =
+      rw (find_first (λ j. is_some (f j)) n k h (ap is_some is) (λ j less. ap is_some (before.none j less)))
+      (ap (option_map (λ y. (k, y))) is)
+
+  pub first_below-none : (n k : ℕ) → n ≤ k → NoneBelow f k → first_below f n ≡ None
+  unfolding first_below
+  first_below-none n k h all =
+      rw (find_not_found (λ j. is_some (f j)) (below n) (none_from (λ j. is_some (f j)) (below n)
+      (λ j i. ap is_some (all.none j (let less : j < n = from_below n j i in omega arith)))))
+
+pub ruleset searching = (none_below_zero, none_below_more, first_below-found, first_below-none)
+
+-- ---- two steps
+
+find-filter : {X : Type 0} (p q : X → Bool) (xs : List X) → find q (filter p xs) ≡ find (λ x. p x && q x) xs
+find-filter p q [] = refl
+find-filter p q (x ∷ xs) = step (p x) (find-filter p q xs)
+  where
+    step : (b : Bool) → find q (filter p xs) ≡ find (λ y. p y && q y) xs → find q (cond b (x ∷ filter p xs) (filter p xs)) ≡ cond (b && q x) (Some x) (find (λ y. p y && q y) xs)
+    step true e = ap (λ r. cond (q x) (Some x) r) e
+    step false e = e
+
+find_same : (p q : ℕ → Bool) (a m : ℕ) → ((e : ℕ) → a ≤ e → e < a + m → p e ≡ q e) → find p (range_with_len a m) ≡ find q (range_with_len a m)
+find_same p q a zero same = refl
+find_same p q a (suc m) same =
+    rw (same a (omega arith) (omega arith)) (ap (λ r. cond (q a) (Some a) r) (find_same p q (a + 1) m (λ e low high. same e (omega arith) (omega arith))))
+
+-- the first state of one guard that the other has is the least that both have
+common_first : (a b : ℕ) → find (has (states_of b)) (states_of a) ≡ least_below (has_both a b) 64
+unfolding states_below least_below
+common_first a b =
+    find-filter (has_state a) (has (states_of b)) (range_with_len 0 64)
+    ∙ find_same (λ e. has_state a e && has (states_of b) e) (has_both a b) 0 64 (λ e low high. ap (λ t. has_state a e && t) (has_states_of b e high))
+
+module _ (m n : ℕ × ℕ × ℕ × ℕ) where
+  pub between_steps : m.0 ≡ n.0 → m.2 ≡ n.2 → (m.3 ≡ n.3 → ⊥) → choice_between (Some (move_of m)) (Some (move_of n)) ≡ least_below (has_both m.1 n.1) 64
+  unfolding choice_between
+  between_steps from action to =
+      cond-true (m.0 == n.0 && m.2 == n.2 && not (m.3 == n.3)) _ None
+      (and_from (m.0 == n.0 && m.2 == n.2) (not (m.3 == n.3)) (and_from (m.0 == n.0) (m.2 == n.2) (eq-eqb m.0 n.0 from) (eq-eqb m.2 n.2 action)) (ap not (ne_eqb m.3 n.3 to)))
+      ∙ common_first m.1 n.1
+
+  pub other_from : (m.0 ≡ n.0 → ⊥) → choice_between (Some (move_of m)) (Some (move_of n)) ≡ None
+  unfolding choice_between
+  other_from h = rw (ne_eqb m.0 n.0 h)
+
+  pub other_action : m.0 ≡ n.0 → (m.2 ≡ n.2 → ⊥) → choice_between (Some (move_of m)) (Some (move_of n)) ≡ None
+  unfolding choice_between
+  other_action from h = rw (eq-eqb m.0 n.0 from, ne_eqb m.2 n.2 h)
+
+  pub same_to : m.0 ≡ n.0 → m.2 ≡ n.2 → m.3 ≡ n.3 → choice_between (Some (move_of m)) (Some (move_of n)) ≡ None
+  unfolding choice_between
+  same_to from action h = rw (eq-eqb m.0 n.0 from, eq-eqb m.2 n.2 action, eq-eqb m.3 n.3 h)
+
+pub ruleset pairs = (between_steps, other_from, other_action, same_to)
+
+-- ---- steps of a list
+
+move_at : (steps : List (ℕ × ℕ × ℕ × ℕ)) (k : ℕ) (d : ℕ × ℕ × ℕ × ℕ) → k < length steps → slice_get (map move_of steps) k ≡ Some (move_of (get_or steps k d))
+move_at steps k d h =
+    slice_get-get_or (map move_of steps) k (move_of d) (rw (length-map steps move_of) h) ∙ ap Some (get_or-map move_of steps k d (move_of d) h)
+
+pub choice_at-read : (steps : List (ℕ × ℕ × ℕ × ℕ)) (j i : ℕ) (m n : ℕ × ℕ × ℕ × ℕ) → j < length steps → i < length (take j steps) → m ≡ get_or steps j m
+    → n ≡ get_or (take j steps) i n → choice_at (map move_of steps) j i ≡ choice_between (Some (move_of m)) (Some (move_of n))
+unfolding choice_at
+choice_at-read steps j i m n h less is has =
+    let under : i < j = omega (arith, length-take j steps) in
+    rw (move_at steps j m h, move_at steps i n (omega arith), ← is, ← get_or-take j steps i n under, ← has)
+
+pub front_length : (steps : List (ℕ × ℕ × ℕ × ℕ)) (j : ℕ) → j < length steps → length (take j steps) ≡ j
+front_length steps j h = omega (arith, length-take j steps)
+
+pub moves_length : (steps : List (ℕ × ℕ × ℕ × ℕ)) → length (map move_of steps) ≡ length steps
+moves_length steps = length-map steps move_of
+
+pub ruleset choice_steps = (choice_at-read, front_length, moves_length)

@@ -1,0 +1,136 @@
+-- Steps without a choice are those of a target that goes to at most one state, and a choice has a state of both guards.
+use Rattle.std.proofs.Common.{◌≡◌, ℕ, ◌+◌, ◌<◌, ◌≤◌, ◌==◌, ◌&&◌, ◌^◌, ◌⊎◌, not, List, [], ◌∷◌, length, get_or, map, cond, find, All, Bool, true, false, Option, Some, None, is_some, option_map, IsTrue, IsFalse, refl, sym, ap, ◌∙◌, arith, slice_get, inl, inr, subst}
+use Rattle.std.specs.Int.{bit_at}
+use Rattle.std.specs.List.{list_any}
+use Rattle.std.specs.Option.{option_and_then}
+use Rattle.std.proofs.lemmas.Bool.{and_from, both_ways, cases_lt, cases_order, eq-eqb, eqb-true, true≢false}
+use Rattle.std.proofs.lemmas.List.{get_or-map, length-map}
+use Rattle.std.proofs.lemmas.Nat.Bits.{bit_at_above}
+use Rattle.std.proofs.lemmas.Option.{none-some, same_Some, slice_get-get_or}
+use Rattle.roman_model.specs.Lists.{IsIn, below}
+use Rattle.roman_model.specs.Normal.{normal_beh}
+use Rattle.roman_model.specs.System.{Move, has, has_move, IsDeterministic}
+use Rattle.roman_model.proofs.Lists.{any_from, any_true, by_test, find_found, find_least, find_some, in_below, in_contains}
+use Rattle.roman_guard.specs.Meaning.{has_state, states_of, states_below}
+use Rattle.roman_guard.proofs.StateLemmas.{states_below_are}
+use Rattle.roman_parts.specs.Listed.{move_of, listed_beh}
+use Rattle.roman_parts.specs.Choices.{first_below, choice_between, choice_at, choice_with, choice_of}
+use Rattle.roman_parts.proofs.NormalLemmas.{from_normal_move, move_test}
+
+-- ---- what the search for the first says
+
+-- where it finds something, that is given there
+found_at : {X : Type 0} (f : ℕ → Option X) (n k : ℕ) (x : X) → first_below f n ≡ Some (k, x) → (k < n) × (f k ≡ Some x)
+unfolding first_below
+found_at {X} f n k x h = by_place (find (λ j. is_some (f j)) (below n)) refl h
+  where
+    by_given : (j : ℕ) (o : Option X) → f j ≡ o → option_map {U = ℕ × X} (λ y. (j, y)) o ≡ Some (k, x) → (j ≡ k) × (f j ≡ Some x)
+    by_given j None e g = absurd (none-some (k, x) g)
+    by_given j (Some y) e g =
+        let same : ◌≡◌ {A = ℕ × X} (j, y) (k, x) = same_Some (j, y) (k, x) g in
+        (ap (λ (p : ℕ × X). p.0) same, e ∙ ap Some (ap (λ (p : ℕ × X). p.1) same))
+
+    by_place : (o : Option ℕ) → find (λ j. is_some (f j)) (below n) ≡ o → option_and_then (λ j. option_map {U = ℕ × X} (λ y. (j, y)) (f j)) o ≡ Some (k, x) → (k < n) × (f k ≡ Some x)
+    by_place None e g = absurd (none-some (k, x) g)
+    by_place (Some j) e g =
+        let (less, t, least) = find_least (λ i. is_some (f i)) n j e in
+        let (same, given) = by_given j (f j) refl g in
+        (subst (λ i. i < n) same less, subst (λ i. f i ≡ Some x) same given)
+
+-- where it finds nothing, nothing is given
+nothing_at : {X : Type 0} (f : ℕ → Option X) (n j : ℕ) → first_below f n ≡ None → j < n → f j ≡ None
+unfolding first_below
+nothing_at {X} f n j h less = by_given (f j) refl
+  where
+    by_place : (k : ℕ) (o : Option X) → f k ≡ o → is_some o ≡ true → option_map {U = ℕ × X} (λ y. (k, y)) o ≡ None → ⊥
+    by_place k None e t g = true≢false (sym t)
+    by_place k (Some y) e t g = none-some (k, y) (sym g)
+
+    by_given : (o : Option X) → f j ≡ o → f j ≡ None
+    by_given None e = e
+    by_given (Some y) e =
+        let (k, found) = find_found (λ i. is_some (f i)) (below n) (any_from (λ i. is_some (f i)) j (below n) (in_below n j less) (ap is_some e)) in
+        let (in', t, least) = find_least (λ i. is_some (f i)) n k found in
+        absurd (by_place k (f k) refl t (sym (ap (λ o. option_and_then (λ i. option_map {U = ℕ × X} (λ z. (i, z)) (f i)) o) found) ∙ h))
+
+-- ---- no choice
+
+-- two steps that go from one state by one action to different states, with a state in both guards, leave a choice
+no_choice : (m n : Move) (e : ℕ) → choice_between (Some m) (Some n) ≡ None → m.from ≡ n.from → m.action ≡ n.action → IsIn e m.guard → IsTrue (has n.guard e) → m.to ≡ n.to
+unfolding choice_between
+no_choice m n e none from action here there =
+    by_test (m.to == n.to) (λ t. eqb-true m.to n.to t)
+    (λ f.
+      let (x, found) = find_found (has n.guard) m.guard (any_from (has n.guard) e m.guard here there) in
+      let open' : IsTrue (m.from == n.from && m.action == n.action && not (m.to == n.to)) =
+      and_from (m.from == n.from && m.action == n.action) (not (m.to == n.to))
+      (and_from (m.from == n.from) (m.action == n.action) (eq-eqb m.from n.from from) (eq-eqb m.action n.action action)) (ap not f) in
+      absurd (none-some x (sym none ∙ ap (λ b. cond b (find (has n.guard) m.guard) None) open' ∙ found)))
+
+module _ (steps : List Move) (none : choice_of steps ≡ None) where
+  apart : (i j : ℕ) (m n : Move) → i < j → j < length steps → slice_get steps i ≡ Some m → slice_get steps j ≡ Some n → choice_between (Some n) (Some m) ≡ None
+  unfolding choice_of choice_with choice_at
+  apart i j m n less within at_i at_j =
+      let nothing : choice_at steps j i ≡ None = nothing_at (choice_at steps j) j i (nothing_at (choice_with steps) (length steps) j none within) less in
+      sym (ap (λ o. choice_between o (Some m)) at_j) ∙ sym (ap (λ o. choice_between (slice_get steps j) o) at_i) ∙ nothing
+
+  one_to : (b e a : ℕ) (m n : Move) (b1 b2 : ℕ) → IsIn m steps → IsIn n steps → IsTrue (m.from == b && m.action == a && has m.guard e && m.to == b1)
+      → IsTrue (n.from == b && n.action == a && has n.guard e && n.to == b2) → b1 ≡ b2
+  one_to b e a m n b1 b2 m_in n_in m_test n_test =
+      let (m_from, m_action, m_guard, m_to) = move_test m b e a b1 m_test in
+      let (n_from, n_action, n_guard, n_to) = move_test n b e a b2 n_test in
+      let (i, i_in, at_i) = in_contains steps m m_in in
+      let (j, j_in, at_j) = in_contains steps n n_in in
+      let get_i : slice_get steps i ≡ Some m = slice_get-get_or steps i m i_in ∙ ap Some at_i in
+      let get_j : slice_get steps j ≡ Some n = slice_get-get_or steps j n j_in ∙ ap Some at_j in
+      elim (cases_order i j) [
+        | inl same ↦ sym m_to ∙ ap (λ (x : Move). x.to) (same_Some m n (sym get_i ∙ ap (slice_get steps) same ∙ get_j)) ∙ n_to
+        | inr (inl before) ↦
+            sym m_to ∙ sym (no_choice n m e (apart i j m n before j_in get_i get_j) (n_from ∙ sym m_from) (n_action ∙ sym m_action) n_guard (any_from (λ s. s == e) e m.guard m_guard (eq-eqb e e refl))) ∙ n_to
+        | inr (inr after) ↦
+            sym m_to ∙ no_choice m n e (apart j i n m after i_in get_j get_i) (m_from ∙ sym n_from) (m_action ∙ sym n_action) m_guard (any_from (λ s. s == e) e n.guard n_guard (eq-eqb e e refl)) ∙ n_to
+      ]
+
+-- a target whose steps leave no choice goes to at most one state
+pub single_steps : (env_states actions states start : ℕ) (finals : List ℕ) (steps : List (ℕ × ℕ × ℕ × ℕ)) → choice_of (map move_of steps) ≡ None
+    → IsDeterministic (normal_beh env_states actions (listed_beh states start finals steps))
+single_steps env_states actions states start finals steps none b e a b1 b2 h1 h2 =
+    let own1 = (from_normal_move env_states actions (listed_beh states start finals steps) b e a b1 h1).4 in
+    let own2 = (from_normal_move env_states actions (listed_beh states start finals steps) b e a b2 h2).4 in
+    let (m, m_in, m_test) = any_true (λ x. x.from == b && x.action == a && has x.guard e && x.to == b1) (map move_of steps) own1 in
+    let (n, n_in, n_test) = any_true (λ x. x.from == b && x.action == a && has x.guard e && x.to == b2) (map move_of steps) own2 in
+    one_to (map move_of steps) none b e a m n b1 b2 m_in n_in m_test n_test
+
+-- ---- a choice
+
+guard_has : (m : Move) (o : Option Move) (e : ℕ) → choice_between (Some m) o ≡ Some e → IsIn e m.guard
+unfolding choice_between
+guard_has m None e h = absurd (none-some e h)
+guard_has m (Some n) e h = by_open (m.from == n.from && m.action == n.action && not (m.to == n.to)) h
+  where
+    by_open : (b : Bool) → cond b (find (has n.guard) m.guard) None ≡ Some e → IsIn e m.guard
+    by_open true g = (find_some (has n.guard) m.guard e g).0
+    by_open false g = absurd (none-some e g)
+
+state_below : (word n e : ℕ) → word < 2 ^ n → IsIn e (states_of word) → e < n
+state_below word n e fits i =
+    let (small, has) = states_below_are (has_state word) 64 e (in_contains (states_of word) e i) in
+    elim (cases_lt e n) [
+      | inl less ↦ less
+      | inr past ↦ absurd (true≢false (sym has ∙ ap (λ b. b == 1) (bit_at_above word n e fits past)))
+    ]
+
+-- a choice is between two steps of the list, in a state below the bound of their guards
+pub choice_within : (steps : List (ℕ × ℕ × ℕ × ℕ)) (n j i e : ℕ) → All (λ m. m.1 < 2 ^ n) steps → choice_of (map move_of steps) ≡ Some (j, (i, e))
+    → (j < length steps) × (i < j) × (e < n)
+unfolding choice_of choice_with choice_at
+choice_within steps n j i e bound h =
+    let (j_in, with_j) = found_at (choice_with (map move_of steps)) (length (map move_of steps)) j (i, e) h in
+    let (less, at) = found_at (choice_at (map move_of steps) j) j i e with_j in
+    let within : j < length steps = omega (arith, j_in, length-map steps move_of) in
+    let d : ℕ × ℕ × ℕ × ℕ = (0, 0, 0, 0) in
+    let get : slice_get (map move_of steps) j ≡ Some (move_of (get_or steps j d)) =
+    slice_get-get_or (map move_of steps) j (move_of d) j_in ∙ ap Some (get_or-map move_of steps j d (move_of d) within) in
+    let in_guard : IsIn e (states_of (get_or steps j d).1) =
+    guard_has (move_of (get_or steps j d)) (slice_get (map move_of steps) i) e (sym (ap (λ o. choice_between o (slice_get (map move_of steps) i)) get) ∙ at) in
+    (within, less, state_below (get_or steps j d).1 n e (bound j d within) in_guard)

@@ -1,0 +1,9 @@
+-- Step j leaves no choice with the steps so far.
+use Rattle.std.proofs.Common.{map}
+use Rattle.roman_parts.specs.Listed.{move_of}
+use Rattle.roman_parts.specs.Choices.{choice_at}
+use Rattle.roman_parts.proofs.ChoiceLemmas.{NoneBelow}
+use Rattle.roman_parts.proofs.choice.choice_with.Given as goal
+
+abbrev pub invariant-loop-i : goal.invariant-loop-i
+invariant-loop-i l = NoneBelow (choice_at (map move_of l.steps) l.j) l.i

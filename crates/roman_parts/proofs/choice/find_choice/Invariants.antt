@@ -1,0 +1,9 @@
+-- None of the steps so far leaves a choice with an earlier one.
+use Rattle.std.proofs.Common.{map}
+use Rattle.roman_parts.specs.Listed.{move_of}
+use Rattle.roman_parts.specs.Choices.{choice_with}
+use Rattle.roman_parts.proofs.ChoiceLemmas.{NoneBelow}
+use Rattle.roman_parts.proofs.choice.find_choice.Given as goal
+
+abbrev pub invariant-loop-j : goal.invariant-loop-j
+invariant-loop-j l = NoneBelow (choice_with (map move_of l.steps)) l.j

@@ -1,0 +1,13 @@
+-- The next step goes last, in range.
+use Rattle.std.proofs.Common.{arith}
+use Rattle.std.proofs.lemmas.Grind.{common_steps}
+use Rattle.roman_parts.proofs.StepLemmas.{step_lists}
+use Rattle.roman_parts.proofs.steps.read_moves.Goals as goal
+
+pub loop-i-preserved : goal.loop-i-preserved
+loop-i-preserved c = record {
+  count = grind (arith, common_steps);
+  within = grind (arith, common_steps);
+  guards = grind (arith, common_steps);
+  left = grind (arith, step_lists);
+}

@@ -1,0 +1,83 @@
+//! Choices between transitions.
+ghost use Rattle.std.specs.Prelude.{◌≡◌, ◌^◌, ◌<◌, ◌≤◌, All, None, OnOk, Some, length, map};
+ghost use Rattle.roman_parts.specs.Listed.{move_of};
+ghost use Rattle.roman_parts.specs.Reading.{Gives};
+ghost use Rattle.roman_parts.specs.Choices.{choice_between, choice_at, choice_with, choice_of, single_of};
+
+use crate::error::{List, PartError};
+use crate::reading::refused;
+use roman_guard::StateSet;
+use roman_model::MAX_STEPS;
+use roman_read::{Kind, NameTable};
+
+#[tactic(auto, using(crate::proofs::SingleLemmas::choice_within), unfolding(crate::specs::Choices::single_of))]
+/// Refuses a choice: the first transition that leaves one with an earlier one, with the first such
+/// and the least environment state in which they do. It takes no memory.
+pub(crate) fn check_single(
+    env_states: &NameTable,
+    steps: &[(u8, StateSet, u8, u8)],
+) -> Result<(), PartError>
+    requires few { length steps.now ≤ MAX_STEPS }
+    requires guards { All (λ m. m.1 < 2 ^ length env_states.now) steps.now }
+    ensures single { Gives (λ _. map move_of steps.now) result
+        (single_of env_states.now (map move_of steps.now)) }
+    ensures none { OnOk result (choice_of (map move_of steps.now) ≡ None) }
+{
+    match find_choice(steps) {
+        None => Ok(()),
+        Some((j, (i, state))) => {
+            let kind = Kind::Choice {
+                first: i as u32,
+                state: *env_states.at(state as u32),
+            };
+            Err(refused(kind, List::Steps, j as u32))
+        }
+    }
+}
+
+#[tactic(auto, using(crate::proofs::ChoiceLemmas::searching, crate::proofs::ChoiceLemmas::choice_steps), unfolding(crate::specs::Choices::choice_of))]
+// The first transition that leaves a choice with an earlier one, the first such, and the least
+// environment state in which they do.
+fn find_choice(steps: &[(u8, StateSet, u8, u8)]) -> Option<(usize, (usize, u8))>
+    ensures { result ≡ choice_of (map move_of steps.now) }
+{
+    for j in 0..steps.len() {
+        if let Some(earlier) = choice_with(steps, j) {
+            return Some((j, earlier));
+        }
+    }
+    None
+}
+
+#[tactic(auto, using(crate::proofs::ChoiceLemmas::searching, crate::proofs::ChoiceLemmas::choice_steps), unfolding(crate::specs::Choices::choice_with))]
+// The first transition before number `j` with which it leaves a choice, and the least environment
+// state in which it does.
+fn choice_with(steps: &[(u8, StateSet, u8, u8)], j: usize) -> Option<(usize, u8)>
+    requires { j < length steps.now }
+    ensures { result ≡ choice_with (map move_of steps.now) j }
+{
+    let step = &steps[j];
+    for (i, earlier) in steps[..j].iter().enumerate() {
+        if let Some(state) = choice_between(step, earlier) {
+            return Some((i, state));
+        }
+    }
+    None
+}
+
+#[tactic(auto, using(crate::proofs::ChoiceLemmas::pairs))]
+// The least environment state in which two transitions leave a choice.
+fn choice_between(step: &(u8, StateSet, u8, u8), other: &(u8, StateSet, u8, u8)) -> Option<u8>
+    ensures { result ≡ choice_between (Some (move_of step.now)) (Some (move_of other.now)) }
+{
+    if step.0 != other.0 {
+        return None;
+    }
+    if step.2 != other.2 {
+        return None;
+    }
+    if step.3 == other.3 {
+        return None;
+    }
+    step.1.first_common(&other.1)
+}

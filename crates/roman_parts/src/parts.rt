@@ -1,0 +1,91 @@
+//! Parts as they stand in a document.
+ghost use Rattle.std.specs.Prelude.{◌≡◌};
+ghost use Rattle.serde_json.specs.View.{view};
+ghost use Rattle.roman_parts.specs.Reading.{Gives};
+ghost use Rattle.roman_parts.specs.Parts.{environment_of, name_of, behaviour_of, target_of};
+
+use crate::behaviour::Behaviour;
+use crate::choice::check_single;
+use crate::environment::Environment;
+use crate::error::{List, PartError};
+use crate::finals::read_finals;
+use crate::names::{read_names, read_start};
+use crate::reading::{missed, refused};
+use crate::steps::{read_moves, read_triples};
+use crate::target::Target;
+use roman_model::{MAX_ACTIONS, MAX_STATES};
+use roman_read::{Kind, Name, member, text};
+use serde_json::Value;
+use std::alloc::Global;
+
+#[tactic(auto, unfolding(crate::specs::Parts::environment_of))]
+/// The environment that a value is, or the first rule that it breaks.
+pub fn read_environment(alloc: Global, v: &Value) -> Result<Environment, PartError>
+    ensures environment { Gives (λ x. x) result (environment_of (view v.now)) }
+{
+    if !v.is_object() {
+        return Err(refused(Kind::Form, List::Whole, 0));
+    }
+    let states = read_names(alloc, v, "states", List::States, MAX_STATES as u32)?;
+    let start = read_start(&states, v)?;
+    let actions = read_names(alloc, v, "actions", List::Actions, MAX_ACTIONS as u32)?;
+    let steps = read_triples(alloc, &states, &actions, v)?;
+    Ok(Environment::from_lists(alloc, states, actions, start, &steps)?)
+}
+
+#[tactic(auto, unfolding(crate::specs::Parts::behaviour_of))]
+/// The behaviour over `env` that a value is, or the first rule that it breaks. Whether another
+/// behaviour has its name isn't looked at.
+pub fn read_behaviour(
+    alloc: Global,
+    v: &Value,
+    env: &Environment,
+) -> Result<Behaviour, PartError>
+    ensures behaviour { Gives (λ x. x) result (behaviour_of env.now (view v.now)) }
+{
+    if !v.is_object() {
+        return Err(refused(Kind::Form, List::Whole, 0));
+    }
+    let name = read_name(v)?;
+    let states = read_names(alloc, v, "states", List::States, MAX_STATES as u32)?;
+    let start = read_start(&states, v)?;
+    let finals = read_finals(alloc, &states, v)?;
+    let steps = read_moves(alloc, env.states(), env.actions(), &states, v)?;
+    Ok(Behaviour::from_lists(alloc, name, states, start, &finals, &steps, env)?)
+}
+
+#[tactic(auto, using(crate::proofs::SingleLemmas::single_steps), unfolding(crate::specs::Parts::target_of))]
+/// The target over `env` that a value is, or the first rule that it breaks. A member `name` isn't
+/// looked at.
+pub fn read_target(alloc: Global, v: &Value, env: &Environment) -> Result<Target, PartError>
+    ensures target { Gives (λ x. x) result (target_of env.now (view v.now)) }
+{
+    if !v.is_object() {
+        return Err(refused(Kind::Form, List::Whole, 0));
+    }
+    let states = read_names(alloc, v, "states", List::States, MAX_STATES as u32)?;
+    let start = read_start(&states, v)?;
+    let finals = read_finals(alloc, &states, v)?;
+    let steps = read_moves(alloc, env.states(), env.actions(), &states, v)?;
+    check_single(env.states(), &steps)?;
+    Ok(Target::from_lists(alloc, states, start, &finals, &steps, env)?)
+}
+
+#[tactic(auto, unfolding(crate::specs::Parts::name_of))]
+// A part's own name.
+fn read_name(v: &Value) -> Result<Name, PartError>
+    ensures { Gives (λ x. x) result (name_of (view v.now)) }
+{
+    let name = match member(v, "name") {
+        Ok(name) => name,
+        Err(miss) => return Err(missed(miss, List::Name, 0)),
+    };
+    let text = match text(name) {
+        Ok(text) => text,
+        Err(miss) => return Err(missed(miss, List::Name, 0)),
+    };
+    match Name::new(text.as_bytes()) {
+        Some(name) => Ok(name),
+        None => Err(refused(Kind::BadName, List::Name, 0)),
+    }
+}
