@@ -1,3 +1,4 @@
 mod FrontLemmas
 mod ReadingLemmas
 mod PlaceLemmas
+mod LibraryLemmas

@@ -8,11 +8,12 @@ use Rattle.roman_io.specs.Shelf as shelf
 use Rattle.roman_model.specs.declared.limits.TheConstants.{MAX_BEHAVIOURS, MAX_SERVICES, MAX_CELLS, DEFAULT_CELLS, MAX_DOCUMENT_BYTES, MAX_FILE_NAME_BYTES}
 use Rattle.roman_read.specs.Items.{◌>>=◌, each_item}
 use Rattle.roman_read.specs.Json.{json_of, member_of, text_of, number_of, truth_of}
-use Rattle.roman_read.specs.Names.{is_name, place_of}
+use Rattle.roman_read.specs.Names.{place_of}
 use Rattle.roman_read.specs.declared.rules.Kind.TheVariants as kind
 use Rattle.roman_read.specs.declared.rules.Miss.{Miss}
 use Rattle.roman_parts.specs.Lists.{place_in}
 use Rattle.roman_parts.specs.Named.{NamedEnv, NamedBeh, NamedTarget}
+use Rattle.roman_parts.specs.Parts.{environment_of, name_of, behaviour_of, target_of}
 use Rattle.roman_parts.specs.Reading.{looked, found, check, counted_items}
 use Rattle.roman_parts.specs.declared.error.List.{List as Place}
 use Rattle.roman_parts.specs.declared.error.List.TheVariants as list
@@ -76,21 +77,45 @@ opened texts document part d (Some file) = value_at texts file part >>= (λ valu
 unfoldable pub part_of : Texts → List ℕ → Part → Data → Result (List ℕ × Data) Refusal
 part_of texts document part d = placed document part (file_of d) >>= opened texts document part d
 
--- ---- names
+-- ---- the environment, the behaviours and the target
 
--- the name of a behaviour or a service
-unfoldable pub name_of : Data → Result (List ℕ) PartError
-name_of d = do
-  whole ← check (is_some (as_object d)) kind.Form list.Whole 0 d
-  name ← looked list.Name 0 (member_of whole (codes "name"))
-  text ← looked list.Name 0 (text_of name)
-  check (is_name text) kind.BadName list.Name 0 text
-
--- a name that none of those before it is
+-- the name of a behaviour or a service, which none of those before it has
 unfoldable pub new_name_of : List (List ℕ) → Data → Result (List ℕ) PartError
 new_name_of before d = do
-  name ← name_of d
+  whole ← check (is_some (as_object d)) kind.Form list.Whole 0 d
+  name ← name_of whole
   check (is_none (place_of before name)) kind.Repeated list.Name 0 name
+
+-- the environment of a document
+unfoldable pub environment_in : Texts → List ℕ → Data → Result NamedEnv Refusal
+environment_in texts document d = do
+  member ← placed document part.Environment (looked list.Whole 0 (member_of d (codes "environment")))
+  (file, value) ← part_of texts document part.Environment member
+  placed file part.Environment (environment_of value)
+
+-- a behaviour whose name is new among those before it
+unfoldable pub new_behaviour_of : NamedEnv → List NamedBeh → Data → Result NamedBeh PartError
+new_behaviour_of env before d = new_name_of (map behaviour_name before) d >>= (λ name. behaviour_of env d)
+
+-- behaviour i, put behind those before it
+unfoldable pub behaviour_step : Texts → List ℕ → NamedEnv → ℕ → List NamedBeh → Data → Result (List NamedBeh) Refusal
+behaviour_step texts document env i before d = do
+  (file, value) ← part_of texts document (part.Behaviour i) d
+  behaviour ← placed file (part.Behaviour i) (new_behaviour_of env before value)
+  Ok (before ++ behaviour ∷ [])
+
+-- the behaviours of a document
+unfoldable pub catalogue_in : Texts → List ℕ → NamedEnv → Data → Result (List NamedBeh) Refusal
+catalogue_in texts document env d = do
+  items ← placed document part.System (counted_items list.Behaviours (codes "behaviours") 0 MAX_BEHAVIOURS d)
+  each_item (behaviour_step texts document env) 0 [] items
+
+-- the target of a document
+unfoldable pub target_in : Texts → List ℕ → NamedEnv → Data → Result NamedTarget Refusal
+target_in texts document env d = do
+  member ← placed document (part.Target 0) (looked list.Whole 0 (member_of d (codes "target")))
+  (file, value) ← part_of texts document (part.Target 0) member
+  placed file (part.Target 0) (target_of env value)
 
 -- ---- services
 
@@ -138,3 +163,20 @@ unfoldable pub services_of : List ℕ → ℕ → List NamedBeh → Data → Res
 services_of document version catalogue d = do
   items ← placed document part.System (counted_items list.Services (codes "services") 0 MAX_SERVICES d)
   each_item (service_step document version catalogue) 0 [] items
+
+-- ---- the document
+
+-- the library that a document's value is
+unfoldable pub library_in : Texts → List ℕ → Data → Result PlainLibrary Refusal
+library_in texts document d = do
+  version ← placed document part.System (version_of d)
+  limit ← placed document part.System (limit_of d)
+  env ← environment_in texts document d
+  catalogue ← catalogue_in texts document env d
+  services ← services_of document version catalogue d
+  target ← target_in texts document env d
+  Ok (record { environment = env; catalogue = catalogue; services = services; target = target; limit = limit })
+
+-- the library that the document of this name is, or the first rule that it breaks
+unfoldable pub library_of : Texts → List ℕ → Result PlainLibrary Refusal
+library_of texts document = value_at texts document part.System >>= library_in texts document

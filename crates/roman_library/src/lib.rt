@@ -7,6 +7,7 @@ mod library;
 mod looks;
 mod names;
 mod part_file;
+mod parts;
 mod placing;
 mod refusal;
 mod services;

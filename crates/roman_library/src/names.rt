@@ -1,10 +1,10 @@
 //! Names of behaviours and services.
 ghost use Rattle.std.specs.Prelude.{◌≡◌, ◌<◌, map, length, IfSome};
 ghost use Rattle.serde_json.specs.View.{view};
+ghost use Rattle.roman_parts.specs.Parts.{name_of};
 ghost use Rattle.roman_parts.specs.Reading.{Gives};
 ghost use Rattle.roman_read.specs.Names.{place_of};
 ghost use Rattle.roman_library.specs.Library.{behaviour_name, service_name};
-ghost use Rattle.roman_library.specs.Documents.{name_of};
 
 use crate::library::Service;
 use crate::looks::{member_at, refused, text_at};
@@ -12,14 +12,11 @@ use roman_parts::{Behaviour, List, PartError};
 use roman_read::{Kind, Name};
 use serde_json::Value;
 
-#[tactic(auto, unfolding(crate::specs::Documents::name_of))]
+#[tactic(auto, unfolding(roman_parts::specs::Parts::name_of))]
 /// The name of a behaviour or a service.
 pub(crate) fn read_name(v: &Value) -> Result<Name, PartError>
     ensures { Gives (λ x. x) result (name_of (view v.now)) }
 {
-    if !v.is_object() {
-        return Err(refused(Kind::Form, List::Whole));
-    }
     let text = text_at(member_at(v, "name", List::Name)?, List::Name)?;
     match Name::new(text.as_bytes()) {
         Some(name) => Ok(name),

@@ -13,21 +13,9 @@ use crate::placing::placed;
 use crate::refusal::{LoadError, Part};
 use roman_model::MAX_SERVICES;
 use roman_parts::{Behaviour, List, PartError};
-use roman_read::{Kind, Name, member};
+use roman_read::{Kind, member};
 use serde_json::Value;
 use std::alloc::Global;
-
-#[tactic(auto, unfolding(crate::specs::Documents::new_name_of))]
-/// The name of a service, which is new among those before it.
-fn read_new_name(v: &Value, before: &[Service]) -> Result<Name, PartError>
-    ensures { Gives (λ x. x) result (new_name_of (map service_name before.now) (view v.now)) }
-{
-    let name = read_name(v)?;
-    match place_of_service(before, name.bytes()) {
-        None => Ok(name),
-        Some(_) => Err(refused(Kind::Repeated, List::Name)),
-    }
-}
 
 #[tactic(auto, unfolding(crate::specs::Documents::behaviour_place, roman_parts::specs::Lists::place_in))]
 /// The place of a service's behaviour.
@@ -85,7 +73,7 @@ fn read_rests(v: &Value, version: u64) -> Result<bool, PartError>
     }
 }
 
-#[tactic(auto, unfolding(crate::specs::Documents::service_of))]
+#[tactic(auto, unfolding(crate::specs::Documents::new_name_of, crate::specs::Documents::service_of))]
 /// One service, behind those before it.
 fn read_service(
     v: &Value,
@@ -97,7 +85,13 @@ fn read_service(
     ensures service { Gives (λ x. x) result (service_of version catalogue.now before.now (view v.now)) }
     ensures within { IfOk result (λ service. IsService catalogue.now service) }
 {
-    let name = read_new_name(v, before)?;
+    if !v.is_object() {
+        return Err(refused(Kind::Form, List::Whole));
+    }
+    let name = read_name(v)?;
+    if place_of_service(before, name.bytes()).is_some() {
+        return Err(refused(Kind::Repeated, List::Name));
+    }
     let place = read_behaviour_place(v, catalogue)?;
     let behaviour = &catalogue[place as usize];
     let state = read_state(v, behaviour)?;
