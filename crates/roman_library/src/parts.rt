@@ -4,7 +4,7 @@ ghost use Rattle.serde_json.specs.View.{view, items_view};
 ghost use Rattle.roman_model.specs.Lists.{HasNoRepeats};
 ghost use Rattle.roman_model.specs.System.{IsEnv};
 ghost use Rattle.roman_parts.specs.Reading.{Gives};
-ghost use Rattle.roman_library.specs.Documents.{environment_in, new_behaviour_of, behaviour_in, catalogue_in, target_in};
+ghost use Rattle.roman_library.specs.Documents.{environment_in, new_behaviour_of, behaviour_step, catalogue_in, target_in};
 ghost use Rattle.roman_library.specs.Library.{IsBehaviour, IsTarget, behaviour_name};
 ghost use Rattle.roman_library.specs.Refusals.{Loads, CausesLoad};
 
@@ -42,6 +42,51 @@ pub(crate) fn load_environment<F: Shelf>(
         Some(file) => {
             let value = value_at(alloc, shelf, file, part)?;
             placed(alloc, file, part, read_environment(alloc, &value))
+        }
+    }
+}
+
+#[tactic(auto, unfolding(crate::specs::Documents::new_name_of, crate::specs::Documents::new_behaviour_of))]
+/// A behaviour, whose name is tried against those before it and then the rest.
+fn read_new_behaviour(
+    alloc: Global,
+    v: &Value,
+    environment: &Environment,
+    before: &[Behaviour],
+) -> Result<Behaviour, PartError>
+    ensures behaviour { Gives (λ x. x) result (new_behaviour_of environment.now before.now (view v.now)) }
+{
+    if !v.is_object() {
+        return Err(refused(Kind::Form, List::Whole));
+    }
+    let name = read_name(v)?;
+    if place_of_behaviour(before, name.bytes()).is_some() {
+        return Err(refused(Kind::Repeated, List::Name));
+    }
+    read_behaviour(alloc, v, environment)
+}
+
+#[tactic(auto, unfolding(crate::specs::Documents::target_in, crate::specs::Documents::part_of))]
+/// The target of a document.
+pub(crate) fn load_target<F: Shelf>(
+    alloc: Global,
+    shelf: &mut F,
+    document: &str,
+    v: &Value,
+    environment: &Environment,
+) -> Result<Target, LoadError>
+    ensures target { IfSome (F.texts shelf.old)
+        (λ texts. Loads (λ x. x) result (target_in texts document.now environment.now (view v.now))) }
+    ensures texts { F.texts shelf.new ≡ F.texts shelf.old }
+    ensures cause { CausesLoad (F.faults shelf.old) (F.faults shelf.new) result }
+{
+    let part = Part::Target(0);
+    let member = placed(alloc, document, part, member_at(v, "target", List::Whole))?;
+    match placed(alloc, document, part, file_of(member))? {
+        None => placed(alloc, document, part, read_target(alloc, member, environment)),
+        Some(file) => {
+            let value = value_at(alloc, shelf, file, part)?;
+            placed(alloc, file, part, read_target(alloc, &value, environment))
         }
     }
 }
