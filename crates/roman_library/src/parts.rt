@@ -3,6 +3,7 @@ ghost use Rattle.std.specs.Prelude.{◌≡◌, ◌≤◌, length, vec_len, IfOk,
 ghost use Rattle.serde_json.specs.View.{view, items_view};
 ghost use Rattle.roman_model.specs.Lists.{HasNoRepeats};
 ghost use Rattle.roman_model.specs.System.{IsEnv};
+ghost use Rattle.roman_parts.specs.Parts.{target_of};
 ghost use Rattle.roman_parts.specs.Reading.{Gives};
 ghost use Rattle.roman_library.specs.Documents.{environment_in, new_behaviour_of, behaviour_step, catalogue_in, target_in};
 ghost use Rattle.roman_library.specs.Library.{IsBehaviour, IsTarget, behaviour_name};
@@ -55,6 +56,7 @@ fn read_new_behaviour(
     before: &[Behaviour],
 ) -> Result<Behaviour, PartError>
     ensures behaviour { Gives (λ x. x) result (new_behaviour_of environment.now before.now (view v.now)) }
+    ensures known { IfOk result (λ behaviour. IsBehaviour environment.now behaviour) }
 {
     if !v.is_object() {
         return Err(refused(Kind::Form, List::Whole));
@@ -63,7 +65,9 @@ fn read_new_behaviour(
     if place_of_behaviour(before, name.bytes()).is_some() {
         return Err(refused(Kind::Repeated, List::Name));
     }
-    read_behaviour(alloc, v, environment)
+    let behaviour = read_behaviour(alloc, v, environment)?;
+    let _names = behaviour.states();
+    Ok(behaviour)
 }
 
 #[tactic(auto, unfolding(crate::specs::Documents::target_in, crate::specs::Documents::part_of))]
@@ -77,16 +81,35 @@ pub(crate) fn load_target<F: Shelf>(
 ) -> Result<Target, LoadError>
     ensures target { IfSome (F.texts shelf.old)
         (λ texts. Loads (λ x. x) result (target_in texts document.now environment.now (view v.now))) }
+    ensures known { IfOk result (λ target. IsTarget environment.now target) }
     ensures texts { F.texts shelf.new ≡ F.texts shelf.old }
     ensures cause { CausesLoad (F.faults shelf.old) (F.faults shelf.new) result }
 {
     let part = Part::Target(0);
     let member = placed(alloc, document, part, member_at(v, "target", List::Whole))?;
     match placed(alloc, document, part, file_of(member))? {
-        None => placed(alloc, document, part, read_target(alloc, member, environment)),
+        None => placed(alloc, document, part, target_over(alloc, member, environment)),
         Some(file) => {
             let value = value_at(alloc, shelf, file, part)?;
-            placed(alloc, file, part, read_target(alloc, &value, environment))
+            placed(alloc, file, part, target_over(alloc, &value, environment))
         }
+    }
+}
+
+/// A target over that environment.
+fn target_over(
+    alloc: Global,
+    v: &Value,
+    environment: &Environment,
+) -> Result<Target, PartError>
+    ensures target { Gives (λ x. x) result (target_of environment.now (view v.now)) }
+    ensures known { IfOk result (λ target. IsTarget environment.now target) }
+{
+    match read_target(alloc, v, environment) {
+        Ok(target) => {
+            let _names = target.states();
+            Ok(target)
+        }
+        Err(error) => Err(error),
     }
 }
