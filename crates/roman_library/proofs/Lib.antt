@@ -2,3 +2,4 @@ mod FrontLemmas
 mod ReadingLemmas
 mod PlaceLemmas
 mod LibraryLemmas
+mod StepLemmas

@@ -97,12 +97,15 @@ environment_in texts document d = do
 unfoldable pub new_behaviour_of : NamedEnv → List NamedBeh → Data → Result NamedBeh PartError
 new_behaviour_of env before d = new_name_of (map behaviour_name before) d >>= (λ name. behaviour_of env d)
 
--- behaviour i, put behind those before it
-unfoldable pub behaviour_step : Texts → List ℕ → NamedEnv → ℕ → List NamedBeh → Data → Result (List NamedBeh) Refusal
-behaviour_step texts document env i before d = do
+-- behaviour i, after those before it
+unfoldable pub behaviour_in : Texts → List ℕ → NamedEnv → List NamedBeh → ℕ → Data → Result NamedBeh Refusal
+behaviour_in texts document env before i d = do
   (file, value) ← part_of texts document (part.Behaviour i) d
-  behaviour ← placed file (part.Behaviour i) (new_behaviour_of env before value)
-  Ok (before ++ behaviour ∷ [])
+  placed file (part.Behaviour i) (new_behaviour_of env before value)
+
+-- the same, put behind those before it
+unfoldable pub behaviour_step : Texts → List ℕ → NamedEnv → ℕ → List NamedBeh → Data → Result (List NamedBeh) Refusal
+behaviour_step texts document env i before d = behaviour_in texts document env before i d >>= (λ behaviour. Ok (before ++ behaviour ∷ []))
 
 -- the behaviours of a document
 unfoldable pub catalogue_in : Texts → List ℕ → NamedEnv → Data → Result (List NamedBeh) Refusal
@@ -154,9 +157,8 @@ service_of version catalogue before d = do
 
 -- service i, put behind those before it
 unfoldable pub service_step : List ℕ → ℕ → List NamedBeh → ℕ → List Service → Data → Result (List Service) Refusal
-service_step document version catalogue i before d = do
-  service ← placed document (part.Service i) (service_of version catalogue before d)
-  Ok (before ++ service ∷ [])
+service_step document version catalogue i before d =
+    placed document (part.Service i) (service_of version catalogue before d) >>= (λ service. Ok (before ++ service ∷ []))
 
 -- the services of a document
 unfoldable pub services_of : List ℕ → ℕ → List NamedBeh → Data → Result (List Service) Refusal

@@ -53,14 +53,22 @@ pub record IsService (catalogue : List NamedBeh) (service : Service) : Type 0 wh
   pub behaviour : service.behaviour < length catalogue
   pub state : IfSome (slice_get catalogue service.behaviour) (λ behaviour. service.state < behaviour.beh.states)
 
--- all parts are over the environment, all numbers are in range, and no two behaviours and no two services have one name
+-- the behaviours are over the environment, and no two have one name
+pub record IsCatalogue (environment : NamedEnv) (catalogue : List NamedBeh) : Type 0 where
+  pub known : All (IsBehaviour environment) catalogue
+  pub names : HasNoRepeats (map behaviour_name catalogue)
+
+-- the services' numbers are in range, and no two have one name
+pub record AreServices (catalogue : List NamedBeh) (services : List Service) : Type 0 where
+  pub known : All (IsService catalogue) services
+  pub names : HasNoRepeats (map service_name services)
+
+-- all parts are over one environment, all numbers are in range, and the limits hold
 pub record IsLibrary (library : PlainLibrary) : Type 0 where
   pub environment : IsEnv library.environment.env
-  pub catalogue : All (IsBehaviour library.environment) library.catalogue
-  pub behaviours : HasNoRepeats (map behaviour_name library.catalogue)
+  pub catalogue : IsCatalogue library.environment library.catalogue
   pub few_behaviours : length library.catalogue ≤ MAX_BEHAVIOURS
-  pub services : All (IsService library.catalogue) library.services
-  pub names : HasNoRepeats (map service_name library.services)
-  pub few : length library.services ≤ MAX_SERVICES
+  pub services : AreServices library.catalogue library.services
+  pub few_services : length library.services ≤ MAX_SERVICES
   pub target : IsTarget library.environment library.target
   pub limit : (0 < library.limit) × (library.limit ≤ MAX_CELLS)
