@@ -3,3 +3,4 @@ mod ReadingLemmas
 mod PlaceLemmas
 mod LibraryLemmas
 mod StepLemmas
+mod PlacedLemmas

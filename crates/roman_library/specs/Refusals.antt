@@ -59,3 +59,10 @@ Places document part (Ok x) (Ok y) = y ≡ x
 Places document part (Ok x) (Err given) = ⊥
 Places document part (Err e) (Ok y) = ⊥
 Places document part (Err e) (Err given) = PlacesError document part e given
+
+-- no fault is answered
+abbrev pub IsQuiet : {T : Type 0} → Result T LoadError → Type 0
+IsQuiet (Ok x) = Unit {0}
+IsQuiet (Err error.Fault) = ⊥
+IsQuiet (Err (error.Refused refusal)) = Unit {0}
+IsQuiet (Err error.Memory) = Unit {0}

@@ -4,6 +4,7 @@
 mod file_name;
 mod header;
 mod library;
+mod loading;
 mod looks;
 mod names;
 mod part_file;
@@ -15,5 +16,6 @@ mod text;
 
 pub use file_name::FileName;
 pub use library::{Library, Service};
+pub use loading::load;
 pub use refusal::{LoadError, Part, Refusal};
 pub use text::{DocError, document};
