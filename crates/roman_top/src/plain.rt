@@ -1,8 +1,8 @@
 //! A plain composition of small systems, pair by pair.
-ghost use Rattle.std.specs.Prelude.{◌≡◌, ◌<◌};
-ghost use Rattle.roman_library.specs.Library.{IsLibrary, plain};
+ghost use Rattle.std.specs.Prelude.{◌≡◌, ◌<◌, All, length};
+ghost use Rattle.roman_library.specs.Library.{IsBehaviour, IsLibrary, plain};
 
-use roman_library::Library;
+use roman_library::{Library, Service};
 use roman_parts::{Behaviour, Environment, Target};
 use std::alloc::{AllocError, Global};
 
@@ -32,9 +32,9 @@ struct Machine {
 impl Machine {
     /// The machine has a step from the state by the action, where the environment is in that state.
     fn has_move(&self, from: u8, environment: u8, action: u8) -> bool {
-        self.moves
-            .iter()
-            .any(|m| m.from == from && m.environment == environment && m.action == action)
+        self.moves.iter().any(|m| m.from == from
+            && m.environment == environment
+            && m.action == action)
     }
 
     fn is_final(&self, state: u8) -> bool {
@@ -99,16 +99,28 @@ fn plain_of(alloc: Global, library: &Library) -> Result<Plain, AllocError>
     machines.push(target_machine(alloc, environment, &library.target)?)?;
     machines.push(environment_machine(alloc, environment)?)?;
     for service in &library.services {
-        let behaviour = &library.catalogue[service.behaviour as usize];
-        let mut machine = behaviour_machine(alloc, environment, behaviour, service.frozen)?;
-        machine.start = service.state;
-        machine.rests = service.rests;
-        machines.push(machine)?;
+        machines.push(service_machine(alloc, environment, &library.catalogue, service)?)?;
     }
     Ok(Plain {
         actions: environment.actions().len() as u8,
         machines,
     })
+}
+
+fn service_machine(
+    alloc: Global,
+    environment: &Environment,
+    catalogue: &[Behaviour],
+    service: &Service,
+) -> Result<Machine, AllocError>
+    requires known { All (IsBehaviour environment.now) catalogue.now }
+    requires place { service.now.behaviour < length catalogue.now }
+{
+    let behaviour = &catalogue[service.behaviour as usize];
+    let mut machine = behaviour_machine(alloc, environment, behaviour, service.frozen)?;
+    machine.start = service.state;
+    machine.rests = service.rests;
+    Ok(machine)
 }
 
 fn environment_machine(alloc: Global, environment: &Environment) -> Result<Machine, AllocError> {
@@ -126,7 +138,11 @@ fn environment_machine(alloc: Global, environment: &Environment) -> Result<Machi
     })
 }
 
-fn push_environment(moves: &mut Vec<Move>, environment: &Environment, e: u8) -> Result<(), AllocError>
+fn push_environment(
+    moves: &mut Vec<Move>,
+    environment: &Environment,
+    e: u8,
+) -> Result<(), AllocError>
     requires { e < environment.now.env.states }
 {
     for action in 0..environment.actions().len() as u8 {

@@ -3,14 +3,24 @@ ghost use Rattle.std.specs.Prelude.{◌≡◌, ◌≢◌, ◌<◌, IfOk, IfSome}
 ghost use Rattle.roman_library.specs.Library.{IsLibrary, plain};
 ghost use Rattle.roman_top.specs.Command.{command_of};
 ghost use Rattle.roman_top.specs.Run.{
-    CausedAt, HasShape, IsAnswer, IsNoUsage, Ran, Says, WroteAnswer, WroteLimit, WroteRefusal, WroteSynth, limit_line
+  CausedAt,
+  HasShape,
+  IsAnswer,
+  IsNoUsage,
+  Ran,
+  Says,
+  WroteAnswer,
+  WroteLimit,
+  WroteRefusal,
+  WroteSynth,
+  limit_line,
 };
 
 use crate::plain::{Answer, composes};
 use crate::refusals::line_of;
 use crate::status::Status;
-use roman_io::{Shelf, Sink, Source, Steps, Words};
 use itoa::Buffer;
+use roman_io::{Shelf, Sink, Source, Steps, Words};
 use roman_library::{Library, LoadError, Refusal, load};
 use std::alloc::{AllocError, Global};
 use std::sync::ledger::Ledger;
