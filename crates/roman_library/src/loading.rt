@@ -19,11 +19,7 @@ use std::alloc::Global;
 #[tactic(auto, unfolding(crate::specs::Documents::library_of))]
 /// The library that the system document of this name is, with the part files that it names; or the
 /// first rule that it breaks, in the order in which documents are read.
-pub fn load<F: Shelf>(
-    alloc: Global,
-    shelf: &mut F,
-    name: &str,
-) -> Result<Library, LoadError>
+pub fn load<F: Shelf>(alloc: Global, shelf: &mut F, name: &str) -> Result<Library, LoadError>
     ensures meaning { IfSome (F.texts shelf.old) (λ texts. Loads plain result (library_of texts name.now)) }
     ensures known { IfOk result (λ library. IsLibrary (plain library)) }
     ensures texts { F.texts shelf.new ≡ F.texts shelf.old }

@@ -37,7 +37,12 @@ pub(crate) fn load_environment<F: Shelf>(
     ensures cause { CausesLoad (F.faults shelf.old) (F.faults shelf.new) result }
 {
     let part = Part::Environment;
-    let member = placed(alloc, document, part, member_at(v, "environment", List::Whole))?;
+    let member = placed(
+        alloc,
+        document,
+        part,
+        member_at(v, "environment", List::Whole),
+    )?;
     match placed(alloc, document, part, file_of(member))? {
         None => placed(alloc, document, part, read_environment(alloc, member)),
         Some(file) => {
@@ -91,10 +96,20 @@ fn load_behaviour<F: Shelf>(
 {
     let part = Part::Behaviour(number);
     match placed(alloc, document, part, file_of(v))? {
-        None => placed(alloc, document, part, read_new_behaviour(alloc, v, environment, before)),
+        None => placed(
+            alloc,
+            document,
+            part,
+            read_new_behaviour(alloc, v, environment, before),
+        ),
         Some(file) => {
             let value = value_at(alloc, shelf, file, part)?;
-            placed(alloc, file, part, read_new_behaviour(alloc, &value, environment, before))
+            placed(
+                alloc,
+                file,
+                part,
+                read_new_behaviour(alloc, &value, environment, before),
+            )
         }
     }
 }
@@ -170,7 +185,12 @@ pub(crate) fn load_target<F: Shelf>(
     let part = Part::Target(0);
     let member = placed(alloc, document, part, member_at(v, "target", List::Whole))?;
     match placed(alloc, document, part, file_of(member))? {
-        None => placed(alloc, document, part, target_over(alloc, member, environment)),
+        None => placed(
+            alloc,
+            document,
+            part,
+            target_over(alloc, member, environment),
+        ),
         Some(file) => {
             let value = value_at(alloc, shelf, file, part)?;
             placed(alloc, file, part, target_over(alloc, &value, environment))
@@ -179,11 +199,7 @@ pub(crate) fn load_target<F: Shelf>(
 }
 
 /// A target over that environment.
-fn target_over(
-    alloc: Global,
-    v: &Value,
-    environment: &Environment,
-) -> Result<Target, PartError>
+fn target_over(alloc: Global, v: &Value, environment: &Environment) -> Result<Target, PartError>
     ensures target { Gives (λ x. x) result (target_of environment.now (view v.now)) }
     ensures known { IfOk result (λ target. IsTarget environment.now target) }
 {

@@ -58,7 +58,9 @@ fn read_items(
 {
     let mut services = Vec::with_capacity(alloc, items.len())?;
     for (i, item) in items.iter().enumerate() {
-        let service = service_at(alloc, document, i as u32, item, version, catalogue, &services)?;
+        let service = service_at(
+            alloc, document, i as u32, item, version, catalogue, &services,
+        )?;
         services.push(service)?;
     }
     Ok(services)
