@@ -3,7 +3,7 @@ use Rattle.std.proofs.Common.{◌≡◌, ℕ, ◌+◌, ◌≤◌, List, [], ◌+
 use Rattle.std.proofs.lemmas.List.{take-append-drop, length-take-le}
 use Rattle.std.proofs.Math.Seq.{take-append-add}
 use Rattle.roman_io.specs.Shelf.{Texts, Fetches, text_of}
-use Rattle.roman_library.specs.Documents.{IsFront}
+use Rattle.roman_library.specs.Texts.{IsFront}
 
 -- the text is its front and what is left behind it
 front_rest : (bytes text : List ℕ) → IsFront bytes text → bytes ++ drop (length bytes) text ≡ text

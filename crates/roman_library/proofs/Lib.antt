@@ -1,1 +1,6 @@
 mod FrontLemmas
+mod ReadingLemmas
+mod PlaceLemmas
+mod LibraryLemmas
+mod StepLemmas
+mod PlacedLemmas

@@ -1,48 +1,184 @@
--- What a text on a shelf is as a document.
-use Rattle.std.specs.Prelude.{◌≡◌, ℕ, ◌<◌, ◌≤◌, List, length, take, Option, Some, None, Result, Ok, Err}
-use Rattle.std.specs.Global.{Vec}
-use Rattle.serde_json.specs.declared.value.Value.{Value}
-use Rattle.serde_json.specs.View.{view}
-use Rattle.roman_io.specs.Faults.{Rose}
-use Rattle.roman_io.specs.Shelf.{Texts, text_of}
-use Rattle.roman_model.specs.declared.limits.TheConstants.{MAX_DOCUMENT_BYTES}
-use Rattle.roman_read.specs.Json.{json_of}
-use Rattle.roman_library.specs.declared.text.DocError.{DocError}
-use Rattle.roman_library.specs.declared.text.DocError.TheVariants as error
+-- What a system document on a shelf means: a library, or the first rule that it breaks.
+use Rattle.std.specs.Prelude.{ℕ, ◌==◌, ◌&&◌, ◌++◌, Bool, true, false, List, [], ◌∷◌, map, length, slice_get, Option, Some, None, Result, Ok, Err, is_some, is_none, nat_le, nat_lt, codes, if◌then◌else◌}
+use Rattle.std.specs.Option.{ok_or}
+use Rattle.serde_json.specs.Data.{Data}
+use Rattle.serde_json.specs.Find.{as_object}
+use Rattle.roman_io.specs.Shelf.{Texts}
+use Rattle.roman_io.specs.Shelf as shelf
+use Rattle.roman_model.specs.declared.limits.TheConstants.{MAX_BEHAVIOURS, MAX_SERVICES, MAX_CELLS, DEFAULT_CELLS, MAX_DOCUMENT_BYTES, MAX_FILE_NAME_BYTES}
+use Rattle.roman_read.specs.Items.{◌>>=◌, each_item}
+use Rattle.roman_read.specs.Json.{json_of, member_of, text_of, number_of, truth_of}
+use Rattle.roman_read.specs.Names.{place_of}
+use Rattle.roman_read.specs.declared.rules.Kind.TheVariants as kind
+use Rattle.roman_read.specs.declared.rules.Miss.{Miss}
+use Rattle.roman_parts.specs.Lists.{place_in}
+use Rattle.roman_parts.specs.Named.{NamedEnv, NamedBeh, NamedTarget}
+use Rattle.roman_parts.specs.Parts.{environment_of, name_of, behaviour_of, target_of}
+use Rattle.roman_parts.specs.Reading.{looked, found, check, counted_items}
+use Rattle.roman_parts.specs.declared.error.List.{List as Place}
+use Rattle.roman_parts.specs.declared.error.List.TheVariants as list
+use Rattle.roman_parts.specs.declared.error.PartError.{PartError}
+use Rattle.roman_library.specs.Library.{PlainLibrary, behaviour_name, service_name}
+use Rattle.roman_library.specs.Refusals.{refusal_of, placed}
+use Rattle.roman_library.specs.declared.library.Service.{Service}
+use Rattle.roman_library.specs.declared.refusal.Part.{Part}
+use Rattle.roman_library.specs.declared.refusal.Part.TheVariants as part
+use Rattle.roman_library.specs.declared.refusal.Refusal.{Refusal}
 
--- the errors are numbered in their order
-abbrev pub doc_error_number : DocError → ℕ
-doc_error_number error.Fault = 1
-doc_error_number error.TooLong = 2
-doc_error_number error.NotJson = 3
-doc_error_number error.Memory = 4
+-- what a member is read as, or what stands for it where it isn't there
+abbrev pub optional : {X : Type 0} → (Data → Result X PartError) → X → Result Data Miss → Result X PartError
+optional read absent (Ok member) = read member
+optional read absent (Err miss) = Ok absent
 
--- a count of faults rose where the answer is a fault, and stayed elsewhere
-abbrev pub Caused : {T : Type 0} → ℕ → ℕ → Result T DocError → Type 0
-Caused old new (Ok x) = new ≡ old
-Caused old new (Err error.Fault) = Rose old new
-Caused old new (Err error.TooLong) = new ≡ old
-Caused old new (Err error.NotJson) = new ≡ old
-Caused old new (Err error.Memory) = new ≡ old
+-- ---- the version and the limit
 
--- the bytes are those of the text, which has at most the greatest number of them; or it has more
-abbrev pub IsTextOf : Option Texts → List ℕ → Result (Vec ℕ) DocError → Type 0
-IsTextOf None name result = Unit {0}
-IsTextOf (Some texts) name (Ok bytes) = (bytes.items ≡ text_of texts name) × (length (text_of texts name) ≤ MAX_DOCUMENT_BYTES)
-IsTextOf (Some texts) name (Err error.Fault) = Unit {0}
-IsTextOf (Some texts) name (Err error.TooLong) = MAX_DOCUMENT_BYTES < length (text_of texts name)
-IsTextOf (Some texts) name (Err error.NotJson) = ⊥
-IsTextOf (Some texts) name (Err error.Memory) = Unit {0}
+-- the version of a document
+unfoldable pub version_of : Data → Result ℕ PartError
+version_of d = do
+  whole ← check (is_some (as_object d)) kind.Form list.Whole 0 d
+  roman ← looked list.Roman 0 (member_of whole (codes "roman"))
+  number ← looked list.Roman 0 (number_of roman)
+  check (nat_le 1 number && nat_le number 2) kind.Version list.Roman 0 number
 
--- the value is that of the text, which has at most the greatest number of bytes; or it has more, or none is there
-abbrev pub IsValueOf : Option Texts → List ℕ → Result Value DocError → Type 0
-IsValueOf None name result = Unit {0}
-IsValueOf (Some texts) name (Ok value) = (json_of (text_of texts name) ≡ Some (view value)) × (length (text_of texts name) ≤ MAX_DOCUMENT_BYTES)
-IsValueOf (Some texts) name (Err error.Fault) = Unit {0}
-IsValueOf (Some texts) name (Err error.TooLong) = MAX_DOCUMENT_BYTES < length (text_of texts name)
-IsValueOf (Some texts) name (Err error.NotJson) = (json_of (text_of texts name) ≡ None) × (length (text_of texts name) ≤ MAX_DOCUMENT_BYTES)
-IsValueOf (Some texts) name (Err error.Memory) = Unit {0}
+-- a limit on cells
+unfoldable pub limit_in : Data → Result ℕ PartError
+limit_in d = do
+  number ← looked list.Limit 0 (number_of d)
+  check (nat_le 1 number && nat_le number MAX_CELLS) kind.Count list.Limit 0 number
 
--- the bytes are the first of the text
-pub record IsFront (bytes text : List ℕ) : Type 0 where
-  pub same : take (length bytes) text ≡ bytes
+-- the limit on cells of a document
+unfoldable pub limit_of : Data → Result ℕ PartError
+limit_of d = optional limit_in DEFAULT_CELLS (member_of d (codes "limit"))
+
+-- ---- parts in place and by file
+
+-- the name of a part file
+unfoldable pub file_in : Data → Result (Option (List ℕ)) PartError
+file_in d = do
+  name ← looked list.File 0 (text_of d)
+  check (nat_le 1 (length name) && nat_le (length name) MAX_FILE_NAME_BYTES) kind.BadName list.File 0 (Some name)
+
+-- the file for which a part stands, if it doesn't stand in place
+unfoldable pub file_of : Data → Result (Option (List ℕ)) PartError
+file_of d = optional file_in None (member_of d (codes "file"))
+
+-- the value of a document or a part file
+unfoldable pub value_at : Texts → List ℕ → Part → Result Data Refusal
+value_at texts name part =
+    let text = shelf.text_of texts name in
+    placed name part (check (nat_le (length text) MAX_DOCUMENT_BYTES) kind.TooLong list.Whole 0 text >>= (λ bytes. found kind.NotJson list.Whole 0 (json_of bytes)))
+
+-- a part in place, or the value of its file, with the document in which it stands
+abbrev pub opened : Texts → List ℕ → Part → Data → Option (List ℕ) → Result (List ℕ × Data) Refusal
+opened texts document part d None = Ok (document, d)
+opened texts document part d (Some file) = value_at texts file part >>= (λ value. Ok (file, value))
+
+-- the same, of a value that may name a file
+unfoldable pub part_of : Texts → List ℕ → Part → Data → Result (List ℕ × Data) Refusal
+part_of texts document part d = placed document part (file_of d) >>= opened texts document part d
+
+-- ---- the environment, the behaviours and the target
+
+-- the name of a behaviour or a service, which none of those before it has
+unfoldable pub new_name_of : List (List ℕ) → Data → Result (List ℕ) PartError
+new_name_of before d = do
+  whole ← check (is_some (as_object d)) kind.Form list.Whole 0 d
+  name ← name_of whole
+  check (is_none (place_of before name)) kind.Repeated list.Name 0 name
+
+-- the environment of a document
+unfoldable pub environment_in : Texts → List ℕ → Data → Result NamedEnv Refusal
+environment_in texts document d = do
+  member ← placed document part.Environment (looked list.Whole 0 (member_of d (codes "environment")))
+  (file, value) ← part_of texts document part.Environment member
+  placed file part.Environment (environment_of value)
+
+-- a behaviour whose name is new among those before it
+unfoldable pub new_behaviour_of : NamedEnv → List NamedBeh → Data → Result NamedBeh PartError
+new_behaviour_of env before d = new_name_of (map behaviour_name before) d >>= (λ name. behaviour_of env d)
+
+-- behaviour i, after those before it
+unfoldable pub behaviour_in : Texts → List ℕ → NamedEnv → List NamedBeh → ℕ → Data → Result NamedBeh Refusal
+behaviour_in texts document env before i d = do
+  (file, value) ← part_of texts document (part.Behaviour i) d
+  placed file (part.Behaviour i) (new_behaviour_of env before value)
+
+-- the same, put behind those before it
+unfoldable pub behaviour_step : Texts → List ℕ → NamedEnv → ℕ → List NamedBeh → Data → Result (List NamedBeh) Refusal
+behaviour_step texts document env i before d = behaviour_in texts document env before i d >>= (λ behaviour. Ok (before ++ behaviour ∷ []))
+
+-- the behaviours of a document
+unfoldable pub catalogue_in : Texts → List ℕ → NamedEnv → Data → Result (List NamedBeh) Refusal
+catalogue_in texts document env d = do
+  items ← placed document part.System (counted_items list.Behaviours (codes "behaviours") 0 MAX_BEHAVIOURS d)
+  each_item (behaviour_step texts document env) 0 [] items
+
+-- the target of a document
+unfoldable pub target_in : Texts → List ℕ → NamedEnv → Data → Result NamedTarget Refusal
+target_in texts document env d = do
+  member ← placed document (part.Target 0) (looked list.Whole 0 (member_of d (codes "target")))
+  (file, value) ← part_of texts document (part.Target 0) member
+  placed file (part.Target 0) (target_of env value)
+
+-- ---- services
+
+-- the place of a service's behaviour in the catalogue
+unfoldable pub behaviour_place : List NamedBeh → Data → Result ℕ PartError
+behaviour_place catalogue d = do
+  name ← looked list.Behaviour 0 (member_of d (codes "behaviour"))
+  place_in (map behaviour_name catalogue) list.Behaviour 0 name
+
+-- a service's state, which is its behaviour's start where none is named
+unfoldable pub state_of : NamedBeh → Data → Result ℕ PartError
+state_of behaviour d = optional (place_in behaviour.states list.State 0) behaviour.beh.start (member_of d (codes "state"))
+
+-- a truth value
+abbrev pub truth_in : Place → Data → Result Bool PartError
+truth_in place d = looked place 0 (truth_of d)
+
+-- whether a service is frozen
+unfoldable pub frozen_of : Data → Result Bool PartError
+frozen_of d = optional (truth_in list.Frozen) false (member_of d (codes "frozen"))
+
+-- whether a service rests: in version 1 each does
+unfoldable pub rests_of : ℕ → Data → Result Bool PartError
+rests_of version d = if version == 1 then Ok true else optional (truth_in list.Rests) true (member_of d (codes "rests"))
+
+-- a service behind those before it
+unfoldable pub service_of : ℕ → List NamedBeh → List Service → Data → Result Service PartError
+service_of version catalogue before d = do
+  name ← new_name_of (map service_name before) d
+  place ← behaviour_place catalogue d
+  behaviour ← found kind.Unknown list.Behaviour 0 (slice_get catalogue place)
+  state ← state_of behaviour d
+  frozen ← frozen_of d
+  rests ← rests_of version d
+  Ok (record { name = name; behaviour = place; state = state; frozen = frozen; rests = rests })
+
+-- service i, put behind those before it
+unfoldable pub service_step : List ℕ → ℕ → List NamedBeh → ℕ → List Service → Data → Result (List Service) Refusal
+service_step document version catalogue i before d =
+    placed document (part.Service i) (service_of version catalogue before d) >>= (λ service. Ok (before ++ service ∷ []))
+
+-- the services of a document
+unfoldable pub services_of : List ℕ → ℕ → List NamedBeh → Data → Result (List Service) Refusal
+services_of document version catalogue d = do
+  items ← placed document part.System (counted_items list.Services (codes "services") 0 MAX_SERVICES d)
+  each_item (service_step document version catalogue) 0 [] items
+
+-- ---- the document
+
+-- the library that a document's value is
+unfoldable pub library_in : Texts → List ℕ → Data → Result PlainLibrary Refusal
+library_in texts document d = do
+  version ← placed document part.System (version_of d)
+  limit ← placed document part.System (limit_of d)
+  env ← environment_in texts document d
+  catalogue ← catalogue_in texts document env d
+  services ← services_of document version catalogue d
+  target ← target_in texts document env d
+  Ok (record { environment = env; catalogue = catalogue; services = services; target = target; limit = limit })
+
+-- the library that the document of this name is, or the first rule that it breaks
+unfoldable pub library_of : Texts → List ℕ → Result PlainLibrary Refusal
+library_of texts document = value_at texts document part.System >>= library_in texts document

@@ -1,6 +1,6 @@
 //! The JSON value of a text on a shelf.
 ghost use Rattle.std.specs.Prelude.{◌≡◌};
-ghost use Rattle.roman_library.specs.Documents.{Caused, IsTextOf, IsValueOf, doc_error_number};
+ghost use Rattle.roman_library.specs.Texts.{Caused, IsTextOf, IsValueOf, doc_error_number};
 
 use roman_io::Shelf;
 use roman_model::MAX_DOCUMENT_BYTES;

@@ -2,6 +2,7 @@
 #![tactic(auto)]
 
 mod plain;
+mod refusals;
 mod run;
 mod status;
 

@@ -1,178 +1,266 @@
-//! A plain composition of small systems, pair by pair, for documents whose parts stand in place and
-//! whose guards are all `true`.
-use roman_read::{Miss, list, member, text};
-use serde_json::Value;
-use std::alloc::{AllocError, AllocFailed, Global};
+//! A plain composition of small systems, pair by pair.
+ghost use Rattle.std.specs.Prelude.{◌≡◌, ◌<◌, All, length};
+ghost use Rattle.roman_library.specs.Library.{IsBehaviour, IsLibrary, plain};
+
+use roman_library::{Library, Service};
+use roman_parts::{Behaviour, Environment, Target};
+use std::alloc::{AllocError, Global};
 
 /// The greatest number of pairs that are looked at.
 const MAX_PAIRS: usize = 65_536;
 
-/// Why there is no answer.
-#[derive(Clone, Copy, Debug, PartialEq, Eq)]
-pub enum Unread {
-    /// The document isn't read.
-    NotRead,
-    /// There is no memory.
-    Memory,
-}
-
-impl From<Miss> for Unread {
-    fn from(_miss: Miss) -> Unread {
-        Unread::NotRead
-    }
-}
-
-impl From<AllocError> for Unread {
-    fn from(_error: AllocError) -> Unread {
-        Unread::Memory
-    }
-}
-
-impl<T: Drop> From<AllocFailed<T>> for Unread {
-    fn from(_error: AllocFailed<T>) -> Unread {
-        Unread::Memory
-    }
-}
-
-/// A step from a state by an action to a state.
+/// A step from a state by an action to a state, where the environment is in a state.
 #[derive(Clone, Copy)]
-struct Step {
-    from: usize,
-    action: usize,
-    to: usize,
+struct Move {
+    from: u8,
+    environment: u8,
+    action: u8,
+    to: u8,
 }
 
-/// An environment, a behaviour or a target.
+/// An environment, a target or a service.
 #[derive(Drop)]
 struct Machine {
-    states: usize,
-    start: usize,
-    finals: Vec<usize>,
-    steps: Vec<Step>,
+    states: u8,
+    start: u8,
+    // Whether its state must be final where the target's is.
+    rests: bool,
+    finals: Vec<u8>,
+    moves: Vec<Move>,
 }
 
 impl Machine {
-    /// The machine has a step from the state by the action.
-    fn moves(&self, from: usize, action: usize) -> bool {
-        self.steps
-            .iter()
-            .any(|s| s.from == from && s.action == action)
+    /// The machine has a step from the state by the action, where the environment is in that state.
+    fn has_move(&self, from: u8, environment: u8, action: u8) -> bool {
+        self.moves.iter().any(|m| m.from == from
+            && m.environment == environment
+            && m.action == action)
     }
 
-    fn is_final(&self, state: usize) -> bool {
+    fn is_final(&self, state: u8) -> bool {
         self.finals.iter().any(|f| *f == state)
     }
 }
 
-/// The machines of a system: the target's, the environment's, and one for each service. A pair has
-/// one digit, a state, for each.
+/// The machines of a system: the target, the environment, and the services. A pair has one digit, a
+/// state, for each.
 #[derive(Drop)]
 struct Plain {
-    actions: usize,
+    actions: u8,
     machines: Vec<Machine>,
 }
 
-/// Whether the start pair is related.
-pub fn composes(alloc: Global, document: &Value) -> Result<bool, Unread> {
-    let plain = read(alloc, document)?;
+/// What there is to say of a system.
+#[derive(Clone, Copy, Debug, PartialEq, Eq)]
+pub(crate) enum Answer {
+    /// The start pair is related.
+    Composition,
+    /// The start pair isn't related.
+    None,
+    /// The cells, pairs times actions, exceed the document's limit.
+    PastLimit,
+    /// The pairs are too many to be looked at one by one.
+    TooMany,
+}
+
+/// Whether the start pair is related, where the system has few enough pairs.
+pub(crate) fn composes(alloc: Global, library: &Library) -> Result<Answer, AllocError>
+    requires { IsLibrary (plain library.now) }
+{
+    let plain = plain_of(alloc, library)?;
     let mut pairs = 1usize;
     for machine in &plain.machines {
-        pairs = pairs.saturating_mul(machine.states);
+        pairs = pairs.saturating_mul(machine.states as usize);
+    }
+    if pairs.saturating_mul(plain.actions as usize) > library.limit as usize {
+        return Ok(Answer::PastLimit);
     }
     if pairs > MAX_PAIRS {
-        return Err(Unread::NotRead);
+        return Ok(Answer::TooMany);
     }
     let alive = survivors(alloc, &plain, pairs)?;
     let mut starts = Vec::new(alloc);
     for machine in &plain.machines {
         starts.push(machine.start)?;
     }
-    Ok(holds(&alive, number(&plain.machines, &starts)))
+    if holds(&alive, number(&plain.machines, &starts)) {
+        Ok(Answer::Composition)
+    } else {
+        Ok(Answer::None)
+    }
 }
 
-/// Reads the parts of a system.
-fn read(alloc: Global, document: &Value) -> Result<Plain, Unread> {
-    let environment = member(document, "environment")?;
-    let actions = list(member(environment, "actions")?)?;
+/// The machines of a library.
+fn plain_of(alloc: Global, library: &Library) -> Result<Plain, AllocError>
+    requires { IsLibrary (plain library.now) }
+{
+    let environment = &library.environment;
     let mut machines = Vec::new(alloc);
-    machines.push(read_machine(alloc, member(document, "target")?, actions)?)?;
-    machines.push(read_environment(alloc, environment, actions)?)?;
-    let catalogue = list(member(document, "behaviours")?)?;
-    for service in list(member(document, "services")?)? {
-        let behaviour = named(catalogue, text(member(service, "behaviour")?)?)?;
-        machines.push(read_machine(alloc, behaviour, actions)?)?;
+    machines.push(target_machine(alloc, environment, &library.target)?)?;
+    machines.push(environment_machine(alloc, environment)?)?;
+    for service in &library.services {
+        machines.push(service_machine(alloc, environment, &library.catalogue, service)?)?;
     }
     Ok(Plain {
-        actions: actions.len(),
+        actions: environment.actions().len() as u8,
         machines,
     })
 }
 
-/// The behaviour with this name.
-fn named<'a>(catalogue: &'a [Value], name: &str) -> Result<&'a Value, Unread> {
-    for behaviour in catalogue {
-        if text(member(behaviour, "name")?)? == name {
-            return Ok(behaviour);
-        }
-    }
-    Err(Unread::NotRead)
+fn service_machine(
+    alloc: Global,
+    environment: &Environment,
+    catalogue: &[Behaviour],
+    service: &Service,
+) -> Result<Machine, AllocError>
+    requires known { All (IsBehaviour environment.now) catalogue.now }
+    requires place { service.now.behaviour < length catalogue.now }
+{
+    let behaviour = &catalogue[service.behaviour as usize];
+    let mut machine = behaviour_machine(alloc, environment, behaviour, service.frozen)?;
+    machine.start = service.state;
+    machine.rests = service.rests;
+    Ok(machine)
 }
 
-/// The place of a name among those of a list.
-fn place(names: &[Value], name: &Value) -> Result<usize, Unread> {
-    let name = text(name)?;
-    for (i, item) in names.iter().enumerate() {
-        if text(item)? == name {
-            return Ok(i);
-        }
-    }
-    Err(Unread::NotRead)
-}
-
-fn read_environment(alloc: Global, v: &Value, actions: &[Value]) -> Result<Machine, Unread> {
-    let states = list(member(v, "states")?)?;
-    let mut steps = Vec::new(alloc);
-    for item in list(member(v, "steps")?)? {
-        match list(item)? {
-            [from, action, to] => steps.push(Step {
-                from: place(states, from)?,
-                action: place(actions, action)?,
-                to: place(states, to)?,
-            })?,
-            _ => return Err(Unread::NotRead),
-        }
+fn environment_machine(alloc: Global, environment: &Environment) -> Result<Machine, AllocError> {
+    let states = environment.states().len() as u8;
+    let mut moves = Vec::new(alloc);
+    for e in 0..states {
+        push_environment(&mut moves, environment, e)?;
     }
     Ok(Machine {
-        states: states.len(),
-        start: place(states, member(v, "start")?)?,
+        states,
+        start: environment.start(),
+        rests: false,
         finals: Vec::new(alloc),
-        steps,
+        moves,
     })
 }
 
-fn read_machine(alloc: Global, v: &Value, actions: &[Value]) -> Result<Machine, Unread> {
-    let states = list(member(v, "states")?)?;
-    let mut finals = Vec::new(alloc);
-    for item in list(member(v, "final")?)? {
-        finals.push(place(states, item)?)?;
+fn push_environment(
+    moves: &mut Vec<Move>,
+    environment: &Environment,
+    e: u8,
+) -> Result<(), AllocError>
+    requires { e < environment.now.env.states }
+{
+    for action in 0..environment.actions().len() as u8 {
+        push_all(moves, e, e, action, environment.next(e, action))?;
     }
-    let mut steps = Vec::new(alloc);
-    for item in list(member(v, "steps")?)? {
-        match list(item)? {
-            [from, Value::Bool(true), action, to] => steps.push(Step {
-                from: place(states, from)?,
-                action: place(actions, action)?,
-                to: place(states, to)?,
-            })?,
-            _ => return Err(Unread::NotRead),
+    Ok(())
+}
+
+/// Appends a move to each of those states.
+fn push_all(
+    moves: &mut Vec<Move>,
+    from: u8,
+    environment: u8,
+    action: u8,
+    to: &[u8],
+) -> Result<(), AllocError> {
+    for to in to {
+        moves.push(Move {
+            from,
+            environment,
+            action,
+            to: *to,
+        })?;
+    }
+    Ok(())
+}
+
+fn behaviour_machine(
+    alloc: Global,
+    environment: &Environment,
+    behaviour: &Behaviour,
+    frozen: bool,
+) -> Result<Machine, AllocError>
+    requires states { behaviour.now.env_states ≡ environment.now.env.states }
+    requires actions { behaviour.now.actions ≡ environment.now.env.actions }
+{
+    let states = behaviour.states().len() as u8;
+    let mut moves = Vec::new(alloc);
+    let mut finals = Vec::new(alloc);
+    for b in 0..states {
+        if behaviour.is_final(b) {
+            finals.push(b)?;
+        }
+        if !frozen {
+            push_behaviour(&mut moves, environment, behaviour, b)?;
         }
     }
     Ok(Machine {
-        states: states.len(),
-        start: place(states, member(v, "start")?)?,
+        states,
+        start: behaviour.start(),
+        rests: true,
         finals,
-        steps,
+        moves,
     })
+}
+
+fn push_behaviour(
+    moves: &mut Vec<Move>,
+    environment: &Environment,
+    behaviour: &Behaviour,
+    b: u8,
+) -> Result<(), AllocError>
+    requires states { behaviour.now.env_states ≡ environment.now.env.states }
+    requires actions { behaviour.now.actions ≡ environment.now.env.actions }
+    requires state { b < behaviour.now.beh.states }
+{
+    for e in 0..environment.states().len() as u8 {
+        for action in 0..environment.actions().len() as u8 {
+            push_all(moves, b, e, action, behaviour.out(b, e, action))?;
+        }
+    }
+    Ok(())
+}
+
+fn target_machine(
+    alloc: Global,
+    environment: &Environment,
+    target: &Target,
+) -> Result<Machine, AllocError>
+    requires states { target.now.env_states ≡ environment.now.env.states }
+    requires actions { target.now.actions ≡ environment.now.env.actions }
+{
+    let states = target.states().len() as u8;
+    let mut moves = Vec::new(alloc);
+    let mut finals = Vec::new(alloc);
+    for t in 0..states {
+        if target.is_final(t) {
+            finals.push(t)?;
+        }
+        push_target(&mut moves, environment, target, t)?;
+    }
+    Ok(Machine {
+        states,
+        start: target.start(),
+        rests: false,
+        finals,
+        moves,
+    })
+}
+
+fn push_target(
+    moves: &mut Vec<Move>,
+    environment: &Environment,
+    target: &Target,
+    t: u8,
+) -> Result<(), AllocError>
+    requires states { target.now.env_states ≡ environment.now.env.states }
+    requires actions { target.now.actions ≡ environment.now.env.actions }
+    requires state { t < target.now.beh.states }
+{
+    for e in 0..environment.states().len() as u8 {
+        for action in 0..environment.actions().len() as u8 {
+            if let Some(to) = target.step(t, e, action) {
+                push_all(moves, t, e, action, &[to])?;
+            }
+        }
+    }
+    Ok(())
 }
 
 /// Drops pairs that don't survive among those left, pass by pass, until a pass drops none.
@@ -202,27 +290,30 @@ fn holds(alive: &[bool], p: usize) -> bool {
 }
 
 /// The pair's digits.
-fn digits(alloc: Global, machines: &[Machine], p: usize) -> Result<Vec<usize>, AllocError> {
+fn digits(alloc: Global, machines: &[Machine], p: usize) -> Result<Vec<u8>, AllocError> {
     let mut digits = Vec::new(alloc);
     let mut rest = p;
     for machine in machines.iter().rev() {
-        digits.push(rest.checked_rem(machine.states).unwrap_or(0))?;
-        rest = rest.checked_div(machine.states).unwrap_or(0);
+        let states = machine.states as usize;
+        digits.push(rest.checked_rem(states).unwrap_or(0) as u8)?;
+        rest = rest.checked_div(states).unwrap_or(0);
     }
     digits.reverse();
     Ok(digits)
 }
 
 /// The number of the pair with those digits.
-fn number(machines: &[Machine], digits: &[usize]) -> usize {
+fn number(machines: &[Machine], digits: &[u8]) -> usize {
     let mut number = 0usize;
     for (machine, digit) in machines.iter().zip(digits) {
-        number = number.wrapping_mul(machine.states).wrapping_add(*digit);
+        number = number
+            .wrapping_mul(machine.states as usize)
+            .wrapping_add(*digit as usize);
     }
     number
 }
 
-fn digit(digits: &[usize], i: usize) -> usize {
+fn digit(digits: &[u8], i: usize) -> u8 {
     digits.get(i).copied().unwrap_or(0)
 }
 
@@ -233,12 +324,13 @@ fn survives(alloc: Global, plain: &Plain, alive: &[bool], p: usize) -> Result<bo
         [target, environment, ..] => (target, environment),
         _ => return Ok(false),
     };
-    if target.is_final(digit(&digits, 0)) && !rests(&plain.machines, &digits) {
+    let t = digit(&digits, 0);
+    let e = digit(&digits, 1);
+    if target.is_final(t) && !rests(&plain.machines, &digits) {
         return Ok(false);
     }
     for action in 0..plain.actions {
-        let allowed = target.moves(digit(&digits, 0), action)
-            && environment.moves(digit(&digits, 1), action);
+        let allowed = target.has_move(t, e, action) && environment.has_move(e, e, action);
         if allowed && !is_served(plain, alive, &mut digits, action) {
             return Ok(false);
         }
@@ -246,10 +338,10 @@ fn survives(alloc: Global, plain: &Plain, alive: &[bool], p: usize) -> Result<bo
     Ok(true)
 }
 
-/// Each service is in a final state.
-fn rests(machines: &[Machine], digits: &[usize]) -> bool {
+/// Each machine that rests is in a final state.
+fn rests(machines: &[Machine], digits: &[u8]) -> bool {
     for (i, machine) in machines.iter().enumerate() {
-        if i > 1 && !machine.is_final(digit(digits, i)) {
+        if machine.rests && !machine.is_final(digit(digits, i)) {
             return false;
         }
     }
@@ -257,10 +349,11 @@ fn rests(machines: &[Machine], digits: &[usize]) -> bool {
 }
 
 /// Some service serves the action.
-fn is_served(plain: &Plain, alive: &[bool], digits: &mut Vec<usize>, action: usize) -> bool {
+fn is_served(plain: &Plain, alive: &[bool], digits: &mut Vec<u8>, action: u8) -> bool {
+    let e = digit(digits, 1);
     for k in 2..plain.machines.len() {
-        if plain.machines[k].moves(digit(digits, k), action)
-            && serves(plain, alive, digits, action, k)
+        if plain.machines[k].has_move(digit(digits, k), e, action)
+            && leads(plain, alive, digits, e, action, &[0, 1, k])
         {
             return true;
         }
@@ -268,21 +361,13 @@ fn is_served(plain: &Plain, alive: &[bool], digits: &mut Vec<usize>, action: usi
     false
 }
 
-/// Each outcome of the action, delegated to machine k, is a pair that is left.
-fn serves(plain: &Plain, alive: &[bool], digits: &mut Vec<usize>, action: usize, k: usize) -> bool {
-    let mut all = true;
-    for i in [0, 1, k] {
-        all = all && i < plain.machines.len();
-    }
-    all && leads(plain, alive, digits, action, &[0, 1, k])
-}
-
 /// Each way to move those machines by the action leads to a pair that is left.
 fn leads(
     plain: &Plain,
     alive: &[bool],
-    digits: &mut Vec<usize>,
-    action: usize,
+    digits: &mut Vec<u8>,
+    environment: u8,
+    action: u8,
     movers: &[usize],
 ) -> bool {
     match movers {
@@ -290,10 +375,10 @@ fn leads(
         [mover, movers @ ..] => {
             let from = digit(digits, *mover);
             let mut all = true;
-            for step in steps_of(plain, *mover) {
-                if step.from == from && step.action == action {
+            for step in moves_of(plain, *mover) {
+                if step.from == from && step.environment == environment && step.action == action {
                     set(digits, *mover, step.to);
-                    all = all && leads(plain, alive, digits, action, movers);
+                    all = all && leads(plain, alive, digits, environment, action, movers);
                 }
             }
             set(digits, *mover, from);
@@ -302,14 +387,14 @@ fn leads(
     }
 }
 
-fn steps_of(plain: &Plain, mover: usize) -> &[Step] {
+fn moves_of(plain: &Plain, mover: usize) -> &[Move] {
     match plain.machines.get(mover) {
-        Some(machine) => machine.steps.as_slice(),
+        Some(machine) => machine.moves.as_slice(),
         None => &[],
     }
 }
 
-fn set(digits: &mut Vec<usize>, i: usize, digit: usize) {
+fn set(digits: &mut Vec<u8>, i: usize, digit: u8) {
     if i < digits.len() {
         digits[i] = digit;
     }

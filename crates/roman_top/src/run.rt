@@ -1,13 +1,28 @@
 //! The top call.
-ghost use Rattle.std.specs.Prelude.{◌≡◌, ◌≢◌, ◌<◌};
+ghost use Rattle.std.specs.Prelude.{◌≡◌, ◌≢◌, ◌<◌, IfOk, IfSome};
+ghost use Rattle.roman_library.specs.Library.{IsLibrary, plain};
 ghost use Rattle.roman_top.specs.Command.{command_of};
-ghost use Rattle.roman_top.specs.Run.{CausedAt, Ran, Says, WroteAnswer};
+ghost use Rattle.roman_top.specs.Run.{
+  CausedAt,
+  HasShape,
+  IsAnswer,
+  IsNoUsage,
+  Ran,
+  Says,
+  WroteAnswer,
+  WroteLimit,
+  WroteRefusal,
+  WroteSynth,
+  limit_line,
+};
 
-use crate::plain::{Unread, composes};
+use crate::plain::{Answer, composes};
+use crate::refusals::line_of;
 use crate::status::Status;
+use itoa::Buffer;
 use roman_io::{Shelf, Sink, Source, Steps, Words};
-use roman_library::{DocError, document};
-use std::alloc::Global;
+use roman_library::{Library, LoadError, Refusal, load};
+use std::alloc::{AllocError, Global};
 use std::sync::ledger::Ledger;
 
 const USAGE: &[u8; 26] = b"usage: roman synth SYSTEM\n";
@@ -32,7 +47,9 @@ pub fn serve<F: Shelf, I: Source, O: Sink, L: Ledger>(
     out: &mut O,
     steps: &mut Steps<L>,
 ) -> Status
-    ensures run { Ran (command_of words.now) (O.written out.old) (O.written out.new) result }
+    ensures run { Ran (command_of words.now) (F.texts shelf.old) (O.written out.old) (O.written out.new) result }
+    ensures shape { HasShape (command_of words.now) result }
+    ensures texts { F.texts shelf.new ≡ F.texts shelf.old }
     ensures shelf { CausedAt Status.ShelfFault (F.faults shelf.old) (F.faults shelf.new) result }
     ensures out { CausedAt Status.WriteFault (O.faults out.old) (O.faults out.new) result }
     ensures input { input.new ≡ input.old }
@@ -47,23 +64,70 @@ pub fn serve<F: Shelf, I: Source, O: Sink, L: Ledger>(
 
 /// Answers `synth`.
 fn synth<F: Shelf, O: Sink>(alloc: Global, name: &str, shelf: &mut F, out: &mut O) -> Status
-    ensures wrote { WroteAnswer (O.written out.old) (O.written out.new) result }
+    ensures wrote { IfSome (F.texts shelf.old) (λ texts. WroteSynth texts name.now (O.written out.old) (O.written out.new) result) }
+    ensures shape { IsNoUsage result }
+    ensures texts { F.texts shelf.new ≡ F.texts shelf.old }
     ensures shelf { CausedAt Status.ShelfFault (F.faults shelf.old) (F.faults shelf.new) result }
     ensures out { CausedAt Status.WriteFault (O.faults out.old) (O.faults out.new) result }
 {
-    let value = match document(alloc, shelf, name) {
-        Ok(value) => value,
-        Err(DocError::Fault) => return Status::ShelfFault,
-        Err(DocError::Memory) => return Status::Memory,
-        Err(DocError::TooLong) => return say(out, NOT_READ, Status::Refused),
-        Err(DocError::NotJson) => return say(out, NOT_READ, Status::Refused),
+    let library = match load(alloc, shelf, name) {
+        Ok(library) => library,
+        Err(LoadError::Fault) => return Status::ShelfFault,
+        Err(LoadError::Memory) => return Status::Memory,
+        Err(LoadError::Refused(refusal)) => return refuse(alloc, &refusal, out),
     };
-    match composes(alloc, &value) {
-        Ok(true) => say(out, COMPOSITION, Status::Done),
-        Ok(false) => say(out, NONE, Status::No),
-        Err(Unread::NotRead) => say(out, NOT_READ, Status::Refused),
-        Err(Unread::Memory) => Status::Memory,
+    answer(alloc, &library, out)
+}
+
+/// Writes the line of a refusal.
+fn refuse<O: Sink>(alloc: Global, refusal: &Refusal, out: &mut O) -> Status
+    ensures wrote { WroteRefusal refusal.now (O.written out.old) (O.written out.new) result }
+    ensures shape { IsAnswer result }
+    ensures out { CausedAt Status.WriteFault (O.faults out.old) (O.faults out.new) result }
+{
+    match line_of(alloc, refusal) {
+        Ok(line) => say(out, &line, Status::Refused),
+        Err(_) => Status::Memory,
     }
+}
+
+/// Writes the answer for an accepted document.
+fn answer<O: Sink>(alloc: Global, library: &Library, out: &mut O) -> Status
+    requires { IsLibrary (plain library.now) }
+    ensures wrote { WroteAnswer library.now.limit (O.written out.old) (O.written out.new) result }
+    ensures shape { IsAnswer result }
+    ensures out { CausedAt Status.WriteFault (O.faults out.old) (O.faults out.new) result }
+{
+    match composes(alloc, library) {
+        Ok(Answer::Composition) => say(out, COMPOSITION, Status::Done),
+        Ok(Answer::None) => say(out, NONE, Status::No),
+        Ok(Answer::PastLimit) => say_limit(alloc, library.limit, out),
+        Ok(Answer::TooMany) => say(out, NOT_READ, Status::Limit),
+        Err(_) => Status::Memory,
+    }
+}
+
+/// Writes `limit N`.
+fn say_limit<O: Sink>(alloc: Global, limit: u32, out: &mut O) -> Status
+    ensures wrote { WroteLimit limit (O.written out.old) (O.written out.new) result }
+    ensures shape { IsAnswer result }
+    ensures out { CausedAt Status.WriteFault (O.faults out.old) (O.faults out.new) result }
+{
+    match limit_line(alloc, limit) {
+        Ok(line) => say(out, &line, Status::Limit),
+        Err(_) => Status::Memory,
+    }
+}
+
+/// The line `limit N`.
+fn limit_line(alloc: Global, limit: u32) -> Result<Vec<u8>, AllocError>
+    ensures { IfOk result (λ line. line.items ≡ limit_line limit) }
+{
+    let mut buffer = Buffer::new();
+    let mut line = Vec::from_slice(alloc, b"limit ")?;
+    line.extend_from_slice(buffer.format(limit).as_bytes())?;
+    line.push(b'\n')?;
+    Ok(line)
 }
 
 /// Writes one line, and answers the status, or a fault of the sink.

@@ -1,6 +1,6 @@
 use Rattle.std.proofs.Common.{◌≡◌, ◌-◌, vec_len, IfSome}
 use Rattle.roman_io.specs.Shelf.{text_of}
-use Rattle.roman_library.specs.Documents.{IsFront}
+use Rattle.roman_library.specs.Texts.{IsFront}
 use Rattle.roman_library.proofs.text.whole_text.Given as goal
 
 abbrev pub invariant-pieces : goal.invariant-pieces

@@ -1,0 +1,263 @@
+-- The delegations found backwards are those that lead to the pair.
+use Rattle.std.proofs.Common.{◌≡◌, ℕ, zero, suc, ◌<◌, ◌≤◌, Bool, true, false, cond, List, [], ◌∷◌, map, length, Option, Some, None, IsTrue, IsFalse, slice_get, slice_index, slice_set, refl, sym, ap, ◌∙◌, subst, inl, inr, arith}
+use Rattle.std.specs.List.{flat_map, AllZip}
+use Rattle.roman_model.specs.Lists.{IsIn, HasNoRepeats, HoldsEachOnce, below}
+use Rattle.roman_model.specs.System.{Env, Beh, Sys, Seat, Pair, IsSys, IsPair, IsEnv, IsBeh, TStep, SStep, has_triple, has_move, env_prev, beh_prev, outcomes}
+use Rattle.roman_model.specs.Arena.{Delegation, back}
+use Rattle.roman_model.specs.Numbers.{sizes_of, count, number, pair_at, numbered}
+use Rattle.roman_model.proofs.Lists.{in_map, from_map, in_flat_map, from_flat_map, in_below, from_below, HasNoRepeats-below, HasNoRepeats-filter, HasNoRepeats-map, HasNoRepeats-flat_map, in_filter, filter_in}
+use Rattle.roman_model.proofs.SystemLemmas.{triple_in_range, move_in_range, in_env_prev, from_env_prev, in_beh_prev, from_beh_prev, seat_in, outcome_in, from_outcome, states_set, outcome_pair}
+use Rattle.roman_model.proofs.NumberLemmas.{numbers_are_pairs, IsPairOf-from, AreBelow-length}
+use Rattle.roman_model.proofs.NumberedLists.{numbered_is_same, numbered_is_arena}
+use Rattle.roman_model.proofs.ArenaLemmas.{in_back, from_back, back_once}
+use Rattle.std.proofs.lemmas.Option.{slice_get_within}
+use Rattle.std.proofs.lemmas.List.{get_or-set_same, set-set, set-get_or, length-map}
+use Rattle.roman_joint.specs.Backward.{seat_prev, from_states, from_seat, from_target, from_env, from_action, from_all}
+
+-- the delegation of a to the seat at k, from t, e and the seat's state b
+abbrev pub delegation : Sys → Pair → ℕ → ℕ → ℕ → ℕ → ℕ → Delegation ℕ
+delegation s q a e t k b = record { node = number (sizes_of s) (record { t = t; e = e; bs = slice_set q.bs k b }); action = a; seat = k }
+
+-- the steps by which a leads from those states to q
+pub record Steps (s : Sys) (q : Pair) (a e t k b : ℕ) : Type 0 where
+  pub seat : Seat
+  pub seated : slice_get s.seats k ≡ Some seat
+  pub ready : IsFalse seat.frozen
+  pub world : IsTrue (has_triple s.env e a q.e)
+  pub goal : IsTrue (has_move s.target t e a q.t)
+  pub moves : IsTrue (has_move seat.beh b e a (slice_index q.bs k))
+
+from_frozen : (seat : Seat) (frozen : Bool) (b' e a b : ℕ) → IsIn b (cond frozen [] (beh_prev seat.beh b' e a)) → IsFalse frozen × IsIn b (beh_prev seat.beh b' e a)
+from_frozen seat true b' e a b i = absurd i
+from_frozen seat false b' e a b i = (refl, i)
+
+from_seat_prev : (o : Option Seat) (b' e a b : ℕ) → IsIn b (seat_prev o b' e a) → (seat : Seat) × (o ≡ Some seat) × IsFalse seat.frozen × IsTrue (has_move seat.beh b e a b')
+from_seat_prev None b' e a b i = absurd i
+from_seat_prev (Some seat) b' e a b i = let (ready, j) = from_frozen seat seat.frozen b' e a b i in (seat, refl, ready, from_beh_prev seat.beh b e a b' j)
+
+in_frozen : (seat : Seat) (frozen : Bool) (b' e a b : ℕ) → IsFalse frozen → IsIn b (beh_prev seat.beh b' e a) → IsIn b (cond frozen [] (beh_prev seat.beh b' e a))
+in_frozen seat frozen b' e a b ready i = subst (λ f. IsIn b (cond f [] (beh_prev seat.beh b' e a))) (sym ready) i
+
+in_seat_prev : (env : Env) (seat : Seat) (b' e a b : ℕ) → IsBeh env seat.beh → IsFalse seat.frozen → IsTrue (has_move seat.beh b e a b') → IsIn b (seat_prev (Some seat) b' e a)
+in_seat_prev env seat b' e a b ok ready moves = in_frozen seat seat.frozen b' e a b ready (in_beh_prev env seat.beh b e a b' ok moves)
+
+-- each delegation found is one of those steps
+pub record Found (s : Sys) (q : Pair) (d : Delegation ℕ) : Type 0 where
+  pub e : ℕ
+  pub t : ℕ
+  pub b : ℕ
+  pub steps : Steps s q d.action e t d.seat b
+  pub is : d ≡ delegation s q d.action e t d.seat b
+
+pub from_all_found : (s : Sys) (q : Pair) (d : Delegation ℕ) → IsIn d (from_all s q) → Found s q d
+from_all_found s q d i =
+    let (a, in_actions, i1) = from_flat_map (from_action s q) d (below s.env.actions) i in
+    let (e, in_env, i2) = from_flat_map (from_env s q a) d (env_prev s.env q.e a) i1 in
+    let (t, in_target, i3) = from_flat_map (from_target s q a e) d (beh_prev s.target q.t e a) i2 in
+    let (k, in_seats, i4) = from_flat_map (from_seat s q a e t) d (below (length s.seats)) i3 in
+    let (b, in_states, is) = from_map (delegation s q a e t k) d (seat_prev (slice_get s.seats k) (slice_index q.bs k) e a) i4 in
+    let (seat, seated, ready, moves) = from_seat_prev (slice_get s.seats k) (slice_index q.bs k) e a b in_states in
+    let found : Found s q (delegation s q a e t k b) =
+    record {
+      e = e;
+      t = t;
+      b = b;
+      steps = record { seat = seat; seated = seated; ready = ready; world = from_env_prev s.env e a q.e in_env; goal = from_beh_prev s.target t e a q.t in_target; moves = moves };
+      is = refl;
+    } in
+    subst (Found s q) (sym is) found
+
+-- and each of those steps is found
+pub in_all : (s : Sys) (q : Pair) (a e t k b : ℕ) → IsSys s → Steps s q a e t k b → IsIn (delegation s q a e t k b) (from_all s q)
+in_all s q a e t k b sys steps =
+    let d : Delegation ℕ = delegation s q a e t k b in
+    let ok : IsBeh s.env steps.seat.beh = sys.seats steps.seat (seat_in s.seats k steps.seat steps.seated) in
+    let states : IsIn b (seat_prev (slice_get s.seats k) (slice_index q.bs k) e a) =
+    subst (λ o. IsIn b (seat_prev o (slice_index q.bs k) e a)) (sym steps.seated) (in_seat_prev s.env steps.seat (slice_index q.bs k) e a b ok steps.ready steps.moves) in
+    in_flat_map (from_action s q) a d (below s.env.actions) (in_below s.env.actions a (triple_in_range s.env e a q.e sys.env steps.world).1)
+    (in_flat_map (from_env s q a) e d (env_prev s.env q.e a) (in_env_prev s.env e a q.e sys.env steps.world)
+    (in_flat_map (from_target s q a e) t d (beh_prev s.target q.t e a) (in_beh_prev s.env s.target t e a q.t sys.target steps.goal)
+    (in_flat_map (from_seat s q a e t) k d (below (length s.seats)) (in_below (length s.seats) k (slice_get_within s.seats k steps.seat steps.seated))
+    (in_map (delegation s q a e t k) b (seat_prev (slice_get s.seats k) (slice_index q.bs k) e a) states))))
+
+-- one state for each seat
+length_of_pair : (s : Sys) (p : Pair) → IsPair s p → length p.bs ≡ length s.seats
+length_of_pair s p ok = AreBelow-length (map (λ seat. seat.beh.states) s.seats) p.bs (IsPairOf-from s p ok).bs ∙ length-map s.seats (λ seat. seat.beh.states)
+
+-- the pair from which the steps go
+abbrev pub origin : Pair → ℕ → ℕ → ℕ → ℕ → Pair
+origin q e t k b = record { t = t; e = e; bs = slice_set q.bs k b }
+
+origin_pair : (s : Sys) (q : Pair) (a e t k b : ℕ) → IsSys s → IsPair s q → Steps s q a e t k b → IsPair s (origin q e t k b)
+origin_pair s q a e t k b sys ok steps = record {
+  t = (move_in_range s.env s.target t e a q.t sys.target steps.goal).0;
+  e = (triple_in_range s.env e a q.e sys.env steps.world).0;
+  bs = states_set s.seats q.bs k b steps.seat ok.bs steps.seated
+      (move_in_range s.env steps.seat.beh b e a (slice_index q.bs k) (sys.seats steps.seat (seat_in s.seats k steps.seat steps.seated)) steps.moves).0;
+}
+
+steps_lead : (s : Sys) (q : Pair) (a e t k b : ℕ) → IsSys s → IsPair s q → Steps s q a e t k b → IsIn q (outcomes s (origin q e t k b) a k)
+steps_lead s q a e t k b sys ok steps =
+    let within : k < length q.bs = omega (arith, length_of_pair s q ok, slice_get_within s.seats k steps.seat steps.seated) in
+    let here : slice_index (slice_set q.bs k b) k ≡ b = get_or-set_same q.bs k b 0 within in
+    outcome_in s (origin q e t k b) a k q.t q.e q.bs sys (steps.world, steps.goal)
+    (record {
+      seat = steps.seat;
+      seated = steps.seated;
+      ready = steps.ready;
+      world = steps.world;
+      to = slice_index q.bs k;
+      moves = subst (λ c. IsTrue (has_move steps.seat.beh c e a (slice_index q.bs k))) (sym here) steps.moves;
+      is = sym (set-set q.bs k b (slice_index q.bs k) ∙ set-get_or q.bs k 0);
+    })
+
+-- what leads to q comes from there by such steps
+pub record Comes (s : Sys) (q p : Pair) (a k : ℕ) : Type 0 where
+  pub steps : Steps s q a p.e p.t k (slice_index p.bs k)
+  pub from : origin q p.e p.t k (slice_index p.bs k) ≡ p
+
+outcome_steps : (s : Sys) (q p : Pair) (a k : ℕ) → IsPair s p → IsIn q (outcomes s p a k) → Comes s q p a k
+outcome_steps s q p a k ok i =
+    let (step, r) = from_outcome s p a k q i in
+    let within : k < length p.bs = omega (arith, length_of_pair s p ok, slice_get_within s.seats k r.seat r.seated) in
+    let there : slice_index q.bs k ≡ r.to = ap (λ bs. slice_index bs k) r.is ∙ get_or-set_same p.bs k r.to 0 within in
+    let back : slice_set q.bs k (slice_index p.bs k) ≡ p.bs = ap (λ bs. slice_set bs k (slice_index p.bs k)) r.is ∙ (set-set p.bs k r.to (slice_index p.bs k) ∙ set-get_or p.bs k 0) in
+    record {
+      steps = record {
+        seat = r.seat;
+        seated = r.seated;
+        ready = r.ready;
+        world = step.0;
+        goal = step.1;
+        moves = subst (λ b'. IsTrue (has_move r.seat.beh (slice_index p.bs k) p.e a b')) (sym there) r.moves;
+      };
+      from = ap (λ bs. pair_with p bs) back;
+    }
+  where
+    pair_with : Pair → List ℕ → Pair
+    pair_with p bs = record { t = p.t; e = p.e; bs = bs }
+
+-- each delegation found leads to q
+pub found_leads : (s : Sys) (p : ℕ) (d : Delegation ℕ) → IsSys s → p < count (sizes_of s) → IsIn d (from_all s (pair_at (sizes_of s) p)) → IsIn d (back (numbered s) p)
+found_leads s p d sys below_p i =
+    let q : Pair = pair_at (sizes_of s) p in
+    let ok : IsPair s q = (numbers_are_pairs s).pair p below_p in
+    let found : Found s q d = from_all_found s q d i in
+    let r : Pair = origin q found.e found.t d.seat found.b in
+    let ok_r : IsPair s r = origin_pair s q d.action found.e found.t d.seat found.b sys ok found.steps in
+    let lead : IsIn q (outcomes s r d.action d.seat) = steps_lead s q d.action found.e found.t d.seat found.b sys ok found.steps in
+    let numbers : IsIn p (map (number (sizes_of s)) (outcomes s r d.action d.seat)) =
+    subst (λ n. IsIn n (map (number (sizes_of s)) (outcomes s r d.action d.seat))) ((numbers_are_pairs s).there p below_p)
+    (in_map (number (sizes_of s)) q (outcomes s r d.action d.seat) lead) in
+    let there : IsIn p ((numbered s).outcomes (number (sizes_of s) r) d.action d.seat) =
+    subst (λ x. IsIn p (map (number (sizes_of s)) (outcomes s x d.action d.seat))) (sym ((numbers_are_pairs s).back r ok_r)) numbers in
+    subst (λ x. IsIn x (back (numbered s) p)) (sym found.is)
+    (in_back (numbered s) (numbered_is_arena s sys) p (number (sizes_of s) r) d.action d.seat
+    (in_below (count (sizes_of s)) (number (sizes_of s) r) ((numbers_are_pairs s).below r ok_r)) there)
+
+-- and what leads to q is found
+pub leads_found : (s : Sys) (p : ℕ) (d : Delegation ℕ) → IsSys s → p < count (sizes_of s) → IsIn d (back (numbered s) p) → IsIn d (from_all s (pair_at (sizes_of s) p))
+leads_found s p d sys below_p i =
+    let q : Pair = pair_at (sizes_of s) p in
+    let (in_nodes, action, seat, j) = from_back (numbered s) (numbered_is_same s) p d i in
+    let below_d : d.node < count (sizes_of s) = from_below (count (sizes_of s)) d.node in_nodes in
+    let r : Pair = pair_at (sizes_of s) d.node in
+    let ok_r : IsPair s r = (numbers_are_pairs s).pair d.node below_d in
+    let (x, l, same) = from_map (number (sizes_of s)) p (outcomes s r d.action d.seat) j in
+    let here : q ≡ x = ap (pair_at (sizes_of s)) same ∙ (numbers_are_pairs s).back x (outcome_pair s r d.action d.seat x sys ok_r l) in
+    let comes : Comes s q r d.action d.seat = outcome_steps s q r d.action d.seat ok_r (subst (λ y. IsIn y (outcomes s r d.action d.seat)) (sym here) l) in
+    let node : number (sizes_of s) (origin q r.e r.t d.seat (slice_index r.bs d.seat)) ≡ d.node = ap (number (sizes_of s)) comes.from ∙ (numbers_are_pairs s).there d.node below_d in
+    subst (λ n. IsIn (delegation_at n d.action d.seat) (from_all s q)) node (in_all s q d.action r.e r.t d.seat (slice_index r.bs d.seat) sys comes.steps)
+  where
+    delegation_at : ℕ → ℕ → ℕ → Delegation ℕ
+    delegation_at n a k = record { node = n; action = a; seat = k }
+
+-- the states and the seat of a delegation found are those that it was found by
+pub record FoundAt (s : Sys) (q : Pair) (e t k : ℕ) (d : Delegation ℕ) : Type 0 where
+  pub env : (pair_at (sizes_of s) d.node).e ≡ e
+  pub target : (pair_at (sizes_of s) d.node).t ≡ t
+  pub seat : d.seat ≡ k
+
+seat_prev_once : (o : Option Seat) (b' e a : ℕ) → HasNoRepeats (seat_prev o b' e a)
+seat_prev_once None b' e a = tt
+seat_prev_once (Some seat) b' e a = of_frozen seat.frozen
+  where
+    of_frozen : (frozen : Bool) → HasNoRepeats (cond frozen [] (beh_prev seat.beh b' e a))
+    of_frozen true = tt
+    of_frozen false = HasNoRepeats-filter (λ b. has_move seat.beh b e a b') (below seat.beh.states) (HasNoRepeats-below seat.beh.states)
+
+module _ (s : Sys) (q : Pair) (sys : IsSys s) (ok : IsPair s q) where
+  back_at : (a e t k b : ℕ) → Steps s q a e t k b → pair_at (sizes_of s) (number (sizes_of s) (origin q e t k b)) ≡ origin q e t k b
+  back_at a e t k b steps = (numbers_are_pairs s).back (origin q e t k b) (origin_pair s q a e t k b sys ok steps)
+
+  -- the steps of a state of a seat, where the others are such steps
+  state_steps : (a e t k b : ℕ) → IsIn e (env_prev s.env q.e a) → IsIn t (beh_prev s.target q.t e a) → IsIn b (seat_prev (slice_get s.seats k) (slice_index q.bs k) e a) → Steps s q a e t k b
+  state_steps a e t k b in_env in_target in_states =
+      let (seat, seated, ready, moves) = from_seat_prev (slice_get s.seats k) (slice_index q.bs k) e a b in_states in
+      record { seat = seat; seated = seated; ready = ready; world = from_env_prev s.env e a q.e in_env; goal = from_beh_prev s.target t e a q.t in_target; moves = moves }
+
+  seat_at : (a e t k : ℕ) (d : Delegation ℕ) → IsIn e (env_prev s.env q.e a) → IsIn t (beh_prev s.target q.t e a) → IsIn d (from_seat s q a e t k) → FoundAt s q e t k d
+  seat_at a e t k d in_env in_target i =
+      let (b, j, is) = from_map (delegation s q a e t k) d (seat_prev (slice_get s.seats k) (slice_index q.bs k) e a) i in
+      let here : pair_at (sizes_of s) d.node ≡ origin q e t k b = ap (λ x. pair_at (sizes_of s) x.node) is ∙ back_at a e t k b (state_steps a e t k b in_env in_target j) in
+      record { env = ap (λ p. p.e) here; target = ap (λ p. p.t) here; seat = ap (λ x. x.seat) is }
+
+  target_at : (a e t : ℕ) (d : Delegation ℕ) → IsIn e (env_prev s.env q.e a) → IsIn t (beh_prev s.target q.t e a) → IsIn d (from_target s q a e t) →
+      ((pair_at (sizes_of s) d.node).e ≡ e) × ((pair_at (sizes_of s) d.node).t ≡ t)
+  target_at a e t d in_env in_target i =
+      let (k, j, l) = from_flat_map (from_seat s q a e t) d (below (length s.seats)) i in
+      let at : FoundAt s q e t k d = seat_at a e t k d in_env in_target l in
+      (at.env, at.target)
+
+  env_at : (a e : ℕ) (d : Delegation ℕ) → IsIn e (env_prev s.env q.e a) → IsIn d (from_env s q a e) → (pair_at (sizes_of s) d.node).e ≡ e
+  env_at a e d in_env i =
+      let (t, j, l) = from_flat_map (from_target s q a e) d (beh_prev s.target q.t e a) i in
+      (target_at a e t d in_env j l).0
+
+  action_at : (a : ℕ) (d : Delegation ℕ) → IsIn d (from_action s q a) → d.action ≡ a
+  action_at a d i =
+      let (e, j, l) = from_flat_map (from_env s q a) d (env_prev s.env q.e a) i in
+      let (t, m, n) = from_flat_map (from_target s q a e) d (beh_prev s.target q.t e a) l in
+      let (k, o, u) = from_flat_map (from_seat s q a e t) d (below (length s.seats)) n in
+      let (b, v, is) = from_map (delegation s q a e t k) d (seat_prev (slice_get s.seats k) (slice_index q.bs k) e a) u in
+      ap (λ x. x.action) is
+
+  seat_once : (a e t k : ℕ) → IsIn e (env_prev s.env q.e a) → IsIn t (beh_prev s.target q.t e a) → HasNoRepeats (from_seat s q a e t k)
+  seat_once a e t k in_env in_target =
+      HasNoRepeats-map (delegation s q a e t k) (seat_prev (slice_get s.seats k) (slice_index q.bs k) e a)
+      (λ b c i j same.
+      let at_b : Steps s q a e t k b = state_steps a e t k b in_env in_target i in
+      let at_c : Steps s q a e t k c = state_steps a e t k c in_env in_target j in
+      let pairs : origin q e t k b ≡ origin q e t k c = sym (back_at a e t k b at_b) ∙ (ap (λ x. pair_at (sizes_of s) x.node) same ∙ back_at a e t k c at_c) in
+      let within : k < length q.bs = omega (arith, length_of_pair s q ok, slice_get_within s.seats k at_b.seat at_b.seated) in
+      sym (get_or-set_same q.bs k b 0 within) ∙ (ap (λ p. slice_index p.bs k) pairs ∙ get_or-set_same q.bs k c 0 within))
+      (seat_prev_once (slice_get s.seats k) (slice_index q.bs k) e a)
+
+  target_once : (a e t : ℕ) → IsIn e (env_prev s.env q.e a) → IsIn t (beh_prev s.target q.t e a) → HasNoRepeats (from_target s q a e t)
+  target_once a e t in_env in_target =
+      HasNoRepeats-flat_map (from_seat s q a e t) (below (length s.seats)) (λ k i. seat_once a e t k in_env in_target)
+      (λ k j d l m i o. sym (seat_at a e t k d in_env in_target i).seat ∙ (seat_at a e t j d in_env in_target o).seat) (HasNoRepeats-below (length s.seats))
+
+  env_once : (a e : ℕ) → IsIn e (env_prev s.env q.e a) → HasNoRepeats (from_env s q a e)
+  env_once a e in_env =
+      HasNoRepeats-flat_map (from_target s q a e) (beh_prev s.target q.t e a) (λ t i. target_once a e t in_env i)
+      (λ t u d i j l m. sym (target_at a e t d in_env i l).1 ∙ (target_at a e u d in_env j m).1)
+      (HasNoRepeats-filter (λ t. has_move s.target t e a q.t) (below s.target.states) (HasNoRepeats-below s.target.states))
+
+  action_once : (a : ℕ) → HasNoRepeats (from_action s q a)
+  action_once a =
+      HasNoRepeats-flat_map (from_env s q a) (env_prev s.env q.e a) (λ e i. env_once a e i)
+      (λ e f d i j l m. sym (env_at a e d i l) ∙ env_at a f d j m)
+      (HasNoRepeats-filter (λ e. has_triple s.env e a q.e) (below s.env.states) (HasNoRepeats-below s.env.states))
+
+  pub all_once : HasNoRepeats (from_all s q)
+  all_once =
+      HasNoRepeats-flat_map (from_action s q) (below s.env.actions) (λ a i. action_once a)
+      (λ a b d i j l m. sym (action_at a d l) ∙ action_at b d m) (HasNoRepeats-below s.env.actions)
+
+-- the delegations found backwards are those that lead to the pair, each once
+pub found_backwards : (s : Sys) (p : ℕ) → IsSys s → p < count (sizes_of s) → HoldsEachOnce (from_all s (pair_at (sizes_of s) p)) (back (numbered s) p)
+found_backwards s p sys below_p = record {
+  once = all_once s (pair_at (sizes_of s) p) sys ((numbers_are_pairs s).pair p below_p);
+  same = λ d. (found_leads s p d sys below_p, leads_found s p d sys below_p);
+}

@@ -1,0 +1,90 @@
+-- Searches for the first element that passes, step by step.
+use Rattle.std.proofs.Common.{◌≡◌, ℕ, zero, suc, ◌+◌, ◌<◌, ◌≤◌, ◌==◌, Bool, true, false, cond, List, [], ◌∷◌, ◌++◌, map, length, drop, get_or, Option, Some, None, IsFalse, refl, sym, ap, ap₂, ◌∙◌, subst, inl, inr, arith}
+use Rattle.std.specs.List.{find, flat_map}
+use Rattle.std.specs.Option.{option_map, option_or}
+use Rattle.roman_model.specs.Lists.{IsIn, is_empty}
+use Rattle.roman_model.proofs.Lists.{in_map, in_flat_map, in_not_empty}
+use Rattle.std.specs.Option.{IfSome}
+use Rattle.std.proofs.lemmas.List.{drop_more, drop_all, map-append, nil_from_length}
+use Rattle.std.proofs.lemmas.Bool.{false≢true, eqb-true}
+use Rattle.std.proofs.lemmas.List.Folds.{find-append}
+
+pub find_here : {X : Type 0} (p : X → Bool) (xs : List X) (i : ℕ) (d : X) → i < length xs → p (get_or xs i d) ≡ true → find p (drop i xs) ≡ Some (get_or xs i d)
+find_here p xs i d l h = ap (find p) (drop_more xs i d l) ∙ ap (λ b. cond b (Some (get_or xs i d)) (find p (drop (i + 1) xs))) h
+
+pub find_on : {X : Type 0} (p : X → Bool) (xs : List X) (i : ℕ) (d : X) → i < length xs → p (get_or xs i d) ≡ false → find p (drop i xs) ≡ find p (drop (i + 1) xs)
+find_on p xs i d l h = ap (find p) (drop_more xs i d l) ∙ ap (λ b. cond b (Some (get_or xs i d)) (find p (drop (i + 1) xs))) h
+
+pub find_end : {X : Type 0} (p : X → Bool) (xs : List X) (i : ℕ) → length xs ≤ i → find p (drop i xs) ≡ None
+find_end p xs i l = ap (find p) (drop_all i xs l)
+
+pub find-map : {X Y : Type 0} (f : X → Y) (p : Y → Bool) (xs : List X) → find p (map f xs) ≡ option_map f (find (λ x. p (f x)) xs)
+find-map f p [] = refl
+find-map f p (x ∷ xs) = ap (cond (p (f x)) (Some (f x))) (find-map f p xs) ∙ of_test (p (f x))
+  where
+    of_test : (b : Bool) → cond b (Some (f x)) (option_map f (find (λ y. p (f y)) xs)) ≡ option_map f (cond b (Some x) (find (λ y. p (f y)) xs))
+    of_test true = refl
+    of_test false = refl
+
+-- in the first of some lists
+pub find_in_first : {X Y : Type 0} (f : X → List Y) (p : Y → Bool) (xs : List X) (i : ℕ) (d : X) (y : Y) → i < length xs → find p (f (get_or xs i d)) ≡ Some y →
+    find p (flat_map f (drop i xs)) ≡ Some y
+find_in_first f p xs i d y l h =
+    ap (λ ys. find p (flat_map f ys)) (drop_more xs i d l) ∙ (find-append p (f (get_or xs i d)) (flat_map f (drop (i + 1) xs)) ∙ ap (λ o. option_or o (find p (flat_map f (drop (i + 1) xs)))) h)
+
+-- not in the first of some lists
+pub find_in_rest : {X Y : Type 0} (f : X → List Y) (p : Y → Bool) (xs : List X) (i : ℕ) (d : X) → i < length xs → find p (f (get_or xs i d)) ≡ None →
+    find p (flat_map f (drop i xs)) ≡ find p (flat_map f (drop (i + 1) xs))
+find_in_rest f p xs i d l h =
+    ap (λ ys. find p (flat_map f ys)) (drop_more xs i d l) ∙ (find-append p (f (get_or xs i d)) (flat_map f (drop (i + 1) xs)) ∙ ap (λ o. option_or o (find p (flat_map f (drop (i + 1) xs)))) h)
+
+pub find_in_none : {X Y : Type 0} (f : X → List Y) (p : Y → Bool) (xs : List X) (i : ℕ) → length xs ≤ i → find p (flat_map f (drop i xs)) ≡ None
+find_in_none f p xs i l = ap (λ ys. find p (flat_map f ys)) (drop_all i xs l)
+
+-- what stands at a place is in the list
+pub in_at : {X : Type 0} (xs : List X) (i : ℕ) (d : X) → i < length xs → IsIn (get_or xs i d) xs
+in_at [] i d l = absurd (omega arith)
+in_at (x ∷ xs) zero d l = inl refl
+in_at (x ∷ xs) (suc i) d l = inr (in_at xs i d (omega arith))
+
+pub if_some : {X : Type 0} (o : Option X) (x : X) (P : X → Type 0) → o ≡ Some x → IfSome o P → P x
+if_some o x P e h = subst (λ p. IfSome p P) e h
+
+numbers_of_pairs : (g : ℕ → ℕ → ℕ) (e : ℕ) (states : List ℕ) → map (λ (x : ℕ × ℕ). g x.0 x.1) (map (λ b. (e, b)) states) ≡ map (g e) states
+numbers_of_pairs g e [] = refl
+numbers_of_pairs g e (b ∷ states) = ap (λ ns. g e b ∷ ns) (numbers_of_pairs g e states)
+
+numbers_of_all : (g : ℕ → ℕ → ℕ) (envs states : List ℕ) → map (λ (x : ℕ × ℕ). g x.0 x.1) (flat_map (λ e. map (λ b. (e, b)) states) envs) ≡ flat_map (λ e. map (g e) states) envs
+numbers_of_all g [] states = refl
+numbers_of_all g (e ∷ envs) states =
+    map-append (λ (x : ℕ × ℕ). g x.0 x.1) (map (λ b. (e, b)) states) (flat_map (λ e. map (λ b. (e, b)) states) envs)
+    ∙ ap₂ (λ xs ys. xs ++ ys) (numbers_of_pairs g e states) (numbers_of_all g envs states)
+
+-- a search among numbers of two states each
+pub find_numbers : (g : ℕ → ℕ → ℕ) (gone : ℕ → Bool) (envs states : List ℕ) (o : Option (ℕ × ℕ)) →
+    o ≡ find (λ x. gone (g x.0 x.1)) (flat_map (λ e. map (λ b. (e, b)) states) envs) → find gone (flat_map (λ e. map (g e) states) envs) ≡ option_map (λ (x : ℕ × ℕ). g x.0 x.1) o
+find_numbers g gone envs states o h =
+    ap (find gone) (sym (numbers_of_all g envs states))
+    ∙ (find-map (λ (x : ℕ × ℕ). g x.0 x.1) gone (flat_map (λ e. map (λ b. (e, b)) states) envs) ∙ ap (option_map (λ (x : ℕ × ℕ). g x.0 x.1)) (sym h))
+
+-- no states make no numbers
+pub no_numbers : (g : ℕ → ℕ → ℕ) (envs states : List ℕ) → states ≡ [] → flat_map (λ e. map (g e) states) envs ≡ []
+no_numbers g envs states h = ap (λ bs. flat_map (λ e. map (g e) bs) envs) h ∙ none envs
+  where
+    none : (es : List ℕ) → flat_map (λ e. map (g e) []) es ≡ []
+    none [] = refl
+    none (e ∷ es) = none es
+
+-- some of both make some
+pub some_numbers : (g : ℕ → ℕ → ℕ) (envs states : List ℕ) (b : ℕ) → IsFalse (is_empty envs) → IsIn b states → IsFalse (is_empty (flat_map (λ e. map (g e) states) envs))
+some_numbers g [] states b some i = some
+some_numbers g (e ∷ envs) states b some i =
+    in_not_empty (g e b) (flat_map (λ e. map (g e) states) (e ∷ envs)) (in_flat_map (λ e. map (g e) states) e (g e b) (e ∷ envs) (inl refl) (in_map (g e) b states i))
+
+-- what `is_empty` says of a slice
+pub none_there : (xs : List ℕ) (answer : Bool) → answer ≡ (length xs == 0) → answer ≡ true → xs ≡ []
+none_there xs answer h e = nil_from_length xs (eqb-true (length xs) 0 (sym h ∙ e))
+
+pub some_there : (xs : List ℕ) (answer : Bool) → answer ≡ (length xs == 0) → answer ≡ false → 0 < length xs
+some_there [] answer h e = absurd (false≢true (sym e ∙ h))
+some_there (x ∷ xs) answer h e = omega arith

@@ -1,0 +1,9 @@
+pub mod Finds
+pub mod BackwardLemmas
+pub mod SeatLemmas
+pub mod BuildLemmas
+pub mod Shown
+pub mod SeatChanges
+pub mod OutcomeLemmas
+pub mod WalkLemmas
+pub mod Rows

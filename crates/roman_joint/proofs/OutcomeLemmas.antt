@@ -1,0 +1,111 @@
+-- The numbers of the pairs to which a delegation may lead.
+use Rattle.std.proofs.Common.{◌≡◌, ℕ, zero, suc, ◌+◌, ◌-◌, ◌*◌, ◌%◌, ◌<◌, ◌≤◌, Bool, true, false, cond, List, [], ◌∷◌, ◌++◌, Option, None, Some, IsTrue, IsFalse, MatchOption, map, length, slice_get, slice_index, slice_set, refl, sym, ap, ap₂, ◌∙◌, subst, inl, arith}
+use Rattle.std.specs.List.{flat_map}
+use Rattle.std.proofs.lemmas.List.{append-nil, map-append, length-map, get_or-set_same}
+use Rattle.std.proofs.lemmas.Option.{slice_get_within}
+use Rattle.std.proofs.lemmas.Bool.{not-true}
+use Rattle.roman_model.specs.Lists.{IsIn, product_of}
+use Rattle.roman_model.specs.System.{Env, Beh, Sys, Seat, Pair, IsSys, IsPair, IsEnv, IsBeh, env_next, beh_next, seat_next, moved, outcomes, is_ready}
+use Rattle.roman_model.specs.Numbers.{Sizes, IsPairOf, sizes_of, count, number, pair_at, states_number}
+use Rattle.roman_model.proofs.SystemLemmas.{triple_in_range, move_in_range, from_env_next, from_beh_next, seat_in, states_set}
+use Rattle.roman_model.proofs.NumberLemmas.{numbers_are_pairs, IsPairOf-from, AreBelow-length, number_below, parts_of_number, states_number-set}
+use Rattle.roman_radix.specs.Radix.{stride_of, env_stride_of, target_stride_of}
+use Rattle.roman_joint.specs.Outcomes.{IsPlaced}
+
+-- the pair to which the action leads, where the environment goes to e and the seat to b
+abbrev pub outcome : Pair → ℕ → ℕ → ℕ → ℕ → Pair
+outcome q k to e b = record { t = to; e = e; bs = slice_set q.bs k b }
+
+-- where the numbers begin, and how they move
+pub record StartsAt (s : Sys) (p k to row part env_stride stride : ℕ) : Type 0 where
+  pub fits : row < count (sizes_of s)
+  pub taken : part * stride ≤ row
+  pub number : (e b : ℕ) → row - part * stride + e * env_stride + b * stride ≡ number (sizes_of s) (outcome (pair_at (sizes_of s) p) k to e b)
+
+starts_by : (s : Sys) (p k to : ℕ) → IsSys s → p < count (sizes_of s) → k < length s.seats → to < s.target.states →
+    StartsAt s p k to (to * target_stride_of (sizes_of s) + p % env_stride_of (sizes_of s)) (slice_index (pair_at (sizes_of s) p).bs k) (env_stride_of (sizes_of s)) (stride_of (sizes_of s) k)
+starts_by s p k to sys below_p within target =
+    let n = sizes_of s in
+    let q : Pair = pair_at n p in
+    let pair : IsPair s q = (numbers_are_pairs s).pair p below_p in
+    let ok : IsPairOf n q = IsPairOf-from s q pair in
+    let long : length q.bs ≡ length n.seats = AreBelow-length n.seats q.bs ok.bs in
+    let seats : k < length n.seats = omega (arith, length-map s.seats (λ (x : Seat). x.beh.states)) in
+    let low : p % product_of n.seats ≡ states_number n.seats q.bs = ap (λ x. x % product_of n.seats) (sym ((numbers_are_pairs s).there p below_p)) ∙ (parts_of_number n q ok).2 in
+    let bare : states_number n.seats (slice_set q.bs k 0) + slice_index q.bs k * stride_of n k ≡ states_number n.seats q.bs + 0 * stride_of n k = states_number-set n.seats q.bs k 0 seats long in
+    let first : Pair = record { t = to; e = 0; bs = q.bs } in
+    let first_ok : IsPairOf n first = record { t = target; e = sys.env.states.0; bs = ok.bs } in
+    let row : to * target_stride_of n + p % product_of n.seats ≡ number n first = omega (arith, low) in
+    record {
+      fits = subst (λ x. x < count n) (sym row) (number_below n first first_ok);
+      taken = omega (arith, bare, low);
+      number = λ e b.
+          let there : states_number n.seats (slice_set q.bs k b) + slice_index q.bs k * stride_of n k ≡ states_number n.seats q.bs + b * stride_of n k = states_number-set n.seats q.bs k b seats long in
+          omega (arith, there, bare, low);
+    }
+
+pub starts_at : (s : Sys) (p k to from target_stride part env_stride stride : ℕ) → IsSys s → p < count (sizes_of s) → k < length s.seats → to < s.target.states →
+    from ≡ to → target_stride ≡ target_stride_of (sizes_of s) → part ≡ slice_index (pair_at (sizes_of s) p).bs k → env_stride ≡ env_stride_of (sizes_of s) → stride ≡ stride_of (sizes_of s) k →
+    StartsAt s p k to (from * target_stride + p % env_stride) part env_stride stride
+starts_at s p k to from target_stride part env_stride stride sys below_p within target is_from is_target is_part is_env is_stride =
+    rw (is_from, is_target, is_part, is_env, is_stride) (starts_by s p k to sys below_p within target)
+
+-- the numbers of a list of pairs, where each has that number
+numbers_of_states : (n : Sizes) (f : ℕ → Pair) (g : ℕ → ℕ) (bs : List ℕ) → ((b : ℕ) → g b ≡ number n (f b)) → map (number n) (map f bs) ≡ map g bs
+numbers_of_states n f g [] h = refl
+numbers_of_states n f g (b ∷ bs) h = ap₂ (λ x xs. x ∷ xs) (sym (h b)) (numbers_of_states n f g bs h)
+
+numbers_of_envs : (n : Sizes) (f : ℕ → ℕ → ℕ → Pair) (g : ℕ → ℕ → ℕ) (to : ℕ) (envs states : List ℕ) → ((e b : ℕ) → g e b ≡ number n (f e to b)) →
+    map (number n) (flat_map (λ e. flat_map (λ t. map (f e t) states) (to ∷ [])) envs) ≡ flat_map (λ e. map (g e) states) envs
+numbers_of_envs n f g to [] states h = refl
+numbers_of_envs n f g to (e ∷ envs) states h =
+    map-append (number n) (map (f e to) states ++ []) (flat_map (λ e. flat_map (λ t. map (f e t) states) (to ∷ [])) envs)
+    ∙ ap₂ (λ xs ys. xs ++ ys) (ap (map (number n)) (append-nil (map (f e to) states)) ∙ numbers_of_states n (f e to) (g e) states (h e)) (numbers_of_envs n f g to envs states h)
+
+-- the numbers of all outcomes
+pub numbers_are : (s : Sys) (q : Pair) (a k to : ℕ) (g : ℕ → ℕ → ℕ) (envs states : List ℕ) → beh_next s.target q.t q.e a ≡ to ∷ [] → envs ≡ env_next s.env q.e a →
+    states ≡ seat_next (slice_get s.seats k) (slice_index q.bs k) q.e a → ((e b : ℕ) → g e b ≡ number (sizes_of s) (outcome q k to e b)) →
+    map (number (sizes_of s)) (outcomes s q a k) ≡ flat_map (λ e. map (g e) states) envs
+numbers_are s q a k to g envs states target is_envs is_states h =
+    ap (λ ts. map (number (sizes_of s)) (flat_map (λ e. flat_map (λ t. map (λ b. outcome q k t e b) (seat_next (slice_get s.seats k) (slice_index q.bs k) q.e a)) ts) (env_next s.env q.e a))) target
+    ∙ (numbers_of_envs (sizes_of s) (λ e t b. outcome q k t e b) g to (env_next s.env q.e a) (seat_next (slice_get s.seats k) (slice_index q.bs k) q.e a) h
+    ∙ ap₂ (λ es bs. flat_map (λ e. map (g e) bs) es) (sym is_envs) (sym is_states))
+
+-- a ready seat's next states are its behaviour's
+pub ready_next : (o : Option Seat) (seat : Seat) (b e a : ℕ) → o ≡ Some seat → IsFalse seat.frozen → seat_next o b e a ≡ beh_next seat.beh b e a
+ready_next o seat b e a is ready = ap (λ x. seat_next x b e a) is ∙ ap (λ f. cond f [] (beh_next seat.beh b e a)) ready
+
+-- the target's one next state is in range
+pub target_in_range : (s : Sys) (t e a to : ℕ) → IsSys s → beh_next s.target t e a ≡ to ∷ [] → to < s.target.states
+target_in_range s t e a to sys next =
+    let there : IsIn to (beh_next s.target t e a) = subst (λ ts. IsIn to ts) (sym next) (inl refl) in
+    (move_in_range s.env s.target t e a to sys.target (from_beh_next s.target t e a to there)).3
+
+-- each number is that of the outcome's pair
+pub outcome_placed : (s : Sys) (p a k to e b q' : ℕ) (seat : Seat) → IsSys s → p < count (sizes_of s) → to < s.target.states → slice_get s.seats k ≡ Some seat →
+    IsIn e (env_next s.env (pair_at (sizes_of s) p).e a) → IsIn b (beh_next seat.beh (slice_index (pair_at (sizes_of s) p).bs k) (pair_at (sizes_of s) p).e a) →
+    q' ≡ number (sizes_of s) (outcome (pair_at (sizes_of s) p) k to e b) → IsPlaced (sizes_of s) k q' e b
+outcome_placed s p a k to e b q' seat sys below_p target seated in_env in_states is =
+    let n = sizes_of s in
+    let q : Pair = pair_at n p in
+    let pair : IsPair s q = (numbers_are_pairs s).pair p below_p in
+    let env : e < s.env.states = (triple_in_range s.env q.e a e sys.env (from_env_next s.env q.e a e in_env)).2 in
+    let state : b < seat.beh.states = (move_in_range s.env seat.beh (slice_index q.bs k) q.e a b (sys.seats seat (seat_in s.seats k seat seated)) (from_beh_next seat.beh (slice_index q.bs k) q.e a b in_states)).3 in
+    let r : Pair = outcome q k to e b in
+    let ok : IsPair s r = record { t = target; e = env; bs = states_set s.seats q.bs k b seat pair.bs seated state } in
+    let here : pair_at n q' ≡ r = ap (pair_at n) is ∙ (numbers_are_pairs s).back r ok in
+    let within : k < length q.bs =
+    omega (arith, slice_get_within s.seats k seat seated, AreBelow-length n.seats q.bs (IsPairOf-from s q pair).bs, length-map s.seats (λ (x : Seat). x.beh.states)) in
+    record {
+      below = subst (λ x. x < count n) (sym is) ((numbers_are_pairs s).below r ok);
+      env = ap (λ (x : Pair). x.e) here;
+      state = ap (λ (x : Pair). slice_index x.bs k) here ∙ get_or-set_same q.bs k b 0 within;
+    }
+
+-- the one next state, where there is one
+pub step_is : (nexts : List ℕ) (o : Option ℕ) (to : ℕ) → o ≡ Some to → MatchOption o (nexts ≡ []) (λ t. nexts ≡ t ∷ []) → nexts ≡ to ∷ []
+step_is nexts o to is h = subst (λ x. MatchOption x (nexts ≡ []) (λ t. nexts ≡ t ∷ [])) is h
+
+-- a seat that is there and ready isn't frozen
+pub seat_ready : (o : Option Seat) (seat : Seat) → o ≡ Some seat → IsTrue (is_ready o) → IsFalse seat.frozen
+seat_ready o seat is ready = not-true seat.frozen (subst (λ x. IsTrue (is_ready x)) is ready)

@@ -1,0 +1,200 @@
+-- What changes where a service is frozen, goes or comes.
+use Rattle.std.proofs.Common.{◌≡◌, ℕ, zero, suc, ◌+◌, ◌*◌, ◌/◌, ◌<◌, ◌≤◌, ◌↔◌, Bool, true, false, if◌then◌else◌, List, [], ◌∷◌, ◌++◌, Some, All, slice_get, slice_index, get_or, map, length, take, drop, refl, sym, ap, ap₂, ◌∙◌, subst, inl, inr, arith}
+use Rattle.std.specs.List.{AllByRecursion, remove}
+use Rattle.std.proofs.Math.ListN.{set}
+use Rattle.std.proofs.Math.Nat.{mul-le-mul_left, mul-le-mul_right, le-div_iff_mul-le}
+use Rattle.std.proofs.lemmas.Bool.{cases_lt}
+use Rattle.std.proofs.lemmas.List.{map_push, map-append, take-map, drop-map, length-map, length-append}
+use Rattle.std.proofs.lemmas.List.Elements.{All-from_recursion, recursion_from_All}
+use Rattle.roman_model.specs.Lists.{IsIn, HasNoRepeats, product_of}
+use Rattle.roman_model.specs.System as model
+use Rattle.roman_model.specs.System.{Sys, IsSys, IsBeh}
+use Rattle.roman_model.specs.Change.{Change, Freeze, Thaw, Join, Die, set_frozen, after, CanChange}
+use Rattle.roman_model.specs.Numbers.{Sizes, sizes_of, count, grown_sizes, sizes_without}
+use Rattle.roman_model.specs.declared.limits.TheConstants.{MAX_SERVICES}
+use Rattle.roman_model.proofs.Lists.{HasNoRepeats-push}
+use Rattle.roman_model.proofs.ChangeLemmas.{states_frozen, remove_in}
+use Rattle.roman_model.proofs.ChangeLaws.{renaming_keeps}
+use Rattle.roman_model.proofs.NumberLemmas.{count-without}
+use Rattle.roman_model.proofs.SystemLemmas.{seat_in}
+use Rattle.roman_parts.specs.Named.{NamedBeh}
+use Rattle.roman_joint.specs.declared.seat.Seat.{Seat}
+use Rattle.roman_joint.specs.NamedSys.{NamedSys, beh_at, seat_of, system_of, cells, IsNamedSys}
+use Rattle.roman_joint.specs.Changes.{with_frozen}
+use Rattle.roman_joint.proofs.Rows.{size_of_seat}
+use Rattle.roman_joint.proofs.SeatLemmas.{seat_there, recursion-push}
+
+-- a system after a change is one
+changed : (change : Change) (s : Sys) → IsSys s → CanChange change s → IsSys (after change s)
+changed change s sys can = (renaming_keeps change s [] sys can (λ x i. absurd i) tt).system
+
+-- the named system with these services
+abbrev pub with_seats : NamedSys → List Seat → NamedSys
+with_seats n seats = record { environment = n.environment; catalogue = n.catalogue; target = n.target; seats = seats; limit = n.limit }
+
+-- Frozen, or ready.
+
+pub frozen_set : (seats : List Seat) (k : ℕ) (x : Seat) (frozen : Bool) → x ≡ get_or seats k x →
+    set seats k (record { name = x.name; behaviour = x.behaviour; frozen = frozen; rests = x.rests }) ≡ with_frozen seats k frozen
+frozen_set [] k x frozen h = refl
+frozen_set (seat ∷ seats) zero x frozen h =
+    ap (λ (y : Seat). with_frozen (y ∷ seats) zero frozen) h
+frozen_set (seat ∷ seats) (suc k) x frozen h = ap (λ xs. seat ∷ xs) (frozen_set seats k x frozen h)
+
+frozen_seats : (catalogue : List NamedBeh) (seats : List Seat) (k : ℕ) (frozen : Bool) → map (seat_of catalogue) (with_frozen seats k frozen) ≡ set_frozen (map (seat_of catalogue) seats) k frozen
+frozen_seats catalogue [] k frozen = refl
+frozen_seats catalogue (seat ∷ seats) zero frozen = refl
+frozen_seats catalogue (seat ∷ seats) (suc k) frozen = ap (λ xs. seat_of catalogue seat ∷ xs) (frozen_seats catalogue seats k frozen)
+
+frozen_names : (seats : List Seat) (k : ℕ) (frozen : Bool) → map (λ seat. seat.name) (with_frozen seats k frozen) ≡ map (λ seat. seat.name) seats
+frozen_names [] k frozen = refl
+frozen_names (seat ∷ seats) zero frozen = refl
+frozen_names (seat ∷ seats) (suc k) frozen = ap (λ xs. seat.name ∷ xs) (frozen_names seats k frozen)
+
+frozen_places : (m : ℕ) (seats : List Seat) (k : ℕ) (frozen : Bool) → AllByRecursion (λ seat. seat.behaviour < m) seats → AllByRecursion (λ seat. seat.behaviour < m) (with_frozen seats k frozen)
+frozen_places m [] k frozen h = h
+frozen_places m (seat ∷ seats) zero frozen h = h
+frozen_places m (seat ∷ seats) (suc k) frozen h = (h.0, frozen_places m seats k frozen h.1)
+
+after_frozen : (s : Sys) (k : ℕ) (frozen : Bool) → ◌≡◌ {A = Sys} (record { env = s.env; target = s.target; seats = set_frozen s.seats k frozen }) (after (if frozen then Freeze k else Thaw k) s)
+after_frozen s k true = refl
+after_frozen s k false = refl
+
+can_freeze : (s : Sys) (k : ℕ) (frozen : Bool) → k < length s.seats → CanChange (if frozen then Freeze k else Thaw k) s
+can_freeze s k true h = h
+can_freeze s k false h = h
+
+pub frozen_system : (n : NamedSys) (k : ℕ) (frozen : Bool) → system_of (with_seats n (with_frozen n.seats k frozen)) ≡ after (if frozen then Freeze k else Thaw k) (system_of n)
+frozen_system n k frozen = ap (with_model_seats (system_of n)) (frozen_seats n.catalogue n.seats k frozen) ∙ after_frozen (system_of n) k frozen
+  where
+    with_model_seats : Sys → List model.Seat → Sys
+    with_model_seats s seats = record { env = s.env; target = s.target; seats = seats }
+
+pub frozen_sizes : (n : NamedSys) (k : ℕ) (frozen : Bool) → sizes_of (system_of (with_seats n (with_frozen n.seats k frozen))) ≡ sizes_of (system_of n)
+frozen_sizes n k frozen =
+    ap (with_sizes (sizes_of (system_of n)))
+    (ap (map (λ (seat : model.Seat). seat.beh.states)) (frozen_seats n.catalogue n.seats k frozen) ∙ states_frozen (system_of n).seats k frozen)
+  where
+    with_sizes : Sizes → List ℕ → Sizes
+    with_sizes m seats = record { target = m.target; env = m.env; seats = seats }
+
+pub frozen_known : (n : NamedSys) (k : ℕ) (frozen : Bool) → IsNamedSys n → k < length n.seats → IsNamedSys (with_seats n (with_frozen n.seats k frozen))
+frozen_known n k frozen known within = record {
+  system = subst IsSys (sym (frozen_system n k frozen))
+      (changed (if frozen then Freeze k else Thaw k) (system_of n) known.system (can_freeze (system_of n) k frozen (omega (arith, length-map n.seats (seat_of n.catalogue)))));
+  fits = omega (arith, ap (λ m. count m * n.environment.env.actions) (frozen_sizes n k frozen), known.fits);
+  limit = known.limit;
+  behaviours = All-from_recursion (λ seat. seat.behaviour < length n.catalogue) (with_frozen n.seats k frozen)
+      (frozen_places (length n.catalogue) n.seats k frozen (recursion_from_All (λ seat. seat.behaviour < length n.catalogue) n.seats known.behaviours));
+  names = subst HasNoRepeats (sym (frozen_names n.seats k frozen)) known.names;
+  catalogue = known.catalogue;
+  target = known.target;
+}
+
+-- Gone.
+
+map-remove : {X Y : Type 0} (f : X → Y) (xs : List X) (k : ℕ) → map f (remove xs k) ≡ remove (map f xs) k
+map-remove f xs k = map-append f (take k xs) (drop (suc k) xs) ∙ ap₂ (λ ys zs. ys ++ zs) (sym (take-map f k xs)) (sym (drop-map f (suc k) xs))
+
+HasNoRepeats-remove : {X : Type 0} (xs : List X) (k : ℕ) → HasNoRepeats xs → HasNoRepeats (remove xs k)
+HasNoRepeats-remove [] zero h = h
+HasNoRepeats-remove [] (suc k) h = h
+HasNoRepeats-remove (x ∷ xs) zero h = h.1
+HasNoRepeats-remove (x ∷ xs) (suc k) h = (λ i. h.0 (remove_in x xs k i), HasNoRepeats-remove xs k h.1)
+
+recursion-remove : {X : Type 0} (P : X → Type 0) (xs : List X) (k : ℕ) → AllByRecursion P xs → AllByRecursion P (remove xs k)
+recursion-remove P [] zero h = h
+recursion-remove P [] (suc k) h = h
+recursion-remove P (x ∷ xs) zero h = h.1
+recursion-remove P (x ∷ xs) (suc k) h = (h.0, recursion-remove P xs k h.1)
+
+pub gone_system : (n : NamedSys) (k : ℕ) (seat : model.Seat) → system_of (with_seats n (remove n.seats k)) ≡ after (Die k seat) (system_of n)
+gone_system n k seat = ap (with_model_seats (system_of n)) (map-remove (seat_of n.catalogue) n.seats k)
+  where
+    with_model_seats : Sys → List model.Seat → Sys
+    with_model_seats s seats = record { env = s.env; target = s.target; seats = seats }
+
+pub gone_sizes : (n : NamedSys) (k : ℕ) → sizes_without k (sizes_of (system_of n)) ≡ sizes_of (system_of (with_seats n (remove n.seats k)))
+gone_sizes n k =
+    ap (with_sizes (sizes_of (system_of n)))
+    (sym (map-remove (λ (seat : model.Seat). seat.beh.states) (system_of n).seats k) ∙ ap (map (λ (seat : model.Seat). seat.beh.states)) (sym (map-remove (seat_of n.catalogue) n.seats k)))
+  where
+    with_sizes : Sizes → List ℕ → Sizes
+    with_sizes m seats = record { target = m.target; env = m.env; seats = seats }
+
+pub gone_known : (n : NamedSys) (k : ℕ) (x : Seat) → IsNamedSys n → k < length n.seats → x ≡ get_or n.seats k x → IsNamedSys (with_seats n (remove n.seats k))
+gone_known n k x known within is =
+    let s = system_of n in
+    let seat : model.Seat = seat_of n.catalogue x in
+    let seated : slice_get s.seats k ≡ Some seat = seat_there n.catalogue n.seats k x within is in
+    let there : k < length (sizes_of s).seats = omega (arith, length-map s.seats (λ (y : model.Seat). y.beh.states), length-map n.seats (seat_of n.catalogue)) in
+    let size : slice_index (sizes_of s).seats k ≡ seat.beh.states = size_of_seat s.seats k seat seated in
+    let some : 0 < slice_index (sizes_of s).seats k = omega (arith, size, (known.system.seats seat (seat_in s.seats k seat seated)).states.0) in
+    let product : count (sizes_of s) ≡ count (sizes_without k (sizes_of s)) * slice_index (sizes_of s).seats k = count-without (sizes_of s) k there in
+    let fewer : count (sizes_without k (sizes_of s)) * 1 ≤ count (sizes_without k (sizes_of s)) * slice_index (sizes_of s).seats k = mul-le-mul_left (count (sizes_without k (sizes_of s))) some in
+    let less : count (sizes_without k (sizes_of s)) ≤ count (sizes_of s) = omega arith in
+    let cells_less : count (sizes_without k (sizes_of s)) * s.env.actions ≤ count (sizes_of s) * s.env.actions = mul-le-mul_right s.env.actions less in
+    record {
+      system = subst IsSys (sym (gone_system n k seat)) (changed (Die k seat) s known.system seated);
+      fits = omega (arith, ap (λ m. count m * s.env.actions) (gone_sizes n k), cells_less, known.fits);
+      limit = known.limit;
+      behaviours = All-from_recursion (λ y. y.behaviour < length n.catalogue) (remove n.seats k)
+          (recursion-remove (λ y. y.behaviour < length n.catalogue) n.seats k (recursion_from_All (λ y. y.behaviour < length n.catalogue) n.seats known.behaviours));
+      names = subst HasNoRepeats (sym (map-remove (λ (y : Seat). y.name) n.seats k)) (HasNoRepeats-remove (map (λ (y : Seat). y.name) n.seats) k known.names);
+      catalogue = known.catalogue;
+      target = known.target;
+    }
+
+-- Come.
+
+pub joined_system : (n : NamedSys) (seat : Seat) → system_of (with_seats n (n.seats ++ seat ∷ [])) ≡ after (Join (seat_of n.catalogue seat)) (system_of n)
+joined_system n seat = ap (with_model_seats (system_of n)) (map_push (seat_of n.catalogue) n.seats seat)
+  where
+    with_model_seats : Sys → List model.Seat → Sys
+    with_model_seats s seats = record { env = s.env; target = s.target; seats = seats }
+
+pub joined_sizes : (n : NamedSys) (seat : Seat) → grown_sizes (sizes_of (system_of n)) (beh_at n.catalogue seat.behaviour).states ≡ sizes_of (system_of (with_seats n (n.seats ++ seat ∷ [])))
+joined_sizes n seat =
+    ap (with_sizes (sizes_of (system_of n)))
+    (sym (map_push (λ (y : model.Seat). y.beh.states) (system_of n).seats (seat_of n.catalogue seat))
+    ∙ ap (map (λ (y : model.Seat). y.beh.states)) (sym (map_push (seat_of n.catalogue) n.seats seat)))
+  where
+    with_sizes : Sizes → List ℕ → Sizes
+    with_sizes m seats = record { target = m.target; env = m.env; seats = seats }
+
+-- the grown pairs are few enough exactly where the cells are
+pub joined_fit : (n : NamedSys) (seat : Seat) → IsNamedSys n →
+    (count (grown_sizes (sizes_of (system_of n)) (beh_at n.catalogue seat.behaviour).states) ≤ n.limit / n.environment.env.actions)
+    ↔ (cells (after (Join (seat_of n.catalogue seat)) (system_of n)) ≤ n.limit)
+joined_fit n seat known =
+    let m = n.environment.env.actions in
+    let same : count (grown_sizes (sizes_of (system_of n)) (beh_at n.catalogue seat.behaviour).states) * m ≡ cells (after (Join (seat_of n.catalogue seat)) (system_of n)) =
+    ap (λ k. count k * m) (joined_sizes n seat) ∙ ap cells (joined_system n seat) in
+    let fit : (count (grown_sizes (sizes_of (system_of n)) (beh_at n.catalogue seat.behaviour).states) ≤ n.limit / m)
+    ↔ (count (grown_sizes (sizes_of (system_of n)) (beh_at n.catalogue seat.behaviour).states) * m ≤ n.limit) = le-div_iff_mul-le known.system.env.actions.0 in
+    (λ h. subst (λ x. x ≤ n.limit) same (fit.0 h), λ h. fit.1 (subst (λ x. x ≤ n.limit) (sym same) h))
+
+pub joined_known : (n : NamedSys) (seat : Seat) → IsNamedSys n → length n.seats < MAX_SERVICES → seat.behaviour < length n.catalogue →
+    IsBeh n.environment.env (beh_at n.catalogue seat.behaviour) → (IsIn seat.name (map (λ (y : Seat). y.name) n.seats) → ⊥) →
+    cells (after (Join (seat_of n.catalogue seat)) (system_of n)) ≤ n.limit → IsNamedSys (with_seats n (n.seats ++ seat ∷ []))
+joined_known n seat known room place beh new fits = record {
+  system = subst IsSys (sym (joined_system n seat))
+      (changed (Join (seat_of n.catalogue seat)) (system_of n) known.system (beh, omega (arith, length-map n.seats (seat_of n.catalogue))));
+  fits = subst (λ x. x ≤ n.limit) (sym (ap cells (joined_system n seat))) fits;
+  limit = known.limit;
+  behaviours = All-from_recursion (λ y. y.behaviour < length n.catalogue) (n.seats ++ seat ∷ [])
+      (recursion-push (λ y. y.behaviour < length n.catalogue) n.seats seat (recursion_from_All (λ y. y.behaviour < length n.catalogue) n.seats known.behaviours) place);
+  names = subst HasNoRepeats (sym (map_push (λ (y : Seat). y.name) n.seats seat)) (HasNoRepeats-push (map (λ (y : Seat). y.name) n.seats) seat.name known.names new);
+  catalogue = known.catalogue;
+  target = known.target;
+}
+
+-- the same of numbers that are equal to the system's
+pub joined_test : (n : NamedSys) (seat : Seat) (m : Sizes) (size actions : ℕ) → IsNamedSys n → m ≡ sizes_of (system_of n) → size ≡ (beh_at n.catalogue seat.behaviour).states →
+    actions ≡ n.environment.env.actions →
+    (count (grown_sizes m size) ≤ n.limit / actions) ↔ (cells (after (Join (seat_of n.catalogue seat)) (system_of n)) ≤ n.limit)
+joined_test n seat m size actions known is_m is_size is_actions = rw (is_m, is_size, is_actions) (joined_fit n seat known)
+
+-- what isn't at most the limit is more
+pub more_than : (cells limit : ℕ) → (cells ≤ limit → ⊥) → limit < cells
+more_than cells limit h = elim (cases_lt limit cells) [ inl l ↦ l | inr l ↦ absurd (h l) ]

@@ -1,0 +1,144 @@
+-- Services and their behaviours, one after the other.
+use Rattle.std.proofs.Common.{◌≡◌, ℕ, zero, suc, ◌+◌, ◌*◌, ◌/◌, ◌%◌, ◌<◌, ◌≤◌, Bool, true, false, not, ◌&&◌, ◌||◌, List, [], ◌∷◌, ◌++◌, Some, IsTrue, IsFalse, All, slice_get, slice_index, get_or, map, length, take, drop, refl, sym, ap, ap₂, ◌∙◌, subst, inl, inr, arith}
+use Rattle.std.specs.List.{AllByRecursion}
+use Rattle.std.proofs.Math.ListN.{set}
+use Rattle.std.proofs.lemmas.List.{take_more, take_more_set, map_push, drop_more, drop_all, length-set, take_all, get_or-map}
+use Rattle.std.proofs.lemmas.Nat.{div_below, mod_below}
+use Rattle.std.proofs.lemmas.List.Elements.{All-from_recursion}
+use Rattle.roman_model.specs.Lists.{IsIn, product_of}
+use Rattle.roman_model.specs.System as model
+use Rattle.roman_model.specs.System.{Env, IsBeh, is_final, all_final}
+use Rattle.roman_model.specs.Numbers.{states_at}
+use Rattle.roman_parts.specs.Named.{NamedEnv, NamedBeh, IsOver}
+use Rattle.roman_joint.specs.declared.seat.Seat.{Seat}
+use Rattle.roman_joint.specs.NamedSys.{beh_at, seat_of, IsOverEnv}
+
+-- what is read of a place of the catalogue
+pub beh_read : (behs : List NamedBeh) (i : ℕ) (y : NamedBeh) → i < length behs → y ≡ get_or behs i y → y.beh ≡ beh_at behs i
+beh_read [] i y l h = absurd (omega arith)
+beh_read (beh ∷ behs) zero y l h = ap (λ (x : NamedBeh). x.beh) h
+beh_read (beh ∷ behs) (suc i) y l h = beh_read behs i y (omega arith) h
+
+pub seat_there : (catalogue : List NamedBeh) (seats : List Seat) (k : ℕ) (x : Seat) → k < length seats → x ≡ get_or seats k x →
+    slice_get (map (seat_of catalogue) seats) k ≡ Some (seat_of catalogue x)
+seat_there catalogue [] k x l h = absurd (omega arith)
+seat_there catalogue (seat ∷ seats) zero x l h = ap (λ y. Some (seat_of catalogue y)) (sym h)
+seat_there catalogue (seat ∷ seats) (suc k) x l h = seat_there catalogue seats k x (omega arith) h
+
+-- a behaviour has few states, whatever environment it is over
+pub few_states : (y : NamedBeh) → IsOver y.env_states y.actions y.beh → y.beh.states ≤ 64
+few_states y known =
+    let env : Env = record { states = y.env_states; actions = y.actions; start = 0; triples = [] } in
+    (known env refl refl).states.1
+
+pub recursion-push : {X : Type 0} (P : X → Type 0) (xs : List X) (x : X) → AllByRecursion P xs → P x → AllByRecursion P (xs ++ x ∷ [])
+recursion-push P [] x h p = (p, tt)
+recursion-push P (y ∷ xs) x h p = (h.0, recursion-push P xs x h.1 p)
+
+-- the first services are read: their sizes, and that their behaviours are in range over the environment
+pub record AreRead (catalogue : List NamedBeh) (seats : List Seat) (table : List ℕ) (k : ℕ) : Type 0 where
+  pub sizes : take k table ≡ map (λ seat. (beh_at catalogue seat.behaviour).states) (take k seats)
+  pub long : length table ≡ 32
+  pub known : (environment : NamedEnv) → All (IsOverEnv environment) catalogue →
+      AllByRecursion (λ seat. IsBeh environment.env (beh_at catalogue seat.behaviour)) (take k seats)
+
+pub one_read : (catalogue : List NamedBeh) (seats : List Seat) (sizes : List ℕ) (k size : ℕ) (x : Seat) (y : NamedBeh) → k < length seats → k < 32 →
+    x ≡ get_or seats k x → y ≡ get_or catalogue x.behaviour y → x.behaviour < length catalogue → size ≡ y.beh.states → IsOver y.env_states y.actions y.beh →
+    AreRead catalogue seats sizes k → AreRead catalogue seats (set sizes k size) (k + 1)
+one_read catalogue seats sizes k size x y within room at_seat at_beh place is over so_far =
+    let f = λ (seat : Seat). (beh_at catalogue seat.behaviour).states in
+    let read : y.beh ≡ beh_at catalogue x.behaviour = beh_read catalogue x.behaviour y place at_beh in
+    let more : take (k + 1) seats ≡ take k seats ++ x ∷ [] = take_more seats k x within ∙ ap (λ z. take k seats ++ z ∷ []) (sym at_seat) in
+    let here : size ≡ f x = is ∙ ap (λ b. b.states) read in
+    record {
+      sizes =
+          take_more_set sizes k size (omega (arith, so_far.long))
+          ∙ (ap₂ (λ ns n. ns ++ n ∷ []) so_far.sizes here ∙ (sym (map_push f (take k seats) x) ∙ ap (map f) (sym more)));
+      long = length-set sizes k size ∙ so_far.long;
+      known = λ environment are.
+          let over_env : IsOverEnv environment y = subst (IsOverEnv environment) (sym at_beh) (are x.behaviour y place) in
+          let beh : IsBeh environment.env (beh_at catalogue x.behaviour) = subst (IsBeh environment.env) read (over environment.env (sym over_env.0) (sym over_env.1)) in
+          subst (AllByRecursion (λ seat. IsBeh environment.env (beh_at catalogue seat.behaviour))) (sym more)
+          (recursion-push (λ seat. IsBeh environment.env (beh_at catalogue seat.behaviour)) (take k seats) x (so_far.known environment are) beh);
+    }
+
+-- all services are read
+pub record AllRead (catalogue : List NamedBeh) (seats : List Seat) (table : List ℕ) : Type 0 where
+  pub sizes : take (length seats) table ≡ map (λ seat. (beh_at catalogue seat.behaviour).states) seats
+  pub known : (environment : NamedEnv) → All (IsOverEnv environment) catalogue →
+      AllByRecursion (λ seat. IsBeh environment.env (beh_at catalogue seat.behaviour)) seats
+
+pub all_read : (catalogue : List NamedBeh) (seats : List Seat) (table : List ℕ) (k : ℕ) → k ≡ length seats → AreRead catalogue seats table k → AllRead catalogue seats table
+all_read catalogue seats table k is h =
+    let whole : take k seats ≡ seats = take_all k seats (omega arith) in
+    record {
+      sizes = ap (λ n. take n table) (sym is) ∙ (h.sizes ∙ ap (map (λ seat. (beh_at catalogue seat.behaviour).states)) whole);
+      known = λ environment are. subst (AllByRecursion (λ seat. IsBeh environment.env (beh_at catalogue seat.behaviour))) whole (h.known environment are);
+    }
+
+-- the seats' sizes are those of the system
+pub same_sizes : (catalogue : List NamedBeh) (seats : List Seat) → map (λ seat. (beh_at catalogue seat.behaviour).states) seats ≡ map (λ x. x.beh.states) (map (seat_of catalogue) seats)
+same_sizes catalogue [] = refl
+same_sizes catalogue (seat ∷ seats) = ap (λ ns. (beh_at catalogue seat.behaviour).states ∷ ns) (same_sizes catalogue seats)
+
+-- what is said of the services' behaviours is said of the system's seats
+pub seats_known : (catalogue : List NamedBeh) (seats : List Seat) (env : Env) → AllByRecursion (λ seat. IsBeh env (beh_at catalogue seat.behaviour)) seats →
+    (x : model.Seat) → IsIn x (map (seat_of catalogue) seats) → IsBeh env x.beh
+seats_known catalogue [] env h x i = absurd i
+seats_known catalogue (seat ∷ seats) env h x (inl e) = subst (λ (y : model.Seat). IsBeh env y.beh) (sym e) h.0
+seats_known catalogue (seat ∷ seats) env h x (inr i) = seats_known catalogue seats env h.1 x i
+
+-- one service fewer is left to be in a final state
+pub record FinalStep (catalogue : List NamedBeh) (seats : List Seat) (sizes : List ℕ) (k rest : ℕ) (x : Seat) (whole : Bool) : Type 0 where
+  pub state : rest / product_of (drop (k + 1) sizes) < get_or sizes k 0
+  pub below : rest % product_of (drop (k + 1) sizes) < product_of (drop (k + 1) sizes)
+  pub test : (not x.rests || is_final (beh_at catalogue x.behaviour) (rest / product_of (drop (k + 1) sizes)))
+      && all_final (map (seat_of catalogue) (drop (k + 1) seats)) (states_at (drop (k + 1) sizes) (rest % product_of (drop (k + 1) sizes))) ≡ whole
+
+pub final_step : (catalogue : List NamedBeh) (seats : List Seat) (sizes : List ℕ) (k rest : ℕ) (x : Seat) (whole : Bool) → k < length seats → k < length sizes → x ≡ get_or seats k x →
+    0 < product_of (drop (k + 1) sizes) → rest < product_of (drop k sizes) → all_final (map (seat_of catalogue) (drop k seats)) (states_at (drop k sizes) rest) ≡ whole →
+    FinalStep catalogue seats sizes k rest x whole
+final_step catalogue seats sizes k rest x whole seat size is positive below so_far =
+    let first : drop k seats ≡ x ∷ drop (k + 1) seats = drop_more seats k x seat ∙ ap (λ y. y ∷ drop (k + 1) seats) (sym is) in
+    let split : drop k sizes ≡ get_or sizes k 0 ∷ drop (k + 1) sizes = drop_more sizes k 0 size in
+    let product : product_of (drop k sizes) ≡ get_or sizes k 0 * product_of (drop (k + 1) sizes) = ap product_of split in
+    record {
+      state = div_below rest (product_of (drop (k + 1) sizes)) (get_or sizes k 0) positive (omega arith);
+      below = mod_below rest (product_of (drop (k + 1) sizes)) positive;
+      test = sym (ap₂ (λ ys ns. all_final (map (seat_of catalogue) ys) (states_at ns rest)) first split) ∙ so_far;
+    }
+
+-- no service is left
+pub final_end : (catalogue : List NamedBeh) (seats : List Seat) (bs : List ℕ) (k : ℕ) → length seats ≤ k → all_final (map (seat_of catalogue) (drop k seats)) bs ≡ true
+final_end catalogue seats bs k l = ap (λ ys. all_final (map (seat_of catalogue) ys) bs) (drop_all k seats l)
+
+-- a test that decides the first service
+pub not_final : (rests final rest whole : Bool) → (not rests || final) && rest ≡ whole → IsTrue rests → IsFalse final → whole ≡ false
+not_final rests final rest whole h r f = sym h ∙ (ap (λ b. (not b || final) && rest) r ∙ ap (λ b. b && rest) f)
+
+pub final_so_far : (rests final rest whole : Bool) → (not rests || final) && rest ≡ whole → (not rests || final) ≡ true → rest ≡ whole
+final_so_far rests final rest whole h p = sym (ap (λ b. b && rest) p) ∙ h
+
+pub final_passes : (rests final : Bool) → final ≡ true → (not rests || final) ≡ true
+final_passes true final h = h
+final_passes false final h = refl
+
+pub loose_passes : (rests final : Bool) → rests ≡ false → (not rests || final) ≡ true
+loose_passes rests final h = ap (λ b. not b || final) h
+
+-- the size at a place is how many states the service's behaviour has
+pub size_read : (catalogue : List NamedBeh) (seats : List Seat) (sizes : List ℕ) (k : ℕ) (x : Seat) (y : NamedBeh) → sizes ≡ map (λ seat. (beh_at catalogue seat.behaviour).states) seats →
+    k < length seats → x ≡ get_or seats k x → y.beh ≡ beh_at catalogue x.behaviour → get_or sizes k 0 ≡ y.beh.states
+size_read catalogue seats sizes k x y is within at_seat read =
+    ap (λ ns. get_or ns k 0) is ∙ (get_or-map (λ seat. (beh_at catalogue seat.behaviour).states) seats k x 0 within
+    ∙ (ap (λ seat. (beh_at catalogue seat.behaviour).states) (sym at_seat) ∙ ap (λ b. b.states) (sym read)))
+
+-- each service has states
+pub positive_sizes : (catalogue : List NamedBeh) (seats : List Seat) (env : Env) → AllByRecursion (λ seat. IsBeh env (beh_at catalogue seat.behaviour)) seats →
+    All (λ size. 0 < size) (map (λ seat. (beh_at catalogue seat.behaviour).states) seats)
+positive_sizes catalogue seats env h = All-from_recursion (λ size. 0 < size) (map (λ seat. (beh_at catalogue seat.behaviour).states) seats) (each seats h)
+  where
+    each : (xs : List Seat) → AllByRecursion (λ seat. IsBeh env (beh_at catalogue seat.behaviour)) xs →
+        AllByRecursion (λ size. 0 < size) (map (λ seat. (beh_at catalogue seat.behaviour).states) xs)
+    each [] h = tt
+    each (x ∷ xs) h = (h.0.states.0, each xs h.1)

@@ -1,0 +1,382 @@
+-- One step of a walk backwards: what is left, and where the walk then is.
+use Rattle.std.proofs.Common.{◌≡◌, ℕ, zero, suc, ◌+◌, ◌-◌, ◌*◌, ◌^◌, ◌<◌, ◌≤◌, Bool, true, false, cond, List, [], ◌∷◌, ◌++◌, map, length, take, drop, get_or, Option, Some, None, IsTrue, IsFalse, slice_get, slice_index, slice_set, refl, sym, ap, ◌∙◌, subst, arith}
+use Rattle.std.specs.List.{flat_map, filter}
+use Rattle.std.proofs.lemmas.List.{drop_more, drop_all, append_assoc, append-nil, length-map, get_or-take}
+use Rattle.std.proofs.lemmas.List.Sums.{length-filter, count_by-le-length}
+use Rattle.roman_model.specs.Lists.{IsIn, HoldsEachOnce, below}
+use Rattle.roman_model.specs.System.{Env, Beh, Sys, Seat, Pair, IsSys, IsPair, IsEnv, IsBeh, has_triple, has_move, env_prev, beh_prev}
+use Rattle.roman_model.specs.Arena.{Delegation, back}
+use Rattle.roman_model.specs.Numbers.{sizes_of, count, number, pair_at, numbered}
+use Rattle.roman_model.proofs.Lists.{length-below, get_or-below}
+use Rattle.roman_model.proofs.NumberLemmas.{numbers_are_pairs}
+use Rattle.roman_model.proofs.SystemLemmas.{seat_in}
+use Rattle.roman_joint.specs.declared.walk.Walk.{Walk}
+use Rattle.roman_joint.proofs.BackwardLemmas.{found_backwards}
+use Rattle.roman_joint.specs.Backward.{seat_prev, from_states, from_seat, from_target, from_env, from_action, from_all}
+use Rattle.roman_joint.specs.Walks.{goal_of, IsWalk, left_of_seat, left_of_target, left_of_env, left_of_action, left_of_all, left, way_left, GoesOn}
+
+-- the first of some lists, and the rest
+flat_map-drop : {X Y : Type 0} (f : X → List Y) (xs : List X) (i : ℕ) (d : X) → i < length xs → flat_map f (drop i xs) ≡ f (get_or xs i d) ++ flat_map f (drop (i + 1) xs)
+flat_map-drop f xs i d l = ap (flat_map f) (drop_more xs i d l)
+
+flat_map-past : {X Y : Type 0} (f : X → List Y) (xs : List X) (i : ℕ) → length xs ≤ i → flat_map f (drop i xs) ≡ []
+flat_map-past f xs i l = ap (flat_map f) (drop_all i xs l)
+
+-- the same for numbers in their order
+flat_map-below : {Y : Type 0} (f : ℕ → List Y) (n i : ℕ) → i < n → flat_map f (drop i (below n)) ≡ f i ++ flat_map f (drop (i + 1) (below n))
+flat_map-below f n i l =
+    flat_map-drop f (below n) i 0 (omega (arith, length-below n)) ∙ ap (λ j. f j ++ flat_map f (drop (i + 1) (below n))) (get_or-below n i 0 l)
+
+below-past : {Y : Type 0} (f : ℕ → List Y) (n i : ℕ) → n ≤ i → flat_map f (drop i (below n)) ≡ []
+below-past f n i l = flat_map-past f (below n) i (omega (arith, length-below n))
+
+-- a seat that isn't there has no states before
+no_seat : (seats : List Seat) (k b' e a : ℕ) → length seats ≤ k → seat_prev (slice_get seats k) b' e a ≡ []
+no_seat [] k b' e a l = refl
+no_seat (seat ∷ seats) zero b' e a l = absurd (omega arith)
+no_seat (seat ∷ seats) (suc k) b' e a l = no_seat seats k b' e a (omega arith)
+
+few_prev : (env : Env) (e' a : ℕ) → IsEnv env → length (env_prev env e' a) ≤ 64
+few_prev env e' a ok = omega (arith, length-filter (λ e. has_triple env e a e') (below env.states), count_by-le-length (λ e. has_triple env e a e') (below env.states), length-below env.states, ok.states.1)
+
+few_beh_prev : (env : Env) (beh : Beh) (b' e a : ℕ) → IsBeh env beh → length (beh_prev beh b' e a) ≤ 64
+few_beh_prev env beh b' e a ok = omega (arith, length-filter (λ b. has_move beh b e a b') (below beh.states), count_by-le-length (λ b. has_move beh b e a b') (below beh.states), length-below beh.states, ok.states.1)
+
+-- the seats from the first on are the first and those behind it
+all_seats : (s : Sys) (q : Pair) (a e t : ℕ) → from_seat s q a e t 0 ++ flat_map (from_seat s q a e t) (drop 1 (below (length s.seats))) ≡ from_target s q a e t
+all_seats s q a e t = of_seats s.seats refl
+  where
+    of_seats : (seats : List Seat) → s.seats ≡ seats → from_seat s q a e t 0 ++ flat_map (from_seat s q a e t) (drop 1 (below (length s.seats))) ≡ from_target s q a e t
+    of_seats [] h =
+        let none : length s.seats ≡ 0 = ap length h in
+        let empty : from_seat s q a e t 0 ≡ [] = ap (from_states s q a e t 0) (no_seat s.seats 0 (slice_index q.bs 0) e a (omega arith)) in
+        ap (λ xs. xs ++ flat_map (from_seat s q a e t) (drop 1 (below (length s.seats)))) empty
+        ∙ (below-past (from_seat s q a e t) (length s.seats) 1 (omega arith) ∙ sym (below-past (from_seat s q a e t) (length s.seats) 0 (omega arith)))
+    of_seats (seat ∷ seats) h =
+        let some : 0 < length s.seats = omega (arith, ap length h) in
+        sym (flat_map-below (from_seat s q a e t) (length s.seats) 0 some)
+
+-- nothing is left of a seat past the last
+past_seat : (s : Sys) (q : Pair) (a e t n : ℕ) → from_states s q a e t (length s.seats) (drop n (seat_prev (slice_get s.seats (length s.seats)) (slice_index q.bs (length s.seats)) e a)) ≡ []
+past_seat s q a e t n =
+    ap (λ bs. from_states s q a e t (length s.seats) (drop n bs)) (no_seat s.seats (length s.seats) (slice_index q.bs (length s.seats)) e a (omega arith))
+    ∙ ap (from_states s q a e t (length s.seats)) (drop_all n [] (omega arith))
+
+-- the first parts of what is left are none
+after_none : {X : Type 0} (xs ys rest : List X) → xs ≡ [] → ys ≡ [] → xs ++ (ys ++ rest) ≡ rest
+after_none xs ys rest x y = ap (λ zs. zs ++ (ys ++ rest)) x ∙ ap (λ zs. zs ++ rest) y
+
+module _ (s : Sys) (sys : IsSys s) (w : Walk) (ok : IsWalk s w) where
+  -- the walk at the next seat
+  abbrev pub seat_on : Walk
+  seat_on = record w { seat = w.seat + 1; states_taken = 0 }
+
+  pub goes_seat : left_of_seat s w ≡ [] → w.seat + 1 < length s.seats → GoesOn s w seat_on
+  goes_seat no_states more =
+      let rest = left_of_env s w ++ (left_of_action s w ++ left_of_all s w) in
+      let f = from_seat s (goal_of s w) w.action w.env w.target in
+      let next : left_of_target s w ≡ f (w.seat + 1) ++ left_of_target s seat_on = flat_map-below f (length s.seats) (w.seat + 1) more in
+      let old : left s w ≡ f (w.seat + 1) ++ (left_of_target s seat_on ++ rest) =
+      ap (λ xs. xs ++ (left_of_target s w ++ rest)) no_states ∙ (ap (λ xs. xs ++ rest) next ∙ append_assoc (f (w.seat + 1)) (left_of_target s seat_on) rest) in
+      record {
+        walk = record {
+          pair = ok.pair;
+          to_target = ok.to_target;
+          to_env = ok.to_env;
+          to_states = ok.to_states;
+          action = ok.action;
+          env = ok.env;
+          target = ok.target;
+          row = ok.row;
+          seat = omega arith;
+          states_taken = omega arith;
+          targets_taken = ok.targets_taken;
+          envs_taken = ok.envs_taken;
+        };
+        left = sym old;
+        falls = omega arith;
+      }
+
+  pub no_seats : length s.seats ≤ w.seat + 1 → left_of_target s w ≡ []
+  no_seats past = below-past (from_seat s (goal_of s w) w.action w.env w.target) (length s.seats) (w.seat + 1) past
+
+  -- the walk at the target's next state
+  abbrev pub target_on : ℕ → ℕ → Walk
+  target_on t row = record w { target = t; row = row; targets_taken = w.targets_taken + 1; seat = 0; states_taken = 0 }
+
+  pub goes_target : (t row : ℕ) → left_of_seat s w ≡ [] → left_of_target s w ≡ [] → w.targets_taken < length (beh_prev s.target (goal_of s w).t w.env w.action) →
+      t ≡ get_or (beh_prev s.target (goal_of s w).t w.env w.action) w.targets_taken 0 → t < s.target.states →
+      row ≡ number (sizes_of s) (record { t = t; e = w.env; bs = (goal_of s w).bs }) → GoesOn s w (target_on t row)
+  goes_target t row no_states no_seats more is within at =
+      let targets = beh_prev s.target (goal_of s w).t w.env w.action in
+      let rest = left_of_action s w ++ left_of_all s w in
+      let f = from_target s (goal_of s w) w.action w.env in
+      let new = target_on t row in
+      let few : length targets ≤ 64 = few_beh_prev s.env s.target (goal_of s w).t w.env w.action sys.target in
+      let next : left_of_env s w ≡ f t ++ left_of_env s new = flat_map-drop f targets w.targets_taken 0 more ∙ ap (λ u. f u ++ left_of_env s new) (sym is) in
+      let seats : left_of_seat s new ++ left_of_target s new ≡ f t = all_seats s (goal_of s w) w.action w.env t in
+      let old : left s w ≡ f t ++ (left_of_env s new ++ rest) =
+      after_none (left_of_seat s w) (left_of_target s w) (left_of_env s w ++ rest) no_states no_seats ∙ (ap (λ xs. xs ++ rest) next ∙ append_assoc (f t) (left_of_env s new) rest) in
+      let then : left s new ≡ f t ++ (left_of_env s new ++ rest) =
+      sym (append_assoc (left_of_seat s new) (left_of_target s new) (left_of_env s new ++ rest)) ∙ ap (λ xs. xs ++ (left_of_env s new ++ rest)) seats in
+      record {
+        walk = record {
+          pair = ok.pair;
+          to_target = ok.to_target;
+          to_env = ok.to_env;
+          to_states = ok.to_states;
+          action = ok.action;
+          env = ok.env;
+          target = within;
+          row = at;
+          seat = omega arith;
+          states_taken = omega arith;
+          targets_taken = omega arith;
+          envs_taken = ok.envs_taken;
+        };
+        left = then ∙ sym old;
+        falls = omega (arith, sys.few);
+      }
+
+  pub no_targets : length (beh_prev s.target (goal_of s w).t w.env w.action) ≤ w.targets_taken → left_of_env s w ≡ []
+  no_targets past = flat_map-past (from_target s (goal_of s w) w.action w.env) (beh_prev s.target (goal_of s w).t w.env w.action) w.targets_taken past
+
+  -- the walk at the environment's next state
+  abbrev pub env_on : ℕ → ℕ → Walk
+  env_on e row = record w { env = e; row = row; envs_taken = w.envs_taken + 1; targets_taken = 0; seat = length s.seats; states_taken = 0 }
+
+  pub goes_env : (e row : ℕ) → left_of_seat s w ≡ [] → left_of_target s w ≡ [] → left_of_env s w ≡ [] → w.envs_taken < length (env_prev s.env (goal_of s w).e w.action) →
+      e ≡ get_or (env_prev s.env (goal_of s w).e w.action) w.envs_taken 0 → e < s.env.states →
+      row ≡ number (sizes_of s) (record { t = w.target; e = e; bs = (goal_of s w).bs }) → GoesOn s w (env_on e row)
+  goes_env e row no_states no_seats no_targets more is within at =
+      let envs = env_prev s.env (goal_of s w).e w.action in
+      let rest = left_of_all s w in
+      let f = from_env s (goal_of s w) w.action in
+      let new = env_on e row in
+      let few : length envs ≤ 64 = few_prev s.env (goal_of s w).e w.action sys.env in
+      let next : left_of_action s w ≡ f e ++ left_of_action s new = flat_map-drop f envs w.envs_taken 0 more ∙ ap (λ u. f u ++ left_of_action s new) (sym is) in
+      let old : left s w ≡ f e ++ (left_of_action s new ++ rest) =
+      after_none (left_of_seat s w) (left_of_target s w) (left_of_env s w ++ (left_of_action s w ++ rest)) no_states no_seats
+      ∙ (ap (λ xs. xs ++ (left_of_action s w ++ rest)) no_targets ∙ (ap (λ xs. xs ++ rest) next ∙ append_assoc (f e) (left_of_action s new) rest)) in
+      let then : left s new ≡ f e ++ (left_of_action s new ++ rest) =
+      after_none (left_of_seat s new) (left_of_target s new) (f e ++ (left_of_action s new ++ rest)) (past_seat s (goal_of s w) w.action e w.target 0)
+      (below-past (from_seat s (goal_of s w) w.action e w.target) (length s.seats) (length s.seats + 1) (omega arith)) in
+      record {
+        walk = record {
+          pair = ok.pair;
+          to_target = ok.to_target;
+          to_env = ok.to_env;
+          to_states = ok.to_states;
+          action = ok.action;
+          env = within;
+          target = ok.target;
+          row = at;
+          seat = omega arith;
+          states_taken = omega arith;
+          targets_taken = omega arith;
+          envs_taken = omega arith;
+        };
+        left = then ∙ sym old;
+        falls = omega (arith, sys.few);
+      }
+
+  pub no_envs : length (env_prev s.env (goal_of s w).e w.action) ≤ w.envs_taken → left_of_action s w ≡ []
+  no_envs past = flat_map-past (from_env s (goal_of s w) w.action) (env_prev s.env (goal_of s w).e w.action) w.envs_taken past
+
+  -- the walk at the next action
+  abbrev pub action_on : Walk
+  action_on = record w { action = w.action + 1; envs_taken = 0; targets_taken = 64; seat = length s.seats; states_taken = 0 }
+
+  pub goes_action : left_of_seat s w ≡ [] → left_of_target s w ≡ [] → left_of_env s w ≡ [] → left_of_action s w ≡ [] → w.action + 1 < s.env.actions → GoesOn s w action_on
+  goes_action no_states no_seats no_targets no_envs more =
+      let q = goal_of s w in
+      let a = w.action + 1 in
+      let f = from_action s q in
+      let new = action_on in
+      let next : left_of_all s w ≡ f a ++ left_of_all s new = flat_map-below f s.env.actions a more in
+      let old : left s w ≡ f a ++ left_of_all s new =
+      after_none (left_of_seat s w) (left_of_target s w) (left_of_env s w ++ (left_of_action s w ++ left_of_all s w)) no_states no_seats
+      ∙ (after_none (left_of_env s w) (left_of_action s w) (left_of_all s w) no_targets no_envs ∙ next) in
+      let few : length (beh_prev s.target q.t w.env a) ≤ 64 = few_beh_prev s.env s.target q.t w.env a sys.target in
+      let targets : left_of_env s new ≡ [] = flat_map-past (from_target s q a w.env) (beh_prev s.target q.t w.env a) 64 few in
+      let then : left s new ≡ f a ++ left_of_all s new =
+      after_none (left_of_seat s new) (left_of_target s new) (left_of_env s new ++ (f a ++ left_of_all s new)) (past_seat s q a w.env w.target 0)
+      (below-past (from_seat s q a w.env w.target) (length s.seats) (length s.seats + 1) (omega arith))
+      ∙ ap (λ xs. xs ++ (f a ++ left_of_all s new)) targets in
+      record {
+        walk = record {
+          pair = ok.pair;
+          to_target = ok.to_target;
+          to_env = ok.to_env;
+          to_states = ok.to_states;
+          action = more;
+          env = ok.env;
+          target = ok.target;
+          row = ok.row;
+          seat = omega arith;
+          states_taken = omega arith;
+          targets_taken = omega arith;
+          envs_taken = omega arith;
+        };
+        left = then ∙ sym old;
+        falls = omega (arith, sys.few);
+      }
+
+  pub no_actions : s.env.actions ≤ w.action + 1 → left_of_all s w ≡ []
+  no_actions past = below-past (from_action s (goal_of s w)) s.env.actions (w.action + 1) past
+
+  -- nothing is left in any part
+  pub none_left : left_of_seat s w ≡ [] → left_of_target s w ≡ [] → left_of_env s w ≡ [] → left_of_action s w ≡ [] → left_of_all s w ≡ [] → left s w ≡ []
+  none_left x y z u v =
+      after_none (left_of_seat s w) (left_of_target s w) (left_of_env s w ++ (left_of_action s w ++ left_of_all s w)) x y
+      ∙ (after_none (left_of_env s w) (left_of_action s w) (left_of_all s w) z u ∙ v)
+
+  -- the same, where the number of seats has another name
+  pub goes_env_at : (e row m : ℕ) → left_of_seat s w ≡ [] → left_of_target s w ≡ [] → left_of_env s w ≡ [] → w.envs_taken < length (env_prev s.env (goal_of s w).e w.action) →
+      e ≡ get_or (env_prev s.env (goal_of s w).e w.action) w.envs_taken 0 → e < s.env.states →
+      row ≡ number (sizes_of s) (record { t = w.target; e = e; bs = (goal_of s w).bs }) → m ≡ length s.seats →
+      GoesOn s w (record w { env = e; row = row; envs_taken = w.envs_taken + 1; targets_taken = 0; seat = m; states_taken = 0 })
+  goes_env_at e row m no_states no_seats no_targets more is within at seats =
+      subst (λ k. GoesOn s w (record w { env = e; row = row; envs_taken = w.envs_taken + 1; targets_taken = 0; seat = k; states_taken = 0 })) (sym seats)
+      (goes_env e row no_states no_seats no_targets more is within at)
+
+  pub goes_action_at : (m : ℕ) → left_of_seat s w ≡ [] → left_of_target s w ≡ [] → left_of_env s w ≡ [] → left_of_action s w ≡ [] → w.action + 1 < s.env.actions → m ≡ length s.seats →
+      GoesOn s w (record w { action = w.action + 1; envs_taken = 0; targets_taken = 64; seat = m; states_taken = 0 })
+  goes_action_at m no_states no_seats no_targets no_envs more seats =
+      subst (λ k. GoesOn s w (record w { action = w.action + 1; envs_taken = 0; targets_taken = 64; seat = k; states_taken = 0 })) (sym seats)
+      (goes_action no_states no_seats no_targets no_envs more)
+
+-- the states before of a seat that is ready are its behaviour's
+ready_prev : (o : Option Seat) (seat : Seat) (b' e a : ℕ) → o ≡ Some seat → IsFalse seat.frozen → seat_prev o b' e a ≡ beh_prev seat.beh b' e a
+ready_prev o seat b' e a is ready = ap (λ x. seat_prev x b' e a) is ∙ ap (λ f. cond f [] (beh_prev seat.beh b' e a)) ready
+
+frozen_prev : (o : Option Seat) (seat : Seat) (b' e a : ℕ) → o ≡ Some seat → IsTrue seat.frozen → seat_prev o b' e a ≡ []
+frozen_prev o seat b' e a is frozen = ap (λ x. seat_prev x b' e a) is ∙ ap (λ f. cond f [] (beh_prev seat.beh b' e a)) frozen
+
+-- a state of the present seat is taken
+pub record Takes (s : Sys) (old new : Walk) (node : ℕ) : Type 0 where
+  pub walk : IsWalk s new
+  pub left : left s old ≡ record { node = node; action = old.action; seat = old.seat } ∷ left s new
+
+module _ (s : Sys) (sys : IsSys s) (w : Walk) (ok : IsWalk s w) where
+  pub takes_state : (seat : Seat) (node : ℕ) → slice_get s.seats w.seat ≡ Some seat → IsFalse seat.frozen →
+      w.states_taken < length (beh_prev seat.beh (slice_index (goal_of s w).bs w.seat) w.env w.action) →
+      node ≡ number (sizes_of s) (record {
+        t = w.target;
+        e = w.env;
+        bs = slice_set (goal_of s w).bs w.seat (get_or (beh_prev seat.beh (slice_index (goal_of s w).bs w.seat) w.env w.action) w.states_taken 0);
+      }) →
+      Takes s w (record w { states_taken = w.states_taken + 1 }) node
+  takes_state seat node seated ready more is =
+      let q = goal_of s w in
+      let states = beh_prev seat.beh (slice_index q.bs w.seat) w.env w.action in
+      let b = get_or states w.states_taken 0 in
+      let f = from_states s q w.action w.env w.target w.seat in
+      let new : Walk = record w { states_taken = w.states_taken + 1 } in
+      let few : length states ≤ 64 = few_beh_prev s.env seat.beh (slice_index q.bs w.seat) w.env w.action (sys.seats seat (seat_in s.seats w.seat seat seated)) in
+      let prev : seat_prev (slice_get s.seats w.seat) (slice_index q.bs w.seat) w.env w.action ≡ states = ready_prev (slice_get s.seats w.seat) seat (slice_index q.bs w.seat) w.env w.action seated ready in
+      let now : left_of_seat s w ≡ f (drop w.states_taken states) = ap (λ bs. f (drop w.states_taken bs)) prev in
+      let then : left_of_seat s new ≡ f (drop (w.states_taken + 1) states) = ap (λ bs. f (drop (w.states_taken + 1) bs)) prev in
+      let first : Delegation ℕ = record { node = number (sizes_of s) (record { t = w.target; e = w.env; bs = slice_set q.bs w.seat b }); action = w.action; seat = w.seat } in
+      let split : left_of_seat s w ≡ first ∷ left_of_seat s new = now ∙ (ap f (drop_more states w.states_taken 0 more) ∙ ap (λ xs. first ∷ xs) (sym then)) in
+      let rest = left_of_target s w ++ (left_of_env s w ++ (left_of_action s w ++ left_of_all s w)) in
+      let given : ◌≡◌ {A = Delegation ℕ} first (record { node = node; action = w.action; seat = w.seat }) = ap (λ x. delegation_of x w.action w.seat) (sym is) in
+      record {
+        walk = record {
+          pair = ok.pair;
+          to_target = ok.to_target;
+          to_env = ok.to_env;
+          to_states = ok.to_states;
+          action = ok.action;
+          env = ok.env;
+          target = ok.target;
+          row = ok.row;
+          seat = ok.seat;
+          states_taken = omega arith;
+          targets_taken = ok.targets_taken;
+          envs_taken = ok.envs_taken;
+        };
+        left = ap (λ xs. xs ++ rest) split ∙ ap (λ d. d ∷ (left_of_seat s new ++ rest)) given;
+      }
+    where
+      delegation_of : ℕ → ℕ → ℕ → Delegation ℕ
+      delegation_of node a k = record { node = node; action = a; seat = k }
+
+  pub no_state_there : length s.seats ≤ w.seat → left_of_seat s w ≡ []
+  no_state_there past =
+      let q = goal_of s w in
+      ap (λ bs. from_states s q w.action w.env w.target w.seat (drop w.states_taken bs)) (no_seat s.seats w.seat (slice_index q.bs w.seat) w.env w.action past)
+      ∙ ap (from_states s q w.action w.env w.target w.seat) (drop_all w.states_taken [] (omega arith))
+
+  pub no_state_frozen : (seat : Seat) → slice_get s.seats w.seat ≡ Some seat → IsTrue seat.frozen → left_of_seat s w ≡ []
+  no_state_frozen seat seated frozen =
+      let q = goal_of s w in
+      ap (λ bs. from_states s q w.action w.env w.target w.seat (drop w.states_taken bs)) (frozen_prev (slice_get s.seats w.seat) seat (slice_index q.bs w.seat) w.env w.action seated frozen)
+      ∙ ap (from_states s q w.action w.env w.target w.seat) (drop_all w.states_taken [] (omega arith))
+
+  pub no_state_left : (seat : Seat) → slice_get s.seats w.seat ≡ Some seat → IsFalse seat.frozen →
+      length (beh_prev seat.beh (slice_index (goal_of s w).bs w.seat) w.env w.action) ≤ w.states_taken → left_of_seat s w ≡ []
+  no_state_left seat seated ready past =
+      let q = goal_of s w in
+      let states = beh_prev seat.beh (slice_index q.bs w.seat) w.env w.action in
+      ap (λ bs. from_states s q w.action w.env w.target w.seat (drop w.states_taken bs)) (ready_prev (slice_get s.seats w.seat) seat (slice_index q.bs w.seat) w.env w.action seated ready)
+      ∙ ap (from_states s q w.action w.env w.target w.seat) (drop_all w.states_taken states past)
+
+-- a walk that begins: all that leads to the pair is left
+pub record Begins (s : Sys) (p : ℕ) (w : Walk) : Type 0 where
+  pub walk : IsWalk s w
+  pub left : HoldsEachOnce (left s w) (back (numbered s) p)
+
+abbrev pub first_walk : ℕ → ℕ → ℕ → List ℕ → ℕ → Walk
+first_walk p t e states m = record {
+  pair = p;
+  to_target = t;
+  to_env = e;
+  to_states = states;
+  action = 0;
+  envs_taken = 0;
+  env = e;
+  targets_taken = 64;
+  target = t;
+  row = p;
+  seat = m;
+  states_taken = 0;
+}
+
+begins_at : (s : Sys) (p : ℕ) (states : List ℕ) → IsSys s → p < count (sizes_of s) → take (length (sizes_of s).seats) states ≡ (pair_at (sizes_of s) p).bs →
+    Begins s p (first_walk p (pair_at (sizes_of s) p).t (pair_at (sizes_of s) p).e states (length s.seats))
+begins_at s p states sys below_p same =
+    let q : Pair = pair_at (sizes_of s) p in
+    let pair : IsPair s q = (numbers_are_pairs s).pair p below_p in
+    let w : Walk = first_walk p q.t q.e states (length s.seats) in
+    let many : length (sizes_of s).seats ≡ length s.seats = length-map s.seats (λ (x : Seat). x.beh.states) in
+    let few : length (beh_prev s.target q.t q.e 0) ≤ 64 = few_beh_prev s.env s.target q.t q.e 0 sys.target in
+    let nothing : left s w ≡ left_of_action s w ++ left_of_all s w =
+    after_none (left_of_seat s w) (left_of_target s w) (left_of_env s w ++ (left_of_action s w ++ left_of_all s w)) (past_seat s q 0 q.e q.t 0)
+    (below-past (from_seat s q 0 q.e q.t) (length s.seats) (length s.seats + 1) (omega arith))
+    ∙ ap (λ xs. xs ++ (left_of_action s w ++ left_of_all s w)) (flat_map-past (from_target s q 0 q.e) (beh_prev s.target q.t q.e 0) 64 few) in
+    let all : from_all s q ≡ left_of_action s w ++ left_of_all s w = flat_map-below (from_action s q) s.env.actions 0 sys.env.actions.0 in
+    record {
+      walk = record {
+        pair = below_p;
+        to_target = refl;
+        to_env = refl;
+        to_states = λ k l. sym (get_or-take (length (sizes_of s).seats) states k 0 (omega arith)) ∙ ap (λ bs. slice_index bs k) same;
+        action = sys.env.actions.0;
+        env = pair.e;
+        target = pair.t;
+        row = sym ((numbers_are_pairs s).there p below_p);
+        seat = omega arith;
+        states_taken = omega arith;
+        targets_taken = omega arith;
+        envs_taken = omega arith;
+      };
+      left = subst (λ xs. HoldsEachOnce xs (back (numbered s) p)) (all ∙ sym nothing) (found_backwards s p sys below_p);
+    }
+
+pub begins : (s : Sys) (p t e m : ℕ) (states : List ℕ) → IsSys s → p < count (sizes_of s) → take (length (sizes_of s).seats) states ≡ (pair_at (sizes_of s) p).bs →
+    t ≡ (pair_at (sizes_of s) p).t → e ≡ (pair_at (sizes_of s) p).e → m ≡ length s.seats → Begins s p (first_walk p t e states m)
+begins s p t e m states sys below_p same is_t is_e is_m =
+    subst (λ x. Begins s p (first_walk p x e states m)) (sym is_t)
+    (subst (λ x. Begins s p (first_walk p (pair_at (sizes_of s) p).t x states m)) (sym is_e)
+    (subst (λ x. Begins s p (first_walk p (pair_at (sizes_of s) p).t (pair_at (sizes_of s) p).e states x)) (sym is_m) (begins_at s p states sys below_p same)))

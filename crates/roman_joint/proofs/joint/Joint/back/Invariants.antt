@@ -1,0 +1,15 @@
+use Rattle.std.proofs.Common.{◌≡◌}
+use Rattle.roman_joint.specs.NamedSys.{system_of}
+use Rattle.roman_joint.specs.Walks.{IsWalk, left, way_left}
+use Rattle.roman_joint.proofs.joint.Joint.back.Given as goal
+
+-- nothing was given yet
+abbrev pub invariant-on : goal.invariant-on
+invariant-on g l = record {
+  walk : IsWalk (system_of l.self) l.walk;
+  left : left (system_of l.self) l.walk ≡ left (system_of l.self) l.fn.walk;
+  steps : l.steps ≡ l.fn.steps;
+}
+
+abbrev pub decreases-on : goal.decreases-on
+decreases-on g l = way_left (system_of l.self) l.walk

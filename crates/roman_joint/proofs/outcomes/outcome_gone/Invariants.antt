@@ -1,0 +1,11 @@
+use Rattle.std.proofs.Common.{◌≡◌, ℕ, ◌+◌, ◌*◌, Bool, not, map, drop, All}
+use Rattle.std.specs.List.{find, flat_map}
+use Rattle.roman_joint.proofs.outcomes.outcome_gone.Given as goal
+
+-- the first that is gone is the first of those that are left
+abbrev pub invariant-loop-env : goal.invariant-loop-env
+invariant-loop-env g l =
+    let number = λ (x : ℕ × ℕ). l.base + x.0 * l.env_stride + x.1 * l.stride in
+    (gone : ℕ → Bool) → All (λ e. All (λ b. (r : Bool) → goal.A-post g l.alive (number (e, b)) r → r ≡ not (gone (number (e, b)))) l.states) l.envs →
+    find (λ x. gone (number x)) (flat_map (λ e. map (λ b. (e, b)) l.states) (drop l.env-index l.envs))
+    ≡ find (λ x. gone (number x)) (flat_map (λ e. map (λ b. (e, b)) l.states) l.envs)

@@ -1,0 +1,27 @@
+use Rattle.std.proofs.Common.{◌≡◌, ◌<◌, length, refl, sym, ap, ◌∙◌, subst, arith}
+use Rattle.roman_parts.specs.Named.{NamedBeh}
+use Rattle.roman_joint.specs.declared.seat.Seat.{Seat}
+use Rattle.roman_joint.proofs.SeatLemmas.{AllRead, few_states, one_read, all_read}
+use Rattle.roman_joint.proofs.seats.sizes_of_seats.Goals as goal
+
+pub loop-k-init : goal.loop-k-init
+loop-k-init c = record { sizes = refl; long = refl; known = λ environment are. tt }
+
+pub overflow_cast-sizes : goal.overflow_cast-sizes
+overflow_cast-sizes c =
+    let few = few_states c.index-catalogue-seat.result c.states.ensures.known in
+    omega (arith, c.len.ensures.len, ap length c.states.ensures.names, c.states.ensures.count)
+
+pub loop-k-preserved : goal.loop-k-preserved
+loop-k-preserved c =
+    let k = c.loop-k.k in
+    let x = c.index-seats-k.result in
+    let y = c.index-catalogue-seat.result in
+    let place : x.behaviour < length c.args.catalogue.now = subst (λ (z : Seat). z.behaviour < length c.args.catalogue.now) (sym c.index-seats-k.is) (c.requires.behaviours k x c.loop-k-test.true) in
+    one_read c.args.catalogue.now c.args.seats.now c.loop-k.sizes k c.len.result x y c.loop-k-test.true (omega (arith, c.requires.few)) c.index-seats-k.is c.index-catalogue-seat.is place
+    (c.len.ensures.len ∙ (ap length c.states.ensures.names ∙ c.states.ensures.count)) c.states.ensures.known c.loop-k.invariant
+
+pub returns : goal.returns
+returns c =
+    let all : AllRead c.args.catalogue.now c.args.seats.now c.loop-k.sizes = all_read c.args.catalogue.now c.args.seats.now c.loop-k.sizes c.loop-k.k (omega arith) c.loop-k.invariant in
+    record { sizes = all.sizes; known = all.known }

@@ -1,0 +1,22 @@
+-- What the fields of a joint are.
+use Rattle.std.specs.Prelude.{◌≡◌, ◌≤◌, vec_capacity}
+use Rattle.roman_model.specs.Numbers.{sizes_of}
+use Rattle.roman_model.specs.declared.limits.TheConstants.{MAX_SERVICES}
+use Rattle.roman_joint.specs.declared.joint.Joint.TheInside.{Inside}
+use Rattle.roman_joint.specs.NamedSys.{NamedSys, system_of, IsNamedSys}
+
+-- the system with its names that the fields show
+abbrev pub named_sys_in : Inside → NamedSys
+named_sys_in a = record {
+  environment = a.environment;
+  catalogue = a.catalogue.items;
+  target = a.target;
+  seats = a.seats.items;
+  limit = a.limit;
+}
+
+-- the parts make a system, the shape numbers its pairs, and there is room for the greatest number of services
+pub record IsJoint (a : Inside) : Type 0 where
+  pub known : IsNamedSys (named_sys_in a)
+  pub shape : a.shape ≡ sizes_of (system_of (named_sys_in a))
+  pub room : MAX_SERVICES ≤ vec_capacity a.seats

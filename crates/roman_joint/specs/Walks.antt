@@ -1,0 +1,66 @@
+-- Walks backwards from a pair.
+use Rattle.std.specs.Prelude.{◌≡◌, ℕ, ◌+◌, ◌-◌, ◌*◌, ◌^◌, ◌<◌, ◌≤◌, List, ◌++◌, length, drop, slice_get, slice_index}
+use Rattle.std.specs.List.{flat_map}
+use Rattle.roman_model.specs.Lists.{below}
+use Rattle.roman_model.specs.System.{Sys, Pair, env_prev, beh_prev}
+use Rattle.roman_model.specs.Arena.{Delegation}
+use Rattle.roman_model.specs.Numbers.{sizes_of, count, number, pair_at}
+use Rattle.roman_joint.specs.declared.walk.Walk.{Walk}
+use Rattle.roman_joint.specs.Backward.{seat_prev, from_states, from_seat, from_target, from_env, from_action}
+
+-- the pair to which the walk's delegations lead
+abbrev pub goal_of : Sys → Walk → Pair
+goal_of s walk = pair_at (sizes_of s) walk.pair
+
+-- the walk is one over this system
+pub record IsWalk (s : Sys) (walk : Walk) : Type 0 where
+  pub pair : walk.pair < count (sizes_of s)
+  pub to_target : walk.to_target ≡ (goal_of s walk).t
+  pub to_env : walk.to_env ≡ (goal_of s walk).e
+  pub to_states : (k : ℕ) → k < length s.seats → slice_index walk.to_states k ≡ slice_index (goal_of s walk).bs k
+  pub action : walk.action < s.env.actions
+  pub env : walk.env < s.env.states
+  pub target : walk.target < s.target.states
+  pub row : walk.row ≡ number (sizes_of s) (record { t = walk.target; e = walk.env; bs = (goal_of s walk).bs })
+  pub seat : walk.seat ≤ length s.seats
+  pub states_taken : walk.states_taken ≤ 64
+  pub targets_taken : walk.targets_taken ≤ 64
+  pub envs_taken : walk.envs_taken ≤ 64
+
+-- what is left of the present service at these states of the environment and the target
+abbrev pub left_of_seat : Sys → Walk → List (Delegation ℕ)
+left_of_seat s walk =
+    from_states s (goal_of s walk) walk.action walk.env walk.target walk.seat
+    (drop walk.states_taken (seat_prev (slice_get s.seats walk.seat) (slice_index (goal_of s walk).bs walk.seat) walk.env walk.action))
+
+-- of the other services at these states
+abbrev pub left_of_target : Sys → Walk → List (Delegation ℕ)
+left_of_target s walk = flat_map (from_seat s (goal_of s walk) walk.action walk.env walk.target) (drop (walk.seat + 1) (below (length s.seats)))
+
+-- of the target's other states at this state of the environment
+abbrev pub left_of_env : Sys → Walk → List (Delegation ℕ)
+left_of_env s walk =
+    flat_map (from_target s (goal_of s walk) walk.action walk.env) (drop walk.targets_taken (beh_prev s.target (goal_of s walk).t walk.env walk.action))
+
+-- of the environment's other states on this action
+abbrev pub left_of_action : Sys → Walk → List (Delegation ℕ)
+left_of_action s walk = flat_map (from_env s (goal_of s walk) walk.action) (drop walk.envs_taken (env_prev s.env (goal_of s walk).e walk.action))
+
+-- and of the other actions
+abbrev pub left_of_all : Sys → Walk → List (Delegation ℕ)
+left_of_all s walk = flat_map (from_action s (goal_of s walk)) (drop (walk.action + 1) (below s.env.actions))
+
+-- the delegations that are left
+abbrev pub left : Sys → Walk → List (Delegation ℕ)
+left s walk = left_of_seat s walk ++ (left_of_target s walk ++ (left_of_env s walk ++ (left_of_action s walk ++ left_of_all s walk)))
+
+-- how far the walk may go on, where each part counts more than all behind it
+abbrev pub way_left : Sys → Walk → ℕ
+way_left s walk =
+    (s.env.actions - walk.action) * 2 ^ 20 + (64 - walk.envs_taken) * 2 ^ 13 + (64 - walk.targets_taken) * 2 ^ 6 + (length s.seats - walk.seat)
+
+-- the walk goes on, and what is left stays
+pub record GoesOn (s : Sys) (old new : Walk) : Type 0 where
+  pub walk : IsWalk s new
+  pub left : left s new ≡ left s old
+  pub falls : way_left s new < way_left s old

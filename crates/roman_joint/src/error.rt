@@ -1,0 +1,39 @@
+//! Why a joint isn't built, and why a service isn't seated.
+ghost use Rattle.std.specs.Prelude.{◌≡◌};
+ghost use Rattle.roman_joint.specs.Errors.{joint_error_number};
+
+use thiserror::Error;
+
+/// Why a joint isn't built.
+#[derive(Clone, Copy, Debug, PartialEq, Eq, Error)]
+pub enum JointError {
+    /// The system has more cells than the limit.
+    #[error("the system has more cells than the limit")]
+    Limit,
+    /// There is no memory for the services' places.
+    #[error("there is no memory")]
+    Memory,
+}
+
+impl JointError {
+    /// The error's number: 1 for `Limit` and 2 for `Memory`.
+    pub fn number(&self) -> u8
+        ensures number { result ≡ joint_error_number self.now }
+    {
+        match self {
+            JointError::Limit => 1,
+            JointError::Memory => 2,
+        }
+    }
+}
+
+/// Why a service isn't seated.
+#[derive(Clone, Copy, Debug, PartialEq, Eq, Error)]
+pub enum SeatError {
+    /// There are as many services as there may be.
+    #[error("there is no seat left")]
+    Full,
+    /// The system would have more cells than the limit.
+    #[error("the system would have more cells than the limit")]
+    Limit,
+}

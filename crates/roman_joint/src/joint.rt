@@ -1,0 +1,149 @@
+//! Joints: how they are built, and what they are made of.
+ghost use Rattle.std.specs.Prelude.{◌≡◌, ◌<◌, ◌≤◌, ◌↔◌, All, length, map, vec_len, Some, Err, IfOk, slice_get};
+ghost use Rattle.roman_model.specs.Lists.{HasNoRepeats};
+ghost use Rattle.roman_model.specs.Numbers.{sizes_of};
+ghost use Rattle.roman_model.specs.declared.limits.TheConstants.{MAX_SERVICES, MAX_CELLS};
+ghost use Rattle.roman_joint.specs.NamedSys.{NamedSys, system_of, cells, IsOverEnv, TargetIsOverEnv, IsNamedSys};
+
+mod changes;
+mod looks;
+mod walks;
+
+use crate::error::JointError;
+use crate::seat::Seat;
+use crate::seats::shape_of;
+use roman_model::MAX_SERVICES;
+use roman_parts::{Behaviour, Environment, Target};
+use roman_radix::Shape;
+use std::alloc::Global;
+use std::marker::Model;
+
+/// An environment, a catalogue of behaviours, a target and the services, as one system.
+///
+/// The numbers of the system's pairs are those of its [shape](Joint::shape). Services are named by
+/// their places, and actions and states by their numbers. Where nothing else is said, the numbers
+/// that are passed are in range.
+#[derive(Drop)]
+pub struct Joint {
+    environment: Environment,
+    catalogue: Vec<Behaviour>,
+    target: Target,
+    // There is room for the greatest number of services.
+    seats: Vec<Seat>,
+    shape: Shape,
+    limit: u32,
+}
+
+impl Model for Joint {
+    ghost use Rattle.roman_joint.specs.NamedSys.{NamedSys};
+
+    ghost Value = { NamedSys };
+
+    ghost use Rattle.roman_joint.specs.Layout.{named_sys_in, IsJoint};
+
+    ghost view = { named_sys_in };
+
+    ghost invariant = { IsJoint };
+}
+
+impl Joint {
+    /// The joint of these parts. The services' places are taken at once, so that later calls take no
+    /// memory. The limit is on cells: pairs times actions.
+    ///
+    /// `Limit` comes exactly where the cells exceed the limit.
+    pub fn build(
+        alloc: Global,
+        environment: Environment,
+        catalogue: Vec<Behaviour>,
+        target: Target,
+        seats: Vec<Seat>,
+        limit: u32,
+    ) -> Result<Joint, JointError>
+        requires catalogue { All (IsOverEnv environment) catalogue.items }
+        requires target { TargetIsOverEnv environment target }
+        requires few { vec_len seats ≤ MAX_SERVICES }
+        requires behaviours { All (λ seat. seat.behaviour < vec_len catalogue) seats.items }
+        requires names { HasNoRepeats (map (λ seat. seat.name) seats.items) }
+        requires limit { (0 < limit) × (limit ≤ MAX_CELLS) }
+        ensures parts { IfOk result (λ joint. joint ≡ record { environment = environment; catalogue = catalogue.items; target = target; seats = seats.items; limit = limit }) }
+        ensures limit { (result ≡ Err JointError.Limit)
+            ↔ (limit < cells (system_of (record { environment = environment; catalogue = catalogue.items; target = target; seats = seats.items; limit = limit }))) }
+    {
+        let shape = shape_of(&environment, &catalogue, &target, &seats, limit);
+        let Some(shape) = shape else {
+            return Err(JointError::Limit);
+        };
+        let Ok(mut places) = Vec::with_capacity(alloc, MAX_SERVICES as usize) else {
+            return Err(JointError::Memory);
+        };
+        for seat in &seats {
+            places.push_reserved(*seat);
+        }
+        Ok(Joint {
+            environment,
+            catalogue,
+            target,
+            seats: places,
+            shape,
+            limit,
+        })
+    }
+
+    /// The environment.
+    pub fn environment(&self) -> &Environment
+        ensures { result.now ≡ self.now.environment }
+    {
+        &self.environment
+    }
+
+    /// The behaviours that services may have.
+    pub fn catalogue(&self) -> &[Behaviour]
+        ensures { result.now ≡ self.now.catalogue }
+    {
+        &self.catalogue
+    }
+
+    /// The target.
+    pub fn target(&self) -> &Target
+        ensures { result.now ≡ self.now.target }
+    {
+        &self.target
+    }
+
+    /// The number of services.
+    pub fn seats(&self) -> u8
+        ensures count { result ≡ length self.now.seats }
+        ensures few { result ≤ MAX_SERVICES }
+    {
+        self.seats.len() as u8
+    }
+
+    /// The service at place k.
+    pub fn seat(&self, k: u8) -> &Seat
+        requires { k < length self.now.seats }
+        ensures { slice_get self.now.seats k ≡ Some result.now }
+    {
+        &self.seats[k as usize]
+    }
+
+    /// The numbering of the system's pairs.
+    pub fn shape(&self) -> &Shape
+        ensures { result.now ≡ sizes_of (system_of self.now) }
+    {
+        &self.shape
+    }
+
+    /// The greatest number of cells that the system may have.
+    pub fn limit(&self) -> u32
+        ensures { result ≡ self.now.limit }
+    {
+        self.limit
+    }
+
+    /// Says what holds of every joint: its parts are those of a system within the limit.
+    pub fn known(&self)
+        ensures { IsNamedSys self.now }
+    {
+        let _limit = &self.limit;
+    }
+}

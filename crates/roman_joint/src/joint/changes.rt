@@ -1,0 +1,63 @@
+//! Changes of the services.
+ghost use Rattle.std.specs.Prelude.{◌≡◌, ◌<◌, ◌≤◌, ◌++◌, ◌∷◌, [], ◌↔◌, length, map, Err, OnOk, OnErr, if◌then◌else◌};
+ghost use Rattle.std.specs.List.{remove};
+ghost use Rattle.roman_model.specs.Lists.{IsIn};
+ghost use Rattle.roman_model.specs.Change.{Freeze, Thaw, Join, Die, after};
+ghost use Rattle.roman_model.specs.System as model;
+ghost use Rattle.roman_model.specs.declared.limits.TheConstants.{MAX_SERVICES};
+ghost use Rattle.roman_joint.specs.NamedSys.{NamedSys, system_of, seat_of, cells};
+ghost use Rattle.roman_joint.specs.Changes.{with_frozen};
+
+use super::Joint;
+use crate::error::SeatError;
+use crate::seat::Seat;
+use roman_model::MAX_SERVICES;
+
+impl Joint {
+    /// Freezes the service at place k, or makes it ready.
+    pub fn set_frozen(&mut self, k: u8, frozen: bool)
+        requires { k < length self.old.seats }
+        ensures seats { self.new ≡ record self.old { seats = with_frozen self.old.seats k frozen } }
+        ensures system { system_of self.new ≡ after (if frozen then Freeze k else Thaw k) (system_of self.old) }
+    {
+        self.seats[k as usize].frozen = frozen;
+    }
+
+    /// Takes the service at place k out of the system. The later services move up by one place.
+    pub fn drop_seat(&mut self, k: u8)
+        requires { k < length self.old.seats }
+        ensures seats { self.new ≡ record self.old { seats = remove self.old.seats k } }
+        ensures system { (seat : model.Seat) → system_of self.new ≡ after (Die k seat) (system_of self.old) }
+    {
+        let _seat = self.seats.remove(k as usize);
+        self.shape = self.shape.shrink(k);
+    }
+
+    /// Adds a service, whose name is new, at the last place.
+    ///
+    /// `Full` comes exactly where there are as many services as there may be, and `Limit` exactly
+    /// where there are fewer and the system with the service has more cells than the limit. The
+    /// joint then stays as it is.
+    pub fn push_seat(&mut self, seat: Seat) -> Result<(), SeatError>
+        requires behaviour { seat.behaviour < length self.old.catalogue }
+        requires name { IsIn seat.name (map (λ other. other.name) self.old.seats) → ⊥ }
+        ensures seats { OnOk result (self.new ≡ record self.old { seats = self.old.seats ++ seat ∷ [] }) }
+        ensures system { OnOk result (system_of self.new ≡ after (Join (seat_of self.old.catalogue seat)) (system_of self.old)) }
+        ensures full { (result ≡ Err SeatError.Full) ↔ (length self.old.seats ≡ MAX_SERVICES) }
+        ensures limit { (result ≡ Err SeatError.Limit)
+            ↔ ((length self.old.seats < MAX_SERVICES) × (self.old.limit < cells (after (Join (seat_of self.old.catalogue seat)) (system_of self.old)))) }
+        ensures refused { OnErr result (self.new ≡ self.old) }
+    {
+        if self.seats.len() == MAX_SERVICES as usize {
+            return Err(SeatError::Full);
+        }
+        let size = self.catalogue[seat.behaviour as usize].states().len() as u8;
+        let cap = self.limit / self.environment.actions().len();
+        let Some(shape) = self.shape.grow(size, cap) else {
+            return Err(SeatError::Limit);
+        };
+        self.shape = shape;
+        self.seats.push_reserved(seat);
+        Ok(())
+    }
+}

@@ -1,0 +1,110 @@
+//! What the system does at a pair.
+ghost use Rattle.std.specs.Prelude.{◌≡◌, ℕ, ◌+◌, ◌<◌, ◌≤◌, Bool, not, length, IsTrue, IsFalse};
+ghost use Rattle.roman_model.specs.Lists.{IsIn, is_empty};
+ghost use Rattle.roman_model.specs.Numbers.{sizes_of, count, numbered};
+ghost use Rattle.roman_model.specs.declared.limits.TheConstants.{MAX_CELLS};
+ghost use Rattle.roman_joint.specs.NamedSys.{system_of};
+ghost use Rattle.roman_joint.specs.Finding.{Finds};
+ghost use Rattle.roman_joint.specs.Outcomes.{outcome_number, outcome_numbers, IsPlaced};
+
+use super::Joint;
+use crate::finding::Finding;
+use crate::outcomes::{Outcomes, outcome_gone};
+use crate::seats::are_final;
+use roman_io::Steps;
+use std::sync::ledger::Ledger;
+
+impl Joint {
+    /// Whether the target allows an action at a pair.
+    pub fn allowed(&self, p: u32, a: u8) -> bool
+        requires pair { p < count (sizes_of (system_of self.now)) }
+        requires action { a < (system_of self.now).env.actions }
+        ensures { result ≡ (numbered (system_of self.now)).allows p a }
+    {
+        let t = self.shape.target_of(p);
+        let e = self.shape.env_of(p);
+        self.target.allows(&self.environment, t, e, a)
+    }
+
+    /// Whether the services that rest are in final states where the target is: clause 2 of an
+    /// ND-simulation.
+    pub fn final_ok(&self, p: u32) -> bool
+        requires { p < count (sizes_of (system_of self.now)) }
+        ensures { result ≡ (numbered (system_of self.now)).fine p }
+    {
+        if !self.target.is_final(self.shape.target_of(p)) {
+            return true;
+        }
+        are_final(&self.catalogue, &self.seats, &self.shape, p)
+    }
+
+    /// Looks for an outcome of an action at a pair, delegated to a service, whose pair isn't alive.
+    /// The action must be allowed there, and the service ready. One step is counted.
+    pub fn examine<A: Fn(u32) -> bool, L: Ledger>(
+        &self,
+        alive: &A,
+        p: u32,
+        a: u8,
+        k: u8,
+        steps: &mut Steps<L>,
+    ) -> Finding
+        requires pair { p < count (sizes_of (system_of self.now)) }
+        requires seat { k < length self.now.seats }
+        requires allowed { IsTrue ((numbered (system_of self.now)).allows p a) }
+        requires ready { IsTrue ((numbered (system_of self.now)).ready k) }
+        requires callable { (q : ℕ) → q < count (sizes_of (system_of self.now)) → A.pre alive.now q }
+        ensures finding { (gone : ℕ → Bool) → ((q : ℕ) (r : Bool) → q < count (sizes_of (system_of self.now)) → A.post alive.now q r → r ≡ not (gone q))
+            → Finds (sizes_of (system_of self.now)) k gone ((numbered (system_of self.now)).outcomes p a k) result }
+        ensures step { steps.new ≡ steps.old + 1 }
+    {
+        steps.tick();
+        let outcomes = self.outcomes(p, a, k);
+        if outcomes.states.is_empty() {
+            return Finding::NoOutcome;
+        }
+        let Outcomes {
+            base,
+            envs,
+            env_stride,
+            states,
+            stride,
+        } = outcomes;
+        match outcome_gone(alive, base, envs, env_stride, states, stride) {
+            None => Finding::Good,
+            Some((env, state)) => Finding::Leaves {
+                env,
+                state,
+                pair: base + u32::from(env) * env_stride + u32::from(state) * stride,
+            },
+        }
+    }
+
+    // The pairs to which an action may lead from a pair, delegated to a service.
+    fn outcomes(&self, p: u32, a: u8, k: u8) -> Outcomes<'_>
+        requires pair { p < count (sizes_of (system_of self.now)) }
+        requires seat { k < length self.now.seats }
+        requires allowed { IsTrue ((numbered (system_of self.now)).allows p a) }
+        requires ready { IsTrue ((numbered (system_of self.now)).ready k) }
+        ensures numbers { (numbered (system_of self.now)).outcomes p a k ≡ outcome_numbers result }
+        ensures places { (e b : ℕ) → IsIn e result.envs.now → IsIn b result.states.now
+            → IsPlaced (sizes_of (system_of self.now)) k (outcome_number result e b) e b }
+        ensures some { IsFalse (is_empty result.envs.now) }
+        ensures few { count (sizes_of (system_of self.now)) ≤ MAX_CELLS }
+    {
+        let t = self.shape.target_of(p);
+        let e = self.shape.env_of(p);
+        let b = self.shape.part_of(p, k);
+        let to = self.target.step(t, e, a).unwrap();
+        let behaviour = &self.catalogue[self.seats[k as usize].behaviour as usize];
+        let env_stride = self.shape.env_stride();
+        let stride = self.shape.stride(k);
+        let row = u32::from(to) * self.shape.target_stride() + p % env_stride;
+        Outcomes {
+            base: row - u32::from(b) * stride,
+            envs: self.environment.next(e, a),
+            env_stride,
+            states: behaviour.out(b, e, a),
+            stride,
+        }
+    }
+}

@@ -1,0 +1,189 @@
+//! Walks backwards from a pair.
+ghost use Rattle.std.specs.Prelude.{◌≡◌, ℕ, ◌+◌, ◌<◌, ◌≤◌, ◌∷◌, [], length, MatchBool, MatchOption};
+ghost use Rattle.roman_model.specs.Lists.{HoldsEachOnce};
+ghost use Rattle.roman_model.specs.Arena.{back};
+ghost use Rattle.roman_model.specs.Numbers.{sizes_of, count, numbered};
+ghost use Rattle.roman_joint.specs.NamedSys.{system_of};
+ghost use Rattle.roman_joint.specs.Walks.{IsWalk, GoesOn, left, left_of_seat, left_of_target, left_of_env, left_of_action, left_of_all};
+
+use super::Joint;
+use crate::walk::Walk;
+use roman_io::Steps;
+use roman_model::MAX_STATES;
+use std::sync::ledger::Ledger;
+
+impl Joint {
+    /// Begins to go backwards from a pair. The delegations that are left are all those of an action
+    /// that is allowed at a pair, to a ready service, that may lead to the pair `p2`, each once.
+    pub fn walk(&self, p2: u32) -> Walk
+        requires { p2 < count (sizes_of (system_of self.now)) }
+        ensures walk { IsWalk (system_of self.now) result }
+        ensures left { HoldsEachOnce (left (system_of self.now) result) (back (numbered (system_of self.now)) p2) }
+    {
+        let to_target = self.shape.target_of(p2);
+        let to_env = self.shape.env_of(p2);
+        Walk {
+            pair: p2,
+            to_target,
+            to_env,
+            to_states: self.shape.parts_of(p2),
+            action: 0,
+            envs_taken: 0,
+            env: to_env,
+            targets_taken: MAX_STATES,
+            target: to_target,
+            row: p2,
+            seat: self.seats.len() as u8,
+            states_taken: 0,
+        }
+    }
+
+    /// Gives a delegation that is left: the pair that it leads from, the action and the service.
+    /// `None` comes exactly where none is left. A delegation that is given counts as one step. The
+    /// walk must be one of this joint, which hasn't changed since.
+    pub fn back<L: Ledger>(&self, walk: &mut Walk, steps: &mut Steps<L>) -> Option<(u32, u8, u8)>
+        requires { IsWalk (system_of self.now) walk.old }
+        ensures walk { IsWalk (system_of self.now) walk.new }
+        ensures given { MatchOption result (left (system_of self.now) walk.old ≡ [])
+            (λ d. left (system_of self.now) walk.old ≡ record { node = d.0; action = d.1; seat = d.2 } ∷ left (system_of self.now) walk.new) }
+        ensures step { MatchOption result (steps.new ≡ steps.old) (λ d. steps.new ≡ steps.old + 1) }
+    {
+        'on: loop {
+            if let Some(pair) = self.take_state(walk) {
+                steps.tick();
+                return Some((pair, walk.action, walk.seat));
+            }
+            if !self.go_on(walk) {
+                return None;
+            }
+        }
+    }
+
+    // Takes a state of the present service from which it goes to the pair's, and gives the pair that
+    // this is in.
+    fn take_state(&self, walk: &mut Walk) -> Option<u32>
+        requires { IsWalk (system_of self.now) walk.old }
+        ensures walk { IsWalk (system_of self.now) walk.new }
+        ensures place { (walk.new.action ≡ walk.old.action) × (walk.new.seat ≡ walk.old.seat) }
+        ensures taken { MatchOption result ((walk.new ≡ walk.old) × (left_of_seat (system_of self.now) walk.old ≡ []))
+            (λ p. left (system_of self.now) walk.old ≡ record { node = p; action = walk.old.action; seat = walk.old.seat } ∷ left (system_of self.now) walk.new) }
+    {
+        let k = walk.seat as usize;
+        if k >= self.seats.len() {
+            return None;
+        }
+        let seat = &self.seats[k];
+        if seat.frozen {
+            return None;
+        }
+        let behaviour = &self.catalogue[seat.behaviour as usize];
+        let to = walk.to_states[k];
+        let states = behaviour.into(to, walk.env, walk.action);
+        let taken = walk.states_taken as usize;
+        if taken >= states.len() {
+            return None;
+        }
+        let stride = self.shape.stride(walk.seat);
+        walk.states_taken += 1;
+        Some(walk.row - u32::from(to) * stride + u32::from(states[taken]) * stride)
+    }
+
+    // Goes on to the next service, state of the target, state of the environment or action, where
+    // nothing is left of the present service.
+    fn go_on(&self, walk: &mut Walk) -> bool
+        requires walk { IsWalk (system_of self.now) walk.old }
+        requires seat { left_of_seat (system_of self.now) walk.old ≡ [] }
+        ensures { MatchBool result (GoesOn (system_of self.now) walk.old walk.new)
+            ((walk.new ≡ walk.old) × (left (system_of self.now) walk.old ≡ [])) }
+    {
+        self.next_seat(walk)
+            || self.next_target(walk)
+            || self.next_env(walk)
+            || self.next_action(walk)
+    }
+
+    // Goes on to the next service.
+    fn next_seat(&self, walk: &mut Walk) -> bool
+        requires walk { IsWalk (system_of self.now) walk.old }
+        requires seat { left_of_seat (system_of self.now) walk.old ≡ [] }
+        ensures { MatchBool result (GoesOn (system_of self.now) walk.old walk.new)
+            ((walk.new ≡ walk.old) × (left_of_target (system_of self.now) walk.old ≡ [])) }
+    {
+        if walk.seat as usize + 1 >= self.seats.len() {
+            return false;
+        }
+        walk.seat += 1;
+        walk.states_taken = 0;
+        true
+    }
+
+    // Goes on to the first service at the target's next state before.
+    fn next_target(&self, walk: &mut Walk) -> bool
+        requires walk { IsWalk (system_of self.now) walk.old }
+        requires seat { left_of_seat (system_of self.now) walk.old ≡ [] }
+        requires target { left_of_target (system_of self.now) walk.old ≡ [] }
+        ensures { MatchBool result (GoesOn (system_of self.now) walk.old walk.new)
+            ((walk.new ≡ walk.old) × (left_of_env (system_of self.now) walk.old ≡ [])) }
+    {
+        let target = &self.target;
+        let targets = target.into(walk.to_target, walk.env, walk.action);
+        let taken = walk.targets_taken as usize;
+        if taken >= targets.len() {
+            return false;
+        }
+        let next = targets[taken];
+        let stride = self.shape.target_stride();
+        walk.row = walk.row - u32::from(walk.target) * stride + u32::from(next) * stride;
+        walk.target = next;
+        walk.targets_taken += 1;
+        walk.seat = 0;
+        walk.states_taken = 0;
+        true
+    }
+
+    // Goes on to the environment's next state before, where no state of the target is taken yet.
+    fn next_env(&self, walk: &mut Walk) -> bool
+        requires walk { IsWalk (system_of self.now) walk.old }
+        requires seat { left_of_seat (system_of self.now) walk.old ≡ [] }
+        requires target { left_of_target (system_of self.now) walk.old ≡ [] }
+        requires env { left_of_env (system_of self.now) walk.old ≡ [] }
+        ensures { MatchBool result (GoesOn (system_of self.now) walk.old walk.new)
+            ((walk.new ≡ walk.old) × (left_of_action (system_of self.now) walk.old ≡ [])) }
+    {
+        let envs = self.environment.prev(walk.to_env, walk.action);
+        let taken = walk.envs_taken as usize;
+        if taken >= envs.len() {
+            return false;
+        }
+        let next = envs[taken];
+        let stride = self.shape.env_stride();
+        walk.row = walk.row - u32::from(walk.env) * stride + u32::from(next) * stride;
+        walk.env = next;
+        walk.envs_taken += 1;
+        walk.targets_taken = 0;
+        walk.seat = self.seats.len() as u8;
+        walk.states_taken = 0;
+        true
+    }
+
+    // Goes on to the next action, where no state of the environment is taken yet.
+    fn next_action(&self, walk: &mut Walk) -> bool
+        requires walk { IsWalk (system_of self.now) walk.old }
+        requires seat { left_of_seat (system_of self.now) walk.old ≡ [] }
+        requires target { left_of_target (system_of self.now) walk.old ≡ [] }
+        requires env { left_of_env (system_of self.now) walk.old ≡ [] }
+        requires action { left_of_action (system_of self.now) walk.old ≡ [] }
+        ensures { MatchBool result (GoesOn (system_of self.now) walk.old walk.new)
+            ((walk.new ≡ walk.old) × (left_of_all (system_of self.now) walk.old ≡ [])) }
+    {
+        if u32::from(walk.action) + 1 >= self.environment.actions().len() {
+            return false;
+        }
+        walk.action += 1;
+        walk.envs_taken = 0;
+        walk.targets_taken = MAX_STATES;
+        walk.seat = self.seats.len() as u8;
+        walk.states_taken = 0;
+        true
+    }
+}

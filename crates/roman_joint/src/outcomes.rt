@@ -1,0 +1,67 @@
+//! The pairs to which a delegation may lead.
+ghost use Rattle.std.specs.Prelude.{◌≡◌, ℕ, ◌+◌, ◌*◌, ◌^◌, ◌<◌, Bool, not, map, All, IfSome};
+ghost use Rattle.std.specs.List.{find, flat_map};
+ghost use Rattle.roman_model.specs.Lists.{IsIn};
+
+/// The pairs to which an action may lead that is delegated to a service: the one with the
+/// environment's state e and the service's state b has the number
+/// `base + e * env_stride + b * stride`.
+#[derive(Clone, Copy)]
+pub(crate) struct Outcomes<'a> {
+    pub(crate) base: u32,
+    pub(crate) envs: &'a [u8],
+    pub(crate) env_stride: u32,
+    pub(crate) states: &'a [u8],
+    pub(crate) stride: u32,
+}
+
+/// The first of the states, by a service's state, whose pair isn't alive. The pair with state b has
+/// the number `row + b * stride`.
+pub(crate) fn state_gone<A: Fn(u32) -> bool>(
+    alive: &A,
+    row: u32,
+    states: &[u8],
+    stride: u32,
+) -> Option<u8>
+    requires fits { All (λ b. row + b * stride < 2 ^ 32) states.now }
+    requires callable { All (λ b. A.pre alive.now (row + b * stride)) states.now }
+    ensures among { IfSome result (λ b. IsIn b states.now) }
+    ensures first { (gone : ℕ → Bool)
+        → All (λ b. (r : Bool) → A.post alive.now (row + b * stride) r → r ≡ not (gone (row + b * stride))) states.now
+        → result ≡ find (λ b. gone (row + b * stride)) states.now }
+{
+    for state in states {
+        if !alive(row + u32::from(*state) * stride) {
+            return Some(*state);
+        }
+    }
+    None
+}
+
+/// The first of the environment's states and a service's whose pair isn't alive. The pair with the
+/// states e and b has the number `base + e * env_stride + b * stride`.
+pub(crate) fn outcome_gone<A: Fn(u32) -> bool>(
+    alive: &A,
+    base: u32,
+    envs: &[u8],
+    env_stride: u32,
+    states: &[u8],
+    stride: u32,
+) -> Option<(u8, u8)>
+    requires envs { All (λ e. base + e * env_stride < 2 ^ 32) envs.now }
+    requires fits { All (λ e. All (λ b. base + e * env_stride + b * stride < 2 ^ 32) states.now) envs.now }
+    requires callable { All (λ e. All (λ b. A.pre alive.now (base + e * env_stride + b * stride)) states.now) envs.now }
+    ensures among { IfSome result (λ x. IsIn x.0 envs.now × IsIn x.1 states.now) }
+    ensures first { (gone : ℕ → Bool)
+        → All (λ e. All (λ b. (r : Bool) → A.post alive.now (base + e * env_stride + b * stride) r
+        → r ≡ not (gone (base + e * env_stride + b * stride))) states.now) envs.now
+        → result ≡ find (λ x. gone (base + x.0 * env_stride + x.1 * stride)) (flat_map (λ e. map (λ b. (e, b)) states.now) envs.now) }
+{
+    for env in envs {
+        let row = base + u32::from(*env) * env_stride;
+        if let Some(state) = state_gone(alive, row, states, stride) {
+            return Some((*env, state));
+        }
+    }
+    None
+}

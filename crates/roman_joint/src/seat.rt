@@ -1,0 +1,16 @@
+//! The services of a system.
+
+use roman_parts::Name;
+
+/// A service: a named instance of a behaviour, with its place in a system.
+#[derive(Clone, Copy)]
+pub struct Seat {
+    /// The service's name.
+    pub name: Name,
+    /// The place of its behaviour in the catalogue.
+    pub behaviour: u8,
+    /// Whether it takes no delegations for now.
+    pub frozen: bool,
+    /// Whether its state must be final where the target's is. Else it is loose.
+    pub rests: bool,
+}

@@ -1,0 +1,15 @@
+-- A target that is read is over its environment.
+use Rattle.serde_json.specs.View.{view}
+use Rattle.roman_library.proofs.LibraryLemmas.{target_is_over}
+use Rattle.roman_library.proofs.parts.target_over.Goals as goal
+
+pub returns-in-Ok-clause-known : goal.returns-in-Ok-clause-known
+returns-in-Ok-clause-known c =
+    let over = target_is_over c.args.environment.now (view c.args.v.now) c.in-Ok.target c.in-Ok.ensures.target in
+    record {
+      env_states = over.0;
+      actions = over.1;
+      names = c.states-names.ensures.count;
+      known = c.states-names.ensures.known;
+      single = c.states-names.ensures.single;
+    }

@@ -1,0 +1,43 @@
+-- A service that is read goes behind those before it, and one that isn't stops them all.
+use Rattle.std.proofs.Common.{◌≡◌, List, Ok, subst, arith, rules}
+use Rattle.std.proofs.lemmas.Result.{err_from_is_err_and}
+use Rattle.serde_json.specs.View.{view}
+use Rattle.roman_library.specs.Documents.{service_of}
+use Rattle.roman_library.specs.Refusals.{Stops, placed}
+use Rattle.roman_library.specs.declared.library.Service.{Service}
+use Rattle.roman_library.specs.declared.refusal.Part.TheVariants as part
+use Rattle.roman_library.proofs.LibraryLemmas.{AreServices-push}
+use Rattle.roman_library.proofs.StepLemmas.{services_go_on, services_stop, services_done}
+use Rattle.roman_library.proofs.services.read_items.Goals as goal
+
+pub returns-in_err-service-clause-services : goal.returns-in_err-service-clause-services
+returns-in_err-service-clause-services c =
+    let p = err_from_is_err_and c.from_residual-in_err-service.result c.from_residual-in_err-service.ensures.1 in
+    let i = c.loop-i.i in
+    let x = c.index-items-i.result in
+    let document = c.args.document.now in
+    let why = c.in_err-service.field-0.0 in
+    let stops : Stops why (placed document (part.Service i) (service_of c.args.version c.args.catalogue.now c.loop-i.services.items (view x))) =
+    subst (λ (xs : List Service). Stops why (placed document (part.Service i) (service_of c.args.version c.args.catalogue.now xs (view x))))
+    c.deref.ensures.value c.in_err-service.ensures.service in
+    rw (p.1, p.2)
+    (services_stop document c.args.version c.args.catalogue.now c.args.items.now i c.loop-i.services.items why x (omega arith) c.index-items-i.is stops c.loop-i.invariant.left)
+
+pub loop-i-preserved : goal.loop-i-preserved
+loop-i-preserved c =
+    let i = c.loop-i.i in
+    let x = c.index-items-i.result in
+    let document = c.args.document.now in
+    let s = c.in_ok-service.service in
+    let loaded : placed document (part.Service i) (service_of c.args.version c.args.catalogue.now c.loop-i.services.items (view x)) ≡ Ok s =
+    subst (λ (xs : List Service). placed document (part.Service i) (service_of c.args.version c.args.catalogue.now xs (view x)) ≡ Ok s)
+    c.deref.ensures.value c.in_ok-service.ensures.service in
+    record {
+      left = services_go_on document c.args.version c.args.catalogue.now c.args.items.now i c.loop-i.services.items c.push.new.self.items s x (omega arith) c.index-items-i.is loaded c.in_ok-push.ensures.items c.loop-i.invariant.left;
+      known = AreServices-push c.args.catalogue.now c.loop-i.services.items c.push.new.self.items s c.loop-i.invariant.known c.in_ok-service.ensures.known (rw c.deref.ensures.value at c.in_ok-service.ensures.new) c.in_ok-push.ensures.items;
+      count = search rules;
+    }
+
+pub returns-clause-services : goal.returns-clause-services
+returns-clause-services c =
+    services_done c.args.document.now c.args.version c.args.catalogue.now c.args.items.now c.loop-i.i c.loop-i.services.items (omega arith) c.loop-i.invariant.left

@@ -1,0 +1,12 @@
+-- The services so far are known and as many as the items so far, and what is left gives what all items give.
+use Rattle.std.proofs.Common.{◌≡◌, length}
+use Rattle.roman_library.specs.Library.{AreServices}
+use Rattle.roman_library.proofs.StepLemmas.{ServicesLeft}
+use Rattle.roman_library.proofs.services.read_items.Given as goal
+
+abbrev pub invariant-loop-i : goal.invariant-loop-i
+invariant-loop-i l = record {
+  left : ServicesLeft l.document l.version l.catalogue l.items l.i l.services.items;
+  known : AreServices l.catalogue l.services.items;
+  count : length l.services.items ≡ l.i;
+}

@@ -1,0 +1,74 @@
+-- Libraries: what a system document says.
+use Rattle.std.specs.Prelude.{◌≡◌, ℕ, ◌<◌, ◌≤◌, List, map, length, slice_get, All, IfSome}
+use Rattle.roman_model.specs.Lists.{HasNoRepeats}
+use Rattle.roman_model.specs.System.{IsEnv, IsDeterministic}
+use Rattle.roman_model.specs.declared.limits.TheConstants.{MAX_BEHAVIOURS, MAX_SERVICES, MAX_CELLS}
+use Rattle.roman_parts.specs.Named.{NamedEnv, NamedBeh, NamedTarget, IsOver}
+use Rattle.roman_library.specs.declared.library.Library.{Library}
+use Rattle.roman_library.specs.declared.library.Service.{Service}
+
+-- the environment, the behaviours that services may have, the services, the target, and the limit on cells
+pub record PlainLibrary : Type 0 where
+  pub environment : NamedEnv
+  pub catalogue : List NamedBeh
+  pub services : List Service
+  pub target : NamedTarget
+  pub limit : ℕ
+
+-- a library without where it lies in memory
+abbrev pub plain : Library → PlainLibrary
+plain library = record {
+  environment = library.environment;
+  catalogue = library.catalogue.items;
+  services = library.services.items;
+  target = library.target;
+  limit = library.limit;
+}
+
+-- a behaviour's name
+abbrev pub behaviour_name : NamedBeh → List ℕ
+behaviour_name behaviour = behaviour.name
+
+-- a service's name
+abbrev pub service_name : Service → List ℕ
+service_name service = service.name
+
+-- the behaviour is over that environment, and has a name for each of its states
+pub record IsBehaviour (environment : NamedEnv) (behaviour : NamedBeh) : Type 0 where
+  pub env_states : behaviour.env_states ≡ environment.env.states
+  pub actions : behaviour.actions ≡ environment.env.actions
+  pub names : length behaviour.states ≡ behaviour.beh.states
+  pub known : IsOver behaviour.env_states behaviour.actions behaviour.beh
+
+-- the target is over that environment, is deterministic, and has a name for each of its states
+pub record IsTarget (environment : NamedEnv) (target : NamedTarget) : Type 0 where
+  pub env_states : target.env_states ≡ environment.env.states
+  pub actions : target.actions ≡ environment.env.actions
+  pub names : length target.states ≡ target.beh.states
+  pub known : IsOver target.env_states target.actions target.beh
+  pub single : IsDeterministic target.beh
+
+-- the service's behaviour is a place of the catalogue, and its state is one of that behaviour
+pub record IsService (catalogue : List NamedBeh) (service : Service) : Type 0 where
+  pub behaviour : service.behaviour < length catalogue
+  pub state : IfSome (slice_get catalogue service.behaviour) (λ behaviour. service.state < behaviour.beh.states)
+
+-- the behaviours are over the environment, and no two have one name
+pub record IsCatalogue (environment : NamedEnv) (catalogue : List NamedBeh) : Type 0 where
+  pub known : All (IsBehaviour environment) catalogue
+  pub names : HasNoRepeats (map behaviour_name catalogue)
+
+-- the services' numbers are in range, and no two have one name
+pub record AreServices (catalogue : List NamedBeh) (services : List Service) : Type 0 where
+  pub known : All (IsService catalogue) services
+  pub names : HasNoRepeats (map service_name services)
+
+-- all parts are over one environment, all numbers are in range, and the limits hold
+pub record IsLibrary (library : PlainLibrary) : Type 0 where
+  pub environment : IsEnv library.environment.env
+  pub catalogue : IsCatalogue library.environment library.catalogue
+  pub few_behaviours : length library.catalogue ≤ MAX_BEHAVIOURS
+  pub services : AreServices library.catalogue library.services
+  pub few_services : length library.services ≤ MAX_SERVICES
+  pub target : IsTarget library.environment library.target
+  pub limit : (0 < library.limit) × (library.limit ≤ MAX_CELLS)

@@ -1,0 +1,60 @@
+//! The version of a document, and its limit on cells.
+ghost use Rattle.std.specs.Prelude.{◌≡◌, ◌<◌, ◌≤◌, IfOk};
+ghost use Rattle.serde_json.specs.View.{view};
+ghost use Rattle.roman_parts.specs.Reading.{Gives};
+ghost use Rattle.roman_library.specs.Documents.{version_of, limit_of, limit_in};
+
+use crate::looks::{member_at, number_at, refused};
+use roman_model::{DEFAULT_CELLS, MAX_CELLS};
+use roman_parts::{List, PartError};
+use roman_read::{Kind, member};
+use serde_json::Value;
+
+/// The newest version.
+const NEWEST: u64 = 2;
+
+#[tactic(auto, unfolding(crate::specs::Documents::version_of))]
+/// The version.
+pub(crate) fn read_version(v: &Value) -> Result<u64, PartError>
+    ensures { Gives (λ x. x) result (version_of (view v.now)) }
+{
+    if !v.is_object() {
+        return Err(refused(Kind::Form, List::Whole));
+    }
+    let version = number_at(member_at(v, "roman", List::Roman)?, List::Roman)?;
+    if version < 1 {
+        return Err(refused(Kind::Version, List::Roman));
+    }
+    if version > NEWEST {
+        return Err(refused(Kind::Version, List::Roman));
+    }
+    Ok(version)
+}
+
+#[tactic(auto, unfolding(crate::specs::Documents::limit_of))]
+/// The limit on cells.
+pub(crate) fn read_limit(v: &Value) -> Result<u32, PartError>
+    ensures limit { Gives (λ x. x) result (limit_of (view v.now)) }
+    ensures within { IfOk result (λ limit. (0 < limit) × (limit ≤ MAX_CELLS)) }
+{
+    match member(v, "limit") {
+        Ok(limit) => limit_at(limit),
+        Err(_) => Ok(DEFAULT_CELLS),
+    }
+}
+
+#[tactic(auto, unfolding(crate::specs::Documents::limit_in))]
+/// A limit that is there.
+fn limit_at(v: &Value) -> Result<u32, PartError>
+    ensures limit { Gives (λ x. x) result (limit_in (view v.now)) }
+    ensures within { IfOk result (λ limit. (0 < limit) × (limit ≤ MAX_CELLS)) }
+{
+    let limit = number_at(v, List::Limit)?;
+    if limit < 1 {
+        return Err(refused(Kind::Count, List::Limit));
+    }
+    if limit > u64::from(MAX_CELLS) {
+        return Err(refused(Kind::Count, List::Limit));
+    }
+    Ok(limit as u32)
+}

@@ -1,0 +1,59 @@
+//! Libraries from documents.
+ghost use Rattle.std.specs.Prelude.{◌≡◌, IfOk, IfSome};
+ghost use Rattle.serde_json.specs.View.{view};
+ghost use Rattle.roman_library.specs.Documents.{library_in, library_of};
+ghost use Rattle.roman_library.specs.Library.{IsLibrary, plain};
+ghost use Rattle.roman_library.specs.Refusals.{Loads, CausesLoad};
+
+use crate::header::{read_limit, read_version};
+use crate::library::Library;
+use crate::part_file::value_at;
+use crate::parts::{load_catalogue, load_environment, load_target};
+use crate::placing::placed;
+use crate::refusal::{LoadError, Part};
+use crate::services::read_services;
+use roman_io::Shelf;
+use serde_json::Value;
+use std::alloc::Global;
+
+#[tactic(auto, unfolding(crate::specs::Documents::library_of))]
+/// The library that the system document of this name is, with the part files that it names; or the
+/// first rule that it breaks, in the order in which documents are read.
+pub fn load<F: Shelf>(alloc: Global, shelf: &mut F, name: &str) -> Result<Library, LoadError>
+    ensures meaning { IfSome (F.texts shelf.old) (λ texts. Loads plain result (library_of texts name.now)) }
+    ensures known { IfOk result (λ library. IsLibrary (plain library)) }
+    ensures texts { F.texts shelf.new ≡ F.texts shelf.old }
+    ensures cause { CausesLoad (F.faults shelf.old) (F.faults shelf.new) result }
+{
+    let value = value_at(alloc, shelf, name, Part::System)?;
+    load_library(alloc, shelf, name, &value)
+}
+
+#[tactic(auto, unfolding(crate::specs::Documents::library_in))]
+/// The library that a document's value is.
+fn load_library<F: Shelf>(
+    alloc: Global,
+    shelf: &mut F,
+    document: &str,
+    v: &Value,
+) -> Result<Library, LoadError>
+    ensures meaning { IfSome (F.texts shelf.old) (λ texts. Loads plain result (library_in texts document.now (view v.now))) }
+    ensures known { IfOk result (λ library. IsLibrary (plain library)) }
+    ensures texts { F.texts shelf.new ≡ F.texts shelf.old }
+    ensures cause { CausesLoad (F.faults shelf.old) (F.faults shelf.new) result }
+{
+    let version = placed(alloc, document, Part::System, read_version(v))?;
+    let limit = placed(alloc, document, Part::System, read_limit(v))?;
+    let environment = load_environment(alloc, shelf, document, v)?;
+    let _states = environment.states();
+    let catalogue = load_catalogue(alloc, shelf, document, v, &environment)?;
+    let services = read_services(alloc, document, v, version, &catalogue)?;
+    let target = load_target(alloc, shelf, document, v, &environment)?;
+    Ok(Library {
+        environment,
+        catalogue,
+        services,
+        target,
+        limit,
+    })
+}

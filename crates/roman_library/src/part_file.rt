@@ -1,0 +1,65 @@
+//! Values of documents and part files.
+ghost use Rattle.std.specs.Prelude.{◌≡◌, IfSome, option_map};
+ghost use Rattle.serde_json.specs.View.{view};
+ghost use Rattle.roman_parts.specs.Reading.{Gives};
+ghost use Rattle.roman_library.specs.Documents.{file_in, file_of, value_at};
+ghost use Rattle.roman_library.specs.Refusals.{Loads, CausesLoad};
+
+use crate::looks::{refused, text_at};
+use crate::placing::placed;
+use crate::refusal::{LoadError, Part};
+use crate::text::{DocError, document};
+use roman_io::Shelf;
+use roman_model::MAX_FILE_NAME_BYTES;
+use roman_parts::{List, PartError};
+use roman_read::{Kind, member};
+use serde_json::Value;
+use std::alloc::Global;
+
+#[tactic(auto, unfolding(crate::specs::Documents::file_of))]
+/// The file for which a part stands, if it doesn't stand in place.
+pub(crate) fn file_of(v: &Value) -> Result<Option<&str>, PartError>
+    ensures { Gives (λ x. option_map (λ file. file.now) x) result (file_of (view v.now)) }
+{
+    match member(v, "file") {
+        Ok(file) => file_at(file),
+        Err(_) => Ok(None),
+    }
+}
+
+#[tactic(auto, unfolding(crate::specs::Documents::file_in))]
+/// The name of a part file.
+fn file_at(v: &Value) -> Result<Option<&str>, PartError>
+    ensures { Gives (λ x. option_map (λ file. file.now) x) result (file_in (view v.now)) }
+{
+    let file = text_at(v, List::File)?;
+    if file.is_empty() {
+        return Err(refused(Kind::BadName, List::File));
+    }
+    if file.len() > MAX_FILE_NAME_BYTES as usize {
+        return Err(refused(Kind::BadName, List::File));
+    }
+    Ok(Some(file))
+}
+
+#[tactic(auto, unfolding(crate::specs::Documents::value_at))]
+/// The value of a document or a part file.
+pub(crate) fn value_at<F: Shelf>(
+    alloc: Global,
+    shelf: &mut F,
+    name: &str,
+    part: Part,
+) -> Result<Value, LoadError>
+    ensures value { IfSome (F.texts shelf.old) (λ texts. Loads view result (value_at texts name.now part)) }
+    ensures texts { F.texts shelf.new ≡ F.texts shelf.old }
+    ensures cause { CausesLoad (F.faults shelf.old) (F.faults shelf.new) result }
+{
+    let kind = match document(alloc, shelf, name) {
+        Ok(value) => return Ok(value),
+        Err(DocError::Fault) => return Err(LoadError::Fault),
+        Err(DocError::Memory) => return Err(LoadError::Memory),
+        Err(DocError::TooLong) => Kind::TooLong,
+        Err(DocError::NotJson) => Kind::NotJson,
+    };
+    placed(alloc, name, part, Err(refused(kind, List::Whole)))
+}

@@ -1,0 +1,42 @@
+//! The readings of parts, as they stand in a document.
+ghost use Rattle.roman_library.specs.Refusals.{Places, PlacesError};
+
+use crate::file_name::FileName;
+use crate::refusal::{LoadError, Part, Refusal};
+use roman_parts::PartError;
+use std::alloc::Global;
+
+/// What was read of a part, or its refusal with the document and the part in which it stands.
+pub(crate) fn placed<T>(
+    alloc: Global,
+    document: &str,
+    part: Part,
+    read: Result<T, PartError>,
+) -> Result<T, LoadError>
+    ensures { Places document.now part read result }
+{
+    match read {
+        Ok(value) => Ok(value),
+        Err(error) => Err(place(alloc, document, part, error)),
+    }
+}
+
+/// A refusal in its place.
+fn place(alloc: Global, document: &str, part: Part, error: PartError) -> LoadError
+    ensures { PlacesError document.now part error result }
+{
+    let (kind, list, index) = match error {
+        PartError::Refused { kind, list, index } => (kind, list, index),
+        PartError::Memory => return LoadError::Memory,
+    };
+    match FileName::new(alloc, document) {
+        Ok(document) => LoadError::Refused(Refusal {
+            document,
+            kind,
+            part,
+            list,
+            index,
+        }),
+        Err(_) => LoadError::Memory,
+    }
+}

@@ -1,0 +1,178 @@
+//! The services of a document.
+ghost use Rattle.std.specs.Prelude.{◌≡◌, ◌<◌, ◌≤◌, [], length, map, vec_len, None, IfOk};
+ghost use Rattle.serde_json.specs.View.{view, items_view};
+ghost use Rattle.roman_read.specs.Items.{each_item};
+ghost use Rattle.roman_read.specs.Names.{place_of};
+ghost use Rattle.roman_parts.specs.Reading.{Gives};
+ghost use Rattle.roman_library.specs.Library.{IsService, AreServices, service_name};
+ghost use Rattle.roman_library.specs.Documents.{behaviour_place, state_of, frozen_of, rests_of, service_of, service_step, services_of};
+ghost use Rattle.roman_library.specs.Refusals.{Loads, IsQuiet, placed};
+ghost use Rattle.roman_library.specs.declared.refusal.Part.TheVariants as part;
+
+use crate::library::Service;
+use crate::looks::{few_items, member_at, refused, text_at, truth_at};
+use crate::names::{place_of_behaviour, place_of_service, read_name};
+use crate::placing::placed;
+use crate::refusal::{LoadError, Part};
+use roman_model::{MAX_BEHAVIOURS, MAX_SERVICES};
+use roman_parts::{Behaviour, List, PartError};
+use roman_read::{Kind, member};
+use serde_json::Value;
+use std::alloc::Global;
+
+#[tactic(auto, unfolding(crate::specs::Documents::services_of))]
+/// The services of a document.
+pub(crate) fn read_services(
+    alloc: Global,
+    document: &str,
+    v: &Value,
+    version: u64,
+    catalogue: &[Behaviour],
+) -> Result<Vec<Service>, LoadError>
+    requires { length catalogue.now ≤ MAX_BEHAVIOURS }
+    ensures services { Loads (λ x. x.items) result (services_of document.now version catalogue.now (view v.now)) }
+    ensures known { IfOk result (λ services. AreServices catalogue.now services.items) }
+    ensures few { IfOk result (λ services. vec_len services ≤ MAX_SERVICES) }
+    ensures quiet { IsQuiet result }
+{
+    let items = few_items(v, "services", List::Services, MAX_SERVICES);
+    let items = placed(alloc, document, Part::System, items)?;
+    read_items(alloc, document, items, version, catalogue)
+}
+
+/// The services that the items of a list are.
+fn read_items(
+    alloc: Global,
+    document: &str,
+    items: &[Value],
+    version: u64,
+    catalogue: &[Behaviour],
+) -> Result<Vec<Service>, LoadError>
+    requires items { length items.now ≤ MAX_SERVICES }
+    requires catalogue { length catalogue.now ≤ MAX_BEHAVIOURS }
+    ensures services { Loads (λ x. x.items) result
+        (each_item (service_step document.now version catalogue.now) 0 [] (items_view items.now)) }
+    ensures known { IfOk result (λ services. AreServices catalogue.now services.items) }
+    ensures few { IfOk result (λ services. vec_len services ≤ MAX_SERVICES) }
+    ensures quiet { IsQuiet result }
+{
+    let mut services = Vec::with_capacity(alloc, items.len())?;
+    for (i, item) in items.iter().enumerate() {
+        let service = service_at(
+            alloc, document, i as u32, item, version, catalogue, &services,
+        )?;
+        services.push(service)?;
+    }
+    Ok(services)
+}
+
+/// One service, in its place.
+fn service_at(
+    alloc: Global,
+    document: &str,
+    number: u32,
+    v: &Value,
+    version: u64,
+    catalogue: &[Behaviour],
+    before: &[Service],
+) -> Result<Service, LoadError>
+    requires { length catalogue.now ≤ MAX_BEHAVIOURS }
+    ensures service { Loads (λ x. x) result
+        (placed document.now (part.Service number) (service_of version catalogue.now before.now (view v.now))) }
+    ensures known { IfOk result (λ service. IsService catalogue.now service) }
+    ensures new { IfOk result (λ service. place_of (map service_name before.now) service.name ≡ None) }
+    ensures quiet { IsQuiet result }
+{
+    let service = read_service(v, version, catalogue, before);
+    placed(alloc, document, Part::Service(number), service)
+}
+
+#[tactic(auto, unfolding(crate::specs::Documents::behaviour_place, roman_parts::specs::Lists::place_in))]
+/// The place of a service's behaviour.
+fn read_behaviour_place(v: &Value, catalogue: &[Behaviour]) -> Result<u8, PartError>
+    requires { length catalogue.now ≤ MAX_BEHAVIOURS }
+    ensures place { Gives (λ x. x) result (behaviour_place catalogue.now (view v.now)) }
+    ensures within { IfOk result (λ place. place < length catalogue.now) }
+{
+    let name = member_at(v, "behaviour", List::Behaviour)?;
+    let name = text_at(name, List::Behaviour)?;
+    match place_of_behaviour(catalogue, name.as_bytes()) {
+        Some(place) => Ok(place as u8),
+        None => Err(refused(Kind::Unknown, List::Behaviour)),
+    }
+}
+
+#[tactic(auto, unfolding(crate::specs::Documents::state_of, roman_parts::specs::Lists::place_in))]
+/// A service's state.
+fn read_state(v: &Value, behaviour: &Behaviour) -> Result<u8, PartError>
+    ensures state { Gives (λ x. x) result (state_of behaviour.now (view v.now)) }
+    ensures within { IfOk result (λ state. state < behaviour.now.beh.states) }
+{
+    let state = match member(v, "state") {
+        Ok(state) => text_at(state, List::State)?,
+        Err(_) => return Ok(behaviour.start()),
+    };
+    match behaviour.states().find(state.as_bytes()) {
+        Some(place) => Ok(place as u8),
+        None => Err(refused(Kind::Unknown, List::State)),
+    }
+}
+
+#[tactic(auto, unfolding(crate::specs::Documents::frozen_of))]
+/// Whether a service is frozen.
+fn read_frozen(v: &Value) -> Result<bool, PartError>
+    ensures { Gives (λ x. x) result (frozen_of (view v.now)) }
+{
+    match member(v, "frozen") {
+        Ok(frozen) => truth_at(frozen, List::Frozen),
+        Err(_) => Ok(false),
+    }
+}
+
+#[tactic(auto, unfolding(crate::specs::Documents::rests_of))]
+/// Whether a service rests.
+fn read_rests(v: &Value, version: u64) -> Result<bool, PartError>
+    ensures { Gives (λ x. x) result (rests_of version (view v.now)) }
+{
+    if version == 1 {
+        return Ok(true);
+    }
+    match member(v, "rests") {
+        Ok(rests) => truth_at(rests, List::Rests),
+        Err(_) => Ok(true),
+    }
+}
+
+#[tactic(auto, unfolding(crate::specs::Documents::new_name_of, crate::specs::Documents::service_of))]
+/// One service, behind those before it.
+fn read_service(
+    v: &Value,
+    version: u64,
+    catalogue: &[Behaviour],
+    before: &[Service],
+) -> Result<Service, PartError>
+    requires { length catalogue.now ≤ MAX_BEHAVIOURS }
+    ensures service { Gives (λ x. x) result (service_of version catalogue.now before.now (view v.now)) }
+    ensures known { IfOk result (λ service. IsService catalogue.now service) }
+    ensures new { IfOk result (λ service. place_of (map service_name before.now) service.name ≡ None) }
+{
+    if !v.is_object() {
+        return Err(refused(Kind::Form, List::Whole));
+    }
+    let name = read_name(v)?;
+    if place_of_service(before, name.bytes()).is_some() {
+        return Err(refused(Kind::Repeated, List::Name));
+    }
+    let place = read_behaviour_place(v, catalogue)?;
+    let behaviour = &catalogue[place as usize];
+    let state = read_state(v, behaviour)?;
+    let frozen = read_frozen(v)?;
+    let rests = read_rests(v, version)?;
+    Ok(Service {
+        name,
+        behaviour: place,
+        state,
+        frozen,
+        rests,
+    })
+}
