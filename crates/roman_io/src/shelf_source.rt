@@ -46,6 +46,8 @@ impl<'a, F: Shelf> Source for ShelfSource<'a, F> {
 
     ghost borrowed = { λ s. s.shelf.ghost_name };
 
+    ghost texts = { λ s. F.texts s.shelf.now };
+
     fn take(&mut self, into: &mut [u8]) -> Result<usize, Failed> {
         let count = self.shelf.fetch(self.name, self.at, into)?;
         self.at = self.at.saturating_add(count as u64);

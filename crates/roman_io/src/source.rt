@@ -1,5 +1,6 @@
-ghost use Rattle.std.specs.Prelude.{◌≡◌, ℕ, ◌<◌, ◌≤◌, List, Option, length, IfOk};
+ghost use Rattle.std.specs.Prelude.{◌≡◌, ℕ, ◌<◌, ◌≤◌, List, None, Option, length, IfOk};
 ghost use Rattle.roman_io.specs.Faults.{HasCause};
+ghost use Rattle.roman_io.specs.Shelf.{Texts};
 ghost use Rattle.roman_io.specs.Source.{EndsAt, Takes};
 
 use crate::failed::Failed;
@@ -15,6 +16,9 @@ pub trait Source {
     /// The name, in proofs, of the borrow through which it reads, or 0 where it borrows nothing.
     ghost borrowed: { Self → ℕ } = { λ _. 0 };
 
+    /// The texts of the shelf that it reads, where it reads one that tells them.
+    ghost texts: { Self → Option Texts } = { λ _. None };
+
     /// Moves bytes from the front of the rest to the front of `into`, and answers how many. Into a
     /// place that isn't empty it moves none exactly at the end of the rest. A failed call leaves the
     /// rest as it was. What stands in `into` past that number is left open.
@@ -23,5 +27,6 @@ pub trait Source {
         ensures moves { Takes (rest self.old) (rest self.new) into.new result }
         ensures ends { IfOk result (λ n. 0 < length into.new → EndsAt (rest self.old) n) }
         ensures borrowed { borrowed self.new ≡ borrowed self.old }
+        ensures texts { texts self.new ≡ texts self.old }
         ensures cause { HasCause (faults self.old) (faults self.new) result };
 }

@@ -21,13 +21,16 @@ fn files(alloc: Global) -> Result<Vec<(String, Vec<u8>)>, AllocError> {
 fn take_once<S: Source>(source: &mut S, into: &mut [u8]) -> Result<usize, Failed>
     ensures cause { HasCause (S.faults source.old) (S.faults source.new) result }
     ensures borrowed { S.borrowed source.new ≡ S.borrowed source.old }
+    ensures texts { S.texts source.new ≡ S.texts source.old }
 {
     source.take(into)
 }
 
-/// The first bytes of a text, by a source over the shelf, whose faults the caller still knows.
+/// The first bytes of a text, by a source over the shelf, whose faults and texts the caller still
+/// knows.
 fn read_front<F: Shelf>(shelf: &mut F, name: &str, into: &mut [u8]) -> Result<usize, Failed>
     ensures cause { HasCause (F.faults shelf.old) (F.faults shelf.new) result }
+    ensures texts { F.texts shelf.new ≡ F.texts shelf.old }
 {
     let mut source = ShelfSource::new(shelf, name);
     take_once(&mut source, into)

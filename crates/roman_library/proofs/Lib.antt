@@ -1,6 +1,6 @@
 mod FrontLemmas
 mod ReadingLemmas
-mod PlaceLemmas
+pub mod PlaceLemmas
 mod LibraryLemmas
 mod StepLemmas
 mod PlacedLemmas

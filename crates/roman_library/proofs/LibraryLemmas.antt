@@ -1,7 +1,6 @@
 -- What the parts of a library keep.
-use Rattle.std.proofs.Common.{◌≡◌, ℕ, ◌≤◌, List, [], ◌∷◌, ◌++◌, map, Bool, true, false, Option, None, is_some, Result, Ok, Err, IfOk, refl, subst}
+use Rattle.std.proofs.Common.{◌≡◌, ℕ, ◌≤◌, List, [], ◌∷◌, ◌++◌, map, Bool, true, false, None, is_some, Result, Ok, Err, IfOk, refl, subst}
 use Rattle.std.specs.Prelude.{codes}
-use Rattle.std.specs.List.{All}
 use Rattle.std.specs.Str.{bytes_eq}
 use Rattle.std.proofs.lemmas.List.{map_push}
 use Rattle.std.proofs.lemmas.List.Elements.{All-push}

@@ -1,10 +1,9 @@
 -- Loops over the behaviours and the services of a document.
-use Rattle.std.proofs.Common.{◌≡◌, ℕ, ◌+◌, ◌<◌, ◌≤◌, List, [], ◌∷◌, ◌++◌, length, get_or, Option, Some, None, IfSome, Result, Ok, Err}
-use Rattle.serde_json.specs.Data.{Data}
+use Rattle.std.proofs.Common.{◌≡◌, ℕ, ◌+◌, ◌<◌, ◌≤◌, List, [], ◌∷◌, ◌++◌, length, get_or, Option, Some, None, IfSome, Ok}
 use Rattle.serde_json.specs.View.{view, items_view}
 use Rattle.serde_json.specs.declared.value.Value.{Value}
 use Rattle.roman_io.specs.Shelf.{Texts}
-use Rattle.roman_read.specs.Items.{◌>>=◌, each_item}
+use Rattle.roman_read.specs.Items.{each_item}
 use Rattle.roman_read.proofs.Each.{IsLeft, goes_on, ends, is_done, at_start}
 use Rattle.roman_parts.specs.Named.{NamedEnv, NamedBeh}
 use Rattle.roman_library.specs.Documents.{behaviour_in, behaviour_step, service_of, service_step}

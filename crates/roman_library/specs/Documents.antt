@@ -1,6 +1,5 @@
 -- What a system document on a shelf means: a library, or the first rule that it breaks.
-use Rattle.std.specs.Prelude.{ℕ, ◌==◌, ◌&&◌, ◌++◌, Bool, true, false, List, [], ◌∷◌, map, length, slice_get, Option, Some, None, Result, Ok, Err, is_some, is_none, nat_le, nat_lt, codes, if◌then◌else◌}
-use Rattle.std.specs.Option.{ok_or}
+use Rattle.std.specs.Prelude.{ℕ, ◌==◌, ◌&&◌, ◌++◌, Bool, true, false, List, [], ◌∷◌, map, length, slice_get, Option, Some, None, Result, Ok, Err, is_some, is_none, nat_le, codes, if◌then◌else◌}
 use Rattle.serde_json.specs.Data.{Data}
 use Rattle.serde_json.specs.Find.{as_object}
 use Rattle.roman_io.specs.Shelf.{Texts}
@@ -19,7 +18,7 @@ use Rattle.roman_parts.specs.declared.error.List.{List as Place}
 use Rattle.roman_parts.specs.declared.error.List.TheVariants as list
 use Rattle.roman_parts.specs.declared.error.PartError.{PartError}
 use Rattle.roman_library.specs.Library.{PlainLibrary, behaviour_name, service_name}
-use Rattle.roman_library.specs.Refusals.{refusal_of, placed}
+use Rattle.roman_library.specs.Refusals.{placed}
 use Rattle.roman_library.specs.declared.library.Service.{Service}
 use Rattle.roman_library.specs.declared.refusal.Part.{Part}
 use Rattle.roman_library.specs.declared.refusal.Part.TheVariants as part

@@ -1,6 +1,12 @@
 //! System documents on a shelf.
+//!
+//! [`document`] fetches a text from a shelf and reads it as JSON, and [`load`] reads a system
+//! document with the part files that it names: it gives the [`Library`] that the document is, or the
+//! [`Refusal`] of the first rule that it breaks. `specs/Documents` says what a document means, and
+//! `specs/Library` what every library keeps.
 #![tactic(auto)]
 
+mod catalogue;
 mod file_name;
 mod header;
 mod library;

@@ -5,10 +5,11 @@ ghost use Rattle.roman_library.specs.Documents.{library_in, library_of};
 ghost use Rattle.roman_library.specs.Library.{IsLibrary, plain};
 ghost use Rattle.roman_library.specs.Refusals.{Loads, CausesLoad};
 
+use crate::catalogue::load_catalogue;
 use crate::header::{read_limit, read_version};
 use crate::library::Library;
 use crate::part_file::value_at;
-use crate::parts::{load_catalogue, load_environment, load_target};
+use crate::parts::{load_environment, load_target};
 use crate::placing::placed;
 use crate::refusal::{LoadError, Part};
 use crate::services::read_services;

@@ -1,25 +1,18 @@
-//! The environment, the behaviours and the target of a document, in place or by file.
-ghost use Rattle.std.specs.Prelude.{◌≡◌, ◌≤◌, length, map, [], vec_len, IfOk, IfSome};
-ghost use Rattle.serde_json.specs.View.{view, items_view};
-ghost use Rattle.roman_read.specs.Items.{each_item};
+//! The environment and the target of a document, in place or by file.
+ghost use Rattle.std.specs.Prelude.{◌≡◌, IfOk, IfSome};
+ghost use Rattle.serde_json.specs.View.{view};
 ghost use Rattle.roman_parts.specs.Parts.{target_of};
-ghost use Rattle.roman_read.specs.Names.{place_of};
 ghost use Rattle.roman_parts.specs.Reading.{Gives};
-ghost use Rattle.roman_library.specs.Documents.{environment_in, new_behaviour_of, behaviour_in, behaviour_step, catalogue_in, target_in};
-ghost use Rattle.roman_library.specs.Library.{IsBehaviour, IsCatalogue, IsTarget, behaviour_name};
+ghost use Rattle.roman_library.specs.Documents.{environment_in, target_in};
+ghost use Rattle.roman_library.specs.Library.{IsTarget};
 ghost use Rattle.roman_library.specs.Refusals.{Loads, CausesLoad};
 
-use crate::looks::{few_items, member_at, refused};
-use crate::names::{place_of_behaviour, read_name};
+use crate::looks::member_at;
 use crate::part_file::{file_of, value_at};
 use crate::placing::placed;
 use crate::refusal::{LoadError, Part};
 use roman_io::Shelf;
-use roman_model::MAX_BEHAVIOURS;
-use roman_parts::{
-    Behaviour, Environment, List, PartError, Target, read_behaviour, read_environment, read_target,
-};
-use roman_read::Kind;
+use roman_parts::{Environment, List, PartError, Target, read_environment, read_target};
 use serde_json::Value;
 use std::alloc::Global;
 
@@ -37,12 +30,8 @@ pub(crate) fn load_environment<F: Shelf>(
     ensures cause { CausesLoad (F.faults shelf.old) (F.faults shelf.new) result }
 {
     let part = Part::Environment;
-    let member = placed(
-        alloc,
-        document,
-        part,
-        member_at(v, "environment", List::Whole),
-    )?;
+    let member = member_at(v, "environment", List::Whole);
+    let member = placed(alloc, document, part, member)?;
     match placed(alloc, document, part, file_of(member))? {
         None => placed(alloc, document, part, read_environment(alloc, member)),
         Some(file) => {
@@ -50,121 +39,6 @@ pub(crate) fn load_environment<F: Shelf>(
             placed(alloc, file, part, read_environment(alloc, &value))
         }
     }
-}
-
-#[tactic(auto, unfolding(crate::specs::Documents::new_name_of, crate::specs::Documents::new_behaviour_of))]
-/// A behaviour, whose name is tried against those before it and then the rest.
-fn read_new_behaviour(
-    alloc: Global,
-    v: &Value,
-    environment: &Environment,
-    before: &[Behaviour],
-) -> Result<Behaviour, PartError>
-    ensures behaviour { Gives (λ x. x) result (new_behaviour_of environment.now before.now (view v.now)) }
-    ensures known { IfOk result (λ behaviour. IsBehaviour environment.now behaviour) }
-    ensures new { IfOk result (λ behaviour. place_of (map behaviour_name before.now) behaviour.name ≡ None) }
-{
-    if !v.is_object() {
-        return Err(refused(Kind::Form, List::Whole));
-    }
-    let name = read_name(v)?;
-    if place_of_behaviour(before, name.bytes()).is_some() {
-        return Err(refused(Kind::Repeated, List::Name));
-    }
-    let behaviour = read_behaviour(alloc, v, environment)?;
-    let _names = behaviour.states();
-    Ok(behaviour)
-}
-
-#[tactic(auto, unfolding(crate::specs::Documents::behaviour_in, crate::specs::Documents::part_of))]
-/// A behaviour of a document, after those before it.
-fn load_behaviour<F: Shelf>(
-    alloc: Global,
-    shelf: &mut F,
-    document: &str,
-    number: u32,
-    v: &Value,
-    environment: &Environment,
-    before: &[Behaviour],
-) -> Result<Behaviour, LoadError>
-    ensures behaviour { IfSome (F.texts shelf.old)
-        (λ texts. Loads (λ x. x) result (behaviour_in texts document.now environment.now before.now number (view v.now))) }
-    ensures known { IfOk result (λ behaviour. IsBehaviour environment.now behaviour) }
-    ensures new { IfOk result (λ behaviour. place_of (map behaviour_name before.now) behaviour.name ≡ None) }
-    ensures texts { F.texts shelf.new ≡ F.texts shelf.old }
-    ensures cause { CausesLoad (F.faults shelf.old) (F.faults shelf.new) result }
-{
-    let part = Part::Behaviour(number);
-    match placed(alloc, document, part, file_of(v))? {
-        None => placed(
-            alloc,
-            document,
-            part,
-            read_new_behaviour(alloc, v, environment, before),
-        ),
-        Some(file) => {
-            let value = value_at(alloc, shelf, file, part)?;
-            placed(
-                alloc,
-                file,
-                part,
-                read_new_behaviour(alloc, &value, environment, before),
-            )
-        }
-    }
-}
-
-#[tactic(auto, unfolding(crate::specs::Documents::catalogue_in))]
-/// The behaviours of a document.
-pub(crate) fn load_catalogue<F: Shelf>(
-    alloc: Global,
-    shelf: &mut F,
-    document: &str,
-    v: &Value,
-    environment: &Environment,
-) -> Result<Vec<Behaviour>, LoadError>
-    ensures catalogue { IfSome (F.texts shelf.old)
-        (λ texts. Loads (λ x. x.items) result (catalogue_in texts document.now environment.now (view v.now))) }
-    ensures known { IfOk result (λ catalogue. IsCatalogue environment.now catalogue.items) }
-    ensures few { IfOk result (λ catalogue. vec_len catalogue ≤ MAX_BEHAVIOURS) }
-    ensures texts { F.texts shelf.new ≡ F.texts shelf.old }
-    ensures cause { CausesLoad (F.faults shelf.old) (F.faults shelf.new) result }
-{
-    let items = few_items(v, "behaviours", List::Behaviours, MAX_BEHAVIOURS);
-    let items = placed(alloc, document, Part::System, items)?;
-    load_behaviours(alloc, shelf, document, items, environment)
-}
-
-/// The behaviours that the items of a list are.
-fn load_behaviours<F: Shelf>(
-    alloc: Global,
-    shelf: &mut F,
-    document: &str,
-    items: &[Value],
-    environment: &Environment,
-) -> Result<Vec<Behaviour>, LoadError>
-    requires { length items.now ≤ MAX_BEHAVIOURS }
-    ensures catalogue { IfSome (F.texts shelf.old)
-        (λ texts. Loads (λ x. x.items) result (each_item (behaviour_step texts document.now environment.now) 0 [] (items_view items.now))) }
-    ensures known { IfOk result (λ catalogue. IsCatalogue environment.now catalogue.items) }
-    ensures few { IfOk result (λ catalogue. vec_len catalogue ≤ MAX_BEHAVIOURS) }
-    ensures texts { F.texts shelf.new ≡ F.texts shelf.old }
-    ensures cause { CausesLoad (F.faults shelf.old) (F.faults shelf.new) result }
-{
-    let mut catalogue = Vec::with_capacity(alloc, items.len())?;
-    for (i, item) in items.iter().enumerate() {
-        let behaviour = load_behaviour(
-            alloc,
-            shelf,
-            document,
-            i as u32,
-            item,
-            environment,
-            &catalogue,
-        )?;
-        catalogue.push(behaviour)?;
-    }
-    Ok(catalogue)
 }
 
 #[tactic(auto, unfolding(crate::specs::Documents::target_in, crate::specs::Documents::part_of))]
@@ -183,17 +57,17 @@ pub(crate) fn load_target<F: Shelf>(
     ensures cause { CausesLoad (F.faults shelf.old) (F.faults shelf.new) result }
 {
     let part = Part::Target(0);
-    let member = placed(alloc, document, part, member_at(v, "target", List::Whole))?;
+    let member = member_at(v, "target", List::Whole);
+    let member = placed(alloc, document, part, member)?;
     match placed(alloc, document, part, file_of(member))? {
-        None => placed(
-            alloc,
-            document,
-            part,
-            target_over(alloc, member, environment),
-        ),
+        None => {
+            let target = target_over(alloc, member, environment);
+            placed(alloc, document, part, target)
+        }
         Some(file) => {
             let value = value_at(alloc, shelf, file, part)?;
-            placed(alloc, file, part, target_over(alloc, &value, environment))
+            let target = target_over(alloc, &value, environment);
+            placed(alloc, file, part, target)
         }
     }
 }

@@ -9,13 +9,13 @@ use Rattle.std.proofs.lemmas.Option.{none-some}
 use Rattle.std.proofs.lemmas.Nat.{mul-le}
 use Rattle.std.proofs.lemmas.Fmt.{length-decimal-le}
 use Rattle.roman_model.specs.Lists.{IsIn, below, all_below}
-use Rattle.roman_model.specs.Lines.{lines, ended_lines, text_of}
+use Rattle.roman_model.specs.Lines.{lines, ended_lines, text_of, IsLine, AreLines}
 use Rattle.roman_model.specs.System.{Sys, IsSys, pairs, same_numbers}
-use Rattle.roman_model.specs.Arena.{Entry, is_listed, is_beaten, is_justified, IsOrder}
+use Rattle.roman_model.specs.Arena.{Arena, Entry, is_listed, is_beaten, is_justified, IsOrder}
 use Rattle.roman_model.specs.Composition.{Great, arena}
 use Rattle.roman_model.specs.Numbers.{sizes_of, count, pair_at, numbered, entry_at, IsCompleteList}
 use Rattle.roman_model.specs.Offers.{is_related}
-use Rattle.roman_model.specs.Certificate.{head_line, count_line, reason_text, entry_line, end_line, cert_lines, cert_text, Why, Form, Repeated, Unjustified, Unlisted, Greatest, Rejected, TooLong, reasons, possible_entries, entry_of, entries_on, unless_is, unless_over, entry_fault, could_be_listed, end_fault, body_fault, line_fault, faults, unlisted, cert_verdict, greatest, IsWithinCells, WrittenIsGreatest, GreatestIsComplete}
+use Rattle.roman_model.specs.Certificate.{head_line, count_line, reason_text, entry_line, end_line, cert_lines, cert_text, Why, Form, Repeated, Unjustified, Unlisted, Greatest, Rejected, TooLong, reasons, possible_entries, entry_of, entries_on, unless_is, unless_over, entry_fault, could_be_listed, end_fault, body_fault, line_fault, faults, unlisted, cert_verdict, greatest, IsWithinCells, WrittenIsGreatest, GreatestIsComplete, IsClean}
 use Rattle.roman_model.specs.declared.limits.TheConstants.{MAX_ACTIONS, MAX_CELLS, MAX_CERTIFICATE_BYTES}
 use Rattle.roman_model.specs.declared.reason.Reason.{Reason}
 use Rattle.roman_model.specs.declared.reason.Reason.TheVariants.{Final, Act}
@@ -29,34 +29,51 @@ use Rattle.roman_model.proofs.WorkLemmas.{order_middle}
 use Rattle.roman_model.proofs.Renames.{order_named}
 use Rattle.roman_model.proofs.NumberedArena.{IsNumber, AreNumbers, numbers_rename, justified_at}
 use Rattle.roman_model.proofs.NumberedLists.{numbered_is_same, numbered_completed_by, numbered_listed, numbered_pairs, numbered_pairs_once, in_numbered_pairs, from_numbered_pairs}
-use Rattle.roman_model.proofs.LineLemmas.{IsLine, AreLines, lines-text_of}
-use Rattle.roman_model.proofs.CertificateLemmas.{head_is_line, end_is_line, count_is_line, entry_is_line, entry_is_no_end, final_reason, act_reason, IsSmallSys, possible_small, in_possible, from_possible, entry_of-line, entry_of-is, entry_of_other, entries_on-lines, IsClean, faults_none, faults_first, clean_push, fault_next, fault_over, faults_cases}
+use Rattle.roman_model.proofs.LineLemmas.{lines-text_of}
+use Rattle.roman_model.proofs.CertificateLemmas.{head_is_line, end_is_line, count_is_line, entry_is_line, entry_is_no_end, final_reason, act_reason, AreFew, possible_small, in_possible, from_possible, entry_of-line, entry_of-is, entry_of_other, entries_on-lines, faults_none, faults_first, clean_push, fault_next, fault_over, faults_cases}
 
 -- The sizes of a system within the limits
 
-pub cells_small : (s : Sys) → IsSys s → IsWithinCells s → (count (sizes_of s) ≤ MAX_CELLS) × IsSmallSys s
+-- how many nodes its numbered arena has
+abbrev node_count : Sys → ℕ
+node_count s = length (numbered s).nodes
+
+node_count_is : (s : Sys) → node_count s ≡ count (sizes_of s)
+node_count_is s = length-below (count (sizes_of s))
+
+-- the entries that may stand in its certificate are of its numbers
+number_possible : (s : Sys) (x : Entry ℕ) → x.node < count (sizes_of s) → IsIn x.reason (reasons s.env.actions) → IsIn x (possible_entries (node_count s) s.env.actions)
+number_possible s x l i = in_possible (node_count s) s.env.actions x (subst (λ n. x.node < n) (sym (node_count_is s)) l) i
+
+possible_number : (s : Sys) (x : Entry ℕ) → IsIn x (possible_entries (node_count s) s.env.actions) → (x.node < count (sizes_of s)) × IsIn x.reason (reasons s.env.actions)
+possible_number s x i =
+    let (l, j) = from_possible (node_count s) s.env.actions x i in
+    (subst (λ n. x.node < n) (node_count_is s) l, j)
+
+pub cells_small : (s : Sys) → IsSys s → IsWithinCells s → (count (sizes_of s) ≤ MAX_CELLS) × AreFew (node_count s) s.env.actions
 cells_small s sys cells =
     let some : 0 < s.env.actions = sys.env.actions.0 in
     let not_many : s.env.actions ≤ MAX_ACTIONS = sys.env.actions.1 in
     let wide : count (sizes_of s) * 1 ≤ count (sizes_of s) * s.env.actions = mul-le (count (sizes_of s)) 1 (count (sizes_of s)) s.env.actions (omega arith) some in
     let limit : count (sizes_of s) * s.env.actions ≤ MAX_CELLS = cells in
     let few : count (sizes_of s) ≤ MAX_CELLS = omega arith in
-    (few, record { pairs = omega arith; actions = omega arith })
+    let same : node_count s ≡ count (sizes_of s) = node_count_is s in
+    (few, record { pairs_fit = omega arith; actions_fit = omega arith })
 
 -- a short text is judged by all its lines
-pub judged_short : (s : Sys) (start : ℕ) (bytes : List ℕ) → length bytes ≤ MAX_CERTIFICATE_BYTES →
-    cert_verdict s start bytes ≡ slice_index_or (faults s (lines bytes) (length (lines bytes) + 1)) 0 (unlisted s start (entries_on s (lines bytes)))
-judged_short s start bytes h =
-    cond-true (nat_le (length bytes) MAX_CERTIFICATE_BYTES) (slice_index_or (faults s (lines bytes) (length (lines bytes) + 1)) 0 (unlisted s start (entries_on s (lines bytes))))
-    (slice_index_or (faults s (ended_lines (take MAX_CERTIFICATE_BYTES bytes)) (length (ended_lines (take MAX_CERTIFICATE_BYTES bytes)))) 0 TooLong)
+pub judged_short : (A : Arena ℕ) (start : ℕ) (bytes : List ℕ) → length bytes ≤ MAX_CERTIFICATE_BYTES →
+    cert_verdict A start bytes ≡ slice_index_or (faults A (lines bytes) (length (lines bytes) + 1)) 0 (unlisted A start (entries_on A (lines bytes)))
+judged_short A start bytes h =
+    cond-true (nat_le (length bytes) MAX_CERTIFICATE_BYTES) (slice_index_or (faults A (lines bytes) (length (lines bytes) + 1)) 0 (unlisted A start (entries_on A (lines bytes))))
+    (slice_index_or (faults A (ended_lines (take MAX_CERTIFICATE_BYTES bytes)) (length (ended_lines (take MAX_CERTIFICATE_BYTES bytes)))) 0 TooLong)
     (le-leb (length bytes) MAX_CERTIFICATE_BYTES h)
 
 -- and a long one by those that end within the limit
-pub judged_long : (s : Sys) (start : ℕ) (bytes : List ℕ) → MAX_CERTIFICATE_BYTES < length bytes →
-    cert_verdict s start bytes ≡ slice_index_or (faults s (ended_lines (take MAX_CERTIFICATE_BYTES bytes)) (length (ended_lines (take MAX_CERTIFICATE_BYTES bytes)))) 0 TooLong
-judged_long s start bytes h =
-    cond-false (nat_le (length bytes) MAX_CERTIFICATE_BYTES) (slice_index_or (faults s (lines bytes) (length (lines bytes) + 1)) 0 (unlisted s start (entries_on s (lines bytes))))
-    (slice_index_or (faults s (ended_lines (take MAX_CERTIFICATE_BYTES bytes)) (length (ended_lines (take MAX_CERTIFICATE_BYTES bytes)))) 0 TooLong)
+pub judged_long : (A : Arena ℕ) (start : ℕ) (bytes : List ℕ) → MAX_CERTIFICATE_BYTES < length bytes →
+    cert_verdict A start bytes ≡ slice_index_or (faults A (ended_lines (take MAX_CERTIFICATE_BYTES bytes)) (length (ended_lines (take MAX_CERTIFICATE_BYTES bytes)))) 0 TooLong
+judged_long A start bytes h =
+    cond-false (nat_le (length bytes) MAX_CERTIFICATE_BYTES) (slice_index_or (faults A (lines bytes) (length (lines bytes) + 1)) 0 (unlisted A start (entries_on A (lines bytes))))
+    (slice_index_or (faults A (ended_lines (take MAX_CERTIFICATE_BYTES bytes)) (length (ended_lines (take MAX_CERTIFICATE_BYTES bytes)))) 0 TooLong)
     (lt-leb (length bytes) MAX_CERTIFICATE_BYTES h)
 
 not-not : (b : Bool) → not (not b) ≡ b
@@ -70,115 +87,115 @@ pub complete_order : (s : Sys) (L : List (Entry ℕ)) → IsSys s → AreNumbers
 complete_order s L sys are complete = order_named (numbered s) (arena s) (pair_at (sizes_of s)) (IsNumber s) (numbers_rename s sys) L are complete.order
 
 -- the reasons that hold may be given
-pub justified_reason : (s : Sys) (gone : ℕ → Bool) (p : ℕ) (r : Reason) → IsSys s → IsTrue (is_justified (numbered s) gone p r) → IsIn r (reasons s)
-justified_reason s gone p Final sys h = final_reason s
+pub justified_reason : (s : Sys) (gone : ℕ → Bool) (p : ℕ) (r : Reason) → IsSys s → IsTrue (is_justified (numbered s) gone p r) → IsIn r (reasons s.env.actions)
+justified_reason s gone p Final sys h = final_reason s.env.actions
 justified_reason s gone p (Act a) sys h =
-    act_reason s a (allowed_in_range s (pair_at (sizes_of s) p) a sys
+    act_reason s.env.actions a (allowed_in_range s (pair_at (sizes_of s) p) a sys
     (and_parts ((numbered s).allows p a) (all_below (is_beaten (numbered s) gone p a) (length s.seats)) h).0)
 
-pub order_possible : (s : Sys) (L : List (Entry ℕ)) → IsSys s → AreNumbers s L → IsOrder (numbered s) L → (x : Entry ℕ) → IsIn x L → IsIn x (possible_entries s)
+pub order_possible : (s : Sys) (L : List (Entry ℕ)) → IsSys s → AreNumbers s L → IsOrder (numbered s) L → (x : Entry ℕ) → IsIn x L → IsIn x (possible_entries (node_count s) s.env.actions)
 order_possible s L sys are order x i =
-    in_possible s x (are x i) (justified_reason s (is_listed (numbered s) L) x.node x.reason sys (order_justified (numbered s) L x order i))
+    number_possible s x (are x i) (justified_reason s (is_listed (numbered s) L) x.node x.reason sys (order_justified (numbered s) L x order i))
 
 -- The lines of a certificate are clean
 
 -- no entry's line is `end`
-no_end : (s : Sys) (L : List (Entry ℕ)) → IsSmallSys s → ((x : Entry ℕ) → IsIn x L → IsIn x (possible_entries s)) → IsFalse (list_any (same_numbers end_line) (map entry_line L))
+no_end : (s : Sys) (L : List (Entry ℕ)) → AreFew (node_count s) s.env.actions → ((x : Entry ℕ) → IsIn x L → IsIn x (possible_entries (node_count s) s.env.actions)) → IsFalse (list_any (same_numbers end_line) (map entry_line L))
 no_end s L small are = none_from (same_numbers end_line) (map entry_line L) (λ line i.
     let (x, j, e) = from_map entry_line line L i in
-    subst (λ l. IsFalse (same_numbers end_line l)) (sym e) (entry_is_no_end x (possible_small s x small (are x j))))
+    subst (λ l. IsFalse (same_numbers end_line l)) (sym e) (entry_is_no_end x (possible_small (node_count s) s.env.actions x small (are x j))))
 
 -- the lines up to the entries
 abbrev pub opened : Sys → List (Entry ℕ) → List (List ℕ)
-opened s L = head_line ∷ count_line s ∷ map entry_line L
+opened s L = head_line ∷ count_line (node_count s) ∷ map entry_line L
 
-entry_clean : (s : Sys) (before : List (Entry ℕ)) (x : Entry ℕ) → IsSmallSys s → ((y : Entry ℕ) → IsIn y before → IsIn y (possible_entries s)) → IsIn x (possible_entries s) →
+entry_clean : (s : Sys) (before : List (Entry ℕ)) (x : Entry ℕ) → AreFew (node_count s) s.env.actions → ((y : Entry ℕ) → IsIn y before → IsIn y (possible_entries (node_count s) s.env.actions)) → IsIn x (possible_entries (node_count s) s.env.actions) →
     IsFalse (is_listed (numbered s) before x.node) → IsTrue (is_justified (numbered s) (is_listed (numbered s) before) x.node x.reason) →
-    line_fault s (opened s before) (Some (entry_line x)) ≡ None
+    line_fault (numbered s) (opened s before) (Some (entry_line x)) ≡ None
 entry_clean s before x small are is new holds =
-    ap (λ b. if b then unless_over (Some (entry_line x)) else body_fault s (entries_on s (map entry_line before)) (Some (entry_line x))) (no_end s before small are)
-    ∙ ap (λ b. if b then end_fault s (entries_on s (map entry_line before)) else entry_fault s (entries_on s (map entry_line before)) (entry_of s (entry_line x)))
-    (entry_is_no_end x (possible_small s x small is))
-    ∙ ap₂ (entry_fault s) (entries_on-lines s before small are) (entry_of-line s x small is)
+    ap (λ b. if b then unless_over (Some (entry_line x)) else body_fault (numbered s) (entries_on (numbered s) (map entry_line before)) (Some (entry_line x))) (no_end s before small are)
+    ∙ ap (λ b. if b then end_fault (numbered s) (entries_on (numbered s) (map entry_line before)) else entry_fault (numbered s) (entries_on (numbered s) (map entry_line before)) (entry_of (node_count s) s.env.actions (entry_line x)))
+    (entry_is_no_end x (possible_small (node_count s) s.env.actions x small is))
+    ∙ ap₂ (entry_fault (numbered s)) (entries_on-lines (numbered s) before small are) (entry_of-line (node_count s) s.env.actions x small is)
     ∙ ap (λ b. if b then Some Repeated else (if is_justified (numbered s) (is_listed (numbered s) before) x.node x.reason then None else Some Unjustified)) new
     ∙ ap (λ b. if b then None else Some Unjustified) holds
 
 opened_push : (s : Sys) (before : List (Entry ℕ)) (x : Entry ℕ) → opened s before ++ entry_line x ∷ [] ≡ opened s (before ++ x ∷ [])
-opened_push s before x = ap (λ ls. head_line ∷ count_line s ∷ ls) (sym (map_push entry_line before x))
+opened_push s before x = ap (λ ls. head_line ∷ count_line (node_count s) ∷ ls) (sym (map_push entry_line before x))
 
-head_clean : (s : Sys) → IsClean s (opened s []) 2
+head_clean : (s : Sys) → IsClean (numbered s) (opened s []) 2
 head_clean s zero l = ap (λ b. if b then None else Some Form) (same_numbers_itself head_line)
-head_clean s (suc zero) l = ap (λ b. if b then None else Some Form) (same_numbers_itself (count_line s))
+head_clean s (suc zero) l = ap (λ b. if b then None else Some Form) (same_numbers_itself (count_line (node_count s)))
 head_clean s (suc (suc i)) l = absurd (omega arith)
 
-entries_clean : (s : Sys) (before rest : List (Entry ℕ)) → IsSmallSys s → ((y : Entry ℕ) → IsIn y (before ++ rest) → IsIn y (possible_entries s)) → IsOrder (numbered s) (before ++ rest) →
-    IsClean s (opened s before) (length (opened s before)) → IsClean s (opened s (before ++ rest)) (length (opened s (before ++ rest)))
-entries_clean s before [] small are order clean = subst (λ M. IsClean s (opened s M) (length (opened s M))) (sym (append-nil before)) clean
+entries_clean : (s : Sys) (before rest : List (Entry ℕ)) → AreFew (node_count s) s.env.actions → ((y : Entry ℕ) → IsIn y (before ++ rest) → IsIn y (possible_entries (node_count s) s.env.actions)) → IsOrder (numbered s) (before ++ rest) →
+    IsClean (numbered s) (opened s before) (length (opened s before)) → IsClean (numbered s) (opened s (before ++ rest)) (length (opened s (before ++ rest)))
+entries_clean s before [] small are order clean = subst (λ M. IsClean (numbered s) (opened s M) (length (opened s M))) (sym (append-nil before)) clean
 entries_clean s before (x ∷ rest) small are order clean =
     let (new, holds) = order_middle (numbered s) before rest x order in
     let more : before ++ x ∷ rest ≡ (before ++ x ∷ []) ++ rest = sym (append_assoc before (x ∷ []) rest) in
-    let next : IsClean s (opened s (before ++ x ∷ [])) (length (opened s (before ++ x ∷ []))) =
-    subst (λ ls. IsClean s ls (length ls)) (opened_push s before x)
-    (clean_push s (opened s before) (entry_line x) clean
+    let next : IsClean (numbered s) (opened s (before ++ x ∷ [])) (length (opened s (before ++ x ∷ []))) =
+    subst (λ ls. IsClean (numbered s) ls (length ls)) (opened_push s before x)
+    (clean_push (numbered s) (opened s before) (entry_line x) clean
     (entry_clean s before x small (λ y i. are y (in_append_left y before (x ∷ rest) i)) (are x (in_append_right x before (x ∷ rest) (inl refl))) new holds)) in
-    subst (λ M. IsClean s (opened s M) (length (opened s M))) (sym more)
+    subst (λ M. IsClean (numbered s) (opened s M) (length (opened s M))) (sym more)
     (entries_clean s (before ++ x ∷ []) rest small (λ y i. are y (subst (λ M. IsIn y M) (sym more) i)) (subst (IsOrder (numbered s)) more order) next)
 
 -- at the end of a complete list no pair is missing
-complete_end : (s : Sys) (L : List (Entry ℕ)) → ((p : ℕ) → p < count (sizes_of s) → IsFalse (is_listed (numbered s) L p) → (r : Reason) → IsFalse (is_justified (numbered s) (is_listed (numbered s) L) p r)) → end_fault s L ≡ None
+complete_end : (s : Sys) (L : List (Entry ℕ)) → ((p : ℕ) → p < count (sizes_of s) → IsFalse (is_listed (numbered s) L p) → (r : Reason) → IsFalse (is_justified (numbered s) (is_listed (numbered s) L) p r)) → end_fault (numbered s) L ≡ None
 complete_end s L none =
-    ap (option_map Unlisted) (find_not_found (could_be_listed s L) (below (count (sizes_of s))) (none_from (could_be_listed s L) (below (count (sizes_of s))) (λ p i. at p (from_below (count (sizes_of s)) p i))))
+    ap (option_map Unlisted) (find_not_found (could_be_listed (numbered s) L) (below (count (sizes_of s))) (none_from (could_be_listed (numbered s) L) (below (count (sizes_of s))) (λ p i. at p (from_below (count (sizes_of s)) p i))))
   where
-    at : (p : ℕ) → p < count (sizes_of s) → IsFalse (could_be_listed s L p)
+    at : (p : ℕ) → p < count (sizes_of s) → IsFalse (could_be_listed (numbered s) L p)
     at p l = by_test (is_listed (numbered s) L p)
-        (λ t. and_left (not (is_listed (numbered s) L p)) (list_any (is_justified (numbered s) (is_listed (numbered s) L) p) (reasons s)) (not_from_true (is_listed (numbered s) L p) t))
-        (λ f. ap (λ b. b && list_any (is_justified (numbered s) (is_listed (numbered s) L) p) (reasons s)) (not_from_false (is_listed (numbered s) L p) f)
-        ∙ none_from (is_justified (numbered s) (is_listed (numbered s) L) p) (reasons s) (λ r j. none p l f r))
+        (λ t. and_left (not (is_listed (numbered s) L p)) (list_any (is_justified (numbered s) (is_listed (numbered s) L) p) (reasons s.env.actions)) (not_from_true (is_listed (numbered s) L p) t))
+        (λ f. ap (λ b. b && list_any (is_justified (numbered s) (is_listed (numbered s) L) p) (reasons s.env.actions)) (not_from_false (is_listed (numbered s) L p) f)
+        ∙ none_from (is_justified (numbered s) (is_listed (numbered s) L) p) (reasons s.env.actions) (λ r j. none p l f r))
 
-end_clean : (s : Sys) (L : List (Entry ℕ)) → IsSmallSys s → ((x : Entry ℕ) → IsIn x L → IsIn x (possible_entries s)) → end_fault s L ≡ None → line_fault s (opened s L) (Some end_line) ≡ None
+end_clean : (s : Sys) (L : List (Entry ℕ)) → AreFew (node_count s) s.env.actions → ((x : Entry ℕ) → IsIn x L → IsIn x (possible_entries (node_count s) s.env.actions)) → end_fault (numbered s) L ≡ None → line_fault (numbered s) (opened s L) (Some end_line) ≡ None
 end_clean s L small are none =
-    ap (λ b. if b then unless_over (Some end_line) else body_fault s (entries_on s (map entry_line L)) (Some end_line)) (no_end s L small are)
-    ∙ ap (λ b. if b then end_fault s (entries_on s (map entry_line L)) else entry_fault s (entries_on s (map entry_line L)) (entry_of s end_line)) (same_numbers_itself end_line)
-    ∙ ap (end_fault s) (entries_on-lines s L small are)
+    ap (λ b. if b then unless_over (Some end_line) else body_fault (numbered s) (entries_on (numbered s) (map entry_line L)) (Some end_line)) (no_end s L small are)
+    ∙ ap (λ b. if b then end_fault (numbered s) (entries_on (numbered s) (map entry_line L)) else entry_fault (numbered s) (entries_on (numbered s) (map entry_line L)) (entry_of (node_count s) s.env.actions end_line)) (same_numbers_itself end_line)
+    ∙ ap (end_fault (numbered s)) (entries_on-lines (numbered s) L small are)
     ∙ none
 
-over_clean : (s : Sys) (L : List (Entry ℕ)) → line_fault s (cert_lines s L) None ≡ None
+over_clean : (s : Sys) (L : List (Entry ℕ)) → line_fault (numbered s) (cert_lines (node_count s) L) None ≡ None
 over_clean s L =
-    ap (λ b. if b then None else body_fault s (entries_on s (map entry_line L ++ end_line ∷ [])) None)
+    ap (λ b. if b then None else body_fault (numbered s) (entries_on (numbered s) (map entry_line L ++ end_line ∷ [])) None)
     (any_from (same_numbers end_line) end_line (map entry_line L ++ end_line ∷ []) (in_push end_line (map entry_line L)) (same_numbers_itself end_line))
 
 -- the lines of a complete list's certificate are clean, and so is their end
-pub cert_clean : (s : Sys) (L : List (Entry ℕ)) → IsSmallSys s → ((x : Entry ℕ) → IsIn x L → IsIn x (possible_entries s)) → IsOrder (numbered s) L → end_fault s L ≡ None →
-    IsClean s (cert_lines s L) (length (cert_lines s L) + 1)
-cert_clean s L small are order none i l = elim (cases_lt i (length (cert_lines s L))) [
-  | inl less ↦ clean_push s (opened s L) end_line (entries_clean s [] L small are order (head_clean s)) (end_clean s L small are none) i less
+pub cert_clean : (s : Sys) (L : List (Entry ℕ)) → AreFew (node_count s) s.env.actions → ((x : Entry ℕ) → IsIn x L → IsIn x (possible_entries (node_count s) s.env.actions)) → IsOrder (numbered s) L → end_fault (numbered s) L ≡ None →
+    IsClean (numbered s) (cert_lines (node_count s) L) (length (cert_lines (node_count s) L) + 1)
+cert_clean s L small are order none i l = elim (cases_lt i (length (cert_lines (node_count s) L))) [
+  | inl less ↦ clean_push (numbered s) (opened s L) end_line (entries_clean s [] L small are order (head_clean s)) (end_clean s L small are none) i less
   | inr more ↦
-      let here : i ≡ length (cert_lines s L) = omega arith in
-      ap (λ k. line_fault s (take k (cert_lines s L)) (slice_get (cert_lines s L) k)) here ∙ fault_over s (cert_lines s L) ∙ over_clean s L
+      let here : i ≡ length (cert_lines (node_count s) L) = omega arith in
+      ap (λ k. line_fault (numbered s) (take k (cert_lines (node_count s) L)) (slice_get (cert_lines (node_count s) L) k)) here ∙ fault_over (numbered s) (cert_lines (node_count s) L) ∙ over_clean s L
 ]
 
 -- The lines are read as the entries
 
-pub entries_on-cert : (s : Sys) (L : List (Entry ℕ)) → IsSmallSys s → ((x : Entry ℕ) → IsIn x L → IsIn x (possible_entries s)) → entries_on s (cert_lines s L) ≡ L
+pub entries_on-cert : (s : Sys) (L : List (Entry ℕ)) → AreFew (node_count s) s.env.actions → ((x : Entry ℕ) → IsIn x L → IsIn x (possible_entries (node_count s) s.env.actions)) → entries_on (numbered s) (cert_lines (node_count s) L) ≡ L
 entries_on-cert s L small are =
-    ap₂ (λ o p. cons_option o (cons_option p (entries_on s (map entry_line L ++ end_line ∷ []))))
-    (entry_of_other s 114 (codes "oman-order 1") small (omega arith))
-    (entry_of_other s 112 (codes "airs " ++ decimal (count (sizes_of s))) small (omega arith))
-    ∙ filter_map-append (entry_of s) (map entry_line L) (end_line ∷ [])
-    ∙ ap₂ (λ M o. M ++ cons_option o []) (entries_on-lines s L small are) (entry_of_other s 101 (110 ∷ 100 ∷ []) small (omega arith))
+    ap₂ (λ o p. cons_option o (cons_option p (entries_on (numbered s) (map entry_line L ++ end_line ∷ []))))
+    (entry_of_other (node_count s) s.env.actions 114 (codes "oman-order 1") small (omega arith))
+    (entry_of_other (node_count s) s.env.actions 112 (codes "airs " ++ decimal (node_count s)) small (omega arith))
+    ∙ filter_map-append (entry_of (node_count s) s.env.actions) (map entry_line L) (end_line ∷ [])
+    ∙ ap₂ (λ M o. M ++ cons_option o []) (entries_on-lines (numbered s) L small are) (entry_of_other (node_count s) s.env.actions 101 (110 ∷ 100 ∷ []) small (omega arith))
     ∙ append-nil L
 
 -- The text is short enough
 
-line_length : (s : Sys) (x : Entry ℕ) → IsSys s → count (sizes_of s) ≤ MAX_CELLS → IsIn x (possible_entries s) → length (entry_line x) ≤ 11
+line_length : (s : Sys) (x : Entry ℕ) → IsSys s → count (sizes_of s) ≤ MAX_CELLS → IsIn x (possible_entries (node_count s) s.env.actions) → length (entry_line x) ≤ 11
 line_length s x sys few i =
-    let (l, j) = from_possible s x i in
+    let (l, j) = possible_number s x i in
     let below_it : x.node < count (sizes_of s) = l in
     let number : length (decimal x.node) ≤ 8 = length-decimal-le 8 x.node (omega arith) (omega arith) (omega arith) in
     let reason : length (reason_text x.reason) ≤ 2 = reason_length x.reason j in
     omega (arith, length-append (decimal x.node) (32 ∷ reason_text x.reason))
   where
-    reason_length : (r : Reason) → IsIn r (reasons s) → length (reason_text r) ≤ 2
+    reason_length : (r : Reason) → IsIn r (reasons s.env.actions) → length (reason_text r) ≤ 2
     reason_length Final i = omega arith
     reason_length (Act a) (inl e) = absurd (act_is_not_final a e)
       where
@@ -191,7 +208,7 @@ line_length s x sys few i =
         let few : s.env.actions ≤ MAX_ACTIONS = sys.env.actions.1 in
         length-decimal-le 2 a (omega arith) (omega arith) (omega arith)
 
-entries_length : (s : Sys) (L : List (Entry ℕ)) → IsSys s → count (sizes_of s) ≤ MAX_CELLS → ((x : Entry ℕ) → IsIn x L → IsIn x (possible_entries s)) →
+entries_length : (s : Sys) (L : List (Entry ℕ)) → IsSys s → count (sizes_of s) ≤ MAX_CELLS → ((x : Entry ℕ) → IsIn x L → IsIn x (possible_entries (node_count s) s.env.actions)) →
     length (text_of (map entry_line L ++ end_line ∷ [])) ≤ 12 * length L + 4
 entries_length s [] sys few are = omega arith
 entries_length s (x ∷ L) sys few are =
@@ -199,30 +216,31 @@ entries_length s (x ∷ L) sys few are =
     let here : length (entry_line x) ≤ 11 = line_length s x sys few (are x (inl refl)) in
     omega (arith, length-append (entry_line x ++ 10 ∷ []) (text_of (map entry_line L ++ end_line ∷ [])), length-append (entry_line x) (10 ∷ []))
 
-pub cert_length : (s : Sys) (L : List (Entry ℕ)) → IsSys s → count (sizes_of s) ≤ MAX_CELLS → ((x : Entry ℕ) → IsIn x L → IsIn x (possible_entries s)) → length L ≤ count (sizes_of s) →
-    length (cert_text s L) ≤ MAX_CERTIFICATE_BYTES
+pub cert_length : (s : Sys) (L : List (Entry ℕ)) → IsSys s → count (sizes_of s) ≤ MAX_CELLS → ((x : Entry ℕ) → IsIn x L → IsIn x (possible_entries (node_count s) s.env.actions)) → length L ≤ count (sizes_of s) →
+    length (cert_text (node_count s) L) ≤ MAX_CERTIFICATE_BYTES
 cert_length s L sys few are fits =
     let rest : length (text_of (map entry_line L ++ end_line ∷ [])) ≤ 12 * length L + 4 = entries_length s L sys few are in
-    let number : length (decimal (count (sizes_of s))) ≤ 8 = length-decimal-le 8 (count (sizes_of s)) (omega arith) (omega arith) (omega arith) in
+    let same : node_count s ≡ count (sizes_of s) = node_count_is s in
+    let number : length (decimal (node_count s)) ≤ 8 = length-decimal-le 8 (node_count s) (omega arith) (omega arith) (omega arith) in
     let head : length (head_line ++ 10 ∷ []) ≡ 14 = refl in
     let word : length (codes "pairs ") ≡ 6 = refl in
     omega (
       arith,
-      length-append (head_line ++ 10 ∷ []) ((count_line s ++ 10 ∷ []) ++ text_of (map entry_line L ++ end_line ∷ [])),
-      length-append (count_line s ++ 10 ∷ []) (text_of (map entry_line L ++ end_line ∷ [])),
-      length-append (count_line s) (10 ∷ []),
-      length-append (codes "pairs ") (decimal (count (sizes_of s))),
+      length-append (head_line ++ 10 ∷ []) ((count_line (node_count s) ++ 10 ∷ []) ++ text_of (map entry_line L ++ end_line ∷ [])),
+      length-append (count_line (node_count s) ++ 10 ∷ []) (text_of (map entry_line L ++ end_line ∷ [])),
+      length-append (count_line (node_count s)) (10 ∷ []),
+      length-append (codes "pairs ") (decimal (node_count s)),
     )
 
 -- The lines of the text
 
-cert_are_lines : (s : Sys) (L : List (Entry ℕ)) → IsSmallSys s → ((x : Entry ℕ) → IsIn x L → IsIn x (possible_entries s)) → count (sizes_of s) < 2 ^ 64 → AreLines (cert_lines s L)
+cert_are_lines : (s : Sys) (L : List (Entry ℕ)) → AreFew (node_count s) s.env.actions → ((x : Entry ℕ) → IsIn x L → IsIn x (possible_entries (node_count s) s.env.actions)) → node_count s < 2 ^ 64 → AreLines (cert_lines (node_count s) L)
 cert_are_lines s L small are few line (inl e) = subst IsLine (sym e) head_is_line
-cert_are_lines s L small are few line (inr (inl e)) = subst IsLine (sym e) (count_is_line s few)
+cert_are_lines s L small are few line (inr (inl e)) = subst IsLine (sym e) (count_is_line (node_count s) few)
 cert_are_lines s L small are few line (inr (inr i)) = elim (from_append line (map entry_line L) (end_line ∷ []) i) [
   | inl j ↦
       let (x, k, e) = from_map entry_line line L j in
-      subst IsLine (sym e) (entry_is_line x (possible_small s x small (are x k)))
+      subst IsLine (sym e) (entry_is_line x (possible_small (node_count s) s.env.actions x small (are x k)))
   | inr j ↦ elim j [ inl e ↦ subst IsLine (sym e) end_is_line | inr none ↦ absurd none ]
 ]
 
@@ -243,7 +261,7 @@ unlisted_count s L sys are complete =
       λ i. let (j, t) = filter_in (is_related s) p (pairs s) i in in_filter (is_related s) p (numbered_pairs s) (in_numbered_pairs s p j) t,
     ))
 
-pub unlisted_is_greatest : (s : Sys) (start : ℕ) (L : List (Entry ℕ)) → IsSys s → start < count (sizes_of s) → AreNumbers s L → IsCompleteList s L → unlisted s start L ≡ greatest s start
+pub unlisted_is_greatest : (s : Sys) (start : ℕ) (L : List (Entry ℕ)) → IsSys s → start < count (sizes_of s) → AreNumbers s L → IsCompleteList s L → unlisted (numbered s) start L ≡ greatest s start
 unlisted_is_greatest s start L sys l are complete =
     ap₂ Greatest (unlisted_count s L sys are complete)
     (ap not (numbered_listed s L start sys are complete l) ∙ not-not (is_related s (pair_at (sizes_of s) start)))
@@ -264,16 +282,18 @@ pub written_is_greatest : WrittenIsGreatest
 written_is_greatest s start L sys cells l are complete =
     let (few, small) = cells_small s sys cells in
     let order : IsOrder (numbered s) L = complete_order s L sys are complete in
-    let possible : (x : Entry ℕ) → IsIn x L → IsIn x (possible_entries s) = order_possible s L sys are order in
+    let possible : (x : Entry ℕ) → IsIn x L → IsIn x (possible_entries (node_count s) s.env.actions) = order_possible s L sys are order in
     let fits : length L ≤ length (below (count (sizes_of s))) = order_fits (numbered s) (numbered_is_same s) L order (λ x i. in_below (count (sizes_of s)) x.node (are x i)) in
-    let short : length (cert_text s L) ≤ MAX_CERTIFICATE_BYTES = cert_length s L sys few possible (subst (λ n. length L ≤ n) (length-below (count (sizes_of s))) fits) in
+    let short : length (cert_text (node_count s) L) ≤ MAX_CERTIFICATE_BYTES = cert_length s L sys few possible (subst (λ n. length L ≤ n) (length-below (count (sizes_of s))) fits) in
     let few_pairs : count (sizes_of s) ≤ MAX_CELLS = few in
-    judged_short s start (cert_text s L) short
-    ∙ ap (λ ls. slice_index_or (faults s ls (length ls + 1)) 0 (unlisted s start (entries_on s ls))) (lines-text_of (cert_lines s L) (cert_are_lines s L small possible (omega arith)))
-    ∙ ap₂ (λ vs M. slice_index_or vs 0 (unlisted s start M))
-    (faults_none s (cert_lines s L) (length (cert_lines s L) + 1) (cert_clean s L small possible order (complete_end s L (complete_unjustified s L sys are complete))))
+    let same : node_count s ≡ count (sizes_of s) = node_count_is s in
+    subst (λ n. cert_verdict (numbered s) start (cert_text n L) ≡ greatest s start) same
+    (judged_short (numbered s) start (cert_text (node_count s) L) short
+    ∙ ap (λ ls. slice_index_or (faults (numbered s) ls (length ls + 1)) 0 (unlisted (numbered s) start (entries_on (numbered s) ls))) (lines-text_of (cert_lines (node_count s) L) (cert_are_lines s L small possible (omega arith)))
+    ∙ ap₂ (λ vs M. slice_index_or vs 0 (unlisted (numbered s) start M))
+    (faults_none (numbered s) (cert_lines (node_count s) L) (length (cert_lines (node_count s) L) + 1) (cert_clean s L small possible order (complete_end s L (complete_unjustified s L sys are complete))))
     (entries_on-cert s L small possible)
-    ∙ unlisted_is_greatest s start L sys l are complete
+    ∙ unlisted_is_greatest s start L sys l are complete)
 
 -- What is accepted
 
@@ -281,13 +301,13 @@ no_fault : (why : Why) → Some why ≡ None → ⊥
 no_fault why e = none-some why (sym e)
 
 -- the line that is due is there
-due_is : (due line : List ℕ) → unless_is due (Some line) ≡ None → line ≡ due
+pub due_is : (due line : List ℕ) → unless_is due (Some line) ≡ None → line ≡ due
 due_is due line e = by_test (same_numbers due line)
     (λ t. sym (same_numbers_is due line t))
     (λ f. absurd (no_fault Form (sym (cond-false (same_numbers due line) None (Some Form) f) ∙ e)))
 
 -- an entry without a fault is new, and its reason holds
-entry_holds : (s : Sys) (L : List (Entry ℕ)) (x : Entry ℕ) → entry_fault s L (Some x) ≡ None →
+entry_holds : (s : Sys) (L : List (Entry ℕ)) (x : Entry ℕ) → entry_fault (numbered s) L (Some x) ≡ None →
     IsFalse (is_listed (numbered s) L x.node) × IsTrue (is_justified (numbered s) (is_listed (numbered s) L) x.node x.reason)
 entry_holds s L x e = by_test (is_listed (numbered s) L x.node)
     (λ t. absurd (no_fault Repeated (sym (cond-true (is_listed (numbered s) L x.node) (Some Repeated) rest t) ∙ e)))
@@ -301,96 +321,96 @@ entry_holds s L x e = by_test (is_listed (numbered s) L x.node)
 
 -- the entries on those lines are a removal list, and no pair is missing
 record HoldsAll (s : Sys) (L : List (Entry ℕ)) : Type 0 where
-  possible : (x : Entry ℕ) → IsIn x L → IsIn x (possible_entries s)
+  possible : (x : Entry ℕ) → IsIn x L → IsIn x (possible_entries (node_count s) s.env.actions)
   order : IsOrder (numbered s) L
-  ended : end_fault s L ≡ None
+  ended : end_fault (numbered s) L ≡ None
 
 -- lines read so far: none is `end`, and their entries are a removal list
 record ReadSoFar (s : Sys) (done : List (List ℕ)) : Type 0 where
   open_yet : IsFalse (list_any (same_numbers end_line) done)
-  possible : (x : Entry ℕ) → IsIn x (entries_on s done) → IsIn x (possible_entries s)
-  order : IsOrder (numbered s) (entries_on s done)
+  possible : (x : Entry ℕ) → IsIn x (entries_on (numbered s) done) → IsIn x (possible_entries (node_count s) s.env.actions)
+  order : IsOrder (numbered s) (entries_on (numbered s) done)
 
-module _ (s : Sys) (small : IsSmallSys s) (head size : List ℕ) where
+module _ (s : Sys) (small : AreFew (node_count s) s.env.actions) (head size : List ℕ) where
   abbrev with_body : List (List ℕ) → List (List ℕ)
   with_body body = head ∷ size ∷ body
 
   -- a line that isn't `end` is an entry's
-  read_entry : (done : List (List ℕ)) (line : List ℕ) → ReadSoFar s done → IsFalse (same_numbers end_line line) → entry_fault s (entries_on s done) (entry_of s line) ≡ None → ReadSoFar s (done ++ line ∷ [])
-  read_entry done line read other e = by_entry (entry_of s line) refl
+  read_entry : (done : List (List ℕ)) (line : List ℕ) → ReadSoFar s done → IsFalse (same_numbers end_line line) → entry_fault (numbered s) (entries_on (numbered s) done) (entry_of (node_count s) s.env.actions line) ≡ None → ReadSoFar s (done ++ line ∷ [])
+  read_entry done line read other e = by_entry (entry_of (node_count s) s.env.actions line) refl
     where
-      by_entry : (o : Option (Entry ℕ)) → entry_of s line ≡ o → ReadSoFar s (done ++ line ∷ [])
-      by_entry None is = absurd (no_fault Form (ap (entry_fault s (entries_on s done)) (sym is) ∙ e))
+      by_entry : (o : Option (Entry ℕ)) → entry_of (node_count s) s.env.actions line ≡ o → ReadSoFar s (done ++ line ∷ [])
+      by_entry None is = absurd (no_fault Form (ap (entry_fault (numbered s) (entries_on (numbered s) done)) (sym is) ∙ e))
       by_entry (Some x) is =
-          let (new, holds) = entry_holds s (entries_on s done) x (ap (entry_fault s (entries_on s done)) (sym is) ∙ e) in
-          let more : entries_on s (done ++ line ∷ []) ≡ entries_on s done ++ x ∷ [] = filter_map-append (entry_of s) done (line ∷ []) ∙ ap (λ o. entries_on s done ++ cons_option o []) is in
+          let (new, holds) = entry_holds s (entries_on (numbered s) done) x (ap (entry_fault (numbered s) (entries_on (numbered s) done)) (sym is) ∙ e) in
+          let more : entries_on (numbered s) (done ++ line ∷ []) ≡ entries_on (numbered s) done ++ x ∷ [] = filter_map-append (entry_of (node_count s) s.env.actions) done (line ∷ []) ∙ ap (λ o. entries_on (numbered s) done ++ cons_option o []) is in
           record {
             open_yet = list_any-append (same_numbers end_line) done (line ∷ []) ∙ or_from (list_any (same_numbers end_line) done) (list_any (same_numbers end_line) (line ∷ [])) read.open_yet
                 (or_from (same_numbers end_line line) false other refl);
-            possible = λ y i. elim (from_push y x (entries_on s done) (subst (λ M. IsIn y M) more i)) [
+            possible = λ y i. elim (from_push y x (entries_on (numbered s) done) (subst (λ M. IsIn y M) more i)) [
               | inl j ↦ read.possible y j
-              | inr same ↦ subst (λ z. IsIn z (possible_entries s)) (sym same) (entry_of-is s line x is).0
+              | inr same ↦ subst (λ z. IsIn z (possible_entries (node_count s) s.env.actions)) (sym same) (entry_of-is (node_count s) s.env.actions line x is).0
             ];
-            order = subst (IsOrder (numbered s)) (sym more) (order_push (numbered s) (entries_on s done) x read.order new holds);
+            order = subst (IsOrder (numbered s)) (sym more) (order_push (numbered s) (entries_on (numbered s) done) x read.order new holds);
           }
 
   -- a clean text whose first lines are read has an end
-  read_all : (done rest : List (List ℕ)) → ReadSoFar s done → IsClean s (with_body (done ++ rest)) (length (with_body (done ++ rest)) + 1) → HoldsAll s (entries_on s (done ++ rest))
+  read_all : (done rest : List (List ℕ)) → ReadSoFar s done → IsClean (numbered s) (with_body (done ++ rest)) (length (with_body (done ++ rest)) + 1) → HoldsAll s (entries_on (numbered s) (done ++ rest))
   read_all done [] read clean =
-      let last : line_fault s (with_body (done ++ [])) None ≡ None = sym (fault_over s (with_body (done ++ []))) ∙ clean (length (with_body (done ++ []))) (omega arith) in
+      let last : line_fault (numbered s) (with_body (done ++ [])) None ≡ None = sym (fault_over (numbered s) (with_body (done ++ []))) ∙ clean (length (with_body (done ++ []))) (omega arith) in
       let open_yet : IsFalse (list_any (same_numbers end_line) (done ++ [])) = subst (λ ls. IsFalse (list_any (same_numbers end_line) ls)) (sym (append-nil done)) read.open_yet in
-      absurd (no_fault Form (sym (cond-false (list_any (same_numbers end_line) (done ++ [])) (unless_over None) (body_fault s (entries_on s (done ++ [])) None) open_yet) ∙ last))
+      absurd (no_fault Form (sym (cond-false (list_any (same_numbers end_line) (done ++ [])) (unless_over None) (body_fault (numbered s) (entries_on (numbered s) (done ++ [])) None) open_yet) ∙ last))
   read_all done (line ∷ rest) read clean =
-      let here : line_fault s (with_body done) (Some line) ≡ None =
-      sym (fault_next s (with_body done) rest line) ∙ clean (length (with_body done)) (omega (arith, length-append done (line ∷ rest))) in
-      let due : body_fault s (entries_on s done) (Some line) ≡ None =
-      sym (cond-false (list_any (same_numbers end_line) done) (unless_over (Some line)) (body_fault s (entries_on s done) (Some line)) read.open_yet) ∙ here in
+      let here : line_fault (numbered s) (with_body done) (Some line) ≡ None =
+      sym (fault_next (numbered s) (with_body done) rest line) ∙ clean (length (with_body done)) (omega (arith, length-append done (line ∷ rest))) in
+      let due : body_fault (numbered s) (entries_on (numbered s) done) (Some line) ≡ None =
+      sym (cond-false (list_any (same_numbers end_line) done) (unless_over (Some line)) (body_fault (numbered s) (entries_on (numbered s) done) (Some line)) read.open_yet) ∙ here in
       let more : done ++ line ∷ rest ≡ (done ++ line ∷ []) ++ rest = sym (append_assoc done (line ∷ []) rest) in
-      let clean_more : IsClean s (with_body ((done ++ line ∷ []) ++ rest)) (length (with_body ((done ++ line ∷ []) ++ rest)) + 1) = subst (λ ls. IsClean s (with_body ls) (length (with_body ls) + 1)) more clean in
+      let clean_more : IsClean (numbered s) (with_body ((done ++ line ∷ []) ++ rest)) (length (with_body ((done ++ line ∷ []) ++ rest)) + 1) = subst (λ ls. IsClean (numbered s) (with_body ls) (length (with_body ls) + 1)) more clean in
       by_test (same_numbers end_line line)
       (λ t. at_end done line rest read t
-      (sym (cond-true (same_numbers end_line line) (end_fault s (entries_on s done)) (entry_fault s (entries_on s done) (entry_of s line)) t) ∙ due) more clean_more)
-      (λ f. subst (λ ls. HoldsAll s (entries_on s ls)) (sym more)
+      (sym (cond-true (same_numbers end_line line) (end_fault (numbered s) (entries_on (numbered s) done)) (entry_fault (numbered s) (entries_on (numbered s) done) (entry_of (node_count s) s.env.actions line)) t) ∙ due) more clean_more)
+      (λ f. subst (λ ls. HoldsAll s (entries_on (numbered s) ls)) (sym more)
       (read_all (done ++ line ∷ []) rest
-      (read_entry done line read f (sym (cond-false (same_numbers end_line line) (end_fault s (entries_on s done)) (entry_fault s (entries_on s done) (entry_of s line)) f) ∙ due))
+      (read_entry done line read f (sym (cond-false (same_numbers end_line line) (end_fault (numbered s) (entries_on (numbered s) done)) (entry_fault (numbered s) (entries_on (numbered s) done) (entry_of (node_count s) s.env.actions line)) f) ∙ due))
       clean_more))
     where
       -- nothing follows the end
-      at_end : (done : List (List ℕ)) (line : List ℕ) (rest : List (List ℕ)) → ReadSoFar s done → IsTrue (same_numbers end_line line) → end_fault s (entries_on s done) ≡ None →
-          done ++ line ∷ rest ≡ (done ++ line ∷ []) ++ rest → IsClean s (with_body ((done ++ line ∷ []) ++ rest)) (length (with_body ((done ++ line ∷ []) ++ rest)) + 1) → HoldsAll s (entries_on s (done ++ line ∷ rest))
+      at_end : (done : List (List ℕ)) (line : List ℕ) (rest : List (List ℕ)) → ReadSoFar s done → IsTrue (same_numbers end_line line) → end_fault (numbered s) (entries_on (numbered s) done) ≡ None →
+          done ++ line ∷ rest ≡ (done ++ line ∷ []) ++ rest → IsClean (numbered s) (with_body ((done ++ line ∷ []) ++ rest)) (length (with_body ((done ++ line ∷ []) ++ rest)) + 1) → HoldsAll s (entries_on (numbered s) (done ++ line ∷ rest))
       at_end done line [] read t none more clean =
-          let unread : entry_of s line ≡ None = subst (λ l. entry_of s l ≡ None) (same_numbers_is end_line line t) (entry_of_other s 101 (110 ∷ 100 ∷ []) small (omega arith)) in
-          let same : entries_on s done ≡ entries_on s (done ++ line ∷ []) =
-          sym (filter_map-append (entry_of s) done (line ∷ []) ∙ ap (λ o. entries_on s done ++ cons_option o []) unread ∙ append-nil (entries_on s done)) in
+          let unread : entry_of (node_count s) s.env.actions line ≡ None = subst (λ l. entry_of (node_count s) s.env.actions l ≡ None) (same_numbers_is end_line line t) (entry_of_other (node_count s) s.env.actions 101 (110 ∷ 100 ∷ []) small (omega arith)) in
+          let same : entries_on (numbered s) done ≡ entries_on (numbered s) (done ++ line ∷ []) =
+          sym (filter_map-append (entry_of (node_count s) s.env.actions) done (line ∷ []) ∙ ap (λ o. entries_on (numbered s) done ++ cons_option o []) unread ∙ append-nil (entries_on (numbered s) done)) in
           subst (HoldsAll s) same (record { possible = read.possible; order = read.order; ended = none })
       at_end done line (next ∷ rest) read t none more clean =
-          let over : line_fault s (with_body (done ++ line ∷ [])) (Some next) ≡ None =
-          sym (fault_next s (with_body (done ++ line ∷ [])) rest next) ∙ clean (length (with_body (done ++ line ∷ []))) (omega (arith, length-append (done ++ line ∷ []) (next ∷ rest))) in
+          let over : line_fault (numbered s) (with_body (done ++ line ∷ [])) (Some next) ≡ None =
+          sym (fault_next (numbered s) (with_body (done ++ line ∷ [])) rest next) ∙ clean (length (with_body (done ++ line ∷ []))) (omega (arith, length-append (done ++ line ∷ []) (next ∷ rest))) in
           absurd (no_fault Form
-          (sym (cond-true (list_any (same_numbers end_line) (done ++ line ∷ [])) (unless_over (Some next)) (body_fault s (entries_on s (done ++ line ∷ [])) (Some next))
+          (sym (cond-true (list_any (same_numbers end_line) (done ++ line ∷ [])) (unless_over (Some next)) (body_fault (numbered s) (entries_on (numbered s) (done ++ line ∷ [])) (Some next))
           (any_from (same_numbers end_line) line (done ++ line ∷ []) (in_push line done) t)) ∙ over))
 
 -- a clean text
-text_read : (s : Sys) (text : List (List ℕ)) → IsSmallSys s → IsClean s text (length text + 1) → HoldsAll s (entries_on s text)
+text_read : (s : Sys) (text : List (List ℕ)) → AreFew (node_count s) s.env.actions → IsClean (numbered s) text (length text + 1) → HoldsAll s (entries_on (numbered s) text)
 text_read s [] small clean = absurd (no_fault Form (clean 0 (omega arith)))
 text_read s (head ∷ []) small clean = absurd (no_fault Form (clean 1 (omega arith)))
 text_read s (head ∷ size ∷ body) small clean =
-    let first : entry_of s head ≡ None = subst (λ l. entry_of s l ≡ None) (sym (due_is head_line head (clean 0 (omega arith)))) (entry_of_other s 114 (codes "oman-order 1") small (omega arith)) in
-    let second : entry_of s size ≡ None =
-    subst (λ l. entry_of s l ≡ None) (sym (due_is (count_line s) size (clean 1 (omega arith)))) (entry_of_other s 112 (codes "airs " ++ decimal (count (sizes_of s))) small (omega arith)) in
-    subst (HoldsAll s) (sym (ap₂ (λ o p. cons_option o (cons_option p (entries_on s body))) first second))
+    let first : entry_of (node_count s) s.env.actions head ≡ None = subst (λ l. entry_of (node_count s) s.env.actions l ≡ None) (sym (due_is head_line head (clean 0 (omega arith)))) (entry_of_other (node_count s) s.env.actions 114 (codes "oman-order 1") small (omega arith)) in
+    let second : entry_of (node_count s) s.env.actions size ≡ None =
+    subst (λ l. entry_of (node_count s) s.env.actions l ≡ None) (sym (due_is (count_line (node_count s)) size (clean 1 (omega arith)))) (entry_of_other (node_count s) s.env.actions 112 (codes "airs " ++ decimal (node_count s)) small (omega arith)) in
+    subst (HoldsAll s) (sym (ap₂ (λ o p. cons_option o (cons_option p (entries_on (numbered s) body))) first second))
     (read_all s small head size [] body (record { open_yet = refl; possible = λ x i. absurd i; order = tt }) clean)
 
 -- where no pair is missing no reason holds at an unlisted one
-nothing_missing : (s : Sys) (L : List (Entry ℕ)) → IsSys s → end_fault s L ≡ None →
+nothing_missing : (s : Sys) (L : List (Entry ℕ)) → IsSys s → end_fault (numbered s) L ≡ None →
     (p : ℕ) → p < count (sizes_of s) → IsFalse (is_listed (numbered s) L p) → (r : Reason) → IsFalse (is_justified (numbered s) (is_listed (numbered s) L) p r)
 nothing_missing s L sys ended p l unlisted r =
     by_test (is_justified (numbered s) (is_listed (numbered s) L) p r)
-    (λ holds. absurd (both_ways (could_be_listed s L p)
-    (any_false (could_be_listed s L) p (below (count (sizes_of s))) (find_none (could_be_listed s L) (below (count (sizes_of s))) (unmapped (find (could_be_listed s L) (below (count (sizes_of s)))) ended)) (in_below (count (sizes_of s)) p l))
-    (and_from (not (is_listed (numbered s) L p)) (list_any (is_justified (numbered s) (is_listed (numbered s) L) p) (reasons s))
+    (λ holds. absurd (both_ways (could_be_listed (numbered s) L p)
+    (any_false (could_be_listed (numbered s) L) p (below (count (sizes_of s))) (find_none (could_be_listed (numbered s) L) (below (count (sizes_of s))) (unmapped (find (could_be_listed (numbered s) L) (below (count (sizes_of s)))) ended)) (in_below (count (sizes_of s)) p l))
+    (and_from (not (is_listed (numbered s) L p)) (list_any (is_justified (numbered s) (is_listed (numbered s) L) p) (reasons s.env.actions))
     (not_from_false (is_listed (numbered s) L p) unlisted)
-    (any_from (is_justified (numbered s) (is_listed (numbered s) L) p) r (reasons s) (justified_reason s (is_listed (numbered s) L) p r sys holds) holds))))
+    (any_from (is_justified (numbered s) (is_listed (numbered s) L) p) r (reasons s.env.actions) (justified_reason s (is_listed (numbered s) L) p r sys holds) holds))))
     (λ f. f)
   where
     unmapped : (o : Option ℕ) → option_map Unlisted o ≡ None → o ≡ None
@@ -398,36 +418,36 @@ nothing_missing s L sys ended p l unlisted r =
     unmapped (Some q) e = absurd (no_fault (Unlisted q) e)
 
 -- the entries of a clean text are a complete list
-pub clean_complete : (s : Sys) (text : List (List ℕ)) → IsSys s → IsSmallSys s → IsClean s text (length text + 1) → AreNumbers s (entries_on s text) × IsCompleteList s (entries_on s text)
+pub clean_complete : (s : Sys) (text : List (List ℕ)) → IsSys s → AreFew (node_count s) s.env.actions → IsClean (numbered s) text (length text + 1) → AreNumbers s (entries_on (numbered s) text) × IsCompleteList s (entries_on (numbered s) text)
 clean_complete s text sys small clean =
-    let all : HoldsAll s (entries_on s text) = text_read s text small clean in
-    let are : AreNumbers s (entries_on s text) = λ x i. (from_possible s x (all.possible x i)).0 in
-    (are, numbered_completed_by s (entries_on s text) sys are all.order (nothing_missing s (entries_on s text) sys all.ended))
+    let all : HoldsAll s (entries_on (numbered s) text) = text_read s text small clean in
+    let are : AreNumbers s (entries_on (numbered s) text) = λ x i. (possible_number s x (all.possible x i)).0 in
+    (are, numbered_completed_by s (entries_on (numbered s) text) sys are all.order (nothing_missing s (entries_on (numbered s) text) sys all.ended))
 
 -- a text that is accepted is short and clean
-accepted_clean : (s : Sys) (start : ℕ) (bytes : List ℕ) (related : ℕ) (starts : Bool) → cert_verdict s start bytes ≡ Greatest related starts →
-    IsClean s (lines bytes) (length (lines bytes) + 1) × (Greatest related starts ≡ unlisted s start (entries_on s (lines bytes)))
+accepted_clean : (s : Sys) (start : ℕ) (bytes : List ℕ) (related : ℕ) (starts : Bool) → cert_verdict (numbered s) start bytes ≡ Greatest related starts →
+    IsClean (numbered s) (lines bytes) (length (lines bytes) + 1) × (Greatest related starts ≡ unlisted (numbered s) start (entries_on (numbered s) (lines bytes)))
 accepted_clean s start bytes related starts e = elim (cases_lt MAX_CERTIFICATE_BYTES (length bytes)) [
-  | inl long ↦ absurd (elim (faults_cases s (ended_lines (take MAX_CERTIFICATE_BYTES bytes)) (length (ended_lines (take MAX_CERTIFICATE_BYTES bytes)))) [
+  | inl long ↦ absurd (elim (faults_cases (numbered s) (ended_lines (take MAX_CERTIFICATE_BYTES bytes)) (length (ended_lines (take MAX_CERTIFICATE_BYTES bytes)))) [
     | inl clean ↦
-        let same : TooLong ≡ Greatest related starts = sym (ap (λ vs. slice_index_or vs 0 TooLong) (faults_none s ended (length ended) clean)) ∙ sym (judged_long s start bytes long) ∙ e in
+        let same : TooLong ≡ Greatest related starts = sym (ap (λ vs. slice_index_or vs 0 TooLong) (faults_none (numbered s) ended (length ended) clean)) ∙ sym (judged_long (numbered s) start bytes long) ∙ e in
         (let h : ⊥ = cc in h)
     | inr found ↦
         let (i, why, l, clean, fault) = found in
-        let (rest, is) = faults_first s ended (length ended) i why clean fault l in
-        let same : Rejected (i + 1) why ≡ Greatest related starts = sym (ap (λ vs. slice_index_or vs 0 TooLong) is) ∙ sym (judged_long s start bytes long) ∙ e in
+        let (rest, is) = faults_first (numbered s) ended (length ended) i why clean fault l in
+        let same : Rejected (i + 1) why ≡ Greatest related starts = sym (ap (λ vs. slice_index_or vs 0 TooLong) is) ∙ sym (judged_long (numbered s) start bytes long) ∙ e in
         (let h : ⊥ = cc in h)
   ])
-  | inr short ↦ elim (faults_cases s (lines bytes) (length (lines bytes) + 1)) [
+  | inr short ↦ elim (faults_cases (numbered s) (lines bytes) (length (lines bytes) + 1)) [
     | inl clean ↦ (
       clean,
-      sym e ∙ judged_short s start bytes short ∙ ap (λ vs. slice_index_or vs 0 (unlisted s start (entries_on s (lines bytes)))) (faults_none s (lines bytes) (length (lines bytes) + 1) clean),
+      sym e ∙ judged_short (numbered s) start bytes short ∙ ap (λ vs. slice_index_or vs 0 (unlisted (numbered s) start (entries_on (numbered s) (lines bytes)))) (faults_none (numbered s) (lines bytes) (length (lines bytes) + 1) clean),
     )
     | inr found ↦
         let (i, why, l, clean, fault) = found in
-        let (rest, is) = faults_first s (lines bytes) (length (lines bytes) + 1) i why clean fault l in
+        let (rest, is) = faults_first (numbered s) (lines bytes) (length (lines bytes) + 1) i why clean fault l in
         let same : Rejected (i + 1) why ≡ Greatest related starts =
-        sym (ap (λ vs. slice_index_or vs 0 (unlisted s start (entries_on s (lines bytes)))) is) ∙ sym (judged_short s start bytes short) ∙ e in
+        sym (ap (λ vs. slice_index_or vs 0 (unlisted (numbered s) start (entries_on (numbered s) (lines bytes)))) is) ∙ sym (judged_short (numbered s) start bytes short) ∙ e in
         absurd (let h : ⊥ = cc in h)
   ]
 ]
@@ -440,4 +460,4 @@ greatest_is_complete s start bytes related starts sys cells l e =
     let (few, small) = cells_small s sys cells in
     let (clean, said) = accepted_clean s start bytes related starts e in
     let (are, complete) = clean_complete s (lines bytes) sys small clean in
-    record { numbers = are; complete = complete; said = said ∙ unlisted_is_greatest s start (entries_on s (lines bytes)) sys l are complete }
+    record { numbers = are; complete = complete; said = said ∙ unlisted_is_greatest s start (entries_on (numbered s) (lines bytes)) sys l are complete }

@@ -7,15 +7,14 @@ use Rattle.std.proofs.lemmas.List.Folds.{list_any-append}
 use Rattle.std.proofs.lemmas.List.Elements.{filter_map-append}
 use Rattle.std.proofs.lemmas.Fmt.{decimal_by_steps, decimal_injective, decimal_nonempty}
 use Rattle.roman_model.specs.Lists.{IsIn, below}
-use Rattle.roman_model.specs.System.{Sys, has, same_numbers}
-use Rattle.roman_model.specs.Arena.{Entry}
-use Rattle.roman_model.specs.Numbers.{sizes_of, count}
-use Rattle.roman_model.specs.Certificate.{head_line, count_line, reason_text, entry_line, end_line, Why, Verdict, Rejected, reasons, possible_entries, entry_of, entries_on, line_fault, faults}
+use Rattle.roman_model.specs.Lines.{IsLine}
+use Rattle.roman_model.specs.System.{has, same_numbers}
+use Rattle.roman_model.specs.Arena.{Arena, Entry}
+use Rattle.roman_model.specs.Certificate.{head_line, count_line, reason_text, entry_line, end_line, Why, Verdict, Rejected, reasons, possible_entries, entry_of, entries_on, line_fault, IsClean, faults}
 use Rattle.roman_model.specs.declared.reason.Reason.{Reason}
 use Rattle.roman_model.specs.declared.reason.Reason.TheVariants.{Final, Act}
 use Rattle.roman_model.proofs.Lists.{by_test, none_from, in_map, from_map, in_flat_map, from_flat_map, from_push, in_below, from_below, find_some, find_found, find_not_found, any_from}
 use Rattle.roman_model.proofs.SystemLemmas.{same_numbers_is, same_numbers_itself}
-use Rattle.roman_model.proofs.LineLemmas.{IsLine}
 
 -- Decimal numbers
 
@@ -54,8 +53,8 @@ head_is_line = refl
 pub end_is_line : IsLine end_line
 end_is_line = refl
 
-pub count_is_line : (s : Sys) → count (sizes_of s) < 2 ^ 64 → IsLine (count_line s)
-count_is_line s h = append_line (codes "pairs ") (decimal (count (sizes_of s))) refl (decimal_without (count (sizes_of s)) 10 h (inl (omega arith)))
+pub count_is_line : (pairs : ℕ) → pairs < 2 ^ 64 → IsLine (count_line pairs)
+count_is_line pairs h = append_line (codes "pairs ") (decimal pairs) refl (decimal_without pairs 10 h (inl (omega arith)))
 
 -- the reason's number is small enough for its decimal text
 abbrev pub IsSmallReason : Reason → Type 0
@@ -76,7 +75,7 @@ entry_is_line x h =
     (or_from (32 == 10) (has (reason_text x.reason) 10) refl (reason_without x.reason 10 h.1 (inl (omega arith))))
 
 -- two texts that are one at their first byte c are one before and behind it
-cut_at : (c : ℕ) (xs ys ts us : List ℕ) → IsFalse (has xs c) → IsFalse (has ys c) → xs ++ c ∷ ts ≡ ys ++ c ∷ us → (xs ≡ ys) × (ts ≡ us)
+pub cut_at : (c : ℕ) (xs ys ts us : List ℕ) → IsFalse (has xs c) → IsFalse (has ys c) → xs ++ c ∷ ts ≡ ys ++ c ∷ us → (xs ≡ ys) × (ts ≡ us)
 cut_at c [] [] ts us h g e = (refl, cc)
 cut_at c [] (y ∷ ys) ts us h g e = let same : c ≡ y = cc in absurd (both_ways (y == c) (or_parts (y == c) (has ys c) g).0 (eq-eqb y c (sym same)))
 cut_at c (x ∷ xs) [] ts us h g e = let same : x ≡ c = cc in absurd (both_ways (x == c) (or_parts (x == c) (has xs c) h).0 (eq-eqb x c same))
@@ -124,111 +123,107 @@ entry_is_no_end x h = by_test (same_numbers end_line (entry_line x))
 
 -- Entries that may stand in a certificate
 
-pub final_reason : (s : Sys) → IsIn Final (reasons s)
-final_reason s = inl refl
+pub final_reason : (actions : ℕ) → IsIn Final (reasons actions)
+final_reason actions = inl refl
 
-pub act_reason : (s : Sys) (a : ℕ) → a < s.env.actions → IsIn (Act a) (reasons s)
-act_reason s a l = inr (in_map Act a (below s.env.actions) (in_below s.env.actions a l))
+pub act_reason : (actions a : ℕ) → a < actions → IsIn (Act a) (reasons actions)
+act_reason actions a l = inr (in_map Act a (below actions) (in_below actions a l))
 
-pub reason_small : (s : Sys) (r : Reason) → s.env.actions ≤ 2 ^ 64 → IsIn r (reasons s) → IsSmallReason r
-reason_small s r h (inl e) = subst IsSmallReason (sym e) tt
-reason_small s r h (inr i) =
-    let (a, j, e) = from_map Act r (below s.env.actions) i in
-    let l : a < s.env.actions = from_below s.env.actions a j in
+pub reason_small : (actions : ℕ) (r : Reason) → actions ≤ 2 ^ 64 → IsIn r (reasons actions) → IsSmallReason r
+reason_small actions r h (inl e) = subst IsSmallReason (sym e) tt
+reason_small actions r h (inr i) =
+    let (a, j, e) = from_map Act r (below actions) i in
+    let l : a < actions = from_below actions a j in
     subst IsSmallReason (sym e) (small a l)
   where
-    small : (a : ℕ) → a < s.env.actions → a < 2 ^ 64
+    small : (a : ℕ) → a < actions → a < 2 ^ 64
     small a l = omega arith
 
-pub in_possible : (s : Sys) (x : Entry ℕ) → x.node < count (sizes_of s) → IsIn x.reason (reasons s) → IsIn x (possible_entries s)
-in_possible s x l i =
-    in_flat_map (λ p. map (λ r. record { node = p; reason = r }) (reasons s)) x.node x (below (count (sizes_of s)))
-    (in_below (count (sizes_of s)) x.node l) (in_map (λ r. record { node = x.node; reason = r }) x.reason (reasons s) i)
+pub in_possible : (pairs actions : ℕ) (x : Entry ℕ) → x.node < pairs → IsIn x.reason (reasons actions) → IsIn x (possible_entries pairs actions)
+in_possible pairs actions x l i =
+    in_flat_map (λ p. map (λ r. record { node = p; reason = r }) (reasons actions)) x.node x (below pairs)
+    (in_below pairs x.node l) (in_map (λ r. record { node = x.node; reason = r }) x.reason (reasons actions) i)
 
-pub from_possible : (s : Sys) (x : Entry ℕ) → IsIn x (possible_entries s) → (x.node < count (sizes_of s)) × IsIn x.reason (reasons s)
-from_possible s x i =
-    let (p, j, k) = from_flat_map (λ p. map (λ r. record { node = p; reason = r }) (reasons s)) x (below (count (sizes_of s))) i in
-    let (r, l, e) = from_map (λ r. record { node = p; reason = r }) x (reasons s) k in
-    (subst (λ (y : Entry ℕ). y.node < count (sizes_of s)) (sym e) (from_below (count (sizes_of s)) p j), subst (λ (y : Entry ℕ). IsIn y.reason (reasons s)) (sym e) l)
+pub from_possible : (pairs actions : ℕ) (x : Entry ℕ) → IsIn x (possible_entries pairs actions) → (x.node < pairs) × IsIn x.reason (reasons actions)
+from_possible pairs actions x i =
+    let (p, j, k) = from_flat_map (λ p. map (λ r. record { node = p; reason = r }) (reasons actions)) x (below pairs) i in
+    let (r, l, e) = from_map (λ r. record { node = p; reason = r }) x (reasons actions) k in
+    (subst (λ (y : Entry ℕ). y.node < pairs) (sym e) (from_below pairs p j), subst (λ (y : Entry ℕ). IsIn y.reason (reasons actions)) (sym e) l)
 
--- the numbers of a system are small
-pub record IsSmallSys (s : Sys) : Type 0 where
-  pub pairs : count (sizes_of s) ≤ 2 ^ 64
-  pub actions : s.env.actions ≤ 2 ^ 64
+-- there are few enough of both for decimal texts of their numbers
+pub record AreFew (pairs actions : ℕ) : Type 0 where
+  pub pairs_fit : pairs ≤ 2 ^ 64
+  pub actions_fit : actions ≤ 2 ^ 64
 
-pub possible_small : (s : Sys) (x : Entry ℕ) → IsSmallSys s → IsIn x (possible_entries s) → IsSmall x
-possible_small s x small i =
-    let (l, j) = from_possible s x i in
-    let pairs : count (sizes_of s) ≤ 2 ^ 64 = small.pairs in
-    let below_it : x.node < count (sizes_of s) = l in
-    (omega arith, reason_small s x.reason small.actions j)
+pub possible_small : (pairs actions : ℕ) (x : Entry ℕ) → AreFew pairs actions → IsIn x (possible_entries pairs actions) → IsSmall x
+possible_small pairs actions x small i =
+    let (l, j) = from_possible pairs actions x i in
+    let few : pairs ≤ 2 ^ 64 = small.pairs_fit in
+    let below_it : x.node < pairs = l in
+    (omega arith, reason_small actions x.reason small.actions_fit j)
 
 -- the line of an entry is read as that entry
-pub entry_of-line : (s : Sys) (x : Entry ℕ) → IsSmallSys s → IsIn x (possible_entries s) → entry_of s (entry_line x) ≡ Some x
-entry_of-line s x small i =
-    let (y, found) = find_found (λ y. same_numbers (entry_line y) (entry_line x)) (possible_entries s) (any_from (λ y. same_numbers (entry_line y) (entry_line x)) x (possible_entries s) i (same_numbers_itself (entry_line x))) in
-    let (j, same) = find_some (λ y. same_numbers (entry_line y) (entry_line x)) (possible_entries s) y found in
-    found ∙ ap Some (entry_from_text y x (possible_small s y small j) (possible_small s x small i) (same_numbers_is (entry_line y) (entry_line x) same))
+pub entry_of-line : (pairs actions : ℕ) (x : Entry ℕ) → AreFew pairs actions → IsIn x (possible_entries pairs actions) → entry_of pairs actions (entry_line x) ≡ Some x
+entry_of-line pairs actions x small i =
+    let (y, found) = find_found (λ y. same_numbers (entry_line y) (entry_line x)) (possible_entries pairs actions) (any_from (λ y. same_numbers (entry_line y) (entry_line x)) x (possible_entries pairs actions) i (same_numbers_itself (entry_line x))) in
+    let (j, same) = find_some (λ y. same_numbers (entry_line y) (entry_line x)) (possible_entries pairs actions) y found in
+    found ∙ ap Some (entry_from_text y x (possible_small pairs actions y small j) (possible_small pairs actions x small i) (same_numbers_is (entry_line y) (entry_line x) same))
 
 -- a line that is read as an entry is that entry's
-pub entry_of-is : (s : Sys) (line : List ℕ) (x : Entry ℕ) → entry_of s line ≡ Some x → IsIn x (possible_entries s) × (entry_line x ≡ line)
-entry_of-is s line x e =
-    let (i, same) = find_some (λ y. same_numbers (entry_line y) line) (possible_entries s) x e in
+pub entry_of-is : (pairs actions : ℕ) (line : List ℕ) (x : Entry ℕ) → entry_of pairs actions line ≡ Some x → IsIn x (possible_entries pairs actions) × (entry_line x ≡ line)
+entry_of-is pairs actions line x e =
+    let (i, same) = find_some (λ y. same_numbers (entry_line y) line) (possible_entries pairs actions) x e in
     (i, same_numbers_is (entry_line x) line same)
 
 -- a line that is no entry's is read as none
-pub entry_of_none : (s : Sys) (line : List ℕ) → ((x : Entry ℕ) → IsIn x (possible_entries s) → entry_line x ≡ line → ⊥) → entry_of s line ≡ None
-entry_of_none s line none =
-    find_not_found (λ x. same_numbers (entry_line x) line) (possible_entries s)
-    (none_from (λ x. same_numbers (entry_line x) line) (possible_entries s)
+pub entry_of_none : (pairs actions : ℕ) (line : List ℕ) → ((x : Entry ℕ) → IsIn x (possible_entries pairs actions) → entry_line x ≡ line → ⊥) → entry_of pairs actions line ≡ None
+entry_of_none pairs actions line none =
+    find_not_found (λ x. same_numbers (entry_line x) line) (possible_entries pairs actions)
+    (none_from (λ x. same_numbers (entry_line x) line) (possible_entries pairs actions)
     (λ x i. by_test (same_numbers (entry_line x) line) (λ t. absurd (none x i (same_numbers_is (entry_line x) line t))) (λ f. f)))
 
 -- nor is one that starts with no digit
-pub entry_of_other : (s : Sys) (b : ℕ) (bs : List ℕ) → IsSmallSys s → 57 < b → entry_of s (b ∷ bs) ≡ None
-entry_of_other s b bs small h = entry_of_none s (b ∷ bs) (λ x i e. let l : b ≤ 57 = entry_starts x (possible_small s x small i) b bs e in omega arith)
+pub entry_of_other : (pairs actions : ℕ) (b : ℕ) (bs : List ℕ) → AreFew pairs actions → 57 < b → entry_of pairs actions (b ∷ bs) ≡ None
+entry_of_other pairs actions b bs small h = entry_of_none pairs actions (b ∷ bs) (λ x i e. let l : b ≤ 57 = entry_starts x (possible_small pairs actions x small i) b bs e in omega arith)
 
 -- the lines of entries are read as these entries
-pub entries_on-lines : (s : Sys) (L : List (Entry ℕ)) → IsSmallSys s → ((x : Entry ℕ) → IsIn x L → IsIn x (possible_entries s)) → entries_on s (map entry_line L) ≡ L
-entries_on-lines s [] small are = refl
-entries_on-lines s (x ∷ L) small are =
-    ap (λ o. cons_option o (entries_on s (map entry_line L))) (entry_of-line s x small (are x (inl refl)))
-    ∙ ap (λ M. x ∷ M) (entries_on-lines s L small (λ y i. are y (inr i)))
+pub entries_on-lines : (A : Arena ℕ) (L : List (Entry ℕ)) → AreFew (length A.nodes) A.actions → ((x : Entry ℕ) → IsIn x L → IsIn x (possible_entries (length A.nodes) A.actions)) → entries_on A (map entry_line L) ≡ L
+entries_on-lines A [] small are = refl
+entries_on-lines A (x ∷ L) small are =
+    ap (λ o. cons_option o (entries_on A (map entry_line L))) (entry_of-line (length A.nodes) A.actions x small (are x (inl refl)))
+    ∙ ap (λ M. x ∷ M) (entries_on-lines A L small (λ y i. are y (inr i)))
 
 -- Faults
 
--- none of the first n lines is at fault
-abbrev pub IsClean : Sys → List (List ℕ) → ℕ → Type 0
-IsClean s text n = (i : ℕ) → i < n → line_fault s (take i text) (slice_get text i) ≡ None
-
 -- what may be wrong at line i, counted from 0
-abbrev pub fault_at : Sys → List (List ℕ) → ℕ → Option Verdict
-fault_at s text i = option_map (Rejected (i + 1)) (line_fault s (take i text) (slice_get text i))
+abbrev pub fault_at : Arena ℕ → List (List ℕ) → ℕ → Option Verdict
+fault_at A text i = option_map (Rejected (i + 1)) (line_fault A (take i text) (slice_get text i))
 
-pub faults_more : (s : Sys) (text : List (List ℕ)) (n : ℕ) → faults s text (suc n) ≡ faults s text n ++ cons_option (fault_at s text n) []
-faults_more s text n = filter_map-append (fault_at s text) (below n) (n ∷ [])
+pub faults_more : (A : Arena ℕ) (text : List (List ℕ)) (n : ℕ) → faults A text (suc n) ≡ faults A text n ++ cons_option (fault_at A text n) []
+faults_more A text n = filter_map-append (fault_at A text) (below n) (n ∷ [])
 
-pub faults_none : (s : Sys) (text : List (List ℕ)) (n : ℕ) → IsClean s text n → faults s text n ≡ []
-faults_none s text zero clean = refl
-faults_none s text (suc n) clean =
-    faults_more s text n
-    ∙ ap₂ (λ vs o. vs ++ cons_option (option_map (Rejected (n + 1)) o) []) (faults_none s text n (λ i l. clean i (omega arith))) (clean n (omega arith))
+pub faults_none : (A : Arena ℕ) (text : List (List ℕ)) (n : ℕ) → IsClean A text n → faults A text n ≡ []
+faults_none A text zero clean = refl
+faults_none A text (suc n) clean =
+    faults_more A text n
+    ∙ ap₂ (λ vs o. vs ++ cons_option (option_map (Rejected (n + 1)) o) []) (faults_none A text n (λ i l. clean i (omega arith))) (clean n (omega arith))
 
-pub faults_first : (s : Sys) (text : List (List ℕ)) (n i : ℕ) (why : Why) → IsClean s text i → line_fault s (take i text) (slice_get text i) ≡ Some why → i < n →
-    (rest : List Verdict) × (faults s text n ≡ Rejected (i + 1) why ∷ rest)
-faults_first s text zero i why clean fault l = absurd (omega arith)
-faults_first s text (suc n) i why clean fault l = elim (cases_lt i n) [
+pub faults_first : (A : Arena ℕ) (text : List (List ℕ)) (n i : ℕ) (why : Why) → IsClean A text i → line_fault A (take i text) (slice_get text i) ≡ Some why → i < n →
+    (rest : List Verdict) × (faults A text n ≡ Rejected (i + 1) why ∷ rest)
+faults_first A text zero i why clean fault l = absurd (omega arith)
+faults_first A text (suc n) i why clean fault l = elim (cases_lt i n) [
   | inl less ↦
-      let (rest, e) = faults_first s text n i why clean fault less in
-      (rest ++ cons_option (fault_at s text n) [], faults_more s text n ∙ ap (λ vs. vs ++ cons_option (fault_at s text n) []) e)
+      let (rest, e) = faults_first A text n i why clean fault less in
+      (rest ++ cons_option (fault_at A text n) [], faults_more A text n ∙ ap (λ vs. vs ++ cons_option (fault_at A text n) []) e)
   | inr more ↦ last (omega arith)
 ]
   where
-    last : i ≡ n → (rest : List Verdict) × (faults s text (suc n) ≡ Rejected (i + 1) why ∷ rest)
+    last : i ≡ n → (rest : List Verdict) × (faults A text (suc n) ≡ Rejected (i + 1) why ∷ rest)
     last e = (
       [],
-      faults_more s text n
-          ∙ ap (λ vs. vs ++ cons_option (fault_at s text n) []) (faults_none s text n (λ j m. clean j (omega arith)))
-          ∙ ap (λ k. cons_option (fault_at s text k) []) (sym e)
+      faults_more A text n
+          ∙ ap (λ vs. vs ++ cons_option (fault_at A text n) []) (faults_none A text n (λ j m. clean j (omega arith)))
+          ∙ ap (λ k. cons_option (fault_at A text k) []) (sym e)
           ∙ ap (λ o. cons_option (option_map (Rejected (i + 1)) o) []) fault,
     )
 
@@ -249,39 +244,39 @@ get_past : {X : Type 0} (xs : List X) → slice_get xs (length xs) ≡ None
 get_past [] = refl
 get_past (x ∷ xs) = get_past xs
 
-pub clean_front : (s : Sys) (text more : List (List ℕ)) → IsClean s text (length text) → IsClean s (text ++ more) (length text)
-clean_front s text more clean i l = ap₂ (line_fault s) (take_front text more i l) (get_front text more i l) ∙ clean i l
+pub clean_front : (A : Arena ℕ) (text more : List (List ℕ)) → IsClean A text (length text) → IsClean A (text ++ more) (length text)
+clean_front A text more clean i l = ap₂ (line_fault A) (take_front text more i l) (get_front text more i l) ∙ clean i l
 
 -- one more line without a fault
-pub clean_push : (s : Sys) (text : List (List ℕ)) (line : List ℕ) → IsClean s text (length text) → line_fault s text (Some line) ≡ None → IsClean s (text ++ line ∷ []) (length (text ++ line ∷ []))
-clean_push s text line clean none i l = elim (cases_lt i (length text)) [
-  | inl less ↦ clean_front s text (line ∷ []) clean i less
+pub clean_push : (A : Arena ℕ) (text : List (List ℕ)) (line : List ℕ) → IsClean A text (length text) → line_fault A text (Some line) ≡ None → IsClean A (text ++ line ∷ []) (length (text ++ line ∷ []))
+clean_push A text line clean none i l = elim (cases_lt i (length text)) [
+  | inl less ↦ clean_front A text (line ∷ []) clean i less
   | inr more ↦
       let here : i ≡ length text = omega (arith, length-append text (line ∷ [])) in
-      ap (λ k. line_fault s (take k (text ++ line ∷ [])) (slice_get (text ++ line ∷ []) k)) here
-      ∙ ap₂ (line_fault s) (take_at text (line ∷ []) (length text) refl) (get_after text line []) ∙ none
+      ap (λ k. line_fault A (take k (text ++ line ∷ [])) (slice_get (text ++ line ∷ []) k)) here
+      ∙ ap₂ (line_fault A) (take_at text (line ∷ []) (length text) refl) (get_after text line []) ∙ none
 ]
 
 -- the fault of the line that follows, or of there being none
-pub fault_next : (s : Sys) (text more : List (List ℕ)) (line : List ℕ) → line_fault s (take (length text) (text ++ line ∷ more)) (slice_get (text ++ line ∷ more) (length text)) ≡ line_fault s text (Some line)
-fault_next s text more line = ap₂ (line_fault s) (take_at text (line ∷ more) (length text) refl) (get_after text line more)
+pub fault_next : (A : Arena ℕ) (text more : List (List ℕ)) (line : List ℕ) → line_fault A (take (length text) (text ++ line ∷ more)) (slice_get (text ++ line ∷ more) (length text)) ≡ line_fault A text (Some line)
+fault_next A text more line = ap₂ (line_fault A) (take_at text (line ∷ more) (length text) refl) (get_after text line more)
 
-pub fault_over : (s : Sys) (text : List (List ℕ)) → line_fault s (take (length text) text) (slice_get text (length text)) ≡ line_fault s text None
-fault_over s text = ap₂ (line_fault s) (take_all (length text) text (omega arith)) (get_past text)
+pub fault_over : (A : Arena ℕ) (text : List (List ℕ)) → line_fault A (take (length text) text) (slice_get text (length text)) ≡ line_fault A text None
+fault_over A text = ap₂ (line_fault A) (take_all (length text) text (omega arith)) (get_past text)
 
 -- either none of the first n lines is at fault, or there is a first one that is
-pub faults_cases : (s : Sys) (text : List (List ℕ)) (n : ℕ) →
-    IsClean s text n ⊎ ((i : ℕ) × (why : Why) × (i < n) × IsClean s text i × (line_fault s (take i text) (slice_get text i) ≡ Some why))
-faults_cases s text zero = inl (λ i l. absurd (omega arith))
-faults_cases s text (suc n) = elim (faults_cases s text n) [
-  | inl clean ↦ by_fault clean (line_fault s (take n text) (slice_get text n)) refl
+pub faults_cases : (A : Arena ℕ) (text : List (List ℕ)) (n : ℕ) →
+    IsClean A text n ⊎ ((i : ℕ) × (why : Why) × (i < n) × IsClean A text i × (line_fault A (take i text) (slice_get text i) ≡ Some why))
+faults_cases A text zero = inl (λ i l. absurd (omega arith))
+faults_cases A text (suc n) = elim (faults_cases A text n) [
+  | inl clean ↦ by_fault clean (line_fault A (take n text) (slice_get text n)) refl
   | inr found ↦ let (i, why, l, clean, fault) = found in inr (i, why, omega arith, clean, fault)
 ]
   where
-    by_fault : IsClean s text n → (o : Option Why) → line_fault s (take n text) (slice_get text n) ≡ o →
-        IsClean s text (suc n) ⊎ ((i : ℕ) × (why : Why) × (i < suc n) × IsClean s text i × (line_fault s (take i text) (slice_get text i) ≡ Some why))
+    by_fault : IsClean A text n → (o : Option Why) → line_fault A (take n text) (slice_get text n) ≡ o →
+        IsClean A text (suc n) ⊎ ((i : ℕ) × (why : Why) × (i < suc n) × IsClean A text i × (line_fault A (take i text) (slice_get text i) ≡ Some why))
     by_fault clean None e = inl (λ i l. elim (cases_lt i n) [
       | inl less ↦ clean i less
-      | inr more ↦ (let here : i ≡ n = omega arith in ap (λ k. line_fault s (take k text) (slice_get text k)) here ∙ e)
+      | inr more ↦ (let here : i ≡ n = omega arith in ap (λ k. line_fault A (take k text) (slice_get text k)) here ∙ e)
     ])
     by_fault clean (Some why) e = inr (n, why, omega arith, clean, e)

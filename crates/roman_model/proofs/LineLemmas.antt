@@ -2,16 +2,8 @@
 use Rattle.std.proofs.Common.{◌≡◌, ◌≢◌, ℕ, ◌==◌, false, List, [], ◌∷◌, ◌++◌, IsFalse, refl, sym, ap, ◌∙◌, inl, inr, append_assoc, append-nil}
 use Rattle.std.proofs.lemmas.Bool.{or_parts, cond-false}
 use Rattle.roman_model.specs.Lists.{IsIn}
-use Rattle.roman_model.specs.Lines.{onto_first_line, lines, onto_ended_line, ended_lines, text_of}
+use Rattle.roman_model.specs.Lines.{onto_first_line, lines, onto_ended_line, ended_lines, text_of, IsLine, AreLines}
 use Rattle.roman_model.specs.System.{has}
-
--- the line has no newline in it
-abbrev pub IsLine : List ℕ → Type 0
-IsLine line = IsFalse (has line 10)
-
--- so have all of them
-abbrev pub AreLines : List (List ℕ) → Type 0
-AreLines ls = (line : List ℕ) → IsIn line ls → IsLine line
 
 pub lines-line : (line rest : List ℕ) → IsLine line → lines (line ++ 10 ∷ rest) ≡ line ∷ lines rest
 lines-line [] rest h = refl

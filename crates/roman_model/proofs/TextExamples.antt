@@ -3,6 +3,7 @@ use Rattle.std.proofs.Common.{◌≡◌, ℕ, false, List, [], ◌∷◌, length
 use Rattle.std.specs.Fmt.{digits}
 use Rattle.roman_model.specs.System.{Pair}
 use Rattle.roman_model.specs.Arena.{Entry}
+use Rattle.roman_model.specs.Numbers.{numbered}
 use Rattle.roman_model.specs.Certificate.{Form, Repeated, Unjustified, Unlisted, Greatest, Rejected, cert_text, cert_verdict}
 use Rattle.roman_model.specs.Explanation.{Names, explain_text}
 use Rattle.roman_model.proofs.Examples.{flaky_system, pair_of}
@@ -13,56 +14,56 @@ order =
     record { node = 1; reason = Final } ∷ record { node = 2; reason = Act 0 } ∷ record { node = 3; reason = Act 1 } ∷ record { node = 5; reason = Act 1 }
     ∷ record { node = 0; reason = Act 0 } ∷ record { node = 4; reason = Act 1 } ∷ []
 
-written : cert_text flaky_system order ≡ codes "roman-order 1\npairs 6\n1 f\n2 0\n3 1\n5 1\n0 0\n4 1\nend\n"
+written : cert_text 6 order ≡ codes "roman-order 1\npairs 6\n1 f\n2 0\n3 1\n5 1\n0 0\n4 1\nend\n"
 unfolding digits
 written = refl
 
 fifty_bytes : length (codes "roman-order 1\npairs 6\n1 f\n2 0\n3 1\n5 1\n0 0\n4 1\nend\n") ≡ 50
 fifty_bytes = refl
 
-accepted : cert_verdict flaky_system 0 (codes "roman-order 1\npairs 6\n1 f\n2 0\n3 1\n5 1\n0 0\n4 1\nend\n") ≡ Greatest 0 false
+accepted : cert_verdict (numbered flaky_system) 0 (codes "roman-order 1\npairs 6\n1 f\n2 0\n3 1\n5 1\n0 0\n4 1\nend\n") ≡ Greatest 0 false
 unfolding digits
 accepted = refl
 
-exchanged : cert_verdict flaky_system 0 (codes "roman-order 1\npairs 6\n1 f\n2 0\n3 1\n0 0\n5 1\n4 1\nend\n") ≡ Rejected 6 Unjustified
+exchanged : cert_verdict (numbered flaky_system) 0 (codes "roman-order 1\npairs 6\n1 f\n2 0\n3 1\n0 0\n5 1\n4 1\nend\n") ≡ Rejected 6 Unjustified
 unfolding digits
 exchanged = refl
 
-without_an_entry : cert_verdict flaky_system 0 (codes "roman-order 1\npairs 6\n1 f\n2 0\n3 1\n5 1\n0 0\nend\n") ≡ Rejected 8 (Unlisted 4)
+without_an_entry : cert_verdict (numbered flaky_system) 0 (codes "roman-order 1\npairs 6\n1 f\n2 0\n3 1\n5 1\n0 0\nend\n") ≡ Rejected 8 (Unlisted 4)
 unfolding digits
 without_an_entry = refl
 
-without_end : cert_verdict flaky_system 0 (codes "roman-order 1\npairs 6\n1 f\n2 0\n3 1\n5 1\n0 0\n4 1\n") ≡ Rejected 9 Form
+without_end : cert_verdict (numbered flaky_system) 0 (codes "roman-order 1\npairs 6\n1 f\n2 0\n3 1\n5 1\n0 0\n4 1\n") ≡ Rejected 9 Form
 unfolding digits
 without_end = refl
 
-an_entry_twice : cert_verdict flaky_system 0 (codes "roman-order 1\npairs 6\n1 f\n1 f\n2 0\n3 1\n5 1\n0 0\n4 1\nend\n") ≡ Rejected 4 Repeated
+an_entry_twice : cert_verdict (numbered flaky_system) 0 (codes "roman-order 1\npairs 6\n1 f\n1 f\n2 0\n3 1\n5 1\n0 0\n4 1\nend\n") ≡ Rejected 4 Repeated
 unfolding digits
 an_entry_twice = refl
 
-empty : cert_verdict flaky_system 0 [] ≡ Rejected 1 Form
+empty : cert_verdict (numbered flaky_system) 0 [] ≡ Rejected 1 Form
 unfolding digits
 empty = refl
 
 -- the last newline may be missing, and nothing may follow it
-unended : cert_verdict flaky_system 0 (codes "roman-order 1\npairs 6\n1 f\n2 0\n3 1\n5 1\n0 0\n4 1\nend") ≡ Greatest 0 false
+unended : cert_verdict (numbered flaky_system) 0 (codes "roman-order 1\npairs 6\n1 f\n2 0\n3 1\n5 1\n0 0\n4 1\nend") ≡ Greatest 0 false
 unfolding digits
 unended = refl
 
-followed : cert_verdict flaky_system 0 (codes "roman-order 1\npairs 6\n1 f\n2 0\n3 1\n5 1\n0 0\n4 1\nend\n\n") ≡ Rejected 10 Form
+followed : cert_verdict (numbered flaky_system) 0 (codes "roman-order 1\npairs 6\n1 f\n2 0\n3 1\n5 1\n0 0\n4 1\nend\n\n") ≡ Rejected 10 Form
 unfolding digits
 followed = refl
 
 -- a leading zero, a number out of range, an action that isn't allowed
-leading_zero : cert_verdict flaky_system 0 (codes "roman-order 1\npairs 6\n01 f\n") ≡ Rejected 3 Form
+leading_zero : cert_verdict (numbered flaky_system) 0 (codes "roman-order 1\npairs 6\n01 f\n") ≡ Rejected 3 Form
 unfolding digits
 leading_zero = refl
 
-out_of_range : cert_verdict flaky_system 0 (codes "roman-order 1\npairs 6\n6 f\n") ≡ Rejected 3 Form
+out_of_range : cert_verdict (numbered flaky_system) 0 (codes "roman-order 1\npairs 6\n6 f\n") ≡ Rejected 3 Form
 unfolding digits
 out_of_range = refl
 
-not_allowed : cert_verdict flaky_system 0 (codes "roman-order 1\npairs 6\n1 f\n2 1\n") ≡ Rejected 4 Unjustified
+not_allowed : cert_verdict (numbered flaky_system) 0 (codes "roman-order 1\npairs 6\n1 f\n2 1\n") ≡ Rejected 4 Unjustified
 unfolding digits
 not_allowed = refl
 

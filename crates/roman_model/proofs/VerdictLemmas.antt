@@ -2,48 +2,49 @@
 use Rattle.std.proofs.Common.{◌≡◌, ℕ, zero, suc, ◌+◌, ◌-◌, ◌<◌, ◌≤◌, List, [], ◌∷◌, ◌++◌, length, take, Option, Some, None, IsTrue, IsFalse, slice_get, slice_index_or, ap, ◌∙◌, inl, inr, arith, append_assoc, length-append}
 use Rattle.std.specs.List.{list_any}
 use Rattle.std.proofs.lemmas.Bool.{cond-true, cond-false, cases_lt}
-use Rattle.roman_model.specs.Lines.{lines, ended_lines, text_of}
-use Rattle.roman_model.specs.System.{Sys, same_numbers}
-use Rattle.roman_model.specs.Certificate.{end_line, Why, Verdict, Rejected, TooLong, entries_on, unless_over, body_fault, line_fault, faults, unlisted, cert_verdict}
+use Rattle.roman_model.specs.Lines.{lines, ended_lines, text_of, AreLines}
+use Rattle.roman_model.specs.System.{same_numbers}
+use Rattle.roman_model.specs.Arena.{Arena}
+use Rattle.roman_model.specs.Certificate.{end_line, Why, Verdict, Rejected, TooLong, entries_on, unless_over, body_fault, line_fault, faults, unlisted, cert_verdict, IsClean}
 use Rattle.roman_model.specs.declared.limits.TheConstants.{MAX_CERTIFICATE_BYTES}
-use Rattle.roman_model.proofs.LineLemmas.{AreLines, lines-text, ended_lines-text}
-use Rattle.roman_model.proofs.CertificateLemmas.{IsClean, faults_none, faults_first, clean_front, fault_next, fault_over}
+use Rattle.roman_model.proofs.LineLemmas.{lines-text, ended_lines-text}
+use Rattle.roman_model.proofs.CertificateLemmas.{faults_none, faults_first, clean_front, fault_next, fault_over}
 use Rattle.roman_model.proofs.CertificateLaws.{judged_short, judged_long}
 
 -- What may be wrong with a line after the first two
 
-pub fault_in_body : (s : Sys) (head size : List ℕ) (body : List (List ℕ)) (line : Option (List ℕ)) → IsFalse (list_any (same_numbers end_line) body) →
-    line_fault s (head ∷ size ∷ body) line ≡ body_fault s (entries_on s body) line
-fault_in_body s head size body line none = cond-false (list_any (same_numbers end_line) body) (unless_over line) (body_fault s (entries_on s body) line) none
+pub fault_in_body : (A : Arena ℕ) (head size : List ℕ) (body : List (List ℕ)) (line : Option (List ℕ)) → IsFalse (list_any (same_numbers end_line) body) →
+    line_fault A (head ∷ size ∷ body) line ≡ body_fault A (entries_on A body) line
+fault_in_body A head size body line none = cond-false (list_any (same_numbers end_line) body) (unless_over line) (body_fault A (entries_on A body) line) none
 
-pub fault_after_end : (s : Sys) (head size : List ℕ) (body : List (List ℕ)) (line : Option (List ℕ)) → IsTrue (list_any (same_numbers end_line) body) →
-    line_fault s (head ∷ size ∷ body) line ≡ unless_over line
-fault_after_end s head size body line some = cond-true (list_any (same_numbers end_line) body) (unless_over line) (body_fault s (entries_on s body) line) some
+pub fault_after_end : (A : Arena ℕ) (head size : List ℕ) (body : List (List ℕ)) (line : Option (List ℕ)) → IsTrue (list_any (same_numbers end_line) body) →
+    line_fault A (head ∷ size ∷ body) line ≡ unless_over line
+fault_after_end A head size body line some = cond-true (list_any (same_numbers end_line) body) (unless_over line) (body_fault A (entries_on A body) line) some
 
 -- The first fault
 
 -- the first line at fault comes after clean ones
-first_fault : (s : Sys) (ls : List (List ℕ)) (line : List ℕ) (more : List (List ℕ)) (n : ℕ) (why : Why) (otherwise : Verdict) → IsClean s ls (length ls) → line_fault s ls (Some line) ≡ Some why → length ls < n →
-    slice_index_or (faults s (ls ++ line ∷ more) n) 0 otherwise ≡ Rejected (length ls + 1) why
-first_fault s ls line more n why otherwise clean fault l =
-    let (rest, is) = faults_first s (ls ++ line ∷ more) n (length ls) why (clean_front s ls (line ∷ more) clean) (fault_next s ls more line ∙ fault) l in
+first_fault : (A : Arena ℕ) (ls : List (List ℕ)) (line : List ℕ) (more : List (List ℕ)) (n : ℕ) (why : Why) (otherwise : Verdict) → IsClean A ls (length ls) → line_fault A ls (Some line) ≡ Some why → length ls < n →
+    slice_index_or (faults A (ls ++ line ∷ more) n) 0 otherwise ≡ Rejected (length ls + 1) why
+first_fault A ls line more n why otherwise clean fault l =
+    let (rest, is) = faults_first A (ls ++ line ∷ more) n (length ls) why (clean_front A ls (line ∷ more) clean) (fault_next A ls more line ∙ fault) l in
     ap (λ vs. slice_index_or vs 0 otherwise) is
 
 -- a line of a text that isn't too long is at fault
-pub verdict_at : (s : Sys) (start : ℕ) (bytes : List ℕ) (ls : List (List ℕ)) (line : List ℕ) (more : List (List ℕ)) (why : Why) → length bytes ≤ MAX_CERTIFICATE_BYTES → lines bytes ≡ ls ++ line ∷ more →
-    IsClean s ls (length ls) → line_fault s ls (Some line) ≡ Some why → cert_verdict s start bytes ≡ Rejected (length ls + 1) why
-verdict_at s start bytes ls line more why short is clean fault =
-    judged_short s start bytes short
-    ∙ ap (λ ms. slice_index_or (faults s ms (length ms + 1)) 0 (unlisted s start (entries_on s ms))) is
-    ∙ first_fault s ls line more (length (ls ++ line ∷ more) + 1) why (unlisted s start (entries_on s (ls ++ line ∷ more))) clean fault (omega (arith, length-append ls (line ∷ more)))
+pub verdict_at : (A : Arena ℕ) (start : ℕ) (bytes : List ℕ) (ls : List (List ℕ)) (line : List ℕ) (more : List (List ℕ)) (why : Why) → length bytes ≤ MAX_CERTIFICATE_BYTES → lines bytes ≡ ls ++ line ∷ more →
+    IsClean A ls (length ls) → line_fault A ls (Some line) ≡ Some why → cert_verdict A start bytes ≡ Rejected (length ls + 1) why
+verdict_at A start bytes ls line more why short is clean fault =
+    judged_short A start bytes short
+    ∙ ap (λ ms. slice_index_or (faults A ms (length ms + 1)) 0 (unlisted A start (entries_on A ms))) is
+    ∙ first_fault A ls line more (length (ls ++ line ∷ more) + 1) why (unlisted A start (entries_on A (ls ++ line ∷ more))) clean fault (omega (arith, length-append ls (line ∷ more)))
 
 -- and so is one of a longer text that ends within the limit
-pub verdict_within : (s : Sys) (start : ℕ) (bytes : List ℕ) (ls : List (List ℕ)) (line : List ℕ) (more : List (List ℕ)) (why : Why) → MAX_CERTIFICATE_BYTES < length bytes → ended_lines (take MAX_CERTIFICATE_BYTES bytes) ≡ ls ++ line ∷ more →
-    IsClean s ls (length ls) → line_fault s ls (Some line) ≡ Some why → cert_verdict s start bytes ≡ Rejected (length ls + 1) why
-verdict_within s start bytes ls line more why long is clean fault =
-    judged_long s start bytes long
-    ∙ ap (λ ms. slice_index_or (faults s ms (length ms)) 0 TooLong) is
-    ∙ first_fault s ls line more (length (ls ++ line ∷ more)) why TooLong clean fault (omega (arith, length-append ls (line ∷ more)))
+pub verdict_within : (A : Arena ℕ) (start : ℕ) (bytes : List ℕ) (ls : List (List ℕ)) (line : List ℕ) (more : List (List ℕ)) (why : Why) → MAX_CERTIFICATE_BYTES < length bytes → ended_lines (take MAX_CERTIFICATE_BYTES bytes) ≡ ls ++ line ∷ more →
+    IsClean A ls (length ls) → line_fault A ls (Some line) ≡ Some why → cert_verdict A start bytes ≡ Rejected (length ls + 1) why
+verdict_within A start bytes ls line more why long is clean fault =
+    judged_long A start bytes long
+    ∙ ap (λ ms. slice_index_or (faults A ms (length ms)) 0 TooLong) is
+    ∙ first_fault A ls line more (length (ls ++ line ∷ more)) why TooLong clean fault (omega (arith, length-append ls (line ∷ more)))
 
 take_past : {X : Type 0} (n : ℕ) (xs ys : List X) → length xs ≤ n → take n (xs ++ ys) ≡ xs ++ take (n - length xs) ys
 take_past n [] ys l = ap (λ m. take m ys) (same n)
@@ -57,19 +58,19 @@ take_past (suc n) (x ∷ xs) ys l = ap (λ zs. x ∷ zs) (take_past n xs ys (ome
     fewer n m = omega arith
 
 -- a line whose newline is within the limit is at fault, however the text goes on
-pub verdict_rejected : (s : Sys) (start : ℕ) (bytes : List ℕ) (ls : List (List ℕ)) (line more : List ℕ) (why : Why) →
+pub verdict_rejected : (A : Arena ℕ) (start : ℕ) (bytes : List ℕ) (ls : List (List ℕ)) (line more : List ℕ) (why : Why) →
     bytes ≡ text_of (ls ++ line ∷ []) ++ more → AreLines (ls ++ line ∷ []) → length (text_of (ls ++ line ∷ [])) ≤ MAX_CERTIFICATE_BYTES →
-    IsClean s ls (length ls) → line_fault s ls (Some line) ≡ Some why → cert_verdict s start bytes ≡ Rejected (length ls + 1) why
-verdict_rejected s start bytes ls line more why is are within clean fault = elim (cases_lt MAX_CERTIFICATE_BYTES (length bytes)) [
+    IsClean A ls (length ls) → line_fault A ls (Some line) ≡ Some why → cert_verdict A start bytes ≡ Rejected (length ls + 1) why
+verdict_rejected A start bytes ls line more why is are within clean fault = elim (cases_lt MAX_CERTIFICATE_BYTES (length bytes)) [
   | inl long ↦
-      verdict_within s start bytes ls line (ended_lines (take (MAX_CERTIFICATE_BYTES - length (text_of (ls ++ line ∷ []))) more)) why long
+      verdict_within A start bytes ls line (ended_lines (take (MAX_CERTIFICATE_BYTES - length (text_of (ls ++ line ∷ []))) more)) why long
       (ap (λ bs. ended_lines (take MAX_CERTIFICATE_BYTES bs)) is
       ∙ ap ended_lines (take_past MAX_CERTIFICATE_BYTES (text_of (ls ++ line ∷ [])) more within)
       ∙ ended_lines-text (ls ++ line ∷ []) (take (MAX_CERTIFICATE_BYTES - length (text_of (ls ++ line ∷ []))) more) are
       ∙ append_assoc ls (line ∷ []) (ended_lines (take (MAX_CERTIFICATE_BYTES - length (text_of (ls ++ line ∷ []))) more)))
       clean fault
   | inr short ↦
-      verdict_at s start bytes ls line (lines more) why short
+      verdict_at A start bytes ls line (lines more) why short
       (ap lines is ∙ lines-text (ls ++ line ∷ []) more are ∙ append_assoc ls (line ∷ []) (lines more))
       clean fault
 ]
@@ -77,29 +78,29 @@ verdict_rejected s start bytes ls line more why is are within clean fault = elim
 -- The end of the text
 
 -- the text ends too early
-pub verdict_ended : (s : Sys) (start : ℕ) (bytes : List ℕ) (ls : List (List ℕ)) (why : Why) → length bytes ≤ MAX_CERTIFICATE_BYTES → lines bytes ≡ ls →
-    IsClean s ls (length ls) → line_fault s ls None ≡ Some why → cert_verdict s start bytes ≡ Rejected (length ls + 1) why
-verdict_ended s start bytes ls why short is clean fault =
-    let (rest, first) = faults_first s ls (length ls + 1) (length ls) why clean (fault_over s ls ∙ fault) (omega arith) in
-    judged_short s start bytes short
-    ∙ ap (λ ms. slice_index_or (faults s ms (length ms + 1)) 0 (unlisted s start (entries_on s ms))) is
-    ∙ ap (λ vs. slice_index_or vs 0 (unlisted s start (entries_on s ls))) first
+pub verdict_ended : (A : Arena ℕ) (start : ℕ) (bytes : List ℕ) (ls : List (List ℕ)) (why : Why) → length bytes ≤ MAX_CERTIFICATE_BYTES → lines bytes ≡ ls →
+    IsClean A ls (length ls) → line_fault A ls None ≡ Some why → cert_verdict A start bytes ≡ Rejected (length ls + 1) why
+verdict_ended A start bytes ls why short is clean fault =
+    let (rest, first) = faults_first A ls (length ls + 1) (length ls) why clean (fault_over A ls ∙ fault) (omega arith) in
+    judged_short A start bytes short
+    ∙ ap (λ ms. slice_index_or (faults A ms (length ms + 1)) 0 (unlisted A start (entries_on A ms))) is
+    ∙ ap (λ vs. slice_index_or vs 0 (unlisted A start (entries_on A ls))) first
 
 -- no line is at fault, and the text ends where it may
-pub verdict_accepted : (s : Sys) (start : ℕ) (bytes : List ℕ) (ls : List (List ℕ)) → length bytes ≤ MAX_CERTIFICATE_BYTES → lines bytes ≡ ls →
-    IsClean s ls (length ls) → line_fault s ls None ≡ None → cert_verdict s start bytes ≡ unlisted s start (entries_on s ls)
-verdict_accepted s start bytes ls short is clean over =
-    judged_short s start bytes short
-    ∙ ap (λ ms. slice_index_or (faults s ms (length ms + 1)) 0 (unlisted s start (entries_on s ms))) is
-    ∙ ap (λ vs. slice_index_or vs 0 (unlisted s start (entries_on s ls))) (faults_none s ls (length ls + 1) (λ i l. elim (cases_lt i (length ls)) [
+pub verdict_accepted : (A : Arena ℕ) (start : ℕ) (bytes : List ℕ) (ls : List (List ℕ)) → length bytes ≤ MAX_CERTIFICATE_BYTES → lines bytes ≡ ls →
+    IsClean A ls (length ls) → line_fault A ls None ≡ None → cert_verdict A start bytes ≡ unlisted A start (entries_on A ls)
+verdict_accepted A start bytes ls short is clean over =
+    judged_short A start bytes short
+    ∙ ap (λ ms. slice_index_or (faults A ms (length ms + 1)) 0 (unlisted A start (entries_on A ms))) is
+    ∙ ap (λ vs. slice_index_or vs 0 (unlisted A start (entries_on A ls))) (faults_none A ls (length ls + 1) (λ i l. elim (cases_lt i (length ls)) [
       | inl less ↦ clean i less
-      | inr more ↦ (let here : i ≡ length ls = omega arith in ap (λ k. line_fault s (take k ls) (slice_get ls k)) here ∙ fault_over s ls ∙ over)
+      | inr more ↦ (let here : i ≡ length ls = omega arith in ap (λ k. line_fault A (take k ls) (slice_get ls k)) here ∙ fault_over A ls ∙ over)
     ]))
 
 -- no line that ends within the limit is at fault, and the text goes on
-pub verdict_too_long : (s : Sys) (start : ℕ) (bytes : List ℕ) (ls : List (List ℕ)) → MAX_CERTIFICATE_BYTES < length bytes → ended_lines (take MAX_CERTIFICATE_BYTES bytes) ≡ ls →
-    IsClean s ls (length ls) → cert_verdict s start bytes ≡ TooLong
-verdict_too_long s start bytes ls long is clean =
-    judged_long s start bytes long
-    ∙ ap (λ ms. slice_index_or (faults s ms (length ms)) 0 TooLong) is
-    ∙ ap (λ vs. slice_index_or vs 0 TooLong) (faults_none s ls (length ls) clean)
+pub verdict_too_long : (A : Arena ℕ) (start : ℕ) (bytes : List ℕ) (ls : List (List ℕ)) → MAX_CERTIFICATE_BYTES < length bytes → ended_lines (take MAX_CERTIFICATE_BYTES bytes) ≡ ls →
+    IsClean A ls (length ls) → cert_verdict A start bytes ≡ TooLong
+verdict_too_long A start bytes ls long is clean =
+    judged_long A start bytes long
+    ∙ ap (λ ms. slice_index_or (faults A ms (length ms)) 0 TooLong) is
+    ∙ ap (λ vs. slice_index_or vs 0 TooLong) (faults_none A ls (length ls) clean)

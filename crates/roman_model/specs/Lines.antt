@@ -1,6 +1,8 @@
 -- Texts of lines.
-use Rattle.std.specs.Prelude.{ℕ, ◌==◌, List, [], ◌∷◌, ◌++◌, if◌then◌else◌}
+use Rattle.std.specs.Prelude.{ℕ, ◌==◌, List, [], ◌∷◌, ◌++◌, IsFalse, if◌then◌else◌}
 use Rattle.std.specs.List.{flat_map}
+use Rattle.roman_model.specs.Lists.{IsIn}
+use Rattle.roman_model.specs.System.{has}
 
 -- the byte before the first line
 abbrev pub onto_first_line : ℕ → List (List ℕ) → List (List ℕ)
@@ -25,3 +27,11 @@ ended_lines (byte ∷ bytes) = if byte == 10 then [] ∷ ended_lines bytes else 
 -- the text of those lines, each with a newline
 abbrev pub text_of : List (List ℕ) → List ℕ
 text_of lines = flat_map (λ line. line ++ 10 ∷ []) lines
+
+-- the line has no newline in it
+abbrev pub IsLine : List ℕ → Type 0
+IsLine line = IsFalse (has line 10)
+
+-- nor has any of them
+abbrev pub AreLines : List (List ℕ) → Type 0
+AreLines ls = (line : List ℕ) → IsIn line ls → IsLine line

@@ -8,7 +8,7 @@ use Rattle.roman_library.specs.Documents.{behaviour_in}
 use Rattle.roman_library.specs.Refusals.{Stops}
 use Rattle.roman_library.proofs.LibraryLemmas.{IsCatalogue-push}
 use Rattle.roman_library.proofs.StepLemmas.{behaviours_go_on, behaviours_stop, behaviours_done}
-use Rattle.roman_library.proofs.parts.load_behaviours.Goals as goal
+use Rattle.roman_library.proofs.catalogue.load_behaviours.Goals as goal
 
 pub returns-in_err-behaviour-clause-catalogue : goal.returns-in_err-behaviour-clause-catalogue
 returns-in_err-behaviour-clause-catalogue g c =

@@ -1,10 +1,10 @@
 -- A behaviour that is read is over its environment, and has the name that was tried.
-use Rattle.std.proofs.Common.{◌≡◌, ◌∙◌, ap, map, rules, Option, None}
+use Rattle.std.proofs.Common.{◌≡◌, map, rules, None}
 use Rattle.serde_json.specs.View.{view}
 use Rattle.roman_read.specs.Names.{place_of}
 use Rattle.roman_library.specs.Library.{behaviour_name}
 use Rattle.roman_library.proofs.LibraryLemmas.{behaviour_is_over, behaviour_has_name}
-use Rattle.roman_library.proofs.parts.read_new_behaviour.Goals as goal
+use Rattle.roman_library.proofs.catalogue.read_new_behaviour.Goals as goal
 
 pub returns-clause-known : goal.returns-clause-known
 returns-clause-known c =

@@ -2,7 +2,7 @@
 use Rattle.std.proofs.Common.{◌≡◌, length}
 use Rattle.roman_library.specs.Library.{IsCatalogue}
 use Rattle.roman_library.proofs.StepLemmas.{BehavioursLeft}
-use Rattle.roman_library.proofs.parts.load_behaviours.Given as goal
+use Rattle.roman_library.proofs.catalogue.load_behaviours.Given as goal
 
 abbrev pub invariant-loop-i : goal.invariant-loop-i
 invariant-loop-i g l = record {
