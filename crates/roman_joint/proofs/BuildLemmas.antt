@@ -1,8 +1,8 @@
 -- Parts that make a system, and its numbering.
-use Rattle.std.proofs.Common.{◌≡◌, ℕ, ◌+◌, ◌≤◌, List, map, length, take, refl, sym, ap, ◌∙◌, subst, arith}
+use Rattle.std.proofs.Common.{◌≡◌, ℕ, ◌≤◌, List, map, length, take, refl, ◌∙◌, arith}
 use Rattle.std.specs.List.{AllByRecursion}
 use Rattle.std.proofs.lemmas.List.{length-map}
-use Rattle.roman_model.specs.System.{Env, Sys, IsEnv, IsBeh, IsDeterministic, IsSys}
+use Rattle.roman_model.specs.System.{IsEnv, IsBeh, IsDeterministic, IsSys}
 use Rattle.roman_model.specs.Numbers.{Sizes, sizes_of}
 use Rattle.roman_model.specs.declared.limits.TheConstants.{MAX_SERVICES}
 use Rattle.roman_joint.specs.NamedSys.{NamedSys, beh_at, seat_of, system_of}

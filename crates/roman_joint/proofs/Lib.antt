@@ -7,3 +7,6 @@ pub mod SeatChanges
 pub mod OutcomeLemmas
 pub mod WalkLemmas
 pub mod Rows
+pub mod ArenaFacts
+pub mod OpenLemmas
+pub mod BehaviourLemmas

@@ -1,11 +1,11 @@
 -- The numbers of the pairs to which a delegation may lead.
-use Rattle.std.proofs.Common.{◌≡◌, ℕ, zero, suc, ◌+◌, ◌-◌, ◌*◌, ◌%◌, ◌<◌, ◌≤◌, Bool, true, false, cond, List, [], ◌∷◌, ◌++◌, Option, None, Some, IsTrue, IsFalse, MatchOption, map, length, slice_get, slice_index, slice_set, refl, sym, ap, ap₂, ◌∙◌, subst, inl, arith}
+use Rattle.std.proofs.Common.{◌≡◌, ℕ, ◌+◌, ◌-◌, ◌*◌, ◌%◌, ◌<◌, ◌≤◌, cond, List, [], ◌∷◌, ◌++◌, Option, Some, IsTrue, IsFalse, MatchOption, map, length, slice_get, slice_index, slice_set, refl, sym, ap, ap₂, ◌∙◌, subst, inl, arith}
 use Rattle.std.specs.List.{flat_map}
 use Rattle.std.proofs.lemmas.List.{append-nil, map-append, length-map, get_or-set_same}
 use Rattle.std.proofs.lemmas.Option.{slice_get_within}
 use Rattle.std.proofs.lemmas.Bool.{not-true}
 use Rattle.roman_model.specs.Lists.{IsIn, product_of}
-use Rattle.roman_model.specs.System.{Env, Beh, Sys, Seat, Pair, IsSys, IsPair, IsEnv, IsBeh, env_next, beh_next, seat_next, moved, outcomes, is_ready}
+use Rattle.roman_model.specs.System.{Sys, Seat, Pair, IsSys, IsPair, env_next, beh_next, seat_next, outcomes, is_ready}
 use Rattle.roman_model.specs.Numbers.{Sizes, IsPairOf, sizes_of, count, number, pair_at, states_number}
 use Rattle.roman_model.proofs.SystemLemmas.{triple_in_range, move_in_range, from_env_next, from_beh_next, seat_in, states_set}
 use Rattle.roman_model.proofs.NumberLemmas.{numbers_are_pairs, IsPairOf-from, AreBelow-length, number_below, parts_of_number, states_number-set}

@@ -1,8 +1,8 @@
 -- What a joint's fields are, by the system that it shows.
-use Rattle.std.proofs.Common.{◌≡◌, ℕ, zero, suc, ◌*◌, ◌<◌, ◌≤◌, ◌^◌, List, [], ◌∷◌, not, ◌&&◌, Some, slice_get, get_or, map, length, vec_len, vec_capacity, refl, sym, ap, ap₂, ◌∙◌, subst, arith}
+use Rattle.std.proofs.Common.{◌≡◌, ℕ, ◌<◌, ◌≤◌, not, ◌&&◌, Some, slice_get, get_or, length, vec_len, vec_capacity, refl, sym, ap, ap₂, ◌∙◌, subst, arith}
 use Rattle.std.proofs.lemmas.List.{length-map}
-use Rattle.roman_model.specs.Numbers.{sizes_of, count, pair_at}
-use Rattle.roman_model.specs.declared.limits.TheConstants.{MAX_SERVICES, MAX_CELLS}
+use Rattle.roman_model.specs.Numbers.{sizes_of, pair_at}
+use Rattle.roman_model.specs.declared.limits.TheConstants.{MAX_SERVICES}
 use Rattle.roman_joint.specs.declared.joint.Joint.TheInside.{Inside}
 use Rattle.roman_joint.specs.NamedSys.{NamedSys, system_of, seat_of, beh_at, IsOverEnv, IsNamedSys}
 use Rattle.roman_joint.proofs.SeatLemmas.{beh_read, seat_there}

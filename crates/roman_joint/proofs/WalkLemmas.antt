@@ -1,9 +1,9 @@
 -- One step of a walk backwards: what is left, and where the walk then is.
-use Rattle.std.proofs.Common.{◌≡◌, ℕ, zero, suc, ◌+◌, ◌-◌, ◌*◌, ◌^◌, ◌<◌, ◌≤◌, Bool, true, false, cond, List, [], ◌∷◌, ◌++◌, map, length, take, drop, get_or, Option, Some, None, IsTrue, IsFalse, slice_get, slice_index, slice_set, refl, sym, ap, ◌∙◌, subst, arith}
-use Rattle.std.specs.List.{flat_map, filter}
-use Rattle.std.proofs.lemmas.List.{drop_more, drop_all, append_assoc, append-nil, length-map, get_or-take}
+use Rattle.std.proofs.Common.{◌≡◌, ℕ, zero, suc, ◌+◌, ◌<◌, ◌≤◌, cond, List, [], ◌∷◌, ◌++◌, length, take, drop, get_or, Option, Some, IsTrue, IsFalse, slice_get, slice_index, slice_set, refl, sym, ap, ◌∙◌, subst, arith}
+use Rattle.std.specs.List.{flat_map}
+use Rattle.std.proofs.lemmas.List.{drop_more, drop_all, append_assoc, length-map, get_or-take}
 use Rattle.std.proofs.lemmas.List.Sums.{length-filter, count_by-le-length}
-use Rattle.roman_model.specs.Lists.{IsIn, HoldsEachOnce, below}
+use Rattle.roman_model.specs.Lists.{HoldsEachOnce, below}
 use Rattle.roman_model.specs.System.{Env, Beh, Sys, Seat, Pair, IsSys, IsPair, IsEnv, IsBeh, has_triple, has_move, env_prev, beh_prev}
 use Rattle.roman_model.specs.Arena.{Delegation, back}
 use Rattle.roman_model.specs.Numbers.{sizes_of, count, number, pair_at, numbered}
@@ -13,7 +13,7 @@ use Rattle.roman_model.proofs.SystemLemmas.{seat_in}
 use Rattle.roman_joint.specs.declared.walk.Walk.{Walk}
 use Rattle.roman_joint.proofs.BackwardLemmas.{found_backwards}
 use Rattle.roman_joint.specs.Backward.{seat_prev, from_states, from_seat, from_target, from_env, from_action, from_all}
-use Rattle.roman_joint.specs.Walks.{goal_of, IsWalk, left_of_seat, left_of_target, left_of_env, left_of_action, left_of_all, left, way_left, GoesOn}
+use Rattle.roman_joint.specs.Walks.{goal_of, IsWalk, left_of_seat, left_of_target, left_of_env, left_of_action, left_of_all, left, GoesOn}
 
 -- the first of some lists, and the rest
 flat_map-drop : {X Y : Type 0} (f : X → List Y) (xs : List X) (i : ℕ) (d : X) → i < length xs → flat_map f (drop i xs) ≡ f (get_or xs i d) ++ flat_map f (drop (i + 1) xs)

@@ -3,6 +3,7 @@ ghost use Rattle.std.specs.Prelude.{◌≡◌, ◌<◌, ◌≤◌, ◌↔◌, Al
 ghost use Rattle.roman_model.specs.Lists.{HasNoRepeats};
 ghost use Rattle.roman_model.specs.Numbers.{sizes_of};
 ghost use Rattle.roman_model.specs.declared.limits.TheConstants.{MAX_SERVICES, MAX_CELLS};
+ghost use Rattle.roman_joint.specs.Behaviours.{IsBehaviourOf};
 ghost use Rattle.roman_joint.specs.NamedSys.{NamedSys, system_of, cells, IsOverEnv, TargetIsOverEnv, IsNamedSys};
 
 mod changes;
@@ -124,6 +125,16 @@ impl Joint {
         ensures { slice_get self.now.seats k ≡ Some result.now }
     {
         &self.seats[k as usize]
+    }
+
+    /// The behaviour of the service at place k.
+    pub fn behaviour(&self, k: u8) -> &Behaviour
+        requires { k < length self.now.seats }
+        ensures { IsBehaviourOf self.now k result.now }
+    {
+        self.known();
+        let seat = self.seat(k);
+        &self.catalogue()[seat.behaviour as usize]
     }
 
     /// The numbering of the system's pairs.

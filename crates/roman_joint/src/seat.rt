@@ -3,7 +3,7 @@
 use roman_parts::Name;
 
 /// A service: a named instance of a behaviour, with its place in a system.
-#[derive(Clone, Copy)]
+#[derive(Clone, Copy, Debug, PartialEq, Eq)]
 pub struct Seat {
     /// The service's name.
     pub name: Name,

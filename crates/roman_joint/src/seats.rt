@@ -1,7 +1,7 @@
 //! The behaviours of services, one after the other.
-ghost use Rattle.std.specs.Prelude.{◌≡◌, ℕ, ◌≤◌, ◌<◌, ◌↔◌, All, length, map, take, IsSome, IfSome};
+ghost use Rattle.std.specs.Prelude.{◌≡◌, ◌≤◌, ◌<◌, ◌↔◌, All, length, map, take, IsSome, IfSome};
 ghost use Rattle.std.specs.List.{AllByRecursion};
-ghost use Rattle.roman_model.specs.System.{Sys, IsSys, IsBeh, all_final};
+ghost use Rattle.roman_model.specs.System.{IsSys, IsBeh, all_final};
 ghost use Rattle.roman_model.specs.Numbers.{sizes_of, count, pair_at};
 ghost use Rattle.roman_model.specs.declared.limits.TheConstants.{MAX_SERVICES};
 ghost use Rattle.roman_parts.specs.Named.{NamedEnv};

@@ -1,11 +1,11 @@
 //! Changes of the services.
-ghost use Rattle.std.specs.Prelude.{◌≡◌, ◌<◌, ◌≤◌, ◌++◌, ◌∷◌, [], ◌↔◌, length, map, Err, OnOk, OnErr, if◌then◌else◌};
+ghost use Rattle.std.specs.Prelude.{◌≡◌, ◌<◌, ◌++◌, ◌∷◌, [], ◌↔◌, length, map, Err, OnOk, OnErr, if◌then◌else◌};
 ghost use Rattle.std.specs.List.{remove};
 ghost use Rattle.roman_model.specs.Lists.{IsIn};
 ghost use Rattle.roman_model.specs.Change.{Freeze, Thaw, Join, Die, after};
 ghost use Rattle.roman_model.specs.System as model;
 ghost use Rattle.roman_model.specs.declared.limits.TheConstants.{MAX_SERVICES};
-ghost use Rattle.roman_joint.specs.NamedSys.{NamedSys, system_of, seat_of, cells};
+ghost use Rattle.roman_joint.specs.NamedSys.{system_of, seat_of, cells};
 ghost use Rattle.roman_joint.specs.Changes.{with_frozen};
 
 use super::Joint;

@@ -1,5 +1,5 @@
 //! Walks backwards from a pair.
-ghost use Rattle.std.specs.Prelude.{◌≡◌, ℕ, ◌+◌, ◌<◌, ◌≤◌, ◌∷◌, [], length, MatchBool, MatchOption};
+ghost use Rattle.std.specs.Prelude.{◌≡◌, ◌+◌, ◌<◌, ◌∷◌, [], MatchBool, MatchOption};
 ghost use Rattle.roman_model.specs.Lists.{HoldsEachOnce};
 ghost use Rattle.roman_model.specs.Arena.{back};
 ghost use Rattle.roman_model.specs.Numbers.{sizes_of, count, numbered};

@@ -1,5 +1,4 @@
-use Rattle.std.proofs.Common.{◌≡◌, ◌<◌, length, refl, sym, ap, ◌∙◌, subst, arith}
-use Rattle.roman_parts.specs.Named.{NamedBeh}
+use Rattle.std.proofs.Common.{◌<◌, length, refl, sym, ap, ◌∙◌, subst, arith}
 use Rattle.roman_joint.specs.declared.seat.Seat.{Seat}
 use Rattle.roman_joint.proofs.SeatLemmas.{AllRead, few_states, one_read, all_read}
 use Rattle.roman_joint.proofs.seats.sizes_of_seats.Goals as goal

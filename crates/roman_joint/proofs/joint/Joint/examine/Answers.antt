@@ -1,7 +1,7 @@
-use Rattle.std.proofs.Common.{◌≡◌, ◌+◌, ◌*◌, ◌<◌, ◌≤◌, Bool, List, Some, None, IsFalse, get_or, length, sym, ap, ◌∙◌, subst, arith}
+use Rattle.std.proofs.Common.{◌≡◌, ◌+◌, ◌*◌, Some, None, IsFalse, get_or, sym, ap, ◌∙◌, subst, arith}
 use Rattle.std.specs.List.{find}
 use Rattle.roman_model.specs.Lists.{IsIn, is_empty}
-use Rattle.roman_model.specs.Numbers.{sizes_of, count}
+use Rattle.roman_model.specs.Numbers.{sizes_of}
 use Rattle.roman_joint.specs.NamedSys.{system_of}
 use Rattle.roman_joint.specs.Outcomes.{outcome_number, IsPlaced}
 use Rattle.roman_joint.proofs.Finds.{in_at, if_some, find_numbers, no_numbers, some_numbers, none_there, some_there}

@@ -1,13 +1,13 @@
-use Rattle.std.proofs.Common.{◌≡◌, ◌<◌, ◌≤◌, length, get_or, refl, sym, ap, ◌∙◌, subst, arith}
-use Rattle.roman_model.specs.System.{env_prev, beh_prev}
+use Rattle.std.proofs.Common.{◌≡◌, ◌<◌, ◌≤◌, length, get_or, refl, ap, ◌∙◌, subst, arith}
+use Rattle.roman_model.specs.System.{beh_prev}
 use Rattle.roman_model.specs.Numbers.{sizes_of, count}
 use Rattle.roman_joint.specs.NamedSys.{system_of}
 use Rattle.roman_joint.specs.Walks.{goal_of}
-use Rattle.roman_joint.proofs.Shown.{Shows, shown, seats_shown, targets_shown, envs_shown}
+use Rattle.roman_joint.proofs.Shown.{Shows, shown, targets_shown}
 use Rattle.roman_model.specs.declared.limits.TheConstants.{MAX_CELLS}
-use Rattle.roman_parts.specs.Named.{NamedEnv, NamedTarget}
-use Rattle.roman_radix.specs.Radix.{env_stride_of, target_stride_of}
-use Rattle.roman_joint.proofs.Rows.{RowMoves, count_fits, target_moves, env_moves}
+use Rattle.roman_parts.specs.Named.{NamedTarget}
+use Rattle.roman_radix.specs.Radix.{target_stride_of}
+use Rattle.roman_joint.proofs.Rows.{RowMoves, count_fits, target_moves}
 use Rattle.roman_joint.proofs.WalkLemmas.{goes_target, no_targets}
 use Rattle.roman_joint.proofs.joint.Joint.next_target.Goals as goal
 

@@ -1,5 +1,5 @@
-use Rattle.std.proofs.Common.{◌≡◌, ◌<◌, length, take, ap, ◌∙◌, subst}
-use Rattle.roman_model.specs.Numbers.{Sizes, sizes_of, count, pair_at}
+use Rattle.std.proofs.Common.{◌≡◌, length, take, ap, ◌∙◌, subst}
+use Rattle.roman_model.specs.Numbers.{Sizes, sizes_of, pair_at}
 use Rattle.roman_joint.specs.NamedSys.{system_of}
 use Rattle.roman_joint.proofs.Shown.{Shows, shown, seats_shown}
 use Rattle.roman_joint.proofs.WalkLemmas.{Begins, first_walk, begins}
