@@ -1,0 +1,16 @@
+-- Moves of a system by one request that is served.
+use Rattle.std.specs.Prelude.{◌≡◌, ℕ, ◌<◌, slice_set}
+use Rattle.roman_model.specs.System.{Sys, Pair, TStep, SStep}
+use Rattle.roman_model.specs.Numbers.{sizes_of, count, pair_at}
+
+-- a system step by a, delegated to seat k, leads from p to the seat's state b and the environment's e
+abbrev pub CanMove : Sys → Pair → ℕ → ℕ → ℕ → ℕ → Type 0
+CanMove s p a k b e = SStep s p.bs p.e a k (slice_set p.bs k b) e
+
+-- by such a step, and a target step, p becomes the pair with number q
+pub record Moves (s : Sys) (p : Pair) (a k b e q : ℕ) : Type 0 where
+  pub to : ℕ
+  pub target : TStep s p.t p.e a to e
+  pub system : CanMove s p a k b e
+  pub below : q < count (sizes_of s)
+  pub pair : pair_at (sizes_of s) q ≡ record { t = to; e = e; bs = slice_set p.bs k b }

@@ -1,0 +1,9 @@
+//! The orchestrator generator: the services that may be offered for a request, and the pair that
+//! follows when one of them has served it.
+#![tactic(auto)]
+
+mod moves;
+mod offering;
+
+pub use moves::next_pair;
+pub use offering::offers;

@@ -1,0 +1,26 @@
+//! Offers.
+ghost use Rattle.std.specs.Prelude.{◌≢◌, ◌<◌, IsTrue};
+ghost use Rattle.roman_model.specs.System.{has, is_allowed};
+ghost use Rattle.roman_model.specs.Numbers.{sizes_of, count, pair_at};
+ghost use Rattle.roman_model.specs.Offers.{is_related, offers};
+ghost use Rattle.roman_joint.specs.Bits.{HasBits};
+ghost use Rattle.roman_joint.specs.NamedSys.{system_of};
+ghost use Rattle.roman_relation.specs.Greatest.{IsRelation};
+
+use roman_relation::Relation;
+
+/// The services that may be offered for an action at a pair, where the pair is related and the
+/// action is allowed there: bit k is set exactly where service k may serve it, whatever comes of it.
+/// At least one bit is set.
+pub fn offers(relation: &Relation, p: u32, a: u8) -> u32
+    requires complete { IsRelation relation.now.joint relation.now.order }
+    requires pair { p < count (sizes_of (system_of relation.now.joint)) }
+    requires related { IsTrue (is_related (system_of relation.now.joint) (pair_at (sizes_of (system_of relation.now.joint)) p)) }
+    requires allowed { IsTrue (is_allowed (system_of relation.now.joint) (pair_at (sizes_of (system_of relation.now.joint)) p) a) }
+    ensures offers { HasBits result (has (offers (system_of relation.now.joint) (pair_at (sizes_of (system_of relation.now.joint)) p) a)) }
+    ensures some { result ≢ 0 }
+{
+    relation.joint.known();
+    relation.order.len();
+    relation.order.mask(p, a)
+}

@@ -1,0 +1,46 @@
+-- Lists of entries that begin with others.
+use Rattle.std.proofs.Common.{◌≡◌, ℕ, ◌<◌, ◌≤◌, ◌==◌, List, [], ◌∷◌, ◌++◌, length, take, drop, get_or, IsTrue, IsFalse, sym, ap, ◌∙◌, subst, arith, take-append-drop}
+use Rattle.std.proofs.Math.Seq.{take-length}
+use Rattle.std.proofs.lemmas.Bool.{both_ways, or_left, false_from_ne_true}
+use Rattle.std.proofs.lemmas.List.{take-take, take-append-le, length-take, get_or-take}
+use Rattle.roman_model.specs.Arena.{Arena, Entry, is_listed}
+use Rattle.roman_model.proofs.Lists.{any_same}
+use Rattle.roman_model.proofs.ArenaLemmas.{listed_append}
+use Rattle.roman_joint.specs.Numbered.{IsNumbered}
+use Rattle.roman_order.specs.Board.{has_entry}
+use Rattle.roman_relation.specs.Settled.{Begins}
+
+-- a node is listed where the order has an entry for it
+pub listed_is : (A : Arena ℕ) → IsNumbered A → (L : List (Entry ℕ)) (p : ℕ) → is_listed A L p ≡ has_entry L p
+listed_is A ok L p = any_same (λ (x : Entry ℕ). A.same p x.node) (λ (x : Entry ℕ). p == x.node) L (λ x i. ok.same p x.node)
+
+pub begins_length : (L M : List (Entry ℕ)) → Begins L M → length L ≤ length M
+begins_length L M b = let same : length (take (length L) M) ≡ length L = ap length b in omega (arith, length-take (length L) M)
+
+pub begins_itself : (L : List (Entry ℕ)) → Begins L L
+begins_itself L = take-length L
+
+pub begins_push : (L M : List (Entry ℕ)) (x : Entry ℕ) → Begins L M → Begins L (M ++ x ∷ [])
+begins_push L M x b = take-append-le (length L) M (x ∷ []) (begins_length L M b) ∙ b
+
+-- what a list begins with begins with the same as it
+pub begins_same : (L M : List (Entry ℕ)) (i : ℕ) → Begins L M → i ≤ length L → take i M ≡ take i L
+begins_same L M i b l = sym (take-take i (length L) M l) ∙ ap (take i) b
+
+pub begins_on : (L M N : List (Entry ℕ)) → Begins L M → Begins M N → Begins L N
+begins_on L M N b c = begins_same M N (length L) c (begins_length L M b) ∙ b
+
+pub begins_get : (L M : List (Entry ℕ)) (i : ℕ) (d : Entry ℕ) → Begins L M → i < length L → get_or M i d ≡ get_or L i d
+begins_get L M i d b l = sym (get_or-take (length L) M i d l) ∙ ap (λ N. get_or N i d) b
+
+-- what is listed in the front of a list is listed in it
+pub take_listed : (A : Arena ℕ) (i : ℕ) (L : List (Entry ℕ)) (p : ℕ) → IsTrue (is_listed A (take i L) p) → IsTrue (is_listed A L p)
+take_listed A i L p t =
+    subst (λ M. IsTrue (is_listed A M p)) (take-append-drop i L)
+    (listed_append A (take i L) (drop i L) p ∙ or_left (is_listed A (take i L) p) (is_listed A (drop i L) p) t)
+
+pub begins_listed : (A : Arena ℕ) (L M : List (Entry ℕ)) (p : ℕ) → Begins L M → IsTrue (is_listed A L p) → IsTrue (is_listed A M p)
+begins_listed A L M p b t = take_listed A (length L) M p (subst (λ N. IsTrue (is_listed A N p)) (sym b) t)
+
+pub begins_unlisted : (A : Arena ℕ) (L M : List (Entry ℕ)) (p : ℕ) → Begins L M → IsFalse (is_listed A M p) → IsFalse (is_listed A L p)
+begins_unlisted A L M p b f = false_from_ne_true (is_listed A L p) (λ t. both_ways (is_listed A M p) f (begins_listed A L M p b t))

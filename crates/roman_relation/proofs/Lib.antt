@@ -1,0 +1,10 @@
+pub mod Beginnings
+pub mod Going
+pub mod MaskBits
+pub mod Reading
+pub mod Sweeping
+pub mod Clearing
+pub mod Closing
+pub mod Endings
+pub mod Counting
+pub mod Relating

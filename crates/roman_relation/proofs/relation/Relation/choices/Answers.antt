@@ -1,0 +1,9 @@
+use Rattle.roman_joint.specs.NamedSys.{system_of}
+use Rattle.roman_relation.proofs.Relating.{listed_numbers, choices_counted}
+use Rattle.roman_relation.proofs.relation.Relation.choices.Goals as goal
+
+pub returns : goal.returns
+returns c complete =
+    let relation = c.args.self.now in
+    choices_counted relation.joint relation.order c.bits.result c.known.ensures complete c.requires
+    (listed_numbers (system_of relation.joint) relation.order c.requires.pairs c.len.ensures.in_range) c.len.ensures.narrow c.bits.ensures

@@ -1,0 +1,15 @@
+use Rattle.std.proofs.Common.{arith}
+use Rattle.roman_model.specs.Numbers.{sizes_of, count}
+use Rattle.roman_model.proofs.Lists.{length-below}
+use Rattle.roman_joint.specs.NamedSys.{system_of}
+use Rattle.roman_relation.proofs.Relating.{listed_numbers, alive_related}
+use Rattle.roman_relation.proofs.relation.Relation.related.Goals as goal
+
+pub alive-requires : goal.alive-requires
+alive-requires c = omega (arith, c.requires.shaped.pairs, c.requires.pair, length-below (count (sizes_of (system_of c.args.self.now.joint))))
+
+pub returns-clause-great : goal.returns-clause-great
+returns-clause-great c complete =
+    let relation = c.args.self.now in
+    alive_related relation.joint relation.order c.args.p c.alive.result c.known.ensures complete
+    (listed_numbers (system_of relation.joint) relation.order c.requires.shaped.pairs c.len.ensures.in_range) c.requires.pair c.alive.ensures

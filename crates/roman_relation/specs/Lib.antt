@@ -1,0 +1,3 @@
+pub mod Masked
+pub mod Settled
+pub mod Greatest
