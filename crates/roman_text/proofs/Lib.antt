@@ -2,3 +2,4 @@ pub mod LineLemmas
 mod WordLemmas
 mod ShapeLemmas
 pub mod PageLemmas
+pub mod Filling

@@ -2,7 +2,8 @@
 //!
 //! A [`Splitter`] finds the lines of a stream of bytes, in whatever pieces it comes. [`parse_line`]
 //! reads the event that a line is. [`put_reply`] and [`put_report_line`] write a line to a sink at
-//! once, and a [`Page`] gathers many of them. Nothing here takes memory.
+//! once, and a [`Page`] gathers many of them. A [`Piece`] is a short text that is put together from
+//! words, names and numbers. Nothing here takes memory.
 #![tactic(auto)]
 
 mod errors;
@@ -24,6 +25,7 @@ pub use events::Event;
 pub use lines::Splitter;
 pub use page::Page;
 pub use parsing::parse_line;
+pub use piece::Piece;
 pub use replies::Reply;
 pub use report::ReportLine;
 pub use writing::{put_reply, put_report_line};

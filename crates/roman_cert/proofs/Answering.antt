@@ -1,0 +1,123 @@
+-- The entries before a place of a removal list, and the defeating answers among them.
+use Rattle.std.proofs.Common.{◌≡◌, ℕ, zero, suc, ◌+◌, ◌<◌, ◌≤◌, Bool, true, false, cond, eqb, ◌||◌, ◌⊎◌, List, [], ◌∷◌, ◌++◌, length, take, drop, Option, Some, None, IsTrue, IsFalse, find, refl, sym, ap, ap₂, ◌∙◌, subst, inl, inr, arith, take-append-drop}
+use Rattle.std.proofs.Math.Dec.{ltb}
+use Rattle.std.specs.List.{list_any, position_from, slice_get}
+use Rattle.std.proofs.lemmas.Bool.{cases_Bool, or_parts, both_ways, le-ltb, lt-ltb}
+use Rattle.std.proofs.lemmas.List.Folds.{list_any-append}
+use Rattle.roman_model.specs.Lists.{is_empty}
+use Rattle.roman_model.specs.Arena.{Arena, Entry, is_listed, is_justified, IsOrder}
+use Rattle.roman_model.specs.Explanation.{entries_before, answer}
+use Rattle.roman_model.specs.Numbers.{Sizes}
+use Rattle.roman_model.specs.declared.reason.Reason.TheVariants.{Act}
+use Rattle.roman_model.proofs.Lists.{by_test, empty_is, not_empty_in, find_some}
+use Rattle.roman_model.proofs.ArenaLemmas.{IsSame, justified_is}
+use Rattle.roman_model.proofs.WorkLemmas.{order_middle}
+use Rattle.roman_model.proofs.ExplanationLemmas.{before_is}
+use Rattle.roman_joint.specs.Numbered.{IsNumbered}
+use Rattle.roman_joint.specs.Finding.{IsFinding, Finds}
+use Rattle.roman_joint.specs.declared.finding.Finding.{Finding}
+use Rattle.roman_joint.specs.declared.finding.Finding.TheVariants.{Good, NoOutcome, Leaves}
+use Rattle.roman_joint.proofs.ArenaFacts.{numbered_same}
+use Rattle.roman_order.specs.Board.{has_entry, place_of}
+use Rattle.roman_order.proofs.Places.{is_some-place_of}
+use Rattle.roman_relation.proofs.Beginnings.{listed_is}
+use Rattle.roman_cert.proofs.Texts.{drop_at}
+
+-- Places
+
+position_least : {X : Type 0} (test : X → Bool) (d : ℕ) (xs : List X) (m : ℕ) → position_from test d xs ≡ Some m → d ≤ m
+position_least test d [] m e = cc
+position_least test d (x ∷ xs) m e = elim (cases_Bool (test x)) [
+  | inl t ↦ let same : d ≡ m = let first = rw t at e in cc in omega arith
+  | inr f ↦ let later = rw f at e in omega (arith, position_least test (d + 1) xs m later)
+]
+
+-- the first element that passes is among the first i exactly where its place is
+position_among : {X : Type 0} (test : X → Bool) (d i : ℕ) (xs : List X) (m : ℕ) → position_from test d xs ≡ Some m → list_any test (take i xs) ≡ ltb m (d + i)
+position_among test d i [] m e = cc
+position_among test d zero (x ∷ xs) m e = sym (le-ltb m (d + 0) (omega (arith, position_least test d (x ∷ xs) m e)))
+position_among test d (suc i) (x ∷ xs) m e = elim (cases_Bool (test x)) [
+  | inl t ↦
+      let same : d ≡ m = let first = rw t at e in cc in
+      rw t (sym (lt-ltb m (d + suc i) (omega arith)))
+  | inr f ↦
+      let later = rw f at e in
+      let shifted : (d + 1) + i ≡ d + suc i = omega arith in
+      rw f (position_among test (d + 1) i xs m later ∙ ap (ltb m) shifted)
+]
+
+-- a listed pair stands before a place exactly where its own is smaller
+pub place_before : (L : List (Entry ℕ)) (q i m : ℕ) → place_of L q ≡ Some m → ltb m i ≡ has_entry (take i L) q
+place_before L q i m e =
+    let whole : 0 + i ≡ i = omega arith in
+    sym (position_among (λ (x : Entry ℕ). eqb q x.node) 0 i L m e ∙ ap (ltb m) whole)
+
+-- a pair that isn't listed stands nowhere
+pub no_place_before : (L : List (Entry ℕ)) (q i : ℕ) → place_of L q ≡ None → false ≡ has_entry (take i L) q
+no_place_before L q i e =
+    let test : Entry ℕ → Bool = λ x. eqb q x.node in
+    let none : has_entry L q ≡ false = sym (is_some-place_of L q) ∙ ap (λ (o : Option ℕ). elim o [ None ↦ false | Some m ↦ true ]) e in
+    let split : (list_any test (take i L) || list_any test (drop i L)) ≡ false = sym (list_any-append test (take i L) (drop i L)) ∙ ap (list_any test) (take-append-drop i L) ∙ none in
+    sym (or_parts (list_any test (take i L)) (list_any test (drop i L)) split).0
+
+-- Entries
+
+pub entry_split : {X : Type 0} (xs : List X) (i : ℕ) (x : X) → slice_get xs i ≡ Some x → xs ≡ take i xs ++ x ∷ drop (i + 1) xs
+entry_split xs i x e = sym (take-append-drop i xs) ∙ ap (λ ys. take i xs ++ ys) (drop_at xs i x e)
+
+-- an entry of a removal list is new after those before it, and they justify it
+pub entry_holds : {N : Type 0} (A : Arena N) (L : List (Entry N)) (i : ℕ) (x : Entry N) → IsOrder A L → slice_get L i ≡ Some x →
+    IsFalse (is_listed A (take i L) x.node) × IsTrue (is_justified A (is_listed A (take i L)) x.node x.reason)
+entry_holds A L i x order e = order_middle A (take i L) (drop (i + 1) L) x (subst (IsOrder A) (entry_split L i x e) order)
+
+-- the entries before that of the node are those before its place
+pub entries_at : {N : Type 0} (A : Arena N) → IsSame A → (L : List (Entry N)) (i : ℕ) (x : Entry N) → IsOrder A L → slice_get L i ≡ Some x → entries_before A L x.node ≡ take i L
+entries_at A same L i x order e =
+    ap (λ M. entries_before A M x.node) (entry_split L i x e) ∙ before_is A (take i L) x (drop (i + 1) L) (same.itself x.node) (entry_holds A L i x order e).0
+
+-- the action of an entry is allowed at its node
+pub entry_allowed : {N : Type 0} (A : Arena N) (L : List (Entry N)) (i : ℕ) (p : N) (a : ℕ) → IsOrder A L → slice_get L i ≡ Some (record { node = p; reason = Act a }) → IsTrue (A.allows p a)
+entry_allowed A L i p a order e = (justified_is A (is_listed A (take i L)) p a (entry_holds A L i (record { node = p; reason = Act a }) order e).1).0
+
+-- Answers
+
+-- the pair that a finding names
+abbrev pub pair_of : Finding → Option ℕ
+pair_of Good = None
+pair_of NoOutcome = None
+pair_of (Leaves env state pair) = Some pair
+
+pub no_pair : (f : Finding) → (f ≡ Good) ⊎ (f ≡ NoOutcome) → pair_of f ≡ None
+no_pair f (inl e) = ap pair_of e
+no_pair f (inr e) = ap pair_of e
+
+-- tests that agree find the same
+find_alike : {X : Type 0} (p q : X → Bool) (xs : List X) → ((x : X) → p x ≡ q x) → find p xs ≡ find q xs
+find_alike p q [] same = refl
+find_alike p q (x ∷ xs) same = ap₂ (λ b o. cond b (Some x) o) (same x) (find_alike p q xs same)
+
+-- the first outcome that stands before the entry's place is the defeating answer
+pub answer_found : (A : Arena ℕ) → IsNumbered A → (n : Sizes) (L : List (Entry ℕ)) (i p a k : ℕ) (finding : Finding) → IsOrder A L → slice_get L i ≡ Some (record { node = p; reason = Act a }) →
+    Finds n k (has_entry (take i L)) (A.outcomes p a k) finding → pair_of finding ≡ answer A L p a k
+answer_found A ok n L i p a k finding order e found = named finding found.is ∙ sym is
+  where
+    same : (q : ℕ) → is_listed A (entries_before A L p) q ≡ has_entry (take i L) q
+    same q = ap (λ M. is_listed A M q) (entries_at A (numbered_same A ok) L i (record { node = p; reason = Act a }) order e) ∙ listed_is A ok (take i L) q
+
+    is : answer A L p a k ≡ find (has_entry (take i L)) (A.outcomes p a k)
+    is = find_alike (is_listed A (entries_before A L p)) (has_entry (take i L)) (A.outcomes p a k) same
+
+    named : (f : Finding) → IsFinding n k (has_entry (take i L)) (A.outcomes p a k) f → pair_of f ≡ find (has_entry (take i L)) (A.outcomes p a k)
+    named Good h = sym h.1
+    named NoOutcome h = ap (find (has_entry (take i L))) (sym h)
+    named (Leaves env state pair) h = sym h.0
+
+-- it is a pair of the arena
+pub answer_within : (A : Arena ℕ) → IsNumbered A → (L : List (Entry ℕ)) (p a k q : ℕ) → p < length A.nodes → Some q ≡ answer A L p a k → q < length A.nodes
+answer_within A ok L p a k q l e = ok.closed p a k q l (find_some (is_listed A (entries_before A L p)) (A.outcomes p a k) q (sym e)).0
+
+-- a seat that isn't ready has none
+pub unready_answer : (A : Arena ℕ) → IsNumbered A → (L : List (Entry ℕ)) (p a k : ℕ) → IsFalse (A.ready k) → answer A L p a k ≡ None
+unready_answer A ok L p a k frozen = by_test (is_empty (A.outcomes p a k))
+    (λ t. ap (find (is_listed A (entries_before A L p))) (empty_is (A.outcomes p a k) t))
+    (λ f. let (q, i) = not_empty_in (A.outcomes p a k) f in absurd (both_ways (A.ready k) frozen (ok.served p a k q i).2))

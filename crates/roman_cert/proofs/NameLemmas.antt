@@ -1,0 +1,31 @@
+-- The names of the states of services.
+use Rattle.std.proofs.Common.{◌≡◌, ℕ, ◌<◌, List, [], map, length, Some, slice_get, slice_index, sym, ap, ◌∙◌, subst}
+use Rattle.std.specs.Option.{option_map}
+use Rattle.std.proofs.lemmas.Option.{slice_get-map, get_or_from_slice_get}
+use Rattle.roman_model.specs.Explanation.{SeatNames, name_at, seat_names}
+use Rattle.roman_model.specs.Numbers.{sizes_of}
+use Rattle.roman_parts.specs.Named.{NamedBeh}
+use Rattle.roman_joint.specs.NamedSys.{NamedSys, IsNamedSys, system_of}
+use Rattle.roman_joint.specs.Names.{beh_states, names_of, names_of_seat}
+use Rattle.roman_joint.specs.Behaviours.{IsBehaviourOf}
+use Rattle.roman_joint.proofs.BehaviourLemmas.{behaves}
+
+-- a service has as many states as its behaviour
+pub state_within : (n : NamedSys) (k b : ℕ) (beh : NamedBeh) → IsNamedSys n → IsBehaviourOf n k beh → length beh.states ≡ beh.beh.states → b < slice_index (sizes_of (system_of n)).seats k → b < length beh.states
+state_within n k b beh known of states below =
+    let at = behaves n k beh known of in
+    let size : slice_index (sizes_of (system_of n)).seats k ≡ at.seat.beh.states =
+    get_or_from_slice_get (sizes_of (system_of n)).seats k at.seat.beh.states 0 (slice_get-map (λ seat. seat.beh.states) (system_of n).seats k ∙ ap (option_map (λ seat. seat.beh.states)) at.seated) in
+    subst (λ m. b < m) (size ∙ ap (λ y. y.states) at.is ∙ sym states) below
+
+-- the names of its states are those of its behaviour's
+pub states_are : (n : NamedSys) (k : ℕ) (beh : NamedBeh) → IsBehaviourOf n k beh → (seat_names (names_of n) k).states ≡ beh.states
+states_are n k beh of =
+    ap (λ (x : SeatNames). x.states)
+    (get_or_from_slice_get (names_of n).seats k (names_of_seat n.catalogue of.seat) (record { service = []; states = [] })
+    (slice_get-map (names_of_seat n.catalogue) n.seats k ∙ ap (option_map (names_of_seat n.catalogue)) of.seated))
+    ∙ get_or_from_slice_get (map beh_states n.catalogue) of.seat.behaviour beh.states [] (slice_get-map beh_states n.catalogue of.seat.behaviour ∙ ap (option_map beh_states) of.placed)
+
+-- the name that stands at a place
+pub name_there : (names : List (List ℕ)) (i : ℕ) (name : List ℕ) → slice_get names i ≡ Some name → name ≡ name_at names i
+name_there names i name e = sym (get_or_from_slice_get names i name [] e)

@@ -1,0 +1,69 @@
+-- The entries of an explanation, one after the other.
+use Rattle.std.proofs.Common.{◌≡◌, ℕ, ◌+◌, ◌<◌, ◌≤◌, true, List, [], ◌∷◌, ◌++◌, length, drop, filter, Some, slice_get, IsTrue, IsFalse, refl, sym, ap, ◌∙◌, codes, flat_map, append_assoc}
+use Rattle.std.proofs.lemmas.Option.{same_Some}
+use Rattle.std.proofs.lemmas.List.{drop_all}
+use Rattle.std.proofs.lemmas.Bool.{cond-true, cond-false}
+use Rattle.roman_model.specs.Arena.{Entry, IsOrder}
+use Rattle.roman_model.specs.Numbers.{sizes_of, count}
+use Rattle.roman_model.specs.declared.reason.Reason.{Reason}
+use Rattle.roman_model.specs.declared.reason.Reason.TheVariants.{Final, Act}
+use Rattle.roman_model.proofs.NumberedLists.{numbered_is_arena}
+use Rattle.roman_joint.specs.NamedSys.{NamedSys, system_of, IsNamedSys}
+use Rattle.roman_order.specs.Board.{Board, has_entry, is_marked}
+use Rattle.roman_relation.specs.Masked.{IsShaped}
+use Rattle.roman_relation.specs.Greatest.{arena_of}
+use Rattle.roman_relation.proofs.Closing.{entry_in}
+use Rattle.roman_relation.proofs.Relating.{listed_numbers}
+use Rattle.roman_cert.specs.Reasons.{IsReasonOf}
+use Rattle.roman_cert.specs.Slices.{lost_text, answers_text, entry_text, marked_entries, slice_text}
+use Rattle.roman_cert.proofs.Texts.{drop_at}
+use Rattle.roman_cert.proofs.Answering.{entry_allowed}
+
+-- An entry
+
+-- the entry at a place is of a pair of the system
+pub entry_pair : (n : NamedSys) (board : Board) (i : ℕ) (x : Entry ℕ) → IsShaped (arena_of n) board → ((p : ℕ) → has_entry board.list p ≡ true → p < board.pairs) → slice_get board.list i ≡ Some x →
+    x.node < count (sizes_of (system_of n))
+entry_pair n board i x shaped in_range e = listed_numbers (system_of n) board shaped.pairs in_range x (entry_in board.list i x e)
+
+-- its reason names an action of the system
+pub entry_reason : (n : NamedSys) (L : List (Entry ℕ)) (i : ℕ) (x : Entry ℕ) → IsNamedSys n → IsOrder (arena_of n) L → slice_get L i ≡ Some x → IsReasonOf (system_of n).env.actions x.reason
+entry_reason n L i x known order e = by_reason x.reason e
+  where
+    by_reason : (r : Reason) → slice_get L i ≡ Some (record { node = x.node; reason = r }) → IsReasonOf (system_of n).env.actions r
+    by_reason Final f = tt
+    by_reason (Act a) f = (numbered_is_arena (system_of n) known.system).allowed x.node a (entry_allowed (arena_of n) L i x.node a order f)
+
+-- its lines are the line of its pair and those of the services
+pub entry_lines_are : (n : NamedSys) (L : List (Entry ℕ)) (i : ℕ) (y x : Entry ℕ) → slice_get L i ≡ Some y → slice_get L i ≡ Some x → lost_text n y ++ answers_text n L x ≡ entry_text n L x
+unfolding entry_text
+entry_lines_are n L i y x e f = ap (λ z. lost_text n z ++ answers_text n L x) (same_Some y x (sym e ∙ f))
+
+-- The marked entries
+
+-- the lines of the marked entries from place i on, and the last line
+pub slice_from : NamedSys → Board → ℕ → List ℕ
+slice_from n board i = slice_text n board.list (filter (λ x. is_marked board x.node) (drop i board.list))
+
+pub slice_begins : (n : NamedSys) (board : Board) → slice_from n board 0 ≡ slice_text n board.list (marked_entries board)
+unfolding slice_from marked_entries
+slice_begins n board = refl
+
+pub slice_next : (n : NamedSys) (board : Board) (i : ℕ) (x : Entry ℕ) → slice_get board.list i ≡ Some x → IsTrue (is_marked board x.node) → slice_from n board i ≡ entry_text n board.list x ++ slice_from n board (i + 1)
+unfolding slice_from slice_text
+slice_next n board i x e marked =
+    let rest = filter (λ x. is_marked board x.node) (drop (i + 1) board.list) in
+    ap (λ M. slice_text n board.list (filter (λ x. is_marked board x.node) M)) (drop_at board.list i x e)
+    ∙ ap (slice_text n board.list) (cond-true (is_marked board x.node) (x ∷ rest) rest marked)
+    ∙ append_assoc (entry_text n board.list x) (flat_map (entry_text n board.list) rest) (codes "end\n")
+
+pub slice_skip : (n : NamedSys) (board : Board) (i : ℕ) (x : Entry ℕ) → slice_get board.list i ≡ Some x → IsFalse (is_marked board x.node) → slice_from n board i ≡ slice_from n board (i + 1)
+unfolding slice_from
+slice_skip n board i x e unmarked =
+    let rest = filter (λ x. is_marked board x.node) (drop (i + 1) board.list) in
+    ap (λ M. slice_text n board.list (filter (λ x. is_marked board x.node) M)) (drop_at board.list i x e)
+    ∙ ap (slice_text n board.list) (cond-false (is_marked board x.node) (x ∷ rest) rest unmarked)
+
+pub slice_ends : (n : NamedSys) (board : Board) (i : ℕ) → length board.list ≤ i → slice_from n board i ≡ codes "end\n" ++ []
+unfolding slice_from slice_text
+slice_ends n board i past = ap (λ M. slice_text n board.list (filter (λ x. is_marked board x.node) M)) (drop_all i board.list past)

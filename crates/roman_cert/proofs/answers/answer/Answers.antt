@@ -1,0 +1,40 @@
+use Rattle.std.proofs.Common.{take, sym, ◌∙◌, rules}
+use Rattle.roman_order.specs.Board.{has_entry, entry_of}
+use Rattle.roman_model.specs.declared.reason.Reason.TheVariants.{Act}
+use Rattle.roman_joint.specs.declared.finding.Finding.TheVariants.{Leaves}
+use Rattle.roman_relation.proofs.Closing.{entry_node}
+use Rattle.roman_cert.proofs.Answering.{entry_allowed, no_pair, answer_found, answer_within, unready_answer}
+use Rattle.roman_cert.proofs.answers.answer.Goals as goal
+
+pub returns-then-not-is_ready-clause-answer : goal.returns-then-not-is_ready-clause-answer
+returns-then-not-is_ready-clause-answer g c =
+    sym (unready_answer (g.J.Rules.arena c.args.joint.now) c.known.ensures c.args.order.now.list c.args.p c.args.a c.args.k (sym c.is_ready.ensures ∙ c.if-not-is_ready.true))
+
+pub examine-requires-clause-pair : goal.examine-requires-clause-pair
+examine-requires-clause-pair g c =
+    entry_node (g.J.Rules.arena c.args.joint.now) c.known.ensures c.args.order.now c.args.i (entry_of (c.args.p, Act c.args.a)) c.requires.shaped c.len.ensures.in_range c.requires.entry
+
+pub examine-requires-clause-allowed : goal.examine-requires-clause-allowed
+examine-requires-clause-allowed g c = entry_allowed (g.J.Rules.arena c.args.joint.now) c.args.order.now.list c.args.i c.args.p c.args.a c.requires.valid c.requires.entry
+
+pub returns-in-Leaves-clause-answer : goal.returns-in-Leaves-clause-answer
+returns-in-Leaves-clause-answer g c =
+    let L = c.args.order.now.list in
+    answer_found (g.J.Rules.arena c.args.joint.now) c.known.ensures (g.J.Rules.sizes c.args.joint.now) L c.args.i c.args.p c.args.a c.args.k (Leaves c.in-Leaves.env c.in-Leaves.state c.in-Leaves.pair)
+    c.requires.valid c.requires.entry (c.in-Leaves.ensures.finding (has_entry (take c.args.i L)) (λ q b l h. search rules))
+
+pub returns-in-Leaves-clause-within : goal.returns-in-Leaves-clause-within
+returns-in-Leaves-clause-within g c =
+    let A = g.J.Rules.arena c.args.joint.now in
+    let L = c.args.order.now.list in
+    answer_within A c.known.ensures L c.args.p c.args.a c.args.k c.in-Leaves.pair
+    (entry_node A c.known.ensures c.args.order.now c.args.i (entry_of (c.args.p, Act c.args.a)) c.requires.shaped c.len.ensures.in_range c.requires.entry)
+    (answer_found A c.known.ensures (g.J.Rules.sizes c.args.joint.now) L c.args.i c.args.p c.args.a c.args.k (Leaves c.in-Leaves.env c.in-Leaves.state c.in-Leaves.pair)
+    c.requires.valid c.requires.entry (c.in-Leaves.ensures.finding (has_entry (take c.args.i L)) (λ q b l h. search rules)))
+
+pub returns-in-Good-clause-answer : goal.returns-in-Good-clause-answer
+returns-in-Good-clause-answer g c =
+    let L = c.args.order.now.list in
+    sym (no_pair c.examine.result c.in-Good.is)
+    ∙ answer_found (g.J.Rules.arena c.args.joint.now) c.known.ensures (g.J.Rules.sizes c.args.joint.now) L c.args.i c.args.p c.args.a c.args.k c.examine.result
+    c.requires.valid c.requires.entry (c.examine.ensures.finding (has_entry (take c.args.i L)) (λ q b l h. search rules))

@@ -1,0 +1,49 @@
+use Rattle.std.proofs.Common.{ap, sym, subst, arith}
+use Rattle.roman_model.specs.Arena.{IsOrder}
+use Rattle.roman_model.specs.Numbers.{sizes_of, count}
+use Rattle.roman_model.proofs.Lists.{length-below}
+use Rattle.roman_model.proofs.CertificateLaws.{complete_order}
+use Rattle.roman_joint.specs.NamedSys.{system_of}
+use Rattle.roman_order.specs.Board.{Board}
+use Rattle.roman_relation.specs.Greatest.{arena_of, IsRelation}
+use Rattle.roman_relation.proofs.Relating.{listed_numbers}
+use Rattle.roman_cert.proofs.Slicing.{explanation_written, unrelated_explained, unrelated_wins, marks_keep}
+use Rattle.roman_cert.proofs.slice.write_slice.Goals as goal
+
+pub mark_slice-requires-clause-valid : goal.mark_slice-requires-clause-valid
+mark_slice-requires-clause-valid g c =
+    let relation = c.args.relation.now in
+    let s = system_of relation.joint in
+    complete_order s relation.order.list c.known.ensures.system (listed_numbers s relation.order c.requires.relation.shaped.pairs c.len.ensures.in_range) c.requires.relation.complete.list
+
+pub mark_slice-requires-clause-pair : goal.mark_slice-requires-clause-pair
+mark_slice-requires-clause-pair g c = omega (arith, c.requires.pair, length-below (count (sizes_of (system_of c.args.relation.now.joint))))
+
+pub write_marked-requires-clause-valid : goal.write_marked-requires-clause-valid
+write_marked-requires-clause-valid g c =
+    let relation = c.args.relation.now in
+    let s = system_of relation.joint in
+    subst (IsOrder (arena_of relation.joint)) (sym (ap (λ (b : Board). b.list) c.mark_slice.ensures.rest))
+    (complete_order s relation.order.list c.known.ensures.system (listed_numbers s relation.order c.requires.relation.shaped.pairs c.len.ensures.in_range) c.requires.relation.complete.list)
+
+pub returns-clause-text : goal.returns-clause-text
+returns-clause-text g c =
+    let relation = c.args.relation.now in
+    let s = system_of relation.joint in
+    explanation_written relation.joint c.mark_slice.new.order relation.order.list c.args.p (g.O.Sink.written c.args.out.now) (g.O.Sink.written c.write_marked.new.out) c.write_marked.result c.known.ensures
+    (listed_numbers s relation.order c.requires.relation.shaped.pairs c.len.ensures.in_range) c.requires.pair (ap (λ (b : Board). b.list) c.mark_slice.ensures.rest) c.mark_slice.ensures.marked c.write_marked.ensures.text
+
+pub returns-clause-explained : goal.returns-clause-explained
+returns-clause-explained g c =
+    let relation = c.args.relation.now in
+    unrelated_explained relation.joint relation.order.list c.args.p c.known.ensures c.requires.relation.complete.list c.requires.pair c.requires.unrelated
+
+pub returns-clause-wins : goal.returns-clause-wins
+returns-clause-wins g c =
+    let relation = c.args.relation.now in
+    unrelated_wins relation.joint relation.order.list c.args.p c.known.ensures c.requires.relation.complete.list c.requires.pair c.requires.unrelated
+
+pub returns-clause-relation : goal.returns-clause-relation
+returns-clause-relation g c =
+    let relation = c.args.relation.now in
+    subst (IsRelation relation.joint) (sym c.mark_slice.ensures.rest) (marks_keep relation.joint relation.order c.mark_slice.new.order.marks c.requires.relation)

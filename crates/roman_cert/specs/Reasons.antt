@@ -1,0 +1,9 @@
+-- Reasons over a system.
+use Rattle.std.specs.Prelude.{ℕ, ◌<◌}
+use Rattle.roman_model.specs.declared.reason.Reason.{Reason}
+use Rattle.roman_model.specs.declared.reason.Reason.TheVariants.{Final, Act}
+
+-- the action that the reason names is one of so many
+abbrev pub IsReasonOf : ℕ → Reason → Type 0
+IsReasonOf actions Final = Unit {0}
+IsReasonOf actions (Act a) = a < actions

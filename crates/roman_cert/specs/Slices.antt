@@ -1,0 +1,32 @@
+-- The texts of an explanation, where entries and lists are over the numbers of pairs.
+use Rattle.std.specs.Prelude.{ℕ, List, [], ◌∷◌, ◌++◌, map, filter, codes}
+use Rattle.std.specs.List.{flat_map}
+use Rattle.roman_model.specs.Lines.{text_of}
+use Rattle.roman_model.specs.Arena.{Entry}
+use Rattle.roman_model.specs.Numbers.{sizes_of, pair_at, entry_at}
+use Rattle.roman_model.specs.Explanation.{lost_line, answer_lines}
+use Rattle.roman_joint.specs.NamedSys.{NamedSys, system_of}
+use Rattle.roman_joint.specs.Names.{names_of}
+use Rattle.roman_order.specs.Board.{Board, is_marked}
+
+-- the line that says which pair is lost, and why
+unfoldable pub lost_text : NamedSys → Entry ℕ → List ℕ
+lost_text n x = text_of (lost_line (names_of n) (entry_at (system_of n) x) ∷ [])
+
+-- the lines that say how the ready services may answer the entry's action, where that is one of the list
+unfoldable pub answers_text : NamedSys → List (Entry ℕ) → Entry ℕ → List ℕ
+answers_text n L x =
+    let s = system_of n in
+    text_of (answer_lines s (names_of n) (map (entry_at s) L) (pair_at (sizes_of s) x.node) x.reason)
+
+-- both
+unfoldable pub entry_text : NamedSys → List (Entry ℕ) → Entry ℕ → List ℕ
+entry_text n L x = lost_text n x ++ answers_text n L x
+
+-- the entries whose pairs are marked
+unfoldable pub marked_entries : Board → List (Entry ℕ)
+marked_entries board = filter (λ x. is_marked board x.node) board.list
+
+-- both for each of those entries of the list, and the last line
+unfoldable pub slice_text : NamedSys → List (Entry ℕ) → List (Entry ℕ) → List ℕ
+slice_text n L M = flat_map (entry_text n L) M ++ codes "end\n"

@@ -1,0 +1,54 @@
+// The answers that defeat the seats: the entries on which an entry rests.
+ghost use Rattle.std.specs.Prelude.{◌≡◌, ◌<◌, length, take, slice_get, Some, IfSome};
+ghost use Rattle.roman_model.specs.Arena.{IsOrder};
+ghost use Rattle.roman_model.specs.Explanation.{answer as answer_of};
+ghost use Rattle.roman_order.specs.Board.{entry_of, has_entry};
+ghost use Rattle.roman_relation.specs.Masked.{IsShaped};
+
+use roman_io::Steps;
+use roman_joint::{Finding, Rules};
+use roman_model::Reason;
+use roman_order::Order;
+use std::sync::ledger::Ledger;
+
+/// Whether the pair `q` stands in the list before place `i`.
+fn is_before(order: &Order, i: u32, q: u32) -> bool
+    requires { q < order.now.pairs }
+    ensures { result ≡ has_entry (take i order.now.list) q }
+{
+    match order.stamp(q) {
+        Some(place) => place < i,
+        None => false,
+    }
+}
+
+/// The defeating answer of seat `k` to the entry at place `i`, for the pair `p` and the action `a`:
+/// the first outcome, by the environment's state and then by the seat's, whose pair stands earlier.
+/// `None` where the seat isn't ready or has no such outcome.
+pub(crate) fn answer<J: Rules, L: Ledger>(
+    joint: &J,
+    order: &Order,
+    i: u32,
+    p: u32,
+    a: u8,
+    k: u8,
+    steps: &mut Steps<L>,
+) -> Option<u32>
+    requires shaped { IsShaped (J.arena joint.now) order.now }
+    requires valid { IsOrder (J.arena joint.now) order.now.list }
+    requires entry { slice_get order.now.list i ≡ Some (entry_of (p, Reason.Act a)) }
+    requires seat { k < (J.arena joint.now).seats }
+    ensures answer { result ≡ answer_of (J.arena joint.now) order.now.list p a k }
+    ensures within { IfSome result (λ q. q < length (J.arena joint.now).nodes) }
+{
+    joint.known();
+    order.len();
+    if !joint.is_ready(k) {
+        return None;
+    }
+    let is_later = |q: u32| !is_before(order, i, q);
+    match joint.examine(&is_later, p, a, k, steps) {
+        Finding::Leaves { pair, .. } => Some(pair),
+        Finding::Good | Finding::NoOutcome => None,
+    }
+}

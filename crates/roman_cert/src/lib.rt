@@ -1,0 +1,19 @@
+//! The writers of certificates and of explanations.
+//!
+//! [`write_order`] writes the certificate of a relation: its removal list. Whoever doubts that the
+//! list is complete may have the text checked, against the transitions of the system alone.
+//! [`write_slice`] explains why a pair isn't related: it writes the part of the list on which the
+//! pair's entry rests. Nothing here takes memory.
+#![tactic(auto)]
+
+mod answers;
+mod certificate;
+mod lines;
+mod marking;
+mod naming;
+mod slice;
+#[cfg(test)]
+mod tests;
+
+pub use certificate::write_order;
+pub use slice::write_slice;

@@ -1,0 +1,104 @@
+// The lines of an explanation.
+ghost use Rattle.std.specs.Prelude.{◌≡◌, ◌<◌, ◌≤◌, ◌++◌, [], ◌∷◌, length, codes, slice_index, IfSome};
+ghost use Rattle.std.specs.Option.{ForSome, option_map};
+ghost use Rattle.roman_io.specs.Faults.{HasCause};
+ghost use Rattle.roman_text.specs.Pages.{Gathers};
+ghost use Rattle.roman_model.specs.Explanation.{name_at, seat_names, reason_name, answer_line};
+ghost use Rattle.roman_model.specs.Lines.{text_of};
+ghost use Rattle.roman_model.specs.Numbers.{sizes_of, count, pair_at};
+ghost use Rattle.roman_joint.specs.NamedSys.{system_of};
+ghost use Rattle.roman_joint.specs.Names.{names_of};
+ghost use Rattle.roman_order.specs.Board.{entry_of};
+ghost use Rattle.roman_cert.specs.Reasons.{IsReasonOf};
+ghost use Rattle.roman_cert.specs.Slices.{lost_text};
+
+use crate::naming::{action_name, env_name, service_name, state_name, target_name};
+use roman_io::{Failed, Sink};
+use roman_joint::Joint;
+use roman_model::Reason;
+use roman_text::{Page, Piece};
+
+/// Takes the line of the entry for the pair `p`.
+pub(crate) fn push_lost<O: Sink>(
+    joint: &Joint,
+    p: u32,
+    reason: Reason,
+    page: &mut Page,
+    out: &mut O,
+) -> Result<(), Failed>
+    requires pair { p < count (sizes_of (system_of joint.now)) }
+    requires reason { IsReasonOf (system_of joint.now).env.actions reason }
+    ensures gathers { Gathers (O.written out.old) (O.written out.new) page.new
+        (page.old ++ lost_text joint.now (entry_of (p, reason))) result }
+    ensures cause { HasCause (O.faults out.old) (O.faults out.new) result }
+{
+    let parts = parts_piece(joint, p);
+    page.push(parts.bytes(), out)?;
+    for k in 0..joint.seats() {
+        let state = state_piece(joint, p, k);
+        page.push(state.bytes(), out)?;
+    }
+    let why = reason_piece(joint, reason);
+    page.push(why.bytes(), out)
+}
+
+/// The beginning of a pair's line: its target's and environment's states.
+fn parts_piece(joint: &Joint, p: u32) -> Piece
+    requires { p < count (sizes_of (system_of joint.now)) }
+    ensures { let q = pair_at (sizes_of (system_of joint.now)) p in
+        result ≡ codes "lost " ++ name_at (names_of joint.now).target q.t
+        ++ 32 ∷ name_at (names_of joint.now).env q.e }
+{
+    let text = Piece::new().text(b"lost ").name(target_name(joint, p));
+    text.text(b" ").name(env_name(joint, p))
+}
+
+/// A service's state, in the line of a pair.
+fn state_piece(joint: &Joint, p: u32, k: u8) -> Piece
+    requires pair { p < count (sizes_of (system_of joint.now)) }
+    requires seat { k < length joint.now.seats }
+    ensures { let q = pair_at (sizes_of (system_of joint.now)) p in
+        result ≡ 32 ∷ name_at (seat_names (names_of joint.now) k).states (slice_index q.bs k) }
+{
+    Piece::new().text(b" ").name(state_name(joint, p, k))
+}
+
+/// The end of a pair's line: why it is lost.
+fn reason_piece(joint: &Joint, reason: Reason) -> Piece
+    requires { IsReasonOf (system_of joint.now).env.actions reason }
+    ensures { result ≡ codes ": " ++ reason_name (names_of joint.now) reason ++ 10 ∷ [] }
+{
+    let text = Piece::new().text(b": ");
+    match reason {
+        Reason::Final => text.text(b"final\n"),
+        Reason::Act(a) => text.name(action_name(joint, a)).text(b"\n"),
+    }
+}
+
+/// The line of the service at place `k`: with which states it may answer, or that it cannot.
+pub(crate) fn answer_piece(joint: &Joint, k: u8, answer: Option<u32>) -> Piece
+    requires seat { k < length joint.now.seats }
+    requires pair { ForSome answer (λ q. q < count (sizes_of (system_of joint.now))) }
+    ensures { let answered = option_map (pair_at (sizes_of (system_of joint.now))) answer in
+        result ≡ text_of (answer_line (names_of joint.now) k answered ∷ []) }
+{
+    let text = Piece::new().text(b"  ").name(service_name(joint, k));
+    match answer {
+        None => text.text(b" cannot\n"),
+        Some(q) => add_states(text, joint, k, q),
+    }
+}
+
+/// Adds the states with which the service at place `k` may answer: those of the pair `q`.
+fn add_states(text: Piece, joint: &Joint, k: u8, q: u32) -> Piece
+    requires room { length text ≤ 34 }
+    requires seat { k < length joint.now.seats }
+    requires pair { q < count (sizes_of (system_of joint.now)) }
+    ensures { let answered = pair_at (sizes_of (system_of joint.now)) q in
+        result ≡ text ++ codes " may answer "
+        ++ name_at (seat_names (names_of joint.now) k).states (slice_index answered.bs k)
+        ++ codes " " ++ name_at (names_of joint.now).env answered.e ++ 10 ∷ [] }
+{
+    let text = text.text(b" may answer ").name(state_name(joint, q, k));
+    text.text(b" ").name(env_name(joint, q)).text(b"\n")
+}

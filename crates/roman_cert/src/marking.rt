@@ -1,0 +1,84 @@
+// The entries on which an entry rests, as marks of their pairs.
+ghost use Rattle.std.specs.Prelude.{◌≡◌, ℕ, ◌<◌, ◌&&◌, ◌||◌, length, slice_get, Some};
+ghost use Rattle.roman_model.specs.Arena.{Entry, is_among, IsOrder};
+ghost use Rattle.roman_model.specs.Explanation.{answers, rests_on};
+ghost use Rattle.roman_order.specs.Board.{entry_of, is_marked};
+ghost use Rattle.roman_relation.specs.Masked.{IsShaped};
+
+use crate::answers::answer;
+use roman_io::Steps;
+use roman_joint::Rules;
+use roman_model::Reason;
+use roman_order::Order;
+use std::sync::ledger::Ledger;
+
+/// Marks the entries on which that of the pair `p` rests, its own among them, and no others. Since
+/// each answer to an entry stands before it, one way through the list from its end is enough.
+pub(crate) fn mark_slice<J: Rules, L: Ledger>(
+    joint: &J,
+    order: &mut Order,
+    p: u32,
+    steps: &mut Steps<L>,
+)
+    requires shaped { IsShaped (J.arena joint.now) order.old }
+    requires valid { IsOrder (J.arena joint.now) order.old.list }
+    requires pair { p < length (J.arena joint.now).nodes }
+    ensures marked { let L = order.old.list in
+        (q : ℕ) → is_marked order.new q ≡ rests_on (J.arena joint.now) L (length L) p q }
+    ensures rest { order.new ≡ record order.old { marks = order.new.marks } }
+{
+    joint.known();
+    order.clear_marks();
+    order.mark(p);
+    for i in (0..order.len()).rev() {
+        visit(joint, order, i, steps);
+    }
+}
+
+/// Marks the defeating answers to the entry at place `i`, where that is marked.
+fn visit<J: Rules, L: Ledger>(joint: &J, order: &mut Order, i: u32, steps: &mut Steps<L>)
+    requires shaped { IsShaped (J.arena joint.now) order.old }
+    requires valid { IsOrder (J.arena joint.now) order.old.list }
+    requires place { i < length order.old.list }
+    ensures marked { let A = J.arena joint.now in
+        (x : Entry ℕ) → slice_get order.old.list i ≡ Some x → (q : ℕ) → is_marked order.new q
+        ≡ (is_marked order.old q || (is_marked order.old x.node
+        && is_among A (answers A order.old.list x.node x.reason) q)) }
+    ensures rest { order.new ≡ record order.old { marks = order.new.marks } }
+{
+    joint.known();
+    order.len();
+    let (p, reason) = order.entry(i);
+    if !order.marked(p) {
+        return;
+    }
+    match reason {
+        Reason::Final => {}
+        Reason::Act(a) => mark_answers(joint, order, i, p, a, steps),
+    }
+}
+
+/// Marks the defeating answers to the entry at place `i`, for the pair `p` and the action `a`.
+fn mark_answers<J: Rules, L: Ledger>(
+    joint: &J,
+    order: &mut Order,
+    i: u32,
+    p: u32,
+    a: u8,
+    steps: &mut Steps<L>,
+)
+    requires shaped { IsShaped (J.arena joint.now) order.old }
+    requires valid { IsOrder (J.arena joint.now) order.old.list }
+    requires entry { slice_get order.old.list i ≡ Some (entry_of (p, Reason.Act a)) }
+    ensures marked { let A = J.arena joint.now in
+        (q : ℕ) → is_marked order.new q
+        ≡ (is_marked order.old q || is_among A (answers A order.old.list p (Reason.Act a)) q) }
+    ensures rest { order.new ≡ record order.old { marks = order.new.marks } }
+{
+    joint.known();
+    for k in 0..joint.seats() {
+        if let Some(q) = answer(joint, order, i, p, a, k, steps) {
+            order.mark(q);
+        }
+    }
+}

@@ -1,0 +1,148 @@
+//! The explanation of a pair that isn't related.
+ghost use Rattle.std.specs.Prelude.{◌≡◌, ℕ, ◌<◌, ◌++◌, length, map, slice_get, Some};
+ghost use Rattle.roman_io.specs.Faults.{HasCause};
+ghost use Rattle.roman_io.specs.Sink.{Puts};
+ghost use Rattle.roman_text.specs.Pages.{Gathers};
+ghost use Rattle.roman_model.specs.Arena.{Entry, IsOrder};
+ghost use Rattle.roman_model.specs.Composition.{arena, Great};
+ghost use Rattle.roman_model.specs.Explanation.{explanation, explain_text, ExplainedOrder};
+ghost use Rattle.roman_model.specs.Numbers.{sizes_of, count, pair_at, entry_at};
+ghost use Rattle.roman_model.specs.Play.{OpponentWins};
+ghost use Rattle.roman_joint.specs.NamedSys.{system_of};
+ghost use Rattle.roman_joint.specs.Names.{names_of};
+ghost use Rattle.roman_relation.specs.Masked.{IsShaped};
+ghost use Rattle.roman_relation.specs.Greatest.{arena_of, IsRelation};
+ghost use Rattle.roman_cert.specs.Slices.{answers_text, entry_text, marked_entries, slice_text};
+
+use crate::answers::answer;
+use crate::lines::{answer_piece, push_lost};
+use crate::marking::mark_slice;
+use roman_io::{Failed, Sink, Steps};
+use roman_joint::{Joint, Rules};
+use roman_model::Reason;
+use roman_order::Order;
+use roman_relation::Relation;
+use roman_text::Page;
+use std::sync::ledger::Ledger;
+
+/// Writes the explanation of the pair `p`, which isn't related: the part of the removal list on
+/// which its entry rests, each entry with the answers that defeat the services.
+///
+/// What is printed is a removal list by itself and ends with the entry of `p`, and the opponent who
+/// plays by it wins within as many requests as it has entries. The marks may change, and nothing
+/// else of the relation. A failed call wrote a prefix of the explanation.
+pub fn write_slice<O: Sink, L: Ledger>(
+    relation: &mut Relation,
+    p: u32,
+    out: &mut O,
+    steps: &mut Steps<L>,
+) -> Result<(), Failed>
+    requires relation { IsRelation relation.old.joint relation.old.order }
+    requires pair { p < count (sizes_of (system_of relation.old.joint)) }
+    requires unrelated { let s = system_of relation.old.joint in
+        Great s (pair_at (sizes_of s) p) → ⊥ }
+    ensures text { let s = system_of relation.old.joint in
+        let L = map (entry_at s) relation.old.order.list in
+        Puts (O.written out.old) (O.written out.new)
+        (explain_text s (names_of relation.old.joint) L (pair_at (sizes_of s) p)) result }
+    ensures explained { let s = system_of relation.old.joint in
+        ExplainedOrder s (map (entry_at s) relation.old.order.list) (pair_at (sizes_of s) p) }
+    ensures wins { let s = system_of relation.old.joint in
+        let here = pair_at (sizes_of s) p in
+        let L = map (entry_at s) relation.old.order.list in
+        OpponentWins s (explanation (arena s) L here) here }
+    ensures relation { IsRelation relation.new.joint relation.new.order }
+    ensures rest { relation.new ≡ record relation.old {
+      order = record relation.old.order { marks = relation.new.order.marks };
+    } }
+    ensures cause { HasCause (O.faults out.old) (O.faults out.new) result }
+{
+    relation.joint.known();
+    relation.order.len();
+    mark_slice(&relation.joint, &mut relation.order, p, steps);
+    write_marked(&relation.joint, &relation.order, out, steps)
+}
+
+/// Writes the lines of the entries whose pairs are marked, and the last line.
+fn write_marked<O: Sink, L: Ledger>(
+    joint: &Joint,
+    order: &Order,
+    out: &mut O,
+    steps: &mut Steps<L>,
+) -> Result<(), Failed>
+    requires shaped { IsShaped (arena_of joint.now) order.now }
+    requires valid { IsOrder (arena_of joint.now) order.now.list }
+    ensures text { Puts (O.written out.old) (O.written out.new)
+        (slice_text joint.now order.now.list (marked_entries order.now)) result }
+    ensures cause { HasCause (O.faults out.old) (O.faults out.new) result }
+{
+    joint.known();
+    let mut page = Page::new();
+    for i in 0..order.len() {
+        let (p, _) = order.entry(i);
+        if !order.marked(p) {
+            continue;
+        }
+        push_entry(joint, order, i, &mut page, out, steps)?;
+    }
+    page.push(b"end\n", out)?;
+    page.flush(out)
+}
+
+/// Takes the lines of the entry at place `i`.
+fn push_entry<O: Sink, L: Ledger>(
+    joint: &Joint,
+    order: &Order,
+    i: u32,
+    page: &mut Page,
+    out: &mut O,
+    steps: &mut Steps<L>,
+) -> Result<(), Failed>
+    requires shaped { IsShaped (arena_of joint.now) order.now }
+    requires valid { IsOrder (arena_of joint.now) order.now.list }
+    requires place { i < length order.now.list }
+    ensures gathers { (x : Entry ℕ) → slice_get order.now.list i ≡ Some x →
+        Gathers (O.written out.old) (O.written out.new) page.new
+        (page.old ++ entry_text joint.now order.now.list x) result }
+    ensures cause { HasCause (O.faults out.old) (O.faults out.new) result }
+{
+    joint.known();
+    order.len();
+    let (p, reason) = order.entry(i);
+    push_lost(joint, p, reason, page, out)?;
+    push_answers(joint, order, i, page, out, steps)
+}
+
+/// Takes a line for each ready service, where the entry at place `i` has an action as its reason.
+fn push_answers<O: Sink, L: Ledger>(
+    joint: &Joint,
+    order: &Order,
+    i: u32,
+    page: &mut Page,
+    out: &mut O,
+    steps: &mut Steps<L>,
+) -> Result<(), Failed>
+    requires shaped { IsShaped (arena_of joint.now) order.now }
+    requires valid { IsOrder (arena_of joint.now) order.now.list }
+    requires place { i < length order.now.list }
+    ensures gathers { (x : Entry ℕ) → slice_get order.now.list i ≡ Some x →
+        Gathers (O.written out.old) (O.written out.new) page.new
+        (page.old ++ answers_text joint.now order.now.list x) result }
+    ensures cause { HasCause (O.faults out.old) (O.faults out.new) result }
+{
+    joint.known();
+    order.len();
+    let (p, reason) = order.entry(i);
+    let Reason::Act(a) = reason else {
+        return Ok(());
+    };
+    for k in 0..joint.seats() {
+        if !joint.is_ready(k) {
+            continue;
+        }
+        let found = answer(joint, order, i, p, a, k, steps);
+        let line = answer_piece(joint, k, found);
+        page.push(line.bytes(), out)?;
+    }
+    Ok(())
+}

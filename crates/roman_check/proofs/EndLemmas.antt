@@ -1,0 +1,94 @@
+-- The verdict at the end of a text, and at a line at fault.
+use Rattle.std.proofs.Common.{◌≡◌, ◌≢◌, ℕ, ◌+◌, ◌≤◌, Bool, not, List, [], ◌∷◌, ◌++◌, length, drop, Some, None, filter, count_by, codes, decimal, refl, sym, ap, ap₂, ◌∙◌, subst, arith}
+use Rattle.std.specs.List.{list_any, cons_option}
+use Rattle.std.proofs.lemmas.Bool.{cond-true}
+use Rattle.std.proofs.lemmas.List.Sums.{length-filter}
+use Rattle.roman_model.specs.Lists.{below}
+use Rattle.roman_model.specs.Lines.{lines}
+use Rattle.roman_model.specs.System.{same_numbers}
+use Rattle.roman_model.specs.Arena.{Arena, Entry, is_listed}
+use Rattle.roman_model.specs.Certificate as text
+use Rattle.roman_model.specs.Certificate.{head_line, count_line, end_line, entry_of, entries_on, line_fault, IsClean, unlisted, cert_verdict}
+use Rattle.roman_model.specs.declared.limits.TheConstants.{MAX_CERTIFICATE_BYTES}
+use Rattle.roman_model.proofs.Lists.{by_test, filter_same}
+use Rattle.roman_model.proofs.CertificateLemmas.{AreFew, entry_of_other}
+use Rattle.roman_model.proofs.CertificateLaws.{due_is}
+use Rattle.roman_model.proofs.VerdictLemmas.{fault_in_body, fault_after_end, verdict_at, verdict_ended, verdict_accepted}
+use Rattle.roman_order.specs.Board.{has_entry}
+use Rattle.roman_joint.specs.Numbered.{IsNumbered}
+use Rattle.roman_check.specs.declared.audit.Audit.{Audit}
+use Rattle.roman_check.specs.declared.audit.Due.TheVariants.{Nothing, Body}
+use Rattle.roman_check.specs.declared.reader.Reader.{Reader}
+use Rattle.roman_check.specs.declared.verdict.Why.{Why}
+use Rattle.roman_check.specs.Verdicts.{fault_of}
+use Rattle.roman_check.specs.Audits.{HasRead}
+use Rattle.roman_check.specs.Readers.{HasLines, EndsAtFault}
+use Rattle.roman_check.proofs.ReasonLemmas.{listed_is}
+use Rattle.roman_check.proofs.AuditLemmas.{few_numbered, after_end}
+
+-- Whether the text may end
+
+may_not_end : (A : Arena ℕ) (ls : List (List ℕ)) (audit : Audit) → HasRead A ls audit → audit.due ≢ Nothing → line_fault A ls None ≡ Some text.Form
+may_not_end A [] audit read other = refl
+may_not_end A (head ∷ []) audit read other = refl
+may_not_end A (head ∷ size ∷ body) audit read other = by_test (list_any (same_numbers end_line) body)
+    (λ t. absurd (other (read.due ∙ cond-true (list_any (same_numbers end_line) body) Nothing Body t)))
+    (λ f. fault_in_body A head size body None f)
+
+may_end : (A : Arena ℕ) (ls : List (List ℕ)) (audit : Audit) → HasRead A ls audit → audit.due ≡ Nothing → line_fault A ls None ≡ None
+may_end A ls audit read ended =
+    let (head, size, body, e, some) = after_end ls (sym ended ∙ read.due) in
+    subst (λ ms. line_fault A ms None ≡ None) (sym e) (fault_after_end A head size body None some)
+
+pub ended_early : (A : Arena ℕ) (start : ℕ) (bytes : List ℕ) (reader : Reader) → HasLines A (lines bytes) reader → length bytes ≤ MAX_CERTIFICATE_BYTES → reader.audit.due ≢ Nothing →
+    cert_verdict A start bytes ≡ text.Rejected (reader.lines + 1) text.Form
+ended_early A start bytes reader has short other =
+    verdict_ended A start bytes (lines bytes) text.Form short refl has.clean (may_not_end A (lines bytes) reader.audit has.read other)
+    ∙ ap (λ n. text.Rejected (n + 1) text.Form) (sym has.counted)
+
+-- What is read where nothing is missing
+
+-- the first two lines are no entries
+opening_unread : (A : Arena ℕ) → IsNumbered A → (ls : List (List ℕ)) (head size : List ℕ) (body : List (List ℕ)) → ls ≡ head ∷ size ∷ body → IsClean A ls (length ls) → entries_on A ls ≡ entries_on A (drop 2 ls)
+opening_unread A ok ls head size body e clean =
+    subst (λ ms. entries_on A ms ≡ entries_on A (drop 2 ms)) (sym e)
+    (ap₂ (λ o p. cons_option o (cons_option p (entries_on A body))) first second)
+  where
+    few : AreFew (length A.nodes) A.actions
+    few = few_numbered A ok
+
+    cleaned : IsClean A (head ∷ size ∷ body) (length (head ∷ size ∷ body))
+    cleaned = subst (λ ms. IsClean A ms (length ms)) e clean
+
+    first : entry_of (length A.nodes) A.actions head ≡ None
+    first = subst (λ l. entry_of (length A.nodes) A.actions l ≡ None) (sym (due_is head_line head (cleaned 0 (omega arith)))) (entry_of_other (length A.nodes) A.actions 114 (codes "oman-order 1") few (omega arith))
+
+    second : entry_of (length A.nodes) A.actions size ≡ None
+    second = subst (λ l. entry_of (length A.nodes) A.actions l ≡ None) (sym (due_is (count_line (length A.nodes)) size (cleaned 1 (omega arith))))
+        (entry_of_other (length A.nodes) A.actions 112 (codes "airs " ++ decimal (length A.nodes)) few (omega arith))
+
+-- how many pairs aren't listed, as the order counts them
+counted_unlisted : (A : Arena ℕ) → IsNumbered A → (start : ℕ) (L : List (Entry ℕ)) (pairs related : ℕ) (alive : Bool) → pairs ≡ length A.nodes → related ≡ count_by (λ p. not (has_entry L p)) (below pairs) → alive ≡ not (has_entry L start) →
+    unlisted A start L ≡ text.Greatest related alive
+counted_unlisted A ok start L pairs related alive shaped count starts =
+    ap₂ text.Greatest
+    (ap (λ ps. length (filter (λ p. not (is_listed A L p)) ps)) (ok.nodes ∙ ap below (sym shaped))
+    ∙ ap length (filter_same (λ p. not (is_listed A L p)) (λ p. not (has_entry L p)) (below pairs) (λ p i. ap not (listed_is A ok L p)))
+    ∙ length-filter (λ p. not (has_entry L p)) (below pairs) ∙ sym count)
+    (ap not (listed_is A ok L start) ∙ sym starts)
+
+pub ended_greatest : (A : Arena ℕ) → IsNumbered A → (start : ℕ) (bytes : List ℕ) (reader : Reader) (related : ℕ) (alive : Bool) → HasLines A (lines bytes) reader → length bytes ≤ MAX_CERTIFICATE_BYTES → reader.audit.due ≡ Nothing →
+    related ≡ count_by (λ p. not (has_entry reader.audit.order.list p)) (below reader.audit.order.pairs) → alive ≡ not (has_entry reader.audit.order.list start) →
+    cert_verdict A start bytes ≡ text.Greatest related alive
+ended_greatest A ok start bytes reader related alive has short ended count starts =
+    let (head, size, body, e, some) = after_end (lines bytes) (sym ended ∙ has.read.due) in
+    verdict_accepted A start bytes (lines bytes) short refl has.clean (may_end A (lines bytes) reader.audit has.read ended)
+    ∙ ap (unlisted A start) (opening_unread A ok (lines bytes) head size body e has.clean ∙ sym has.read.list)
+    ∙ counted_unlisted A ok start reader.audit.order.list reader.audit.order.pairs related alive has.read.shaped count starts
+
+-- A last line at fault
+
+pub ended_at_fault : (A : Arena ℕ) (start : ℕ) (bytes : List ℕ) (n : ℕ) (why : Why) → EndsAtFault A bytes n why → length bytes ≤ MAX_CERTIFICATE_BYTES → cert_verdict A start bytes ≡ text.Rejected (n + 1) (fault_of why)
+ended_at_fault A start bytes n why at short =
+    verdict_at A start bytes at.text at.line [] (fault_of why) short at.split at.clean at.fault
+    ∙ ap (λ m. text.Rejected (m + 1) (fault_of why)) (sym at.counted)

@@ -1,0 +1,9 @@
+pub mod Texts
+pub mod DigitLemmas
+pub mod EntryLemmas
+pub mod ReasonLemmas
+pub mod AuditLemmas
+pub mod LongLines
+pub mod ReaderLemmas
+pub mod EndLemmas
+pub mod SourceSteps

@@ -1,0 +1,56 @@
+-- What was read of a text, byte by byte.
+use Rattle.std.specs.Prelude.{◌≡◌, ℕ, List, [], ◌∷◌, ◌++◌, length, Option, None, Some}
+use Rattle.roman_model.specs.Lines.{lines, text_of, IsLine, AreLines}
+use Rattle.roman_model.specs.Arena.{Arena}
+use Rattle.roman_model.specs.Certificate.{line_fault, IsClean}
+use Rattle.roman_check.specs.declared.verdict.Why.{Why}
+use Rattle.roman_check.specs.declared.reader.Reader.{Reader}
+use Rattle.roman_check.specs.Verdicts.{fault_of}
+use Rattle.roman_check.specs.Lines.{Holds}
+use Rattle.roman_check.specs.Audits.{HasRead}
+
+-- those lines were read, and none of them is at fault
+pub record HasLines (A : Arena ℕ) (text : List (List ℕ)) (reader : Reader) : Type 0 where
+  pub clean : IsClean A text (length text)
+  pub read : HasRead A text reader.audit
+  pub counted : reader.lines ≡ length text
+
+-- those bytes were read: whole lines, none of them at fault, and the bytes of the next
+pub record IsReading (A : Arena ℕ) (taken : List ℕ) (reader : Reader) : Type 0 where
+  pub text : List (List ℕ)
+  pub partial : List ℕ
+  pub split : taken ≡ text_of text ++ partial
+  pub whole : AreLines text
+  pub unended : IsLine partial
+  pub has : HasLines A text reader
+  pub held : Holds reader.line partial
+
+-- the text has a whole line at fault after so many clean ones
+pub record IsAtFault (A : Arena ℕ) (bytes : List ℕ) (clean_lines : ℕ) (why : Why) : Type 0 where
+  pub text : List (List ℕ)
+  pub line : List ℕ
+  pub more : List ℕ
+  pub split : bytes ≡ text_of (text ++ line ∷ []) ++ more
+  pub whole : AreLines (text ++ line ∷ [])
+  pub clean : IsClean A text (length text)
+  pub fault : line_fault A text (Some line) ≡ Some (fault_of why)
+  pub counted : clean_lines ≡ length text
+
+-- the piece was read after what was read before it, or a line that ends in it is at fault
+pub record Feeds (A : Arena ℕ) (old new : Reader) (piece : List ℕ) (fault : Option Why) : Type 0 where
+  pub reads : (taken : List ℕ) → IsReading A taken old → fault ≡ None → IsReading A (taken ++ piece) new
+  pub stops : (taken : List ℕ) (why : Why) → IsReading A taken old → fault ≡ Some why → IsAtFault A (taken ++ piece) new.lines why
+
+-- the last line of the text is at fault after so many clean ones
+pub record EndsAtFault (A : Arena ℕ) (bytes : List ℕ) (clean_lines : ℕ) (why : Why) : Type 0 where
+  pub text : List (List ℕ)
+  pub line : List ℕ
+  pub split : lines bytes ≡ text ++ line ∷ []
+  pub clean : IsClean A text (length text)
+  pub fault : line_fault A text (Some line) ≡ Some (fault_of why)
+  pub counted : clean_lines ≡ length text
+
+-- all lines were read where the text ends, or the last is at fault
+pub record Closes (A : Arena ℕ) (old new : Reader) (fault : Option Why) : Type 0 where
+  pub reads : (bytes : List ℕ) → IsReading A bytes old → fault ≡ None → HasLines A (lines bytes) new
+  pub stops : (bytes : List ℕ) (why : Why) → IsReading A bytes old → fault ≡ Some why → EndsAtFault A bytes new.lines why

@@ -1,0 +1,11 @@
+-- What a text is read as.
+use Rattle.std.specs.Prelude.{◌≡◌, ◌≢◌, ℕ, List, Option, None, Some}
+use Rattle.roman_model.specs.Lists.{IsIn}
+
+-- the answer is the thing among those whose text that is, or that there is none
+abbrev pub IsReading : {X : Type 0} → List X → (X → List ℕ) → List ℕ → Option X → Type 0
+IsReading {X} xs text_of line None = (x : X) → IsIn x xs → text_of x ≢ line
+IsReading xs text_of line (Some x) = IsIn x xs × (text_of x ≡ line)
+
+pub record Reads {X : Type 0} (xs : List X) (text_of : X → List ℕ) (line : List ℕ) (answer : Option X) : Type 0 where
+  pub is : IsReading xs text_of line answer

@@ -1,0 +1,91 @@
+//! The check of a certificate.
+ghost use Rattle.std.specs.Prelude.{◌≡◌, ◌≢◌, ℕ, ◌+◌, ◌<◌, ◌≤◌, [], length, Err, IfOk, IsErrOf};
+ghost use Rattle.roman_io.specs.Faults.{Rose};
+ghost use Rattle.roman_model.specs.Certificate.{TooLong};
+ghost use Rattle.roman_check.specs.Verdicts.{verdict_of};
+ghost use Rattle.roman_check.specs.Readers.{IsReading};
+ghost use Rattle.roman_check.specs.Checks.{HaveVerdict, NoneAtFault, GaveAtMost, IsAtEnd, SaysGreatest, Comes};
+
+use crate::error::CheckError;
+use crate::reader::Reader;
+use crate::verdict::Verdict;
+use roman_io::{Source, Steps};
+use roman_joint::Rules;
+use roman_model::MAX_CERTIFICATE_BYTES;
+use std::alloc::Global;
+use std::sync::ledger::Ledger;
+
+/// How many bytes each take asks for.
+const PIECE: usize = 4096;
+
+/// Reads a certificate to its end, to the first line at fault, or past the limit.
+fn read<J: Rules, S: Source, L: Ledger>(
+    reader: &mut Reader,
+    joint: &J,
+    start: u32,
+    source: &mut S,
+    steps: &mut Steps<L>,
+) -> Result<Verdict, CheckError>
+    requires start { start < length (J.arena joint.now).nodes }
+    requires shaped { reader.old.audit.order.pairs ≡ length (J.arena joint.now).nodes }
+    requires lines { reader.old.lines ≡ 0 }
+    requires reading { IsReading (J.arena joint.now) [] reader.old }
+    ensures comes { Comes (J.arena joint.now) start (S.rest source.old) (S.rest source.new) (S.faults source.old) (S.faults source.new) result }
+    ensures taken { GaveAtMost (MAX_CERTIFICATE_BYTES + PIECE) (S.rest source.old) (S.rest source.new) }
+    ensures whole { IfOk result (λ verdict. SaysGreatest verdict → IsAtEnd (S.rest source.new)) }
+    ensures borrowed { S.borrowed source.new ≡ S.borrowed source.old }
+    ensures texts { S.texts source.new ≡ S.texts source.old }
+{
+    let mut piece = [0u8; PIECE];
+    let mut room = MAX_CERTIFICATE_BYTES as usize;
+    'takes: loop {
+        let count = source.take(&mut piece)?;
+        if count == 0 {
+            return Ok(reader.finish(joint, start, steps));
+        }
+        let due = count.min(room);
+        if let Some(why) = reader.feed(joint, &piece[..due], steps) {
+            let line = reader.lines + 1;
+            return Ok(Verdict::Rejected { line, why });
+        }
+        if due < count {
+            return Err(CheckError::TooLong);
+        }
+        room -= count;
+    }
+}
+
+/// Checks a certificate against a system, where `start` is the start pair: the verdict says whether
+/// it is the certificate of a complete removal list, and how many pairs are then related.
+///
+/// The certificate is read line by line, and nothing past the first line at fault but the rest of
+/// one piece; it may come in any pieces, and without an end. At
+/// [`Memory`](CheckError::Memory) nothing was taken from the source. Where the source tells nothing
+/// of its bytes, the clauses speak of some bytes that it may have had.
+pub fn check<J: Rules, S: Source, L: Ledger>(
+    alloc: Global,
+    joint: &J,
+    start: u32,
+    source: &mut S,
+    steps: &mut Steps<L>,
+) -> Result<Verdict, CheckError>
+    requires { start < length (J.arena joint.now).nodes }
+
+    // The answer is the verdict that the format gives on all that the source had.
+    ensures verdict { IfOk result (λ verdict. HaveVerdict (J.arena joint.now) start (S.rest source.old) (verdict_of verdict)) }
+    ensures too_long { IsErrOf result CheckError.TooLong → HaveVerdict (J.arena joint.now) start (S.rest source.old) TooLong }
+    ensures whole { IfOk result (λ verdict. SaysGreatest verdict → IsAtEnd (S.rest source.new)) }
+
+    // A fault has its cause, and hides no line at fault.
+    ensures fault { IsErrOf result CheckError.Fault → Rose (S.faults source.old) (S.faults source.new) }
+    ensures none_at_fault { IsErrOf result CheckError.Fault → NoneAtFault (J.arena joint.now) (S.rest source.old) (S.rest source.new) }
+    ensures counts { result ≢ Err CheckError.Fault → S.faults source.new ≡ S.faults source.old }
+
+    ensures taken { GaveAtMost (MAX_CERTIFICATE_BYTES + PIECE) (S.rest source.old) (S.rest source.new) }
+    ensures untaken { IsErrOf result CheckError.Memory → source.new ≡ source.old }
+    ensures borrowed { S.borrowed source.new ≡ S.borrowed source.old }
+    ensures texts { S.texts source.new ≡ S.texts source.old }
+{
+    let mut reader = Reader::build(alloc, joint.pairs())?;
+    read(&mut reader, joint, start, source, steps)
+}

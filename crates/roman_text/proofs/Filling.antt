@@ -1,0 +1,58 @@
+-- A page that is being filled: what it has taken so far, and what is left of a whole text.
+use Rattle.std.proofs.Common.{◌≡◌, ℕ, List, [], ◌++◌, Option, Result, Ok, Err, refl, sym, ap, ◌∙◌, subst, append_assoc}
+use Rattle.std.proofs.lemmas.List.{append-nil}
+use Rattle.roman_io.specs.Sink.{Wrote, WroteFront, Puts}
+use Rattle.roman_io.proofs.SinkLemmas.{Wrote-nil, WroteFront-append}
+use Rattle.roman_text.specs.Pages.{Gathered, Gathers}
+use Rattle.roman_text.proofs.PageLemmas.{Gathered-then, WroteFront-gathered, Puts-after_Gathered}
+
+-- the page has taken a text, and with the rest it is the whole
+pub record IsFilling (old now : Option (List ℕ)) (held rest all : List ℕ) : Type 0 where
+  pub text : List ℕ
+  pub gathered : Gathered old now held text
+  pub left : text ++ rest ≡ all
+
+-- nothing of the rest is taken yet
+pub fill_begin : (old : Option (List ℕ)) (held rest : List ℕ) → IsFilling old old held rest (held ++ rest)
+fill_begin old held rest = record { text = held; gathered = record { front = []; wrote = Wrote-nil old; rest = refl }; left = refl }
+
+-- the same on an empty page
+pub fill_whole : (old : Option (List ℕ)) (held rest all : List ℕ) → held ≡ [] → rest ≡ all → IsFilling old old held rest all
+fill_whole old held rest all empty e =
+    subst (λ (xs : List ℕ). IsFilling old old held rest xs) (ap (λ (xs : List ℕ). xs ++ rest) empty ∙ e) (fill_begin old held rest)
+
+-- the same behind what the page holds
+pub fill_behind : (old : Option (List ℕ)) (held rest text : List ℕ) → rest ≡ text → IsFilling old old held rest (held ++ text)
+fill_behind old held rest text e = subst (λ (xs : List ℕ). IsFilling old old held rest (held ++ xs)) e (fill_begin old held rest)
+
+-- one more piece is taken
+pub fill_more : (old mid new : Option (List ℕ)) (held after piece rest all : List ℕ) → IsFilling old mid held (piece ++ rest) all → Gathered mid new after (held ++ piece) → IsFilling old new after rest all
+fill_more old mid new held after piece rest all f g = record {
+  text = f.text ++ piece;
+  gathered = Gathered-then old mid new held after f.text piece f.gathered g;
+  left = append_assoc f.text piece rest ∙ f.left;
+}
+
+-- a piece failed: a prefix of the whole was written
+pub fill_failed : (old mid new : Option (List ℕ)) (held piece rest all : List ℕ) → IsFilling old mid held (piece ++ rest) all → WroteFront mid new (held ++ piece) → WroteFront old new all
+fill_failed old mid new held piece rest all f w =
+    subst (WroteFront old new) (append_assoc f.text piece rest ∙ f.left)
+    (WroteFront-append old new (f.text ++ piece) rest (WroteFront-gathered old mid new held f.text piece f.gathered w))
+
+-- the rest may be said otherwise
+pub fill_same : (old now : Option (List ℕ)) (held rest other all : List ℕ) → rest ≡ other → IsFilling old now held rest all → IsFilling old now held other all
+fill_same old now held rest other all e f = subst (λ (rest : List ℕ). IsFilling old now held rest all) e f
+
+-- nothing is left
+pub fill_end : (old now : Option (List ℕ)) (held all : List ℕ) → IsFilling old now held [] all → Gathered old now held all
+fill_end old now held all f = subst (Gathered old now held) (sym (append-nil f.text) ∙ f.left) f.gathered
+
+-- the last piece is taken, whatever the answer
+pub fill_last : {T E : Type 0} (old mid new : Option (List ℕ)) (held after piece all : List ℕ) (result : Result T E) → IsFilling old mid held (piece ++ []) all →
+    Gathers mid new after (held ++ piece) result → Gathers old new after all result
+fill_last old mid new held after piece all (Ok x) f g = fill_end old new after all (fill_more old mid new held after piece [] all f g)
+fill_last old mid new held after piece all (Err e) f g = (fill_failed old mid new held piece [] all f g.0, g.1)
+
+-- what a full page holds is put
+pub fill_put : {T E : Type 0} (old mid new : Option (List ℕ)) (held all : List ℕ) (result : Result T E) → IsFilling old mid held [] all → Puts mid new held result → Puts old new all result
+fill_put old mid new held all result f p = Puts-after_Gathered old mid new held all result (fill_end old mid held all f) p
