@@ -1,0 +1,128 @@
+-- What becomes of the entries of a removal list when a service dies.
+use Rattle.std.proofs.Common.{◌≡◌, ℕ, ◌+◌, ◌*◌, ◌<◌, ◌≤◌, ◌==◌, Bool, true, false, not, ◌&&◌, ◌||◌, if◌then◌else◌, List, [], ◌∷◌, ◌++◌, map, length, filter, IsTrue, IsFalse, slice_index, refl, sym, ap, ap₂, ◌∙◌, subst, arith}
+use Rattle.std.specs.List.{list_any}
+use Rattle.std.proofs.lemmas.Bool.{cond-true, cond-false}
+use Rattle.std.proofs.lemmas.List.{append-nil, append_assoc, map_push}
+use Rattle.std.proofs.lemmas.List.Folds.{list_any-append}
+use Rattle.std.proofs.Math.Nat.{mul-le-mul_left}
+use Rattle.roman_model.specs.System.{Seat}
+use Rattle.roman_model.specs.Arena.{Entry}
+use Rattle.roman_model.specs.Change.{without, may_go}
+use Rattle.roman_model.specs.Numbers.{Sizes, sizes_of, sizes_without, count, pair_at, numbered}
+use Rattle.roman_model.proofs.Lists.{by_test, list_any-map, length-below}
+use Rattle.roman_model.proofs.NumberLemmas.{number_without-is, count-without}
+use Rattle.roman_model.proofs.NumberedChanges.{number_entry_without, first_numbers}
+use Rattle.roman_radix.specs.Radix.{IsSizes}
+use Rattle.roman_radix.proofs.Strides.{AreSizes-index}
+use Rattle.roman_joint.specs.NamedSys.{NamedSys, system_of}
+use Rattle.roman_order.specs.Board.{Board, has_entry, nodes_of, mask_at}
+use Rattle.roman_relation.specs.Masked.{IsShaped}
+use Rattle.roman_repair.specs.Deaths.{entry_left, list_with}
+use Rattle.roman_repair.proofs.DeathBlocks.{seat_in_sizes}
+
+-- The list with one entry.
+
+-- an entry whose state can't be left behind goes
+entry_gone : (n : Sizes) (k : ℕ) (seat : Seat) (L : List (Entry ℕ)) (x : Entry ℕ) → IsFalse (may_go k seat (pair_at n x.node)) → list_with n k seat L x ≡ L
+entry_gone n k seat L x stays = ap (λ b. if b && not (has_entry L (entry_left n k x).node) then L ++ entry_left n k x ∷ [] else L) stays
+
+-- and so does one whose pair is listed
+entry_listed : (n : Sizes) (k : ℕ) (seat : Seat) (L : List (Entry ℕ)) (x : Entry ℕ) → IsTrue (may_go k seat (pair_at n x.node)) → IsTrue (has_entry L (entry_left n k x).node) →
+    list_with n k seat L x ≡ L
+entry_listed n k seat L x goes listed = ap₂ (λ b d. if b && not d then L ++ entry_left n k x ∷ [] else L) goes listed
+
+-- any other stays
+entry_stays : (n : Sizes) (k : ℕ) (seat : Seat) (L : List (Entry ℕ)) (x : Entry ℕ) → IsTrue (may_go k seat (pair_at n x.node)) → IsFalse (has_entry L (entry_left n k x).node) →
+    list_with n k seat L x ≡ L ++ entry_left n k x ∷ []
+entry_stays n k seat L x goes new = ap₂ (λ b d. if b && not d then L ++ entry_left n k x ∷ [] else L) goes new
+
+-- The first entry of each number.
+
+-- which numbers are seen counts, and not their order
+first_numbers_seen : (seen more : List ℕ) (L : List (Entry ℕ)) → ((i : ℕ) → list_any (λ j. i == j) seen ≡ list_any (λ j. i == j) more) → first_numbers seen L ≡ first_numbers more L
+first_numbers_seen seen more [] same = refl
+first_numbers_seen seen more (x ∷ L) same =
+    ap₂ (λ us ws. if list_any (λ i. x.node == i) seen then us else x ∷ ws) (first_numbers_seen seen more L same)
+    (first_numbers_seen (x.node ∷ seen) (x.node ∷ more) L (λ i. ap (λ b. (i == x.node) || b) (same i)))
+    ∙ ap (λ b. if b then first_numbers more L else x ∷ first_numbers (x.node ∷ more) L) (same x.node)
+
+seen_first : (i m : ℕ) (ns : List ℕ) → list_any (λ j. i == j) (m ∷ ns) ≡ list_any (λ j. i == j) (ns ++ m ∷ [])
+seen_first i m ns = turned (i == m) (list_any (λ j. i == j) ns) ∙ sym (list_any-append (λ j. i == j) ns (m ∷ []))
+  where
+    turned : (a b : Bool) → (a || b) ≡ (b || (a || false))
+    turned true true = refl
+    turned true false = refl
+    turned false true = refl
+    turned false false = refl
+
+-- what is left of the entries that may go
+abbrev pub entries_left : Sizes → ℕ → Seat → List (Entry ℕ) → List (Entry ℕ)
+entries_left n k seat W = map (number_entry_without k n) (filter (λ x. may_go k seat (pair_at n x.node)) W)
+
+-- the list so far, and what is left of the entries that wait, make up the whole
+abbrev pub IsRenaming : Sizes → ℕ → Seat → List (Entry ℕ) → List (Entry ℕ) → List (Entry ℕ) → Type 0
+IsRenaming n k seat whole done waiting = done ++ first_numbers (nodes_of done) (entries_left n k seat waiting) ≡ whole
+
+left_is : (n : Sizes) (k : ℕ) (x : Entry ℕ) → x.node < count n → k < length n.seats → number_entry_without k n x ≡ entry_left n k x
+left_is n k x l seat = ap (λ i. record { node = i; reason = x.reason }) (sym (number_without-is n x.node k l seat))
+
+-- one entry less waits
+pub renaming_step : (n : Sizes) (k : ℕ) (seat : Seat) (whole done rest : List (Entry ℕ)) (x : Entry ℕ) → x.node < count n → k < length n.seats →
+    IsRenaming n k seat whole done (x ∷ rest) → IsRenaming n k seat whole (list_with n k seat done x) rest
+renaming_step n k seat whole done rest x l h so_far = by_test (may_go k seat (pair_at n x.node))
+    (λ goes. by_test (has_entry done (entry_left n k x).node)
+    (λ listed. subst (λ L. IsRenaming n k seat whole L rest) (sym (entry_listed n k seat done x goes listed))
+    (ap (λ ys. done ++ ys) (sym (tested goes ∙ cond-true (list_any (λ i. (entry_left n k x).node == i) (nodes_of done)) (first_numbers (nodes_of done) left) (entry_left n k x ∷ first_numbers ((entry_left n k x).node ∷ nodes_of done) left) (seen ∙ listed))) ∙ so_far))
+    (λ new. subst (λ L. IsRenaming n k seat whole L rest) (sym (entry_stays n k seat done x goes new))
+    (append_assoc done (entry_left n k x ∷ []) (first_numbers (nodes_of (done ++ entry_left n k x ∷ [])) left)
+    ∙ ap (λ ys. done ++ (entry_left n k x ∷ ys))
+    (ap (λ ns. first_numbers ns left) (map_push (λ y. y.node) done (entry_left n k x))
+    ∙ sym (first_numbers_seen ((entry_left n k x).node ∷ nodes_of done) (nodes_of done ++ (entry_left n k x).node ∷ []) left (λ i. seen_first i (entry_left n k x).node (nodes_of done))))
+    ∙ ap (λ ys. done ++ ys) (sym (tested goes ∙ cond-false (list_any (λ i. (entry_left n k x).node == i) (nodes_of done)) (first_numbers (nodes_of done) left) (entry_left n k x ∷ first_numbers ((entry_left n k x).node ∷ nodes_of done) left) (seen ∙ new)))
+    ∙ so_far)))
+    (λ stays. subst (λ L. IsRenaming n k seat whole L rest) (sym (entry_gone n k seat done x stays))
+    (ap (λ W. done ++ first_numbers (nodes_of done) (map (number_entry_without k n) W)) (sym (cond-false (may_go k seat (pair_at n x.node)) (x ∷ kept) kept stays)) ∙ so_far))
+  where
+    kept : List (Entry ℕ)
+    kept = filter (λ y. may_go k seat (pair_at n y.node)) rest
+
+    left : List (Entry ℕ)
+    left = map (number_entry_without k n) (filter (λ y. may_go k seat (pair_at n y.node)) rest)
+
+    seen : list_any (λ i. (entry_left n k x).node == i) (nodes_of done) ≡ has_entry done (entry_left n k x).node
+    seen = list_any-map (λ y. y.node) (λ i. (entry_left n k x).node == i) done
+
+    tested : IsTrue (may_go k seat (pair_at n x.node)) →
+        first_numbers (nodes_of done) (entries_left n k seat (x ∷ rest))
+        ≡ (if list_any (λ i. (entry_left n k x).node == i) (nodes_of done) then first_numbers (nodes_of done) left else entry_left n k x ∷ first_numbers ((entry_left n k x).node ∷ nodes_of done) left)
+    tested goes =
+        ap (λ W. first_numbers (nodes_of done) (map (number_entry_without k n) W)) (cond-true (may_go k seat (pair_at n x.node)) (x ∷ kept) kept goes)
+        ∙ ap (λ y. first_numbers (nodes_of done) (y ∷ left)) (left_is n k x l h)
+
+-- no entry waits
+pub renaming_end : (n : Sizes) (k : ℕ) (seat : Seat) (whole done : List (Entry ℕ)) → IsRenaming n k seat whole done [] → done ≡ whole
+renaming_end n k seat whole done all = sym (append-nil done) ∙ all
+
+-- How many pairs are left.
+
+-- so many pairs are those without the seat, and not more than those of the order
+pub record AreLeft (n : Sizes) (k pairs : ℕ) (board : Board) : Type 0 where
+  pub is : pairs ≡ count (sizes_without k n)
+  pub fewer : pairs ≤ board.pairs
+
+fewer_pairs : (n : Sizes) (k : ℕ) → IsSizes n → k < length n.seats → count (sizes_without k n) ≤ count n
+fewer_pairs n k sizes seat =
+    let once : count (sizes_without k n) * 1 ≤ count (sizes_without k n) * slice_index n.seats k = mul-le-mul_left (count (sizes_without k n)) (AreSizes-index n.seats k sizes.seats seat).0 in
+    omega (arith, once, count-without n k seat)
+
+pub pairs_left : (n : NamedSys) (shape small : Sizes) (k pairs : ℕ) (board : Board) → shape ≡ sizes_of (system_of n) → IsSizes shape → small ≡ sizes_without k shape → pairs ≡ count small → k < length n.seats →
+    IsShaped (numbered (system_of n)) board → AreLeft (sizes_of (system_of n)) k pairs board
+pairs_left n shape small k pairs board is sizes without counted seat shaped =
+    let same : pairs ≡ count (sizes_without k (sizes_of (system_of n))) = counted ∙ ap count (without ∙ ap (sizes_without k) is) in
+    let fewer = fewer_pairs (sizes_of (system_of n)) k (subst IsSizes is sizes) (seat_in_sizes n k seat) in
+    record { is = same; fewer = omega (arith, same, fewer, shaped.pairs, length-below (count (sizes_of (system_of n)))) }
+
+-- the same masks at the same places
+pub mask_stays : (b c : Board) (p a : ℕ) → c.masks ≡ b.masks → c.actions ≡ b.actions → mask_at c p a ≡ mask_at b p a
+unfolding mask_at
+mask_stays b c p a masks actions = ap₂ (λ ms n. slice_index ms (p * n + a)) masks actions

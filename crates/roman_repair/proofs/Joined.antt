@@ -1,0 +1,94 @@
+-- The candidates for a system that a service has joined.
+use Rattle.std.proofs.Common.{◌≡◌, ℕ, ◌+◌, ◌*◌, ◌<◌, List, [], ◌∷◌, length, map, flat_map, IsTrue, inl, refl, sym, ap, ap₂, ◌∙◌, subst, arith}
+use Rattle.std.proofs.lemmas.Nat.{same_from_place}
+use Rattle.std.proofs.lemmas.List.{length_push}
+use Rattle.roman_model.specs.Lists.{IsIn, HasNoRepeats, below}
+use Rattle.roman_model.specs.System.{Sys, Seat, IsSys, is_allowed}
+use Rattle.roman_model.specs.Arena.{Entry, replay}
+use Rattle.roman_model.specs.Change.{Join, after, CanChange}
+use Rattle.roman_model.specs.Numbers.{Sizes, sizes_of, count, pair_at, grown_sizes, numbered}
+use Rattle.roman_model.specs.declared.reason.Reason.{Reason}
+use Rattle.roman_model.specs.declared.reason.Reason.TheVariants.{Final, Act}
+use Rattle.roman_model.proofs.Lists.{from_map, from_flat_map, from_below, in_append_right, length-below, HasNoRepeats-map, HasNoRepeats-flat_map, HasNoRepeats-below}
+use Rattle.roman_model.proofs.ChangeLemmas.{map-map, map-flat_map, flat_map-map, flat_map_same}
+use Rattle.roman_model.proofs.NumberLemmas.{pair_at-grown}
+use Rattle.roman_model.proofs.NumberedChanges.{sizes-joined, NumbersReplay}
+use Rattle.roman_joint.specs.NamedSys.{NamedSys, system_of, IsNamedSys}
+use Rattle.roman_order.specs.Board.{Board, nodes_of}
+use Rattle.roman_relation.specs.Greatest.{arena_of}
+use Rattle.roman_repair.specs.Replays.{is_possible, AreCandidates, with_replay, grown_numbers}
+use Rattle.roman_repair.proofs.Repairing.{numbers_replayed}
+use Rattle.roman_repair.proofs.Growing.{grown_number}
+
+-- the new system tells that the service could join
+pub joined_can : (joint : NamedSys) (s : Sys) (seat : Seat) → IsNamedSys joint → system_of joint ≡ after (Join seat) s → CanChange (Join seat) s
+joined_can joint s seat known system =
+    let sys : IsSys (after (Join seat) s) = subst IsSys system known.system in
+    (sys.seats seat (in_append_right seat s.seats (seat ∷ []) (inl refl)), omega (arith, sys.few, length_push s.seats seat))
+
+pub joined_count : (joint : NamedSys) (s : Sys) (seat : Seat) (n : Sizes) (states : ℕ) → system_of joint ≡ after (Join seat) s → n ≡ sizes_of s → states ≡ seat.beh.states →
+    length (below (count (sizes_of (system_of joint)))) ≡ count (grown_sizes n states)
+joined_count joint s seat n states system shape size =
+    length-below (count (sizes_of (system_of joint))) ∙ ap (λ (t : Sys). count (sizes_of t)) system ∙ ap count (sizes-joined s seat)
+    ∙ sym (ap₂ (λ m k. count (grown_sizes m k)) shape size)
+
+-- a grown pair allows what the pair did
+possible-joined : (s : Sys) (seat : Seat) (p b : ℕ) (reason : Reason) → p < count (sizes_of s) → b < seat.beh.states →
+    is_possible (numbered (after (Join seat) s)) (p * seat.beh.states + b) reason ≡ is_possible (numbered s) p reason
+possible-joined s seat p b Final l m = refl
+possible-joined s seat p b (Act a) l m =
+    ap (λ n. is_allowed (after (Join seat) s) (pair_at n (p * seat.beh.states + b)) a) (sizes-joined s seat)
+    ∙ ap (λ q. is_allowed (after (Join seat) s) q a) (pair_at-grown (sizes_of s) seat.beh.states p b l m)
+
+-- the nodes of the candidates
+grown_nodes : (states : ℕ) (L : List (Entry ℕ)) → nodes_of (flat_map (grown_numbers states) L) ≡ flat_map (λ p. map (λ b. p * states + b) (below states)) (nodes_of L)
+grown_nodes states L =
+    map-flat_map (λ (x : Entry ℕ). x.node) (grown_numbers states) L
+    ∙ flat_map_same (λ x. nodes_of (grown_numbers states x)) (λ x. map (λ b. x.node * states + b) (below states)) L (λ x. map-map (λ (y : Entry ℕ). y.node) (grown_number states x) (below states))
+    ∙ sym (flat_map-map (λ p. map (λ b. p * states + b) (below states)) (λ (x : Entry ℕ). x.node) L)
+
+grown_once : (states : ℕ) (L : List (Entry ℕ)) → HasNoRepeats (nodes_of L) → HasNoRepeats (nodes_of (flat_map (grown_numbers states) L))
+grown_once states L once =
+    subst HasNoRepeats (sym (grown_nodes states L))
+    (HasNoRepeats-flat_map (λ p. map (λ b. p * states + b) (below states)) (nodes_of L)
+    (λ p i. HasNoRepeats-map (λ b. p * states + b) (below states) (λ b c j k e. omega arith) (HasNoRepeats-below states))
+    (λ p q r i j k l.
+    let (b, m, e) = from_map (λ b. p * states + b) r (below states) k in
+    let (c, n, f) = from_map (λ b. q * states + b) r (below states) l in
+    (same_from_place p b q c states (from_below states b m) (from_below states c n) (sym e ∙ f)).0)
+    once)
+
+pub joined_candidates : (s : Sys) (seat : Seat) (L : List (Entry ℕ)) → AreCandidates (numbered s) [] L → NumbersReplay (Join seat) s L →
+    AreCandidates (numbered (after (Join seat) s)) [] (flat_map (grown_numbers seat.beh.states) L)
+joined_candidates s seat L are replays = record {
+  once = grown_once seat.beh.states L are.once;
+  new = λ x i. refl;
+  nodes = λ x i. subst (λ n. x.node < n) (sym (length-below (count (sizes_of (after (Join seat) s))))) (replays.numbers x i);
+  possible = λ x i. possible x i;
+}
+  where
+    possible : (x : Entry ℕ) → IsIn x (flat_map (grown_numbers seat.beh.states) L) → IsTrue (is_possible (numbered (after (Join seat) s)) x.node x.reason)
+    possible x i =
+        let (y, j, k) = from_flat_map (grown_numbers seat.beh.states) x L i in
+        let (b, l, e) = from_map (grown_number seat.beh.states y) x (below seat.beh.states) k in
+        let pair : y.node < count (sizes_of s) = subst (λ n. y.node < n) (length-below (count (sizes_of s))) (are.nodes y j) in
+        subst (λ (z : Entry ℕ). IsTrue (is_possible (numbered (after (Join seat) s)) z.node z.reason)) (sym e)
+        (possible-joined s seat y.node b y.reason pair (from_below seat.beh.states b l) ∙ are.possible y j)
+
+-- they are those of what waits
+pub joined_waiting : (old_joint joint : NamedSys) (seat : Seat) (states : ℕ) (old : List (Entry ℕ)) (reopened : Board) → AreCandidates (arena_of old_joint) [] old →
+    NumbersReplay (Join seat) (system_of old_joint) old → system_of joint ≡ after (Join seat) (system_of old_joint) → states ≡ seat.beh.states → reopened.list ≡ [] → reopened.waiting ≡ old →
+    AreCandidates (arena_of joint) reopened.list (flat_map (grown_numbers states) reopened.waiting)
+joined_waiting old_joint joint seat states old reopened are replays system size list waiting =
+    let s = system_of old_joint in
+    subst (λ (t : Sys). AreCandidates (numbered t) reopened.list (flat_map (grown_numbers states) reopened.waiting)) (sym system)
+    (subst (λ K. AreCandidates (numbered (after (Join seat) s)) K (flat_map (grown_numbers states) reopened.waiting)) (sym list)
+    (subst (λ L. AreCandidates (numbered (after (Join seat) s)) [] (flat_map (grown_numbers states) L)) (sym waiting)
+    (subst (λ n. AreCandidates (numbered (after (Join seat) s)) [] (flat_map (grown_numbers n) old)) (sym size) (joined_candidates s seat old are replays))))
+
+pub joined_replay : (joint : NamedSys) (s : Sys) (seat : Seat) (states : ℕ) (old : List (Entry ℕ)) (reopened : Board) → system_of joint ≡ after (Join seat) s → states ≡ seat.beh.states →
+    reopened.list ≡ [] → reopened.waiting ≡ old → with_replay (arena_of joint) reopened.list (flat_map (grown_numbers states) reopened.waiting) ≡ numbers_replayed (Join seat) s old
+joined_replay joint s seat states old reopened system size list waiting =
+    ap₂ (λ K L. with_replay (arena_of joint) K (flat_map (grown_numbers states) L)) list waiting
+    ∙ ap (λ n. replay (arena_of joint) (flat_map (grown_numbers n) old)) size
+    ∙ ap (λ (t : Sys). replay (numbered t) (flat_map (grown_numbers seat.beh.states) old)) system

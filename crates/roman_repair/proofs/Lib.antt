@@ -1,0 +1,12 @@
+pub mod Repairing
+pub mod Turning
+pub mod Keeping
+pub mod Waiting
+pub mod Growing
+pub mod Joined
+pub mod DeathStates
+pub mod DeathMasks
+pub mod DeathBlocks
+pub mod DeathEntries
+pub mod DeathBits
+pub mod DeathEndings

@@ -1,0 +1,64 @@
+-- What a repair ends in, by the numbers of pairs.
+use Rattle.std.proofs.Common.{◌≡◌, ℕ, ◌+◌, ◌/◌, ◌<◌, true, List, map, length, take, sym, ap, ◌∙◌, arith}
+use Rattle.std.proofs.lemmas.List.{take-map, length-map}
+use Rattle.roman_model.specs.System.{Sys, IsSys}
+use Rattle.roman_model.specs.Arena.{Entry, IsOrder, replay}
+use Rattle.roman_model.specs.Composition.{arena}
+use Rattle.roman_model.specs.Change.{Change, after, CanChange}
+use Rattle.roman_model.specs.Numbers.{sizes_of, pair_at, numbered, entry_at, IsCompleteList}
+use Rattle.roman_model.proofs.Renames.{order_named}
+use Rattle.roman_model.proofs.NumberedChanges.{rename_numbers, NumbersReplay, numbers_replay}
+use Rattle.roman_model.proofs.NumberedArena.{IsNumber, AreNumbers, numbers_rename}
+use Rattle.roman_joint.specs.declared.seat.Seat.{Seat}
+use Rattle.roman_joint.specs.NamedSys.{NamedSys, system_of, IsNamedSys}
+use Rattle.roman_order.specs.Board.{Board, has_entry}
+use Rattle.roman_relation.specs.Settled.{Begins}
+use Rattle.roman_relation.specs.Greatest.{HasCaps, IsRelation}
+use Rattle.roman_relation.proofs.Relating.{listed_numbers}
+use Rattle.roman_repair.specs.declared.tally.Tally.{Tally}
+use Rattle.roman_repair.specs.Repairs.{replayed, GoesOnFromReplay, IsRepaired}
+
+-- the replay of the renamed old list, over the numbers
+abbrev pub numbers_replayed : Change → Sys → List (Entry ℕ) → List (Entry ℕ)
+numbers_replayed change s old = replay (numbered (after change s)) (rename_numbers change (sizes_of s) old)
+
+-- a list that begins with that replay
+pub goes_on_from : (change : Change) (s : Sys) (old start new : List (Entry ℕ)) (tally : Tally) → NumbersReplay change s old → start ≡ numbers_replayed change s old → Begins start new →
+    tally.kept ≡ length start → tally.kept + tally.added ≡ length new → GoesOnFromReplay change s old new tally
+goes_on_from change s old start new tally replays is begins kept added =
+    let pairs : map (entry_at (after change s)) start ≡ replayed change s old = ap (map (entry_at (after change s))) is ∙ replays.pairs in
+    record {
+      begins = ap (λ n. take n (map (entry_at (after change s)) new)) kept ∙ take-map (entry_at (after change s)) (length start) new ∙ ap (map (entry_at (after change s))) begins ∙ pairs;
+      kept = kept ∙ sym (length-map start (entry_at (after change s))) ∙ ap length pairs;
+      added = added;
+    }
+
+-- a complete list is an order of the numbers
+pub numbers_order : (s : Sys) (L : List (Entry ℕ)) → IsSys s → AreNumbers s L → IsCompleteList s L → IsOrder (numbered s) L
+numbers_order s L ok are complete = order_named (numbered s) (arena s) (pair_at (sizes_of s)) (IsNumber s) (numbers_rename s ok) L are complete.order
+
+-- what a relation's list has become when it is renamed and replayed
+pub relation_replays : (change : Change) (joint : NamedSys) (order : Board) → IsNamedSys joint → IsRelation joint order → ((p : ℕ) → has_entry order.list p ≡ true → p < order.pairs) →
+    CanChange change (system_of joint) → NumbersReplay change (system_of joint) order.list
+relation_replays change joint order known relation in_range can =
+    let s = system_of joint in
+    let are : AreNumbers s order.list = listed_numbers s order relation.shaped.pairs in_range in
+    numbers_replay change s order.list known.system can are (numbers_order s order.list known.system are relation.complete.list)
+
+-- a new relation whose list begins with that replay is what the repair should end in
+pub repaired_from : (change : Change) (old_joint : NamedSys) (old : Board) (start : List (Entry ℕ)) (new_joint : NamedSys) (new : Board) (tally : Tally) → NumbersReplay change (system_of old_joint) old.list →
+    start ≡ numbers_replayed change (system_of old_joint) old.list → system_of new_joint ≡ after change (system_of old_joint) → IsRelation new_joint new → Begins start new.list →
+    tally.kept ≡ length start → tally.kept + tally.added ≡ length new.list → IsRepaired change old_joint old new_joint new tally
+repaired_from change old_joint old start new_joint new tally replays is system relation begins kept added = record {
+  system = system;
+  relation = relation;
+  list = goes_on_from change (system_of old_joint) old.list start new.list tally replays is begins kept added;
+}
+
+-- an order keeps its room for the joint where seats alone have changed
+pub caps_kept : (old_joint new_joint : NamedSys) (seats : List Seat) (old new : Board) → new_joint ≡ record old_joint { seats = seats } → new.cap_pairs ≡ old.cap_pairs → new.cap_cells ≡ old.cap_cells →
+    HasCaps old_joint old → HasCaps new_joint new
+caps_kept old_joint new_joint seats old new joint pairs cells caps =
+    let limit : new_joint.limit ≡ old_joint.limit = ap (λ (n : NamedSys). n.limit) joint in
+    let places : new_joint.limit / (system_of new_joint).env.actions ≡ old_joint.limit / (system_of old_joint).env.actions = ap (λ (n : NamedSys). n.limit / (system_of n).env.actions) joint in
+    record { pairs = omega (arith, places, pairs, caps.pairs); cells = omega (arith, limit, cells, caps.cells) }

@@ -1,0 +1,23 @@
+use Rattle.std.proofs.Common.{◌≡◌, ℕ, ◌<◌, length}
+use Rattle.roman_model.specs.Lists.{IsIn}
+use Rattle.roman_model.specs.System.{Seat}
+use Rattle.roman_model.specs.Arena.{Entry}
+use Rattle.roman_model.specs.Change.{Die, CanChange}
+use Rattle.roman_model.specs.Numbers.{sizes_of, count}
+use Rattle.roman_model.proofs.NumberedChanges.{rename_numbers}
+use Rattle.roman_joint.specs.NamedSys.{system_of}
+use Rattle.roman_repair.proofs.DeathEntries.{IsRenaming}
+use Rattle.roman_repair.proofs.dying.renaming.rename_list.Given as goal
+
+-- the entries so far are renamed, and the others wait
+abbrev pub invariant-waiting : goal.invariant-waiting
+invariant-waiting l = record {
+  list : (seat : Seat) → CanChange (Die l.k seat) (system_of l.joint) →
+      IsRenaming (sizes_of (system_of l.joint)) l.k seat (rename_numbers (Die l.k seat) (sizes_of (system_of l.joint)) l.fn.order.list) l.order.list l.order.waiting;
+  waiting : (x : Entry ℕ) → IsIn x l.order.waiting → x.node < count (sizes_of (system_of l.joint));
+  rest : l.order ≡ record l.initial.order { list = l.order.list; waiting = l.order.waiting };
+}
+
+-- each turn takes an entry off
+abbrev pub decreases-waiting : goal.decreases-waiting
+decreases-waiting l = length l.order.waiting

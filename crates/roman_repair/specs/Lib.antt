@@ -1,0 +1,4 @@
+pub mod Repairs
+pub mod Replays
+pub mod Errors
+pub mod Deaths

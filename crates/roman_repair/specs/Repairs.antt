@@ -1,0 +1,43 @@
+-- What a repair has done: the relation is complete for the changed system, and its list goes on from the replay.
+use Rattle.std.specs.Prelude.{◌≡◌, ℕ, ◌+◌, ◌*◌, ◌≤◌, List, [], map, length, take, drop}
+use Rattle.roman_model.specs.System.{Sys, Pair}
+use Rattle.roman_model.specs.Arena.{Entry, IsOrder, replay, fall, readings}
+use Rattle.roman_model.specs.Composition.{arena}
+use Rattle.roman_model.specs.Change.{Change, rename, after}
+use Rattle.roman_model.specs.Numbers.{numbered, entry_at}
+use Rattle.roman_joint.specs.NamedSys.{NamedSys, system_of}
+use Rattle.roman_order.specs.Board.{Board}
+use Rattle.roman_relation.specs.Masked.{IsShaped}
+use Rattle.roman_relation.specs.Greatest.{arena_of, HasCaps, IsRelation}
+use Rattle.roman_repair.specs.declared.tally.Tally.{Tally}
+
+-- the replay of the renamed old list, in the system after the change
+abbrev pub replayed : Change → Sys → List (Entry ℕ) → List (Entry Pair)
+replayed change s old = replay (arena (after change s)) (rename change (map (entry_at s) old))
+
+-- the new list, as pairs of the new system, begins with exactly the replay; the tally counts the replay, and what comes after it
+pub record GoesOnFromReplay (change : Change) (s : Sys) (old new : List (Entry ℕ)) (tally : Tally) : Type 0 where
+  pub begins : take tally.kept (map (entry_at (after change s)) new) ≡ replayed change s old
+  pub kept : tally.kept ≡ length (replayed change s old)
+  pub added : tally.kept + tally.added ≡ length new
+
+-- the relation is that of the system after the change, and its list begins with the replay of the renamed old list
+pub record IsRepaired (change : Change) (old_joint : NamedSys) (old : Board) (new_joint : NamedSys) (new : Board) (tally : Tally) : Type 0 where
+  pub system : system_of new_joint ≡ after change (system_of old_joint)
+  pub relation : IsRelation new_joint new
+  pub list : GoesOnFromReplay change (system_of old_joint) old.list new.list tally
+
+-- a removal list of the joint's system, in an order that is shaped for it and has room, and where nothing waits
+pub record IsBegun (joint : NamedSys) (order : Board) : Type 0 where
+  pub valid : IsOrder (arena_of joint) order.list
+  pub shaped : IsShaped (arena_of joint) order
+  pub caps : HasCaps joint order
+  pub idle : order.waiting ≡ []
+
+-- the fall of a repair: how many delegations lead to the pairs that it added
+abbrev pub fall_of : NamedSys → Board → Tally → ℕ
+fall_of joint order tally = fall (numbered (system_of joint)) (drop tally.kept order.list)
+
+-- the steps are at most the fall and two readings of the new system
+abbrev pub IsWithinTwoReadings : NamedSys → Board → Tally → ℕ → ℕ → Type 0
+IsWithinTwoReadings joint order tally before now = now ≤ before + (fall_of joint order tally + 2 * readings (numbered (system_of joint)))

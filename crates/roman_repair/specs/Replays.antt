@@ -1,0 +1,37 @@
+-- What a replay goes over, and what it adds to a list.
+use Rattle.std.specs.Prelude.{ℕ, ◌+◌, ◌*◌, ◌<◌, Bool, true, List, ◌++◌, map, length, sum_by, IsTrue, IsFalse}
+use Rattle.roman_model.specs.Lists.{IsIn, HasNoRepeats, below}
+use Rattle.roman_model.specs.Arena.{Arena, Entry, replay_from}
+use Rattle.roman_model.specs.declared.reason.Reason.{Reason}
+use Rattle.roman_model.specs.declared.reason.Reason.TheVariants.{Final, Act}
+use Rattle.roman_order.specs.Board.{nodes_of, has_entry}
+use Rattle.roman_relation.specs.Masked.{readings_of}
+
+-- the action of the reason, where it names one, is allowed at the node
+abbrev pub is_possible : Arena ℕ → ℕ → Reason → Bool
+is_possible A p Final = true
+is_possible A p (Act a) = A.allows p a
+
+-- entries that may be kept after those of a list: their nodes are distinct, and none of them is listed
+pub record AreCandidates (A : Arena ℕ) (kept L : List (Entry ℕ)) : Type 0 where
+  pub once : HasNoRepeats (nodes_of L)
+  pub new : (x : Entry ℕ) → IsIn x L → IsFalse (has_entry kept x.node)
+  pub nodes : (x : Entry ℕ) → IsIn x L → x.node < length A.nodes
+  pub possible : (x : Entry ℕ) → IsIn x L → IsTrue (is_possible A x.node x.reason)
+
+-- the list, with those of the candidates that the replay keeps after it
+abbrev pub with_replay : Arena ℕ → List (Entry ℕ) → List (Entry ℕ) → List (Entry ℕ)
+with_replay A kept L = kept ++ replay_from A (nodes_of kept) L
+
+-- how many seats are asked about a reason
+abbrev pub readings_of_reason : Arena ℕ → ℕ → Reason → ℕ
+readings_of_reason A p Final = 0
+readings_of_reason A p (Act a) = readings_of A p a
+
+-- and about those of all candidates
+abbrev pub readings_of_entries : Arena ℕ → List (Entry ℕ) → ℕ
+readings_of_entries A L = sum_by (λ x. readings_of_reason A x.node x.reason) L
+
+-- an entry with each state of a service that comes last, by the numbers of the grown pairs
+abbrev pub grown_numbers : ℕ → Entry ℕ → List (Entry ℕ)
+grown_numbers states x = map (λ b. record { node = x.node * states + b; reason = x.reason }) (below states)

@@ -1,0 +1,31 @@
+// A service freezes.
+ghost use Rattle.std.specs.Prelude.{◌≡◌, ◌+◌, ◌≤◌, length, slice_get, IsTrue, true};
+ghost use Rattle.roman_model.specs.System.{is_ready};
+ghost use Rattle.roman_model.specs.Change.{Freeze};
+ghost use Rattle.roman_joint.specs.NamedSys.{system_of};
+ghost use Rattle.roman_joint.specs.Changes.{with_frozen};
+ghost use Rattle.roman_relation.specs.Greatest.{IsRelation};
+ghost use Rattle.roman_repair.specs.Repairs.{IsRepaired, fall_of};
+
+use crate::settling::settle_on;
+use crate::tally::Tally;
+use roman_io::Steps;
+use roman_relation::Relation;
+use std::sync::ledger::Ledger;
+
+/// Freezes the service at place k, which is ready. The old list stays whole. The steps are at most
+/// as many as delegations lead to the pairs that are added.
+pub fn freeze<L: Ledger>(relation: &mut Relation, k: u8, steps: &mut Steps<L>) -> Tally
+    requires relation { IsRelation relation.old.joint relation.old.order }
+    requires ready { IsTrue (is_ready (slice_get (system_of relation.old.joint).seats k)) }
+    ensures joint { relation.new.joint ≡ record relation.old.joint { seats = with_frozen relation.old.joint.seats k true } }
+    ensures repaired { IsRepaired (Freeze k) relation.old.joint relation.old.order relation.new.joint relation.new.order result }
+    ensures kept { result.kept ≡ length relation.old.order.list }
+    ensures cost { steps.new ≤ steps.old + fall_of relation.new.joint relation.new.order result }
+{
+    relation.joint.known();
+    relation.order.len();
+    relation.joint.set_frozen(k, true);
+    relation.order.clear_all(k);
+    settle_on(relation, steps)
+}

@@ -1,0 +1,63 @@
+// A service joins.
+ghost use Rattle.std.specs.Prelude.{◌≡◌, ◌<◌, ◌++◌, ◌∷◌, [], ◌↔◌, length, map, Err, IfOk, OnOk, OnErr, IsFalse};
+ghost use Rattle.roman_model.specs.Lists.{IsIn};
+ghost use Rattle.roman_model.specs.Change.{Join, after};
+ghost use Rattle.roman_model.specs.declared.limits.TheConstants.{MAX_SERVICES};
+ghost use Rattle.roman_joint.specs.NamedSys.{seat_of, system_of, cells};
+ghost use Rattle.roman_relation.specs.Greatest.{IsRelation};
+ghost use Rattle.roman_repair.specs.Repairs.{IsRepaired, IsWithinTwoReadings};
+
+use crate::error::JoinError;
+use crate::reopening::reopen;
+use crate::replaying::keep_grown;
+use crate::settling::read_and_settle_on;
+use crate::tally::Tally;
+use roman_io::Steps;
+use roman_joint::{Joint, Seat, SeatError};
+use roman_relation::Relation;
+use std::sync::ledger::Ledger;
+
+/// Adds a service, which is ready and whose name is new, at the last place. The steps are at most as
+/// many as delegations lead to the pairs that are added, and two readings of the new system.
+///
+/// `Full` comes exactly where there are as many services as there may be, and `Limit` exactly where
+/// there are fewer and the system with the service has more cells than the limit. The relation then
+/// stays as it is.
+pub fn join<L: Ledger>(
+    relation: &mut Relation,
+    seat: Seat,
+    steps: &mut Steps<L>,
+) -> Result<Tally, JoinError>
+    requires relation { IsRelation relation.old.joint relation.old.order }
+    requires behaviour { seat.behaviour < length relation.old.joint.catalogue }
+    requires name { IsIn seat.name (map (λ other. other.name) relation.old.joint.seats) → ⊥ }
+    requires ready { IsFalse seat.frozen }
+    ensures joint { OnOk result (relation.new.joint ≡ record relation.old.joint { seats = relation.old.joint.seats ++ seat ∷ [] }) }
+    ensures repaired { IfOk result (λ tally. IsRepaired (Join (seat_of relation.old.joint.catalogue seat)) relation.old.joint relation.old.order relation.new.joint relation.new.order tally) }
+    ensures cost { IfOk result (λ tally. IsWithinTwoReadings relation.new.joint relation.new.order tally steps.old steps.new) }
+    ensures full { (result ≡ Err JoinError.Full) ↔ (length relation.old.joint.seats ≡ MAX_SERVICES) }
+    ensures limit { (result ≡ Err JoinError.Limit)
+        ↔ ((length relation.old.joint.seats < MAX_SERVICES) × (relation.old.joint.limit < cells (after (Join (seat_of relation.old.joint.catalogue seat)) (system_of relation.old.joint)))) }
+    ensures refused { OnErr result ((relation.new ≡ relation.old) × (steps.new ≡ steps.old)) }
+{
+    relation.joint.known();
+    relation.order.len();
+    let shape = *relation.joint.shape();
+    let states = states_of(&relation.joint, &seat);
+    match relation.joint.push_seat(seat) {
+        Ok(()) => {}
+        Err(SeatError::Full) => return Err(JoinError::Full),
+        Err(SeatError::Limit) => return Err(JoinError::Limit),
+    }
+    reopen(relation);
+    keep_grown(&relation.joint, &mut relation.order, &shape, states, steps);
+    Ok(read_and_settle_on(relation, steps))
+}
+
+/// How many states the service may be in.
+fn states_of(joint: &Joint, seat: &Seat) -> u8
+    requires { seat.now.behaviour < length joint.now.catalogue }
+    ensures { result ≡ (seat_of joint.now.catalogue seat.now).beh.states }
+{
+    joint.catalogue()[seat.behaviour as usize].states().len() as u8
+}

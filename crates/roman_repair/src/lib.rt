@@ -1,0 +1,24 @@
+//! The greatest relation, kept right while services freeze, thaw, join and die.
+//!
+//! Each call changes the system of a relation by one service and repairs the removal list in place:
+//! the list is renamed to the pairs of the new system, its entries are kept as far as they are still
+//! justified, in their order, and then it is completed. No call takes memory. `specs/Repairs` says
+//! what a repaired relation is.
+#![tactic(auto)]
+
+mod dying;
+mod error;
+mod freezing;
+mod joining;
+mod reopening;
+mod replaying;
+mod settling;
+mod tally;
+mod thawing;
+
+pub use dying::die;
+pub use error::JoinError;
+pub use freezing::freeze;
+pub use joining::join;
+pub use tally::Tally;
+pub use thawing::thaw;

@@ -1,0 +1,34 @@
+// A service thaws.
+ghost use Rattle.std.specs.Prelude.{◌≡◌, ◌<◌, length, slice_get, IsFalse, false};
+ghost use Rattle.roman_model.specs.System.{is_ready};
+ghost use Rattle.roman_model.specs.Change.{Thaw};
+ghost use Rattle.roman_joint.specs.NamedSys.{system_of};
+ghost use Rattle.roman_joint.specs.Changes.{with_frozen};
+ghost use Rattle.roman_relation.specs.Greatest.{IsRelation};
+ghost use Rattle.roman_repair.specs.Repairs.{IsRepaired, IsWithinTwoReadings};
+
+use crate::reopening::reopen;
+use crate::replaying::keep_waiting;
+use crate::settling::read_and_settle_on;
+use crate::tally::Tally;
+use roman_io::Steps;
+use roman_relation::Relation;
+use std::sync::ledger::Ledger;
+
+/// Makes the service at place k ready, which is frozen. The steps are at most as many as delegations
+/// lead to the pairs that are added, and two readings of the new system.
+pub fn thaw<L: Ledger>(relation: &mut Relation, k: u8, steps: &mut Steps<L>) -> Tally
+    requires relation { IsRelation relation.old.joint relation.old.order }
+    requires place { k < length relation.old.joint.seats }
+    requires frozen { IsFalse (is_ready (slice_get (system_of relation.old.joint).seats k)) }
+    ensures joint { relation.new.joint ≡ record relation.old.joint { seats = with_frozen relation.old.joint.seats k false } }
+    ensures repaired { IsRepaired (Thaw k) relation.old.joint relation.old.order relation.new.joint relation.new.order result }
+    ensures cost { IsWithinTwoReadings relation.new.joint relation.new.order result steps.old steps.new }
+{
+    relation.joint.known();
+    relation.order.len();
+    relation.joint.set_frozen(k, false);
+    reopen(relation);
+    keep_waiting(&relation.joint, &mut relation.order, steps);
+    read_and_settle_on(relation, steps)
+}
