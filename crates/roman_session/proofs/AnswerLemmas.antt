@@ -1,0 +1,54 @@
+-- What follows from the step of an answer.
+use Rattle.std.proofs.Common.{◌≡◌, ℕ, inl, inr, List, Result, Ok, Err, refl, sym, ap, ◌∙◌, subst}
+use Rattle.roman_text.specs.Shapes.{LineShape, ask, saw, shape_of}
+use Rattle.roman_text.specs.declared.errors.LineError.{LineError}
+use Rattle.roman_text.specs.Replies.{reply_text}
+use Rattle.roman_text.specs.declared.replies.Reply.{Reply}
+use Rattle.roman_text.specs.declared.replies.Reply.TheVariants as reply
+use Rattle.roman_session.specs.Situations.{Situation, IsOpen, IsSituation}
+use Rattle.roman_session.specs.Rulings.{asked}
+use Rattle.roman_session.specs.Steps.{Does, Asks, Sees, Step, StepOn, StepBy, offer_text}
+use Rattle.roman_session.specs.Answering.{NamesSome, StaysRelated}
+use Rattle.roman_session.specs.declared.events.Sight.{Sight}
+use Rattle.roman_session.specs.declared.phase.Phase.{Phase}
+use Rattle.roman_session.specs.declared.phase.Phase.TheVariants.{Offered}
+use Rattle.roman_session.proofs.RulingLemmas.{asked_is}
+use Rattle.roman_session.proofs.StepLemmas.{requests_offered, outcomes_related}
+
+-- the line that offers services doesn't depend on the phase
+offer_kept : (s : Situation) (phase : Phase) (a : ℕ) → offer_text (record s { phase = phase }) a ≡ offer_text s a
+unfolding offer_text
+offer_kept s phase a = refl
+
+-- a request that isn't refused is answered by its offers
+pub asks_said : (old new : Situation) (action : List ℕ) (a : ℕ) → asked old action ≡ Ok a → new ≡ record old { phase = Offered a } → StepOn old (ask action) (offer_text new a) new
+asks_said old new action a ok becomes =
+    subst (λ (r : Result ℕ Reply). Does Asks old r (offer_text new a) new) (sym ok) (ap (λ (s : Situation). offer_text s a) becomes ∙ offer_kept old (Offered a) a, becomes)
+
+-- and is open then
+pub asked_open : (old new : Situation) (action : List ℕ) (a : ℕ) → asked old action ≡ Ok a → new ≡ record old { phase = Offered a } → IsOpen new a
+asked_open old new action a ok becomes =
+    let asked = asked_is old action a ok in
+    subst (λ (s : Situation). IsOpen s a) (sym becomes) (asked.related, asked.allowed)
+
+-- it names at least one service
+pub names_some : (old : Situation) (line : List ℕ) → IsSituation old → NamesSome old line
+names_some old line is action a shape ok = requests_offered old action a is ok
+
+-- the step of a line is that of its shape
+pub step_by_shape : (old new : Situation) (line text : List ℕ) (shape : LineShape) → shape_of line ≡ Ok shape → StepOn old shape text new → Step old line text new
+unfolding Step
+step_by_shape old new line text shape is by_shape = subst (λ (r : Result LineShape LineError). StepBy old r text new) (sym is) by_shape
+
+-- a line without a shape is refused
+pub step_unshaped : (old : Situation) (line : List ℕ) (why : LineError) → shape_of line ≡ Err why → Step old line (reply_text reply.ErrorLine) old
+unfolding Step
+step_unshaped old line why is = subst (λ (r : Result LineShape LineError). StepBy old r (reply_text reply.ErrorLine) old) (sym is) (refl, refl)
+
+-- after what is seen and possible, the pair is related
+pub stays_related : (old new : Situation) (line text : List ℕ) → IsSituation old → Step old line text new → StaysRelated old line new
+unfolding Step
+stays_related old new line text is step state env x shape ok can =
+    let by_shape : StepOn old (saw state env) text new = subst (λ (r : Result LineShape LineError). StepBy old r text new) shape step in
+    let sees : Sees old x text new = subst (λ (r : Result Sight Reply). Does Sees old r text new) ok by_shape in
+    elim sees [ inl moves ↦ outcomes_related old new state env text x is ok moves | inr (never, says, stays) ↦ absurd (never can) ]

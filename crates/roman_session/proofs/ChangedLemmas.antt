@@ -1,0 +1,194 @@
+-- A session after its services changed.
+use Rattle.std.proofs.Common.{◌≡◌, ℕ, ◌<◌, ◌≤◌, ◌+◌, List, [], ◌∷◌, ◌++◌, true, false, Some, Result, IsTrue, IsFalse, not, map, length, take, drop, slice_get, Vec, Global, vec_len, vec_capacity, inl, inr, refl, sym, ap, ap₂, ◌∙◌, subst, arith, take-append-drop, length-drop}
+use Rattle.std.proofs.lemmas.List.{length-map, length-take}
+use Rattle.std.proofs.lemmas.Option.{get_or_from_slice_get}
+use Rattle.std.specs.List.{remove}
+use Rattle.roman_model.specs.System.{Sys, Seat, Pair, IsPair, is_ready}
+use Rattle.roman_model.specs.Arena.{Entry, replay}
+use Rattle.roman_model.specs.Composition.{arena, IsComplete}
+use Rattle.roman_model.specs.Change.{CanChange, Freeze, Thaw, Join, Die, rename, after}
+use Rattle.roman_model.specs.Numbers.{entry_at}
+use Rattle.roman_model.specs.declared.limits.TheConstants.{MAX_BEHAVIOURS, MAX_SERVICES}
+use Rattle.roman_model.proofs.ChangeLemmas.{IsPair-turned, IsPair-grown, IsPair-without}
+use Rattle.roman_joint.specs.NamedSys.{NamedSys, IsNamedSys}
+use Rattle.roman_joint.specs.NamedSys as joint
+use Rattle.roman_relation.specs.declared.relation.Relation.{Relation}
+use Rattle.roman_repair.specs.Repairs.{IsRepaired}
+use Rattle.roman_repair.specs.declared.tally.Tally.{Tally}
+use Rattle.roman_text.specs.Replies.{reply_text}
+use Rattle.roman_text.specs.declared.replies.Reply.{Reply}
+use Rattle.roman_text.specs.declared.replies.Reply.TheVariants as reply
+use Rattle.roman_session.specs.Situations.{Situation, system_of, IsPhase}
+use Rattle.roman_session.specs.Rulings.{seat_at, with_room}
+use Rattle.roman_session.specs.Joins.{CanJoin}
+use Rattle.roman_session.specs.declared.events.Joining.{Joining}
+use Rattle.roman_generator.proofs.MoveLemmas.{states_long}
+use Rattle.std.proofs.lemmas.Bool.{cases_lt}
+use Rattle.roman_session.specs.Steps.{Changing, freezing, thawing, dying, growing, parts_after, Does, Joins, Changes}
+use Rattle.roman_session.specs.Layout.{situation_in, IsSession}
+use Rattle.roman_session.specs.declared.phase.Phase.{Phase}
+use Rattle.roman_session.specs.declared.phase.Phase.TheVariants.{Idle}
+use Rattle.roman_session.specs.declared.session.Session.TheInside.{Inside}
+use Rattle.roman_session.proofs.RulingLemmas.{cells_with, with_room_is, no_room_is}
+use Rattle.roman_session.proofs.SituationLemmas.{there_is}
+
+-- the seat of a present service
+seat_is : (s : Situation) (k : ℕ) → k < length s.parts.seats → slice_get (system_of s).seats k ≡ Some (seat_at s k)
+seat_is s k l =
+    let seats = (system_of s).seats in
+    let (x, there) = there_is seats k (omega (arith, l, length-map s.parts.seats (joint.seat_of s.parts.catalogue))) in
+    there ∙ ap Some (sym (get_or_from_slice_get seats k x _ there))
+
+-- it is ready where it isn't frozen
+pub seat_ready : (s : Situation) (k : ℕ) → k < length s.parts.seats → IsFalse (seat_at s k).frozen → IsTrue (is_ready (slice_get (system_of s).seats k))
+seat_ready s k l ready = ap is_ready (seat_is s k l) ∙ ap not ready
+
+-- and isn't where it is
+pub seat_unready : (s : Situation) (k : ℕ) → k < length s.parts.seats → IsTrue (seat_at s k).frozen → IsFalse (is_ready (slice_get (system_of s).seats k))
+seat_unready s k l frozen = ap is_ready (seat_is s k l) ∙ ap not frozen
+
+-- a front of a list and the rest have as many entries as they are counted
+pub record IsSplit (k n : ℕ) (L : List (Entry Pair)) : Type 0 where
+  pub front : length (take k L) ≡ k
+  pub rest : length (drop k L) ≡ n
+
+split : (s : Sys) (list : List (Entry ℕ)) (k n : ℕ) → k + n ≡ length list → IsSplit k n (map (entry_at s) list)
+split s list k n sum =
+    let L = map (entry_at s) list in
+    let long : length L ≡ length list = length-map list (entry_at s) in
+    record {
+      front = omega (arith, length-take k L, long, sum);
+      rest = omega (arith, length-drop k L, long, sum);
+    }
+
+-- the list after a repair, as pairs
+abbrev pub list_of : Inside → List (Entry Pair)
+list_of b = map (entry_at (joint.system_of b.relation.joint)) b.relation.order.list
+
+-- it begins with the replay in the new system
+begins_with : (a b : Inside) (x : Changing) (tally : Tally) → IsRepaired x.change a.relation.joint a.relation.order b.relation.joint b.relation.order tally →
+    take tally.kept (list_of b) ≡ replay (arena (joint.system_of b.relation.joint)) (rename x.change (list_of a))
+begins_with a b x tally repaired =
+    subst (λ (s : Sys). take tally.kept (map (entry_at s) b.relation.order.list) ≡ replay (arena s) (rename x.change (list_of a))) (sym repaired.system) repaired.list.begins
+
+-- the fields after a change are those of a session, and the step is made
+pub record HasChanged (a b : Inside) (x : Changing) (tally : Tally) : Type 0 where
+  pub session : IsSession b
+  pub changes : Changes (situation_in a) x (reply_text (reply.Kept tally.kept tally.added)) (situation_in b)
+
+-- a situation in parts
+situation_of : NamedSys → Pair → Phase → List (Entry Pair) → Situation
+situation_of parts here phase list = record { parts = parts; here = here; phase = phase; list = list }
+
+pub changed : (a b : Inside) (x : Changing) (tally : Tally) → IsSession a → a.phase ≡ Idle → b.phase ≡ Idle → b.relation.joint ≡ parts_after (situation_in a) x → (situation_in b).here ≡ x.here →
+    IsRepaired x.change a.relation.joint a.relation.order b.relation.joint b.relation.order tally → IsNamedSys b.relation.joint →
+    IsPair (after x.change (joint.system_of a.relation.joint)) x.here → MAX_SERVICES ≤ vec_capacity b.states → HasChanged a b x tally
+unfolding situation_of
+changed a b x tally ok old_idle new_idle parts here repaired known pair room =
+    let new = joint.system_of b.relation.joint in
+    let L = list_of b in
+    let whole : take tally.kept L ++ drop tally.kept L ≡ L = take-append-drop tally.kept L in
+    let counts = split new b.relation.order.list tally.kept tally.added repaired.list.added in
+    let becomes : situation_in b ≡ situation_of (parts_after (situation_in a) x) x.here a.phase (take tally.kept L ++ drop tally.kept L) =
+    ap₂ (λ (parts : NamedSys) (here : Pair). situation_of parts here b.phase L) parts here
+    ∙ ap₂ (λ (phase : Phase) (list : List (Entry Pair)). situation_of (parts_after (situation_in a) x) x.here phase list) (new_idle ∙ sym old_idle) (sym whole) in
+    record {
+      session = record {
+        relation = repaired.relation;
+        known = record {
+          parts = known;
+          here = subst (λ (p : Pair). IsPair new p) (sym here) (subst (λ (s : Sys). IsPair s x.here) (sym repaired.system) pair);
+          list = repaired.relation.complete.list;
+          phase = subst (IsPhase (situation_in b)) (sym new_idle) tt;
+        };
+        few = subst (λ (n : NamedSys). length n.catalogue ≤ MAX_BEHAVIOURS) (sym parts) ok.few;
+        room = room;
+      };
+      changes = record {
+        kept = take tally.kept L;
+        added = drop tally.kept L;
+        becomes = becomes;
+        replays = begins_with a b x tally repaired;
+        complete = subst (IsComplete new) (sym whole) repaired.relation.complete.list;
+        says = ap₂ (λ (kept added : ℕ). reply_text (reply.Kept kept added)) (sym counts.front) (sym counts.rest);
+      };
+    }
+
+-- the fields with another relation, where a service froze or thawed
+abbrev pub turned_fields : Inside → Relation → Inside
+turned_fields a relation = record { relation = relation; target = a.target; env = a.env; states = a.states; phase = a.phase }
+
+pub frozen_now : (a : Inside) (relation : Relation) (k : ℕ) (tally : Tally) → IsSession a → a.phase ≡ Idle → relation.joint ≡ parts_after (situation_in a) (freezing (situation_in a) k) →
+    IsRepaired (Freeze k) a.relation.joint a.relation.order relation.joint relation.order tally → IsNamedSys relation.joint →
+    HasChanged a (turned_fields a relation) (freezing (situation_in a) k) tally
+frozen_now a relation k tally ok idle parts repaired known =
+    changed a (turned_fields a relation) (freezing (situation_in a) k) tally ok idle idle parts refl repaired known
+    (IsPair-turned (joint.system_of a.relation.joint) k true (situation_in a).here ok.known.here) ok.room
+
+pub thawed_now : (a : Inside) (relation : Relation) (k : ℕ) (tally : Tally) → IsSession a → a.phase ≡ Idle → relation.joint ≡ parts_after (situation_in a) (thawing (situation_in a) k) →
+    IsRepaired (Thaw k) a.relation.joint a.relation.order relation.joint relation.order tally → IsNamedSys relation.joint →
+    HasChanged a (turned_fields a relation) (thawing (situation_in a) k) tally
+thawed_now a relation k tally ok idle parts repaired known =
+    changed a (turned_fields a relation) (thawing (situation_in a) k) tally ok idle idle parts refl repaired known
+    (IsPair-turned (joint.system_of a.relation.joint) k false (situation_in a).here ok.known.here) ok.room
+
+-- the fields with another relation and other states, where a service joined or died
+abbrev pub moved_fields : Inside → Relation → Vec ℕ Global → Inside
+moved_fields a relation states = record { relation = relation; target = a.target; env = a.env; states = states; phase = a.phase }
+
+pub joined_now : (a : Inside) (relation : Relation) (states : Vec ℕ Global) (x : Joining) (tally : Tally) → IsSession a → a.phase ≡ Idle → CanJoin a.relation.joint x →
+    relation.joint ≡ parts_after (situation_in a) (growing (situation_in a) x) →
+    IsRepaired (Join (joint.seat_of a.relation.joint.catalogue x.seat)) a.relation.joint a.relation.order relation.joint relation.order tally → IsNamedSys relation.joint →
+    states.items ≡ a.states.items ++ x.state ∷ [] → MAX_SERVICES ≤ vec_capacity states → HasChanged a (moved_fields a relation states) (growing (situation_in a) x) tally
+joined_now a relation states x tally ok idle can parts repaired known items room =
+    let here = (situation_in a).here in
+    changed a (moved_fields a relation states) (growing (situation_in a) x) tally ok idle idle parts (ap (λ (bs : List ℕ). record { t = here.t; e = here.e; bs = bs }) items) repaired known
+    (IsPair-grown (joint.system_of a.relation.joint) (joint.seat_of a.relation.joint.catalogue x.seat) here x.state ok.known.here can.state) room
+
+pub died_now : (a : Inside) (relation : Relation) (states : Vec ℕ Global) (k : ℕ) (tally : Tally) → IsSession a → a.phase ≡ Idle → k < length a.relation.joint.seats →
+    relation.joint ≡ parts_after (situation_in a) (dying (situation_in a) k) →
+    ((seat : Seat) → CanChange (Die k seat) (joint.system_of a.relation.joint) → IsRepaired (Die k seat) a.relation.joint a.relation.order relation.joint relation.order tally) →
+    IsNamedSys relation.joint → states.items ≡ remove a.states.items k → MAX_SERVICES ≤ vec_capacity states →
+    HasChanged a (moved_fields a relation states) (dying (situation_in a) k) tally
+died_now a relation states k tally ok idle l parts repaired known items room =
+    let s = situation_in a in
+    let here = s.here in
+    changed a (moved_fields a relation states) (dying s k) tally ok idle idle parts (ap (λ (bs : List ℕ). record { t = here.t; e = here.e; bs = bs }) items)
+    (repaired (seat_at s k) (seat_is s k l)) known (IsPair-without (joint.system_of a.relation.joint) k here ok.known.here) room
+
+-- a service that isn't refused for want of places has one
+pub has_place : (a : Inside) → IsSession a → (length a.relation.joint.seats ≡ MAX_SERVICES → ⊥) → length a.relation.joint.seats < MAX_SERVICES
+has_place a ok not_full = omega (arith, not_full, ok.known.parts.system.few, length-map a.relation.joint.seats (joint.seat_of a.relation.joint.catalogue))
+
+-- and there is room for its state
+pub has_room : (a : Inside) → IsSession a → length a.relation.joint.seats < MAX_SERVICES → vec_len a.states < vec_capacity a.states
+has_room a ok few =
+    let s = situation_in a in
+    omega (arith, few, ok.room, a.states.ok.0, states_long (system_of s) s.here ok.known.here, length-map a.relation.joint.seats (joint.seat_of a.relation.joint.catalogue))
+
+-- a system that isn't past the limit is within it
+pub is_within : (cells limit : ℕ) → (limit < cells → ⊥) → cells ≤ limit
+is_within cells limit not_past = elim (cases_lt limit cells) [ inl past ↦ absurd (not_past past) | inr within ↦ within ]
+
+-- the step of a service that joins, by what the fields show
+pub joins_by : (a b : Inside) (s : Situation) (x : Joining) (tally : Tally) (said : Reply) → situation_in a ≡ s → length a.relation.joint.seats < MAX_SERVICES →
+    cells_with (situation_in a) x ≤ a.relation.joint.limit → said ≡ reply.Kept tally.kept tally.added → HasChanged a b (growing (situation_in a) x) tally →
+    Does Joins s (with_room s x) (reply_text said) (situation_in b)
+joins_by a b s x tally said view few fits is done =
+    let new = situation_in b in
+    let kept : Reply = reply.Kept tally.kept tally.added in
+    let joins : Does Joins (situation_in a) (with_room (situation_in a) x) (reply_text kept) new =
+    subst (λ (r : Result Joining Reply). Does Joins (situation_in a) r (reply_text kept) new) (sym (with_room_is (situation_in a) x few fits)) done.changes in
+    subst (λ (said : Reply). Does Joins s (with_room s x) (reply_text said) new) (sym is)
+    (subst (λ (s : Situation). Does Joins s (with_room s x) (reply_text kept) new) view joins)
+
+-- and that of one for which the cells don't suffice
+pub limit_by : (a : Inside) (relation : Relation) (s : Situation) (x : Joining) → situation_in a ≡ s → length a.relation.joint.seats < MAX_SERVICES →
+    a.relation.joint.limit < cells_with (situation_in a) x → relation ≡ a.relation →
+    Does Joins s (with_room s x) (reply_text reply.ErrorLimit) (situation_in (turned_fields a relation))
+limit_by a relation s x view few more same =
+    let old = situation_in a in
+    let stays : situation_in (turned_fields a relation) ≡ old = ap (λ (relation : Relation). situation_in (turned_fields a relation)) same in
+    let refused : Does Joins old (with_room old x) (reply_text reply.ErrorLimit) (situation_in (turned_fields a relation)) =
+    subst (λ (r : Result Joining Reply). Does Joins old r (reply_text reply.ErrorLimit) (situation_in (turned_fields a relation))) (sym (no_room_is old x few more)) (refl, stays) in
+    subst (λ (s : Situation). Does Joins s (with_room s x) (reply_text reply.ErrorLimit) (situation_in (turned_fields a relation))) view refused

@@ -1,0 +1,11 @@
+pub mod RulingLemmas
+pub mod StepLemmas
+pub mod ReportLemmas
+pub mod SituationLemmas
+pub mod NameLemmas
+pub mod ServingLemmas
+pub mod LineLemmas
+pub mod StartLemmas
+pub mod BeginLemmas
+pub mod AnswerLemmas
+pub mod ChangedLemmas

@@ -1,0 +1,82 @@
+-- Places of names.
+use Rattle.std.proofs.Common.{below_more, Option, ◌≡◌, ℕ, ◌<◌, ◌≤◌, ◌+◌, inl, inr, Bool, true, false, List, [], Some, None, Result, Ok, Err, is_ok, map, length, get_or, slice_get, refl, sym, ap, ◌∙◌, subst, arith}
+use Rattle.std.specs.List.{position, position_or_len, list_any}
+use Rattle.std.specs.Option.{ok_or}
+use Rattle.std.specs.Str.{bytes_eq}
+use Rattle.std.proofs.lemmas.Bool.{both_ways, cases_lt}
+use Rattle.std.proofs.lemmas.List.Quantifiers.{position-Some}
+use Rattle.std.proofs.lemmas.Option.{get_or_from_slice_get, slice_get-get_or, slice_get_within}
+use Rattle.std.proofs.lemmas.List.{length-map}
+use Rattle.std.proofs.lemmas.List.Elements.{Contains-get_or}
+use Rattle.roman_model.specs.Lists.{IsIn}
+use Rattle.roman_model.proofs.Lists.{any_from, none_from, in_contains, contains_in}
+use Rattle.roman_read.specs.Names.{place_of}
+use Rattle.roman_read.proofs.PlaceLemmas.{position-none, position-some, place_of-present}
+use Rattle.std.proofs.lemmas.Slice.Eq.{bytes_eq-Decides}
+use Rattle.roman_text.specs.declared.replies.Reply.{Reply}
+use Rattle.roman_text.specs.declared.replies.Reply.TheVariants as reply
+use Rattle.roman_joint.specs.declared.seat.Seat.{Seat}
+use Rattle.roman_joint.specs.Names.{seat_name}
+use Rattle.roman_session.specs.Rulings.{named}
+use Rattle.roman_session.proofs.SituationLemmas.{mapped_at}
+
+-- of two places, one may be before the other
+first_place : (p : List ℕ → Bool) (names : List (List ℕ)) (i k : ℕ) → p (get_or names i []) ≡ true → p (get_or names k []) ≡ true →
+    ((j : ℕ) → j < i → p (get_or names j []) ≡ false) → ((j : ℕ) → j < k → p (get_or names j []) ≡ false) → i ≡ k
+first_place p names i k at_i at_k before_i before_k =
+    elim (cases_lt i k) [
+      | inl less ↦ absurd (both_ways (p (get_or names i [])) (before_k i less) at_i)
+      | inr more ↦ elim (cases_lt k i) [ inl less ↦ absurd (both_ways (p (get_or names k [])) (before_i k less) at_k) | inr same ↦ omega arith ]
+    ]
+
+-- a name that stands there
+in_there : (names : List (List ℕ)) (k : ℕ) → k < length names → IsIn (get_or names k []) names
+in_there names k l = contains_in names (get_or names k []) (Contains-get_or names k [] l)
+
+-- the first place at which the test passes
+pub place_found : (names : List (List ℕ)) (name : List ℕ) (k : ℕ) → k < length names → bytes_eq name (get_or names k []) ≡ true →
+    ((j : ℕ) → j < k → bytes_eq name (get_or names j []) ≡ false) → place_of names name ≡ Some k
+place_found names name k l at before =
+    let p = bytes_eq name in
+    let i = position_or_len p names in
+    let e : position p names ≡ Some i = position-some p names (any_from p (get_or names k []) names (in_there names k l) at) in
+    let first = position-Some p names i [] e in
+    e ∙ ap Some (first_place p names i k first.1 at first.2 before)
+
+-- no place at which it passes
+pub place_not_found : (names : List (List ℕ)) (name : List ℕ) → ((j : ℕ) → j < length names → bytes_eq name (get_or names j []) ≡ false) → place_of names name ≡ None
+place_not_found names name before =
+    position-none (bytes_eq name) names (none_from (bytes_eq name) names (λ x i.
+    let (k, l, e) = in_contains names x i in
+    let same : get_or names k [] ≡ x = get_or_from_slice_get names k (get_or names k x) [] (slice_get-get_or names k x l) ∙ e in
+    subst (λ (y : List ℕ). bytes_eq name y ≡ false) same (before k l)))
+
+-- the service at the first place with its name
+pub service_found : (seats : List Seat) (name : List ℕ) (k : ℕ) (seat : Seat) → slice_get seats k ≡ Some seat → bytes_eq name seat.name ≡ true →
+    ((j : ℕ) → j < k → bytes_eq name (get_or (map seat_name seats) j []) ≡ false) → Ok k ≡ named (map seat_name seats) name
+service_found seats name k seat seated at before =
+    let there : get_or (map seat_name seats) k [] ≡ seat.name = mapped_at seat_name seats k seat [] seated in
+    let within : k < length (map seat_name seats) = omega (arith, slice_get_within seats k seat seated, length-map seats seat_name) in
+    let found = place_found (map seat_name seats) name k within (subst (λ (y : List ℕ). bytes_eq name y ≡ true) (sym there) at) before in
+    ap (λ (o : Option ℕ). ok_or o reply.ErrorName) (sym found)
+
+-- one more service without the name
+pub service_passed : (seats : List Seat) (name : List ℕ) (k : ℕ) (seat : Seat) → slice_get seats k ≡ Some seat → bytes_eq name seat.name ≡ false →
+    ((j : ℕ) → j < k → bytes_eq name (get_or (map seat_name seats) j []) ≡ false) → (j : ℕ) → j < k + 1 → bytes_eq name (get_or (map seat_name seats) j []) ≡ false
+service_passed seats name k seat seated at before =
+    below_more (λ j. bytes_eq name (get_or (map seat_name seats) j []) ≡ false) k before
+    (subst (λ (y : List ℕ). bytes_eq name y ≡ false) (sym (mapped_at seat_name seats k seat [] seated)) at)
+
+-- no service with the name
+pub service_not_found : (seats : List Seat) (name : List ℕ) (k : ℕ) → length seats ≤ k →
+    ((j : ℕ) → j < k → bytes_eq name (get_or (map seat_name seats) j []) ≡ false) → Err reply.ErrorName ≡ named (map seat_name seats) name
+service_not_found seats name k l before =
+    let none = place_not_found (map seat_name seats) name (λ j less. before j (omega (arith, length-map seats seat_name))) in
+    ap (λ (o : Option ℕ). ok_or o reply.ErrorName) (sym none)
+
+-- a name that has no place among others is none of them
+pub name_is_new : (names : List (List ℕ)) (name : List ℕ) (r : Result ℕ Reply) → r ≡ named names name → is_ok r ≡ false → IsIn name names → ⊥
+name_is_new names name r is not_ok i =
+    let there : list_any (bytes_eq name) names ≡ true = any_from (bytes_eq name) name names i ((bytes_eq-Decides name name).1 refl) in
+    let ok : named names name ≡ Ok (position_or_len (bytes_eq name) names) = ap (λ (o : Option ℕ). ok_or o reply.ErrorName) (place_of-present names name there) in
+    both_ways (is_ok r) not_ok (ap (λ (r : Result ℕ Reply). is_ok r) (is ∙ ok))

@@ -1,0 +1,185 @@
+-- What is known where an event isn't refused.
+use Rattle.std.proofs.Common.{◌≡◌, ℕ, ◌<◌, ◌≤◌, Bool, true, false, not, leb, inl, inr, List, map, length, Result, Ok, Err, IsTrue, IsFalse, refl, ap, ap₂, subst, ◌∙◌, arith}
+use Rattle.std.proofs.lemmas.Bool.{not-true, lt-ltb, le-leb}
+use Rattle.std.proofs.lemmas.Bool.Decides.{leb_tells}
+use Rattle.roman_model.specs.System.{has, is_allowed}
+use Rattle.roman_model.specs.Offers.{is_related, offers}
+use Rattle.roman_model.specs.Change.{Join, after}
+use Rattle.roman_model.specs.declared.limits.TheConstants.{MAX_SERVICES}
+use Rattle.roman_read.specs.Items.{◌>>=◌}
+use Rattle.roman_read.specs.Names.{is_name}
+use Rattle.roman_text.specs.declared.replies.Reply.{Reply}
+use Rattle.roman_text.specs.declared.replies.Reply.TheVariants as reply
+use Rattle.roman_joint.specs.NamedSys.{seat_of, cells}
+use Rattle.roman_joint.specs.Names.{beh_name, states_at}
+use Rattle.roman_session.specs.Situations.{Situation, system_of, is_idle}
+use Rattle.roman_session.specs.Rulings.{named, service_named, state_named, check, delegation, offered_action, seat_at, asked, handed, seen, jumped, env_jumped, frozen, thawed, died, joining, with_room}
+use Rattle.roman_session.specs.declared.events.Handing.{Handing}
+use Rattle.roman_session.specs.declared.events.Joining.{Joining}
+use Rattle.roman_session.specs.declared.events.Jump.{Jump}
+use Rattle.roman_session.specs.declared.events.Sight.{Sight}
+use Rattle.roman_session.specs.declared.phase.Phase.{Phase}
+use Rattle.roman_session.specs.declared.phase.Phase.TheVariants.{Idle, Offered, Delegated}
+
+-- where two readings give something, the first one does
+bind_ok : {X Y E : Type 0} (r : Result X E) (f : X → Result Y E) (y : Y) → (r >>= f) ≡ Ok y → (x : X) × (r ≡ Ok x) × (f x ≡ Ok y)
+bind_ok (Ok x) f y h = (x, refl, h)
+bind_ok (Err e) f y h = cc
+
+-- a test that isn't refused holds
+check_ok : (test : Bool) (refusal : Reply) (x : Unit {0}) → check test refusal ≡ Ok x → IsTrue test
+check_ok true refusal x h = refl
+check_ok false refusal x h = cc
+
+-- after a test that holds comes what follows
+checked : {Y : Type 0} (test : Bool) (refusal : Reply) (f : Unit {0} → Result Y Reply) (y : Y) → (check test refusal >>= f) ≡ Ok y → IsTrue test × (f tt ≡ Ok y)
+checked true refusal f y h = (refl, h)
+checked false refusal f y h = cc
+
+-- a request that isn't refused comes at a related pair, where its action is allowed
+pub record IsAsked (s : Situation) (action : List ℕ) (a : ℕ) : Type 0 where
+  pub named : named s.parts.environment.actions action ≡ Ok a
+  pub idle : IsTrue (is_idle s.phase)
+  pub related : IsTrue (is_related (system_of s) s.here)
+  pub allowed : IsTrue (is_allowed (system_of s) s.here a)
+
+pub asked_is : (s : Situation) (action : List ℕ) (a : ℕ) → asked s action ≡ Ok a → IsAsked s action a
+unfolding asked
+asked_is s action a h =
+    let (b, e, h1) = bind_ok (named s.parts.environment.actions action) _ a h in
+    let (idle, h2) = checked (is_idle s.phase) reply.ErrorBusy _ a h1 in
+    let (related, h3) = checked (is_related (system_of s) s.here) reply.NoComposition _ a h2 in
+    let (allowed, h4) = checked (is_allowed (system_of s) s.here b) reply.NotAllowed _ a h3 in
+    let same : b ≡ a = cc in
+    record {
+      named = e ∙ ap Ok same;
+      idle = idle;
+      related = related;
+      allowed = subst (λ (a : ℕ). IsTrue (is_allowed (system_of s) s.here a)) same allowed;
+    }
+
+-- what was delegated, where something was
+delegation_is : (phase : Phase) (d : Handing) → delegation phase ≡ Ok d → phase ≡ Delegated d.action d.seat
+delegation_is Idle d h = cc
+delegation_is (Offered a) d h = cc
+delegation_is (Delegated a k) d h = cc
+
+-- what is seen belongs to what was delegated
+pub seen_is : (s : Situation) (state env : List ℕ) (x : Sight) → seen s state env ≡ Ok x → s.phase ≡ Delegated x.action x.seat
+unfolding seen
+seen_is s state env x h =
+    let (d, e, h1) = bind_ok (delegation s.phase) _ x h in
+    let (b, eb, h2) = bind_ok (state_named s d.seat state) _ x h1 in
+    let (e', ee, h3) = bind_ok (named s.parts.environment.states env) _ x h2 in
+    let same = delegation_is s.phase d e in
+    cc
+
+-- the action for which services were offered, where some were
+offered_is : (phase : Phase) (a : ℕ) → offered_action phase ≡ Ok a → phase ≡ Offered a
+offered_is Idle a h = cc
+offered_is (Offered b) a h = cc
+offered_is (Delegated b k) a h = cc
+
+-- a delegation that isn't refused answers a request, by a service that was offered for it
+pub record IsHanded (s : Situation) (x : Handing) : Type 0 where
+  pub phase : s.phase ≡ Offered x.action
+  pub offered : IsTrue (has (offers (system_of s) s.here x.action) x.seat)
+
+pub handed_is : (s : Situation) (service : List ℕ) (x : Handing) → handed s service ≡ Ok x → IsHanded s x
+unfolding handed
+handed_is s service x h =
+    let (k, e, h1) = bind_ok (service_named s service) _ x h in
+    let (a, ea, h2) = bind_ok (offered_action s.phase) _ x h1 in
+    let (offered, h3) = checked (has (offers (system_of s) s.here a) k) reply.NotOffered _ x h2 in
+    let action : a ≡ x.action = cc in
+    let seat : k ≡ x.seat = cc in
+    record {
+      phase = offered_is s.phase a ea ∙ ap Offered action;
+      offered = subst (λ (k : ℕ). IsTrue (has (offers (system_of s) s.here x.action) k)) seat (subst (λ (a : ℕ). IsTrue (has (offers (system_of s) s.here a) k)) action offered);
+    }
+
+-- no request is open
+idle_is : (phase : Phase) → IsTrue (is_idle phase) → phase ≡ Idle
+idle_is Idle h = refl
+idle_is (Offered a) h = cc
+idle_is (Delegated a k) h = cc
+
+-- jumps that aren't refused come where no request is open
+pub jumped_idle : (s : Situation) (service state : List ℕ) (x : Jump) → jumped s service state ≡ Ok x → s.phase ≡ Idle
+unfolding jumped
+jumped_idle s service state x h =
+    let (k, e, h1) = bind_ok (service_named s service) _ x h in
+    let (b, eb, h2) = bind_ok (state_named s k state) _ x h1 in
+    idle_is s.phase (checked (is_idle s.phase) reply.ErrorBusy _ x h2).0
+
+pub env_jumped_idle : (s : Situation) (env : List ℕ) (e : ℕ) → env_jumped s env ≡ Ok e → s.phase ≡ Idle
+unfolding env_jumped
+env_jumped_idle s env e h =
+    let (i, ei, h1) = bind_ok (named s.parts.environment.states env) _ e h in
+    idle_is s.phase (checked (is_idle s.phase) reply.ErrorBusy _ e h1).0
+
+-- ---- changes of the services
+
+-- a service that can be frozen is ready, and no request is open
+pub record IsFreezing (s : Situation) (k : ℕ) : Type 0 where
+  pub idle : s.phase ≡ Idle
+  pub ready : IsFalse (seat_at s k).frozen
+
+pub frozen_is : (s : Situation) (service : List ℕ) (k : ℕ) → frozen s service ≡ Ok k → IsFreezing s k
+unfolding frozen
+frozen_is s service k h =
+    let (j, e, h1) = bind_ok (service_named s service) _ k h in
+    let (idle, h2) = checked (is_idle s.phase) reply.ErrorBusy _ k h1 in
+    let (ready, h3) = checked (not (seat_at s j).frozen) reply.ErrorFrozen _ k h2 in
+    let same : j ≡ k = cc in
+    record { idle = idle_is s.phase idle; ready = subst (λ (k : ℕ). IsFalse (seat_at s k).frozen) same (not-true (seat_at s j).frozen ready) }
+
+-- a service that can be thawed is frozen, and no request is open
+pub record IsThawing (s : Situation) (k : ℕ) : Type 0 where
+  pub idle : s.phase ≡ Idle
+  pub frozen : IsTrue (seat_at s k).frozen
+
+pub thawed_is : (s : Situation) (service : List ℕ) (k : ℕ) → thawed s service ≡ Ok k → IsThawing s k
+unfolding thawed
+thawed_is s service k h =
+    let (j, e, h1) = bind_ok (service_named s service) _ k h in
+    let (idle, h2) = checked (is_idle s.phase) reply.ErrorBusy _ k h1 in
+    let (frozen, h3) = checked (seat_at s j).frozen reply.ErrorReady _ k h2 in
+    let same : j ≡ k = cc in
+    record { idle = idle_is s.phase idle; frozen = subst (λ (k : ℕ). IsTrue (seat_at s k).frozen) same frozen }
+
+-- services die and join where no request is open
+pub died_idle : (s : Situation) (service : List ℕ) (k : ℕ) → died s service ≡ Ok k → s.phase ≡ Idle
+unfolding died
+died_idle s service k h =
+    let (j, e, h1) = bind_ok (service_named s service) _ k h in
+    idle_is s.phase (checked (is_idle s.phase) reply.ErrorBusy _ k h1).0
+
+pub joining_idle : (s : Situation) (service behaviour state : List ℕ) (loose : Bool) (x : Joining) → joining s service behaviour state loose ≡ Ok x → s.phase ≡ Idle
+unfolding joining
+joining_idle s service behaviour state loose x h =
+    let (named_well, h1) = checked (is_name service) reply.ErrorName _ x h in
+    let (i, e1, h2) = bind_ok (named (map beh_name s.parts.catalogue) behaviour) _ x h1 in
+    let (b, e2, h3) = bind_ok (named (states_at s.parts.catalogue i) state) _ x h2 in
+    idle_is s.phase (checked (is_idle s.phase) reply.ErrorBusy _ x h3).0
+
+-- the answer by the two tests of room
+room_by : Joining → Bool → Bool → Result Joining Reply
+room_by x few fits = check few reply.ErrorFull >>= (λ _. check fits reply.ErrorLimit >>= (λ _. Ok x))
+
+-- the cells of the system with the service
+abbrev pub cells_with : Situation → Joining → ℕ
+cells_with s x = cells (after (Join (seat_of s.parts.catalogue x.seat)) (system_of s))
+
+-- where there is room a service joins
+pub with_room_is : (s : Situation) (x : Joining) → length s.parts.seats < MAX_SERVICES → cells_with s x ≤ s.parts.limit → with_room s x ≡ Ok x
+unfolding room_by
+with_room_is s x few fits = ap₂ (room_by x) (lt-ltb (length s.parts.seats) MAX_SERVICES few) (le-leb (cells_with s x) s.parts.limit fits)
+
+-- where the cells exceed the limit it doesn't
+pub no_room_is : (s : Situation) (x : Joining) → length s.parts.seats < MAX_SERVICES → s.parts.limit < cells_with s x → with_room s x ≡ Err reply.ErrorLimit
+unfolding room_by
+no_room_is s x few more =
+    let exceeds : leb (cells_with s x) s.parts.limit ≡ false =
+    elim (leb_tells (cells_with s x) s.parts.limit) [ inl within ↦ absurd (omega (arith, within.1)) | inr past ↦ past.0 ] in
+    ap₂ (room_by x) (lt-ltb (length s.parts.seats) MAX_SERVICES few) exceeds

@@ -1,0 +1,11 @@
+use Rattle.std.proofs.Common.{◌≡◌, ◌≤◌, map, take, vec_capacity}
+use Rattle.roman_model.specs.declared.limits.TheConstants.{MAX_SERVICES}
+use Rattle.roman_session.specs.Starts.{state_of_service}
+use Rattle.roman_session.proofs.seating.states_of.Given as goal
+
+-- the states so far
+abbrev pub invariant-loop-service : goal.invariant-loop-service
+invariant-loop-service l = record {
+  items : l.states.items ≡ map state_of_service (take l.service-index l.services);
+  room : MAX_SERVICES ≤ vec_capacity l.states;
+}

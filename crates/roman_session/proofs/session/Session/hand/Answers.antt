@@ -1,0 +1,36 @@
+use Rattle.std.proofs.Common.{◌<◌, ◌++◌, ℕ, List, Result, codes, length, sym, ap, subst}
+use Rattle.roman_text.specs.Lines.{with_newline}
+use Rattle.roman_text.specs.declared.replies.Reply.{Reply}
+use Rattle.roman_generator.proofs.OfferLemmas.{has_in}
+use Rattle.roman_model.specs.Offers.{offers}
+use Rattle.roman_session.specs.Situations.{Situation, system_of}
+use Rattle.roman_session.specs.Steps.{Does, Hands}
+use Rattle.roman_session.specs.declared.events.Handing.{Handing}
+use Rattle.roman_session.proofs.RulingLemmas.{handed_is}
+use Rattle.roman_session.proofs.SituationLemmas.{situation_known, parts_shown, offered_open, offered_within, service_named_at}
+use Rattle.roman_session.proofs.session.Session.hand.Goals as goal
+
+pub seat-requires : goal.seat-requires
+seat-requires c =
+    let s = c.args.self.now in
+    let a = c.self.inside in
+    let x = c.in-Ok.handing in
+    let handed = handed_is s c.args.service.now x (sym c.in-Ok.ensures) in
+    let within = offered_within s x.action x.seat (situation_known a s c.self.invariant c.self.view_is) (has_in (offers (system_of s) s.here x.action) x.seat handed.offered) in
+    subst (λ (s : Situation). x.seat < length s.parts.seats) (sym c.self.view_is) within
+
+pub set_phase-requires : goal.set_phase-requires
+set_phase-requires c =
+    let s = c.args.self.now in
+    let a = c.self.inside in
+    let x = c.in-Ok.handing in
+    let handed = handed_is s c.args.service.now x (sym c.in-Ok.ensures) in
+    (offered_open s x.action (situation_known a s c.self.invariant c.self.view_is) handed.phase, has_in (offers (system_of s) s.here x.action) x.seat handed.offered)
+
+pub returns : goal.returns
+returns c =
+    let s = c.args.self.now in
+    let a = c.self.inside in
+    let name = service_named_at a.relation.joint s c.in-Ok.handing.seat c.seat.result.now (parts_shown a s c.self.view_is) c.seat.ensures in
+    subst (λ (r : Result Handing Reply). Does Hands s r (with_newline (codes "using " ++ c.seat.result.now.name)) c.set_phase.new.self) c.in-Ok.ensures
+    (ap (λ (name : List ℕ). with_newline (codes "using " ++ name)) name, c.set_phase.ensures)

@@ -1,0 +1,43 @@
+use Rattle.std.proofs.Common.{◌≤◌, Err, vec_capacity, ap, sym, ◌∙◌, subst, arith}
+use Rattle.roman_model.specs.declared.limits.TheConstants.{MAX_SERVICES}
+use Rattle.roman_session.specs.Situations.{Situation}
+use Rattle.roman_session.specs.Joins.{CanJoin}
+use Rattle.roman_session.specs.Layout.{situation_in}
+use Rattle.roman_joint.specs.NamedSys.{NamedSys}
+use Rattle.roman_session.proofs.RulingLemmas.{cells_with}
+use Rattle.roman_session.proofs.ChangedLemmas.{moved_fields, joined_now, has_place, has_room, is_within, joins_by, limit_by}
+use Rattle.roman_session.proofs.SituationLemmas.{parts_shown}
+use Rattle.roman_session.proofs.session.Session.join_seat.Goals as goal
+
+pub push_reserved-requires : goal.push_reserved-requires
+push_reserved-requires g c =
+    let a = c.self.inside in
+    has_room a c.self.invariant (has_place a c.self.invariant (λ full. absurd (cc (c.in-Ok.ensures.full.1 full))))
+
+pub invariant_of-self : goal.invariant_of-self
+invariant_of-self g c =
+    let a = c.self.inside in
+    let x = c.args.joining in
+    let idle = ap (λ (s : Situation). s.phase) c.self.view_is ∙ c.requires.idle in
+    let can = subst (λ (n : NamedSys). CanJoin n x) (sym (parts_shown a c.args.self.now c.self.view_is)) c.requires.can in
+    let room : MAX_SERVICES ≤ vec_capacity c.push_reserved.new.self = omega (arith, c.self.invariant.room, c.push_reserved.ensures.capacity) in
+    (joined_now a c.join.new.relation c.push_reserved.new.self x c.in-Ok.tally c.self.invariant idle can c.in-Ok.ensures.joint c.in-Ok.ensures.repaired c.known.ensures c.push_reserved.ensures.items room).session
+
+pub returns-in-Ok : goal.returns-in-Ok
+returns-in-Ok g c =
+    let a = c.self.inside in
+    let s = c.args.self.now in
+    let x = c.args.joining in
+    let idle = ap (λ (s : Situation). s.phase) c.self.view_is ∙ c.requires.idle in
+    let can = subst (λ (n : NamedSys). CanJoin n x) (sym (parts_shown a s c.self.view_is)) c.requires.can in
+    let room : MAX_SERVICES ≤ vec_capacity c.push_reserved.new.self = omega (arith, c.self.invariant.room, c.push_reserved.ensures.capacity) in
+    let done =
+    joined_now a c.join.new.relation c.push_reserved.new.self x c.in-Ok.tally c.self.invariant idle can c.in-Ok.ensures.joint c.in-Ok.ensures.repaired c.known.ensures c.push_reserved.ensures.items room in
+    let few = has_place a c.self.invariant (λ full. absurd (cc (c.in-Ok.ensures.full.1 full))) in
+    let fits = is_within (cells_with (situation_in a) x) a.relation.joint.limit (λ past. absurd (cc (c.in-Ok.ensures.limit.1 (few, past)))) in
+    joins_by a (moved_fields a c.join.new.relation c.push_reserved.new.self) s x c.in-Ok.tally c.kept.result c.self.view_is few fits c.kept.ensures done
+
+pub returns-in-Err-Limit : goal.returns-in-Err-Limit
+returns-in-Err-Limit g c =
+    let (few, past) = c.in-Err-Limit.ensures.limit.0 (ap Err c.in-Err-Limit.field-0-is) in
+    limit_by c.self.inside c.join.new.relation c.args.self.now c.args.joining c.self.view_is few past c.in-Err-Limit.ensures.refused.0

@@ -1,0 +1,14 @@
+use Rattle.std.proofs.Common.{◌≡◌, ◌++◌}
+use Rattle.roman_session.specs.Reports.{offer_lines, lines_text}
+use Rattle.roman_text.proofs.Filling.{IsFilling}
+use Rattle.roman_session.proofs.LineLemmas.{lines_from}
+use Rattle.roman_session.proofs.session.Session.push_offers.Given as goal
+
+-- the lines of the actions so far are taken
+abbrev pub invariant-loop-a : goal.invariant-loop-a
+invariant-loop-a g l =
+    let s = l.self in
+    record {
+      filling : IsFilling (g.O.Sink.written l.fn.out) (g.O.Sink.written l.out) l.page (lines_from s.parts s.here l.a) (l.fn.page ++ lines_text (offer_lines s.parts s.here));
+      cause : g.O.Sink.faults l.out ≡ g.O.Sink.faults l.fn.out;
+    }

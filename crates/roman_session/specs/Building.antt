@@ -1,0 +1,36 @@
+-- How a library is seated, and why it isn't.
+use Rattle.std.specs.Prelude.{◌≡◌, ℕ, ◌<◌, ◌≤◌, List, Result, Ok, Err, vec_capacity}
+use Rattle.roman_model.specs.System.{Pair, IsPair}
+use Rattle.roman_model.specs.Numbers.{sizes_of, count, number}
+use Rattle.roman_model.specs.declared.limits.TheConstants.{MAX_SERVICES}
+use Rattle.roman_joint.specs.NamedSys.{NamedSys, system_of, cells}
+use Rattle.roman_library.specs.Library.{PlainLibrary}
+use Rattle.roman_session.specs.Starts.{parts_of, start_of}
+use Rattle.roman_session.specs.declared.error.BuildError.{BuildError}
+use Rattle.roman_session.specs.declared.error.BuildError.TheVariants.{Limit, Memory}
+use Rattle.roman_session.specs.declared.seating.Seated.{Seated}
+
+-- the pair at which the parts begin, where the services are in these states
+abbrev pub starting : NamedSys → List ℕ → Pair
+starting parts bs = record { t = parts.target.beh.start; e = parts.environment.env.start; bs = bs }
+
+-- the library's parts, its services' states and the number of its start pair, with room for the states of as many
+-- services as there may be
+pub record IsSeated (library : PlainLibrary) (seated : Seated) : Type 0 where
+  pub parts : seated.joint ≡ parts_of library
+  pub states : seated.states.items ≡ (start_of library).bs
+  pub pair : IsPair (system_of (parts_of library)) (start_of library)
+  pub start : seated.start ≡ number (sizes_of (system_of (parts_of library))) (start_of library)
+  pub below : seated.start < count (sizes_of (system_of (parts_of library)))
+  pub room : MAX_SERVICES ≤ vec_capacity seated.states
+
+-- `Limit` comes exactly where the cells exceed the limit, if there is memory
+abbrev pub IsWithinLimit : {T : Type 0} → NamedSys → Result T BuildError → Type 0
+IsWithinLimit parts (Ok x) = cells (system_of parts) ≤ parts.limit
+IsWithinLimit parts (Err Limit) = parts.limit < cells (system_of parts)
+IsWithinLimit parts (Err Memory) = Unit {0}
+
+-- the errors are numbered in their order
+abbrev pub build_error_number : BuildError → ℕ
+build_error_number Limit = 1
+build_error_number Memory = 2

@@ -1,0 +1,25 @@
+-- What the fields of a session are.
+use Rattle.std.specs.Prelude.{◌≤◌, length, map, vec_capacity}
+use Rattle.roman_model.specs.Numbers.{entry_at}
+use Rattle.roman_model.specs.declared.limits.TheConstants.{MAX_BEHAVIOURS, MAX_SERVICES}
+use Rattle.roman_joint.specs.NamedSys.{system_of}
+use Rattle.roman_relation.specs.Greatest.{IsRelation}
+use Rattle.roman_session.specs.Situations.{Situation, IsSituation}
+use Rattle.roman_session.specs.declared.session.Session.TheInside.{Inside}
+
+-- the situation that the fields show
+abbrev pub situation_in : Inside → Situation
+situation_in a = record {
+  parts = a.relation.joint;
+  here = record { t = a.target; e = a.env; bs = a.states.items };
+  phase = a.phase;
+  list = map (entry_at (system_of a.relation.joint)) a.relation.order.list;
+}
+
+-- the relation's list is complete, the situation is one, the catalogue is a document's, and there is room for the
+-- greatest number of services
+pub record IsSession (a : Inside) : Type 0 where
+  pub relation : IsRelation a.relation.joint a.relation.order
+  pub known : IsSituation (situation_in a)
+  pub few : length a.relation.joint.catalogue ≤ MAX_BEHAVIOURS
+  pub room : MAX_SERVICES ≤ vec_capacity a.states

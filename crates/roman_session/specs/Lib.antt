@@ -1,0 +1,11 @@
+pub mod Situations
+pub mod Rulings
+pub mod Joins
+pub mod Serving
+pub mod Reports
+pub mod Steps
+pub mod Starts
+pub mod Building
+pub mod Laws
+pub mod Layout
+pub mod Answering

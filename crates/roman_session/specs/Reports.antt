@@ -1,0 +1,67 @@
+-- The report: the services now present, the present states, and what can be offered there.
+use Rattle.std.specs.Prelude.{ℕ, not, List, [], ◌∷◌, ◌++◌, map, length, if◌then◌else◌}
+use Rattle.std.specs.List.{filter, flat_map}
+use Rattle.roman_model.specs.Lists.{below}
+use Rattle.roman_model.specs.System.{Pair, pairs, is_final, is_allowed}
+use Rattle.roman_model.specs.Explanation.{name_at}
+use Rattle.roman_model.specs.Offers.{is_related, offers}
+use Rattle.roman_text.specs.Report.{line_text}
+use Rattle.roman_text.specs.declared.report.ReportLine.{ReportLine}
+use Rattle.roman_text.specs.declared.report.ReportLine.TheVariants as line
+use Rattle.roman_parts.specs.Named.{NamedBeh}
+use Rattle.roman_joint.specs.NamedSys.{NamedSys, system_of}
+use Rattle.roman_joint.specs.declared.seat.Seat.{Seat}
+use Rattle.roman_joint.specs.Names.{seat_name, beh_name, states_at}
+
+-- the line of a service that is in state b
+abbrev pub service_line : List NamedBeh → Seat → ℕ → ReportLine
+service_line catalogue seat b =
+    line.Service seat.name (name_at (map beh_name catalogue) seat.behaviour) (name_at (states_at catalogue seat.behaviour) b) seat.frozen (not seat.rests)
+
+-- the lines of the services
+abbrev pub service_lines : List NamedBeh → List Seat → List ℕ → List ReportLine
+service_lines catalogue [] bs = []
+service_lines catalogue (seat ∷ seats) [] = []
+service_lines catalogue (seat ∷ seats) (b ∷ bs) = service_line catalogue seat b ∷ service_lines catalogue seats bs
+
+-- the line of an action, with the services that are offered for it
+abbrev pub offer_line : NamedSys → Pair → ℕ → List ReportLine
+offer_line parts p a =
+    line.Offer (name_at parts.environment.actions a)
+    ∷ (map (λ k. line.Serves (name_at (map seat_name parts.seats) k)) (offers (system_of parts) p a) ++ line.Stop ∷ [])
+
+-- a line for each action that the target allows, where the pair is related
+abbrev pub offer_lines : NamedSys → Pair → List ReportLine
+offer_lines parts p =
+    if is_related (system_of parts) p
+    then flat_map (offer_line parts p) (filter (is_allowed (system_of parts) p) (below (system_of parts).env.actions))
+    else []
+
+-- how many pairs are related
+abbrev pub related_count : NamedSys → ℕ
+related_count parts = length (filter (is_related (system_of parts)) (pairs (system_of parts)))
+
+-- the first lines
+abbrev pub head_lines : NamedSys → Pair → List ReportLine
+head_lines parts p =
+    line.Pairs (length (pairs (system_of parts)))
+    ∷ line.Related (related_count parts)
+    ∷ line.Environment (name_at parts.environment.states p.e)
+    ∷ line.Target (name_at parts.target.states p.t) (is_final parts.target.beh p.t)
+    ∷ []
+
+-- the lines of the report
+abbrev pub report_lines : NamedSys → Pair → List ReportLine
+report_lines parts p =
+    head_lines parts p
+    ++ (service_lines parts.catalogue parts.seats p.bs
+    ++ line.Answer (is_related (system_of parts) p)
+    ∷ (offer_lines parts p ++ line.End ∷ []))
+
+-- the bytes of report lines
+unfoldable pub lines_text : List ReportLine → List ℕ
+lines_text lines = flat_map line_text lines
+
+-- the report on the services now present, at these states
+unfoldable pub report_text : NamedSys → Pair → List ℕ
+report_text parts p = lines_text (report_lines parts p)

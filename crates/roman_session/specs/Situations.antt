@@ -1,0 +1,48 @@
+-- What a session knows between two lines.
+use Rattle.std.specs.Prelude.{ℕ, Bool, true, false, List, IsTrue}
+use Rattle.roman_model.specs.Lists.{IsIn}
+use Rattle.roman_model.specs.System.{Sys, Pair, IsPair, is_allowed}
+use Rattle.roman_model.specs.Arena.{Entry}
+use Rattle.roman_model.specs.Composition.{IsComplete}
+use Rattle.roman_model.specs.Offers.{is_related, offers}
+use Rattle.roman_joint.specs.NamedSys.{NamedSys, IsNamedSys}
+use Rattle.roman_joint.specs.NamedSys as joint
+use Rattle.roman_session.specs.declared.phase.Phase.{Phase}
+use Rattle.roman_session.specs.declared.phase.Phase.TheVariants.{Idle, Offered, Delegated}
+
+-- the library with the services now present; the target's state, the environment's and the services';
+-- the request that is open; and a removal list
+pub record Situation : Type 0 where
+  pub parts : NamedSys
+  pub here : Pair
+  pub phase : Phase
+  pub list : List (Entry Pair)
+
+-- the system of the services now present
+abbrev pub system_of : Situation → Sys
+system_of s = joint.system_of s.parts
+
+-- ---- phases
+
+-- no request is open
+abbrev pub is_idle : Phase → Bool
+is_idle Idle = true
+is_idle (Offered a) = false
+is_idle (Delegated a k) = false
+
+-- the current pair is related, and the target allows the action there
+abbrev pub IsOpen : Situation → ℕ → Type 0
+IsOpen s a = IsTrue (is_related (system_of s) s.here) × IsTrue (is_allowed (system_of s) s.here a)
+
+-- the request can be served, and its delegate is offered for it
+abbrev pub IsPhase : Situation → Phase → Type 0
+IsPhase s Idle = Unit {0}
+IsPhase s (Offered a) = IsOpen s a
+IsPhase s (Delegated a k) = IsOpen s a × IsIn k (offers (system_of s) s.here a)
+
+-- what holds between any two lines
+pub record IsSituation (s : Situation) : Type 0 where
+  pub parts : IsNamedSys s.parts
+  pub here : IsPair (system_of s) s.here
+  pub list : IsComplete (system_of s) s.list
+  pub phase : IsPhase s s.phase

@@ -1,0 +1,28 @@
+//! Sessions: the events that come in, one line each, and what is answered.
+//!
+//! A session holds the services now present, the present states of the target, the environment and
+//! the services, and the request that is open. Contracts see it as a situation, and an answer as one
+//! step from a situation to another (`specs/Steps`).
+#![tactic(auto)]
+
+mod answers;
+mod error;
+mod events;
+mod laws;
+mod naming;
+mod next;
+mod phase;
+mod seating;
+mod session;
+#[cfg(test)]
+mod tests;
+mod writing;
+
+pub use error::BuildError;
+pub use laws::{
+    outcomes_are_related, reports_are_afresh, requests_are_offered, services_not_offered_fail,
+};
+pub use next::Next;
+pub use phase::Phase;
+pub use seating::{Seated, seat_library};
+pub use session::Session;

@@ -1,0 +1,94 @@
+//! The system of a library, and where it begins.
+ghost use Rattle.std.specs.Prelude.{◌≡◌, ◌<◌, ◌≤◌, length, map, vec_capacity, IfOk};
+ghost use Rattle.roman_model.specs.System.{IsPair};
+ghost use Rattle.roman_model.specs.Numbers.{sizes_of, count, number};
+ghost use Rattle.roman_model.specs.declared.limits.TheConstants.{MAX_SERVICES};
+ghost use Rattle.roman_joint.specs.NamedSys.{system_of};
+ghost use Rattle.roman_library.specs.Library.{IsLibrary, plain};
+ghost use Rattle.roman_session.specs.Starts.{seat_of_service, state_of_service, parts_of};
+ghost use Rattle.roman_session.specs.Building.{starting, IsSeated, IsWithinLimit};
+
+use crate::error::BuildError;
+use roman_joint::{Joint, JointError, Seat};
+use roman_library::{Library, Service};
+use roman_model::MAX_SERVICES;
+use std::alloc::{AllocError, Global};
+
+/// The system of a library, and where it begins.
+#[derive(Drop)]
+pub struct Seated {
+    /// The system. Its services are the library's, in their order.
+    pub joint: Joint,
+    /// The states in which the services begin. There is room for those of as many services as there
+    /// may be.
+    pub states: Vec<u8>,
+    /// The number of the pair at which the system begins.
+    pub start: u32,
+}
+
+/// The system of a library, and where it begins. `Limit` comes where the system has more cells than
+/// the library's limit.
+pub fn seat_library(alloc: Global, library: Library) -> Result<Seated, BuildError>
+    requires { IsLibrary (plain library) }
+    ensures seated { IfOk result (IsSeated (plain library)) }
+    ensures limit { IsWithinLimit (parts_of (plain library)) result }
+{
+    let seats = seats_of(alloc, &library.services)?;
+    let states = states_of(alloc, &library.services)?;
+    let Library {
+        environment,
+        catalogue,
+        target,
+        limit,
+        ..
+    } = library;
+    match Joint::build(alloc, environment, catalogue, target, seats, limit) {
+        Ok(joint) => {
+            let start = start_of(&joint, &states);
+            Ok(Seated {
+                joint,
+                states,
+                start,
+            })
+        }
+        Err(JointError::Limit) => Err(BuildError::Limit),
+        Err(JointError::Memory) => Err(BuildError::Memory),
+    }
+}
+
+// The places that the services take in a system.
+fn seats_of(alloc: Global, services: &[Service]) -> Result<Vec<Seat>, AllocError>
+    ensures { IfOk result (λ seats. seats.items ≡ map seat_of_service services.now) }
+{
+    let seat = |service: &Service| Seat {
+        name: service.name,
+        behaviour: service.behaviour,
+        frozen: service.frozen,
+        rests: service.rests,
+    };
+    services.iter().map(seat).collect(alloc)
+}
+
+// The services' states, with room for as many as there may be.
+fn states_of(alloc: Global, services: &[Service]) -> Result<Vec<u8>, AllocError>
+    requires { length services.now ≤ MAX_SERVICES }
+    ensures states { IfOk result (λ states. states.items ≡ map state_of_service services.now) }
+    ensures room { IfOk result (λ states. MAX_SERVICES ≤ vec_capacity states) }
+{
+    let mut states = Vec::with_capacity(alloc, MAX_SERVICES as usize)?;
+    for service in services {
+        states.push_reserved(service.state);
+    }
+    Ok(states)
+}
+
+// The number of the pair of the parts' starts and these states.
+fn start_of(joint: &Joint, states: &[u8]) -> u32
+    requires { IsPair (system_of joint.now) (starting joint.now states.now) }
+    ensures number { result ≡ number (sizes_of (system_of joint.now)) (starting joint.now states.now) }
+    ensures below { result < count (sizes_of (system_of joint.now)) }
+{
+    let target = joint.target().start();
+    let env = joint.environment().start();
+    joint.shape().number(target, env, states)
+}

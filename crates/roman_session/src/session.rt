@@ -1,0 +1,212 @@
+//! Sessions: what they are made of, and what is seen of them.
+ghost use Rattle.std.specs.Prelude.{◌≡◌, ◌<◌, length, map, Some, slice_get, slice_index, IsTrue};
+ghost use Rattle.std.specs.List.{filter};
+ghost use Rattle.roman_model.specs.System.{IsPair, pairs, has, is_allowed};
+ghost use Rattle.roman_model.specs.System as model;
+ghost use Rattle.roman_model.specs.Numbers.{sizes_of, count, number, entry_at};
+ghost use Rattle.roman_model.specs.Explanation.{name_at};
+ghost use Rattle.roman_model.specs.Offers.{is_related, offers};
+ghost use Rattle.roman_radix.specs.Radix.{moved};
+ghost use Rattle.roman_joint.specs.Bits.{HasBits};
+ghost use Rattle.roman_relation.specs.Greatest.{IsRelation};
+ghost use Rattle.roman_session.specs.Situations.{Situation, system_of, is_idle, IsOpen, IsPhase, IsSituation};
+ghost use Rattle.roman_session.specs.Reports.{related_count};
+
+mod answering;
+mod building;
+mod changes;
+mod jumps;
+mod reports;
+mod requests;
+mod rulings;
+
+use crate::phase::Phase;
+use roman_generator::offers;
+use roman_read::Name;
+use roman_relation::Relation;
+use std::marker::Model;
+
+/// One session: the services now present, the present states, and what is asked for.
+#[derive(Drop)]
+pub struct Session {
+    relation: Relation,
+    // the states of the target, of the environment and of the services
+    target: u8,
+    env: u8,
+    // There is room for the greatest number of services.
+    states: Vec<u8>,
+    phase: Phase,
+}
+
+impl Model for Session {
+    ghost use Rattle.roman_session.specs.Situations.{Situation};
+
+    ghost Value = { Situation };
+
+    ghost use Rattle.roman_session.specs.Layout.{situation_in, IsSession};
+
+    ghost view = { situation_in };
+
+    ghost invariant = { IsSession };
+}
+
+impl Session {
+    /// The number of pairs.
+    pub fn pairs(&self) -> u32
+        ensures { result ≡ length (pairs (system_of self.now)) }
+    {
+        self.relation.joint.shape().pairs()
+    }
+
+    /// The number of related pairs.
+    pub fn related(&self) -> u32
+        ensures { result ≡ related_count self.now.parts }
+    {
+        self.relation.count()
+    }
+
+    /// Whether a composition exists from the current pair: it is related.
+    pub fn composes(&self) -> bool
+        ensures { result ≡ is_related (system_of self.now) self.now.here }
+    {
+        self.relation.related(self.here())
+    }
+
+    /// What is asked for. Where a request is open, the current pair is related and the target allows
+    /// the action there; and a delegate is one of the services that are offered for it.
+    pub fn phase(&self) -> Phase
+        ensures phase { result ≡ self.now.phase }
+        ensures holds { IsPhase self.now result }
+    {
+        self.phase
+    }
+
+    /// The relation of the services now present, with the removal list that is kept.
+    pub fn relation(&self) -> &Relation
+        ensures parts { result.now.joint ≡ self.now.parts }
+        ensures relation { IsRelation result.now.joint result.now.order }
+        ensures list { self.now.list ≡ map (entry_at (system_of self.now)) result.now.order.list }
+    {
+        &self.relation
+    }
+
+    /// Says what holds of every session.
+    pub fn known(&self)
+        ensures { IsSituation self.now }
+    {
+        let _phase = self.phase;
+    }
+
+    // The number of the current pair.
+    fn here(&self) -> u32
+        ensures number { result ≡ number (sizes_of (system_of self.now)) self.now.here }
+        ensures below { result < count (sizes_of (system_of self.now)) }
+    {
+        let shape = self.relation.joint.shape();
+        shape.number(self.target, self.env, &self.states)
+    }
+
+    // The state of the service at place k.
+    fn state(&self, k: u8) -> u8
+        requires { k < length self.now.parts.seats }
+        ensures value { result ≡ slice_index self.now.here.bs k }
+        ensures within { (seat : model.Seat) → slice_get (system_of self.now).seats k ≡ Some seat → result < seat.beh.states }
+    {
+        self.states[k as usize]
+    }
+
+    // The number of actions.
+    fn actions(&self) -> u8
+        ensures { result ≡ (system_of self.now).env.actions }
+    {
+        self.relation.joint.environment().actions().len() as u8
+    }
+
+    // Whether the target allows the action at the current pair.
+    fn allows(&self, a: u8) -> bool
+        requires { a < (system_of self.now).env.actions }
+        ensures { result ≡ is_allowed (system_of self.now) self.now.here a }
+    {
+        self.relation.joint.allowed(self.here(), a)
+    }
+
+    // The services that are offered for the action, one bit each.
+    fn offered(&self, a: u8) -> u32
+        requires related { IsTrue (is_related (system_of self.now) self.now.here) }
+        requires allowed { IsTrue (is_allowed (system_of self.now) self.now.here a) }
+        ensures { HasBits result (has (offers (system_of self.now) self.now.here a)) }
+    {
+        offers(&self.relation, self.here(), a)
+    }
+
+    // Whether no request is open.
+    fn is_idle(&self) -> bool
+        ensures { result ≡ is_idle self.now.phase }
+    {
+        matches!(self.phase, Phase::Idle)
+    }
+
+    // Whether the service at place k is offered for the action.
+    fn is_offered(&self, a: u8, k: u8) -> bool
+        requires open { IsOpen self.now a }
+        requires seat { k < length self.now.parts.seats }
+        ensures { result ≡ has (offers (system_of self.now) self.now.here a) k }
+    {
+        self.known();
+        (self.offered(a) >> k) & 1 == 1
+    }
+
+    // The name of the target's present state.
+    fn target_name(&self) -> Name
+        ensures { result ≡ name_at self.now.parts.target.states self.now.here.t }
+    {
+        let states = self.relation.joint.target().states();
+        *states.at(u32::from(self.target))
+    }
+
+    // The name of the environment's present state.
+    fn env_name(&self) -> Name
+        ensures { result ≡ name_at self.now.parts.environment.states self.now.here.e }
+    {
+        let states = self.relation.joint.environment().states();
+        *states.at(u32::from(self.env))
+    }
+
+    // The name of an action.
+    fn action_name(&self, a: u8) -> Name
+        requires { a < (system_of self.now).env.actions }
+        ensures { result ≡ name_at self.now.parts.environment.actions a }
+    {
+        *self.relation.joint.environment().actions().at(u32::from(a))
+    }
+
+    // Goes on to another phase, which is one at the current pair.
+    fn set_phase(&mut self, phase: Phase)
+        requires { IsPhase self.old phase }
+        ensures { self.new ≡ record self.old { phase = phase } }
+    {
+        self.phase = phase;
+    }
+
+    // Moves the target, the environment and the service at place k to other states, where no request
+    // is open then.
+    fn move_to(&mut self, t: u8, e: u8, k: u8, b: u8)
+        requires pair { IsPair (system_of self.old) (moved self.old.here t e k b) }
+        requires seat { k < length self.old.parts.seats }
+        ensures { self.new ≡ record self.old { here = moved self.old.here t e k b; phase = Phase.Idle } }
+    {
+        self.target = t;
+        self.env = e;
+        self.states[k as usize] = b;
+        self.phase = Phase::Idle;
+    }
+
+    // Moves the environment to another state, where no request is open.
+    fn move_env(&mut self, e: u8)
+        requires state { e < (system_of self.old).env.states }
+        requires idle { self.old.phase ≡ Phase.Idle }
+        ensures { self.new ≡ record self.old { here = record self.old.here { e = e } } }
+    {
+        self.env = e;
+    }
+}

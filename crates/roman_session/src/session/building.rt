@@ -1,0 +1,43 @@
+// How a session begins.
+ghost use Rattle.std.specs.Prelude.{IfOk};
+ghost use Rattle.roman_library.specs.Library.{IsLibrary, plain};
+ghost use Rattle.roman_session.specs.Starts.{parts_of, IsStart};
+ghost use Rattle.roman_session.specs.Building.{IsWithinLimit};
+
+use super::Session;
+use crate::error::BuildError;
+use crate::phase::Phase;
+use crate::seating::{Seated, seat_library};
+use roman_io::Steps;
+use roman_library::Library;
+use roman_relation::Relation;
+use std::alloc::Global;
+use std::sync::ledger::Ledger;
+
+impl Session {
+    /// The session of a library, at its start. No other call of a session takes memory.
+    ///
+    /// `Limit` comes where the system has more cells than the library's limit.
+    pub fn build<L: Ledger>(
+        alloc: Global,
+        library: Library,
+        steps: &mut Steps<L>,
+    ) -> Result<Session, BuildError>
+        requires { IsLibrary (plain library) }
+        ensures start { IfOk result (IsStart (plain library)) }
+        ensures limit { IsWithinLimit (parts_of (plain library)) result }
+    {
+        let Seated { joint, states, .. } = seat_library(alloc, library)?;
+        let target = joint.target().start();
+        let env = joint.environment().start();
+        joint.known();
+        let relation = Relation::build(alloc, joint, steps)?;
+        Ok(Session {
+            relation,
+            target,
+            env,
+            states,
+            phase: Phase::Idle,
+        })
+    }
+}

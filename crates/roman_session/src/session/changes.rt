@@ -1,0 +1,128 @@
+// Changes of the services.
+ghost use Rattle.std.specs.Prelude.{◌≡◌, ◌<◌, length, slice_get, IsTrue, IsFalse};
+ghost use Rattle.roman_model.specs.System.{is_ready};
+ghost use Rattle.roman_text.specs.Replies.{reply_text};
+ghost use Rattle.roman_text.specs.Shapes.{freeze, thaw, die, join};
+ghost use Rattle.roman_session.specs.Situations.{system_of};
+ghost use Rattle.roman_session.specs.Rulings.{with_room};
+ghost use Rattle.roman_session.specs.Joins.{CanJoin};
+ghost use Rattle.roman_session.specs.Steps.{Does, Freezes, Thaws, Dies, Joins, StepOn};
+
+use super::Session;
+use crate::events::Joining;
+use crate::phase::Phase;
+use roman_io::Steps;
+use roman_repair::{JoinError, Tally, die, freeze, join, thaw};
+use roman_text::Reply;
+use std::sync::ledger::Ledger;
+
+// The reply that tells what a repair has done.
+fn kept(tally: Tally) -> Reply
+    ensures { result ≡ Reply.Kept tally.kept tally.added }
+{
+    Reply::Kept {
+        kept: tally.kept,
+        added: tally.added,
+    }
+}
+
+impl Session {
+    // `freeze S`.
+    pub(super) fn freeze<L: Ledger>(&mut self, service: &[u8], steps: &mut Steps<L>) -> Reply
+        ensures { StepOn self.old (freeze service.now) (reply_text result) self.new }
+    {
+        match self.frozen(service) {
+            Ok(k) => self.freeze_seat(k, steps),
+            Err(refusal) => refusal,
+        }
+    }
+
+    // `thaw S`.
+    pub(super) fn thaw<L: Ledger>(&mut self, service: &[u8], steps: &mut Steps<L>) -> Reply
+        ensures { StepOn self.old (thaw service.now) (reply_text result) self.new }
+    {
+        match self.thawed(service) {
+            Ok(k) => self.thaw_seat(k, steps),
+            Err(refusal) => refusal,
+        }
+    }
+
+    // `die S`.
+    pub(super) fn die<L: Ledger>(&mut self, service: &[u8], steps: &mut Steps<L>) -> Reply
+        ensures { StepOn self.old (die service.now) (reply_text result) self.new }
+    {
+        match self.died(service) {
+            Ok(k) => self.die_seat(k, steps),
+            Err(refusal) => refusal,
+        }
+    }
+
+    // `join S B STATE`, or `join S B STATE loose`.
+    pub(super) fn join<L: Ledger>(
+        &mut self,
+        service: &[u8],
+        behaviour: &[u8],
+        state: &[u8],
+        loose: bool,
+        steps: &mut Steps<L>,
+    ) -> Reply
+        ensures { StepOn self.old (join service.now behaviour.now state.now loose) (reply_text result) self.new }
+    {
+        match self.joining(service, behaviour, state, loose) {
+            Ok(joining) => self.join_seat(joining, steps),
+            Err(refusal) => refusal,
+        }
+    }
+
+    // Freezes the service at place k, which is ready.
+    fn freeze_seat<L: Ledger>(&mut self, k: u8, steps: &mut Steps<L>) -> Reply
+        requires idle { self.old.phase ≡ Phase.Idle }
+        requires ready { IsTrue (is_ready (slice_get (system_of self.old).seats k)) }
+        ensures { Freezes self.old k (reply_text result) self.new }
+    {
+        let tally = freeze(&mut self.relation, k, steps);
+        self.relation.joint.known();
+        kept(tally)
+    }
+
+    // Makes the service at place k ready, which is frozen.
+    fn thaw_seat<L: Ledger>(&mut self, k: u8, steps: &mut Steps<L>) -> Reply
+        requires idle { self.old.phase ≡ Phase.Idle }
+        requires seat { k < length self.old.parts.seats }
+        requires frozen { IsFalse (is_ready (slice_get (system_of self.old).seats k)) }
+        ensures { Thaws self.old k (reply_text result) self.new }
+    {
+        let tally = thaw(&mut self.relation, k, steps);
+        self.relation.joint.known();
+        kept(tally)
+    }
+
+    // Takes the service at place k out.
+    fn die_seat<L: Ledger>(&mut self, k: u8, steps: &mut Steps<L>) -> Reply
+        requires idle { self.old.phase ≡ Phase.Idle }
+        requires seat { k < length self.old.parts.seats }
+        ensures { Dies self.old k (reply_text result) self.new }
+    {
+        let tally = die(&mut self.relation, k, steps);
+        self.relation.joint.known();
+        let _state = self.states.remove(k as usize);
+        kept(tally)
+    }
+
+    // Adds a service, where there is room for it.
+    fn join_seat<L: Ledger>(&mut self, joining: Joining, steps: &mut Steps<L>) -> Reply
+        requires idle { self.old.phase ≡ Phase.Idle }
+        requires can { CanJoin self.old.parts joining }
+        ensures { Does Joins self.old (with_room self.old joining) (reply_text result) self.new }
+    {
+        match join(&mut self.relation, joining.seat, steps) {
+            Ok(tally) => {
+                self.relation.joint.known();
+                self.states.push_reserved(joining.state);
+                kept(tally)
+            }
+            Err(JoinError::Full) => Reply::ErrorFull,
+            Err(JoinError::Limit) => Reply::ErrorLimit,
+        }
+    }
+}

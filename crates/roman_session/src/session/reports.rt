@@ -1,0 +1,136 @@
+// Offers and reports, written.
+ghost use Rattle.std.specs.Prelude.{◌≡◌, ◌++◌};
+ghost use Rattle.roman_io.specs.Faults.{HasCause};
+ghost use Rattle.roman_io.specs.Sink.{Puts};
+ghost use Rattle.roman_text.specs.Pages.{Gathers};
+ghost use Rattle.roman_session.specs.Situations.{IsOpen};
+ghost use Rattle.roman_session.specs.Reports.{head_lines, service_lines, offer_line, offer_lines, lines_text, report_text};
+ghost use Rattle.roman_session.specs.Steps.{offer_text};
+
+use super::Session;
+use crate::writing::{push_lines, push_served, service_line};
+use roman_io::{Failed, Sink};
+use roman_text::{Page, Reply, ReportLine};
+
+impl Session {
+    /// Writes the report: the services now present, the present states, and what may be offered there.
+    pub fn report<O: Sink>(&self, out: &mut O) -> Result<(), Failed>
+        ensures report { Puts (O.written out.old) (O.written out.new) (report_text self.now.parts self.now.here) result }
+        ensures cause { HasCause (O.faults out.old) (O.faults out.new) result }
+    {
+        let mut page = Page::new();
+        if let Err(failed) = self.push_report(&mut page, out) {
+            return Err(failed);
+        }
+        page.flush(out)
+    }
+
+    // Writes the services that are offered for the action, as the reply to its request.
+    pub(super) fn put_offers<O: Sink>(&self, a: u8, out: &mut O) -> Result<(), Failed>
+        requires { IsOpen self.now a }
+        ensures offers { Puts (O.written out.old) (O.written out.new) (offer_text self.now a) result }
+        ensures cause { HasCause (O.faults out.old) (O.faults out.new) result }
+    {
+        self.known();
+        let mask = self.offered(a);
+        let mut page = Page::new();
+        if let Err(failed) = page.push_reply(&Reply::Offer, out) {
+            return Err(failed);
+        }
+        if let Err(failed) = push_served(&self.relation.joint, mask, &mut page, out) {
+            return Err(failed);
+        }
+        if let Err(failed) = page.push_reply(&Reply::Stop, out) {
+            return Err(failed);
+        }
+        page.flush(out)
+    }
+
+    // Takes all lines of the report.
+    fn push_report<O: Sink>(&self, page: &mut Page, out: &mut O) -> Result<(), Failed>
+        ensures gathers { Gathers (O.written out.old) (O.written out.new) page.new (page.old ++ report_text self.now.parts self.now.here) result }
+        ensures cause { HasCause (O.faults out.old) (O.faults out.new) result }
+    {
+        if let Err(failed) = push_lines(&self.head_lines(), page, out) {
+            return Err(failed);
+        }
+        if let Err(failed) = self.push_services(page, out) {
+            return Err(failed);
+        }
+        if let Err(failed) = push_lines(&[ReportLine::Answer(self.composes())], page, out) {
+            return Err(failed);
+        }
+        if let Err(failed) = self.push_offers(page, out) {
+            return Err(failed);
+        }
+        push_lines(&[ReportLine::End], page, out)
+    }
+
+    // The first lines of the report.
+    fn head_lines(&self) -> [ReportLine; 4]
+        ensures { result ≡ head_lines self.now.parts self.now.here }
+    {
+        let here = self.target;
+        [
+            ReportLine::Pairs(self.pairs()),
+            ReportLine::Related(self.related()),
+            ReportLine::Environment(self.env_name()),
+            ReportLine::Target {
+                state: self.target_name(),
+                is_final: self.relation.joint.target().is_final(here),
+            },
+        ]
+    }
+
+    // Takes the lines of the services.
+    fn push_services<O: Sink>(&self, page: &mut Page, out: &mut O) -> Result<(), Failed>
+        ensures gathers { Gathers (O.written out.old) (O.written out.new) page.new
+            (page.old ++ lines_text (service_lines self.now.parts.catalogue self.now.parts.seats self.now.here.bs)) result }
+        ensures cause { HasCause (O.faults out.old) (O.faults out.new) result }
+    {
+        for k in 0..self.relation.joint.seats() {
+            let line = service_line(&self.relation.joint, k, self.state(k));
+            if let Err(failed) = page.push_report_line(&line, out) {
+                return Err(failed);
+            }
+        }
+        Ok(())
+    }
+
+    // Takes a line for each action that the target allows, where the current pair is related.
+    fn push_offers<O: Sink>(&self, page: &mut Page, out: &mut O) -> Result<(), Failed>
+        ensures gathers { Gathers (O.written out.old) (O.written out.new) page.new (page.old ++ lines_text (offer_lines self.now.parts self.now.here)) result }
+        ensures cause { HasCause (O.faults out.old) (O.faults out.new) result }
+    {
+        if !self.composes() {
+            return Ok(());
+        }
+        for a in 0..self.actions() {
+            if !self.allows(a) {
+                continue;
+            }
+            if let Err(failed) = self.push_offer(a, page, out) {
+                return Err(failed);
+            }
+        }
+        Ok(())
+    }
+
+    // Takes the line of an action, with the services that are offered for it.
+    fn push_offer<O: Sink>(&self, a: u8, page: &mut Page, out: &mut O) -> Result<(), Failed>
+        requires { IsOpen self.now a }
+        ensures gathers { Gathers (O.written out.old) (O.written out.new) page.new (page.old ++ lines_text (offer_line self.now.parts self.now.here a)) result }
+        ensures cause { HasCause (O.faults out.old) (O.faults out.new) result }
+    {
+        self.known();
+        let mask = self.offered(a);
+        let line = ReportLine::Offer(self.action_name(a));
+        if let Err(failed) = page.push_report_line(&line, out) {
+            return Err(failed);
+        }
+        if let Err(failed) = push_served(&self.relation.joint, mask, page, out) {
+            return Err(failed);
+        }
+        page.push_report_line(&ReportLine::Stop, out)
+    }
+}

@@ -1,0 +1,88 @@
+// Requests, and what comes of them.
+ghost use Rattle.std.specs.Prelude.{◌≡◌, IfSome, IfNone, MatchResult, Ok, Err};
+ghost use Rattle.roman_text.specs.Replies.{reply_text};
+ghost use Rattle.roman_text.specs.Shapes.{hand, saw, abort};
+ghost use Rattle.roman_session.specs.Situations.{system_of};
+ghost use Rattle.roman_session.specs.Rulings.{asked};
+ghost use Rattle.roman_session.specs.Steps.{HasMoved, CanBe, StepOn};
+
+use super::Session;
+use crate::events::{Handing, Sight};
+use crate::phase::Phase;
+use roman_generator::next_pair;
+use roman_read::Name;
+use roman_text::Reply;
+
+impl Session {
+    // `do A`: the action for which services are offered from now on.
+    pub(super) fn ask(&mut self, action: &[u8]) -> Result<u8, Reply>
+        ensures { MatchResult result
+            (λ a. (asked self.old action.now ≡ Ok a) × (self.new ≡ record self.old { phase = Phase.Offered a }))
+            (λ refusal. (asked self.old action.now ≡ Err refusal) × (self.new ≡ self.old)) }
+    {
+        let a = self.asked(action)?;
+        self.set_phase(Phase::Offered(a));
+        Ok(a)
+    }
+
+    // `use S`.
+    pub(super) fn hand(&mut self, service: &[u8]) -> Reply
+        ensures { StepOn self.old (hand service.now) (reply_text result) self.new }
+    {
+        let Handing { action, seat } = match self.handed(service) {
+            Ok(handing) => handing,
+            Err(refusal) => return refusal,
+        };
+        let name = self.relation.joint.seat(seat).name;
+        self.set_phase(Phase::Delegated(action, seat));
+        Reply::Using(name)
+    }
+
+    // `abort`.
+    pub(super) fn abort(&mut self) -> Reply
+        ensures { StepOn self.old abort (reply_text result) self.new }
+    {
+        if let Err(refusal) = self.aborted() {
+            return refusal;
+        }
+        self.set_phase(Phase::Idle);
+        Reply::Aborted
+    }
+
+    // The target's state after what is seen, where some step of the system leads there.
+    fn target_after(&self, sight: Sight) -> Option<u8>
+        requires { self.now.phase ≡ Phase.Delegated sight.action sight.seat }
+        ensures moves { IfSome result (λ to. HasMoved self.now sight to) }
+        ensures none { IfNone result (CanBe self.now sight → ⊥) }
+    {
+        let Sight {
+            action,
+            seat,
+            state,
+            env,
+        } = sight;
+        match next_pair(&self.relation, self.here(), action, seat, state, env) {
+            Some(pair) => Some(self.relation.joint.shape().target_of(pair)),
+            None => None,
+        }
+    }
+
+    // `saw B E`.
+    pub(super) fn see(&mut self, state: &[u8], env: &[u8]) -> Reply
+        ensures { StepOn self.old (saw state.now env.now) (reply_text result) self.new }
+    {
+        let sight = match self.seen(state, env) {
+            Ok(sight) => sight,
+            Err(refusal) => return refusal,
+        };
+        self.known();
+        let Some(to) = self.target_after(sight) else {
+            return Reply::Impossible;
+        };
+        self.move_to(to, sight.env, sight.seat, sight.state);
+        Reply::Now {
+            target: self.target_name(),
+            env: self.env_name(),
+        }
+    }
+}

@@ -1,0 +1,78 @@
+//! Names and lines, written one after the other.
+ghost use Rattle.std.specs.Prelude.{◌≡◌, ◌<◌, ◌++◌, length, Some, slice_get};
+ghost use Rattle.roman_model.specs.System as model;
+ghost use Rattle.roman_io.specs.Faults.{HasCause};
+ghost use Rattle.roman_text.specs.Pages.{Gathers};
+ghost use Rattle.roman_joint.specs.NamedSys.{system_of};
+ghost use Rattle.roman_joint.specs.declared.seat.Seat.{Seat};
+ghost use Rattle.roman_session.specs.Reports.{service_line, lines_text};
+ghost use Rattle.roman_session.specs.Serving.{is_set, seats_set, served_text};
+
+use roman_io::{Failed, Sink};
+use roman_joint::Joint;
+use roman_text::{Page, Reply, ReportLine};
+
+/// Whether bit k is set.
+pub(crate) fn is_set(mask: u32, k: u8) -> bool
+    requires { k < 32 }
+    ensures { result ≡ is_set mask k }
+{
+    (mask >> k) & 1 == 1
+}
+
+/// Takes the names of the services whose bits are set, each after a space.
+pub(crate) fn push_served<O: Sink>(
+    joint: &Joint,
+    mask: u32,
+    page: &mut Page,
+    out: &mut O,
+) -> Result<(), Failed>
+    ensures gathers { Gathers (O.written out.old) (O.written out.new) page.new (page.old ++ served_text joint.now (seats_set mask (length joint.now.seats))) result }
+    ensures cause { HasCause (O.faults out.old) (O.faults out.new) result }
+{
+    for k in 0..joint.seats() {
+        if !is_set(mask, k) {
+            continue;
+        }
+        let reply = Reply::Serves(joint.seat(k).name);
+        if let Err(failed) = page.push_reply(&reply, out) {
+            return Err(failed);
+        }
+    }
+    Ok(())
+}
+
+/// The report line of the service at place k, which is in that state.
+pub(crate) fn service_line(joint: &Joint, k: u8, state: u8) -> ReportLine
+    requires seat { k < length joint.now.seats }
+    requires state { (seat : model.Seat) → slice_get (system_of joint.now).seats k ≡ Some seat → state < seat.beh.states }
+    ensures { (seat : Seat) → slice_get joint.now.seats k ≡ Some seat → result ≡ service_line joint.now.catalogue seat state }
+{
+    joint.known();
+    let seat = *joint.seat(k);
+    let behaviour = joint.behaviour(k);
+    ReportLine::Service {
+        name: seat.name,
+        behaviour: *behaviour.name(),
+        state: *behaviour.states().at(u32::from(state)),
+        frozen: seat.frozen,
+        loose: !seat.rests,
+    }
+}
+
+/// Takes report lines.
+pub(crate) fn push_lines<O: Sink>(
+    lines: &[ReportLine],
+    page: &mut Page,
+    out: &mut O,
+) -> Result<(), Failed>
+    ensures gathers { Gathers (O.written out.old) (O.written out.new) page.new (page.old ++ lines_text lines.now) result }
+    ensures cause { HasCause (O.faults out.old) (O.faults out.new) result }
+{
+    for line in lines {
+        if let Err(failed) = page.push_report_line(line, out) {
+            return Err(failed);
+        }
+    }
+    Ok(())
+}
