@@ -1,0 +1,55 @@
+-- Words that are numbered as names, one after another.
+use Rattle.std.proofs.Common.{◌≡◌, ℕ, ◌+◌, ◌<◌, ◌&&◌, ◌++◌, ◌∷◌, [], List, length, get_or, take, drop, map, Option, Some, None, IsTrue, Bor, is_none, refl, ap, sym, ◌∙◌, subst, add-one, drop-cons}
+use Rattle.std.proofs.lemmas.Bool.{and_parts, false≢true}
+use Rattle.std.proofs.lemmas.List.{take_more, get_or-map, length-map, length_push}
+use Rattle.roman_read.specs.Names.{is_name, place_of}
+use Rattle.roman_make.specs.Names.{are_new}
+
+-- what is tested to be nothing is nothing
+is_nothing : {X : Type 0} (o : Option X) → IsTrue (is_none o) → o ≡ None
+is_nothing None t = refl
+is_nothing (Some x) t = absurd (false≢true t)
+
+-- the word is a name, no word before it is the same, and those behind it go on
+pub record IsNext (before : List (List ℕ)) (word : List ℕ) (rest : List (List ℕ)) : Type 0 where
+  pub name : IsTrue (is_name word)
+  pub new : place_of before word ≡ None
+  pub further : IsTrue (are_new (before ++ word ∷ []) rest)
+
+next_word : (before : List (List ℕ)) (word : List ℕ) (rest : List (List ℕ)) → IsTrue (are_new before (word ∷ rest)) → IsNext before word rest
+next_word before word rest new =
+    let parts = and_parts (is_name word && is_none (place_of before word)) (are_new (before ++ word ∷ []) rest) new in
+    let first = and_parts (is_name word) (is_none (place_of before word)) parts.0 in
+    record { name = first.0; new = is_nothing (place_of before word) first.1; further = parts.1 }
+
+-- the words behind their references
+abbrev pub shown : List (Bor (List ℕ)) → List (List ℕ)
+shown words = map (λ word. word.now) words
+
+-- the first i words are numbered, and those behind them are new
+pub record AreNumbered (words : List (Bor (List ℕ))) (i : ℕ) (names : List (List ℕ)) : Type 0 where
+  pub count : length names ≡ i
+  pub first : names ≡ take i (shown words)
+  pub further : IsTrue (are_new names (drop i (shown words)))
+
+-- the next one
+pub next_numbered : (words : List (Bor (List ℕ))) (d : Bor (List ℕ)) (i : ℕ) (names : List (List ℕ)) → d.now ≡ [] → i < length words → AreNumbered words i names
+    → IsNext names (get_or words i d).now (drop (i + 1) (shown words))
+next_numbered words d i names none less old =
+    let within : i < length (shown words) = rw (length-map words (λ word. word.now)) less in
+    let is : get_or (shown words) i [] ≡ (get_or words i d).now = get_or-map (λ (word : Bor (List ℕ)). word.now) words i d [] less in
+    let split : drop i (shown words) ≡ get_or (shown words) i [] ∷ drop (i + 1) (shown words) = rw (add-one, drop-cons (shown words) i []) refl in
+    next_word names (get_or words i d).now (drop (i + 1) (shown words)) (subst (λ xs. IsTrue (are_new names xs)) (split ∙ ap (λ x. x ∷ drop (i + 1) (shown words)) is) old.further)
+
+-- it is numbered
+pub numbers_next : (words : List (Bor (List ℕ))) (d : Bor (List ℕ)) (i : ℕ) (names after : List (List ℕ)) → d.now ≡ [] → i < length words → AreNumbered words i names
+    → after ≡ names ++ (get_or words i d).now ∷ [] → AreNumbered words (i + 1) after
+numbers_next words d i names after none less old made =
+    let next = next_numbered words d i names none less old in
+    let is : get_or (shown words) i [] ≡ (get_or words i d).now = get_or-map (λ (word : Bor (List ℕ)). word.now) words i d [] less in
+    let within : i < length (shown words) = rw (length-map words (λ word. word.now)) less in
+    record {
+      count = ap length made ∙ length_push names (get_or words i d).now ∙ ap (λ n. n + 1) old.count;
+      first = made ∙ ap (λ xs. xs ++ (get_or words i d).now ∷ []) old.first ∙ ap (λ x. take i (shown words) ++ x ∷ []) (sym is) ∙ sym (take_more (shown words) i [] within);
+      further = rw made next.further;
+    }

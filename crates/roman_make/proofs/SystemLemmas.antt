@@ -1,0 +1,79 @@
+-- The library that is made is the one of the definition, and is a library.
+use Rattle.std.proofs.Common.{◌≡◌, ℕ, zero, suc, ◌≤◌, ◌∷◌, [], List, length, map, take, ap, sym, subst, inl, inr, lit<, lit≤, arith}
+use Rattle.std.proofs.lemmas.List.{length-map, length-take-le}
+use Rattle.std.proofs.lemmas.List.Elements.{All-cons, All-map}
+use Rattle.std.proofs.lemmas.Simd.{map-map}
+use Rattle.roman_model.specs.Lists.{IsIn, HasNoRepeats}
+use Rattle.roman_model.specs.System.{IsEnv}
+use Rattle.roman_model.proofs.Lists.{HasNoRepeats-below, HasNoRepeats-map}
+use Rattle.roman_parts.specs.Named.{NamedEnv, NamedBeh, NamedTarget}
+use Rattle.roman_library.specs.Library.{PlainLibrary, IsLibrary, AreServices, IsService, IsBehaviour, IsTarget, service_name}
+use Rattle.roman_make.specs.Made.{number_in, floor, worker, worker_names, idle_worker, shift, made}
+
+-- ---- names that don't repeat
+
+-- numbers of names don't repeat, so the names don't
+once_from_map : {X Y : Type 0} (f : X → Y) (xs : List X) → HasNoRepeats (map f xs) → HasNoRepeats xs
+once_from_map f [] once = tt
+once_from_map {X} f (x ∷ xs) once = (λ i. once.0 (in_map xs i), once_from_map f xs once.1)
+  where
+    in_map : (ys : List X) → IsIn x ys → IsIn (f x) (map f ys)
+    in_map [] i = absurd i
+    in_map (y ∷ ys) (inl e) = inl (ap f e)
+    in_map (y ∷ ys) (inr i) = inr (in_map ys i)
+
+in_take : {X : Type 0} (n : ℕ) (x : X) (xs : List X) → IsIn x (take n xs) → IsIn x xs
+in_take zero x xs i = absurd i
+in_take (suc n) x [] i = absurd i
+in_take (suc n) x (y ∷ ys) (inl e) = inl e
+in_take (suc n) x (y ∷ ys) (inr i) = inr (in_take n x ys i)
+
+once_in_front : {X : Type 0} (n : ℕ) (xs : List X) → HasNoRepeats xs → HasNoRepeats (take n xs)
+once_in_front zero xs once = tt
+once_in_front (suc n) [] once = tt
+once_in_front (suc n) (x ∷ xs) once = (λ i. once.0 (in_take n x xs i), once_in_front n xs once.1)
+
+-- the workers' names don't repeat
+workers_once : HasNoRepeats worker_names
+workers_once = once_from_map (number_in worker_names) worker_names (HasNoRepeats-below 10)
+
+-- ---- the library
+
+library_path : {a b : PlainLibrary} → a.environment ≡ b.environment → a.catalogue ≡ b.catalogue → a.services ≡ b.services → a.target ≡ b.target → a.limit ≡ b.limit → a ≡ b
+library_path e c s t l = λ i. record { environment = e i; catalogue = c i; services = s i; target = t i; limit = l i }
+
+-- the parts that are made are the library's
+pub library_is : (made_library : PlainLibrary) (n : ℕ) → made_library.environment ≡ floor → made_library.catalogue ≡ worker ∷ [] → made_library.services ≡ map idle_worker (take n worker_names)
+    → made_library.target ≡ shift → made_library.limit ≡ 4_194_304 → made_library ≡ made n
+unfolding made
+library_is made_library n e c s t l = library_path e c s t l
+
+few_workers : (n : ℕ) → n ≤ 10 → length (map idle_worker (take n worker_names)) ≤ 32
+few_workers n few = rw (length-map (take n worker_names) idle_worker, length-take-le n worker_names few) (omega arith)
+
+are_services : (n : ℕ) → AreServices (worker ∷ []) (map idle_worker (take n worker_names))
+unfolding worker
+are_services n = record {
+  known = All-map (IsService (worker ∷ [])) idle_worker (take n worker_names) (λ k d less. record { behaviour = lit< tt; state = lit< tt });
+  names = rw map-map (HasNoRepeats-map (λ name. service_name (idle_worker name)) (take n worker_names) (λ x y i j same. same) (once_in_front n worker_names workers_once));
+}
+
+-- the library of the definition is one
+pub made_is_library : (n : ℕ) → n ≤ 10 → IsEnv floor.env → IsBehaviour floor worker → IsTarget floor shift → IsLibrary (made n)
+unfolding made
+made_is_library n few env behaviour target = record {
+  environment = env;
+  catalogue = record { known = All-cons (IsBehaviour floor) worker [] behaviour (λ k d less. absurd (omega arith)); names = (λ i. i, tt) };
+  few_behaviours = lit≤ tt;
+  services = are_services n;
+  few_services = few_workers n few;
+  target = target;
+  limit = (lit< tt, lit≤ tt);
+}
+
+-- so is the library that is made
+pub library_known : (made_library : PlainLibrary) (n : ℕ) (env : NamedEnv) (beh : NamedBeh) (target : NamedTarget) → made_library ≡ made n → n ≤ 10
+    → env ≡ floor → IsEnv env.env → beh ≡ worker → IsBehaviour floor beh → target ≡ shift → IsTarget floor target → IsLibrary made_library
+library_known made_library n env beh target is few e env_known b beh_known t target_known =
+    subst IsLibrary (sym is)
+    (made_is_library n few (subst (λ x. IsEnv x.env) e env_known) (subst (IsBehaviour floor) b beh_known) (subst (IsTarget floor) t target_known))

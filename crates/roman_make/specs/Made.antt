@@ -1,0 +1,126 @@
+-- The made systems: workers, who wear out and are mended, and a target that asks for one worker's shift.
+use Rattle.std.specs.Prelude.{ℕ, ◌∷◌, [], List, length, map, take, unwrap_or, codes, true, false}
+use Rattle.roman_model.specs.Lists.{below}
+use Rattle.roman_model.specs.Normal.{normal_env, normal_beh}
+use Rattle.roman_model.specs.System.{Beh, Triple, Move}
+use Rattle.roman_parts.specs.Named.{NamedEnv, NamedBeh, NamedTarget}
+use Rattle.roman_read.specs.Names.{place_of}
+use Rattle.roman_library.specs.Library.{PlainLibrary}
+use Rattle.roman_library.specs.declared.library.Service.{Service}
+
+-- the number of a name is its place among the names; of a name that isn't there it is out of range
+abbrev pub number_in : List (List ℕ) → List ℕ → ℕ
+number_in names name = unwrap_or (place_of names name) (length names)
+
+-- a transition as the tables list it: from a state, by an action, to a state
+abbrev pub Row : Type 0
+Row = List ℕ × List ℕ × List ℕ
+
+-- ---- the environment
+
+abbrev pub floor_states : List (List ℕ)
+floor_states = codes "floor" ∷ []
+
+abbrev pub floor_actions : List (List ℕ)
+floor_actions = codes "start" ∷ codes "stop" ∷ codes "mend" ∷ codes "hold" ∷ codes "go" ∷ []
+
+-- an action that leads from the floor to the floor
+abbrev pub loop : ℕ → Triple
+loop action = record { from = 0; action = action; to = 0 }
+
+-- one state, with a loop on each action
+unfoldable pub floor : NamedEnv
+floor = record {
+  states = floor_states;
+  actions = floor_actions;
+  env = normal_env (record { states = 1; actions = 5; start = 0; triples = map loop (below 5) });
+}
+
+-- a transition of the tables, under the guard that means every state of the environment
+abbrev pub move_in : List (List ℕ) → Row → Move
+move_in states row = record {
+  from = number_in states row.0;
+  guard = below 1;
+  action = number_in floor_actions row.1;
+  to = number_in states row.2;
+}
+
+-- a behaviour over the floor: its states, of which the first is the start, the final ones, and its transitions
+abbrev pub machine : List (List ℕ) → List (List ℕ) → List Row → Beh
+machine states finals rows = normal_beh 1 5 (record {
+  states = length states;
+  start = 0;
+  finals = map (number_in states) finals;
+  steps = map (move_in states) rows;
+})
+
+-- ---- the workers
+
+abbrev pub worker_states : List (List ℕ)
+worker_states = codes "idle" ∷ codes "busy" ∷ codes "worn" ∷ []
+
+-- a worker that is stopped may be idle or worn
+abbrev pub worker_rows : List Row
+worker_rows =
+    (codes "idle", codes "start", codes "busy") ∷
+    (codes "busy", codes "stop", codes "idle") ∷
+    (codes "busy", codes "stop", codes "worn") ∷
+    (codes "busy", codes "hold", codes "busy") ∷
+    (codes "busy", codes "go", codes "busy") ∷
+    (codes "worn", codes "mend", codes "idle") ∷
+    (codes "idle", codes "mend", codes "idle") ∷
+    []
+
+-- the one behaviour of the catalogue
+unfoldable pub worker : NamedBeh
+worker = record {
+  name = codes "worker";
+  states = worker_states;
+  env_states = 1;
+  actions = 5;
+  beh = machine worker_states (codes "idle" ∷ codes "worn" ∷ []) worker_rows;
+}
+
+-- the names of the workers
+abbrev pub worker_names : List (List ℕ)
+worker_names =
+    codes "w1" ∷ codes "w2" ∷ codes "w3" ∷ codes "w4" ∷ codes "w5" ∷ codes "w6" ∷ codes "w7" ∷ codes "w8" ∷ codes "w9" ∷ codes "w10" ∷ []
+
+-- a worker that is idle and ready, and rests
+abbrev pub idle_worker : List ℕ → Service
+idle_worker name = record { name = name; behaviour = 0; state = 0; frozen = false; rests = true }
+
+-- ---- the target
+
+abbrev pub shift_states : List (List ℕ)
+shift_states = codes "rest" ∷ codes "work" ∷ codes "tidy" ∷ codes "pause" ∷ []
+
+abbrev pub shift_rows : List Row
+shift_rows =
+    (codes "rest", codes "start", codes "work") ∷
+    (codes "work", codes "stop", codes "tidy") ∷
+    (codes "tidy", codes "mend", codes "rest") ∷
+    (codes "work", codes "hold", codes "pause") ∷
+    (codes "pause", codes "go", codes "work") ∷
+    []
+
+-- the shift of one worker
+unfoldable pub shift : NamedTarget
+shift = record {
+  states = shift_states;
+  env_states = 1;
+  actions = 5;
+  beh = machine shift_states (codes "rest" ∷ []) shift_rows;
+}
+
+-- ---- the system
+
+-- the library with the first n workers
+unfoldable pub made : ℕ → PlainLibrary
+made n = record {
+  environment = floor;
+  catalogue = worker ∷ [];
+  services = map idle_worker (take n worker_names);
+  target = shift;
+  limit = 4_194_304;
+}

@@ -1,0 +1,20 @@
+-- The lines of the session that goes with the made systems.
+use Rattle.std.specs.Prelude.{ℕ, List, [], ◌∷◌, codes}
+
+-- a worker is frozen, thawed and lost, and a spare one goes once round in its place
+abbrev pub script_lines : List (List ℕ)
+script_lines =
+    codes "freeze w1" ∷
+    codes "thaw w1" ∷
+    codes "die w1" ∷
+    codes "join spare worker idle" ∷
+    codes "do start" ∷
+    codes "use spare" ∷
+    codes "saw busy floor" ∷
+    codes "do stop" ∷
+    codes "use spare" ∷
+    codes "saw worn floor" ∷
+    codes "do mend" ∷
+    codes "use spare" ∷
+    codes "saw idle floor" ∷
+    []

@@ -1,0 +1,46 @@
+//! Why no system is made.
+ghost use Rattle.std.specs.Prelude.{◌≡◌};
+ghost use Rattle.roman_make.specs.Errors.{make_error_number};
+ghost use Rattle.roman_make.specs.declared.error.MakeError.TheVariants.{Memory};
+
+use std::alloc::{AllocError, AllocFailed};
+use thiserror::Error;
+
+/// Why no system is made.
+#[derive(Clone, Copy, Debug, PartialEq, Eq, Error)]
+pub enum MakeError {
+    /// There are no systems for this number.
+    #[error("the number isn't 1 to 10")]
+    Range,
+    /// There is no memory.
+    #[error("there is no memory")]
+    Memory,
+}
+
+impl MakeError {
+    /// The error's number: 1 for `Range` and 2 for `Memory`.
+    pub fn number(&self) -> u8
+        ensures number { result ≡ make_error_number self.now }
+    {
+        match self {
+            MakeError::Range => 1,
+            MakeError::Memory => 2,
+        }
+    }
+}
+
+impl From<AllocError> for MakeError {
+    ghost from_gives = { λ _ error. error ≡ Memory };
+
+    fn from(_error: AllocError) -> MakeError {
+        MakeError::Memory
+    }
+}
+
+impl<T: Drop> From<AllocFailed<T>> for MakeError {
+    ghost from_gives = { λ _ error. error ≡ Memory };
+
+    fn from(_error: AllocFailed<T>) -> MakeError {
+        MakeError::Memory
+    }
+}

@@ -1,0 +1,28 @@
+//! The session for the made systems.
+ghost use Rattle.std.specs.Prelude.{◌≡◌, ◌≤◌, ◌↔◌, IsNone, IfSome, Some, slice_get};
+ghost use Rattle.roman_make.specs.Script.{script_lines};
+
+/// The lines.
+static LINES: [&[u8]; 13] = [
+    b"freeze w1",
+    b"thaw w1",
+    b"die w1",
+    b"join spare worker idle",
+    b"do start",
+    b"use spare",
+    b"saw busy floor",
+    b"do stop",
+    b"use spare",
+    b"saw worn floor",
+    b"do mend",
+    b"use spare",
+    b"saw idle floor",
+];
+
+/// Line `i` of the session, from 0 on, without a newline; `None` where `i` is 13 or more.
+pub fn script(i: u8) -> Option<&'static [u8]>
+    ensures line { IfSome result (λ line. slice_get script_lines i ≡ Some line.now) }
+    ensures end { IsNone result ↔ (13 ≤ i) }
+{
+    LINES.get(i as usize).copied()
+}
