@@ -1,18 +1,41 @@
 -- The words of a command, and what they ask for.
 use Rattle.std.specs.Prelude.{ℕ, List, [], ◌∷◌, Option, None, Some, codes, if◌then◌else◌}
 use Rattle.std.specs.Str.{bytes_eq}
+use Rattle.roman_top.specs.declared.command.Command.{Command as Asked}
+use Rattle.roman_top.specs.declared.command.Command.TheVariants as asked
 
--- what a command asks for
+-- what a command asks for; a session without a name on the shelf comes from the input
 pub data Command : Type 0 where
   Synth : (system : List ℕ) → Command
+  Run : (system : List ℕ) (session : Option (List ℕ)) → Command
+  Certify : (system : List ℕ) → Command
+  Check : (system certificate : List ℕ) → Command
+
+-- the command of a word and one name
+abbrev pub with_one : List ℕ → List ℕ → Option Command
+with_one word name =
+    if bytes_eq word (codes "synth") then Some (Synth name)
+    else if bytes_eq word (codes "certify") then Some (Certify name)
+    else None
+
+-- the command of a word and two names
+abbrev pub with_two : List ℕ → List ℕ → List ℕ → Option Command
+with_two word name other = if bytes_eq word (codes "check") then Some (Check name other) else None
 
 -- the command that the words are, if they have the shape of one
 abbrev pub command_of : List (List ℕ) → Option Command
 command_of [] = None
 command_of (word ∷ []) = None
-command_of (word ∷ system ∷ []) = if bytes_eq word (codes "synth") then Some (Synth system) else None
-command_of (word ∷ first ∷ second ∷ more) = None
+command_of (word ∷ name ∷ []) = with_one word name
+command_of (word ∷ name ∷ other ∷ []) = with_two word name other
+command_of (word ∷ name ∷ other ∷ another ∷ more) = None
 
 -- what words without a shape are answered
 abbrev pub usage_line : List ℕ
-usage_line = codes "usage: roman synth SYSTEM\n"
+usage_line = codes "usage: roman synth SYSTEM | certify SYSTEM | check SYSTEM CERT\n"
+
+-- a command of the program, with its names as bytes
+abbrev pub command_as : Asked → Command
+command_as (asked.Synth system) = Synth system.now
+command_as (asked.Certify system) = Certify system.now
+command_as (asked.Check system certificate) = Check system.now certificate.now

@@ -1,4 +1,9 @@
+pub mod Causes
 pub mod Command
+pub mod Endings
+pub mod Faults
 pub mod Numbers
 pub mod RefusalLine
 pub mod Run
+pub mod Sessions
+pub mod Verdicts

@@ -62,8 +62,12 @@ abbrev pub choice_words : Kind → List ℕ
 choice_words (kind.Choice first state) = codes " " ++ decimal first ++ codes " " ++ state
 choice_words _ = []
 
+-- what the line says after the document's name: the rule, and where it is broken
+abbrev pub rule_text : Refusal → List ℕ
+rule_text r =
+    codes " " ++ kind_word r.kind ++ codes " " ++ part_word r.part ++ codes " " ++ decimal (part_number r.part)
+    ++ codes " " ++ list_word r.list ++ codes " " ++ decimal r.index ++ choice_words r.kind ++ codes "\n"
+
 -- `refused DOCUMENT KIND PART NUMBER LIST INDEX`, and for a choice what it goes on with
 abbrev pub refusal_line : Refusal → List ℕ
-refusal_line r =
-    codes "refused " ++ r.document ++ codes " " ++ kind_word r.kind ++ codes " " ++ part_word r.part ++ codes " " ++ decimal (part_number r.part)
-    ++ codes " " ++ list_word r.list ++ codes " " ++ decimal r.index ++ choice_words r.kind ++ codes "\n"
+refusal_line r = codes "refused " ++ r.document ++ rule_text r

@@ -1,86 +1,118 @@
--- What a call of `serve` has done, by the status that it answers.
-use Rattle.std.specs.Prelude.{◌≡◌, ◌++◌, ℕ, List, [], Option, None, Some, Result, Ok, Err, IfSome, codes, decimal, ◌⊎◌}
-use Rattle.roman_io.specs.Faults.{Rose}
-use Rattle.roman_io.specs.Shelf.{Texts}
-use Rattle.roman_io.specs.Sink.{Wrote, WroteFront}
+-- Runs: what a call of `serve` writes and how it ends, by its words, the texts of the shelf and the bytes of the session.
+use Rattle.std.specs.Prelude.{◌≡◌, ℕ, Bool, List, [], Option, None, Some, Result, Ok, Err, IfSome, MatchBool, nat_lt, codes, decimal, ◌++◌}
+use Rattle.roman_io.specs.Shelf.{Texts, text_of}
+use Rattle.roman_io.specs.Sink.{Wrote}
+use Rattle.roman_model.specs.Lines.{lines, ended_lines}
+use Rattle.roman_model.specs.System.{Sys, Pair}
+use Rattle.roman_model.specs.Arena.{Entry}
+use Rattle.roman_model.specs.Composition.{Great}
+use Rattle.roman_model.specs.Numbers.{sizes_of, count, number, numbered, IsCompleteList}
+use Rattle.roman_model.specs.Certificate.{Verdict, Greatest, Rejected, TooLong, cert_text, cert_verdict}
 use Rattle.roman_library.specs.Documents.{library_of}
 use Rattle.roman_library.specs.Library.{PlainLibrary}
 use Rattle.roman_library.specs.declared.refusal.Refusal.{Refusal}
-use Rattle.roman_top.specs.Command.{Command, Synth, usage_line}
+use Rattle.roman_joint.specs.NamedSys.{system_of, cells}
+use Rattle.roman_check.specs.Checks.{Had}
+use Rattle.roman_session.specs.Reports.{report_text}
+use Rattle.roman_session.specs.Starts.{parts_of, start_of}
+use Rattle.roman_top.specs.Command.{Command, Synth, Run, Certify, Check, usage_line}
 use Rattle.roman_top.specs.RefusalLine.{refusal_line}
+use Rattle.roman_top.specs.Sessions.{front_of, is_heard_out, Tells}
+use Rattle.roman_top.specs.Verdicts.{greatest_text, rejected_text}
 use Rattle.roman_top.specs.declared.status.Status.{Status}
 use Rattle.roman_top.specs.declared.status.Status.TheVariants as status
 
--- the line was written and this is the status, or a part of the line at a fault of the sink
-abbrev pub Says : Option (List ℕ) → Option (List ℕ) → List ℕ → Status → Status → Type 0
-Says old new line wanted status.WriteFault = WroteFront old new line
-Says old new line wanted result = (result ≡ wanted) × Wrote old new line
+-- that text is written, and that is the status
+abbrev pub Says : List ℕ → Status → List ℕ → Status → Type 0
+Says text ends out result = (out ≡ text) × (result ≡ ends)
 
--- words without a shape: the usage line, or a part of it at a fault of the sink
-abbrev pub WroteUsage : Option (List ℕ) → Option (List ℕ) → Status → Type 0
-WroteUsage old new status.Usage = Wrote old new usage_line
-WroteUsage old new status.WriteFault = WroteFront old new usage_line
-WroteUsage old new _ = ⊥
+-- ---- documents
 
--- `limit N`
+-- the system of a library
+abbrev pub library_system : PlainLibrary → Sys
+library_system library = system_of (parts_of library)
+
+-- the starting cells exceed the limit
+abbrev pub is_past_limit : PlainLibrary → Bool
+is_past_limit library = nat_lt library.limit (cells (library_system library))
+
+-- the line of a limit
 abbrev pub limit_line : ℕ → List ℕ
 limit_line limit = codes "limit " ++ decimal limit ++ codes "\n"
 
--- a refused document: its line, and nothing where memory failed
-abbrev pub WroteRefusal : Refusal → Option (List ℕ) → Option (List ℕ) → Status → Type 0
-WroteRefusal refusal old new status.Refused = Wrote old new (refusal_line refusal)
-WroteRefusal refusal old new status.WriteFault = WroteFront old new (refusal_line refusal)
-WroteRefusal refusal old new status.Memory = Wrote old new []
-WroteRefusal refusal old new _ = ⊥
+-- what is done with an accepted document within its limit; else the line of its first refusal, or that of its limit
+abbrev pub OnDocument : (PlainLibrary → List ℕ → Status → Type 0) → Result PlainLibrary Refusal → List ℕ → Status → Type 0
+OnDocument Work (Err refusal) out result = Says (refusal_line refusal) status.Refused out result
+OnDocument Work (Ok library) out result =
+    MatchBool (is_past_limit library) (Says (limit_line library.limit) status.Limit out result) (Work library out result)
 
--- an accepted document with that limit: a line with the answer, and nothing where memory failed
-abbrev pub WroteAnswer : ℕ → Option (List ℕ) → Option (List ℕ) → Status → Type 0
-WroteAnswer limit old new status.Done = Wrote old new (codes "answer composition\n")
-WroteAnswer limit old new status.No = Wrote old new (codes "answer none\n")
-WroteAnswer limit old new status.Limit = Wrote old new (limit_line limit) ⊎ Wrote old new (codes "not read\n")
-WroteAnswer limit old new status.WriteFault = Unit {0}
-WroteAnswer limit old new status.Memory = Wrote old new []
-WroteAnswer limit old new _ = ⊥
+-- ---- what each command does with an accepted document within its limit
 
--- the line `limit N`, and nothing where memory failed
-abbrev pub WroteLimit : ℕ → Option (List ℕ) → Option (List ℕ) → Status → Type 0
-WroteLimit limit old new status.Limit = Wrote old new (limit_line limit)
-WroteLimit limit old new status.WriteFault = WroteFront old new (limit_line limit)
-WroteLimit limit old new status.Memory = Wrote old new []
-WroteLimit limit old new _ = ⊥
+-- Done where the pair is related, and else No
+abbrev pub EndsBy : Sys → Pair → Status → Type 0
+EndsBy s p status.Done = Great s p
+EndsBy s p status.No = Great s p → ⊥
+EndsBy s p _ = ⊥
 
--- what was written, by what the document means
-abbrev pub WroteMeaning : Result PlainLibrary Refusal → Option (List ℕ) → Option (List ℕ) → Status → Type 0
-WroteMeaning (Ok library) old new result = WroteAnswer library.limit old new result
-WroteMeaning (Err refusal) old new result = WroteRefusal refusal old new result
+-- synth: the report on the starting states
+abbrev pub Synthesises : PlainLibrary → List ℕ → Status → Type 0
+Synthesises library out result =
+    (out ≡ report_text (parts_of library) (start_of library)) × EndsBy (library_system library) (start_of library) result
 
--- a `synth` of the document of that name: nothing was written at a fault of the shelf
-abbrev pub WroteSynth : Texts → List ℕ → Option (List ℕ) → Option (List ℕ) → Status → Type 0
-WroteSynth texts name old new status.ShelfFault = Wrote old new []
-WroteSynth texts name old new result = WroteMeaning (library_of texts name) old new result
+-- the certificate of a complete removal list
+pub record CertifiesSystem (s : Sys) (out : List ℕ) (result : Status) : Type 0 where
+  pub list : List (Entry ℕ)
+  pub complete : IsCompleteList s list
+  pub says : Says (cert_text (count (sizes_of s)) list) status.Done out result
 
--- what was written before and after, by the words, the texts of the shelf where it tells them, and the status
-abbrev pub Ran : Option Command → Option Texts → Option (List ℕ) → Option (List ℕ) → Status → Type 0
-Ran None texts old new result = WroteUsage old new result
-Ran (Some (Synth name)) texts old new result = IfSome texts (λ ts. WroteSynth ts name old new result)
+-- certify: the certificate of the system
+abbrev pub Certifies : PlainLibrary → List ℕ → Status → Type 0
+Certifies library out result = CertifiesSystem (library_system library) out result
 
--- Usage isn't answered
-abbrev pub IsNoUsage : Status → Type 0
-IsNoUsage status.Usage = ⊥
-IsNoUsage _ = Unit {0}
+-- what is said of a certificate with that verdict
+abbrev pub Judges : Verdict → List ℕ → Status → Type 0
+Judges (Greatest related start) out result = Says (greatest_text related start) status.Done out result
+Judges (Rejected line why) out result = Says (rejected_text line why) status.No out result
+Judges TooLong out result = Says [] status.TooLong out result
 
--- the work was done without a fault of the shelf
-abbrev pub IsAnswer : Status → Type 0
-IsAnswer status.Usage = ⊥
-IsAnswer status.ShelfFault = ⊥
-IsAnswer _ = Unit {0}
+-- check: the verdict on the certificate
+abbrev pub Checks : List ℕ → PlainLibrary → List ℕ → Status → Type 0
+Checks certificate library out result =
+    let s = library_system library in
+    Judges (cert_verdict (numbered s) (number (sizes_of s) (start_of library)) certificate) out result
 
--- words of a shape aren't answered Usage
-abbrev pub HasShape : Option Command → Status → Type 0
-HasShape None result = Unit {0}
-HasShape (Some command) result = IsNoUsage result
+-- run: what is told of the lines, or of those that end within as much as is ever read
+abbrev pub Talks : List ℕ → PlainLibrary → List ℕ → Status → Type 0
+Talks session library out result =
+    MatchBool (is_heard_out session)
+    (Tells library (lines session) out × (result ≡ status.Done))
+    (Tells library (ended_lines (front_of session)) out × (result ≡ status.TooLong))
 
--- a count of faults rose where the status is its fault, and stayed elsewhere
-pub record CausedAt (fault : Status) (old new : ℕ) (result : Status) : Type 0 where
-  pub rose : result ≡ fault → Rose old new
-  pub stayed : (result ≡ fault → ⊥) → new ≡ old
+-- ---- runs
+
+-- a run of a command, or of words without a shape
+abbrev pub Runs : Option Command → Texts → List ℕ → List ℕ → Status → Type 0
+Runs None texts session out result = Says usage_line status.Usage out result
+Runs (Some (Synth system)) texts session out result = OnDocument Synthesises (library_of texts system) out result
+Runs (Some (Run system name)) texts session out result = OnDocument (Talks session) (library_of texts system) out result
+Runs (Some (Certify system)) texts session out result = OnDocument Certifies (library_of texts system) out result
+Runs (Some (Check system certificate)) texts session out result = OnDocument (Checks (text_of texts certificate)) (library_of texts system) out result
+
+-- the bytes of the session: a text of the shelf, or those that the input had, where it tells them
+abbrev pub IsSession : Option Command → Texts → Option (List ℕ) → List ℕ → Type 0
+IsSession (Some (Run system (Some name))) texts before session = session ≡ text_of texts name
+IsSession (Some (Run system None)) texts before session = Had before session
+IsSession _ texts before session = Unit {0}
+
+-- of the shelf's texts, where it tells them; words without a shape ask for none
+abbrev pub WithTexts : Option Command → Option Texts → (Texts → Type 0) → Type 0
+WithTexts None told Holds = Holds []
+WithTexts (Some command) told Holds = IfSome told Holds
+
+-- what was written, and the status, are a run
+pub record HasRun (asked : Option Command) (texts : Texts) (before old new : Option (List ℕ)) (result : Status) : Type 0 where
+  pub session : List ℕ
+  pub given : IsSession asked texts before session
+  pub text : List ℕ
+  pub run : Runs asked texts session text result
+  pub wrote : Wrote old new text

@@ -1,61 +1,61 @@
 //! The line that names a refusal.
-ghost use Rattle.std.specs.Prelude.{◌≡◌, ◌++◌, codes, decimal, IfOk};
-ghost use Rattle.roman_top.specs.RefusalLine.{refusal_line, kind_word, part_word, part_number, list_word, choice_words};
+ghost use Rattle.std.specs.Prelude.{◌≡◌, ◌≤◌, length};
+ghost use Rattle.roman_io.specs.Faults.{HasCause};
+ghost use Rattle.roman_io.specs.Sink.{Puts};
+ghost use Rattle.roman_top.specs.RefusalLine.{refusal_line, kind_word, part_word, part_number, list_word, choice_words, rule_text};
 
-use itoa::Buffer;
+use roman_io::{Failed, Sink};
 use roman_library::{Part, Refusal};
 use roman_parts::List;
 use roman_read::Kind;
-use std::alloc::{AllocError, Global};
+use roman_text::{Page, Piece};
 
-/// `refused DOCUMENT KIND PART NUMBER LIST INDEX` and a newline; for a choice the earlier transition
-/// and the environment state stand before the newline.
-pub(crate) fn line_of(alloc: Global, refusal: &Refusal) -> Result<Vec<u8>, AllocError>
-    ensures { IfOk result (λ line. line.items ≡ refusal_line refusal.now) }
+/// Puts `refused DOCUMENT KIND PART NUMBER LIST INDEX` and a newline; for a choice the earlier
+/// transition and the environment state stand before the newline.
+pub(crate) fn put_refusal<O: Sink>(refusal: &Refusal, out: &mut O) -> Result<(), Failed>
+    ensures puts { Puts (O.written out.old) (O.written out.new) (refusal_line refusal.now) result }
+    ensures cause { HasCause (O.faults out.old) (O.faults out.new) result }
 {
-    let mut line = Vec::from_slice(alloc, b"refused ")?;
-    line.extend_from_slice(refusal.document.bytes())?;
-    push_word(&mut line, word_of_kind(&refusal.kind))?;
-    push_word(&mut line, word_of_part(&refusal.part))?;
-    push_number(&mut line, number_of_part(&refusal.part))?;
-    push_word(&mut line, word_of_list(&refusal.list))?;
-    push_number(&mut line, refusal.index)?;
-    push_choice(&mut line, &refusal.kind)?;
-    line.push(b'\n')?;
-    Ok(line)
+    let mut page = Page::new();
+    if let Err(failed) = page.push(b"refused ", out) {
+        return Err(failed);
+    }
+    if let Err(failed) = page.push(refusal.document.bytes(), out) {
+        return Err(failed);
+    }
+    if let Err(failed) = page.push(rule_piece(refusal).bytes(), out) {
+        return Err(failed);
+    }
+    page.flush(out)
 }
 
-/// Appends a space and a word.
-fn push_word(line: &mut Vec<u8>, word: &[u8]) -> Result<(), AllocError>
-    ensures { IfOk result (λ _. line.new.items ≡ line.old.items ++ codes " " ++ word.now) }
+/// What the line says after the document's name: the rule, and where it is broken.
+fn rule_piece(refusal: &Refusal) -> Piece
+    ensures { result ≡ rule_text refusal.now }
 {
-    line.push(b' ')?;
-    line.extend_from_slice(word)
+    let kind = Piece::new().text(b" ").text(word_of_kind(&refusal.kind));
+    let part = kind.text(b" ").text(word_of_part(&refusal.part));
+    let number = part.text(b" ").number(number_of_part(&refusal.part));
+    let list = number.text(b" ").text(word_of_list(&refusal.list));
+    let index = list.text(b" ").number(refusal.index);
+    index.text(choice_piece(&refusal.kind).bytes()).text(b"\n")
 }
 
-/// Appends a space and a number.
-fn push_number(line: &mut Vec<u8>, number: u32) -> Result<(), AllocError>
-    ensures { IfOk result (λ _. line.new.items ≡ line.old.items ++ codes " " ++ decimal number) }
+/// What the line of a choice goes on with.
+fn choice_piece(kind: &Kind) -> Piece
+    ensures text { result ≡ choice_words kind.now }
+    ensures short { length result ≤ 44 }
 {
-    let mut buffer = Buffer::new();
-    push_word(line, buffer.format(number).as_bytes())
-}
-
-/// Appends what the line of a choice goes on with.
-fn push_choice(line: &mut Vec<u8>, kind: &Kind) -> Result<(), AllocError>
-    ensures { IfOk result (λ _. line.new.items ≡ line.old.items ++ choice_words kind.now) }
-{
+    let text = Piece::new();
     match kind {
-        Kind::Choice { first, state } => {
-            push_number(line, *first)?;
-            push_word(line, state.bytes())
-        }
-        _ => Ok(()),
+        Kind::Choice { first, state } => text.text(b" ").number(*first).text(b" ").name(state),
+        _ => text,
     }
 }
 
 fn word_of_kind(kind: &Kind) -> &'static [u8]
-    ensures { result.now ≡ kind_word kind.now }
+    ensures word { result.now ≡ kind_word kind.now }
+    ensures short { length result.now ≤ 16 }
 {
     match kind {
         Kind::Missing => b"missing",
@@ -72,7 +72,8 @@ fn word_of_kind(kind: &Kind) -> &'static [u8]
 }
 
 fn word_of_part(part: &Part) -> &'static [u8]
-    ensures { result.now ≡ part_word part.now }
+    ensures word { result.now ≡ part_word part.now }
+    ensures short { length result.now ≤ 16 }
 {
     match part {
         Part::System => b"system",
@@ -96,7 +97,8 @@ fn number_of_part(part: &Part) -> u32
 }
 
 fn word_of_list(list: &List) -> &'static [u8]
-    ensures { result.now ≡ list_word list.now }
+    ensures word { result.now ≡ list_word list.now }
+    ensures short { length result.now ≤ 16 }
 {
     match list {
         List::Whole => b"whole",

@@ -1,6 +1,9 @@
 //! How a run ends.
 ghost use Rattle.std.specs.Prelude.{◌≡◌};
 ghost use Rattle.roman_top.specs.Numbers.{status_number};
+ghost use Rattle.roman_top.specs.Endings.{Finishes};
+
+use roman_io::Failed;
 
 /// How a run of the program ended.
 #[derive(Clone, Copy, Debug, PartialEq, Eq)]
@@ -44,5 +47,15 @@ impl Status {
             Status::TooLong => 8,
             Status::Memory => 9,
         }
+    }
+}
+
+/// How a run ends after its text was put: with that status, or in a fault of the sink.
+pub(crate) fn finish(put: Result<(), Failed>, status: Status) -> Status
+    ensures { Finishes put status result }
+{
+    match put {
+        Ok(()) => status,
+        Err(_) => Status::WriteFault,
     }
 }

@@ -1,0 +1,91 @@
+-- The check of a certificate, as part of a run.
+use Rattle.std.proofs.Common.{◌≡◌, ℕ, ◌<◌, Bool, List, [], Option, None, Some, IfSome, IfOk, Result, Ok, Err, refl, sym, ap, ◌∙◌, subst}
+use Rattle.std.specs.Result.{IsErrOf}
+use Rattle.roman_io.specs.Faults.{Rose}
+use Rattle.roman_io.specs.Shelf.{Texts, text_of, rest_from}
+use Rattle.roman_model.specs.Arena.{Arena}
+use Rattle.roman_model.specs.Numbers.{sizes_of, number, numbered}
+use Rattle.roman_model.specs.Certificate.{TooLong, cert_verdict}
+use Rattle.roman_library.specs.Documents.{library_of}
+use Rattle.roman_library.specs.Library.{PlainLibrary}
+use Rattle.roman_library.specs.declared.refusal.Refusal.{Refusal}
+use Rattle.roman_joint.specs.NamedSys.{NamedSys, system_of}
+use Rattle.roman_session.specs.Starts.{start_of}
+use Rattle.roman_session.specs.Building.{IsSeated}
+use Rattle.roman_session.specs.declared.seating.Seated.{Seated}
+use Rattle.roman_check.specs.Checks.{HaveVerdict}
+use Rattle.roman_check.specs.Verdicts.{verdict_of, fault_of}
+use Rattle.roman_check.specs.declared.verdict.Why.{Why}
+use Rattle.roman_check.specs.declared.verdict.Verdict.{Verdict}
+use Rattle.roman_check.specs.declared.verdict.Verdict.TheVariants as checked_as
+use Rattle.roman_check.specs.declared.error.CheckError.{CheckError}
+use Rattle.roman_check.specs.declared.error.CheckError.TheVariants as check
+use Rattle.roman_top.specs.Run.{OnDocument, Judges, Checks, library_system}
+use Rattle.roman_top.specs.Endings.{Finds, CheckCause, JudgesCheck, Accepts, Writes}
+use Rattle.roman_top.specs.Verdicts.{greatest_text, rejected_text}
+use Rattle.roman_top.specs.declared.status.Status.{Status}
+use Rattle.roman_top.specs.declared.status.Status.TheVariants as status
+use Rattle.roman_top.proofs.EndingLemmas.{on_accepted, writes_weaker}
+
+-- a source over a whole text had that text
+had_text : (A : Arena ℕ) (start : ℕ) (texts : Texts) (name : List ℕ) (verdict : _) → HaveVerdict A start (rest_from (Some texts) name 0) verdict → cert_verdict A start (text_of texts name) ≡ verdict
+had_text A start texts name verdict have = ap (cert_verdict A start) have.had ∙ have.judged
+
+-- what the check of a text of the shelf finds
+found_text : (A : Arena ℕ) (start : ℕ) (told : Option Texts) (name : List ℕ) (result : Result Verdict CheckError) → IfOk result (λ verdict. HaveVerdict A start (rest_from told name 0) (verdict_of verdict)) →
+    (IsErrOf result check.TooLong → HaveVerdict A start (rest_from told name 0) TooLong) → IfSome told (λ texts. Finds A start (text_of texts name) result)
+found_text A start None name result whole long = tt
+found_text A start (Some texts) name (Ok verdict) whole long = had_text A start texts name (verdict_of verdict) whole
+found_text A start (Some texts) name (Err check.Fault) whole long = tt
+found_text A start (Some texts) name (Err check.TooLong) whole long = had_text A start texts name TooLong (long refl)
+found_text A start (Some texts) name (Err check.Memory) whole long = tt
+
+-- the same of a source that began with that text
+pub finds_text : (A : Arena ℕ) (start : ℕ) (told given : Option Texts) (name given_name : List ℕ) (at : ℕ) (result : Result Verdict CheckError) → given ≡ told → given_name ≡ name → at ≡ 0 →
+    IfOk result (λ verdict. HaveVerdict A start (rest_from given given_name at) (verdict_of verdict)) → (IsErrOf result check.TooLong → HaveVerdict A start (rest_from given given_name at) TooLong) →
+    IfSome told (λ texts. Finds A start (text_of texts name) result)
+finds_text A start told given name given_name at result same_texts same_name at_start whole long =
+    let same : rest_from given given_name at ≡ rest_from told name 0 = rw (same_texts, same_name, at_start) refl in
+    found_text A start told name result (subst (λ (rest : Option (List ℕ)). IfOk result (λ verdict. HaveVerdict A start rest (verdict_of verdict))) same whole)
+    (λ e. subst (λ (rest : Option (List ℕ)). HaveVerdict A start rest TooLong) same (long e))
+
+-- a fault of the check is its cause
+pub check_cause : (old new : ℕ) (result : Result Verdict CheckError) → (IsErrOf result check.Fault → Rose old new) → ((result ≡ Err check.Fault → ⊥) → new ≡ old) → CheckCause old new result
+check_cause old new (Ok verdict) rose stayed = stayed (λ e. cc)
+check_cause old new (Err check.Fault) rose stayed = rose refl
+check_cause old new (Err check.TooLong) rose stayed = stayed (λ e. cc)
+check_cause old new (Err check.Memory) rose stayed = stayed (λ e. cc)
+
+-- the verdict on the certificate is the run's
+judged : (A : Arena ℕ) (start : ℕ) (certificate : List ℕ) (checked : Result Verdict CheckError) → Finds A start certificate checked → (text : List ℕ) (ends : Status) → JudgesCheck checked text ends → Judges (cert_verdict A start certificate) text ends
+judged A start certificate (Ok verdict) finds text ends judges = subst (λ v. Judges v text ends) (sym finds) judges
+judged A start certificate (Err check.Fault) finds text ends judges = absurd judges
+judged A start certificate (Err check.TooLong) finds text ends judges = subst (λ v. Judges v text ends) (sym finds) judges
+judged A start certificate (Err check.Memory) finds text ends judges = absurd judges
+
+-- the check of a certificate against the system of an accepted document is a run
+pub checked_is_run : (told : Option Texts) (system certificate : List ℕ) (seated : Seated) (checked : Result Verdict CheckError) (old mid new : Option (List ℕ)) (result : Status) →
+    IfSome told (λ texts. Accepts (library_of texts system) (λ library. IsSeated library seated)) →
+    IfSome told (λ texts. Finds (numbered (system_of seated.joint)) seated.start (text_of texts certificate) checked) → mid ≡ old → Writes (JudgesCheck checked) mid new result →
+    IfSome told (λ texts. Writes (OnDocument (Checks (text_of texts certificate)) (library_of texts system)) old new result)
+checked_is_run None system certificate seated checked old mid new result accepts finds same writes = tt
+checked_is_run (Some texts) system certificate seated checked old mid new result accepts finds same writes =
+    let library = accepts.library in
+    let s = library_system library in
+    let of_parts : Finds (numbered s) seated.start (text_of texts certificate) checked = subst (λ (n : NamedSys). Finds (numbered (system_of n)) seated.start (text_of texts certificate) checked) accepts.holds.parts finds in
+    let found : Finds (numbered s) (number (sizes_of s) (start_of library)) (text_of texts certificate) checked = subst (λ (n : ℕ). Finds (numbered s) n (text_of texts certificate) checked) accepts.holds.start of_parts in
+    let run = λ (text : List ℕ) (ends : Status) (judges : JudgesCheck checked text ends).
+    on_accepted (Checks (text_of texts certificate)) (library_of texts system) library text ends accepts.means accepts.within (judged (numbered s) (number (sizes_of s) (start_of library)) (text_of texts certificate) checked found text ends judges) in
+    writes_weaker (JudgesCheck checked) (OnDocument (Checks (text_of texts certificate)) (library_of texts system)) old new result run
+    (subst (λ (o : Option (List ℕ)). Writes (JudgesCheck checked) o new result) same writes)
+
+-- what is said of a verdict
+pub says_greatest : (verdict : Verdict) (related : ℕ) (start : Bool) → verdict ≡ checked_as.Greatest related start → Judges (verdict_of verdict) (greatest_text related start) status.Done
+says_greatest verdict related start e = subst (λ (v : Verdict). Judges (verdict_of v) (greatest_text related start) status.Done) (sym e) (refl, refl)
+
+pub says_rejected : (verdict : Verdict) (line : ℕ) (why : Why) → verdict ≡ checked_as.Rejected line why → Judges (verdict_of verdict) (rejected_text line (fault_of why)) status.No
+says_rejected verdict line why e = subst (λ (v : Verdict). Judges (verdict_of v) (rejected_text line (fault_of why)) status.No) (sym e) (refl, refl)
+
+-- a verdict is told where there is one
+pub tells_verdict : (checked : Result Verdict CheckError) (verdict : Verdict) (old new : Option (List ℕ)) (result : Status) → checked ≡ Ok verdict → Writes (Judges (verdict_of verdict)) old new result → Writes (JudgesCheck checked) old new result
+tells_verdict checked verdict old new result e writes = subst (λ (r : Result Verdict CheckError). Writes (JudgesCheck r) old new result) (sym e) writes

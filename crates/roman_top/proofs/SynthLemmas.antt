@@ -1,0 +1,77 @@
+-- Reports, as part of a run.
+use Rattle.std.proofs.Common.{◌≡◌, ℕ, Bool, true, false, List, Option, None, Some, IfSome, Result, refl, sym, ◌∙◌, subst}
+use Rattle.std.proofs.lemmas.Bool.{both_ways}
+use Rattle.roman_io.specs.Shelf.{Texts}
+use Rattle.roman_io.specs.Sink.{Puts}
+use Rattle.roman_model.specs.System.{Pair}
+use Rattle.roman_model.specs.Offers.{is_related}
+use Rattle.roman_model.proofs.CompositionLemmas.{related_great, great_related}
+use Rattle.roman_library.specs.Documents.{library_of}
+use Rattle.roman_library.specs.Library.{PlainLibrary}
+use Rattle.roman_joint.specs.NamedSys.{NamedSys}
+use Rattle.roman_joint.specs.NamedSys as joint
+use Rattle.roman_session.specs.Situations.{Situation, system_of, IsSituation}
+use Rattle.roman_session.specs.Reports.{report_text}
+use Rattle.roman_session.specs.Starts.{parts_of, start_of, IsStart}
+use Rattle.roman_top.specs.Run.{OnDocument, EndsBy, Synthesises}
+use Rattle.roman_top.specs.Causes.{ShelfCause}
+use Rattle.roman_top.specs.Endings.{Accepts, Finishes, IsTold, Reports, Stops, Writes, status_of}
+use Rattle.roman_top.specs.declared.status.Status.{Status}
+use Rattle.roman_top.specs.declared.status.Status.TheVariants as status
+use Rattle.roman_top.proofs.EndingLemmas.{writes_put, writes_weaker, on_accepted}
+
+-- the status says whether the pair is related
+pub ends_by : (s : Situation) → IsSituation s → (related : Bool) → related ≡ is_related (system_of s) s.here → EndsBy (system_of s) s.here (status_of related)
+ends_by s known true e = related_great (system_of s) s.here known.parts.system known.here (sym e)
+ends_by s known false e = λ great. both_ways (is_related (system_of s) s.here) (sym e) (great_related (system_of s) s.here known.parts.system great)
+
+-- a report that was put
+report_put : {T E : Type 0} (s : Situation) (related : Bool) (old new : Option (List ℕ)) (result : Status) (r : Result T E) → EndsBy (system_of s) s.here (status_of related) → Puts old new (report_text s.parts s.here) r → Finishes r (status_of related) result →
+    Writes (Reports s) old new result
+report_put s true old new result r ends puts finishes = writes_put (Reports s) old new (report_text s.parts s.here) status.Done result r puts finishes (refl, ends) (λ w. w)
+report_put s false old new result r ends puts finishes = writes_put (Reports s) old new (report_text s.parts s.here) status.No result r puts finishes (refl, ends) (λ w. w)
+
+pub reported : {T E : Type 0} (s : Situation) (related : Bool) (wanted result : Status) (old new : Option (List ℕ)) (r : Result T E) → IsSituation s → related ≡ is_related (system_of s) s.here → wanted ≡ status_of related →
+    Puts old new (report_text s.parts s.here) r → Finishes r wanted result → Writes (Reports s) old new result
+reported s related wanted result old new r known e is puts finishes =
+    report_put s related old new result r (ends_by s known related e) puts (subst (λ (ends : Status). Finishes r ends result) is finishes)
+
+-- a report on the start is a run
+pub reported_is_run : (told : Option Texts) (system : List ℕ) (s : Situation) (old mid new : Option (List ℕ)) (result : Status) → IfSome told (λ texts. Accepts (library_of texts system) (λ library. IsStart library s)) → mid ≡ old →
+    Writes (Reports s) mid new result → IfSome told (λ texts. Writes (OnDocument Synthesises (library_of texts system)) old new result)
+reported_is_run None system s old mid new result accepts same writes = tt
+reported_is_run (Some texts) system s old mid new result accepts same writes =
+    let library = accepts.library in
+    let run = λ (text : List ℕ) (ends : Status) (reports : Reports s text ends).
+    let of_parts : (text ≡ report_text (parts_of library) s.here) × EndsBy (joint.system_of (parts_of library)) s.here ends =
+    subst (λ (n : NamedSys). (text ≡ report_text n s.here) × EndsBy (joint.system_of n) s.here ends) accepts.holds.parts reports in
+    on_accepted Synthesises (library_of texts system) library text ends accepts.means accepts.within
+    (subst (λ (p : Pair). (text ≡ report_text (parts_of library) p) × EndsBy (joint.system_of (parts_of library)) p ends) accepts.holds.here of_parts) in
+    writes_weaker (Reports s) (OnDocument Synthesises (library_of texts system)) old new result run
+    (subst (λ (o : Option (List ℕ)). Writes (Reports s) o new result) same writes)
+
+-- where an answer was told, nothing else stopped the run
+pub told_stops : (old new : Option (List ℕ)) (result : Status) → IsTold result → Stops old new result
+told_stops old new status.Done told = tt
+told_stops old new status.No told = tt
+told_stops old new status.Usage told = absurd told
+told_stops old new status.Refused told = absurd told
+told_stops old new status.Limit told = absurd told
+told_stops old new status.ShelfFault told = absurd told
+told_stops old new status.ReadFault told = absurd told
+told_stops old new status.WriteFault told = tt
+told_stops old new status.TooLong told = absurd told
+told_stops old new status.Memory told = absurd told
+
+-- nor did the shelf fail
+pub told_shelf : (old new : ℕ) (result : Status) → IsTold result → new ≡ old → ShelfCause old new result
+told_shelf old new status.Done told same = same
+told_shelf old new status.No told same = same
+told_shelf old new status.Usage told same = absurd told
+told_shelf old new status.Refused told same = absurd told
+told_shelf old new status.Limit told same = absurd told
+told_shelf old new status.ShelfFault told same = absurd told
+told_shelf old new status.ReadFault told same = absurd told
+told_shelf old new status.WriteFault told same = same
+told_shelf old new status.TooLong told same = absurd told
+told_shelf old new status.Memory told same = absurd told

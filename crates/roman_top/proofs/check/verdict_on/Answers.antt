@@ -1,0 +1,14 @@
+use Rattle.std.proofs.Common.{ap}
+use Rattle.roman_model.specs.Numbers.{numbered}
+use Rattle.roman_model.proofs.Lists.{length-below}
+use Rattle.roman_joint.specs.NamedSys.{system_of}
+use Rattle.roman_top.proofs.CheckLemmas.{finds_text}
+use Rattle.roman_top.proofs.check.verdict_on.Goals as goal
+
+pub check-requires : goal.check-requires
+check-requires g c = rw length-below c.requires
+
+pub returns-clause-finds : goal.returns-clause-finds
+returns-clause-finds g c =
+    finds_text (numbered (system_of c.args.seated.now.joint)) c.args.seated.now.start (g.F.Shelf.texts c.args.shelf.now) _ c.args.name.now _ _ c.check.result
+    (ap g.F.Shelf.texts c.new-source.ensures.shelf) c.new-source.ensures.name c.new-source.ensures.at c.check.ensures.verdict c.check.ensures.too_long

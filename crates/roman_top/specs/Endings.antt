@@ -1,0 +1,143 @@
+-- How the parts of a run end: what was written by then, by the status that they answer.
+use Rattle.std.specs.Prelude.{◌≡◌, ℕ, Bool, true, false, List, [], Option, Result, Ok, Err, IsTrue, IsFalse}
+use Rattle.roman_io.specs.Faults.{Rose}
+use Rattle.roman_io.specs.Sink.{Wrote, WroteFront}
+use Rattle.roman_model.specs.Arena.{Arena}
+use Rattle.roman_model.specs.Certificate.{TooLong, cert_verdict}
+use Rattle.roman_check.specs.Verdicts.{verdict_of}
+use Rattle.roman_check.specs.declared.verdict.Verdict.{Verdict}
+use Rattle.roman_check.specs.declared.error.CheckError.{CheckError}
+use Rattle.roman_check.specs.declared.error.CheckError.TheVariants as check
+use Rattle.roman_library.specs.Library.{PlainLibrary}
+use Rattle.roman_library.specs.declared.refusal.Refusal.{Refusal}
+use Rattle.roman_session.specs.Situations.{Situation, system_of}
+use Rattle.roman_session.specs.Reports.{report_text}
+use Rattle.roman_top.specs.Causes.{ShelfCause}
+use Rattle.roman_top.specs.RefusalLine.{refusal_line}
+use Rattle.roman_top.specs.Run.{Says, EndsBy, Judges, is_past_limit, limit_line}
+use Rattle.roman_top.specs.declared.status.Status.{Status}
+use Rattle.roman_top.specs.declared.status.Status.TheVariants as status
+
+-- the whole text of such a run was written, and it ends so
+pub record WritesText (IsRun : List ℕ → Status → Type 0) (old new : Option (List ℕ)) (result : Status) : Type 0 where
+  pub text : List ℕ
+  pub run : IsRun text result
+  pub wrote : Wrote old new text
+
+-- a front of the text of such a run was written
+pub record WritesFront (IsRun : List ℕ → Status → Type 0) (old new : Option (List ℕ)) : Type 0 where
+  pub text : List ℕ
+  pub ends : Status
+  pub run : IsRun text ends
+  pub wrote : WroteFront old new text
+
+-- the text of such a run, or a front of one where the sink failed; other faults and want of memory say nothing of it
+abbrev pub Writes : (List ℕ → Status → Type 0) → Option (List ℕ) → Option (List ℕ) → Status → Type 0
+Writes IsRun old new status.ShelfFault = Unit {0}
+Writes IsRun old new status.ReadFault = Unit {0}
+Writes IsRun old new status.WriteFault = WritesFront IsRun old new
+Writes IsRun old new status.Memory = Unit {0}
+Writes IsRun old new result = WritesText IsRun old new result
+
+-- nothing was written where the shelf or memory failed; Usage isn't answered, and the input isn't read
+abbrev pub Stops : Option (List ℕ) → Option (List ℕ) → Status → Type 0
+Stops old new status.Usage = ⊥
+Stops old new status.ShelfFault = Wrote old new []
+Stops old new status.ReadFault = ⊥
+Stops old new status.Memory = Wrote old new []
+Stops old new _ = Unit {0}
+
+-- ---- documents
+
+-- a document that is refused
+abbrev pub Refuses : Result PlainLibrary Refusal → List ℕ → Status → Type 0
+Refuses (Err refusal) out result = Says (refusal_line refusal) status.Refused out result
+Refuses (Ok library) out result = ⊥
+
+-- the cells of a library exceed its limit
+abbrev pub Exceeds : PlainLibrary → List ℕ → Status → Type 0
+Exceeds library out result = IsTrue (is_past_limit library) × Says (limit_line library.limit) status.Limit out result
+
+-- a document that isn't accepted within its limit
+abbrev pub TurnsAway : Result PlainLibrary Refusal → List ℕ → Status → Type 0
+TurnsAway (Err refusal) out result = Says (refusal_line refusal) status.Refused out result
+TurnsAway (Ok library) out result = Exceeds library out result
+
+-- a document is accepted within its limit, and this holds of its library
+pub record Accepts (meaning : Result PlainLibrary Refusal) (Holds : PlainLibrary → Type 0) : Type 0 where
+  pub library : PlainLibrary
+  pub means : meaning ≡ Ok library
+  pub within : IsFalse (is_past_limit library)
+  pub holds : Holds library
+
+-- a document is opened, or turned away with its line
+abbrev pub Opens : {X : Type 0} → (PlainLibrary → X → Type 0) → Result PlainLibrary Refusal → Option (List ℕ) → Option (List ℕ) → Result X Status → Type 0
+Opens Holds meaning old new (Ok x) = Accepts meaning (λ library. Holds library x)
+Opens Holds meaning old new (Err result) = Writes (TurnsAway meaning) old new result
+
+-- the same before its cells are counted
+abbrev pub Reads : {X : Type 0} → (X → PlainLibrary) → Result PlainLibrary Refusal → Option (List ℕ) → Option (List ℕ) → Result X Status → Type 0
+Reads view meaning old new (Ok x) = meaning ≡ Ok (view x)
+Reads view meaning old new (Err result) = Writes (Refuses meaning) old new result
+
+-- nothing was written by then; else it stops
+abbrev pub StopsIn : {X : Type 0} → Option (List ℕ) → Option (List ℕ) → Result X Status → Type 0
+StopsIn old new (Ok x) = new ≡ old
+StopsIn old new (Err result) = Stops old new result
+
+-- ---- single steps
+
+-- after a text was put: that status, or a fault of the sink
+abbrev pub Finishes : {T E : Type 0} → Result T E → Status → Status → Type 0
+Finishes (Ok x) ends result = result ≡ ends
+Finishes (Err e) ends result = result ≡ status.WriteFault
+
+-- a pair's answer was told, or the sink failed
+abbrev pub IsTold : Status → Type 0
+IsTold status.Done = Unit {0}
+IsTold status.No = Unit {0}
+IsTold status.WriteFault = Unit {0}
+IsTold _ = ⊥
+
+-- the status of an answer: whether a pair is related
+abbrev pub status_of : Bool → Status
+status_of true = status.Done
+status_of false = status.No
+
+-- the report of a session, and whether its pair is related
+abbrev pub Reports : Situation → List ℕ → Status → Type 0
+Reports s out result = (out ≡ report_text s.parts s.here) × EndsBy (system_of s) s.here result
+
+-- the work was done, or the sink failed; or memory did, and nothing was written
+abbrev pub IsDone : Option (List ℕ) → Option (List ℕ) → Status → Type 0
+IsDone old new status.Done = Unit {0}
+IsDone old new status.WriteFault = Unit {0}
+IsDone old new status.Memory = Wrote old new []
+IsDone old new _ = ⊥
+
+-- ---- certificates
+
+-- the verdict on a certificate, or that it is too long; a fault and want of memory say nothing of it
+abbrev pub Finds : Arena ℕ → ℕ → List ℕ → Result Verdict CheckError → Type 0
+Finds A start certificate (Ok verdict) = cert_verdict A start certificate ≡ verdict_of verdict
+Finds A start certificate (Err check.Fault) = Unit {0}
+Finds A start certificate (Err check.TooLong) = cert_verdict A start certificate ≡ TooLong
+Finds A start certificate (Err check.Memory) = Unit {0}
+
+-- a count of faults rose where the check failed, and stayed elsewhere
+abbrev pub CheckCause : {X : Type 0} → ℕ → ℕ → Result X CheckError → Type 0
+CheckCause old new (Ok x) = new ≡ old
+CheckCause old new (Err check.Fault) = Rose old new
+CheckCause old new (Err check.TooLong) = new ≡ old
+CheckCause old new (Err check.Memory) = new ≡ old
+
+-- what is said of a check
+abbrev pub JudgesCheck : Result Verdict CheckError → List ℕ → Status → Type 0
+JudgesCheck (Ok verdict) out result = Judges (verdict_of verdict) out result
+JudgesCheck (Err check.Fault) out result = ⊥
+JudgesCheck (Err check.TooLong) out result = Judges TooLong out result
+JudgesCheck (Err check.Memory) out result = ⊥
+
+-- a fault of the check is one of the shelf, and no other status is
+abbrev pub CausedByCheck : Result Verdict CheckError → Status → Type 0
+CausedByCheck checked result = (old new : ℕ) → CheckCause old new checked → ShelfCause old new result

@@ -1,0 +1,54 @@
+//! `certify SYSTEM`.
+ghost use Rattle.std.specs.Prelude.{◌≡◌, IfSome};
+ghost use Rattle.roman_library.specs.Documents.{library_of};
+ghost use Rattle.roman_joint.specs.NamedSys.{system_of};
+ghost use Rattle.roman_top.specs.Run.{OnDocument, Certifies, CertifiesSystem};
+ghost use Rattle.roman_top.specs.Causes.{ShelfCause, SinkCause};
+ghost use Rattle.roman_top.specs.Endings.{IsDone, Stops, Writes};
+
+use crate::opening::open_system;
+use crate::status::{Status, finish};
+use roman_cert::write_order;
+use roman_io::{Shelf, Sink, Steps};
+use roman_joint::Joint;
+use roman_relation::Relation;
+use roman_session::Seated;
+use std::alloc::Global;
+use std::sync::ledger::Ledger;
+
+/// Writes the certificate of the system.
+pub(crate) fn certify<F: Shelf, O: Sink, L: Ledger>(
+    alloc: Global,
+    system: &str,
+    shelf: &mut F,
+    out: &mut O,
+    steps: &mut Steps<L>,
+) -> Status
+    ensures writes { IfSome (F.texts shelf.old) (λ texts. Writes (OnDocument Certifies (library_of texts system.now)) (O.written out.old) (O.written out.new) result) }
+    ensures stops { Stops (O.written out.old) (O.written out.new) result }
+    ensures texts { F.texts shelf.new ≡ F.texts shelf.old }
+    ensures shelf { ShelfCause (F.faults shelf.old) (F.faults shelf.new) result }
+    ensures out { SinkCause (O.faults out.old) (O.faults out.new) result }
+{
+    match open_system(alloc, system, shelf, out) {
+        Ok(Seated { joint, .. }) => certify_joint(alloc, joint, out, steps),
+        Err(status) => status,
+    }
+}
+
+/// Writes the certificate of a joint.
+fn certify_joint<O: Sink, L: Ledger>(
+    alloc: Global,
+    joint: Joint,
+    out: &mut O,
+    steps: &mut Steps<L>,
+) -> Status
+    ensures writes { Writes (CertifiesSystem (system_of joint)) (O.written out.old) (O.written out.new) result }
+    ensures stops { IsDone (O.written out.old) (O.written out.new) result }
+    ensures out { SinkCause (O.faults out.old) (O.faults out.new) result }
+{
+    match Relation::build(alloc, joint, steps) {
+        Ok(relation) => finish(write_order(&relation, out), Status::Done),
+        Err(_) => Status::Memory,
+    }
+}

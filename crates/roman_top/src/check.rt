@@ -1,0 +1,87 @@
+//! `check SYSTEM CERT`.
+ghost use Rattle.std.specs.Prelude.{◌≡◌, ◌<◌, IfSome};
+ghost use Rattle.roman_io.specs.Shelf.{text_of};
+ghost use Rattle.roman_model.specs.Numbers.{sizes_of, count, numbered};
+ghost use Rattle.roman_library.specs.Documents.{library_of};
+ghost use Rattle.roman_check.specs.Verdicts.{verdict_of};
+ghost use Rattle.roman_joint.specs.NamedSys.{system_of};
+ghost use Rattle.roman_top.specs.Run.{OnDocument, Judges, Checks};
+ghost use Rattle.roman_top.specs.Causes.{ShelfCause, SinkCause};
+ghost use Rattle.roman_top.specs.Endings.{Finds, CheckCause, JudgesCheck, CausedByCheck, IsTold, Stops, Writes};
+
+use crate::opening::open_system;
+use crate::status::{Status, finish};
+use crate::verdicts::{put_greatest, put_rejected};
+use roman_check::{CheckError, Verdict, check};
+use roman_io::{Shelf, ShelfSource, Sink, Steps};
+use roman_session::Seated;
+use std::alloc::Global;
+use std::sync::ledger::Ledger;
+
+/// Checks the certificate on the shelf against the system, and writes the verdict.
+pub(crate) fn check_certificate<F: Shelf, O: Sink, L: Ledger>(
+    alloc: Global,
+    system: &str,
+    certificate: &str,
+    shelf: &mut F,
+    out: &mut O,
+    steps: &mut Steps<L>,
+) -> Status
+    ensures writes { IfSome (F.texts shelf.old) (λ texts. Writes (OnDocument (Checks (text_of texts certificate.now)) (library_of texts system.now)) (O.written out.old) (O.written out.new) result) }
+    ensures stops { Stops (O.written out.old) (O.written out.new) result }
+    ensures texts { F.texts shelf.new ≡ F.texts shelf.old }
+    ensures shelf { ShelfCause (F.faults shelf.old) (F.faults shelf.new) result }
+    ensures out { SinkCause (O.faults out.old) (O.faults out.new) result }
+{
+    let seated = match open_system(alloc, system, shelf, out) {
+        Ok(seated) => seated,
+        Err(status) => return status,
+    };
+    tell(verdict_on(alloc, &seated, certificate, shelf, steps), out)
+}
+
+/// Writes the verdict, where there is one.
+fn tell<O: Sink>(checked: Result<Verdict, CheckError>, out: &mut O) -> Status
+    ensures writes { Writes (JudgesCheck checked) (O.written out.old) (O.written out.new) result }
+    ensures stops { Stops (O.written out.old) (O.written out.new) result }
+    ensures shelf { CausedByCheck checked result }
+    ensures out { SinkCause (O.faults out.old) (O.faults out.new) result }
+{
+    match checked {
+        Ok(verdict) => tell_verdict(verdict, out),
+        Err(CheckError::Fault) => Status::ShelfFault,
+        Err(CheckError::TooLong) => Status::TooLong,
+        Err(CheckError::Memory) => Status::Memory,
+    }
+}
+
+/// Writes a verdict.
+fn tell_verdict<O: Sink>(verdict: Verdict, out: &mut O) -> Status
+    ensures writes { Writes (Judges (verdict_of verdict)) (O.written out.old) (O.written out.new) result }
+    ensures stops { IsTold result }
+    ensures out { SinkCause (O.faults out.old) (O.faults out.new) result }
+{
+    match verdict {
+        Verdict::Greatest { related, start } => {
+            finish(put_greatest(related, start, out), Status::Done)
+        }
+        Verdict::Rejected { line, why } => finish(put_rejected(line, why, out), Status::No),
+    }
+}
+
+/// The verdict on the certificate of that name.
+fn verdict_on<F: Shelf, L: Ledger>(
+    alloc: Global,
+    seated: &Seated,
+    name: &str,
+    shelf: &mut F,
+    steps: &mut Steps<L>,
+) -> Result<Verdict, CheckError>
+    requires { seated.now.start < count (sizes_of (system_of seated.now.joint)) }
+    ensures finds { IfSome (F.texts shelf.old) (λ texts. Finds (numbered (system_of seated.now.joint)) seated.now.start (text_of texts name.now) result) }
+    ensures texts { F.texts shelf.new ≡ F.texts shelf.old }
+    ensures cause { CheckCause (F.faults shelf.old) (F.faults shelf.new) result }
+{
+    let mut source = ShelfSource::new(shelf, name);
+    check(alloc, &seated.joint, seated.start, &mut source, steps)
+}

@@ -1,0 +1,58 @@
+//! The commands that words are.
+ghost use Rattle.std.specs.Prelude.{◌≡◌};
+ghost use Rattle.std.specs.Option.{option_map};
+
+use roman_io::Words;
+
+/// What words ask for.
+#[derive(Clone, Copy)]
+pub(crate) enum Command<'a> {
+    /// `synth SYSTEM`: the report on the starting states.
+    Synth(&'a str),
+    /// `certify SYSTEM`: the certificate of the system.
+    Certify(&'a str),
+    /// `check SYSTEM CERT`: the verdict on a certificate.
+    Check {
+        /// The system's name.
+        system: &'a str,
+        /// The certificate's name.
+        certificate: &'a str,
+    },
+}
+
+ghost use Rattle.roman_top.specs.Command.{command_as, command_of, with_one, with_two};
+
+/// The command that the words are, where they have the shape of one.
+pub(crate) fn command_of(words: &Words) -> Option<Command<'_>>
+    ensures { option_map command_as result ≡ command_of words.now }
+{
+    match words.len() {
+        2 => with_one(words.at(0), words.at(1)),
+        3 => with_two(words.at(0), words.at(1), words.at(2)),
+        _ => None,
+    }
+}
+
+/// The command of a word and one name.
+fn with_one<'a>(word: &str, name: &'a str) -> Option<Command<'a>>
+    ensures { option_map command_as result ≡ with_one word.now name.now }
+{
+    match word {
+        "synth" => Some(Command::Synth(name)),
+        "certify" => Some(Command::Certify(name)),
+        _ => None,
+    }
+}
+
+/// The command of a word and two names.
+fn with_two<'a>(word: &str, name: &'a str, other: &'a str) -> Option<Command<'a>>
+    ensures { option_map command_as result ≡ with_two word.now name.now other.now }
+{
+    match word {
+        "check" => Some(Command::Check {
+            system: name,
+            certificate: other,
+        }),
+        _ => None,
+    }
+}

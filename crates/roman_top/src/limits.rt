@@ -1,0 +1,16 @@
+//! The line of a limit.
+ghost use Rattle.roman_io.specs.Faults.{HasCause};
+ghost use Rattle.roman_io.specs.Sink.{Puts};
+ghost use Rattle.roman_top.specs.Run.{limit_line};
+
+use roman_io::{Failed, Sink};
+use roman_text::Piece;
+
+/// Puts `limit N`.
+pub(crate) fn put_limit<O: Sink>(limit: u32, out: &mut O) -> Result<(), Failed>
+    ensures puts { Puts (O.written out.old) (O.written out.new) (limit_line limit) result }
+    ensures cause { HasCause (O.faults out.old) (O.faults out.new) result }
+{
+    let line = Piece::new().text(b"limit ").number(limit).text(b"\n");
+    out.put(line.bytes())
+}

@@ -1,0 +1,51 @@
+//! `synth SYSTEM`.
+ghost use Rattle.std.specs.Prelude.{◌≡◌, IfSome};
+ghost use Rattle.roman_library.specs.Documents.{library_of};
+ghost use Rattle.roman_top.specs.Run.{OnDocument, Synthesises};
+ghost use Rattle.roman_top.specs.Causes.{ShelfCause, SinkCause};
+ghost use Rattle.roman_top.specs.Endings.{IsTold, Reports, Stops, Writes, status_of};
+
+use crate::opening::open_session;
+use crate::status::{Status, finish};
+use roman_io::{Shelf, Sink, Steps};
+use roman_session::Session;
+use std::alloc::Global;
+use std::sync::ledger::Ledger;
+
+/// Writes the report on the starting states, and answers whether the start pair is related.
+pub(crate) fn synthesise<F: Shelf, O: Sink, L: Ledger>(
+    alloc: Global,
+    system: &str,
+    shelf: &mut F,
+    out: &mut O,
+    steps: &mut Steps<L>,
+) -> Status
+    ensures writes { IfSome (F.texts shelf.old) (λ texts. Writes (OnDocument Synthesises (library_of texts system.now)) (O.written out.old) (O.written out.new) result) }
+    ensures stops { Stops (O.written out.old) (O.written out.new) result }
+    ensures texts { F.texts shelf.new ≡ F.texts shelf.old }
+    ensures shelf { ShelfCause (F.faults shelf.old) (F.faults shelf.new) result }
+    ensures out { SinkCause (O.faults out.old) (O.faults out.new) result }
+{
+    match open_session(alloc, system, shelf, out, steps) {
+        Ok(session) => report(&session, out),
+        Err(status) => status,
+    }
+}
+
+/// Writes the report, and answers whether the current pair is related.
+fn report<O: Sink>(session: &Session, out: &mut O) -> Status
+    ensures writes { Writes (Reports session.now) (O.written out.old) (O.written out.new) result }
+    ensures told { IsTold result }
+    ensures out { SinkCause (O.faults out.old) (O.faults out.new) result }
+{
+    session.known();
+    let status = status_of(session.composes());
+    finish(session.report(out), status)
+}
+
+/// The status that says whether a pair is related.
+fn status_of(related: bool) -> Status
+    ensures { result ≡ status_of related }
+{
+    if related { Status::Done } else { Status::No }
+}

@@ -1,0 +1,58 @@
+//! The lines that tell the verdict on a certificate.
+ghost use Rattle.std.specs.Prelude.{◌≡◌, ◌≤◌, length};
+ghost use Rattle.roman_io.specs.Faults.{HasCause};
+ghost use Rattle.roman_io.specs.Sink.{Puts};
+ghost use Rattle.roman_text.specs.Report.{line_text};
+ghost use Rattle.roman_text.specs.declared.report.ReportLine.TheVariants.{Answer};
+ghost use Rattle.roman_check.specs.Verdicts.{fault_of};
+ghost use Rattle.roman_top.specs.Verdicts.{greatest_text, rejected_text, why_text};
+
+use roman_check::Why;
+use roman_io::{Failed, Sink};
+use roman_text::Piece;
+
+/// Puts `greatest R`, and whether the start pair is related.
+pub(crate) fn put_greatest<O: Sink>(related: u32, start: bool, out: &mut O) -> Result<(), Failed>
+    ensures puts { Puts (O.written out.old) (O.written out.new) (greatest_text related start) result }
+    ensures cause { HasCause (O.faults out.old) (O.faults out.new) result }
+{
+    let line = Piece::new().text(b"greatest ").number(related).text(b"\n");
+    let text = line.text(answer_line(start));
+    out.put(text.bytes())
+}
+
+/// The line that says whether a pair is related.
+fn answer_line(related: bool) -> &'static [u8]
+    ensures line { result.now ≡ line_text (Answer related) }
+    ensures short { length result.now ≤ 32 }
+{
+    if related {
+        b"answer composition\n"
+    } else {
+        b"answer none\n"
+    }
+}
+
+/// Puts `rejected LINE WHY`.
+pub(crate) fn put_rejected<O: Sink>(line: u32, why: Why, out: &mut O) -> Result<(), Failed>
+    ensures puts { Puts (O.written out.old) (O.written out.new) (rejected_text line (fault_of why)) result }
+    ensures cause { HasCause (O.faults out.old) (O.faults out.new) result }
+{
+    let text = Piece::new().text(b"rejected ").number(line).text(b" ");
+    let line = text.text(why_piece(why).bytes()).text(b"\n");
+    out.put(line.bytes())
+}
+
+/// The word of a fault; for a pair that is missing the pair follows.
+fn why_piece(why: Why) -> Piece
+    ensures text { result ≡ why_text (fault_of why) }
+    ensures short { length result ≤ 32 }
+{
+    let text = Piece::new();
+    match why {
+        Why::Form => text.text(b"form"),
+        Why::Repeated => text.text(b"repeated"),
+        Why::Unjustified => text.text(b"unjustified"),
+        Why::Unlisted(pair) => text.text(b"unlisted ").number(pair),
+    }
+}
