@@ -10,3 +10,5 @@ pub mod Rows
 pub mod ArenaFacts
 pub mod OpenLemmas
 pub mod BehaviourLemmas
+pub mod NextLemmas
+pub mod SceneLemmas

@@ -1,6 +1,9 @@
 -- One step of a walk backwards: what is left, and where the walk then is.
-use Rattle.std.proofs.Common.{◌≡◌, ℕ, zero, suc, ◌+◌, ◌<◌, ◌≤◌, cond, List, [], ◌∷◌, ◌++◌, length, take, drop, get_or, Option, Some, IsTrue, IsFalse, slice_get, slice_index, slice_set, refl, sym, ap, ◌∙◌, subst, arith}
+use Rattle.std.proofs.Common.{◌≡◌, ◌⊎◌, ℕ, zero, suc, ◌+◌, ◌<◌, ◌≤◌, cond, List, [], ◌∷◌, ◌++◌, length, take, drop, get_or, Option, Some, IsTrue, IsFalse, slice_get, slice_index, slice_set, inl, inr, refl, sym, ap, ◌∙◌, subst, arith}
+use Rattle.std.specs.Int.{bit_at}
 use Rattle.std.specs.List.{flat_map}
+use Rattle.std.proofs.lemmas.Bool.{cases_lt}
+use Rattle.std.proofs.lemmas.Option.{slice_get_within}
 use Rattle.std.proofs.lemmas.List.{drop_more, drop_all, append_assoc, length-map, get_or-take}
 use Rattle.std.proofs.lemmas.List.Sums.{length-filter, count_by-le-length}
 use Rattle.roman_model.specs.Lists.{HoldsEachOnce, below}
@@ -36,10 +39,10 @@ no_seat [] k b' e a l = refl
 no_seat (seat ∷ seats) zero b' e a l = absurd (omega arith)
 no_seat (seat ∷ seats) (suc k) b' e a l = no_seat seats k b' e a (omega arith)
 
-few_prev : (env : Env) (e' a : ℕ) → IsEnv env → length (env_prev env e' a) ≤ 64
+pub few_prev : (env : Env) (e' a : ℕ) → IsEnv env → length (env_prev env e' a) ≤ 64
 few_prev env e' a ok = omega (arith, length-filter (λ e. has_triple env e a e') (below env.states), count_by-le-length (λ e. has_triple env e a e') (below env.states), length-below env.states, ok.states.1)
 
-few_beh_prev : (env : Env) (beh : Beh) (b' e a : ℕ) → IsBeh env beh → length (beh_prev beh b' e a) ≤ 64
+pub few_beh_prev : (env : Env) (beh : Beh) (b' e a : ℕ) → IsBeh env beh → length (beh_prev beh b' e a) ≤ 64
 few_beh_prev env beh b' e a ok = omega (arith, length-filter (λ b. has_move beh b e a b') (below beh.states), count_by-le-length (λ b. has_move beh b e a b') (below beh.states), length-below beh.states, ok.states.1)
 
 -- the seats from the first on are the first and those behind it
@@ -84,6 +87,7 @@ module _ (s : Sys) (sys : IsSys s) (w : Walk) (ok : IsWalk s w) where
           to_target = ok.to_target;
           to_env = ok.to_env;
           to_states = ok.to_states;
+          leads = ok.leads;
           action = ok.action;
           env = ok.env;
           target = ok.target;
@@ -125,6 +129,7 @@ module _ (s : Sys) (sys : IsSys s) (w : Walk) (ok : IsWalk s w) where
           to_target = ok.to_target;
           to_env = ok.to_env;
           to_states = ok.to_states;
+          leads = ok.leads;
           action = ok.action;
           env = ok.env;
           target = within;
@@ -167,6 +172,7 @@ module _ (s : Sys) (sys : IsSys s) (w : Walk) (ok : IsWalk s w) where
           to_target = ok.to_target;
           to_env = ok.to_env;
           to_states = ok.to_states;
+          leads = ok.leads;
           action = ok.action;
           env = within;
           target = ok.target;
@@ -209,6 +215,7 @@ module _ (s : Sys) (sys : IsSys s) (w : Walk) (ok : IsWalk s w) where
           to_target = ok.to_target;
           to_env = ok.to_env;
           to_states = ok.to_states;
+          leads = ok.leads;
           action = more;
           env = ok.env;
           target = ok.target;
@@ -245,6 +252,71 @@ module _ (s : Sys) (sys : IsSys s) (w : Walk) (ok : IsWalk s w) where
   goes_action_at m no_states no_seats no_targets no_envs more seats =
       subst (λ k. GoesOn s w (record w { action = w.action + 1; envs_taken = 0; targets_taken = 64; seat = k; states_taken = 0 })) (sym seats)
       (goes_action no_states no_seats no_targets no_envs more)
+
+-- more of the states before may count as taken, where the same are left
+module _ (s : Sys) (w v : Walk) (m : ℕ) (on : GoesOn s w v) (small : m ≤ 64) where
+  pub more_targets : v.targets_taken ≤ m → drop m (beh_prev s.target (goal_of s v).t v.env v.action) ≡ drop v.targets_taken (beh_prev s.target (goal_of s v).t v.env v.action) →
+      GoesOn s w (record v { targets_taken = m })
+  more_targets more same =
+      let ok = on.walk in
+      let f = from_target s (goal_of s v) v.action v.env in
+      record {
+        walk = record {
+          pair = ok.pair;
+          to_target = ok.to_target;
+          to_env = ok.to_env;
+          to_states = ok.to_states;
+          leads = ok.leads;
+          action = ok.action;
+          env = ok.env;
+          target = ok.target;
+          row = ok.row;
+          seat = ok.seat;
+          states_taken = ok.states_taken;
+          targets_taken = small;
+          envs_taken = ok.envs_taken;
+        };
+        left = ap (λ ts. left_of_seat s v ++ (left_of_target s v ++ (flat_map f ts ++ (left_of_action s v ++ left_of_all s v)))) same ∙ on.left;
+        falls = omega (arith, on.falls);
+      }
+
+  pub more_envs : v.envs_taken ≤ m → flat_map (from_env s (goal_of s v) v.action) (drop m (env_prev s.env (goal_of s v).e v.action)) ≡ left_of_action s v → GoesOn s w (record v { envs_taken = m })
+  more_envs more same =
+      let ok = on.walk in
+      record {
+        walk = record {
+          pair = ok.pair;
+          to_target = ok.to_target;
+          to_env = ok.to_env;
+          to_states = ok.to_states;
+          leads = ok.leads;
+          action = ok.action;
+          env = ok.env;
+          target = ok.target;
+          row = ok.row;
+          seat = ok.seat;
+          states_taken = ok.states_taken;
+          targets_taken = ok.targets_taken;
+          envs_taken = small;
+        };
+        left = ap (λ ds. left_of_seat s v ++ (left_of_target s v ++ (left_of_env s v ++ (ds ++ left_of_all s v)))) same ∙ on.left;
+        falls = omega (arith, on.falls);
+      }
+
+-- all of the environment's states count as taken on an action that doesn't lead to the pair
+pub leads_on : (s : Sys) (w v : Walk) (m : ℕ) → IsSys s → GoesOn s w v → v.envs_taken ≡ 0 → (m ≡ 0) ⊎ ((m ≡ 64) × (bit_at v.leading v.action ≡ 0)) → GoesOn s w (record v { envs_taken = m })
+leads_on s w v m sys on none first = elim first [
+  | inl e ↦ more_envs s w v m on (omega (arith, e)) (omega (arith, e, none)) (ap (λ i. flat_map (from_env s (goal_of s v) v.action) (drop i envs)) (e ∙ sym none))
+  | inr (e, bit) ↦ more_envs s w v m on (omega (arith, e)) (omega (arith, e, none))
+      (ap (flat_map (from_env s (goal_of s v) v.action)) (drop_all m envs (omega (arith, e, few)))
+      ∙ sym (ap (λ i. flat_map (from_env s (goal_of s v) v.action) (drop i envs)) none ∙ on.walk.leads v.action on.walk.action bit))
+]
+  where
+    envs : List ℕ
+    envs = env_prev s.env (goal_of s v).e v.action
+
+    few : length envs ≤ 64
+    few = few_prev s.env (goal_of s v).e v.action sys.env
 
 -- the states before of a seat that is ready are its behaviour's
 ready_prev : (o : Option Seat) (seat : Seat) (b' e a : ℕ) → o ≡ Some seat → IsFalse seat.frozen → seat_prev o b' e a ≡ beh_prev seat.beh b' e a
@@ -287,6 +359,7 @@ module _ (s : Sys) (sys : IsSys s) (w : Walk) (ok : IsWalk s w) where
           to_target = ok.to_target;
           to_env = ok.to_env;
           to_states = ok.to_states;
+          leads = ok.leads;
           action = ok.action;
           env = ok.env;
           target = ok.target;
@@ -322,17 +395,80 @@ module _ (s : Sys) (sys : IsSys s) (w : Walk) (ok : IsWalk s w) where
       ap (λ bs. from_states s q w.action w.env w.target w.seat (drop w.states_taken bs)) (ready_prev (slice_get s.seats w.seat) seat (slice_index q.bs w.seat) w.env w.action seated ready)
       ∙ ap (from_states s q w.action w.env w.target w.seat) (drop_all w.states_taken states past)
 
+-- a state of the present seat is taken, and the walk goes past it
+pub record Passes (s : Sys) (old new : Walk) (node : ℕ) : Type 0 where
+  pub walk : IsWalk s new
+  pub action : new.action ≡ old.action
+  pub left : left s old ≡ record { node = node; action = old.action; seat = old.seat } ∷ left s new
+
+module _ (s : Sys) (sys : IsSys s) (w : Walk) (ok : IsWalk s w) where
+  -- where nothing is left of a seat, the walk may go on to the next place, also past the last seat
+  next_place : left_of_seat s w ≡ [] → w.seat < length s.seats → IsWalk s (seat_on s sys w ok) × (left s (seat_on s sys w ok) ≡ left s w)
+  next_place none within = elim (cases_lt (w.seat + 1) (length s.seats)) [
+    | inl more ↦ let on = goes_seat s sys w ok none more in (on.walk, on.left)
+    | inr last ↦
+        let v = seat_on s sys w ok in
+        let there : IsWalk s v = record {
+          pair = ok.pair;
+          to_target = ok.to_target;
+          to_env = ok.to_env;
+          to_states = ok.to_states;
+          leads = ok.leads;
+          action = ok.action;
+          env = ok.env;
+          target = ok.target;
+          row = ok.row;
+          seat = omega arith;
+          states_taken = omega arith;
+          targets_taken = ok.targets_taken;
+          envs_taken = ok.envs_taken;
+        } in
+        let rest = left_of_env s w ++ (left_of_action s w ++ left_of_all s w) in (
+          there,
+          after_none (left_of_seat s v) (left_of_target s v) rest (no_state_there s sys v there last) (no_seats s sys v there (omega arith))
+              ∙ sym (after_none (left_of_seat s w) (left_of_target s w) rest none (no_seats s sys w ok last)),
+        )
+  ]
+
+module _ (s : Sys) (sys : IsSys s) (w : Walk) (ok : IsWalk s w) where
+  pub passes_state : (seat : Seat) (node : ℕ) (new : Walk) → slice_get s.seats w.seat ≡ Some seat → IsFalse seat.frozen →
+      w.states_taken < length (beh_prev seat.beh (slice_index (goal_of s w).bs w.seat) w.env w.action) →
+      node ≡ number (sizes_of s) (record {
+        t = w.target;
+        e = w.env;
+        bs = slice_set (goal_of s w).bs w.seat (get_or (beh_prev seat.beh (slice_index (goal_of s w).bs w.seat) w.env w.action) w.states_taken 0);
+      }) →
+      (w.states_taken + 1 < length (beh_prev seat.beh (slice_index (goal_of s w).bs w.seat) w.env w.action) → new ≡ record w { states_taken = w.states_taken + 1 }) →
+      (length (beh_prev seat.beh (slice_index (goal_of s w).bs w.seat) w.env w.action) ≤ w.states_taken + 1 → new ≡ record w { seat = w.seat + 1; states_taken = 0 }) →
+      Passes s w new node
+  passes_state seat node new seated ready left is more last =
+      elim (cases_lt (w.states_taken + 1) (length (beh_prev seat.beh (slice_index (goal_of s w).bs w.seat) w.env w.action))) [
+        | inl less ↦ subst (λ v. Passes s w v node) (sym (more less)) (record { walk = takes.walk; action = refl; left = takes.left })
+        | inr past ↦
+            let none : left_of_seat s v ≡ [] = no_state_left s sys v takes.walk seat seated ready past in
+            let on = next_place s sys v takes.walk none (slice_get_within s.seats w.seat seat seated) in
+            subst (λ u. Passes s w u node) (sym (last past))
+            (record { walk = on.0; action = refl; left = takes.left ∙ ap (λ ds. record { node = node; action = w.action; seat = w.seat } ∷ ds) (sym on.1) })
+      ]
+    where
+      v : Walk
+      v = record w { states_taken = w.states_taken + 1 }
+
+      takes : Takes s w v node
+      takes = takes_state s sys w ok seat node seated ready left is
+
 -- a walk that begins: all that leads to the pair is left
 pub record Begins (s : Sys) (p : ℕ) (w : Walk) : Type 0 where
   pub walk : IsWalk s w
   pub left : HoldsEachOnce (left s w) (back (numbered s) p)
 
-abbrev pub first_walk : ℕ → ℕ → ℕ → List ℕ → ℕ → Walk
-first_walk p t e states m = record {
+abbrev pub first_walk : ℕ → ℕ → ℕ → List ℕ → ℕ → ℕ → Walk
+first_walk p t e states leading m = record {
   pair = p;
   to_target = t;
   to_env = e;
   to_states = states;
+  leading = leading;
   action = 0;
   envs_taken = 0;
   env = e;
@@ -343,12 +479,12 @@ first_walk p t e states m = record {
   states_taken = 0;
 }
 
-begins_at : (s : Sys) (p : ℕ) (states : List ℕ) → IsSys s → p < count (sizes_of s) → take (length (sizes_of s).seats) states ≡ (pair_at (sizes_of s) p).bs →
-    Begins s p (first_walk p (pair_at (sizes_of s) p).t (pair_at (sizes_of s) p).e states (length s.seats))
-begins_at s p states sys below_p same =
+begins_at : (s : Sys) (p leading : ℕ) (states : List ℕ) → IsSys s → ((a : ℕ) → a < s.env.actions → bit_at leading a ≡ 0 → from_action s (pair_at (sizes_of s) p) a ≡ []) → p < count (sizes_of s) → take (length (sizes_of s).seats) states ≡ (pair_at (sizes_of s) p).bs →
+    Begins s p (first_walk p (pair_at (sizes_of s) p).t (pair_at (sizes_of s) p).e states leading (length s.seats))
+begins_at s p leading states sys leads below_p same =
     let q : Pair = pair_at (sizes_of s) p in
     let pair : IsPair s q = (numbers_are_pairs s).pair p below_p in
-    let w : Walk = first_walk p q.t q.e states (length s.seats) in
+    let w : Walk = first_walk p q.t q.e states leading (length s.seats) in
     let many : length (sizes_of s).seats ≡ length s.seats = length-map s.seats (λ (x : Seat). x.beh.states) in
     let few : length (beh_prev s.target q.t q.e 0) ≤ 64 = few_beh_prev s.env s.target q.t q.e 0 sys.target in
     let nothing : left s w ≡ left_of_action s w ++ left_of_all s w =
@@ -362,6 +498,7 @@ begins_at s p states sys below_p same =
         to_target = refl;
         to_env = refl;
         to_states = λ k l. sym (get_or-take (length (sizes_of s).seats) states k 0 (omega arith)) ∙ ap (λ bs. slice_index bs k) same;
+        leads = leads;
         action = sys.env.actions.0;
         env = pair.e;
         target = pair.t;
@@ -374,9 +511,9 @@ begins_at s p states sys below_p same =
       left = subst (λ xs. HoldsEachOnce xs (back (numbered s) p)) (all ∙ sym nothing) (found_backwards s p sys below_p);
     }
 
-pub begins : (s : Sys) (p t e m : ℕ) (states : List ℕ) → IsSys s → p < count (sizes_of s) → take (length (sizes_of s).seats) states ≡ (pair_at (sizes_of s) p).bs →
-    t ≡ (pair_at (sizes_of s) p).t → e ≡ (pair_at (sizes_of s) p).e → m ≡ length s.seats → Begins s p (first_walk p t e states m)
-begins s p t e m states sys below_p same is_t is_e is_m =
-    subst (λ x. Begins s p (first_walk p x e states m)) (sym is_t)
-    (subst (λ x. Begins s p (first_walk p (pair_at (sizes_of s) p).t x states m)) (sym is_e)
-    (subst (λ x. Begins s p (first_walk p (pair_at (sizes_of s) p).t (pair_at (sizes_of s) p).e states x)) (sym is_m) (begins_at s p states sys below_p same)))
+pub begins : (s : Sys) (p t e leading m : ℕ) (states : List ℕ) → IsSys s → ((a : ℕ) → a < s.env.actions → bit_at leading a ≡ 0 → from_action s (pair_at (sizes_of s) p) a ≡ []) → p < count (sizes_of s) → take (length (sizes_of s).seats) states ≡ (pair_at (sizes_of s) p).bs →
+    t ≡ (pair_at (sizes_of s) p).t → e ≡ (pair_at (sizes_of s) p).e → m ≡ length s.seats → Begins s p (first_walk p t e states leading m)
+begins s p t e leading m states sys leads below_p same is_t is_e is_m =
+    subst (λ x. Begins s p (first_walk p x e states leading m)) (sym is_t)
+    (subst (λ x. Begins s p (first_walk p (pair_at (sizes_of s) p).t x states leading m)) (sym is_e)
+    (subst (λ x. Begins s p (first_walk p (pair_at (sizes_of s) p).t (pair_at (sizes_of s) p).e states leading x)) (sym is_m) (begins_at s p leading states sys leads below_p same)))

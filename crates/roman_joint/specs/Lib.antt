@@ -10,3 +10,4 @@ pub mod Walks
 pub mod Changes
 pub mod Bits
 pub mod Numbered
+pub mod Scenes

@@ -1,5 +1,6 @@
 -- Walks backwards from a pair.
-use Rattle.std.specs.Prelude.{◌≡◌, ℕ, ◌+◌, ◌-◌, ◌*◌, ◌^◌, ◌<◌, ◌≤◌, List, ◌++◌, length, drop, slice_get, slice_index}
+use Rattle.std.specs.Prelude.{◌≡◌, ℕ, ◌+◌, ◌-◌, ◌*◌, ◌^◌, ◌<◌, ◌≤◌, List, [], ◌++◌, length, drop, slice_get, slice_index}
+use Rattle.std.specs.Int.{bit_at}
 use Rattle.std.specs.List.{flat_map}
 use Rattle.roman_model.specs.Lists.{below}
 use Rattle.roman_model.specs.System.{Sys, Pair, env_prev, beh_prev}
@@ -18,6 +19,7 @@ pub record IsWalk (s : Sys) (walk : Walk) : Type 0 where
   pub to_target : walk.to_target ≡ (goal_of s walk).t
   pub to_env : walk.to_env ≡ (goal_of s walk).e
   pub to_states : (k : ℕ) → k < length s.seats → slice_index walk.to_states k ≡ slice_index (goal_of s walk).bs k
+  pub leads : (a : ℕ) → a < s.env.actions → bit_at walk.leading a ≡ 0 → from_action s (goal_of s walk) a ≡ []
   pub action : walk.action < s.env.actions
   pub env : walk.env < s.env.states
   pub target : walk.target < s.target.states

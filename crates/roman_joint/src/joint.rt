@@ -11,6 +11,7 @@ mod looks;
 mod walks;
 
 use crate::error::JointError;
+use crate::scene::{Scene, all_scenes};
 use crate::seat::Seat;
 use crate::seats::shape_of;
 use roman_model::MAX_SERVICES;
@@ -32,6 +33,8 @@ pub struct Joint {
     // There is room for the greatest number of services.
     seats: Vec<Seat>,
     shape: Shape,
+    // By the target's state and then by the environment's.
+    scenes: Vec<Scene>,
     limit: u32,
 }
 
@@ -77,6 +80,9 @@ impl Joint {
         let Ok(mut places) = Vec::with_capacity(alloc, MAX_SERVICES as usize) else {
             return Err(JointError::Memory);
         };
+        let Ok(scenes) = all_scenes(alloc, &environment, &target) else {
+            return Err(JointError::Memory);
+        };
         for seat in &seats {
             places.push_reserved(*seat);
         }
@@ -86,6 +92,7 @@ impl Joint {
             target,
             seats: places,
             shape,
+            scenes,
             limit,
         })
     }

@@ -17,6 +17,7 @@ mod numbered;
 mod open;
 mod outcomes;
 mod rules;
+mod scene;
 mod seat;
 mod seats;
 mod walk;

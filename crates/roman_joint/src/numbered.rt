@@ -49,7 +49,7 @@ impl Rules for Joint {
     }
 
     fn allowed_actions(&self, p: u32) -> u32 {
-        open::allowed_actions(self, p)
+        self.allowed_at(p)
     }
 
     fn final_ok(&self, p: u32) -> bool {
@@ -58,6 +58,10 @@ impl Rules for Joint {
 
     fn open_masks(&self, p: u32, masks: &mut [u32]) {
         open::open_masks(self, p, masks);
+    }
+
+    fn next_open_masks(&self, p: u32, masks: &mut [u32]) {
+        open::next_open_masks(self, p, masks);
     }
 
     fn examine<F: Fn(u32) -> bool, L: Ledger>(

@@ -1,5 +1,5 @@
 //! What algorithms over the numbers of pairs ask of a system.
-ghost use Rattle.std.specs.Prelude.{◌≡◌, ℕ, ◌+◌, ◌<◌, Bool, false, not, List, [], ◌∷◌};
+ghost use Rattle.std.specs.Prelude.{◌≡◌, ℕ, ◌+◌, ◌-◌, ◌<◌, Bool, false, not, List, [], ◌∷◌};
 ghost use Rattle.std.specs.Prelude.{length, slice_index, IsTrue, MatchOption};
 ghost use Rattle.roman_model.specs.Lists.{HoldsEachOnce};
 ghost use Rattle.roman_model.specs.System.{has};
@@ -75,6 +75,15 @@ pub trait Rules {
     fn open_masks(&self, p: u32, masks: &mut [u32])
         requires pair { p < length (arena self.now).nodes }
         requires room { length masks.old ≡ (arena self.now).actions }
+        ensures { (a : ℕ) → a < (arena self.now).actions →
+            HasBits (slice_index masks.new a) (has (mask (arena self.now) (λ q. false) p a)) };
+
+    /// Writes the masks of the pair `p` while all pairs are alive, over those of the pair before.
+    fn next_open_masks(&self, p: u32, masks: &mut [u32])
+        requires pair { (0 < p) × (p < length (arena self.now).nodes) }
+        requires room { length masks.old ≡ (arena self.now).actions }
+        requires before { (a : ℕ) → a < (arena self.now).actions →
+            HasBits (slice_index masks.old a) (has (mask (arena self.now) (λ q. false) (p - 1) a)) }
         ensures { (a : ℕ) → a < (arena self.now).actions →
             HasBits (slice_index masks.new a) (has (mask (arena self.now) (λ q. false) p a)) };
 

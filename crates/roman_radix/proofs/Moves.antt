@@ -1,19 +1,16 @@
 -- How a pair's number moves with its states.
-use Rattle.std.proofs.Common.{◌≡◌, ℕ, ◌+◌, ◌-◌, ◌*◌, ◌/◌, ◌%◌, ◌<◌, ◌≤◌, List, [], ◌∷◌, ◌++◌, length, take, drop, slice_index, slice_set, refl, sym, ap, ◌∙◌, subst, arith, mul_comm}
+use Rattle.std.proofs.Common.{◌≡◌, ℕ, ◌+◌, ◌-◌, ◌*◌, ◌/◌, ◌%◌, ◌<◌, ◌≤◌, List, length, take, drop, slice_index, get_or, inl, inr, refl, sym, ap, ap₂, ◌∙◌, subst, arith}
 use Rattle.std.proofs.Math.ListN.{set}
-use Rattle.std.proofs.lemmas.Nat.{div_below, mod_below}
+use Rattle.std.proofs.lemmas.Bool.{cases_eq}
 use native.Mathlib.Nat.{div-div-eq-div-mul}
-use Rattle.std.proofs.lemmas.List.{append_assoc, drop_more, drop_all, take_more_set}
+use Rattle.std.proofs.lemmas.List.{drop_more, drop_all, get_or-take, get_or-set_same, get_or-set_other, length-take-le, ext_get_or}
 use Rattle.roman_model.specs.Lists.{product_of}
 use Rattle.roman_model.specs.System.{Pair}
 use Rattle.roman_model.specs.Change.{grown, without}
-use Rattle.roman_model.specs.Numbers.{Sizes, IsPairOf, grown_sizes, sizes_without, count, states_number, states_at, number, pair_at}
-use Rattle.roman_model.proofs.NumberLemmas.{AreBelow-length, number_below, parts_of_number, number-pair_at, IsPairOf-at, number-set, IsPairOf-moved, IsPairOf-grown, number-grown, IsPairOf-without, number_without, number_without-is}
+use Rattle.roman_model.specs.Numbers.{Sizes, IsPairOf, grown_sizes, sizes_without, count, states_number, number, pair_at}
+use Rattle.roman_model.proofs.NumberLemmas.{AreBelow-length, number_below, parts_of_number, number-pair_at, IsPairOf-at, number-set, IsPairOf-moved, IsPairOf-grown, number-grown, IsPairOf-without, number_without, number_without-is, part_at}
 use Rattle.roman_radix.specs.Radix.{stride_of, env_stride_of, target_stride_of, with_part, moved}
-
--- with the target's stride both divisions are one
-pub target_at : (n : Sizes) (p : ℕ) → p / target_stride_of n ≡ (pair_at n p).t
-target_at n p = ap (λ m. p / m) (mul_comm n.env (product_of n.seats)) ∙ sym (div-div-eq-div-mul p (product_of n.seats) n.env)
+use Rattle.roman_radix.proofs.Strides.{product_more}
 
 -- component k in another state; the numbers of the code are equal to those of the sizes
 pub record Replaced (n : Sizes) (p k b part state stride : ℕ) : Type 0 where
@@ -114,22 +111,30 @@ states_end sizes bs k number whole past so_far =
     let none : states_number (drop k sizes) (drop k bs) ≡ 0 = ap (λ ns. states_number ns (drop k bs)) (drop_all k sizes past) in
     omega arith
 
--- one digit more of a list of states
-pub record DigitTaken (sizes parts whole : List ℕ) (k rest stride : ℕ) : Type 0 where
-  pub states : take (k + 1) (set parts k (rest / stride)) ++ states_at (drop (k + 1) sizes) (rest % stride) ≡ whole
-  pub below : rest % stride < product_of (drop (k + 1) sizes)
-  pub digit : rest / stride < slice_index sizes k
+-- the digits of a number from the last on: one more
+pub record DigitTaken (n : Sizes) (parts : List ℕ) (p j whole state : ℕ) : Type 0 where
+  pub rest : whole ≡ p / product_of (drop j n.seats)
+  pub states : (i : ℕ) → j ≤ i → i < length n.seats → get_or (set parts j state) i 0 ≡ slice_index (pair_at n p).bs i
 
-pub digit_taken : (sizes parts whole : List ℕ) (k rest stride : ℕ) → k < length sizes → k < length parts → 0 < stride → stride ≡ product_of (drop (k + 1) sizes) →
-    take k parts ++ states_at (drop k sizes) rest ≡ whole → rest < product_of (drop k sizes) → DigitTaken sizes parts whole k rest stride
-digit_taken sizes parts whole k rest stride size part positive is so_far below =
-    let here : states_at (drop k sizes) rest ≡ rest / stride ∷ states_at (drop (k + 1) sizes) (rest % stride) = rw (drop_more sizes k 0 size, is) refl in
-    let product : product_of (drop k sizes) ≡ slice_index sizes k * product_of (drop (k + 1) sizes) = ap product_of (drop_more sizes k 0 size) in
-    let less : rest < slice_index sizes k * stride = rw is (omega arith) in
-    record {
-      states =
-          ap (λ xs. xs ++ states_at (drop (k + 1) sizes) (rest % stride)) (take_more_set parts k (rest / stride) part)
-          ∙ (append_assoc (take k parts) (rest / stride ∷ []) (states_at (drop (k + 1) sizes) (rest % stride)) ∙ (ap (λ xs. take k parts ++ xs) (sym here) ∙ so_far));
-      below = subst (λ x. rest % stride < x) is (mod_below rest stride positive);
-      digit = div_below rest stride (slice_index sizes k) positive less;
-    }
+pub digit_taken : (n : Sizes) (parts : List ℕ) (p j k rest size whole state : ℕ) → p < count n → k ≡ j + 1 → j < length n.seats → j < length parts →
+    size ≡ get_or n.seats j 0 → rest ≡ p / product_of (drop k n.seats) → whole ≡ rest / size → state ≡ rest % size →
+    ((i : ℕ) → k ≤ i → i < length n.seats → get_or parts i 0 ≡ slice_index (pair_at n p).bs i) → DigitTaken n parts p j whole state
+digit_taken n parts p j k rest size whole state in_range here component room is_size is_rest is_whole is_state before = record {
+  rest = is_whole ∙ (ap (λ x. x / size) is_rest ∙ (div-div-eq-div-mul p (product_of (drop k n.seats)) size ∙ ap (λ m. p / m) (product_more n.seats j k (product_of (drop k n.seats)) size here component is_size refl)));
+  states = λ i l m. elim (cases_eq i j) [
+    | inl e ↦ subst (λ x. get_or (set parts j state) x 0 ≡ slice_index (pair_at n p).bs x) (sym e) (get_or-set_same parts j state 0 room ∙ (is_state ∙ digit))
+    | inr other ↦ get_or-set_other parts j i state 0 other ∙ before i (omega arith) m
+  ];
+}
+  where
+    digit : rest % size ≡ slice_index (pair_at n p).bs j
+    digit = ap₂ (λ x y. x % y) (is_rest ∙ ap (λ x. p / product_of (drop x n.seats)) here) is_size ∙ sym (part_at n p j in_range component)
+
+-- all of them
+pub digits_all : (n : Sizes) (parts : List ℕ) (p k : ℕ) → p < count n → k ≡ 0 → length n.seats ≤ length parts →
+    ((i : ℕ) → k ≤ i → i < length n.seats → get_or parts i 0 ≡ slice_index (pair_at n p).bs i) → take (length n.seats) parts ≡ (pair_at n p).bs
+digits_all n parts p k in_range here room states =
+    let many : length (pair_at n p).bs ≡ length n.seats = AreBelow-length n.seats (pair_at n p).bs (IsPairOf-at n p in_range).bs in
+    let few : length (take (length n.seats) parts) ≡ length n.seats = length-take-le (length n.seats) parts room in
+    ext_get_or 0 (take (length n.seats) parts) (pair_at n p).bs (few ∙ sym many)
+    (λ i l. get_or-take (length n.seats) parts i 0 (omega arith) ∙ states i (omega arith) (omega arith))

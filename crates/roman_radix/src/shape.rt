@@ -1,6 +1,6 @@
 //! Shapes: how many states each part of a pair has, and the pairs' numbers.
 
-ghost use Rattle.std.specs.Prelude.{◌≡◌, ◌^◌, ◌<◌, ◌≤◌, ◌↔◌, length, take, slice_index, IsTrue, IsSome, IfSome, All};
+ghost use Rattle.std.specs.Prelude.{◌≡◌, ◌/◌, ◌%◌, ◌^◌, ◌<◌, ◌≤◌, ◌↔◌, length, take, slice_index, IsTrue, IsSome, IfSome, All};
 ghost use Rattle.roman_model.specs.Lists.{product_of};
 ghost use Rattle.roman_model.specs.Numbers.{IsPairOf, grown_sizes, sizes_without, count, number, pair_at};
 ghost use Rattle.roman_model.specs.Change.{grown, without};
@@ -119,7 +119,8 @@ impl Shape {
         ensures value { result ≡ (pair_at self.now p).t }
         ensures below { result < self.now.target }
     {
-        (p / self.target_stride) as u8
+        let (t, _) = divided(p / self.env_stride, self.env);
+        t as u8
     }
 
     /// The environment's state at pair p.
@@ -128,7 +129,8 @@ impl Shape {
         ensures value { result ≡ (pair_at self.now p).e }
         ensures below { result < self.now.env }
     {
-        (p / self.env_stride % u32::from(self.env)) as u8
+        let (_, e) = divided(p / self.env_stride, self.env);
+        e
     }
 
     /// The state of component k at pair p.
@@ -138,7 +140,8 @@ impl Shape {
         ensures value { result ≡ slice_index (pair_at self.now p).bs k }
         ensures below { result < slice_index self.now.seats k }
     {
-        (p / self.strides[k as usize] % u32::from(self.sizes[k as usize])) as u8
+        let (_, state) = divided(p / self.strides[k as usize], self.sizes[k as usize]);
+        state
     }
 
     /// The states of the components at pair p, in their order, at the front of a table.
@@ -147,10 +150,13 @@ impl Shape {
         ensures { take (length self.now.seats) result ≡ (pair_at self.now p).bs }
     {
         let mut parts = [0; PLACES];
-        let mut rest = p % self.env_stride;
-        for k in 0..self.components as usize {
-            parts[k] = (rest / self.strides[k]) as u8;
-            rest %= self.strides[k];
+        let mut rest = p;
+        let mut k = self.components as usize;
+        while k > 0 {
+            k -= 1;
+            let (whole, state) = divided(rest, self.sizes[k]);
+            parts[k] = state;
+            rest = whole;
         }
         parts
     }
@@ -230,6 +236,33 @@ impl Shape {
         let stride = self.strides[k as usize];
         p / stride / u32::from(self.sizes[k as usize]) * stride + p % stride
     }
+}
+
+/// How often a size goes into a number. The sizes that are common are divided by as constants, which
+/// takes a processor a fraction of the time.
+fn quotient(n: u32, size: u8) -> u32
+    requires { 0 < size }
+    ensures { result ≡ n / size }
+{
+    match size {
+        1 => n,
+        2 => n / 2,
+        3 => n / 3,
+        4 => n / 4,
+        5 => n / 5,
+        6 => n / 6,
+        _ => n / u32::from(size),
+    }
+}
+
+/// How often a size goes into a number, and what is left of it.
+fn divided(n: u32, size: u8) -> (u32, u8)
+    requires { 0 < size }
+    ensures whole { result.0 ≡ n / size }
+    ensures rest { result.1 ≡ n % size }
+{
+    let whole = quotient(n, size);
+    (whole, (n - whole * u32::from(size)) as u8)
 }
 
 /// Whether the pairs of these sizes are at most `cap`.

@@ -12,6 +12,6 @@ mod masks;
 mod relation;
 mod worklist;
 
-pub use masks::{is_good, open_masks, read_masks};
+pub use masks::{is_good, open_masks, read_masks, read_pair};
 pub use relation::Relation;
 pub use worklist::settle_list;

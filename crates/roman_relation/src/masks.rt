@@ -1,5 +1,5 @@
 // The masks of all pairs.
-ghost use Rattle.std.specs.Prelude.{◌≡◌, ◌≢◌, ℕ, ◌+◌, ◌<◌, ◌≤◌, not, [], if◌then◌else◌};
+ghost use Rattle.std.specs.Prelude.{◌≡◌, ◌≢◌, ℕ, ◌+◌, ◌-◌, ◌<◌, ◌≤◌, false, not, [], if◌then◌else◌};
 ghost use Rattle.std.specs.Prelude.{length, slice_index, IsTrue, sum_by};
 ghost use Rattle.std.specs.Int.{bit_at};
 ghost use Rattle.roman_model.specs.Lists.{below};
@@ -33,6 +33,23 @@ fn write_row(order: &mut Order, p: u32, row: &[u32])
     }
 }
 
+/// Writes the masks of the pair `p` while all pairs are alive, over those of the pair before.
+fn next_row<J: Rules>(joint: &J, p: u32, row: &mut [u32])
+    requires pair { p < length (J.arena joint.now).nodes }
+    requires room { length row.old ≡ (J.arena joint.now).actions }
+    requires before { let A = J.arena joint.now in
+        (a : ℕ) → 0 < p → a < A.actions →
+        HasBits (slice_index row.old a) (has (mask_of A (λ q. false) (p - 1) a)) }
+    ensures { let A = J.arena joint.now in
+        (a : ℕ) → a < A.actions → HasBits (slice_index row.new a) (has (mask_of A (λ q. false) p a)) }
+{
+    if p == 0 {
+        joint.open_masks(p, row);
+    } else {
+        joint.next_open_masks(p, row);
+    }
+}
+
 /// Sets all masks to those while all pairs are alive.
 pub fn open_masks<J: Rules>(joint: &J, order: &mut Order)
     requires shaped { IsShaped (J.arena joint.now) order.old }
@@ -43,7 +60,7 @@ pub fn open_masks<J: Rules>(joint: &J, order: &mut Order)
     let mut row = [0; MAX_ACTIONS as usize];
     let row = &mut row[..joint.actions() as usize];
     for p in 0..joint.pairs() {
-        joint.open_masks(p, row);
+        next_row(joint, p, row);
         write_row(order, p, row);
     }
 }
@@ -109,8 +126,9 @@ fn read_mask<J: Rules, L: Ledger>(
     mask
 }
 
-/// Reads the masks of the pair `p` against the list.
-fn read_pair<J: Rules, L: Ledger>(joint: &J, order: &mut Order, p: u32, steps: &mut Steps<L>)
+/// Reads the masks of the pair `p` against the list. Each ready seat is asked once for each action
+/// that is allowed there.
+pub fn read_pair<J: Rules, L: Ledger>(joint: &J, order: &mut Order, p: u32, steps: &mut Steps<L>)
     requires shaped { IsShaped (J.arena joint.now) order.old }
     requires pair { p < length (J.arena joint.now).nodes }
     ensures set { let A = J.arena joint.now in

@@ -1,15 +1,18 @@
 //! What the system does at a pair.
 ghost use Rattle.std.specs.Prelude.{◌≡◌, ℕ, ◌+◌, ◌<◌, ◌≤◌, Bool, not, length, IsTrue, IsFalse};
 ghost use Rattle.roman_model.specs.Lists.{IsIn, is_empty};
-ghost use Rattle.roman_model.specs.Numbers.{sizes_of, count, numbered};
+ghost use Rattle.roman_model.specs.Numbers.{sizes_of, count, pair_at, numbered};
 ghost use Rattle.roman_model.specs.declared.limits.TheConstants.{MAX_CELLS};
+ghost use Rattle.roman_joint.specs.Bits.{HasBits};
 ghost use Rattle.roman_joint.specs.NamedSys.{system_of};
+ghost use Rattle.roman_joint.specs.Scenes.{IsScene};
 ghost use Rattle.roman_joint.specs.Finding.{Finds};
 ghost use Rattle.roman_joint.specs.Outcomes.{outcome_number, outcome_numbers, IsPlaced};
 
 use super::Joint;
 use crate::finding::Finding;
 use crate::outcomes::{Outcomes, outcome_gone};
+use crate::scene::Scene;
 use crate::seats::are_final;
 use roman_io::Steps;
 use std::sync::ledger::Ledger;
@@ -24,6 +27,24 @@ impl Joint {
         let t = self.shape.target_of(p);
         let e = self.shape.env_of(p);
         self.target.allows(&self.environment, t, e, a)
+    }
+
+    /// The actions that the target allows at a pair: bit a is set exactly where it allows a.
+    pub(crate) fn allowed_at(&self, p: u32) -> u32
+        requires { p < count (sizes_of (system_of self.now)) }
+        ensures { HasBits result ((numbered (system_of self.now)).allows p) }
+    {
+        self.known();
+        self.scene_at(p).allowed
+    }
+
+    // What the target and the environment say of actions at a pair.
+    pub(super) fn scene_at(&self, p: u32) -> Scene
+        requires { p < count (sizes_of (system_of self.now)) }
+        ensures { let s = system_of self.now in
+            IsScene s.env s.target (pair_at (sizes_of s) p).t (pair_at (sizes_of s) p).e result }
+    {
+        self.scenes[(p / self.shape.env_stride()) as usize]
     }
 
     /// Whether the services that rest are in final states where the target is: clause 2 of an

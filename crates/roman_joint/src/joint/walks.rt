@@ -7,7 +7,7 @@ ghost use Rattle.roman_joint.specs.NamedSys.{system_of};
 ghost use Rattle.roman_joint.specs.Walks.{IsWalk, GoesOn, left, left_of_seat, left_of_target, left_of_env, left_of_action, left_of_all};
 
 use super::Joint;
-use crate::walk::Walk;
+use crate::walk::{Walk, first_env, one_more};
 use roman_io::Steps;
 use roman_model::MAX_STATES;
 use std::sync::ledger::Ledger;
@@ -22,11 +22,13 @@ impl Joint {
     {
         let to_target = self.shape.target_of(p2);
         let to_env = self.shape.env_of(p2);
+        let scene = self.scene_at(p2);
         Walk {
             pair: p2,
             to_target,
             to_env,
             to_states: self.shape.parts_of(p2),
+            leading: scene.leading,
             action: 0,
             envs_taken: 0,
             env: to_env,
@@ -49,9 +51,9 @@ impl Joint {
         ensures step { MatchOption result (steps.new ≡ steps.old) (λ d. steps.new ≡ steps.old + 1) }
     {
         'on: loop {
-            if let Some(pair) = self.take_state(walk) {
+            if let Some((pair, seat)) = self.take_state(walk) {
                 steps.tick();
-                return Some((pair, walk.action, walk.seat));
+                return Some((pair, walk.action, seat));
             }
             if !self.go_on(walk) {
                 return None;
@@ -59,14 +61,14 @@ impl Joint {
         }
     }
 
-    // Takes a state of the present service from which it goes to the pair's, and gives the pair that
-    // this is in.
-    fn take_state(&self, walk: &mut Walk) -> Option<u32>
+    // Takes a state of the present service from which it goes to the pair's: gives the pair that this
+    // is in, and the service. With the last such state the walk goes on to the next service.
+    fn take_state(&self, walk: &mut Walk) -> Option<(u32, u8)>
         requires { IsWalk (system_of self.now) walk.old }
         ensures walk { IsWalk (system_of self.now) walk.new }
-        ensures place { (walk.new.action ≡ walk.old.action) × (walk.new.seat ≡ walk.old.seat) }
+        ensures action { walk.new.action ≡ walk.old.action }
         ensures taken { MatchOption result ((walk.new ≡ walk.old) × (left_of_seat (system_of self.now) walk.old ≡ []))
-            (λ p. left (system_of self.now) walk.old ≡ record { node = p; action = walk.old.action; seat = walk.old.seat } ∷ left (system_of self.now) walk.new) }
+            (λ x. left (system_of self.now) walk.old ≡ record { node = x.0; action = walk.old.action; seat = x.1 } ∷ left (system_of self.now) walk.new) }
     {
         let k = walk.seat as usize;
         if k >= self.seats.len() {
@@ -84,8 +86,10 @@ impl Joint {
             return None;
         }
         let stride = self.shape.stride(walk.seat);
-        walk.states_taken += 1;
-        Some(walk.row - u32::from(to) * stride + u32::from(states[taken]) * stride)
+        let pair = walk.row - u32::from(to) * stride + u32::from(states[taken]) * stride;
+        let place = walk.seat;
+        walk.pass_state(states.len());
+        Some((pair, place))
     }
 
     // Goes on to the next service, state of the target, state of the environment or action, where
@@ -126,6 +130,9 @@ impl Joint {
             ((walk.new ≡ walk.old) × (left_of_env (system_of self.now) walk.old ≡ [])) }
     {
         let target = &self.target;
+        if walk.targets_taken >= MAX_STATES {
+            return false;
+        }
         let targets = target.into(walk.to_target, walk.env, walk.action);
         let taken = walk.targets_taken as usize;
         if taken >= targets.len() {
@@ -135,7 +142,7 @@ impl Joint {
         let stride = self.shape.target_stride();
         walk.row = walk.row - u32::from(walk.target) * stride + u32::from(next) * stride;
         walk.target = next;
-        walk.targets_taken += 1;
+        walk.targets_taken = one_more(walk.targets_taken, targets.len());
         walk.seat = 0;
         walk.states_taken = 0;
         true
@@ -150,7 +157,11 @@ impl Joint {
         ensures { MatchBool result (GoesOn (system_of self.now) walk.old walk.new)
             ((walk.new ≡ walk.old) × (left_of_action (system_of self.now) walk.old ≡ [])) }
     {
-        let envs = self.environment.prev(walk.to_env, walk.action);
+        let environment = &self.environment;
+        if walk.envs_taken >= MAX_STATES {
+            return false;
+        }
+        let envs = environment.prev(walk.to_env, walk.action);
         let taken = walk.envs_taken as usize;
         if taken >= envs.len() {
             return false;
@@ -159,14 +170,15 @@ impl Joint {
         let stride = self.shape.env_stride();
         walk.row = walk.row - u32::from(walk.env) * stride + u32::from(next) * stride;
         walk.env = next;
-        walk.envs_taken += 1;
+        walk.envs_taken = one_more(walk.envs_taken, envs.len());
         walk.targets_taken = 0;
         walk.seat = self.seats.len() as u8;
         walk.states_taken = 0;
         true
     }
 
-    // Goes on to the next action, where no state of the environment is taken yet.
+    // Goes on to the next action, where no state of the environment is taken yet, or all are where the
+    // action doesn't lead to the pair.
     fn next_action(&self, walk: &mut Walk) -> bool
         requires walk { IsWalk (system_of self.now) walk.old }
         requires seat { left_of_seat (system_of self.now) walk.old ≡ [] }
@@ -180,7 +192,7 @@ impl Joint {
             return false;
         }
         walk.action += 1;
-        walk.envs_taken = 0;
+        walk.envs_taken = first_env(walk.leading, walk.action);
         walk.targets_taken = MAX_STATES;
         walk.seat = self.seats.len() as u8;
         walk.states_taken = 0;

@@ -26,6 +26,7 @@ invariant_of-result c =
     record {
       known = subst (λ xs. IsNamedSys (named c.args.catalogue.items xs)) (sym seats) known;
       shape = c.in-Some.ensures.shape ∙ (ap (λ m. sizes_of (system_of m)) same ∙ ap (λ xs. sizes_of (system_of (named c.args.catalogue.items xs))) (sym seats));
+      scenes = c.in-Ok-all_scenes.ensures;
       room = c.loop-seat.invariant.room;
     }
 

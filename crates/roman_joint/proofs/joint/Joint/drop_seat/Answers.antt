@@ -16,6 +16,7 @@ invariant_of-self c =
     record {
       known = subst (λ xs. IsNamedSys (with_seats n xs)) (sym seats) (gone_known n k c.remove-seat.result c.self.invariant.known within c.remove-seat.ensures.value);
       shape = c.shrink-self-inside.ensures ∙ (ap (sizes_without k) c.self.invariant.shape ∙ (gone_sizes n k ∙ ap (λ xs. sizes_of (system_of (with_seats n xs))) (sym seats)));
+      scenes = c.self.invariant.scenes;
       room = omega (arith, c.remove-seat.ensures.capacity, c.self.invariant.room);
     }
 

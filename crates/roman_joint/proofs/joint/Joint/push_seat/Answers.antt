@@ -78,6 +78,7 @@ invariant_of-self c =
       known = subst (λ xs. IsNamedSys (with_seats n xs)) (sym seats) (joined_known n c.args.seat known room place beh new fits);
       shape = c.in-Some.ensures.shape ∙ (ap₂ (λ m k. grown_sizes m k) c.self.invariant.shape size
           ∙ (joined_sizes n c.args.seat ∙ ap (λ xs. sizes_of (system_of (with_seats n xs))) (sym seats)));
+      scenes = c.self.invariant.scenes;
       room = omega (arith, c.push_reserved.ensures.capacity, c.self.invariant.room);
     }
 

@@ -17,6 +17,7 @@ invariant_of-self c =
     record {
       known = subst (λ xs. IsNamedSys (with_seats n xs)) (sym seats) (frozen_known n k frozen c.self.invariant.known within);
       shape = c.self.invariant.shape ∙ (sym (frozen_sizes n k frozen) ∙ ap (λ xs. sizes_of (system_of (with_seats n xs))) (sym seats));
+      scenes = c.self.invariant.scenes;
       room = c.self.invariant.room;
     }
 

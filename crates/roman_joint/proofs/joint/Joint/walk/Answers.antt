@@ -2,6 +2,7 @@ use Rattle.std.proofs.Common.{◌≡◌, length, take, ap, ◌∙◌, subst}
 use Rattle.roman_model.specs.Numbers.{Sizes, sizes_of, pair_at}
 use Rattle.roman_joint.specs.NamedSys.{system_of}
 use Rattle.roman_joint.proofs.Shown.{Shows, shown, seats_shown}
+use Rattle.roman_joint.proofs.SceneLemmas.{leads_nowhere}
 use Rattle.roman_joint.proofs.WalkLemmas.{Begins, first_walk, begins}
 use Rattle.roman_joint.proofs.joint.Joint.walk.Goals as goal
 
@@ -13,8 +14,9 @@ returns-clause-walk c =
     let fields : Shows a n = shown a n c.self.invariant c.self.view_is in
     let states : take (length (sizes_of s).seats) c.parts_of.result ≡ (pair_at (sizes_of s) c.args.p2).bs =
     subst (λ (m : Sizes). take (length m.seats) c.parts_of.result ≡ (pair_at m c.args.p2).bs) fields.shape c.parts_of.ensures in
-    let first : Begins s c.args.p2 (first_walk c.args.p2 c.target_of-to_target.result c.env_of-to_env.result c.parts_of.result c.len.result) =
-    begins s c.args.p2 c.target_of-to_target.result c.env_of-to_env.result c.len.result c.parts_of.result fields.known.system c.requires states
+    let first : Begins s c.args.p2 (first_walk c.args.p2 c.target_of-to_target.result c.env_of-to_env.result c.parts_of.result c.scene_at-scene.result.leading c.len.result) =
+    begins s c.args.p2 c.target_of-to_target.result c.env_of-to_env.result c.scene_at-scene.result.leading c.len.result c.parts_of.result fields.known.system
+    (leads_nowhere s (pair_at (sizes_of s) c.args.p2) c.scene_at-scene.result.leading c.scene_at-scene.ensures.leading) c.requires states
     (c.target_of-to_target.ensures.value ∙ ap (λ (m : Sizes). (pair_at m c.args.p2).t) fields.shape)
     (c.env_of-to_env.ensures.value ∙ ap (λ (m : Sizes). (pair_at m c.args.p2).e) fields.shape) (c.len.ensures ∙ seats_shown a n fields) in
     first.walk
@@ -27,8 +29,9 @@ returns-clause-left c =
     let fields : Shows a n = shown a n c.self.invariant c.self.view_is in
     let states : take (length (sizes_of s).seats) c.parts_of.result ≡ (pair_at (sizes_of s) c.args.p2).bs =
     subst (λ (m : Sizes). take (length m.seats) c.parts_of.result ≡ (pair_at m c.args.p2).bs) fields.shape c.parts_of.ensures in
-    let first : Begins s c.args.p2 (first_walk c.args.p2 c.target_of-to_target.result c.env_of-to_env.result c.parts_of.result c.len.result) =
-    begins s c.args.p2 c.target_of-to_target.result c.env_of-to_env.result c.len.result c.parts_of.result fields.known.system c.requires states
+    let first : Begins s c.args.p2 (first_walk c.args.p2 c.target_of-to_target.result c.env_of-to_env.result c.parts_of.result c.scene_at-scene.result.leading c.len.result) =
+    begins s c.args.p2 c.target_of-to_target.result c.env_of-to_env.result c.scene_at-scene.result.leading c.len.result c.parts_of.result fields.known.system
+    (leads_nowhere s (pair_at (sizes_of s) c.args.p2) c.scene_at-scene.result.leading c.scene_at-scene.ensures.leading) c.requires states
     (c.target_of-to_target.ensures.value ∙ ap (λ (m : Sizes). (pair_at m c.args.p2).t) fields.shape)
     (c.env_of-to_env.ensures.value ∙ ap (λ (m : Sizes). (pair_at m c.args.p2).e) fields.shape) (c.len.ensures ∙ seats_shown a n fields) in
     first.left

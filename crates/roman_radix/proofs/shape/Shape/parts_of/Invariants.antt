@@ -1,12 +1,16 @@
-use Rattle.std.proofs.Common.{◌≡◌, ◌<◌, ◌++◌, take, drop, length}
+use Rattle.std.proofs.Common.{◌≡◌, ℕ, ◌<◌, ◌≤◌, ◌/◌, length, drop, get_or, slice_index}
 use Rattle.roman_model.specs.Lists.{product_of}
-use Rattle.roman_model.specs.Numbers.{pair_at, states_at}
+use Rattle.roman_model.specs.Numbers.{pair_at}
 use Rattle.roman_radix.proofs.shape.Shape.parts_of.Given as goal
 
--- the states so far, and those of what is left of the number
+-- the states of the last components, and the number without them
 abbrev pub invariant-loop-k : goal.invariant-loop-k
 invariant-loop-k l = record {
-  states : take l.k l.parts ++ states_at (drop l.k l.self.seats) l.rest ≡ (pair_at l.self l.p).bs;
-  below : l.rest < product_of (drop l.k l.self.seats);
+  within : l.k ≤ length l.self.seats;
+  rest : l.rest ≡ l.p / product_of (drop l.k l.self.seats);
+  states : (i : ℕ) → l.k ≤ i → i < length l.self.seats → get_or l.parts i 0 ≡ slice_index (pair_at l.self l.p).bs i;
   long : length l.parts ≡ 32;
 }
+
+abbrev pub decreases-loop-k : goal.decreases-loop-k
+decreases-loop-k l = l.k

@@ -1,0 +1,59 @@
+-- What scenes say of a system.
+use Rattle.std.proofs.Common.{◌≡◌, ℕ, zero, suc, ◌+◌, ◌*◌, ◌/◌, ◌%◌, ◌<◌, true, List, [], ◌∷◌, ◌++◌, length, take, get_or, slice_index_or, inl, inr, refl, sym, ap, ◌∙◌, subst, arith}
+use Rattle.std.specs.Int.{bit_at}
+use Rattle.std.specs.List.{flat_map}
+use Rattle.std.proofs.Math.Seq.{get_or-append_seam}
+use Rattle.std.proofs.lemmas.Bool.{cases_eq}
+use Rattle.std.proofs.lemmas.List.{take_more, get_or_append_left}
+use Rattle.roman_model.specs.Lists.{IsIn, is_empty}
+use Rattle.roman_model.specs.System.{Env, Beh, Sys, Pair, IsSys, env_prev}
+use Rattle.roman_model.specs.Numbers.{sizes_of, pair_at, numbered}
+use Rattle.roman_model.proofs.Lists.{by_test, from_push}
+use Rattle.roman_model.proofs.NumberedLists.{numbered_is_arena}
+use Rattle.roman_joint.specs.declared.scene.Scene.{Scene}
+use Rattle.roman_joint.specs.Backward.{from_target, from_env, from_action}
+use Rattle.roman_joint.specs.Bits.{HasBits}
+use Rattle.roman_joint.specs.Scenes.{ArePermitted, AreLeading, IsScene}
+use Rattle.roman_joint.proofs.OpenLemmas.{bits_full}
+
+pub empty_list : (xs : List ℕ) → is_empty xs ≡ true → xs ≡ []
+empty_list [] h = refl
+empty_list (x ∷ xs) h = absurd (cc)
+
+-- one more of the numbers for which there is nothing
+pub none_more : (xs : List ℕ) (i : ℕ) (f : ℕ → List ℕ) → i < length xs → f (get_or xs i 0) ≡ [] → ((e : ℕ) → IsIn e (take i xs) → f e ≡ []) → (e : ℕ) → IsIn e (take (i + 1) xs) → f e ≡ []
+none_more xs i f l here before e j = elim (from_push e (get_or xs i 0) (take i xs) (subst (IsIn e) (take_more xs i 0 l) j)) [
+  | inl k ↦ before e k
+  | inr same ↦ ap f same ∙ here
+]
+
+-- one scene more
+pub scenes_more : (env : Env) (target : Beh) (old new : List Scene) (i : ℕ) (scene : Scene) → length old ≡ i → new ≡ old ++ scene ∷ [] →
+    ((j : ℕ) (x : Scene) → j < i → x ≡ slice_index_or old j x → IsScene env target (j / env.states) (j % env.states) x) → IsScene env target (i / env.states) (i % env.states) scene →
+    (j : ℕ) (x : Scene) → j < i + 1 → x ≡ slice_index_or new j x → IsScene env target (j / env.states) (j % env.states) x
+scenes_more env target old new i scene long is before here j x l at = elim (cases_eq j i) [
+  | inl e ↦ subst (λ k. IsScene env target (k / env.states) (k % env.states) x) (sym e)
+      (subst (IsScene env target (i / env.states) (i % env.states)) (sym (at ∙ ap (λ xs. get_or xs j x) is ∙ ap (λ k. get_or (old ++ scene ∷ []) k x) (e ∙ sym long) ∙ get_or-append_seam old scene [] x)) here)
+  | inr other ↦ before j x (omega (arith, l, other)) (at ∙ ap (λ xs. get_or xs j x) is ∙ get_or_append_left old (scene ∷ []) x j (omega (arith, l, other, long)))
+]
+
+-- the actions that a scene allows are those that are allowed at a pair
+pub permitted_at : (s : Sys) (p bits : ℕ) → IsSys s → ArePermitted s.env s.target (pair_at (sizes_of s) p).t (pair_at (sizes_of s) p).e bits → HasBits bits ((numbered s).allows p)
+permitted_at s p bits sys ok =
+    bits_full ((numbered s).allows p) s.env.actions bits ok.each ok.rest
+    (λ a l. by_test ((numbered s).allows p a)
+    (λ t. let within : a < s.env.actions = (numbered_is_arena s sys).allowed p a t in let none : ⊥ = omega (arith, l, within) in absurd none)
+    (λ f. f))
+
+-- where the functions give nothing, nothing comes together
+pub flat_map-none : {X Y : Type 0} (f : X → List Y) (xs : List X) → ((x : X) → IsIn x xs → f x ≡ []) → flat_map f xs ≡ []
+flat_map-none f [] none = refl
+flat_map-none f (x ∷ xs) none = ap (λ ys. ys ++ flat_map f xs) (none x (inl refl)) ∙ flat_map-none f xs (λ y i. none y (inr i))
+
+-- an action that doesn't lead to a scene leads to no pair there
+pub leads_nowhere : (s : Sys) (q : Pair) (bits : ℕ) → AreLeading s.env s.target q.t q.e bits → (a : ℕ) → a < s.env.actions → bit_at bits a ≡ 0 → from_action s q a ≡ []
+leads_nowhere s q bits ok a l none = flat_map-none (from_env s q a) (env_prev s.env q.e a) (λ e i. ap (flat_map (from_target s q a e)) (ok.others a l none e i))
+
+pub positive_factor : (x y p : ℕ) → p < x * y → 0 < y
+positive_factor x zero p l = absurd (omega (arith, l))
+positive_factor x (suc y) p l = omega arith

@@ -1,0 +1,41 @@
+use Rattle.std.proofs.Common.{◌≡◌, ◌*◌, ◌/◌, ◌%◌, ◌<◌, ◌≤◌, ◌++◌, ◌∷◌, [], length, ap, sym, ◌∙◌, subst, arith, mul-le-mul}
+use Rattle.std.proofs.lemmas.Nat.{div_below}
+use Rattle.std.proofs.lemmas.List.{length-append}
+use Rattle.roman_joint.specs.Scenes.{IsScene}
+use Rattle.roman_joint.proofs.SceneLemmas.{scenes_more}
+use Rattle.roman_joint.proofs.scene.all_scenes.Goals as goal
+
+pub overflow_mul-count : goal.overflow_mul-count
+overflow_mul-count c =
+    let env = c.args.environment.now.env in
+    let envs : c.len-envs.result ≡ env.states = c.len-envs.ensures.len ∙ (ap length c.states.ensures.names ∙ c.states.ensures.count) in
+    let targets : c.len.result ≡ c.args.target.now.beh.states = c.len.ensures.len ∙ (ap length c.states-2.ensures.names ∙ c.states-2.ensures.count) in
+    let few : c.args.target.now.beh.states ≤ 64 = (c.states-2.ensures.known env (sym c.requires.0) (sym c.requires.1)).states.1 in
+    let few_envs : env.states ≤ 64 = c.states.ensures.known.states.1 in
+    let rows : c.len.result ≤ 64 = omega (arith, targets, few) in
+    let columns : c.len-envs.result ≤ 64 = omega (arith, envs, few_envs) in
+    let product : c.len.result * c.len-envs.result ≤ 64 * 64 = mul-le-mul rows columns in
+    omega (arith, product)
+
+pub overflow_cast-i : goal.overflow_cast-i
+overflow_cast-i c =
+    let env = c.args.environment.now.env in
+    let envs : c.len-envs.result ≡ env.states = c.len-envs.ensures.len ∙ (ap length c.states.ensures.names ∙ c.states.ensures.count) in
+    let targets : c.len.result ≡ c.args.target.now.beh.states = c.len.ensures.len ∙ (ap length c.states-2.ensures.names ∙ c.states-2.ensures.count) in
+    let few : c.args.target.now.beh.states ≤ 64 = (c.states-2.ensures.known env (sym c.requires.0) (sym c.requires.1)).states.1 in
+    let below : c.loop-i.i / c.len-envs.result < c.len.result =
+    div_below c.loop-i.i c.len-envs.result c.len.result (omega (arith, envs, c.states.ensures.known.states.0)) c.loop-i-test.true in
+    omega (arith, below, targets, few)
+
+pub loop-i-preserved : goal.loop-i-preserved
+loop-i-preserved c =
+    let env = c.args.environment.now.env in
+    let target = c.args.target.now.beh in
+    let envs : c.len-envs.result ≡ env.states = c.len-envs.ensures.len ∙ (ap length c.states.ensures.names ∙ c.states.ensures.count) in
+    let here : IsScene env target (c.loop-i.i / env.states) (c.loop-i.i % env.states) c.scene_of-scene.result =
+    subst (λ m. IsScene env target (c.loop-i.i / m) (c.loop-i.i % m) c.scene_of-scene.result) envs (record { allowed = c.scene_of-scene.ensures.allowed; leading = c.scene_of-scene.ensures.leading }) in
+    let is : c.push.new.self.items ≡ c.loop-i.scenes.items ++ c.scene_of-scene.result ∷ [] = c.in_ok-push.ensures.items in
+    record {
+      long = ap length is ∙ (length-append c.loop-i.scenes.items (c.scene_of-scene.result ∷ []) ∙ omega (arith, c.loop-i.invariant.long));
+      each = scenes_more env target c.loop-i.scenes.items c.push.new.self.items c.loop-i.i c.scene_of-scene.result c.loop-i.invariant.long is c.loop-i.invariant.each here;
+    }

@@ -1,0 +1,13 @@
+use Rattle.std.proofs.Common.{◌≡◌, ℕ, ◌<◌, ◌≤◌, ◌&&◌, not}
+use Rattle.std.specs.Int.{bit_at}
+use Rattle.roman_model.specs.Lists.{is_empty}
+use Rattle.roman_model.specs.System.{env_next, beh_next}
+use Rattle.roman_joint.specs.Bits.{bit_of}
+use Rattle.roman_joint.proofs.scene.allowed_in.Given as goal
+
+-- the actions so far are asked, and no other is in
+abbrev pub invariant-loop-a : goal.invariant-loop-a
+invariant-loop-a l = record {
+  asked : (b : ℕ) → b < l.a → bit_at l.allowed b ≡ bit_of (not (is_empty (env_next l.environment.env l.e b)) && not (is_empty (beh_next l.target.beh l.t l.e b)));
+  rest : (b : ℕ) → l.a ≤ b → bit_at l.allowed b ≡ 0;
+}

@@ -1,0 +1,97 @@
+//! What the target and the environment say of actions, whatever the services do.
+ghost use Rattle.std.specs.Prelude.{◌≡◌, ℕ, ◌<◌, [], IsFalse, IfOk};
+ghost use Rattle.roman_model.specs.Lists.{IsIn};
+ghost use Rattle.roman_model.specs.System.{env_prev, beh_prev};
+ghost use Rattle.roman_joint.specs.NamedSys.{TargetIsOverEnv};
+ghost use Rattle.roman_joint.specs.Scenes.{ArePermitted, AreLeading, IsScene, AreScenes};
+
+use crate::bits::with_bit;
+use roman_parts::{Environment, Target};
+use std::alloc::{AllocError, Global};
+
+/// A state of the target and one of the environment, and what they say of each action.
+#[derive(Clone, Copy, Debug)]
+pub(crate) struct Scene {
+    /// The actions that are allowed there.
+    pub(crate) allowed: u32,
+    /// The actions that may lead there. No other does.
+    pub(crate) leading: u32,
+}
+
+/// All scenes, by the target's state and then by the environment's.
+pub(crate) fn all_scenes(
+    alloc: Global,
+    environment: &Environment,
+    target: &Target,
+) -> Result<Vec<Scene>, AllocError>
+    requires { TargetIsOverEnv environment.now target.now }
+    ensures { IfOk result (λ scenes. AreScenes environment.now.env target.now.beh scenes.items) }
+{
+    let envs = environment.states().len();
+    let count = target.states().len() * envs;
+    let mut scenes = Vec::with_capacity(alloc, count as usize)?;
+    for i in 0..count {
+        let scene = scene_of(environment, target, (i / envs) as u8, (i % envs) as u8);
+        scenes.push(scene)?;
+    }
+    Ok(scenes)
+}
+
+/// The scene of these states.
+fn scene_of(environment: &Environment, target: &Target, t: u8, e: u8) -> Scene
+    requires over { TargetIsOverEnv environment.now target.now }
+    requires target { t < target.now.beh.states }
+    requires env { e < environment.now.env.states }
+    ensures { IsScene environment.now.env target.now.beh t e result }
+{
+    Scene {
+        allowed: allowed_in(environment, target, t, e),
+        leading: leading_to(environment, target, t, e),
+    }
+}
+
+/// The actions that are allowed in these states.
+fn allowed_in(environment: &Environment, target: &Target, t: u8, e: u8) -> u32
+    requires over { TargetIsOverEnv environment.now target.now }
+    requires target { t < target.now.beh.states }
+    requires env { e < environment.now.env.states }
+    ensures { ArePermitted environment.now.env target.now.beh t e result }
+{
+    let mut allowed = 0;
+    for a in 0..environment.actions().len() as u8 {
+        let is_allowed = target.allows(environment, t, e, a);
+        allowed = with_bit(allowed, a, is_allowed);
+    }
+    allowed
+}
+
+/// The actions that may lead to these states.
+fn leading_to(environment: &Environment, target: &Target, t2: u8, e2: u8) -> u32
+    requires over { TargetIsOverEnv environment.now target.now }
+    requires target { t2 < target.now.beh.states }
+    requires env { e2 < environment.now.env.states }
+    ensures { AreLeading environment.now.env target.now.beh t2 e2 result }
+{
+    let mut leading = 0;
+    for a in 0..environment.actions().len() as u8 {
+        let may_lead = may_lead(environment, target, t2, e2, a);
+        leading = with_bit(leading, a, may_lead);
+    }
+    leading
+}
+
+/// Whether an action may lead to these states: from some states of the environment and the target.
+fn may_lead(environment: &Environment, target: &Target, t2: u8, e2: u8, a: u8) -> bool
+    requires over { TargetIsOverEnv environment.now target.now }
+    requires target { t2 < target.now.beh.states }
+    requires env { e2 < environment.now.env.states }
+    requires action { a < environment.now.env.actions }
+    ensures { IsFalse result → (e : ℕ) → IsIn e (env_prev environment.now.env e2 a) → beh_prev target.now.beh t2 e a ≡ [] }
+{
+    for e in environment.prev(e2, a) {
+        if !target.into(t2, *e, a).is_empty() {
+            return true;
+        }
+    }
+    false
+}
