@@ -4,7 +4,7 @@ use Rattle.std.proofs.lemmas.Nat.{same_from_place}
 use Rattle.std.proofs.lemmas.List.{length_push}
 use Rattle.roman_model.specs.Lists.{IsIn, HasNoRepeats, below}
 use Rattle.roman_model.specs.System.{Sys, Seat, IsSys, is_allowed}
-use Rattle.roman_model.specs.Arena.{Entry, replay}
+use Rattle.roman_model.specs.Arena.{Entry}
 use Rattle.roman_model.specs.Change.{Join, after, CanChange}
 use Rattle.roman_model.specs.Numbers.{Sizes, sizes_of, count, pair_at, grown_sizes, numbered}
 use Rattle.roman_model.specs.declared.reason.Reason.{Reason}
@@ -16,8 +16,7 @@ use Rattle.roman_model.proofs.NumberedChanges.{sizes-joined, NumbersReplay}
 use Rattle.roman_joint.specs.NamedSys.{NamedSys, system_of, IsNamedSys}
 use Rattle.roman_order.specs.Board.{Board, nodes_of}
 use Rattle.roman_relation.specs.Greatest.{arena_of}
-use Rattle.roman_repair.specs.Replays.{is_possible, AreCandidates, with_replay, grown_numbers}
-use Rattle.roman_repair.proofs.Repairing.{numbers_replayed}
+use Rattle.roman_repair.specs.Replays.{is_possible, AreCandidates, grown_numbers}
 use Rattle.roman_repair.proofs.Growing.{grown_number}
 
 -- the new system tells that the service could join
@@ -26,6 +25,10 @@ joined_can joint s seat known system =
     let sys : IsSys (after (Join seat) s) = subst IsSys system known.system in
     (sys.seats seat (in_append_right seat s.seats (seat ∷ []) (inl refl)), omega (arith, sys.few, length_push s.seats seat))
 
+-- and the service has some state
+pub joined_some : (joint : NamedSys) (s : Sys) (seat : Seat) (states : ℕ) → IsNamedSys joint → system_of joint ≡ after (Join seat) s → states ≡ seat.beh.states → 0 < states
+joined_some joint s seat states known system size = subst (λ n. 0 < n) (sym size) (joined_can joint s seat known system).0.states.0
+
 pub joined_count : (joint : NamedSys) (s : Sys) (seat : Seat) (n : Sizes) (states : ℕ) → system_of joint ≡ after (Join seat) s → n ≡ sizes_of s → states ≡ seat.beh.states →
     length (below (count (sizes_of (system_of joint)))) ≡ count (grown_sizes n states)
 joined_count joint s seat n states system shape size =
@@ -33,7 +36,7 @@ joined_count joint s seat n states system shape size =
     ∙ sym (ap₂ (λ m k. count (grown_sizes m k)) shape size)
 
 -- a grown pair allows what the pair did
-possible-joined : (s : Sys) (seat : Seat) (p b : ℕ) (reason : Reason) → p < count (sizes_of s) → b < seat.beh.states →
+pub possible-joined : (s : Sys) (seat : Seat) (p b : ℕ) (reason : Reason) → p < count (sizes_of s) → b < seat.beh.states →
     is_possible (numbered (after (Join seat) s)) (p * seat.beh.states + b) reason ≡ is_possible (numbered s) p reason
 possible-joined s seat p b Final l m = refl
 possible-joined s seat p b (Act a) l m =
@@ -85,10 +88,3 @@ joined_waiting old_joint joint seat states old reopened are replays system size 
     (subst (λ K. AreCandidates (numbered (after (Join seat) s)) K (flat_map (grown_numbers states) reopened.waiting)) (sym list)
     (subst (λ L. AreCandidates (numbered (after (Join seat) s)) [] (flat_map (grown_numbers states) L)) (sym waiting)
     (subst (λ n. AreCandidates (numbered (after (Join seat) s)) [] (flat_map (grown_numbers n) old)) (sym size) (joined_candidates s seat old are replays))))
-
-pub joined_replay : (joint : NamedSys) (s : Sys) (seat : Seat) (states : ℕ) (old : List (Entry ℕ)) (reopened : Board) → system_of joint ≡ after (Join seat) s → states ≡ seat.beh.states →
-    reopened.list ≡ [] → reopened.waiting ≡ old → with_replay (arena_of joint) reopened.list (flat_map (grown_numbers states) reopened.waiting) ≡ numbers_replayed (Join seat) s old
-joined_replay joint s seat states old reopened system size list waiting =
-    ap₂ (λ K L. with_replay (arena_of joint) K (flat_map (grown_numbers states) L)) list waiting
-    ∙ ap (λ n. replay (arena_of joint) (flat_map (grown_numbers n) old)) size
-    ∙ ap (λ (t : Sys). replay (numbered t) (flat_map (grown_numbers seat.beh.states) old)) system

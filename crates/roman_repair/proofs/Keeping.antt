@@ -37,9 +37,6 @@ one_is_left A gone p a k good l yes_good is =
 abbrev pub with_one : Arena ℕ → List (Entry ℕ) → Entry ℕ → List (Entry ℕ)
 with_one A kept x = if is_justified A (is_listed A kept) x.node x.reason then kept ++ x ∷ [] else kept
 
-pub with_replay_none : (A : Arena ℕ) (kept : List (Entry ℕ)) → with_replay A kept [] ≡ kept
-with_replay_none A kept = append-nil kept
-
 last_first : (A : Arena ℕ) (kept : List (Entry ℕ)) (x : Entry ℕ) (q : ℕ) → is_among A (nodes_of (kept ++ x ∷ [])) q ≡ is_among A (x.node ∷ nodes_of kept) q
 last_first A kept x q =
     ap (λ ps. is_among A ps q) (map-append (λ (y : Entry ℕ). y.node) kept (x ∷ []))
@@ -61,11 +58,6 @@ with_replay_step A kept x L =
     by_answer true = pushed
     by_answer false = refl
 
-pub with_replay_append : (A : Arena ℕ) (kept L M : List (Entry ℕ)) → with_replay A kept (L ++ M) ≡ with_replay A (with_replay A kept L) M
-with_replay_append A kept [] M = ap (λ N. with_replay A N M) (sym (with_replay_none A kept))
-with_replay_append A kept (x ∷ L) M =
-    with_replay_step A kept x (L ++ M) ∙ with_replay_append A (with_one A kept x) L M ∙ ap (λ N. with_replay A N M) (sym (with_replay_step A kept x L))
-
 -- Candidates.
 
 once_left : (ps qs : List ℕ) → HasNoRepeats (ps ++ qs) → HasNoRepeats ps
@@ -80,11 +72,13 @@ candidates_left A kept L M are = record {
   possible = λ x i. are.possible x (in_append_left x L M i);
 }
 
--- the candidates after one
-pub candidates_step : (A : Arena ℕ) (kept : List (Entry ℕ)) (x : Entry ℕ) (L : List (Entry ℕ)) → IsNumbered A → AreCandidates A kept (x ∷ L) → AreCandidates A (with_one A kept x) L
-candidates_step A kept x L ok are = record {
+-- the candidates after one that is listed
+pub candidates_push : (A : Arena ℕ) (kept : List (Entry ℕ)) (x : Entry ℕ) (L : List (Entry ℕ)) → AreCandidates A kept (x ∷ L) → AreCandidates A (kept ++ x ∷ []) L
+candidates_push A kept x L are = record {
   once = are.once.1;
-  new = λ y i. by_answer y i (is_justified A (is_listed A kept) x.node x.reason);
+  new = λ y i.
+      list_any-append (λ (z : Entry ℕ). y.node == z.node) kept (x ∷ [])
+      ∙ or_from (has_entry kept y.node) (has_entry (x ∷ []) y.node) (are.new y (inr i)) (or_from (y.node == x.node) false (other y i) refl);
   nodes = λ y i. are.nodes y (inr i);
   possible = λ y i. are.possible y (inr i);
 }
@@ -92,16 +86,23 @@ candidates_step A kept x L ok are = record {
     other : (y : Entry ℕ) → IsIn y L → IsFalse (y.node == x.node)
     other y i = false_from_ne_true (y.node == x.node) (λ t. are.once.0 (subst (λ p. IsIn p (nodes_of L)) (eqb-true y.node x.node t) (in_map (λ (z : Entry ℕ). z.node) y L i)))
 
-    by_answer : (y : Entry ℕ) → IsIn y L → (b : Bool) → IsFalse (has_entry (if b then kept ++ x ∷ [] else kept) y.node)
-    by_answer y i true =
-        list_any-append (λ (z : Entry ℕ). y.node == z.node) kept (x ∷ [])
-        ∙ or_from (has_entry kept y.node) (has_entry (x ∷ []) y.node) (are.new y (inr i)) (or_from (y.node == x.node) false (other y i) refl)
-    by_answer y i false = are.new y (inr i)
+-- and after one that isn't
+candidates_skip : (A : Arena ℕ) (kept : List (Entry ℕ)) (x : Entry ℕ) (L : List (Entry ℕ)) → AreCandidates A kept (x ∷ L) → AreCandidates A kept L
+candidates_skip A kept x L are = record { once = are.once.1; new = λ y i. are.new y (inr i); nodes = λ y i. are.nodes y (inr i); possible = λ y i. are.possible y (inr i) }
 
-pub candidates_append : (A : Arena ℕ) (kept L M : List (Entry ℕ)) → IsNumbered A → AreCandidates A kept (L ++ M) → AreCandidates A (with_replay A kept L) M
-candidates_append A kept [] M ok are = subst (λ N. AreCandidates A N M) (sym (with_replay_none A kept)) are
-candidates_append A kept (x ∷ L) M ok are =
-    subst (λ N. AreCandidates A N M) (sym (with_replay_step A kept x L)) (candidates_append A (with_one A kept x) L M ok (candidates_step A kept x (L ++ M) ok are))
+-- the candidates after one that is kept or not
+pub candidates_step : (A : Arena ℕ) (kept : List (Entry ℕ)) (x : Entry ℕ) (L : List (Entry ℕ)) → AreCandidates A kept (x ∷ L) → AreCandidates A (with_one A kept x) L
+candidates_step A kept x L are = by_answer (is_justified A (is_listed A kept) x.node x.reason)
+  where
+    by_answer : (b : Bool) → AreCandidates A (if b then kept ++ x ∷ [] else kept) L
+    by_answer true = candidates_push A kept x L are
+    by_answer false = candidates_skip A kept x L are
+
+-- those after several that are all listed
+pub candidates_listed : (A : Arena ℕ) (kept L M : List (Entry ℕ)) → AreCandidates A kept (L ++ M) → AreCandidates A (kept ++ L) M
+candidates_listed A kept [] M are = subst (λ N. AreCandidates A N M) (sym (append-nil kept)) are
+candidates_listed A kept (x ∷ L) M are =
+    subst (λ N. AreCandidates A N M) (append_assoc kept (x ∷ []) L) (candidates_listed A (kept ++ x ∷ []) L M (candidates_push A kept x (L ++ M) are))
 
 -- Readings.
 
@@ -137,7 +138,7 @@ candidates_readings A kept L ok are =
 pub record IsReplaying (A : Arena ℕ) (start now : Board) (all left : List (Entry ℕ)) : Type 0 where
   pub candidates : AreCandidates A now.list left
   pub list : with_replay A now.list left ≡ with_replay A start.list all
-  pub rest : now ≡ record start { list = now.list; waiting = now.waiting }
+  pub rest : now ≡ record start { list = now.list; waiting = now.waiting; marks = now.marks }
 
 -- where what waits has changed alone
 pub replaying_still : (A : Arena ℕ) (start now next : Board) (all left : List (Entry ℕ)) → IsReplaying A start now all left → next ≡ record now { waiting = next.waiting } → IsReplaying A start next all left
@@ -146,7 +147,11 @@ replaying_still A start now next all left so_far rest =
     record {
       candidates = subst (λ N. AreCandidates A N left) same so_far.candidates;
       list = ap (λ N. with_replay A N left) (sym same) ∙ so_far.list;
-      rest = rest ∙ ap (λ (b : Board). record b { waiting = next.waiting }) so_far.rest ∙ ap (λ (L : List (Entry ℕ)). record start { list = L; waiting = next.waiting }) same;
+      rest =
+          rest
+          ∙ ap (λ (b : Board). record b { waiting = next.waiting }) so_far.rest
+          ∙ ap (λ (L : List (Entry ℕ)). record start { list = L; waiting = next.waiting; marks = now.marks }) same
+          ∙ ap (λ (ms : List Bool). record start { list = next.list; waiting = next.waiting; marks = ms }) (sym (ap (λ (b : Board). b.marks) rest));
     }
 
 -- the first of those that wait is taken
@@ -155,31 +160,25 @@ pub replaying_taken : (A : Arena ℕ) (start now next : Board) (all : List (Entr
 replaying_taken A start now next all x so_far first rest = replaying_still A start now next all (x ∷ next.waiting) (subst (IsReplaying A start now all) first so_far) rest
 
 -- one candidate less
-pub replaying_step : (A : Arena ℕ) (start now new : Board) (all left : List (Entry ℕ)) (x : Entry ℕ) → IsNumbered A → IsReplaying A start now all (x ∷ left) → new.list ≡ with_one A now.list x →
-    new ≡ record now { list = new.list } → IsReplaying A start new all left
-replaying_step A start now new all left x ok so_far list rest = record {
-  candidates = subst (λ N. AreCandidates A N left) (sym list) (candidates_step A now.list x left ok so_far.candidates);
+pub replaying_step : (A : Arena ℕ) (start now new : Board) (all left : List (Entry ℕ)) (x : Entry ℕ) → IsReplaying A start now all (x ∷ left) → new.list ≡ with_one A now.list x →
+    new ≡ record now { list = new.list; marks = new.marks } → IsReplaying A start new all left
+replaying_step A start now new all left x so_far list rest = record {
+  candidates = subst (λ N. AreCandidates A N left) (sym list) (candidates_step A now.list x left so_far.candidates);
   list = ap (λ N. with_replay A N left) list ∙ sym (with_replay_step A now.list x left) ∙ so_far.list;
-  rest = rest ∙ ap (λ (b : Board). record b { list = new.list }) so_far.rest ∙ ap (λ (L : List (Entry ℕ)). record start { list = new.list; waiting = L }) (sym (ap (λ (b : Board). b.waiting) rest));
-}
-
--- several candidates less
-pub replaying_part : (A : Arena ℕ) (start now new : Board) (all L M : List (Entry ℕ)) → IsNumbered A → IsReplaying A start now all (L ++ M) → new.list ≡ with_replay A now.list L →
-    new ≡ record now { list = new.list } → IsReplaying A start new all M
-replaying_part A start now new all L M ok so_far list rest = record {
-  candidates = subst (λ N. AreCandidates A N M) (sym list) (candidates_append A now.list L M ok so_far.candidates);
-  list = ap (λ N. with_replay A N M) list ∙ sym (with_replay_append A now.list L M) ∙ so_far.list;
-  rest = rest ∙ ap (λ (b : Board). record b { list = new.list }) so_far.rest ∙ ap (λ (W : List (Entry ℕ)). record start { list = new.list; waiting = W }) (sym (ap (λ (b : Board). b.waiting) rest));
+  rest =
+      rest
+      ∙ ap (λ (b : Board). record b { list = new.list; marks = new.marks }) so_far.rest
+      ∙ ap (λ (W : List (Entry ℕ)). record start { list = new.list; waiting = W; marks = new.marks }) (sym (ap (λ (b : Board). b.waiting) rest));
 }
 
 -- a turn takes the first of those that wait, and keeps it or not
-pub replaying_turn : (A : Arena ℕ) (start now next new : Board) (all : List (Entry ℕ)) (x : Entry ℕ) → IsNumbered A → IsReplaying A start now all now.waiting → now.waiting ≡ x ∷ next.waiting →
-    next ≡ record now { waiting = next.waiting } → new.list ≡ with_one A next.list x → new ≡ record next { list = new.list } → IsReplaying A start new all new.waiting
-replaying_turn A start now next new all x ok so_far first rest list kept =
+pub replaying_turn : (A : Arena ℕ) (start now next new : Board) (all : List (Entry ℕ)) (x : Entry ℕ) → IsReplaying A start now all now.waiting → now.waiting ≡ x ∷ next.waiting →
+    next ≡ record now { waiting = next.waiting } → new.list ≡ with_one A next.list x → new ≡ record next { list = new.list; marks = new.marks } → IsReplaying A start new all new.waiting
+replaying_turn A start now next new all x so_far first rest list kept =
     subst (IsReplaying A start new all) (sym (ap (λ (b : Board). b.waiting) kept))
-    (replaying_step A start next new all next.waiting x ok (replaying_taken A start now next all x so_far first rest) list kept)
+    (replaying_step A start next new all next.waiting x (replaying_taken A start now next all x so_far first rest) list kept)
 
-pub turn_cost : (A : Arena ℕ) (now next new : Board) (x : Entry ℕ) → now.waiting ≡ x ∷ next.waiting → new ≡ record next { list = new.list } →
+pub turn_cost : (A : Arena ℕ) (now next new : Board) (x : Entry ℕ) → now.waiting ≡ x ∷ next.waiting → new ≡ record next { list = new.list; marks = new.marks } →
     readings_of_entries A now.waiting ≡ readings_of_reason A x.node x.reason + readings_of_entries A new.waiting
 turn_cost A now next new x first kept =
     ap (readings_of_entries A) first ∙ sum_by-cons (λ (y : Entry ℕ). readings_of_reason A y.node y.reason) x next.waiting

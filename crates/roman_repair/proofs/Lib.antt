@@ -1,9 +1,15 @@
 pub mod Repairing
 pub mod Turning
 pub mod Keeping
+pub mod Doubting
+pub mod Lacking
+pub mod Resuming
 pub mod Waiting
+pub mod Thawed
 pub mod Growing
 pub mod Joined
+pub mod Newcomer
+pub mod Joinable
 pub mod DeathStates
 pub mod DeathMasks
 pub mod DeathBlocks

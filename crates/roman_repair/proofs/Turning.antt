@@ -32,7 +32,7 @@ ready_there (seat ∷ seats) zero ready = omega arith
 ready_there (seat ∷ seats) (suc k) ready = let rest : k < length seats = ready_there seats k ready in omega arith
 
 -- another seat stands in a mask where it stood
-mask-turned : (s : Sys) (k : ℕ) (frozen : Bool) (gone : ℕ → Bool) (p a j : ℕ) → j ≢ k → has (mask (numbered (turned s k frozen)) gone p a) j ≡ has (mask (numbered s) gone p a) j
+pub mask-turned : (s : Sys) (k : ℕ) (frozen : Bool) (gone : ℕ → Bool) (p a j : ℕ) → j ≢ k → has (mask (numbered (turned s k frozen)) gone p a) j ≡ has (mask (numbered s) gone p a) j
 mask-turned s k frozen gone p a j other = elim (cases_lt j (length s.seats)) [
   | inl l ↦
       mask_has (numbered (turned s k frozen)) gone p a j (subst (λ n. j < n) (sym (length-set_frozen s.seats k frozen)) l)

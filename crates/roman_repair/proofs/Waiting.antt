@@ -1,9 +1,9 @@
 -- Orders that are reopened for a changed system, and the candidates that wait in them.
-use Rattle.std.proofs.Common.{◌≡◌, ℕ, ◌+◌, ◌*◌, ◌/◌, ◌<◌, ◌≤◌, Bool, true, false, List, [], length, IsTrue, refl, sym, ap, ap₂, ◌∙◌, subst, arith}
+use Rattle.std.proofs.Common.{◌≡◌, ℕ, ◌*◌, ◌<◌, ◌≤◌, Bool, true, false, List, [], length, IsTrue, refl, sym, ap₂, ◌∙◌, subst, arith}
 use Rattle.roman_model.specs.Lists.{below}
 use Rattle.roman_model.specs.System.{Sys}
-use Rattle.roman_model.specs.Arena.{Arena, Entry, is_justified, IsOrder, replay, readings}
-use Rattle.roman_model.specs.Change.{Change, Thaw, after}
+use Rattle.roman_model.specs.Arena.{Arena, Entry, is_justified, IsOrder}
+use Rattle.roman_model.specs.Change.{Thaw, after}
 use Rattle.roman_model.specs.Numbers.{sizes_of, count, numbered}
 use Rattle.roman_model.specs.declared.reason.Reason.{Reason}
 use Rattle.roman_model.specs.declared.reason.Reason.TheVariants.{Final, Act}
@@ -13,19 +13,14 @@ use Rattle.roman_model.proofs.OrderLemmas.{order_new, new_once, order_justified}
 use Rattle.roman_model.proofs.ChangeLemmas.{turned}
 use Rattle.roman_model.proofs.NumberedArena.{AreNumbers}
 use Rattle.roman_model.proofs.NumberedLists.{numbered_is_same}
-use Rattle.roman_model.proofs.NumberedChanges.{number_allows-turned, NumbersReplay}
+use Rattle.roman_model.proofs.NumberedChanges.{number_allows-turned}
 use Rattle.roman_joint.specs.NamedSys.{NamedSys, system_of, IsNamedSys}
-use Rattle.roman_joint.proofs.ArenaFacts.{joint_numbered}
 use Rattle.roman_order.specs.Board.{Board, has_entry}
-use Rattle.roman_relation.specs.Masked.{IsShaped}
 use Rattle.roman_relation.specs.Greatest.{arena_of, HasCaps, IsRelation}
 use Rattle.roman_relation.proofs.Relating.{listed_numbers, room_for_pairs, room_for_cells}
-use Rattle.roman_repair.specs.declared.tally.Tally.{Tally}
-use Rattle.roman_repair.specs.Repairs.{IsBegun, fall_of, IsWithinTwoReadings}
-use Rattle.roman_repair.specs.Replays.{is_possible, AreCandidates, with_replay, readings_of_entries}
-use Rattle.roman_repair.proofs.Repairing.{numbers_replayed, numbers_order}
+use Rattle.roman_repair.specs.Replays.{is_possible, AreCandidates}
+use Rattle.roman_repair.proofs.Repairing.{numbers_order}
 use Rattle.roman_repair.proofs.Turning.{nodes-turned}
-use Rattle.roman_repair.proofs.Keeping.{candidates_readings}
 
 -- Candidates.
 
@@ -74,19 +69,6 @@ cells_to_reopen joint old pairs actions known caps is acts =
     let cells : pairs * actions ≡ length (below (count (sizes_of (system_of joint)))) * (system_of joint).env.actions = ap₂ (λ m n. m * n) (is ∙ sym (length-below (count (sizes_of (system_of joint))))) acts in
     omega (arith, cells, room_for_cells joint old known caps)
 
--- the replay of the renamed list is one of the new system
-pub replayed_begun : (change : Change) (s : Sys) (old : List (Entry ℕ)) (joint : NamedSys) (reopened kept : Board) → NumbersReplay change s old → system_of joint ≡ after change s →
-    IsShaped (arena_of joint) reopened → HasCaps joint reopened → kept.list ≡ numbers_replayed change s old → kept ≡ record reopened { list = kept.list; waiting = [] } → IsBegun joint kept
-replayed_begun change s old joint reopened kept replays system shaped caps list rest = record {
-  valid = subst (λ (t : Sys). IsOrder (numbered t) kept.list) (sym system) (subst (λ L. IsOrder (numbered (after change s)) L) (sym list) replays.order);
-  shaped = record { pairs = ap (λ (b : Board). b.pairs) rest ∙ shaped.pairs; actions = ap (λ (b : Board). b.actions) rest ∙ shaped.actions };
-  caps = record {
-    pairs = subst (λ n. joint.limit / (system_of joint).env.actions ≤ n) (sym (ap (λ (b : Board). b.cap_pairs) rest)) caps.pairs;
-    cells = subst (λ n. joint.limit ≤ n) (sym (ap (λ (b : Board). b.cap_cells) rest)) caps.cells;
-  };
-  idle = ap (λ (b : Board). b.waiting) rest;
-}
-
 -- where a service thaws the whole list waits
 pub thawed_candidates : (k : ℕ) (old_joint joint : NamedSys) (old : List (Entry ℕ)) (reopened : Board) → AreCandidates (arena_of old_joint) [] old → system_of joint ≡ after (Thaw k) (system_of old_joint) →
     reopened.list ≡ [] → reopened.waiting ≡ old → AreCandidates (arena_of joint) reopened.list reopened.waiting
@@ -94,16 +76,3 @@ thawed_candidates k old_joint joint old reopened are system list waiting =
     subst (λ (t : Sys). AreCandidates (numbered t) reopened.list reopened.waiting) (sym system)
     (subst (λ K. AreCandidates (numbered (after (Thaw k) (system_of old_joint))) K reopened.waiting) (sym list)
     (subst (λ L. AreCandidates (numbered (after (Thaw k) (system_of old_joint))) [] L) (sym waiting) (turned_candidates (system_of old_joint) k false old are)))
-
--- a thawed list is replayed as it stands
-pub thawed_replay : (s : Sys) (k : ℕ) (old : List (Entry ℕ)) (joint : NamedSys) (reopened : Board) → system_of joint ≡ after (Thaw k) s → reopened.list ≡ [] → reopened.waiting ≡ old →
-    with_replay (arena_of joint) reopened.list reopened.waiting ≡ numbers_replayed (Thaw k) s old
-thawed_replay s k old joint reopened system list waiting =
-    ap₂ (with_replay (arena_of joint)) list waiting ∙ ap (λ (t : Sys). replay (numbered t) old) system
-
--- the steps of the replay, of one reading of the masks and of the fall
-pub within_two_readings : (mid joint : NamedSys) (order : Board) (tally : Tally) (kept L : List (Entry ℕ)) (before replayed now : ℕ) → IsNamedSys mid → joint ≡ mid → AreCandidates (arena_of mid) kept L →
-    replayed ≤ before + readings_of_entries (arena_of mid) L → now ≡ replayed + (readings (arena_of joint) + fall_of joint order tally) → IsWithinTwoReadings joint order tally before now
-within_two_readings mid joint order tally kept L before replayed now known same are replay_cost rest_cost =
-    let readings_same : readings (arena_of joint) ≡ readings (arena_of mid) = ap (λ (n : NamedSys). readings (arena_of n)) same in
-    omega (arith, replay_cost, rest_cost, readings_same, candidates_readings (arena_of mid) kept L (joint_numbered mid known) are)

@@ -7,11 +7,12 @@ ghost use Rattle.roman_joint.specs.NamedSys.{seat_of, system_of, cells};
 ghost use Rattle.roman_relation.specs.Greatest.{IsRelation};
 ghost use Rattle.roman_repair.specs.Repairs.{IsRepaired, IsWithinTwoReadings};
 
+mod growing;
+
 use crate::error::JoinError;
-use crate::reopening::reopen;
-use crate::replaying::keep_grown;
-use crate::settling::read_and_settle_on;
+use crate::settling::replay_and_settle_on;
 use crate::tally::Tally;
+use growing::reopen_grown;
 use roman_io::Steps;
 use roman_joint::{Joint, Seat, SeatError};
 use roman_relation::Relation;
@@ -44,14 +45,15 @@ pub fn join<L: Ledger>(
     relation.order.len();
     let shape = *relation.joint.shape();
     let states = states_of(&relation.joint, &seat);
+    let place = relation.joint.seats();
     match relation.joint.push_seat(seat) {
         Ok(()) => {}
         Err(SeatError::Full) => return Err(JoinError::Full),
         Err(SeatError::Limit) => return Err(JoinError::Limit),
     }
-    reopen(relation);
-    keep_grown(&relation.joint, &mut relation.order, &shape, states, steps);
-    Ok(read_and_settle_on(relation, steps))
+    relation.joint.known();
+    reopen_grown(relation, &shape, states);
+    Ok(replay_and_settle_on(relation, place, steps))
 }
 
 /// How many states the service may be in.

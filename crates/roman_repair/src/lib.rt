@@ -6,10 +6,13 @@
 //! what a repaired relation is.
 #![tactic(auto)]
 
+mod copying;
+mod doubts;
 mod dying;
 mod error;
 mod freezing;
 mod joining;
+mod renewing;
 mod reopening;
 mod replaying;
 mod settling;

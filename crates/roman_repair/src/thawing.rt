@@ -8,8 +8,7 @@ ghost use Rattle.roman_relation.specs.Greatest.{IsRelation};
 ghost use Rattle.roman_repair.specs.Repairs.{IsRepaired, IsWithinTwoReadings};
 
 use crate::reopening::reopen;
-use crate::replaying::keep_waiting;
-use crate::settling::read_and_settle_on;
+use crate::settling::replay_and_settle_on;
 use crate::tally::Tally;
 use roman_io::Steps;
 use roman_relation::Relation;
@@ -29,6 +28,5 @@ pub fn thaw<L: Ledger>(relation: &mut Relation, k: u8, steps: &mut Steps<L>) -> 
     relation.order.len();
     relation.joint.set_frozen(k, false);
     reopen(relation);
-    keep_waiting(&relation.joint, &mut relation.order, steps);
-    read_and_settle_on(relation, steps)
+    replay_and_settle_on(relation, k, steps)
 }

@@ -9,28 +9,9 @@ ghost use Rattle.roman_order.specs.Board.{mask_at};
 ghost use Rattle.roman_relation.specs.Masked.{IsShaped};
 ghost use Rattle.roman_repair.specs.Deaths.{is_lacking, row_of, HasCommonMasks};
 
+use crate::copying::copy_masks;
 use roman_joint::{Joint, Rules};
 use roman_order::Order;
-
-/// Makes the masks of the pair `to` those of the pair `from`.
-fn copy_masks(order: &mut Order, actions: u8, to: u32, from: u32)
-    requires actions { actions ≡ order.old.actions }
-    requires to { to < order.old.pairs }
-    requires from { from < order.old.pairs }
-    ensures copied { (a : ℕ) → a < order.old.actions →
-        mask_at order.new to a ≡ mask_at order.old from a }
-    ensures others { (p a : ℕ) → p ≢ to → a < order.old.actions →
-        mask_at order.new p a ≡ mask_at order.old p a }
-    ensures rest { order.new ≡ record order.old { masks = order.new.masks } }
-{
-    if to == from {
-        return;
-    }
-    for a in 0..actions {
-        let mask = order.mask(from, a);
-        order.set_mask(to, a, mask);
-    }
-}
 
 /// Makes the masks of the pair `to` what those of other pairs have in common, one for each state,
 /// with the number `from` plus `stride` times the state.

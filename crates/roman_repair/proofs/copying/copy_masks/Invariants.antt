@@ -1,6 +1,6 @@
 use Rattle.std.proofs.Common.{◌≡◌, ◌≢◌, ℕ, ◌<◌}
 use Rattle.roman_order.specs.Board.{mask_at}
-use Rattle.roman_repair.proofs.dying.folding.copy_masks.Given as goal
+use Rattle.roman_repair.proofs.copying.copy_masks.Given as goal
 
 -- the masks of the actions so far are copied
 abbrev pub invariant-loop-a : goal.invariant-loop-a

@@ -1,7 +1,7 @@
 use Rattle.std.proofs.Common.{◌≡◌, ℕ, ◌+◌, ◌<◌, IsTrue, count_by}
 use Rattle.roman_model.specs.Lists.{below}
 use Rattle.roman_model.specs.Arena.{is_listed, is_beaten}
-use Rattle.roman_repair.proofs.replaying.is_lost.Given as goal
+use Rattle.roman_repair.proofs.replaying.is_lost_to_all.Given as goal
 
 -- the seats so far are beaten
 abbrev pub invariant-loop-k : goal.invariant-loop-k
