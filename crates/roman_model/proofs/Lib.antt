@@ -5,6 +5,7 @@ pub mod OrderLemmas
 pub mod DepthLemmas
 pub mod WorkLemmas
 pub mod CompositionLemmas
+pub mod CompletionLemmas
 pub mod OfferLemmas
 pub mod PlayLemmas
 pub mod DepthPlayLemmas

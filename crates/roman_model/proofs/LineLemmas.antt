@@ -1,7 +1,6 @@
 -- What the lines of a text are, where its first lines are known.
-use Rattle.std.proofs.Common.{◌≡◌, ◌≢◌, ℕ, ◌==◌, false, List, [], ◌∷◌, ◌++◌, IsFalse, refl, sym, ap, ◌∙◌, inl, inr, append_assoc, append-nil}
+use Rattle.std.proofs.Common.{◌≡◌, ◌≢◌, ℕ, ◌==◌, false, List, [], ◌∷◌, ◌++◌, refl, sym, ap, ◌∙◌, inl, inr, append_assoc, append-nil}
 use Rattle.std.proofs.lemmas.Bool.{or_parts, cond-false}
-use Rattle.roman_model.specs.Lists.{IsIn}
 use Rattle.roman_model.specs.Lines.{onto_first_line, lines, onto_ended_line, ended_lines, text_of, IsLine, AreLines}
 use Rattle.roman_model.specs.System.{has}
 

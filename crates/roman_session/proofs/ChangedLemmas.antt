@@ -33,7 +33,7 @@ use Rattle.roman_session.proofs.RulingLemmas.{cells_with, with_room_is, no_room_
 use Rattle.roman_session.proofs.SituationLemmas.{there_is}
 
 -- the seat of a present service
-seat_is : (s : Situation) (k : ℕ) → k < length s.parts.seats → slice_get (system_of s).seats k ≡ Some (seat_at s k)
+pub seat_is : (s : Situation) (k : ℕ) → k < length s.parts.seats → slice_get (system_of s).seats k ≡ Some (seat_at s k)
 seat_is s k l =
     let seats = (system_of s).seats in
     let (x, there) = there_is seats k (omega (arith, l, length-map s.parts.seats (joint.seat_of s.parts.catalogue))) in

@@ -9,3 +9,8 @@ pub mod StartLemmas
 pub mod BeginLemmas
 pub mod AnswerLemmas
 pub mod ChangedLemmas
+pub mod HearingLines
+pub mod HearingLemmas
+pub mod HearingGoing
+pub mod HearingSteps
+pub mod HearingEnds

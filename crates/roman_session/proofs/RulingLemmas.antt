@@ -22,7 +22,7 @@ use Rattle.roman_session.specs.declared.phase.Phase.{Phase}
 use Rattle.roman_session.specs.declared.phase.Phase.TheVariants.{Idle, Offered, Delegated}
 
 -- where two readings give something, the first one does
-bind_ok : {X Y E : Type 0} (r : Result X E) (f : X → Result Y E) (y : Y) → (r >>= f) ≡ Ok y → (x : X) × (r ≡ Ok x) × (f x ≡ Ok y)
+pub bind_ok : {X Y E : Type 0} (r : Result X E) (f : X → Result Y E) (y : Y) → (r >>= f) ≡ Ok y → (x : X) × (r ≡ Ok x) × (f x ≡ Ok y)
 bind_ok (Ok x) f y h = (x, refl, h)
 bind_ok (Err e) f y h = cc
 
@@ -32,7 +32,7 @@ check_ok true refusal x h = refl
 check_ok false refusal x h = cc
 
 -- after a test that holds comes what follows
-checked : {Y : Type 0} (test : Bool) (refusal : Reply) (f : Unit {0} → Result Y Reply) (y : Y) → (check test refusal >>= f) ≡ Ok y → IsTrue test × (f tt ≡ Ok y)
+pub checked : {Y : Type 0} (test : Bool) (refusal : Reply) (f : Unit {0} → Result Y Reply) (y : Y) → (check test refusal >>= f) ≡ Ok y → IsTrue test × (f tt ≡ Ok y)
 checked true refusal f y h = (refl, h)
 checked false refusal f y h = cc
 

@@ -9,3 +9,4 @@ pub mod Building
 pub mod Laws
 pub mod Layout
 pub mod Answering
+pub mod Hearing

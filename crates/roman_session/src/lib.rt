@@ -8,6 +8,7 @@
 mod answers;
 mod error;
 mod events;
+mod hearing;
 mod laws;
 mod naming;
 mod next;
@@ -19,6 +20,7 @@ mod tests;
 mod writing;
 
 pub use error::BuildError;
+pub use hearing::{HearError, hear};
 pub use laws::{
     outcomes_are_related, reports_are_afresh, requests_are_offered, services_not_offered_fail,
 };

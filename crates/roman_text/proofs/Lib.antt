@@ -1,5 +1,5 @@
 pub mod LineLemmas
 mod WordLemmas
-mod ShapeLemmas
+pub mod ShapeLemmas
 pub mod PageLemmas
 pub mod Filling

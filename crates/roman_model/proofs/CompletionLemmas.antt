@@ -1,0 +1,91 @@
+-- Every removal list goes on to a complete one.
+use Rattle.std.proofs.Common.{ℕ, zero, suc, ◌+◌, ◌≤◌, Bool, not, ◌&&◌, List, [], ◌∷◌, ◌++◌, length, map, flat_map, IsTrue, IsFalse, inl, inr, refl, sym, subst, arith, append_assoc, append-nil, length-append}
+use Rattle.std.specs.List.{list_any}
+use Rattle.std.proofs.lemmas.Bool.{both_ways, and_parts, and_from, not-true, not_from_false}
+use Rattle.roman_model.specs.Lists.{IsIn, below, all_below}
+use Rattle.roman_model.specs.System.{Sys, Pair, IsSys, IsPair, pairs, is_allowed}
+use Rattle.roman_model.specs.Arena.{Entry, is_listed, is_justified, is_beaten, IsOrder}
+use Rattle.roman_model.specs.Composition.{arena, AreEntries, IsComplete}
+use Rattle.roman_model.specs.declared.reason.Reason.{Reason}
+use Rattle.roman_model.specs.declared.reason.Reason.TheVariants.{Final, Act}
+use Rattle.roman_model.proofs.Lists.{by_test, any_true, any_false, in_map, from_map, in_flat_map, from_flat_map, in_below, from_push}
+use Rattle.roman_model.proofs.SystemLemmas.{in_pairs, from_pairs, allowed_in_range}
+use Rattle.roman_model.proofs.OrderLemmas.{order_push, order_fits}
+use Rattle.roman_model.proofs.CompositionLemmas.{system_is_same, completed_by}
+
+-- the reasons that a pair may have, and a pair with each
+abbrev reasons : Sys → List Reason
+reasons s = Final ∷ map Act (below s.env.actions)
+
+abbrev with_reasons : Sys → Pair → List (Entry Pair)
+with_reasons s p = map (λ r. record { node = p; reason = r }) (reasons s)
+
+-- all entries that there may be
+abbrev possible : Sys → List (Entry Pair)
+possible s = flat_map (with_reasons s) (pairs s)
+
+-- the entry can stand at the end of the list
+abbrev can_follow : Sys → List (Entry Pair) → Entry Pair → Bool
+can_follow s L x = not (is_listed (arena s) L x.node) && is_justified (arena s) (is_listed (arena s) L) x.node x.reason
+
+in_possible : (s : Sys) (p : Pair) (r : Reason) → IsPair s p → IsIn r (reasons s) → IsIn (record { node = p; reason = r }) (possible s)
+in_possible s p r pair i = in_flat_map (with_reasons s) p (record { node = p; reason = r }) (pairs s) (in_pairs s p pair) (in_map (λ r. record { node = p; reason = r }) r (reasons s) i)
+
+possible_pair : (s : Sys) (x : Entry Pair) → IsIn x (possible s) → IsPair s x.node
+possible_pair s x i =
+    let (p, j, k) = from_flat_map (with_reasons s) x (pairs s) i in
+    let (r, l, e) = from_map (λ (r : Reason). record { node = p; reason = r }) x (reasons s) k in
+    subst (λ (x : Entry Pair). IsPair s x.node) (sym e) (from_pairs s p j)
+
+-- a reason that holds is among them
+reason_in : (s : Sys) (L : List (Entry Pair)) (p : Pair) (r : Reason) → IsSys s → IsTrue (is_justified (arena s) (is_listed (arena s) L) p r) → IsIn r (reasons s)
+reason_in s L p Final ok t = inl refl
+reason_in s L p (Act a) ok t =
+    let (allowed, beaten) = and_parts (is_allowed s p a) (all_below (is_beaten (arena s) (is_listed (arena s) L) p a) (length s.seats)) t in
+    inr (in_map Act a (below s.env.actions) (in_below s.env.actions a (allowed_in_range s p a ok allowed)))
+
+-- a list that no entry can follow is complete
+last_complete : (s : Sys) (L : List (Entry Pair)) → IsSys s → AreEntries s L → IsOrder (arena s) L → IsFalse (list_any (can_follow s L) (possible s)) → IsComplete s L
+last_complete s L ok entries order none = completed_by s L ok entries order no_reason
+  where
+    no_reason : (p : Pair) → IsPair s p → IsFalse (is_listed (arena s) L p) → (r : Reason) → IsFalse (is_justified (arena s) (is_listed (arena s) L) p r)
+    no_reason p pair unlisted r = by_test (is_justified (arena s) (is_listed (arena s) L) p r)
+        (λ t. absurd (both_ways (can_follow s L (record { node = p; reason = r }))
+        (any_false (can_follow s L) (record { node = p; reason = r }) (possible s) none (in_possible s p r pair (reason_in s L p r ok t)))
+        (and_from (not (is_listed (arena s) L p)) (is_justified (arena s) (is_listed (arena s) L) p r) (not_from_false (is_listed (arena s) L p) unlisted) t)))
+        (λ f. f)
+
+-- a longer list, by an entry that can follow
+record Longer (s : Sys) (L : List (Entry Pair)) : Type 0 where
+  entry : Entry Pair
+  pairs : AreEntries s (L ++ entry ∷ [])
+  order : IsOrder (arena s) (L ++ entry ∷ [])
+
+one_more : (s : Sys) (L : List (Entry Pair)) → AreEntries s L → IsOrder (arena s) L → IsTrue (list_any (can_follow s L) (possible s)) → Longer s L
+one_more s L entries order some =
+    let (x, i, t) = any_true (can_follow s L) (possible s) some in
+    let (unlisted, justified) = and_parts (not (is_listed (arena s) L x.node)) (is_justified (arena s) (is_listed (arena s) L) x.node x.reason) t in
+    record {
+      entry = x;
+      pairs = λ y j. elim (from_push y x L j) [ inl k ↦ entries y k | inr e ↦ subst (λ (y : Entry Pair). IsPair s y.node) (sym e) (possible_pair s x i) ];
+      order = order_push (arena s) L x order (not-true (is_listed (arena s) L x.node) unlisted) justified;
+    }
+
+-- so entries are added until none can be
+complete_within : (s : Sys) (n : ℕ) (L : List (Entry Pair)) → IsSys s → AreEntries s L → IsOrder (arena s) L → length (pairs s) ≤ length L + n → (M : List (Entry Pair)) × IsComplete s (L ++ M)
+complete_within s zero L ok entries order enough = by_test (list_any (can_follow s L) (possible s))
+    (λ some.
+    let more = one_more s L entries order some in
+    let fits = order_fits (arena s) (system_is_same s) (L ++ more.entry ∷ []) more.order (λ y i. in_pairs s y.node (more.pairs y i)) in
+    absurd (omega (arith, fits, length-append L (more.entry ∷ []))))
+    (λ none. ([], subst (IsComplete s) (sym (append-nil L)) (last_complete s L ok entries order none)))
+complete_within s (suc n) L ok entries order enough = by_test (list_any (can_follow s L) (possible s))
+    (λ some.
+    let more = one_more s L entries order some in
+    let (M, complete) = complete_within s n (L ++ more.entry ∷ []) ok more.pairs more.order (omega (arith, length-append L (more.entry ∷ []))) in
+    (more.entry ∷ M, subst (IsComplete s) (append_assoc L (more.entry ∷ []) M) complete))
+    (λ none. ([], subst (IsComplete s) (sym (append-nil L)) (last_complete s L ok entries order none)))
+
+-- every removal list goes on to a complete one
+pub order_goes_on : (s : Sys) (L : List (Entry Pair)) → IsSys s → AreEntries s L → IsOrder (arena s) L → (M : List (Entry Pair)) × IsComplete s (L ++ M)
+order_goes_on s L ok entries order = complete_within s (length (pairs s)) L ok entries order (omega arith)

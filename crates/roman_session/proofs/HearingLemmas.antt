@@ -1,0 +1,198 @@
+-- Bytes that are heard one after the other.
+use Rattle.std.proofs.Common.{◌≡◌, ℕ, ◌+◌, ◌<◌, ◌≤◌, true, false, List, [], ◌∷◌, ◌++◌, length, take, drop, get_or, min, nat_lt, Option, Result, Ok, Err, IsTrue, IsFalse, refl, sym, ap, ◌∙◌, subst, arith, append_assoc, append-nil, eqb-true}
+use Rattle.std.proofs.lemmas.Bool.{cond-true, cond-false}
+use Rattle.std.proofs.lemmas.List.{take_all, take_min, take_more, take-append-drop}
+use Rattle.roman_io.specs.Sink.{Wrote, WroteFront}
+use Rattle.roman_io.specs.declared.failed.Failed.{Failed}
+use Rattle.roman_io.proofs.SinkLemmas.{Wrote-nil, Wrote-then, WroteFront-after}
+use Rattle.roman_model.specs.Lines.{lines, ended_lines}
+use Rattle.roman_model.proofs.Lists.{by_test}
+use Rattle.roman_text.specs.Lines.{is_newline, unfinished, kept}
+use Rattle.roman_text.specs.Shapes.{shape_of}
+use Rattle.roman_text.proofs.LineLemmas.{ended_lines-newline, ended_lines-other, unfinished-newline, unfinished-nil, unfinished-other, kept-nil, kept-push, lines_rest, lines_none}
+use Rattle.roman_session.specs.Situations.{Situation, IsSituation}
+use Rattle.roman_session.specs.Steps.{Step}
+use Rattle.roman_session.specs.Answering.{Answered, next_of}
+use Rattle.roman_session.specs.Hearing.{ends_session, has_quit, Tells, IsHearing, StopsAtQuit, Fails, FailsIn, HearsBytes}
+use Rattle.roman_session.specs.declared.next.Next.{Next}
+use Rattle.roman_session.specs.declared.next.Next.TheVariants.{More, Quit}
+use Rattle.roman_session.proofs.HearingLines.{quit_last, quitless_last, told_push}
+
+-- ---- one line
+
+-- a line is answered by its shape
+step_alike : (old new : Situation) (line held text : List ℕ) → shape_of held ≡ shape_of line → Step old held text new → Step old line text new
+unfolding Step
+step_alike old new line held text same step = rw (sym same) step
+
+-- so it is answered by as much of it as tells its shape
+pub answered_alike : {T E : Type 0} (old new : Situation) (line held : List ℕ) (before now : Option (List ℕ)) (result : Result T E) → shape_of held ≡ shape_of line →
+    Answered old held new before now result → Answered old line new before now result
+answered_alike old new line held before now result same answered = record {
+  text = answered.text;
+  step = step_alike old new line held answered.text same answered.step;
+  puts = answered.puts;
+}
+
+-- whether the session goes on
+next_more : (line : List ℕ) → More ≡ next_of line → IsFalse (ends_session line)
+next_more line e = by_test (ends_session line)
+    (λ quit. let other : More ≡ Quit = e ∙ cond-true (ends_session line) Quit More quit in let h : ⊥ = cc in absurd h)
+    (λ other. other)
+
+next_quit : (line : List ℕ) → Quit ≡ next_of line → IsTrue (ends_session line)
+next_quit line e = by_test (ends_session line)
+    (λ quit. quit)
+    (λ other. let more : Quit ≡ More = e ∙ cond-false (ends_session line) Quit More other in let h : ⊥ = cc in absurd h)
+
+-- ---- what is told of one line more
+
+tells_more : (old mid new : Situation) (ls : List (List ℕ)) (line more : List ℕ) (before wrote now : Option (List ℕ)) → IsFalse (has_quit ls) →
+    Tells old ls mid before wrote → Step mid line more new → Wrote wrote now more → Tells old (ls ++ line ∷ []) new before now
+tells_more old mid new ls line more before wrote now quitless tells step wrote_more = record {
+  text = tells.text ++ more;
+  told = told_push old mid new ls line tells.text more quitless tells.told step;
+  wrote = Wrote-then before wrote now tells.text more tells.wrote wrote_more;
+}
+
+fails_more : (old mid new : Situation) (ls : List (List ℕ)) (line more : List ℕ) (before wrote now : Option (List ℕ)) → IsFalse (has_quit ls) →
+    Tells old ls mid before wrote → Step mid line more new → WroteFront wrote now more → IsSituation new → Fails old before (ls ++ line ∷ []) new now
+fails_more old mid new ls line more before wrote now quitless tells step wrote_more known = record {
+  tells = record {
+    text = tells.text ++ more;
+    told = told_push old mid new ls line tells.text more quitless tells.told step;
+    wrote = WroteFront-after before wrote now tells.text more tells.wrote wrote_more;
+  };
+  known = known;
+}
+
+-- ---- one byte
+
+-- before the first byte
+pub hearing_starts : (s : Situation) (told : Option (List ℕ)) (held : List ℕ) → held ≡ [] → IsHearing s told [] s told held
+hearing_starts s told held empty = record {
+  quitless = refl;
+  tells = record { text = []; told = (refl, refl); wrote = Wrote-nil told };
+  rest = empty ∙ sym (ap kept unfinished-nil ∙ kept-nil);
+}
+
+module _ (old : Situation) (before : Option (List ℕ)) (taken : List ℕ) (mid : Situation) (wrote : Option (List ℕ)) (held : List ℕ) (byte : ℕ) (is : IsHearing old before taken mid wrote held) where
+  -- a byte within a line
+  pub hears_other : (after : List ℕ) → is_newline byte ≡ false → after ≡ kept (held ++ byte ∷ []) → IsHearing old before (taken ++ byte ∷ []) mid wrote after
+  hears_other after other e = record {
+    quitless = rw (ended_lines-other taken byte other) is.quitless;
+    tells = rw (ended_lines-other taken byte other) is.tells;
+    rest = e ∙ ap (λ (held : List ℕ). kept (held ++ byte ∷ [])) is.rest ∙ kept-push (unfinished taken) byte ∙ sym (ap kept (unfinished-other taken byte other));
+  }
+
+  -- a newline
+  pub hears_line : (new : Situation) (now : Option (List ℕ)) (after : List ℕ) (next : Next) → is_newline byte ≡ true → after ≡ [] → Answered {E = Failed} mid (unfinished taken) new wrote now (Ok next) →
+      next ≡ next_of (unfinished taken) → HearsBytes old before taken (byte ∷ []) new now after (Ok next)
+  hears_line new now after More newline empty answered next = record {
+    quitless = rw (ended_lines-newline taken byte newline) (quitless_last (ended_lines taken) (unfinished taken) is.quitless (next_more (unfinished taken) next));
+    tells = rw (ended_lines-newline taken byte newline) (tells_more old mid new (ended_lines taken) (unfinished taken) answered.text before wrote now is.quitless is.tells answered.step answered.puts);
+    rest = empty ∙ sym (ap kept (unfinished-newline taken byte newline) ∙ kept-nil);
+  }
+  hears_line new now after Quit newline empty answered next =
+      let is_ten : byte ≡ 10 = eqb-true byte 10 newline in
+      let whole : ended_lines (taken ++ [] ++ 10 ∷ []) ≡ ended_lines taken ++ unfinished taken ∷ [] = ap (λ (bytes : List ℕ). ended_lines (bytes ++ 10 ∷ [])) (append-nil taken) ∙ ended_lines-newline taken 10 refl in
+      record {
+        heard = [];
+        past = [];
+        split = ap (λ (b : ℕ). b ∷ []) is_ten;
+        first = rw (append-nil taken) is.quitless;
+        quit = rw whole (quit_last (ended_lines taken) (unfinished taken) (next_quit (unfinished taken) next));
+        tells = rw whole (tells_more old mid new (ended_lines taken) (unfinished taken) answered.text before wrote now is.quitless is.tells answered.step answered.puts);
+      }
+
+  -- a newline, where the answer to its line isn't written whole
+  pub hears_failed : (new : Situation) (now : Option (List ℕ)) (failed : Failed) → is_newline byte ≡ true → Answered {T = Next} mid (unfinished taken) new wrote now (Err failed) → IsSituation new →
+      FailsIn old before (taken ++ byte ∷ []) new now
+  hears_failed new now failed newline answered known = record {
+    heard = taken ++ byte ∷ [];
+    past = [];
+    split = sym (append-nil (taken ++ byte ∷ []));
+    fails = rw (ended_lines-newline taken byte newline) (fails_more old mid new (ended_lines taken) (unfinished taken) answered.text before wrote now is.quitless is.tells answered.step answered.puts known);
+  }
+
+-- ---- bytes after bytes
+
+-- a line `quit` in a part of a piece
+pub stops_within : (old : Situation) (before : Option (List ℕ)) (taken front part back piece : List ℕ) (new : Situation) (now : Option (List ℕ)) → piece ≡ front ++ (part ++ back) →
+    StopsAtQuit old before (taken ++ front) part new now → StopsAtQuit old before taken piece new now
+stops_within old before taken front part back piece new now split stops = record {
+  heard = front ++ stops.heard;
+  past = stops.past ++ back;
+  split = split ∙ ap (λ (bytes : List ℕ). front ++ (bytes ++ back)) stops.split ∙ ap (λ (bytes : List ℕ). front ++ bytes) (append_assoc stops.heard (10 ∷ stops.past) back)
+      ∙ sym (append_assoc front stops.heard (10 ∷ (stops.past ++ back)));
+  first = subst (λ (bytes : List ℕ). IsFalse (has_quit (ended_lines bytes))) (append_assoc taken front stops.heard) stops.first;
+  quit = subst (λ (bytes : List ℕ). IsTrue (has_quit (ended_lines (bytes ++ 10 ∷ [])))) (append_assoc taken front stops.heard) stops.quit;
+  tells = subst (λ (bytes : List ℕ). Tells old (ended_lines (bytes ++ 10 ∷ [])) new before now) (append_assoc taken front stops.heard) stops.tells;
+}
+
+-- a fault in a part of them
+pub fails_within : (old : Situation) (before : Option (List ℕ)) (front back bytes : List ℕ) (new : Situation) (now : Option (List ℕ)) → bytes ≡ front ++ back →
+    FailsIn old before front new now → FailsIn old before bytes new now
+fails_within old before front back bytes new now split fails = record {
+  heard = fails.heard;
+  past = fails.past ++ back;
+  split = split ∙ ap (λ (bytes : List ℕ). bytes ++ back) fails.split ∙ append_assoc fails.heard fails.past back;
+  fails = fails.fails;
+}
+
+-- a list is what stands before a place, what stands there, and what follows
+at_place : (bytes : List ℕ) (i : ℕ) → i < length bytes → bytes ≡ take i bytes ++ (get_or bytes i 0 ∷ [] ++ drop (i + 1) bytes)
+at_place bytes i l =
+    sym (take-append-drop (i + 1) bytes) ∙ ap (λ (front : List ℕ). front ++ drop (i + 1) bytes) (take_more bytes i 0 l)
+    ∙ append_assoc (take i bytes) (get_or bytes i 0 ∷ []) (drop (i + 1) bytes)
+
+module _ (old : Situation) (before : Option (List ℕ)) (taken bytes : List ℕ) (i : ℕ) (new : Situation) (now : Option (List ℕ)) (l : i < length bytes) where
+  -- the byte at place i was heard after those before it
+  pub hears_at : (held : List ℕ) → IsHearing old before (taken ++ take i bytes ++ get_or bytes i 0 ∷ []) new now held → IsHearing old before (taken ++ take (i + 1) bytes) new now held
+  hears_at held hearing =
+      subst (λ (xs : List ℕ). IsHearing old before xs new now held)
+      (append_assoc taken (take i bytes) (get_or bytes i 0 ∷ []) ∙ ap (λ (xs : List ℕ). taken ++ xs) (sym (take_more bytes i 0 l))) hearing
+
+  -- the byte at place i ends a line `quit`
+  pub stops_at : StopsAtQuit old before (taken ++ take i bytes) (get_or bytes i 0 ∷ []) new now → StopsAtQuit old before taken bytes new now
+  stops_at stops = stops_within old before taken (take i bytes) (get_or bytes i 0 ∷ []) (drop (i + 1) bytes) bytes new now (at_place bytes i l) stops
+
+  -- it ends a line whose answer isn't written whole
+  pub fails_at : FailsIn old before (taken ++ take i bytes ++ get_or bytes i 0 ∷ []) new now → FailsIn old before (taken ++ bytes) new now
+  fails_at fails = fails_within old before (taken ++ take i bytes ++ get_or bytes i 0 ∷ []) (drop (i + 1) bytes) (taken ++ bytes) new now
+      (ap (λ (xs : List ℕ). taken ++ xs) (at_place bytes i l) ∙ sym (append_assoc taken (take i bytes) (get_or bytes i 0 ∷ [] ++ drop (i + 1) bytes))
+      ∙ sym (append_assoc (taken ++ take i bytes) (get_or bytes i 0 ∷ []) (drop (i + 1) bytes)))
+      fails
+
+-- ---- the last line
+
+module _ (old : Situation) (before : Option (List ℕ)) (taken : List ℕ) (mid : Situation) (wrote : Option (List ℕ)) (held : List ℕ) (is : IsHearing old before taken mid wrote held) where
+  -- no bytes of a last line are left
+  pub hears_no_rest : nat_lt 0 (length held) ≡ false → Tells old (lines taken) mid before wrote
+  hears_no_rest none = rw (lines_none taken (subst (λ (held : List ℕ). nat_lt 0 (length held) ≡ false) is.rest none)) is.tells
+
+  -- they are its line
+  rest_line : nat_lt 0 (length held) ≡ true → ended_lines taken ++ unfinished taken ∷ [] ≡ lines taken
+  rest_line some = sym (lines_rest taken (subst (λ (held : List ℕ). nat_lt 0 (length held) ≡ true) is.rest some))
+
+  pub hears_rest : (new : Situation) (now : Option (List ℕ)) (next : Next) → nat_lt 0 (length held) ≡ true → Answered {E = Failed} mid (unfinished taken) new wrote now (Ok next) →
+      Tells old (lines taken) new before now
+  hears_rest new now next some answered =
+      subst (λ (ls : List (List ℕ)). Tells old ls new before now) (rest_line some)
+      (tells_more old mid new (ended_lines taken) (unfinished taken) answered.text before wrote now is.quitless is.tells answered.step answered.puts)
+
+  pub fails_rest : (new : Situation) (now : Option (List ℕ)) (failed : Failed) → nat_lt 0 (length held) ≡ true → Answered {T = Next} mid (unfinished taken) new wrote now (Err failed) → IsSituation new →
+      Fails old before (lines taken) new now
+  fails_rest new now failed some answered known =
+      subst (λ (ls : List (List ℕ)). Fails old before ls new now) (rest_line some)
+      (fails_more old mid new (ended_lines taken) (unfinished taken) answered.text before wrote now is.quitless is.tells answered.step answered.puts known)
+
+-- ---- a piece, as far as there is room
+
+-- as much as is due is as much as there is room for
+pub due_part : (room due : ℕ) (piece : List ℕ) → due ≡ min (length piece) room → take due piece ≡ take room piece
+due_part room due piece e = ap (λ (n : ℕ). take n piece) (let same : due ≡ min room (length piece) = omega arith in same) ∙ take_min room piece
+
+-- all of it is due
+pub due_whole : (room due : ℕ) (piece : List ℕ) → due ≡ min (length piece) room → length piece ≤ due → (take due piece ≡ piece) × (length piece ≤ room)
+due_whole room due piece e all = (take_all due piece all, omega arith)

@@ -1,0 +1,182 @@
+//! Sessions whose lines come from a stream.
+ghost use Rattle.std.specs.Prelude.{◌≡◌, ℕ, ◌+◌, ◌-◌, ◌⊎◌, ◌∷◌, List, [], Option, IfOk, IsErrOf, OnOk};
+ghost use Rattle.roman_io.specs.Faults.{HasCause};
+ghost use Rattle.roman_text.specs.Lines.{kept};
+ghost use Rattle.roman_session.specs.Situations.{Situation, IsSituation};
+ghost use Rattle.roman_session.specs.Answering.{Answered, next_of};
+ghost use Rattle.roman_session.specs.Hearing.{AreBehaviours, IsAtEnd, GaveAtMost, GaveQuit, IsHeardOut, IsCutOff, GoesOn, StopsShort, TellsFrontOfAll, CausedBy, IsHearing, HearsBytes, HearsPiece, HearsRest};
+
+use crate::next::Next;
+use crate::session::Session;
+use roman_io::{Failed, Sink, Source, Steps};
+use roman_model::MAX_SESSION_BYTES;
+use roman_text::Splitter;
+use roman_text::laws::keep_shapes;
+use std::sync::ledger::Ledger;
+use thiserror::Error;
+
+/// How many bytes each take asks for.
+const PIECE: usize = 4096;
+
+/// Why a session isn't heard to its end.
+#[derive(Clone, Copy, Debug, PartialEq, Eq, Error)]
+pub enum HearError {
+    /// The source failed.
+    #[error("the source of the session failed")]
+    ReadFault,
+    /// The sink failed.
+    #[error("the sink of the session failed")]
+    WriteFault,
+    /// The session has more than [`MAX_SESSION_BYTES`], and no line `quit` that ends within them.
+    #[error("the session is too long")]
+    TooLong,
+}
+
+/// Hears a session line by line, to its end or to its first line `quit`. A line is answered before
+/// the next bytes are taken. The last line may lack its newline.
+///
+/// The bytes may come in any pieces, and without an end: no more than the greatest number is heard,
+/// and where the session goes on past it, the lines that end by then are answered. No memory is
+/// taken. Where the source tells nothing of its bytes, the clauses speak of some bytes that it may
+/// have had.
+pub fn hear<S: Source, O: Sink, L: Ledger>(
+    session: &mut Session,
+    source: &mut S,
+    out: &mut O,
+    steps: &mut Steps<L>,
+) -> Result<(), HearError>
+    // What is told of the whole session was written, and of a session that is too long what is
+    // told of the lines that end within the limit.
+    ensures ok { OnOk result (IsHeardOut session.old session.new (S.rest source.old) (O.written out.old) (O.written out.new)) }
+    ensures too_long { IsErrOf result HearError.TooLong → IsCutOff session.old session.new (S.rest source.old) (O.written out.old) (O.written out.new) }
+
+    // A fault has its cause, and each line of what was taken has its answer till then.
+    ensures read_fault { IsErrOf result HearError.ReadFault → GoesOn session.old session.new (S.rest source.old) (S.rest source.new) (O.written out.old) (O.written out.new) }
+    ensures write_fault { IsErrOf result HearError.WriteFault → StopsShort session.old session.new (S.rest source.old) (S.rest source.new) (O.written out.old) (O.written out.new) }
+    ensures front { IsErrOf result HearError.WriteFault → AreBehaviours session.old.parts → TellsFrontOfAll session.old (S.rest source.old) (O.written out.old) (O.written out.new) }
+    ensures reads { CausedBy HearError.ReadFault (S.faults source.old) (S.faults source.new) result }
+    ensures writes { CausedBy HearError.WriteFault (O.faults out.old) (O.faults out.new) result }
+
+    ensures taken { GaveAtMost (MAX_SESSION_BYTES + PIECE) (S.rest source.old) (S.rest source.new) }
+    ensures past { OnOk result (IsAtEnd (S.rest source.new) ⊎ GaveQuit (PIECE - 1) (S.rest source.old) (S.rest source.new)) }
+    ensures borrowed { S.borrowed source.new ≡ S.borrowed source.old }
+    ensures texts { S.texts source.new ≡ S.texts source.old }
+{
+    let mut splitter = Splitter::new();
+    let mut piece = [0u8; PIECE];
+    let mut room = MAX_SESSION_BYTES as usize;
+    'takes: loop {
+        let Ok(count) = source.take(&mut piece) else {
+            return Err(HearError::ReadFault);
+        };
+        if count == 0 {
+            return hear_rest(session, &splitter, out, steps);
+        }
+        match hear_piece(session, &mut splitter, room, &piece[..count], out, steps) {
+            Ok(Next::More) => room -= count,
+            Ok(Next::Quit) => return Ok(()),
+            Err(error) => return Err(error),
+        }
+    }
+}
+
+// Hears a piece, as far as there is room for its bytes.
+fn hear_piece<O: Sink, L: Ledger>(
+    session: &mut Session,
+    splitter: &mut Splitter,
+    room: usize,
+    piece: &[u8],
+    out: &mut O,
+    steps: &mut Steps<L>,
+) -> Result<Next, HearError>
+    ensures hears { (old : Situation) (before : Option (List ℕ)) (taken : List ℕ) → IsHearing old before taken session.old (O.written out.old) splitter.old →
+        HearsPiece room old before taken piece.now session.new (O.written out.new) splitter.new result }
+    ensures cause { CausedBy HearError.WriteFault (O.faults out.old) (O.faults out.new) result }
+{
+    let due = piece.len().min(room);
+    let Ok(next) = hear_bytes(session, splitter, &piece[..due], out, steps) else {
+        return Err(HearError::WriteFault);
+    };
+    match next {
+        Next::More if due < piece.len() => Err(HearError::TooLong),
+        _ => Ok(next),
+    }
+}
+
+// Hears bytes, up to the newline of a line `quit`.
+fn hear_bytes<O: Sink, L: Ledger>(
+    session: &mut Session,
+    splitter: &mut Splitter,
+    bytes: &[u8],
+    out: &mut O,
+    steps: &mut Steps<L>,
+) -> Result<Next, Failed>
+    ensures hears { (old : Situation) (before : Option (List ℕ)) (taken : List ℕ) → IsHearing old before taken session.old (O.written out.old) splitter.old →
+        HearsBytes old before taken bytes.now session.new (O.written out.new) splitter.new result }
+    ensures cause { HasCause (O.faults out.old) (O.faults out.new) result }
+{
+    for byte in bytes {
+        if let Next::Quit = hear_byte(session, splitter, *byte, out, steps)? {
+            return Ok(Next::Quit);
+        }
+    }
+    Ok(Next::More)
+}
+
+// Hears a byte, and answers the line that it ends.
+fn hear_byte<O: Sink, L: Ledger>(
+    session: &mut Session,
+    splitter: &mut Splitter,
+    byte: u8,
+    out: &mut O,
+    steps: &mut Steps<L>,
+) -> Result<Next, Failed>
+    ensures hears { (old : Situation) (before : Option (List ℕ)) (taken : List ℕ) → IsHearing old before taken session.old (O.written out.old) splitter.old →
+        HearsBytes old before taken (byte ∷ []) session.new (O.written out.new) splitter.new result }
+    ensures cause { HasCause (O.faults out.old) (O.faults out.new) result }
+{
+    if !splitter.push(byte) {
+        return Ok(Next::More);
+    }
+    let next = hear_line(session, splitter, out, steps)?;
+    splitter.clear();
+    Ok(next)
+}
+
+// Hears the last line, where bytes of it are left.
+fn hear_rest<O: Sink, L: Ledger>(
+    session: &mut Session,
+    splitter: &Splitter,
+    out: &mut O,
+    steps: &mut Steps<L>,
+) -> Result<(), HearError>
+    ensures hears { (old : Situation) (before : Option (List ℕ)) (taken : List ℕ) → IsHearing old before taken session.old (O.written out.old) splitter.now →
+        HearsRest old before taken session.new (O.written out.new) result }
+    ensures cause { CausedBy HearError.WriteFault (O.faults out.old) (O.faults out.new) result }
+{
+    if !splitter.rest() {
+        return Ok(());
+    }
+    match hear_line(session, splitter, out, steps) {
+        Ok(_) => Ok(()),
+        Err(_) => Err(HearError::WriteFault),
+    }
+}
+
+// Answers the line that is held. Of a long line as much is held as tells its shape.
+fn hear_line<O: Sink, L: Ledger>(
+    session: &mut Session,
+    splitter: &Splitter,
+    out: &mut O,
+    steps: &mut Steps<L>,
+) -> Result<Next, Failed>
+    ensures step { (line : List ℕ) → splitter.now ≡ kept line → Answered session.old line session.new (O.written out.old) (O.written out.new) result }
+    ensures next { (line : List ℕ) → splitter.now ≡ kept line → IfOk result (λ next. next ≡ next_of line) }
+    ensures known { IsSituation session.new }
+    ensures cause { HasCause (O.faults out.old) (O.faults out.new) result }
+{
+    keep_shapes();
+    let answered = session.answer(splitter.line(), out, steps);
+    session.known();
+    answered
+}
