@@ -3,8 +3,7 @@ use Rattle.std.proofs.Common.{◌≡◌, ℕ, List, Option, None, Some, IfSome, 
 use Rattle.roman_io.specs.Faults.{HasCause}
 use Rattle.roman_io.specs.Shelf.{Texts}
 use Rattle.roman_io.specs.Sink.{Puts}
-use Rattle.roman_model.specs.Arena.{Entry}
-use Rattle.roman_model.specs.Numbers.{sizes_of, count, IsCompleteList}
+use Rattle.roman_model.specs.Numbers.{sizes_of, count}
 use Rattle.roman_model.specs.Certificate.{cert_text}
 use Rattle.roman_library.specs.Documents.{library_of}
 use Rattle.roman_joint.specs.NamedSys.{NamedSys, system_of}

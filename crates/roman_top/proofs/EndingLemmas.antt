@@ -1,16 +1,15 @@
 -- How the parts of a run end.
-use Rattle.std.proofs.Common.{◌≡◌, ℕ, ◌<◌, Bool, true, false, IsTrue, IsFalse, MatchBool, List, [], Option, None, Some, IfSome, Result, Ok, Err, refl, sym, subst}
+use Rattle.std.proofs.Common.{◌≡◌, ℕ, ◌<◌, Bool, true, false, IsTrue, IsFalse, MatchBool, List, Option, None, Some, IfSome, Result, Ok, Err, refl, sym, subst}
 use Rattle.std.proofs.lemmas.Bool.{false≢true, true≢false, lt-ltb}
 use Rattle.roman_io.specs.Shelf.{Texts}
-use Rattle.roman_io.specs.Sink.{Wrote, Puts}
-use Rattle.roman_io.proofs.SinkLemmas.{Wrote-nil}
+use Rattle.roman_io.specs.Sink.{Puts}
 use Rattle.roman_library.specs.Documents.{library_of}
 use Rattle.roman_library.specs.Library.{PlainLibrary}
 use Rattle.roman_library.specs.declared.refusal.Refusal.{Refusal}
 use Rattle.roman_top.specs.RefusalLine.{refusal_line}
 use Rattle.roman_joint.specs.NamedSys.{cells}
 use Rattle.roman_top.specs.Run.{Says, OnDocument, library_system, is_past_limit, limit_line}
-use Rattle.roman_top.specs.Endings.{WritesText, WritesFront, Writes, Refuses, Exceeds, TurnsAway, Reads, Opens, Finishes}
+use Rattle.roman_top.specs.Endings.{WritesText, Writes, Refuses, TurnsAway, Reads, Opens, Finishes}
 use Rattle.roman_top.specs.declared.status.Status.{Status}
 use Rattle.roman_top.specs.declared.status.Status.TheVariants as status
 
@@ -63,7 +62,7 @@ match_false true P Q e q = absurd (true≢false e)
 match_false false P Q e q = q
 
 -- a document that isn't accepted within its limit ends each command that asks for it
-away_is_run : (Work : PlainLibrary → List ℕ → Status → Type 0) (meaning : Result PlainLibrary Refusal) (text : List ℕ) (ends : Status) → TurnsAway meaning text ends → OnDocument Work meaning text ends
+pub away_is_run : (Work : PlainLibrary → List ℕ → Status → Type 0) (meaning : Result PlainLibrary Refusal) (text : List ℕ) (ends : Status) → TurnsAway meaning text ends → OnDocument Work meaning text ends
 away_is_run Work (Err refusal) text ends away = away
 away_is_run Work (Ok library) text ends away = match_true (is_past_limit library) (Says (limit_line library.limit) status.Limit text ends) (Work library text ends) away.0 away.1
 

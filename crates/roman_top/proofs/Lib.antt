@@ -4,3 +4,6 @@ pub mod SynthLemmas
 pub mod RunLemmas
 pub mod RefusalLemmas
 pub mod CertifyLemmas
+pub mod StageLemmas
+pub mod TalkLemmas
+pub mod MakeLemmas

@@ -1,5 +1,5 @@
 -- Reports, as part of a run.
-use Rattle.std.proofs.Common.{◌≡◌, ℕ, Bool, true, false, List, Option, None, Some, IfSome, Result, refl, sym, ◌∙◌, subst}
+use Rattle.std.proofs.Common.{◌≡◌, ℕ, Bool, true, false, List, Option, None, Some, IfSome, Result, refl, sym, subst}
 use Rattle.std.proofs.lemmas.Bool.{both_ways}
 use Rattle.roman_io.specs.Shelf.{Texts}
 use Rattle.roman_io.specs.Sink.{Puts}
@@ -7,12 +7,11 @@ use Rattle.roman_model.specs.System.{Pair}
 use Rattle.roman_model.specs.Offers.{is_related}
 use Rattle.roman_model.proofs.CompositionLemmas.{related_great, great_related}
 use Rattle.roman_library.specs.Documents.{library_of}
-use Rattle.roman_library.specs.Library.{PlainLibrary}
 use Rattle.roman_joint.specs.NamedSys.{NamedSys}
 use Rattle.roman_joint.specs.NamedSys as joint
 use Rattle.roman_session.specs.Situations.{Situation, system_of, IsSituation}
 use Rattle.roman_session.specs.Reports.{report_text}
-use Rattle.roman_session.specs.Starts.{parts_of, start_of, IsStart}
+use Rattle.roman_session.specs.Starts.{parts_of, IsStart}
 use Rattle.roman_top.specs.Run.{OnDocument, EndsBy, Synthesises}
 use Rattle.roman_top.specs.Causes.{ShelfCause}
 use Rattle.roman_top.specs.Endings.{Accepts, Finishes, IsTold, Reports, Stops, Writes, status_of}

@@ -1,6 +1,8 @@
 -- The words of a command, and what they ask for.
 use Rattle.std.specs.Prelude.{ℕ, List, [], ◌∷◌, Option, None, Some, codes, if◌then◌else◌}
+use Rattle.std.specs.Option.{option_map}
 use Rattle.std.specs.Str.{bytes_eq}
+use Rattle.roman_top.specs.Workers.{workers_of}
 use Rattle.roman_top.specs.declared.command.Command.{Command as Asked}
 use Rattle.roman_top.specs.declared.command.Command.TheVariants as asked
 
@@ -10,17 +12,23 @@ pub data Command : Type 0 where
   Run : (system : List ℕ) (session : Option (List ℕ)) → Command
   Certify : (system : List ℕ) → Command
   Check : (system certificate : List ℕ) → Command
+  Make : (n : ℕ) → Command
 
--- the command of a word and one name
+-- the command of a word and one more
 abbrev pub with_one : List ℕ → List ℕ → Option Command
 with_one word name =
     if bytes_eq word (codes "synth") then Some (Synth name)
+    else if bytes_eq word (codes "run") then Some (Run name None)
     else if bytes_eq word (codes "certify") then Some (Certify name)
+    else if bytes_eq word (codes "make") then option_map Make (workers_of name)
     else None
 
 -- the command of a word and two names
 abbrev pub with_two : List ℕ → List ℕ → List ℕ → Option Command
-with_two word name other = if bytes_eq word (codes "check") then Some (Check name other) else None
+with_two word name other =
+    if bytes_eq word (codes "run") then Some (Run name (Some other))
+    else if bytes_eq word (codes "check") then Some (Check name other)
+    else None
 
 -- the command that the words are, if they have the shape of one
 abbrev pub command_of : List (List ℕ) → Option Command
@@ -32,10 +40,13 @@ command_of (word ∷ name ∷ other ∷ another ∷ more) = None
 
 -- what words without a shape are answered
 abbrev pub usage_line : List ℕ
-usage_line = codes "usage: roman synth SYSTEM | certify SYSTEM | check SYSTEM CERT\n"
+usage_line = codes "usage: roman synth SYSTEM | run SYSTEM [SESSION] | certify SYSTEM | check SYSTEM CERT | make N\n"
 
 -- a command of the program, with its names as bytes
 abbrev pub command_as : Asked → Command
 command_as (asked.Synth system) = Synth system.now
+command_as (asked.Run system) = Run system.now None
+command_as (asked.RunOnShelf system session) = Run system.now (Some session.now)
 command_as (asked.Certify system) = Certify system.now
 command_as (asked.Check system certificate) = Check system.now certificate.now
+command_as (asked.Make workers) = Make workers.count

@@ -12,6 +12,9 @@ use Rattle.roman_library.specs.Library.{PlainLibrary}
 use Rattle.roman_library.specs.declared.refusal.Refusal.{Refusal}
 use Rattle.roman_session.specs.Situations.{Situation, system_of}
 use Rattle.roman_session.specs.Reports.{report_text}
+use Rattle.roman_session.specs.Hearing.{GoesOn}
+use Rattle.roman_session.specs.declared.hearing.HearError.{HearError}
+use Rattle.roman_session.specs.declared.hearing.HearError.TheVariants as hear
 use Rattle.roman_top.specs.Causes.{ShelfCause}
 use Rattle.roman_top.specs.RefusalLine.{refusal_line}
 use Rattle.roman_top.specs.Run.{Says, EndsBy, Judges, is_past_limit, limit_line}
@@ -85,6 +88,15 @@ abbrev pub StopsIn : {X : Type 0} → Option (List ℕ) → Option (List ℕ) �
 StopsIn old new (Ok x) = new ≡ old
 StopsIn old new (Err result) = Stops old new result
 
+-- such a document, a fault or want of memory kept a document from being opened
+abbrev pub IsAway : Status → Type 0
+IsAway status.Refused = Unit {0}
+IsAway status.Limit = Unit {0}
+IsAway status.ShelfFault = Unit {0}
+IsAway status.WriteFault = Unit {0}
+IsAway status.Memory = Unit {0}
+IsAway _ = ⊥
+
 -- ---- single steps
 
 -- after a text was put: that status, or a fault of the sink
@@ -114,6 +126,19 @@ IsDone old new status.Done = Unit {0}
 IsDone old new status.WriteFault = Unit {0}
 IsDone old new status.Memory = Wrote old new []
 IsDone old new _ = ⊥
+
+-- ---- sessions
+
+-- a session would go on after some first bytes of what it comes from
+abbrev pub GoesOnFrom : Situation → Situation → Option (List ℕ) → Option (List ℕ) → Option (List ℕ) → Type 0
+GoesOnFrom old new had before now = (has : Option (List ℕ)) × GoesOn old new had has before now
+
+-- the status after a session was heard, where that one stands for a fault of what it comes from
+abbrev pub heard_status : Status → Result (Unit {0}) HearError → Status
+heard_status fault (Ok x) = status.Done
+heard_status fault (Err hear.ReadFault) = fault
+heard_status fault (Err hear.WriteFault) = status.WriteFault
+heard_status fault (Err hear.TooLong) = status.TooLong
 
 -- ---- certificates
 

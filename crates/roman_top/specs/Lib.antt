@@ -2,8 +2,11 @@ pub mod Causes
 pub mod Command
 pub mod Endings
 pub mod Faults
+pub mod Made
 pub mod Numbers
 pub mod RefusalLine
 pub mod Run
 pub mod Sessions
+pub mod Stages
 pub mod Verdicts
+pub mod Workers

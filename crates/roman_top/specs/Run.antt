@@ -12,12 +12,13 @@ use Rattle.roman_library.specs.Documents.{library_of}
 use Rattle.roman_library.specs.Library.{PlainLibrary}
 use Rattle.roman_library.specs.declared.refusal.Refusal.{Refusal}
 use Rattle.roman_joint.specs.NamedSys.{system_of, cells}
-use Rattle.roman_check.specs.Checks.{Had}
 use Rattle.roman_session.specs.Reports.{report_text}
 use Rattle.roman_session.specs.Starts.{parts_of, start_of}
-use Rattle.roman_top.specs.Command.{Command, Synth, Run, Certify, Check, usage_line}
+use Rattle.roman_session.specs.Hearing.{front_of, is_heard_out, Had}
+use Rattle.roman_top.specs.Command.{Command, Synth, Run, Certify, Check, Make, usage_line}
+use Rattle.roman_top.specs.Made.{Summarises}
 use Rattle.roman_top.specs.RefusalLine.{refusal_line}
-use Rattle.roman_top.specs.Sessions.{front_of, is_heard_out, Tells}
+use Rattle.roman_top.specs.Sessions.{Tells}
 use Rattle.roman_top.specs.Verdicts.{greatest_text, rejected_text}
 use Rattle.roman_top.specs.declared.status.Status.{Status}
 use Rattle.roman_top.specs.declared.status.Status.TheVariants as status
@@ -88,6 +89,12 @@ Talks session library out result =
     (Tells library (lines session) out × (result ≡ status.Done))
     (Tells library (ended_lines (front_of session)) out × (result ≡ status.TooLong))
 
+-- ---- made systems
+
+-- make: the summary of the system of n
+abbrev pub Makes : ℕ → List ℕ → Status → Type 0
+Makes n out result = Summarises n out × (result ≡ status.Done)
+
 -- ---- runs
 
 -- a run of a command, or of words without a shape
@@ -97,6 +104,7 @@ Runs (Some (Synth system)) texts session out result = OnDocument Synthesises (li
 Runs (Some (Run system name)) texts session out result = OnDocument (Talks session) (library_of texts system) out result
 Runs (Some (Certify system)) texts session out result = OnDocument Certifies (library_of texts system) out result
 Runs (Some (Check system certificate)) texts session out result = OnDocument (Checks (text_of texts certificate)) (library_of texts system) out result
+Runs (Some (Make n)) texts session out result = Makes n out result
 
 -- the bytes of the session: a text of the shelf, or those that the input had, where it tells them
 abbrev pub IsSession : Option Command → Texts → Option (List ℕ) → List ℕ → Type 0
@@ -104,9 +112,10 @@ IsSession (Some (Run system (Some name))) texts before session = session ≡ tex
 IsSession (Some (Run system None)) texts before session = Had before session
 IsSession _ texts before session = Unit {0}
 
--- of the shelf's texts, where it tells them; words without a shape ask for none
+-- of the shelf's texts, where it tells them; `make` and words without a shape ask for none
 abbrev pub WithTexts : Option Command → Option Texts → (Texts → Type 0) → Type 0
 WithTexts None told Holds = Holds []
+WithTexts (Some (Make n)) told Holds = Holds []
 WithTexts (Some command) told Holds = IfSome told Holds
 
 -- what was written, and the status, are a run

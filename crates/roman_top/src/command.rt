@@ -2,6 +2,7 @@
 ghost use Rattle.std.specs.Prelude.{◌≡◌};
 ghost use Rattle.std.specs.Option.{option_map};
 
+use crate::workers::{Workers, workers_of};
 use roman_io::Words;
 
 /// What words ask for.
@@ -9,6 +10,15 @@ use roman_io::Words;
 pub(crate) enum Command<'a> {
     /// `synth SYSTEM`: the report on the starting states.
     Synth(&'a str),
+    /// `run SYSTEM`: the session that comes from the input.
+    Run(&'a str),
+    /// `run SYSTEM SESSION`: the session on the shelf.
+    RunOnShelf {
+        /// The system's name.
+        system: &'a str,
+        /// The session's name.
+        session: &'a str,
+    },
     /// `certify SYSTEM`: the certificate of the system.
     Certify(&'a str),
     /// `check SYSTEM CERT`: the verdict on a certificate.
@@ -18,6 +28,8 @@ pub(crate) enum Command<'a> {
         /// The certificate's name.
         certificate: &'a str,
     },
+    /// `make N`: how a system of N workers stands while its script is run.
+    Make(Workers),
 }
 
 ghost use Rattle.roman_top.specs.Command.{command_as, command_of, with_one, with_two};
@@ -33,13 +45,15 @@ pub(crate) fn command_of(words: &Words) -> Option<Command<'_>>
     }
 }
 
-/// The command of a word and one name.
+/// The command of a word and one more.
 fn with_one<'a>(word: &str, name: &'a str) -> Option<Command<'a>>
     ensures { option_map command_as result ≡ with_one word.now name.now }
 {
     match word {
         "synth" => Some(Command::Synth(name)),
+        "run" => Some(Command::Run(name)),
         "certify" => Some(Command::Certify(name)),
+        "make" => Some(Command::Make(workers_of(name)?)),
         _ => None,
     }
 }
@@ -49,6 +63,10 @@ fn with_two<'a>(word: &str, name: &'a str, other: &'a str) -> Option<Command<'a>
     ensures { option_map command_as result ≡ with_two word.now name.now other.now }
 {
     match word {
+        "run" => Some(Command::RunOnShelf {
+            system: name,
+            session: other,
+        }),
         "check" => Some(Command::Check {
             system: name,
             certificate: other,

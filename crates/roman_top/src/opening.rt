@@ -1,11 +1,12 @@
 //! Documents that are opened for a command.
-ghost use Rattle.std.specs.Prelude.{◌≡◌, IfOk, IfSome};
+ghost use Rattle.std.specs.Prelude.{◌≡◌, IfErr, IfOk, IfSome};
 ghost use Rattle.roman_library.specs.Documents.{library_of};
 ghost use Rattle.roman_library.specs.Library.{PlainLibrary, IsLibrary, plain};
 ghost use Rattle.roman_session.specs.Building.{IsSeated};
+ghost use Rattle.roman_session.specs.Hearing.{AreBehaviours};
 ghost use Rattle.roman_session.specs.Starts.{IsStart};
 ghost use Rattle.roman_top.specs.Causes.{ShelfCause, SinkCause, CauseIn};
-ghost use Rattle.roman_top.specs.Endings.{Reads, Opens, StopsIn};
+ghost use Rattle.roman_top.specs.Endings.{IsAway, Reads, Opens, StopsIn};
 
 use crate::limits::put_limit;
 use crate::refusals::put_refusal;
@@ -51,6 +52,8 @@ pub(crate) fn open_session<F: Shelf, O: Sink, L: Ledger>(
     steps: &mut Steps<L>,
 ) -> Result<Session, Status>
     ensures opens { IfSome (F.texts shelf.old) (λ texts. Opens IsStart (library_of texts name.now) (O.written out.old) (O.written out.new) result) }
+    ensures behaviours { IfOk result (λ session. AreBehaviours session.parts) }
+    ensures away { IfErr result IsAway }
     ensures stops { StopsIn (O.written out.old) (O.written out.new) result }
     ensures texts { F.texts shelf.new ≡ F.texts shelf.old }
     ensures shelf { CauseIn ShelfCause (F.faults shelf.old) (F.faults shelf.new) result }
@@ -77,6 +80,7 @@ fn read_library<F: Shelf, O: Sink>(
 ) -> Result<Library, Status>
     ensures library { IfOk result (λ library. IsLibrary (plain library)) }
     ensures reads { IfSome (F.texts shelf.old) (λ texts. Reads plain (library_of texts name.now) (O.written out.old) (O.written out.new) result) }
+    ensures away { IfErr result IsAway }
     ensures stops { StopsIn (O.written out.old) (O.written out.new) result }
     ensures texts { F.texts shelf.new ≡ F.texts shelf.old }
     ensures shelf { CauseIn ShelfCause (F.faults shelf.old) (F.faults shelf.new) result }

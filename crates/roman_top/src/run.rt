@@ -18,8 +18,10 @@ ghost use Rattle.roman_top.specs.Faults.{
 use crate::certify::certify;
 use crate::check::check_certificate;
 use crate::command::{Command, command_of};
+use crate::make::summarise;
 use crate::status::{Status, finish};
 use crate::synth::synthesise;
+use crate::talking::{talk_input, talk_shelf};
 use roman_io::{Failed, Shelf, Sink, Source, Steps, Words};
 use std::alloc::Global;
 use std::sync::ledger::Ledger;
@@ -28,9 +30,13 @@ use std::sync::ledger::Ledger;
 /// goes to `out`.
 ///
 /// `synth SYSTEM` writes the report on the starting states of the system document of that name on
-/// the shelf; the status says whether the start pair is related. `certify SYSTEM` writes a
-/// certificate of which pairs are related, and `check SYSTEM CERT` the verdict on the certificate on
-/// the shelf.
+/// the shelf; the status says whether the start pair is related. `run SYSTEM` answers a session of
+/// that system line by line, to its end or to its line `quit`; the lines come from `input`, and
+/// those of `run SYSTEM SESSION` from the shelf. `certify SYSTEM` writes a certificate of which pairs
+/// are related, and `check SYSTEM CERT` the verdict on the certificate on the shelf. `make N`, for N
+/// from 1 to 10, asks the shelf for nothing: it makes a system of N workers, runs its script on a
+/// session, and writes a summary of how the session stands at the start, after each of the script's
+/// first four lines, and at its end.
 pub fn serve<F: Shelf, I: Source, O: Sink, L: Ledger>(
     alloc: Global,
     words: &Words,
@@ -75,7 +81,9 @@ fn put_usage<O: Sink>(out: &mut O) -> Result<(), Failed>
     ensures puts { Puts (O.written out.old) (O.written out.new) usage_line result }
     ensures cause { HasCause (O.faults out.old) (O.faults out.new) result }
 {
-    out.put(b"usage: roman synth SYSTEM | certify SYSTEM | check SYSTEM CERT\n")
+    out.put(
+        b"usage: roman synth SYSTEM | run SYSTEM [SESSION] | certify SYSTEM | check SYSTEM CERT | make N\n",
+    )
 }
 
 /// Does what a command asks for.
@@ -105,14 +113,18 @@ fn obey<F: Shelf, I: Source, O: Sink, L: Ledger>(
     ensures ends { EndsInput (Some (command_as command.entry)) (I.rest input.old) (I.rest input.new) result }
     ensures texts { F.texts shelf.new ≡ F.texts shelf.old }
 {
-    let _ = input;
     match command {
         Command::Synth(system) => synthesise(alloc, system, shelf, out, steps),
+        Command::Run(system) => talk_input(alloc, system, shelf, input, out, steps),
+        Command::RunOnShelf { system, session } => {
+            talk_shelf(alloc, system, session, shelf, out, steps)
+        }
         Command::Certify(system) => certify(alloc, system, shelf, out, steps),
         Command::Check {
             system,
             certificate,
         } => check_certificate(alloc, system, certificate, shelf, out, steps),
+        Command::Make(workers) => summarise(alloc, workers, out, steps),
     }
 }
 

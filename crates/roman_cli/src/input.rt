@@ -1,0 +1,52 @@
+//! Standard input as a source.
+ghost use Rattle.std.specs.Prelude.{None};
+
+use roman_io::{Failed, Source};
+use std::io::{Read, Stdin};
+
+/// Standard input. It tells nothing of what comes in.
+#[derive(Drop)]
+pub struct StdSource {
+    input: Stdin,
+    faults: u64,
+}
+
+impl StdSource {
+    /// The process's standard input.
+    pub fn new(rt: &HostRuntime) -> StdSource {
+        StdSource {
+            input: rt.stdin(),
+            faults: 0,
+        }
+    }
+}
+
+impl Source for StdSource {
+    ghost rest = { λ _. None };
+
+    ghost faults = { λ s. s.faults };
+
+    fn take(&mut self, into: &mut [u8]) -> Result<usize, Failed> {
+        match self.input.read(into) {
+            Ok(count) => Ok(count),
+            Err(_) => {
+                self.faults = self.faults.saturating_add(1);
+                Err(Failed)
+            }
+        }
+    }
+}
+
+#[cfg(test)]
+mod tests {
+    use super::*;
+    use std::test::Fail;
+
+    #[test]
+    fn nothing_is_taken_into_no_place(rt: HostRuntime) -> Result<(), Fail> {
+        let mut input = StdSource::new(&rt);
+        assert_eq!(rt; input.take(&mut [])?, 0);
+        assert_eq!(rt; input.faults, 0);
+        Ok(())
+    }
+}

@@ -1,0 +1,52 @@
+-- Made systems, as part of a run.
+use Rattle.std.proofs.Common.{◌≡◌, ℕ, ◌<◌, ◌≤◌, ◌++◌, Bool, IsTrue, List, Option, Result, nat_le, refl, subst, arith}
+use Rattle.std.proofs.lemmas.Bool.{leb-true}
+use Rattle.roman_io.specs.Sink.{Puts}
+use Rattle.roman_model.specs.Lists.{all_below}
+use Rattle.roman_model.proofs.Lists.{all_below_at}
+use Rattle.roman_library.specs.Library.{PlainLibrary}
+use Rattle.roman_make.specs.Made.{made, floor, worker, shift}
+use Rattle.roman_joint.specs.NamedSys.{cells}
+use Rattle.roman_session.specs.Situations.{Situation}
+use Rattle.roman_session.specs.Starts.{IsStart}
+use Rattle.roman_top.specs.Made.{made_line, stages, Passes}
+use Rattle.roman_top.specs.Run.{Makes, library_system}
+use Rattle.roman_top.specs.Endings.{Finishes, Writes}
+use Rattle.roman_top.specs.declared.status.Status.{Status}
+use Rattle.roman_top.specs.declared.status.Status.TheVariants as status
+use Rattle.roman_top.proofs.EndingLemmas.{writes_put}
+
+-- ---- the limit
+
+made_limit : (n : ℕ) → (made n).limit ≡ 4194304
+unfolding made
+made_limit n = refl
+
+-- a made system has few cells
+are_few : ℕ → Bool
+are_few n = nat_le (cells (library_system (made n))) 4194304
+
+all_few : IsTrue (all_below are_few 11)
+unfolding are_few made floor worker shift
+all_few = refl
+
+few_cells : (n : ℕ) → n ≤ 10 → cells (library_system (made n)) ≤ 4194304
+unfolding are_few
+few_cells n few = leb-true (cells (library_system (made n))) 4194304 (all_below_at are_few 11 n all_few (omega arith))
+
+-- so they don't exceed its limit
+pub not_past_limit : (library : PlainLibrary) (n : ℕ) → library ≡ made n → n ≤ 10 → library.limit < cells (library_system library) → ⊥
+not_past_limit library n is few past =
+    let of_made : (made n).limit < cells (library_system (made n)) = subst (λ (l : PlainLibrary). l.limit < cells (library_system l)) is past in
+    let limit = made_limit n in
+    let small = few_cells n few in
+    omega arith
+
+-- ---- the summary
+
+-- the summary of a session that went from stage to stage was put
+pub summarised : {T E : Type 0} (n : ℕ) (start : Situation) (lines : List ℕ) (old new : Option (List ℕ)) (result : Status) (r : Result T E) → IsStart (made n) start → Passes start stages lines →
+    Puts old new (made_line n ++ lines) r → Finishes r status.Done result → Writes (Makes n) old new result
+summarised n start lines old new result r begins passes puts finishes =
+    writes_put (Makes n) old new (made_line n ++ lines) status.Done result r puts finishes
+    (record { start = start; begins = begins; rest = lines; passes = passes; whole = refl }, refl) (λ w. w)

@@ -1,0 +1,7 @@
+use Rattle.roman_library.specs.Library.{plain}
+use Rattle.roman_top.proofs.MakeLemmas.{not_past_limit}
+use Rattle.roman_top.proofs.make.summarise.Goals as goal
+
+pub unreachable-requires-in-Err-Limit : goal.unreachable-requires-in-Err-Limit
+unreachable-requires-in-Err-Limit g c =
+    not_past_limit (plain c.in-Ok.library) c.args.workers.count c.in-Ok.ensures.library c.args.workers.few (rw c.in-Err-Limit.field-0-is at c.in-Err-Limit.ensures.limit)

@@ -1,0 +1,114 @@
+//! Made systems, and how they stand after the lines of their script.
+ghost use Rattle.std.specs.Prelude.{◌≡◌, ◌-◌, ◌≤◌, ◌++◌, length, take, drop};
+ghost use Rattle.roman_io.specs.Faults.{HasCause};
+ghost use Rattle.roman_io.specs.Sink.{Puts};
+ghost use Rattle.roman_text.specs.Pages.{Gathers};
+ghost use Rattle.roman_make.specs.Script.{script_lines};
+ghost use Rattle.roman_top.specs.Made.{made_line, standing, stages, Passes};
+ghost use Rattle.roman_top.specs.Stages.{HasAnswered, line_of, lines_of};
+
+use crate::stage::Stage;
+use roman_io::{Failed, Sink, Steps, Waste};
+use roman_make::script;
+use roman_session::Session;
+use roman_text::{Page, Piece};
+use std::sync::ledger::Ledger;
+
+/// How the session stands.
+fn stand(word: &'static [u8], session: &Session) -> Stage
+    requires { length word.now ≤ 16 }
+    ensures line { line_of result ≡ standing word.now session.now }
+    ensures word { result.word.now ≡ word.now }
+{
+    Stage {
+        word,
+        pairs: session.pairs(),
+        related: session.related(),
+        composes: session.composes(),
+    }
+}
+
+/// Gives the session the lines of the script from one place up to another. The replies are dropped.
+fn play<L: Ledger>(session: &mut Session, from: u8, to: u8, steps: &mut Steps<L>)
+    requires order { from ≤ to }
+    requires end { to ≤ 13 }
+    ensures { HasAnswered session.old (take (to - from) (drop from script_lines)) session.new }
+{
+    let mut waste = Waste::new();
+    for i in from..to {
+        let Some(line) = script(i) else {
+            continue;
+        };
+        let _ = session.answer(line, &mut waste, steps);
+    }
+}
+
+/// Gives the session its script, and tells how it stands at the start, after each change of the
+/// services, and at the end.
+pub(crate) fn run_script<L: Ledger>(session: &mut Session, steps: &mut Steps<L>) -> [Stage; 6]
+    ensures { Passes session.old stages (lines_of result) }
+{
+    let start = stand(b"start", session);
+    play(session, 0, 1, steps);
+    let freeze = stand(b"freeze", session);
+    play(session, 1, 2, steps);
+    let thaw = stand(b"thaw", session);
+    play(session, 2, 3, steps);
+    let die = stand(b"die", session);
+    play(session, 3, 4, steps);
+    let join = stand(b"join", session);
+    play(session, 4, 13, steps);
+    let round = stand(b"round", session);
+    [start, freeze, thaw, die, join, round]
+}
+
+/// Puts `made N`, and how the session stood.
+pub(crate) fn put_summary<O: Sink>(n: u8, stages: &[Stage], out: &mut O) -> Result<(), Failed>
+    ensures puts { Puts (O.written out.old) (O.written out.new) (made_line n ++ lines_of stages.now) result }
+    ensures cause { HasCause (O.faults out.old) (O.faults out.new) result }
+{
+    let mut page = Page::new();
+    if let Err(failed) = page.push(made_piece(n).bytes(), out) {
+        return Err(failed);
+    }
+    if let Err(failed) = push_stages(stages, &mut page, out) {
+        return Err(failed);
+    }
+    page.flush(out)
+}
+
+/// The first line.
+fn made_piece(n: u8) -> Piece
+    ensures { result ≡ made_line n }
+{
+    Piece::new().text(b"made ").number(u32::from(n)).text(b"\n")
+}
+
+/// Takes the lines of the stages, and the last line.
+fn push_stages<O: Sink>(stages: &[Stage], page: &mut Page, out: &mut O) -> Result<(), Failed>
+    ensures gathers { Gathers (O.written out.old) (O.written out.new) page.new (page.old ++ lines_of stages.now) result }
+    ensures cause { HasCause (O.faults out.old) (O.faults out.new) result }
+{
+    for stage in stages {
+        if let Err(failed) = page.push(stage_piece(stage).bytes(), out) {
+            return Err(failed);
+        }
+    }
+    page.push(b"end\n", out)
+}
+
+/// The line of a stage.
+fn stage_piece(stage: &Stage) -> Piece
+    ensures { result ≡ line_of stage.now }
+{
+    let pairs = Piece::new()
+        .text(stage.word)
+        .text(b" pairs ")
+        .number(stage.pairs);
+    let related = pairs.text(b" related ").number(stage.related);
+    if stage.composes {
+        related.text(b" composition\n")
+    } else {
+        related.text(b" none\n")
+    }
+}
