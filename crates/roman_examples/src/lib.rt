@@ -1,0 +1,20 @@
+//! The worked examples: whole runs of the program over objects in memory, with what they must write
+//! and how they must end.
+#![tactic(auto)]
+
+#[cfg(test)]
+mod case;
+#[cfg(test)]
+mod certificates;
+#[cfg(test)]
+mod documents;
+#[cfg(test)]
+mod faults;
+#[cfg(test)]
+mod making;
+#[cfg(test)]
+mod sessions;
+#[cfg(test)]
+mod synthesis;
+#[cfg(test)]
+mod texts;
