@@ -2,6 +2,7 @@ pub mod CheckLemmas
 pub mod EndingLemmas
 pub mod SynthLemmas
 pub mod RunLemmas
+pub mod CompleteLemmas
 pub mod RefusalLemmas
 pub mod CertifyLemmas
 pub mod StageLemmas

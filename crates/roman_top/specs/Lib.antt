@@ -1,5 +1,6 @@
 pub mod Causes
 pub mod Command
+pub mod Complete
 pub mod Endings
 pub mod Faults
 pub mod Made

@@ -5,6 +5,7 @@ ghost use Rattle.roman_io.specs.Sink.{Puts};
 ghost use Rattle.roman_top.specs.Command.{command_as, command_of, usage_line};
 ghost use Rattle.roman_top.specs.Run.{WithTexts, HasRun};
 ghost use Rattle.roman_top.specs.Causes.{ShelfCause, InputCause, SinkCause};
+ghost use Rattle.roman_top.specs.Complete.{AreQuiet, IsComplete};
 ghost use Rattle.roman_top.specs.Faults.{
   IsFree,
   AtShelfFault,
@@ -63,6 +64,11 @@ pub fn serve<F: Shelf, I: Source, O: Sink, L: Ledger>(
     ensures shelf { ShelfCause (F.faults shelf.old) (F.faults shelf.new) result }
     ensures input { InputCause (I.faults input.old) (I.faults input.new) result }
     ensures out { SinkCause (O.faults out.old) (O.faults out.new) result }
+
+    // Where no count rises, a command gets its answer, or there is no memory: with an accepted
+    // document within its limit, and a session or a certificate that isn't too long.
+    ensures complete { AreQuiet (F.faults shelf.old) (F.faults shelf.new) (I.faults input.old) (I.faults input.new) (O.faults out.old) (O.faults out.new)
+        → IsComplete (command_of words.now) (F.texts shelf.old) (I.rest input.old) result }
 
     // What is taken from the input, and what stays on the shelf.
     ensures taken { (input.new ≡ input.old)
