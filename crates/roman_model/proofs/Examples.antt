@@ -145,7 +145,7 @@ lamp_turns b e a b' h =
     both_turn m (inr (inl same)) = subst (λ (n : Move). n.from + n.to ≡ 1) (sym same) refl
     both_turn m (inr (inr none)) = absurd none
 
-lamp_is_system : IsSys lamp_system
+pub lamp_is_system : IsSys lamp_system
 lamp_is_system = record {
   env = record { states = omega arith; actions = omega arith; start = omega arith; triples = lamp_triples };
   target = lamp_is_behaviour;

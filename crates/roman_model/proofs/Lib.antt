@@ -22,5 +22,16 @@ pub mod LineLemmas
 pub mod CertificateLemmas
 pub mod CertificateLaws
 pub mod VerdictLemmas
+pub mod OutcomeLemmas
+pub mod ShapeLemmas
 pub mod Examples
 pub mod TextExamples
+pub mod PlanLemmas
+pub mod AdviceLemmas
+pub mod TableLemmas
+pub mod WithoutLemmas
+pub mod Places
+pub mod MadeLemmas
+pub mod CombinedLemmas
+pub mod CombinedLaws
+pub mod SeveralExamples

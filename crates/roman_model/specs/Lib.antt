@@ -11,3 +11,10 @@ pub mod Play
 pub mod Certificate
 pub mod Explanation
 pub mod Laws
+pub mod Plans
+pub mod Without
+pub mod Made
+pub mod Several
+pub mod Combined
+pub mod Outcomes
+pub mod Shapes

@@ -1,5 +1,6 @@
 -- What the orchestrator generator offers, and what follows where its offers are taken.
 use Rattle.std.specs.Prelude.{◌≡◌, ◌≢◌, ℕ, ◌<◌, Bool, not, ◌↔◌, List, [], ◌∷◌, length, IsTrue}
+use Rattle.std.specs.List.{filter}
 use Rattle.roman_model.specs.Lists.{IsIn}
 use Rattle.roman_model.specs.Arena.{Entry, is_listed, mask, loses, choices}
 use Rattle.roman_model.specs.System.{Sys, Pair, IsSys, IsPair, pairs, outcomes, is_allowed, is_fine}
@@ -12,6 +13,10 @@ is_related s p = not (loses (arena s) (length (pairs s)) p)
 -- the seats that serve a with the related pairs, rising
 abbrev pub offers : Sys → Pair → ℕ → List ℕ
 offers s p a = mask (arena s) (λ q. not (is_related s q)) p a
+
+-- how many pairs are related
+abbrev pub related_count : Sys → ℕ
+related_count s = length (filter (is_related s) (pairs s))
 
 -- how many offers there are, over all pairs and actions
 abbrev pub choice_count : Sys → ℕ

@@ -1,5 +1,6 @@
 //! The laws over the definitions alone: each is the contract of a function that does nothing.
 
+ghost use Rattle.roman_model.specs.Combined.{CombinedIsAll};
 ghost use Rattle.roman_model.specs.Laws.{
   GreatestIsGreatest,
   OrderCompletes,
@@ -8,7 +9,10 @@ ghost use Rattle.roman_model.specs.Laws.{
   UnrelatedLoses,
 };
 ghost use Rattle.roman_model.specs.Offers.{FollowingStays, OffersAreGenerator};
+ghost use Rattle.roman_model.specs.Outcomes.{OutcomesAreSteps, TestsAreMembership};
+ghost use Rattle.roman_model.specs.Plans.{PlansCostLeast};
 ghost use Rattle.roman_model.specs.Play.{DepthIsLeast, DepthWins, OrderWins};
+ghost use Rattle.roman_model.specs.Without.{WithoutByChanges};
 
 /// The related pairs, as couples, meet the three clauses of an ND-simulation, each
 /// ND-simulation is part of them, and a finite one holds them all.
@@ -66,4 +70,29 @@ pub fn depth_wins()
 /// pair that isn't lost by then has a seat for each allowed action that holds out.
 pub fn depth_is_least()
     ensures least { DepthIsLeast }
+{}
+
+/// At a related pair the plan that always takes the offered seat through which a request costs
+/// least has the least worst cost of all plans for that many requests.
+pub fn plans_cost_least()
+    ensures least { PlansCostLeast }
+{}
+
+/// A system that lacks one or two of its seats, gone or frozen, is the one after as many changes.
+pub fn without_by_changes()
+    ensures there { WithoutByChanges }
+{}
+
+/// The system that combines several targets is one, and a pair of it is related exactly where some
+/// ND-simulation of all the targets holds it, each target requesting on its own.
+pub fn combined_is_all()
+    ensures combined { CombinedIsAll }
+{}
+
+/// What a system allows and where it leads is what its steps say: an action is allowed exactly where
+/// a target step by it exists, a pair is an outcome exactly where a target step and a system step
+/// lead to it, and clause 2 asks each seat that rests. The tests of steps are membership.
+pub fn outcomes_are_steps()
+    ensures outcomes { OutcomesAreSteps }
+    ensures listed { TestsAreMembership }
 {}

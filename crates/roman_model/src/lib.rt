@@ -2,9 +2,12 @@
 //!
 //! `specs/` has the definitions. `System` has environments, behaviours, systems, pairs and their
 //! steps; `Composition` has ND-simulations and the greatest one; `Arena` has removal lists, masks
-//! and depths over any set of nodes; `Numbers` has the numbers of pairs; `Change` has what becomes
-//! of removal lists where the services change; `Certificate` and `Explanation` have their texts.
-//! Each law is the contract of a function with an empty body.
+//! and depths over any set of nodes; `Numbers` has the numbers of pairs, `Shapes` those of any
+//! sizes; `Outcomes` says the tests of a system by its steps; `Change` has what becomes of removal
+//! lists where the services change; `Certificate` and `Explanation` have their texts; `Plans` has
+//! what delegations cost at worst, and `Without` systems that lack some of their seats; `Several`
+//! has the simulations of several targets, and `Combined` the one system that stands for them. Each
+//! law is the contract of a function with an empty body.
 #![tactic(auto)]
 
 mod certificates;
@@ -13,19 +16,24 @@ mod laws;
 mod limits;
 mod numbers;
 mod reason;
+mod request;
+mod way;
 
 pub use certificates::{
     explanation_is_least, explanation_is_order, greatest_is_complete, written_is_greatest,
 };
 pub use changes::{mask_after_death, renaming_keeps};
 pub use laws::{
-    depth_is_least, depth_wins, following_stays, greatest_is_greatest, offers_are_generator,
-    order_completes, order_refutes, order_wins, replay_keeps, unrelated_loses,
+    combined_is_all, depth_is_least, depth_wins, following_stays, greatest_is_greatest,
+    offers_are_generator, order_completes, order_refutes, order_wins, outcomes_are_steps,
+    plans_cost_least, replay_keeps, unrelated_loses, without_by_changes,
 };
 pub use limits::{
     DEFAULT_CELLS, MAX_ACTIONS, MAX_BEHAVIOURS, MAX_CELLS, MAX_CERTIFICATE_BYTES,
     MAX_DOCUMENT_BYTES, MAX_FILE_NAME_BYTES, MAX_LINE_BYTES, MAX_NAME_BYTES, MAX_SERVICES,
     MAX_SESSION_BYTES, MAX_STATES, MAX_STEPS,
 };
-pub use numbers::{numbered_completes, pairs_are_numbered};
+pub use numbers::{numbered_completes, pairs_are_numbered, shapes_are_numbered};
 pub use reason::Reason;
+pub use request::Request;
+pub use way::Way;

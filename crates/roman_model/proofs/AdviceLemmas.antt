@@ -1,0 +1,81 @@
+-- Least worst costs, found one action, one seat and one outcome after another.
+use Rattle.std.proofs.Common.{◌≡◌, ◌≢◌, ℕ, zero, suc, ◌+◌, ◌*◌, ◌<◌, ◌≤◌, Bool, true, false, cond, List, [], ◌∷◌, ◌++◌, map, filter, nat_le, refl, ap, ◌∙◌, arith, add-one, append-nil}
+use Rattle.std.specs.Prelude.{max}
+use Rattle.std.proofs.lemmas.List.Elements.{filter-append}
+use Rattle.roman_model.specs.Lists.{below}
+use Rattle.roman_model.specs.System.{Sys, Pair, IsSys, outcomes}
+use Rattle.roman_model.specs.Numbers.{sizes_of, pair_at, number, count, numbered}
+use Rattle.roman_model.specs.Plans.{Costs, max_over, allowed_actions, least_from, first_least, through, least, choice, least_at}
+use Rattle.roman_model.proofs.SystemLemmas.{outcome_pair}
+use Rattle.roman_model.proofs.NumberLemmas.{numbers_are_pairs}
+use Rattle.roman_model.proofs.PlanLemmas.{max_over_le, max_over_same}
+
+-- The greatest value of a list that grows at its end.
+
+pub max_over-append : {X : Type 0} (f : X → ℕ) (xs ys : List X) → max_over f (xs ++ ys) ≡ max (max_over f xs) (max_over f ys)
+max_over-append f [] ys = zero_first (max_over f ys)
+  where
+    zero_first : (n : ℕ) → n ≡ max 0 n
+    zero_first n = omega arith
+max_over-append f (x ∷ xs) ys = ap (max (f x)) (max_over-append f xs ys) ∙ three (f x) (max_over f xs) (max_over f ys)
+  where
+    three : (a b c : ℕ) → max a (max b c) ≡ max (max a b) c
+    three a b c = omega arith
+
+pub max_over_push : {X : Type 0} (f : X → ℕ) (xs : List X) (x : X) → max_over f (xs ++ x ∷ []) ≡ max (max_over f xs) (f x)
+max_over_push f xs x = max_over-append f xs (x ∷ []) ∙ ap (max (max_over f xs)) (last (f x))
+  where
+    last : (n : ℕ) → max n 0 ≡ n
+    last n = omega arith
+
+pub max_over-map : {X Y : Type 0} (f : Y → ℕ) (g : X → Y) (xs : List X) → max_over f (map g xs) ≡ max_over (λ x. f (g x)) xs
+max_over-map f g [] = refl
+max_over-map f g (x ∷ xs) = ap (max (f (g x))) (max_over-map f g xs)
+
+-- over the numbers that pass, up to n
+pub max_over_below : (f : ℕ → ℕ) (p : ℕ → Bool) (n : ℕ) → max_over f (filter p (below (n + 1))) ≡ cond (p n) (max (max_over f (filter p (below n))) (f n)) (max_over f (filter p (below n)))
+max_over_below f p n =
+    ap (λ m. max_over f (filter p (below m))) (add-one n) ∙ ap (max_over f) (filter-append p (below n) (n ∷ [])) ∙ by (p n)
+  where
+    by : (b : Bool) → max_over f (filter p (below n) ++ cond b (n ∷ []) []) ≡ cond b (max (max_over f (filter p (below n))) (f n)) (max_over f (filter p (below n)))
+    by true = max_over_push f (filter p (below n)) n
+    by false = ap (max_over f) (append-nil (filter p (below n)))
+
+-- The first of the least of a list that grows at its end.
+
+pub least_from_push : (f : ℕ → ℕ) (x : ℕ) (xs : List ℕ) (y : ℕ) → least_from f x (xs ++ y ∷ []) ≡ cond (nat_le (f (least_from f x xs)) (f y)) (least_from f x xs) y
+least_from_push f x [] y = refl
+least_from_push f x (z ∷ xs) y = by (nat_le (f x) (f z)) (least_from_push f x xs y) (least_from_push f z xs y)
+  where
+    by : (b : Bool) → least_from f x (xs ++ y ∷ []) ≡ cond (nat_le (f (least_from f x xs)) (f y)) (least_from f x xs) y →
+        least_from f z (xs ++ y ∷ []) ≡ cond (nat_le (f (least_from f z xs)) (f y)) (least_from f z xs) y →
+        cond b (least_from f x (xs ++ y ∷ [])) (least_from f z (xs ++ y ∷ []))
+        ≡ cond (nat_le (f (cond b (least_from f x xs) (least_from f z xs))) (f y)) (cond b (least_from f x xs) (least_from f z xs)) y
+    by true here there = here
+    by false here there = there
+
+pub first_least_push : (f : ℕ → ℕ) (xs : List ℕ) (y : ℕ) → xs ≢ [] → first_least f (xs ++ y ∷ []) ≡ cond (nat_le (f (first_least f xs)) (f y)) (first_least f xs) y
+first_least_push f [] y some = absurd (some refl)
+first_least_push f (x ∷ xs) y some = least_from_push f x xs y
+
+-- Over the numbers of pairs.
+
+pub through_numbered : (s : Sys) (C : Costs) (h p a k : ℕ) → IsSys s → p < count (sizes_of s) →
+    C k a + max_over (least_at s C h) ((numbered s).outcomes p a k) ≡ through s C (least s C h) (pair_at (sizes_of s) p) a k
+through_numbered s C h p a k ok l =
+    ap (λ n. C k a + n)
+    (max_over-map (least_at s C h) (number (sizes_of s)) (outcomes s (pair_at (sizes_of s) p) a k)
+    ∙ max_over_same (λ q. least_at s C h (number (sizes_of s) q)) (least s C h) (outcomes s (pair_at (sizes_of s) p) a k)
+    (λ q i. ap (least s C h) ((numbers_are_pairs s).back q (outcome_pair s (pair_at (sizes_of s) p) a k q ok ((numbers_are_pairs s).pair p l) i))))
+
+-- How great they can be.
+
+pub least_bound : (s : Sys) (C : Costs) (m h : ℕ) (p : Pair) → ((k a : ℕ) → C k a ≤ m) → least s C h p ≤ h * m
+least_bound s C m zero p bound = omega arith
+least_bound s C m (suc h) p bound =
+    max_over_le (λ a. through s C (least s C h) p a (choice s C h p a)) (suc h * m) (allowed_actions s p)
+    (λ a i.
+    let rest : max_over (least s C h) (outcomes s p a (choice s C h p a)) ≤ h * m =
+    max_over_le (least s C h) (h * m) (outcomes s p a (choice s C h p a)) (λ q j. least_bound s C m h q bound) in
+    let here : C (choice s C h p a) a ≤ m = bound (choice s C h p a) a in
+    omega arith)

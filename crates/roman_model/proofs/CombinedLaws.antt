@@ -1,0 +1,220 @@
+-- Several targets are one combined target: the ND-simulations of the combined system are those of the members.
+use Rattle.std.proofs.Common.{◌≡◌, ℕ, zero, suc, ◌<◌, ◌≤◌, ◌==◌, Bool, true, false, not, ◌&&◌, ◌||◌, List, [], ◌∷◌, map, length, Option, Some, None, IsTrue, IsFalse, filter, flat_map, slice_get, slice_index, slice_set, nat_lt, inl, inr, refl, sym, ap, ap₂, ◌∙◌, subst, arith}
+use Rattle.std.specs.List.{AllZip, list_any}
+use Rattle.std.proofs.lemmas.Bool.{false≢true, and_parts, and_from, or_cases, or_left, or_right, eqb-true, eq-eqb, not_from_false, not-true, ltb-true, lt-ltb}
+use Rattle.std.proofs.lemmas.Option.{none-some, same_Some, slice_get_within}
+use Rattle.roman_model.specs.Lists.{IsIn, below, is_empty, product_of}
+use Rattle.roman_model.specs.System.{Triple, Env, Move, Beh, Seat, Sys, Pair, has, has_triple, has_move, IsEnv, IsBeh, IsDeterministic, IsSys, IsPair, TStep, SStep, Allows, beh_next, is_final, all_final, same_numbers}
+use Rattle.roman_model.specs.declared.limits.TheConstants.{MAX_SERVICES}
+use Rattle.roman_model.specs.Numbers.{states_number, states_at}
+use Rattle.roman_model.specs.Composition.{Couple, couple, Serves, Meets, IsNdSim, GreatCouple, Great}
+use Rattle.roman_model.specs.declared.request.Request.{Request}
+use Rattle.roman_model.specs.Several.{Several, of_one, CoupleAll, are_final, ServesAll, MeetsAll, IsNdSimAll, GreatAll}
+use Rattle.roman_model.specs.Combined.{stands_in, uses, requests_of, has_triple_on, has_move_on, member_goes, targets_go, combined_beh, target_sizes, combined_start, combined_seat, all_requests, combined, IsSeveral, couple_all, CombinedIsAll}
+use Rattle.roman_model.proofs.Places.{get_in, in_get, from_get_map, get_map, map_length, index_set}
+use Rattle.roman_model.proofs.Lists.{by_test, same_test, in_map, from_map, in_flat_map, from_flat_map, in_filter, filter_in, any_true, any_from, in_not_empty, not_empty_in, in_below, from_below}
+use Rattle.roman_model.proofs.SystemLemmas.{same_numbers_is, same_numbers_itself, triple_in_range, move_in_range, in_beh_next, from_beh_next}
+use Rattle.roman_model.proofs.NumberLemmas.{AreBelow, AreBelow-length, AreBelow-at, AreBelow-set, states_number_below, states_at-number, states_number-at}
+use Rattle.roman_model.proofs.CompositionLemmas.{meets_more}
+use Rattle.roman_model.proofs.MadeLemmas.{from_made_triple, made_triple, IsEnv-made, move_test, move_passes, from_made_move, made_move, IsBeh-made, from_made_final, made_final}
+use Rattle.roman_model.proofs.CombinedLemmas.{in_requests, from_combined_triple, combined_triple, from_combined_sstep, combined_sstep, from_combined_target, combined_target_goes, member_below, states_of, number_of, total, from_all_final_combined, all_final_combined}
+
+-- The three clauses.
+
+-- the couple of a combined couple
+abbrev pub decoded : Several → Couple → CoupleAll
+decoded w c = record { ts = states_of w c.t; e = c.e; bs = c.bs; e2 = c.e2 }
+
+abbrev pub encoded : Several → CoupleAll → Couple
+encoded w d = record { t = number_of w d.ts; e = d.e; bs = d.bs; e2 = d.e2 }
+
+pub meets_combined : (w : Several) (Related : CoupleAll → Type 0) (c : Couple) → IsSeveral w → MeetsAll w Related (decoded w c) →
+    Meets (combined w) (λ d. (d.t < total w) × Related (decoded w d)) c
+meets_combined w Related c ok meets = record {
+  shared = meets.shared;
+  final = λ t. all_final_combined w (all_requests w) w.seats c.bs ok.seats (meets.final
+      (from_made_final w.env.states (length (all_requests w)) (total w) (combined_start w.targets)
+      (λ t. are_final w.targets (states_of w t)) (λ t e n t'. targets_go w.targets (slice_get (all_requests w) n) (states_of w t) e (states_of w t')) c.t t));
+  served = λ n allows.
+      let (t1, e1, tstep1) = allows in
+      let (world1, goes1) = tstep1 in
+      let (ht, ht', r, target, step) = from_combined_target w c.t c.e n t1 goes1 in
+      let (r1, at1, plain1) = from_combined_triple w c.e n e1 world1 in
+      let same1 : r1 ≡ r = same_Some r1 r (sym at1 ∙ step.request) in
+      let (k, serves) = meets.served r.target target step.member r.action
+      (slice_index (states_of w t1) r.target, e1, (subst (λ (x : Request). IsTrue (has_triple w.env c.e x.action e1)) same1 plain1, step.goes)) in
+      (k, λ t' e' tstep. each n k r target step.request step.member serves t' e' tstep.0 tstep.1);
+}
+  where
+    each : (n k : ℕ) (r : Request) (target : Beh) → slice_get (all_requests w) n ≡ Some r → slice_get w.targets r.target ≡ Some target →
+        ServesAll w Related (decoded w c) r.target target r.action k → (t' e' : ℕ) → IsTrue (has_triple (combined w).env c.e n e') → IsTrue (has_move (combined w).target c.t c.e n t') →
+        ((bs' : List ℕ) × SStep (combined w) c.bs c.e2 n k bs' e')
+        × ((bs' : List ℕ) → SStep (combined w) c.bs c.e2 n k bs' e' → (t' < total w) × Related (record { ts = states_of w t'; e = e'; bs = bs'; e2 = e' }))
+    each n k r target at member serves t' e' world goes =
+        let (r2, at2, plain) = from_combined_triple w c.e n e' world in
+        let same2 : r2 ≡ r = same_Some r2 r (sym at2 ∙ at) in
+        let plain2 : IsTrue (has_triple w.env c.e r.action e') = subst (λ (x : Request). IsTrue (has_triple w.env c.e x.action e')) same2 plain in
+        let (ht, ht', r3, target3, step) = from_combined_target w c.t c.e n t' goes in
+        let same3 : r3 ≡ r = same_Some r3 r (sym step.request ∙ at) in
+        let member3 : slice_get w.targets r.target ≡ Some target3 = subst (λ (x : Request). slice_get w.targets x.target ≡ Some target3) same3 step.member in
+        let same_target : target3 ≡ target = same_Some target3 target (sym member3 ∙ member) in
+        let goes3 : IsTrue (has_move target (slice_index (states_of w c.t) r.target) c.e r.action (slice_index (states_of w t') r.target)) =
+        subst (λ (x : Beh). IsTrue (has_move x (slice_index (states_of w c.t) r.target) c.e r.action (slice_index (states_of w t') r.target))) same_target
+        (subst (λ (x : Request). IsTrue (has_move target3 (slice_index (states_of w c.t) x.target) c.e x.action (slice_index (states_of w t') x.target))) same3 step.goes) in
+        let others3 : slice_set (states_of w c.t) r.target (slice_index (states_of w t') r.target) ≡ states_of w t' =
+        subst (λ (x : Request). slice_set (states_of w c.t) x.target (slice_index (states_of w t') x.target) ≡ states_of w t') same3 step.others in
+        let (some, all) = serves (slice_index (states_of w t') r.target) e' (plain2, goes3) in (
+          (some.0, combined_sstep w target c.bs c.e2 n k some.0 e' r ok at some.1),
+          λ bs' sstep.
+              let (r4, at4, world4) = from_combined_triple w c.e2 n e' sstep.world in
+              let same4 : r4 ≡ r = same_Some r4 r (sym at4 ∙ at) in (
+                ht',
+                subst (λ ts. Related (record { ts = ts; e = e'; bs = bs'; e2 = e' })) others3
+                    (all bs' (from_combined_sstep w target c.bs c.e2 n k bs' e' r at (subst (λ (x : Request). IsTrue (has_triple w.env c.e2 x.action e')) same4 world4) sstep)),
+              ),
+        )
+
+pub meets_members : (w : Several) (Related : Couple → Type 0) (More : CoupleAll → Type 0) (c : Couple) → IsSeveral w → c.t < total w →
+    ((d : Couple) → d.t < total w → Related d → More (decoded w d)) → Meets (combined w) Related c → MeetsAll w More (decoded w c)
+meets_members w Related More c ok l more meets = record {
+  shared = meets.shared;
+  final = λ t. from_all_final_combined w (all_requests w) w.seats c.bs (meets.final
+      (made_final w.env.states (length (all_requests w)) (total w) (combined_start w.targets)
+      (λ t. are_final w.targets (states_of w t)) (λ t e n t'. targets_go w.targets (slice_get (all_requests w) n) (states_of w t) e (states_of w t')) c.t l t));
+  served = λ i target member a allows.
+      let (t1, e1, tstep1) = allows in
+      let (world1, goes1) = tstep1 in
+      let (n, at) = in_get (all_requests w) (record { target = i; action = a })
+      (in_requests w.env w.targets i target (slice_index (states_of w c.t) i) c.e a t1 member (ok.targets target (get_in w.targets i target member)).0 goes1) in
+      let (k, serves) = meets.served n (
+        number_of w (slice_set (states_of w c.t) i t1),
+        e1,
+        (combined_triple w c.e n e1 (record { target = i; action = a }) ok.env at world1, combined_target_goes w c.t c.e n t1 (record { target = i; action = a }) target ok l at member goes1),
+      ) in
+      (k, λ t' e' tstep. each i target member a n k at serves t' e' tstep.0 tstep.1);
+}
+  where
+    each : (i : ℕ) (target : Beh) → slice_get w.targets i ≡ Some target → (a n k : ℕ) → slice_get (all_requests w) n ≡ Some (record { target = i; action = a }) →
+        Serves (combined w) Related c n k → (t' e' : ℕ) → IsTrue (has_triple w.env c.e a e') → IsTrue (has_move target (slice_index (states_of w c.t) i) c.e a t') →
+        ((bs' : List ℕ) × SStep (of_one w target) c.bs c.e2 a k bs' e')
+        × ((bs' : List ℕ) → SStep (of_one w target) c.bs c.e2 a k bs' e' → More (record { ts = slice_set (states_of w c.t) i t'; e = e'; bs = bs'; e2 = e' }))
+    each i target member a n k at serves t' e' world goes =
+        let r : Request = record { target = i; action = a } in
+        let hb' : t' < target.states = (move_in_range w.env target (slice_index (states_of w c.t) i) c.e a t' (ok.targets target (get_in w.targets i target member)).0 goes).3 in
+        let below : AreBelow (target_sizes w.targets) (slice_set (states_of w c.t) i t') = member_below w c.t i target t' l member hb' in
+        let (some, all) = serves (number_of w (slice_set (states_of w c.t) i t')) e'
+        (combined_triple w c.e n e' r ok.env at world, combined_target_goes w c.t c.e n t' r target ok l at member goes) in (
+          (some.0, from_combined_sstep w target c.bs c.e2 n k some.0 e' r at (plain_world e' n a i at some.1.world) some.1),
+          λ bs' sstep.
+              subst (λ ts. More (record { ts = ts; e = e'; bs = bs'; e2 = e' })) (states_at-number (target_sizes w.targets) (slice_set (states_of w c.t) i t') below)
+              (more (record { t = number_of w (slice_set (states_of w c.t) i t'); e = e'; bs = bs'; e2 = e' })
+              (states_number_below (target_sizes w.targets) (slice_set (states_of w c.t) i t') below)
+              (all bs' (combined_sstep w target c.bs c.e2 n k bs' e' r ok at sstep))),
+        )
+      where
+        plain_world : (e' n a i : ℕ) → slice_get (all_requests w) n ≡ Some (record { target = i; action = a }) → IsTrue (has_triple (combined w).env c.e2 n e') → IsTrue (has_triple w.env c.e2 a e')
+        plain_world e' n a i at t =
+            let (r4, at4, world4) = from_combined_triple w c.e2 n e' t in
+            subst (λ (x : Request). IsTrue (has_triple w.env c.e2 x.action e')) (same_Some r4 (record { target = i; action = a }) (sym at4 ∙ at)) world4
+
+-- Related pairs.
+
+-- the couple is that of a combined couple
+abbrev is_encoded : Several → CoupleAll → Bool
+is_encoded w d = nat_lt (number_of w d.ts) (total w) && same_numbers (states_of w (number_of w d.ts)) d.ts
+
+encoded_back : (w : Several) (d : CoupleAll) → IsTrue (is_encoded w d) → (number_of w d.ts < total w) × (decoded w (encoded w d) ≡ d)
+encoded_back w d t =
+    let (small, same) = and_parts (nat_lt (number_of w d.ts) (total w)) (same_numbers (states_of w (number_of w d.ts)) d.ts) t in
+    (ltb-true (number_of w d.ts) (total w) small, ap (λ ts. record { ts = ts; e = d.e; bs = d.bs; e2 = d.e2 }) (same_numbers_is (states_of w (number_of w d.ts)) d.ts same))
+
+decoded_back : (w : Several) (c : Couple) → c.t < total w → encoded w (decoded w c) ≡ c
+decoded_back w c l = ap (λ t. record { t = t; e = c.e; bs = c.bs; e2 = c.e2 }) (states_number-at (target_sizes w.targets) c.t l)
+
+is_encoded_from : (w : Several) (c : Couple) → c.t < total w → IsTrue (is_encoded w (decoded w c))
+is_encoded_from w c l =
+    subst (λ t. IsTrue (nat_lt t (total w) && same_numbers (states_of w t) (states_of w c.t))) (sym (states_number-at (target_sizes w.targets) c.t l))
+    (and_from (nat_lt c.t (total w)) (same_numbers (states_of w c.t) (states_of w c.t)) (lt-ltb c.t (total w) l) (same_numbers_itself (states_of w c.t)))
+
+pub great_from_all : (w : Several) (c : Couple) → IsSeveral w → c.t < total w → GreatAll w (decoded w c) → GreatCouple (combined w) c
+great_from_all w c ok l (R, sim, i) = (
+  map (encoded w) (filter (is_encoded w) R),
+  λ d j.
+      let (m, k, same) = from_map (encoded w) d (filter (is_encoded w) R) j in
+      let (h, valid) = filter_in (is_encoded w) m R k in
+      let (small, back) = encoded_back w m valid in
+      subst (Meets (combined w) (λ d. IsIn d (map (encoded w) (filter (is_encoded w) R)))) (sym same)
+      (meets_more (combined w) (λ d. (d.t < total w) × IsIn (decoded w d) R) (λ d. IsIn d (map (encoded w) (filter (is_encoded w) R))) (encoded w m)
+      (λ d r. kept d r.0 r.1)
+      (meets_combined w (λ d. IsIn d R) (encoded w m) ok (subst (MeetsAll w (λ d. IsIn d R)) (sym back) (sim m h)))),
+  kept c l i,
+)
+  where
+    kept : (d : Couple) → d.t < total w → IsIn (decoded w d) R → IsIn d (map (encoded w) (filter (is_encoded w) R))
+    kept d small j =
+        subst (λ x. IsIn x (map (encoded w) (filter (is_encoded w) R))) (decoded_back w d small)
+        (in_map (encoded w) (decoded w d) (filter (is_encoded w) R) (in_filter (is_encoded w) (decoded w d) R j (is_encoded_from w d small)))
+
+pub all_from_great : (w : Several) (c : Couple) → IsSeveral w → c.t < total w → GreatCouple (combined w) c → GreatAll w (decoded w c)
+all_from_great w c ok l (R, sim, i) = (
+  map (decoded w) (filter (λ d. nat_lt d.t (total w)) R),
+  λ d j.
+      let (m, k, same) = from_map (decoded w) d (filter (λ d. nat_lt d.t (total w)) R) j in
+      let (h, valid) = filter_in (λ d. nat_lt d.t (total w)) m R k in
+      subst (MeetsAll w (λ d. IsIn d (map (decoded w) (filter (λ d. nat_lt d.t (total w)) R)))) (sym same)
+      (meets_members w (λ d. IsIn d R) (λ d. IsIn d (map (decoded w) (filter (λ d. nat_lt d.t (total w)) R))) m ok (ltb-true m.t (total w) valid) kept (sim m h)),
+  kept c l i,
+)
+  where
+    kept : (d : Couple) → d.t < total w → IsIn d R → IsIn (decoded w d) (map (decoded w) (filter (λ d. nat_lt d.t (total w)) R))
+    kept d small j =
+        in_map (decoded w) d (filter (λ d. nat_lt d.t (total w)) R) (in_filter (λ d. nat_lt d.t (total w)) d R j (lt-ltb d.t (total w) small))
+
+-- The combined system is one.
+
+starts_below : (env : Env) (targets : List Beh) → ((target : Beh) → IsIn target targets → IsBeh env target × IsDeterministic target) →
+    AreBelow (target_sizes targets) (map (λ target. target.start) targets)
+starts_below env [] ok = tt
+starts_below env (target ∷ targets) ok = ((ok target (inl refl)).0.start, starts_below env targets (λ x i. ok x (inr i)))
+
+pub combined_single : (w : Several) → IsSeveral w → IsDeterministic (combined w).target
+combined_single w ok b e n b1 b2 h1 h2 =
+    let (l, l1, r1, target1, step1) = from_combined_target w b e n b1 h1 in
+    let (m, l2, r2, target2, step2) = from_combined_target w b e n b2 h2 in
+    let same : r2 ≡ r1 = same_Some r2 r1 (sym step2.request ∙ step1.request) in
+    let member2 : slice_get w.targets r1.target ≡ Some target2 = subst (λ (x : Request). slice_get w.targets x.target ≡ Some target2) same step2.member in
+    let same_target : target2 ≡ target1 = same_Some target2 target1 (sym member2 ∙ step1.member) in
+    let goes2 : IsTrue (has_move target1 (slice_index (states_of w b) r1.target) e r1.action (slice_index (states_of w b2) r1.target)) =
+    subst (λ (x : Beh). IsTrue (has_move x (slice_index (states_of w b) r1.target) e r1.action (slice_index (states_of w b2) r1.target))) same_target
+    (subst (λ (x : Request). IsTrue (has_move target2 (slice_index (states_of w b) x.target) e x.action (slice_index (states_of w b2) x.target))) same step2.goes) in
+    let others2 : slice_set (states_of w b) r1.target (slice_index (states_of w b2) r1.target) ≡ states_of w b2 =
+    subst (λ (x : Request). slice_set (states_of w b) x.target (slice_index (states_of w b2) x.target) ≡ states_of w b2) same step2.others in
+    let one : slice_index (states_of w b1) r1.target ≡ slice_index (states_of w b2) r1.target =
+    (ok.targets target1 (get_in w.targets r1.target target1 step1.member)).1 (slice_index (states_of w b) r1.target) e r1.action
+    (slice_index (states_of w b1) r1.target) (slice_index (states_of w b2) r1.target) step1.goes goes2 in
+    let lists : states_of w b1 ≡ states_of w b2 = sym step1.others ∙ ap (slice_set (states_of w b) r1.target) one ∙ others2 in
+    sym (states_number-at (target_sizes w.targets) b1 l1) ∙ ap (number_of w) lists ∙ states_number-at (target_sizes w.targets) b2 l2
+
+pub combined_system : (w : Several) → IsSeveral w → IsSys (combined w)
+combined_system w ok =
+    let start : combined_start w.targets < total w =
+    states_number_below (target_sizes w.targets) (map (λ target. target.start) w.targets) (starts_below w.env w.targets ok.targets) in
+    record {
+      env = IsEnv-made w.env.states (length (all_requests w)) w.env.start (λ e n e'. has_triple_on w.env (slice_get (all_requests w) n) e e') ok.env.states ok.actions ok.env.start;
+      target = IsBeh-made (combined w).env (total w) (combined_start w.targets)
+          (λ t. are_final w.targets (states_of w t)) (λ t e n t'. targets_go w.targets (slice_get (all_requests w) n) (states_of w t) e (states_of w t')) (omega arith, ok.states) start;
+      single = combined_single w ok;
+      seats = λ x i.
+          let (seat, j, same) = from_map (combined_seat w.env.states (all_requests w)) x w.seats i in
+          let own : IsBeh w.env seat.beh = ok.seats seat j in
+          subst (λ (y : Seat). IsBeh (combined w).env y.beh) (sym same)
+          (IsBeh-made (combined w).env seat.beh.states seat.beh.start (is_final seat.beh) (λ b e n b'. has_move_on seat.beh (slice_get (all_requests w) n) b e b') own.states own.start);
+      few = subst (λ n. n ≤ MAX_SERVICES) (sym (map_length (combined_seat w.env.states (all_requests w)) w.seats)) ok.few;
+    }
+
+-- A pair of the combined system is related exactly where it is related for all targets.
+pub combined_is_all : CombinedIsAll
+combined_is_all w ok = record {
+  system = combined_system w ok;
+  great = λ p pair. (all_from_great w (couple p) ok pair.t, great_from_all w (couple p) ok pair.t);
+}

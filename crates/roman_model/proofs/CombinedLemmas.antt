@@ -1,0 +1,233 @@
+-- The combined actions, and the steps and final states of the combined parts: they are those of the members.
+use Rattle.std.proofs.Common.{◌≡◌, ℕ, zero, suc, ◌<◌, ◌≤◌, ◌==◌, Bool, true, false, not, ◌&&◌, ◌||◌, List, [], ◌∷◌, map, length, Option, Some, None, IsTrue, IsFalse, filter, flat_map, slice_get, slice_index, slice_set, nat_lt, inl, inr, refl, sym, ap, ap₂, ◌∙◌, subst, arith}
+use Rattle.std.specs.List.{AllZip, list_any}
+use Rattle.std.proofs.lemmas.Bool.{false≢true, and_parts, and_from, or_cases, or_left, or_right, eqb-true, eq-eqb, not_from_false, not-true, ltb-true, lt-ltb}
+use Rattle.std.proofs.lemmas.Option.{none-some, same_Some, slice_get_within}
+use Rattle.roman_model.specs.Lists.{IsIn, below, is_empty, product_of}
+use Rattle.roman_model.specs.System.{Triple, Env, Move, Beh, Seat, Sys, Pair, has, has_triple, has_move, IsEnv, IsBeh, IsDeterministic, IsSys, IsPair, TStep, SStep, Allows, beh_next, is_final, all_final, same_numbers}
+use Rattle.roman_model.specs.declared.limits.TheConstants.{MAX_SERVICES}
+use Rattle.roman_model.specs.Numbers.{states_number, states_at}
+use Rattle.roman_model.specs.Composition.{Couple, couple, Serves, Meets, IsNdSim, GreatCouple, Great}
+use Rattle.roman_model.specs.declared.request.Request.{Request}
+use Rattle.roman_model.specs.Several.{Several, of_one, CoupleAll, are_final, ServesAll, MeetsAll, IsNdSimAll, GreatAll}
+use Rattle.roman_model.specs.Combined.{stands_in, uses, requests_of, has_triple_on, has_move_on, member_goes, targets_go, combined_beh, target_sizes, combined_start, combined_seat, all_requests, combined, IsSeveral, couple_all, CombinedIsAll}
+use Rattle.roman_model.proofs.Places.{get_in, in_get, from_get_map, get_map, map_length, index_set}
+use Rattle.roman_model.proofs.Lists.{by_test, same_test, in_map, from_map, in_flat_map, from_flat_map, in_filter, filter_in, any_true, any_from, in_not_empty, not_empty_in, in_below, from_below}
+use Rattle.roman_model.proofs.SystemLemmas.{same_numbers_is, same_numbers_itself, triple_in_range, move_in_range, in_beh_next, from_beh_next}
+use Rattle.roman_model.proofs.NumberLemmas.{AreBelow, AreBelow-length, AreBelow-at, AreBelow-set, states_number_below, states_at-number, states_number-at}
+use Rattle.roman_model.proofs.CompositionLemmas.{meets_more}
+use Rattle.roman_model.proofs.MadeLemmas.{from_made_triple, made_triple, IsEnv-made, move_test, move_passes, from_made_move, made_move, IsBeh-made, from_made_final, made_final}
+
+-- The combined actions.
+
+-- an action that is used by a step is one of the combined actions
+pub in_requests : (env : Env) (targets : List Beh) (i : ℕ) (target : Beh) (b e a b' : ℕ) → slice_get targets i ≡ Some target → IsBeh env target →
+    IsTrue (has_move target b e a b') → IsIn (record { target = i; action = a }) (requests_of env.actions targets)
+in_requests env targets i target b e a b' at ok t =
+    let (m, j, passes) = any_true (λ m. m.from == b && m.action == a && has m.guard e && m.to == b') target.steps t in
+    let (from, action, guard, to) = move_test m b e a b' passes in
+    let stands : IsTrue (stands_in (Some target) a) =
+    any_from (λ n. n.action == a && not (is_empty n.guard)) m target.steps j
+    (and_from (m.action == a) (not (is_empty m.guard)) (eq-eqb m.action a action) (not_from_false (is_empty m.guard) (in_not_empty e m.guard guard))) in
+    in_flat_map (λ i. map (λ a. record { target = i; action = a }) (filter (stands_in (slice_get targets i)) (below env.actions))) i (record { target = i; action = a })
+    (below (length targets)) (in_below (length targets) i (slice_get_within targets i target at))
+    (in_map (λ a. record { target = i; action = a }) a (filter (stands_in (slice_get targets i)) (below env.actions))
+    (in_filter (stands_in (slice_get targets i)) a (below env.actions) (in_below env.actions a (move_in_range env target b e a b' ok t).2)
+    (subst (λ o. IsTrue (stands_in o a)) (sym at) stands)))
+
+-- where the numbers are in range, an action stands in a step exactly where the behaviour goes somewhere by it
+pub stands_uses : (env : Env) (beh : Beh) (a : ℕ) → IsBeh env beh → stands_in (Some beh) a ≡ uses env.states beh a
+stands_uses env beh a ok = same_test (stands_in (Some beh) a) (uses env.states beh a)
+    (λ t.
+    let (m, i, passes) = any_true (λ m. m.action == a && not (is_empty m.guard)) beh.steps t in
+    let (action, some) = and_parts (m.action == a) (not (is_empty m.guard)) passes in
+    let (e, j) = not_empty_in m.guard (not-true (is_empty m.guard) some) in
+    let goes : IsTrue (has_move beh m.from e a m.to) = subst (λ n. IsTrue (has_move beh m.from e n m.to)) (eqb-true m.action a action)
+    (any_from (λ n. n.from == m.from && n.action == m.action && has n.guard e && n.to == m.to) m beh.steps i (move_passes m.from e m.action m.to m.guard j)) in
+    let (hb, he, ha, hb') = move_in_range env beh m.from e a m.to ok goes in
+    any_from (λ b. list_any (λ e. not (is_empty (beh_next beh b e a))) (below env.states)) m.from (below beh.states) (in_below beh.states m.from hb)
+    (any_from (λ e. not (is_empty (beh_next beh m.from e a))) e (below env.states) (in_below env.states e he)
+    (not_from_false (is_empty (beh_next beh m.from e a)) (in_not_empty m.to (beh_next beh m.from e a) (in_beh_next env beh m.from e a m.to ok goes)))))
+    (λ t.
+    let (b, i, u) = any_true (λ b. list_any (λ e. not (is_empty (beh_next beh b e a))) (below env.states)) (below beh.states) t in
+    let (e, j, some) = any_true (λ e. not (is_empty (beh_next beh b e a))) (below env.states) u in
+    let (b', k) = not_empty_in (beh_next beh b e a) (not-true (is_empty (beh_next beh b e a)) some) in
+    let (m, n, passes) = any_true (λ m. m.from == b && m.action == a && has m.guard e && m.to == b') beh.steps (from_beh_next beh b e a b' k) in
+    let (from, action, guard, to) = move_test m b e a b' passes in
+    any_from (λ m. m.action == a && not (is_empty m.guard)) m beh.steps n
+    (and_from (m.action == a) (not (is_empty m.guard)) (eq-eqb m.action a action) (not_from_false (is_empty m.guard) (in_not_empty e m.guard guard))))
+
+-- The combined environment.
+
+from_triple_on : (env : Env) (o : Option Request) (e e' : ℕ) → IsTrue (has_triple_on env o e e') → (r : Request) × (o ≡ Some r) × IsTrue (has_triple env e r.action e')
+from_triple_on env None e e' t = absurd (false≢true t)
+from_triple_on env (Some r) e e' t = (r, refl, t)
+
+pub from_combined_triple : (w : Several) (e n e' : ℕ) → IsTrue (has_triple (combined w).env e n e') →
+    (r : Request) × (slice_get (all_requests w) n ≡ Some r) × IsTrue (has_triple w.env e r.action e')
+from_combined_triple w e n e' t =
+    from_triple_on w.env (slice_get (all_requests w) n) e e'
+    (from_made_triple w.env.states (length (all_requests w)) w.env.start (λ e n e'. has_triple_on w.env (slice_get (all_requests w) n) e e') e n e' t).3
+
+pub combined_triple : (w : Several) (e n e' : ℕ) (r : Request) → IsEnv w.env → slice_get (all_requests w) n ≡ Some r → IsTrue (has_triple w.env e r.action e') →
+    IsTrue (has_triple (combined w).env e n e')
+combined_triple w e n e' r ok at t =
+    let (l, m, k) = triple_in_range w.env e r.action e' ok t in
+    made_triple w.env.states (length (all_requests w)) w.env.start (λ e n e'. has_triple_on w.env (slice_get (all_requests w) n) e e') e n e'
+    l (slice_get_within (all_requests w) n r at) k (subst (λ o. IsTrue (has_triple_on w.env o e e')) (sym at) t)
+
+-- The combined behaviours.
+
+pub from_combined_move : (w : Several) (beh : Beh) (b e n b' : ℕ) (r : Request) → slice_get (all_requests w) n ≡ Some r →
+    IsTrue (has_move (combined_beh w.env.states (all_requests w) beh) b e n b') → IsTrue (has_move beh b e r.action b')
+from_combined_move w beh b e n b' r at t =
+    subst (λ o. IsTrue (has_move_on beh o b e b')) at
+    (from_made_move w.env.states (length (all_requests w)) beh.states beh.start (is_final beh) (λ b e n b'. has_move_on beh (slice_get (all_requests w) n) b e b') b e n b' t).4
+
+pub combined_move : (w : Several) (beh : Beh) (b e n b' : ℕ) (r : Request) → IsBeh w.env beh → slice_get (all_requests w) n ≡ Some r →
+    IsTrue (has_move beh b e r.action b') → IsTrue (has_move (combined_beh w.env.states (all_requests w) beh) b e n b')
+combined_move w beh b e n b' r ok at t =
+    let (hb, he, ha, hb') = move_in_range w.env beh b e r.action b' ok t in
+    made_move w.env.states (length (all_requests w)) beh.states beh.start (is_final beh) (λ b e n b'. has_move_on beh (slice_get (all_requests w) n) b e b') b e n b'
+    hb he (slice_get_within (all_requests w) n r at) hb' (subst (λ o. IsTrue (has_move_on beh o b e b')) (sym at) t)
+
+pub from_combined_sstep : (w : Several) (target : Beh) (bs : List ℕ) (e n k : ℕ) (bs' : List ℕ) (e' : ℕ) (r : Request) → slice_get (all_requests w) n ≡ Some r →
+    IsTrue (has_triple w.env e r.action e') → SStep (combined w) bs e n k bs' e' → SStep (of_one w target) bs e r.action k bs' e'
+from_combined_sstep w target bs e n k bs' e' r at world step =
+    let (seat, seated, is) = from_get_map (combined_seat w.env.states (all_requests w)) w.seats k step.seat step.seated in
+    record {
+      seat = seat;
+      seated = seated;
+      ready = subst (λ (x : Seat). IsFalse x.frozen) is step.ready;
+      world = world;
+      to = step.to;
+      moves = from_combined_move w seat.beh (slice_index bs k) e n step.to r at (subst (λ (x : Seat). IsTrue (has_move x.beh (slice_index bs k) e n step.to)) is step.moves);
+      is = step.is;
+    }
+
+pub combined_sstep : (w : Several) (target : Beh) (bs : List ℕ) (e n k : ℕ) (bs' : List ℕ) (e' : ℕ) (r : Request) → IsSeveral w → slice_get (all_requests w) n ≡ Some r →
+    SStep (of_one w target) bs e r.action k bs' e' → SStep (combined w) bs e n k bs' e'
+combined_sstep w target bs e n k bs' e' r ok at step = record {
+  seat = combined_seat w.env.states (all_requests w) step.seat;
+  seated = get_map (combined_seat w.env.states (all_requests w)) w.seats k step.seat step.seated;
+  ready = step.ready;
+  world = combined_triple w e n e' r ok.env at step.world;
+  to = step.to;
+  moves = combined_move w step.seat.beh (slice_index bs k) e n step.to r (ok.seats step.seat (get_in w.seats k step.seat step.seated)) at step.moves;
+  is = step.is;
+}
+
+-- The combined target.
+
+pub size_at : (targets : List Beh) (i : ℕ) (target : Beh) → slice_get targets i ≡ Some target → slice_index (target_sizes targets) i ≡ target.states
+size_at [] i target e = absurd (none-some target e)
+size_at (x ∷ targets) zero target e = ap (λ (y : Beh). y.states) (same_Some x target e)
+size_at (x ∷ targets) (suc i) target e = size_at targets i target e
+
+-- what a step of the combined target is: which member goes, and that the others stay
+pub record IsMemberStep (w : Several) (n : ℕ) (ts : List ℕ) (e : ℕ) (ts' : List ℕ) (r : Request) (target : Beh) : Type 0 where
+  pub request : slice_get (all_requests w) n ≡ Some r
+  pub member : slice_get w.targets r.target ≡ Some target
+  pub goes : IsTrue (has_move target (slice_index ts r.target) e r.action (slice_index ts' r.target))
+  pub others : slice_set ts r.target (slice_index ts' r.target) ≡ ts'
+
+from_member : (targets : List Beh) (o : Option Beh) (i a : ℕ) (ts : List ℕ) (e : ℕ) (ts' : List ℕ) → IsTrue (member_goes o i a ts e ts') →
+    (target : Beh) × (o ≡ Some target) × IsTrue (has_move target (slice_index ts i) e a (slice_index ts' i)) × (slice_set ts i (slice_index ts' i) ≡ ts')
+from_member targets None i a ts e ts' t = absurd (false≢true t)
+from_member targets (Some target) i a ts e ts' t =
+    let (goes, same) = and_parts (has_move target (slice_index ts i) e a (slice_index ts' i)) (same_numbers (slice_set ts i (slice_index ts' i)) ts') t in
+    (target, refl, goes, same_numbers_is (slice_set ts i (slice_index ts' i)) ts' same)
+
+from_targets_go : (w : Several) (n : ℕ) (ts : List ℕ) (e : ℕ) (ts' : List ℕ) (o : Option Request) → slice_get (all_requests w) n ≡ o →
+    IsTrue (targets_go w.targets o ts e ts') → (r : Request) × (target : Beh) × IsMemberStep w n ts e ts' r target
+from_targets_go w n ts e ts' None at t = absurd (false≢true t)
+from_targets_go w n ts e ts' (Some r) at t =
+    let (target, member, goes, others) = from_member w.targets (slice_get w.targets r.target) r.target r.action ts e ts' t in
+    (r, target, record { request = at; member = member; goes = goes; others = others })
+
+-- the states of the targets for a combined state
+abbrev pub states_of : Several → ℕ → List ℕ
+states_of w t = states_at (target_sizes w.targets) t
+
+-- the combined state of the targets' states
+abbrev pub number_of : Several → List ℕ → ℕ
+number_of w ts = states_number (target_sizes w.targets) ts
+
+-- how many combined states there are
+abbrev pub total : Several → ℕ
+total w = product_of (target_sizes w.targets)
+
+pub from_combined_target : (w : Several) (t e n t' : ℕ) → IsTrue (has_move (combined w).target t e n t') →
+    (t < total w) × (t' < total w) × (r : Request) × (target : Beh) × IsMemberStep w n (states_of w t) e (states_of w t') r target
+from_combined_target w t e n t' h =
+    let (ht, he, hn, ht', goes) = from_made_move w.env.states (length (all_requests w)) (total w) (combined_start w.targets)
+    (λ t. are_final w.targets (states_of w t)) (λ t e n t'. targets_go w.targets (slice_get (all_requests w) n) (states_of w t) e (states_of w t')) t e n t' h in
+    let (r, target, step) = from_targets_go w n (states_of w t) e (states_of w t') (slice_get (all_requests w) n) refl goes in
+    (ht, ht', r, target, step)
+
+-- the list of states after a member's step is one again
+pub member_below : (w : Several) (t : ℕ) (i : ℕ) (target : Beh) (t' : ℕ) → t < total w → slice_get w.targets i ≡ Some target → t' < target.states →
+    AreBelow (target_sizes w.targets) (slice_set (states_of w t) i t')
+member_below w t i target t' l at h =
+    AreBelow-set (target_sizes w.targets) (states_of w t) i t' (AreBelow-at (target_sizes w.targets) t l) (subst (λ n. t' < n) (sym (size_at w.targets i target at)) h)
+
+pub combined_target_goes : (w : Several) (t e n t' : ℕ) (r : Request) (target : Beh) → IsSeveral w → t < total w → slice_get (all_requests w) n ≡ Some r →
+    slice_get w.targets r.target ≡ Some target → IsTrue (has_move target (slice_index (states_of w t) r.target) e r.action t') →
+    IsTrue (has_move (combined w).target t e n (number_of w (slice_set (states_of w t) r.target t')))
+combined_target_goes w t e n t' r target ok l at member goes =
+    let (hb, he, ha, hb') = move_in_range w.env target (slice_index (states_of w t) r.target) e r.action t' (ok.targets target (get_in w.targets r.target target member)).0 goes in
+    let below : AreBelow (target_sizes w.targets) (slice_set (states_of w t) r.target t') = member_below w t r.target target t' l member hb' in
+    let back : states_of w (number_of w (slice_set (states_of w t) r.target t')) ≡ slice_set (states_of w t) r.target t' =
+    states_at-number (target_sizes w.targets) (slice_set (states_of w t) r.target t') below in
+    let within : r.target < length (states_of w t) =
+    subst (λ m. r.target < m) (sym (AreBelow-length (target_sizes w.targets) (states_of w t) (AreBelow-at (target_sizes w.targets) t l) ∙ map_length (λ target. target.states) w.targets))
+    (slice_get_within w.targets r.target target member) in
+    let there : slice_index (slice_set (states_of w t) r.target t') r.target ≡ t' = index_set (states_of w t) r.target t' within in
+    let passes : IsTrue (member_goes (Some target) r.target r.action (states_of w t) e (slice_set (states_of w t) r.target t')) =
+    and_from (has_move target (slice_index (states_of w t) r.target) e r.action (slice_index (slice_set (states_of w t) r.target t') r.target))
+    (same_numbers (slice_set (states_of w t) r.target (slice_index (slice_set (states_of w t) r.target t') r.target)) (slice_set (states_of w t) r.target t'))
+    (subst (λ m. IsTrue (has_move target (slice_index (states_of w t) r.target) e r.action m)) (sym there) goes)
+    (subst (λ m. IsTrue (same_numbers (slice_set (states_of w t) r.target m) (slice_set (states_of w t) r.target t'))) (sym there)
+    (same_numbers_itself (slice_set (states_of w t) r.target t'))) in
+    made_move w.env.states (length (all_requests w)) (total w) (combined_start w.targets)
+    (λ t. are_final w.targets (states_of w t)) (λ t e n t'. targets_go w.targets (slice_get (all_requests w) n) (states_of w t) e (states_of w t')) t e n
+    (number_of w (slice_set (states_of w t) r.target t'))
+    l he (slice_get_within (all_requests w) n r at) (states_number_below (target_sizes w.targets) (slice_set (states_of w t) r.target t') below)
+    (subst (λ o. IsTrue (targets_go w.targets o (states_of w t) e (states_of w (number_of w (slice_set (states_of w t) r.target t'))))) (sym at)
+    (subst (λ o. IsTrue (member_goes o r.target r.action (states_of w t) e (states_of w (number_of w (slice_set (states_of w t) r.target t'))))) (sym member)
+    (subst (λ us. IsTrue (member_goes (Some target) r.target r.action (states_of w t) e us)) (sym back) passes)))
+
+-- Finality.
+
+pub from_all_final_combined : (w : Several) (requests : List Request) (seats : List Seat) (bs : List ℕ) → IsTrue (all_final (map (combined_seat w.env.states requests) seats) bs) → IsTrue (all_final seats bs)
+from_all_final_combined w requests [] bs t = refl
+from_all_final_combined w requests (seat ∷ seats) [] t = absurd (false≢true t)
+from_all_final_combined w requests (seat ∷ seats) (b ∷ bs) t =
+    let (here, rest) = and_parts (not seat.rests || is_final (combined_beh w.env.states requests seat.beh) b) (all_final (map (combined_seat w.env.states requests) seats) bs) t in
+    and_from (not seat.rests || is_final seat.beh b) (all_final seats bs)
+    (elim (or_cases (not seat.rests) (is_final (combined_beh w.env.states requests seat.beh) b) here) [
+      | inl loose ↦ or_left (not seat.rests) (is_final seat.beh b) loose
+      | inr final ↦ or_right (not seat.rests) (is_final seat.beh b)
+          (from_made_final w.env.states (length requests) seat.beh.states seat.beh.start (is_final seat.beh) (λ b e n b'. has_move_on seat.beh (slice_get requests n) b e b') b final)
+    ])
+    (from_all_final_combined w requests seats bs rest)
+
+final_below : (env : Env) (beh : Beh) (b : ℕ) → IsBeh env beh → IsTrue (is_final beh b) → b < beh.states
+final_below env beh b ok t =
+    let (n, i, same) = any_true (λ n. n == b) beh.finals t in
+    subst (λ k. k < beh.states) (eqb-true n b same) (ok.finals n i)
+
+pub all_final_combined : (w : Several) (requests : List Request) (seats : List Seat) (bs : List ℕ) → ((x : Seat) → IsIn x seats → IsBeh w.env x.beh) →
+    IsTrue (all_final seats bs) → IsTrue (all_final (map (combined_seat w.env.states requests) seats) bs)
+all_final_combined w requests [] bs ok t = refl
+all_final_combined w requests (seat ∷ seats) [] ok t = absurd (false≢true t)
+all_final_combined w requests (seat ∷ seats) (b ∷ bs) ok t =
+    let (here, rest) = and_parts (not seat.rests || is_final seat.beh b) (all_final seats bs) t in
+    and_from (not seat.rests || is_final (combined_beh w.env.states requests seat.beh) b) (all_final (map (combined_seat w.env.states requests) seats) bs)
+    (elim (or_cases (not seat.rests) (is_final seat.beh b) here) [
+      | inl loose ↦ or_left (not seat.rests) (is_final (combined_beh w.env.states requests seat.beh) b) loose
+      | inr final ↦ or_right (not seat.rests) (is_final (combined_beh w.env.states requests seat.beh) b)
+          (made_final w.env.states (length requests) seat.beh.states seat.beh.start (is_final seat.beh) (λ b e n b'. has_move_on seat.beh (slice_get requests n) b e b') b
+          (final_below w.env seat.beh b (ok seat (inl refl)) final) final)
+    ])
+    (all_final_combined w requests seats bs (λ x i. ok x (inr i)) rest)

@@ -1,0 +1,167 @@
+-- Of records made by tests: the steps are exactly those that pass, the numbers are in range, and equal tests make equal records.
+use Rattle.std.proofs.Common.{◌≡◌, ℕ, ◌<◌, ◌≤◌, ◌==◌, Bool, ◌&&◌, IsTrue, List, [], ◌∷◌, map, filter, sym, ap, ap₂, ◌∙◌, subst, inl, inr, refl}
+use Rattle.std.proofs.lemmas.Bool.{eq-eqb, eqb-true, and_parts, and_from}
+use Rattle.roman_model.specs.Lists.{IsIn, below}
+use Rattle.roman_model.specs.System.{Triple, Env, Move, Beh, has, has_triple, has_move, IsEnv, IsBeh, is_final}
+use Rattle.roman_model.specs.declared.limits.TheConstants.{MAX_STATES, MAX_ACTIONS}
+use Rattle.roman_model.specs.Normal.{guarded_step}
+use Rattle.roman_model.specs.Made.{env_from, beh_from}
+use Rattle.roman_model.proofs.Lists.{any_true, any_from, in_map, from_map, in_flat_map, from_flat_map, in_filter, filter_in, in_below, from_below, filter_same}
+use Rattle.roman_model.proofs.ChangeLemmas.{flat_map_same_in}
+
+-- An environment's triples.
+
+from_made_triples : (states actions start : ℕ) (goes : ℕ → ℕ → ℕ → Bool) (x : Triple) → IsIn x (env_from states actions start goes).triples →
+    (x.from < states) × (x.action < actions) × (x.to < states) × IsTrue (goes x.from x.action x.to)
+from_made_triples states actions start goes x i =
+    let (e, ie, ix) = from_flat_map _ x (below states) i in
+    let (a, ia, iy) = from_flat_map _ x (below actions) ix in
+    let (e', ie', same) = from_map _ x (filter (goes e a) (below states)) iy in
+    let (it, step) = filter_in (goes e a) e' (below states) ie' in
+    subst (λ (y : Triple). (y.from < states) × (y.action < actions) × (y.to < states) × IsTrue (goes y.from y.action y.to)) (sym same)
+    (from_below states e ie, from_below actions a ia, from_below states e' it, step)
+
+pub from_made_triple : (states actions start : ℕ) (goes : ℕ → ℕ → ℕ → Bool) (e a e' : ℕ) → IsTrue (has_triple (env_from states actions start goes) e a e') →
+    (e < states) × (a < actions) × (e' < states) × IsTrue (goes e a e')
+from_made_triple states actions start goes e a e' t =
+    let (x, i, passes) = any_true (λ x. x.from == e && x.action == a && x.to == e') (env_from states actions start goes).triples t in
+    let (front, to) = and_parts (x.from == e && x.action == a) (x.to == e') passes in
+    let (from, action) = and_parts (x.from == e) (x.action == a) front in
+    let (l, m, n, own) = from_made_triples states actions start goes x i in (
+      subst (λ y. y < states) (eqb-true x.from e from) l,
+      subst (λ y. y < actions) (eqb-true x.action a action) m,
+      subst (λ y. y < states) (eqb-true x.to e' to) n,
+      sym (ap₂ (λ p q. goes p q x.to) (eqb-true x.from e from) (eqb-true x.action a action) ∙ ap (goes e a) (eqb-true x.to e' to)) ∙ own,
+    )
+
+pub made_triple : (states actions start : ℕ) (goes : ℕ → ℕ → ℕ → Bool) (e a e' : ℕ) → e < states → a < actions → e' < states → IsTrue (goes e a e') →
+    IsTrue (has_triple (env_from states actions start goes) e a e')
+made_triple states actions start goes e a e' he ha he' t =
+    any_from (λ x. x.from == e && x.action == a && x.to == e') (record { from = e; action = a; to = e' }) (env_from states actions start goes).triples
+    (in_flat_map _ e (record { from = e; action = a; to = e' }) (below states) (in_below states e he)
+    (in_flat_map _ a (record { from = e; action = a; to = e' }) (below actions) (in_below actions a ha)
+    (in_map _ e' (filter (goes e a) (below states)) (in_filter (goes e a) e' (below states) (in_below states e' he') t))))
+    (and_from (e == e && a == a) (e' == e') (and_from (e == e) (a == a) (eq-eqb e e refl) (eq-eqb a a refl)) (eq-eqb e' e' refl))
+
+pub IsEnv-made : (states actions start : ℕ) (goes : ℕ → ℕ → ℕ → Bool) → (0 < states) × (states ≤ MAX_STATES) → (0 < actions) × (actions ≤ MAX_ACTIONS) → start < states →
+    IsEnv (env_from states actions start goes)
+IsEnv-made states actions start goes some few begins = record {
+  states = some;
+  actions = few;
+  start = begins;
+  triples = λ x i. let (l, m, n, own) = from_made_triples states actions start goes x i in (l, m, n);
+}
+
+-- A behaviour's steps.
+
+from_guarded : (b a b' : ℕ) (guard : List ℕ) (m : Move) → IsIn m (guarded_step b a b' guard) → m ≡ record { from = b; guard = guard; action = a; to = b' }
+from_guarded b a b' [] m i = absurd i
+from_guarded b a b' (e ∷ es) m (inl same) = same
+from_guarded b a b' (e ∷ es) m (inr none) = absurd none
+
+in_guarded : (b a b' : ℕ) (guard : List ℕ) (e : ℕ) → IsIn e guard → IsIn (record { from = b; guard = guard; action = a; to = b' }) (guarded_step b a b' guard)
+in_guarded b a b' [] e i = absurd i
+in_guarded b a b' (g ∷ gs) e i = inl refl
+
+from_made_steps : (env_states actions states start : ℕ) (final : ℕ → Bool) (goes : ℕ → ℕ → ℕ → ℕ → Bool) (m : Move) →
+    IsIn m (beh_from env_states actions states start final goes).steps →
+    (m.from < states) × (m.action < actions) × (m.to < states) × ((e : ℕ) → IsIn e m.guard → (e < env_states) × IsTrue (goes m.from e m.action m.to))
+from_made_steps env_states actions states start final goes m i =
+    let (b, ib, im) = from_flat_map _ m (below states) i in
+    let (a, ia, in') = from_flat_map _ m (below actions) im in
+    let (b', ib', io) = from_flat_map _ m (below states) in' in
+    subst
+    (λ (n : Move). (n.from < states) × (n.action < actions) × (n.to < states)
+    × ((e : ℕ) → IsIn e n.guard → (e < env_states) × IsTrue (goes n.from e n.action n.to)))
+    (sym (from_guarded b a b' (filter (λ e. goes b e a b') (below env_states)) m io)) (
+      from_below states b ib,
+      from_below actions a ia,
+      from_below states b' ib',
+      λ e ie. let (it, step) = filter_in (λ e. goes b e a b') e (below env_states) ie in (from_below env_states e it, step),
+    )
+
+-- what the test of a step finds
+pub move_test : (m : Move) (b e a b' : ℕ) → IsTrue (m.from == b && m.action == a && has m.guard e && m.to == b') →
+    (m.from ≡ b) × (m.action ≡ a) × IsIn e m.guard × (m.to ≡ b')
+move_test m b e a b' t =
+    let (front, to) = and_parts (m.from == b && m.action == a && has m.guard e) (m.to == b') t in
+    let (ends, guard) = and_parts (m.from == b && m.action == a) (has m.guard e) front in
+    let (from, action) = and_parts (m.from == b) (m.action == a) ends in
+    let (g, i, same) = any_true (λ n. n == e) m.guard guard in
+    (eqb-true m.from b from, eqb-true m.action a action, subst (λ n. IsIn n m.guard) (eqb-true g e same) i, eqb-true m.to b' to)
+
+pub move_passes : (b e a b' : ℕ) (guard : List ℕ) → IsIn e guard → IsTrue (b == b && a == a && has guard e && b' == b')
+move_passes b e a b' guard i =
+    and_from (b == b && a == a && has guard e) (b' == b')
+    (and_from (b == b && a == a) (has guard e) (and_from (b == b) (a == a) (eq-eqb b b refl) (eq-eqb a a refl)) (any_from (λ n. n == e) e guard i (eq-eqb e e refl)))
+    (eq-eqb b' b' refl)
+
+pub from_made_move : (env_states actions states start : ℕ) (final : ℕ → Bool) (goes : ℕ → ℕ → ℕ → ℕ → Bool) (b e a b' : ℕ) →
+    IsTrue (has_move (beh_from env_states actions states start final goes) b e a b') →
+    (b < states) × (e < env_states) × (a < actions) × (b' < states) × IsTrue (goes b e a b')
+from_made_move env_states actions states start final goes b e a b' t =
+    let (m, i, passes) = any_true (λ m. m.from == b && m.action == a && has m.guard e && m.to == b') (beh_from env_states actions states start final goes).steps t in
+    let (from, action, guard, to) = move_test m b e a b' passes in
+    let (hb, ha, hb', each) = from_made_steps env_states actions states start final goes m i in
+    let (he, own) = each e guard in (
+      subst (λ n. n < states) from hb,
+      he,
+      subst (λ n. n < actions) action ha,
+      subst (λ n. n < states) to hb',
+      sym (ap₂ (λ p q. goes p e q m.to) from action ∙ ap (goes b e a) to) ∙ own,
+    )
+
+pub made_move : (env_states actions states start : ℕ) (final : ℕ → Bool) (goes : ℕ → ℕ → ℕ → ℕ → Bool) (b e a b' : ℕ) →
+    b < states → e < env_states → a < actions → b' < states → IsTrue (goes b e a b') → IsTrue (has_move (beh_from env_states actions states start final goes) b e a b')
+made_move env_states actions states start final goes b e a b' hb he ha hb' t =
+    let guard : List ℕ = filter (λ e. goes b e a b') (below env_states) in
+    let move : Move = record { from = b; guard = guard; action = a; to = b' } in
+    let i : IsIn e guard = in_filter (λ e. goes b e a b') e (below env_states) (in_below env_states e he) t in
+    any_from (λ m. m.from == b && m.action == a && has m.guard e && m.to == b') move (beh_from env_states actions states start final goes).steps
+    (in_flat_map _ b move (below states) (in_below states b hb)
+    (in_flat_map _ a move (below actions) (in_below actions a ha)
+    (in_flat_map _ b' move (below states) (in_below states b' hb') (in_guarded b a b' guard e i))))
+    (move_passes b e a b' guard i)
+
+pub IsBeh-made : (env : Env) (states start : ℕ) (final : ℕ → Bool) (goes : ℕ → ℕ → ℕ → ℕ → Bool) → (0 < states) × (states ≤ MAX_STATES) → start < states →
+    IsBeh env (beh_from env.states env.actions states start final goes)
+IsBeh-made env states start final goes some begins = record {
+  states = some;
+  start = begins;
+  finals = λ b i. from_below states b (filter_in final b (below states) i).0;
+  steps = λ m i. let (hb, ha, hb', each) = from_made_steps env.states env.actions states start final goes m i in (hb, ha, hb');
+  guards = λ m i e ie. let (hb, ha, hb', each) = from_made_steps env.states env.actions states start final goes m i in (each e ie).0;
+}
+
+pub from_made_final : (env_states actions states start : ℕ) (final : ℕ → Bool) (goes : ℕ → ℕ → ℕ → ℕ → Bool) (b : ℕ) →
+    IsTrue (is_final (beh_from env_states actions states start final goes) b) → IsTrue (final b)
+from_made_final env_states actions states start final goes b t =
+    let (n, i, same) = any_true (λ n. n == b) (filter final (below states)) t in
+    subst (λ k. IsTrue (final k)) (eqb-true n b same) (filter_in final n (below states) i).1
+
+pub made_final : (env_states actions states start : ℕ) (final : ℕ → Bool) (goes : ℕ → ℕ → ℕ → ℕ → Bool) (b : ℕ) → b < states → IsTrue (final b) →
+    IsTrue (is_final (beh_from env_states actions states start final goes) b)
+made_final env_states actions states start final goes b hb t =
+    any_from (λ n. n == b) b (filter final (below states)) (in_filter final b (below states) (in_below states b hb) t) (eq-eqb b b refl)
+
+-- Tests that agree in range make one record.
+
+pub env_from_same : (states actions start : ℕ) (goes others : ℕ → ℕ → ℕ → Bool) →
+    ((e a e' : ℕ) → e < states → a < actions → e' < states → goes e a e' ≡ others e a e') → env_from states actions start goes ≡ env_from states actions start others
+env_from_same states actions start goes others same =
+    ap (λ triples. record { states = states; actions = actions; start = start; triples = triples })
+    (flat_map_same_in _ _ (below states) (λ e ie. flat_map_same_in _ _ (below actions) (λ a ia.
+    ap (map (λ e'. record { from = e; action = a; to = e' }))
+    (filter_same (goes e a) (others e a) (below states) (λ e' ie'. same e a e' (from_below states e ie) (from_below actions a ia) (from_below states e' ie'))))))
+
+pub beh_from_same : (env_states actions states start : ℕ) (final finals : ℕ → Bool) (goes others : ℕ → ℕ → ℕ → ℕ → Bool) →
+    ((b : ℕ) → b < states → final b ≡ finals b) →
+    ((b e a b' : ℕ) → b < states → e < env_states → a < actions → b' < states → goes b e a b' ≡ others b e a b') →
+    beh_from env_states actions states start final goes ≡ beh_from env_states actions states start finals others
+beh_from_same env_states actions states start final finals goes others ends same =
+    ap₂ (λ (fs : List ℕ) (ms : List Move). record { states = states; start = start; finals = fs; steps = ms })
+    (filter_same final finals (below states) (λ b i. ends b (from_below states b i)))
+    (flat_map_same_in _ _ (below states) (λ b ib. flat_map_same_in _ _ (below actions) (λ a ia. flat_map_same_in _ _ (below states) (λ b' ib'.
+    ap (guarded_step b a b')
+    (filter_same (λ e. goes b e a b') (λ e. others b e a b') (below env_states)
+    (λ e ie. same b e a b' (from_below states b ib) (from_below env_states e ie) (from_below actions a ia) (from_below states b' ib')))))))

@@ -1,0 +1,98 @@
+-- The tests and lists of a system are what its steps say.
+use Rattle.std.proofs.Common.{◌≡◌, ℕ, zero, suc, ◌==◌, ◌&&◌, ◌||◌, not, ◌<◌, Bool, true, false, List, [], ◌∷◌, Some, IsTrue, slice_get, slice_index, refl, sym, subst}
+use Rattle.std.specs.List.{AllZip}
+use Rattle.std.proofs.lemmas.Bool.{eq-eqb, eqb-true, and_parts, and_from}
+use Rattle.roman_model.specs.Lists.{IsIn}
+use Rattle.roman_model.specs.System.{Triple, Env, Beh, Seat, has, has_triple, has_move, is_final, all_final}
+use Rattle.roman_model.proofs.Lists.{any_true, any_from}
+use Rattle.roman_model.proofs.SystemLemmas.{outcome_in, from_outcome, allowed_in, from_allowed}
+use Rattle.roman_model.proofs.CompositionLemmas.{fine_is, fine_from}
+use Rattle.roman_model.specs.Outcomes.{HasStep, OutcomesAreSteps, TestsAreMembership}
+
+-- Membership
+
+pub triple_listed : (env : Env) (e a e' : ℕ) → IsTrue (has_triple env e a e') → IsIn (record { from = e; action = a; to = e' }) env.triples
+triple_listed env e a e' h =
+    let (x, i, t) = any_true (λ x. x.from == e && x.action == a && x.to == e') env.triples h in
+    let (front, to) = and_parts (x.from == e && x.action == a) (x.to == e') t in
+    let (from, action) = and_parts (x.from == e) (x.action == a) front in
+    let same : x ≡ record { from = e; action = a; to = e' } =
+    rebuilt x.from e x.action a x.to e' (eqb-true x.from e from) (eqb-true x.action a action) (eqb-true x.to e' to) in
+    subst (λ (x : Triple). IsIn x env.triples) same i
+  where
+    rebuilt : (f e b a t e' : ℕ) → f ≡ e → b ≡ a → t ≡ e' → ◌≡◌ {A = Triple} (record { from = f; action = b; to = t }) (record { from = e; action = a; to = e' })
+    rebuilt f e b a t e' hf hb ht = rw (hf, hb, ht) refl
+
+pub listed_triple : (env : Env) (e a e' : ℕ) → IsIn (record { from = e; action = a; to = e' }) env.triples → IsTrue (has_triple env e a e')
+listed_triple env e a e' i =
+    any_from (λ x. x.from == e && x.action == a && x.to == e') (record { from = e; action = a; to = e' }) env.triples i
+    (and_from (e == e && a == a) (e' == e') (and_from (e == e) (a == a) (eq-eqb e e refl) (eq-eqb a a refl)) (eq-eqb e' e' refl))
+
+pub number_listed : (ns : List ℕ) (n : ℕ) → IsTrue (has ns n) → IsIn n ns
+number_listed ns n h =
+    let (m, i, same) = any_true (λ m. m == n) ns h in
+    subst (λ (k : ℕ). IsIn k ns) (eqb-true m n same) i
+
+pub listed_number : (ns : List ℕ) (n : ℕ) → IsIn n ns → IsTrue (has ns n)
+listed_number ns n i = any_from (λ m. m == n) n ns i (eq-eqb n n refl)
+
+pub step_listed : (beh : Beh) (b e a b' : ℕ) → IsTrue (has_move beh b e a b') → HasStep beh b e a b'
+step_listed beh b e a b' h =
+    let (m, i, t) = any_true (λ m. m.from == b && m.action == a && has m.guard e && m.to == b') beh.steps h in
+    let (front, to) = and_parts (m.from == b && m.action == a && has m.guard e) (m.to == b') t in
+    let (ends, guard) = and_parts (m.from == b && m.action == a) (has m.guard e) front in
+    let (from, action) = and_parts (m.from == b) (m.action == a) ends in
+    record { step = m; listed = i; from = eqb-true m.from b from; action = eqb-true m.action a action; to = eqb-true m.to b' to; guard = number_listed m.guard e guard }
+
+pub listed_step : (beh : Beh) (b e a b' : ℕ) → HasStep beh b e a b' → IsTrue (has_move beh b e a b')
+listed_step beh b e a b' h =
+    let m = h.step in
+    any_from (λ m. m.from == b && m.action == a && has m.guard e && m.to == b') m beh.steps h.listed
+    (and_from (m.from == b && m.action == a && has m.guard e) (m.to == b')
+    (and_from (m.from == b && m.action == a) (has m.guard e) (and_from (m.from == b) (m.action == a) (eq-eqb m.from b h.from) (eq-eqb m.action a h.action)) (listed_number m.guard e h.guard))
+    (eq-eqb m.to b' h.to))
+
+-- Finality, seat by seat
+
+-- a seat that rests is final, by the test of clause 2
+rested : (rests final : Bool) → IsTrue rests → IsTrue (not rests || final) → IsTrue final
+rested true final is h = h
+rested false final is h = absurd (let e : ⊥ = cc in e)
+
+resting : (rests final : Bool) → (IsTrue rests → IsTrue final) → IsTrue (not rests || final)
+resting true final h = h refl
+resting false final h = refl
+
+all_final_each : (seats : List Seat) (bs : List ℕ) → IsTrue (all_final seats bs) → (k : ℕ) (seat : Seat) → slice_get seats k ≡ Some seat → IsTrue seat.rests → IsTrue (is_final seat.beh (slice_index bs k))
+all_final_each [] bs h k seat there rests = cc
+all_final_each (x ∷ xs) [] h k seat there rests = absurd (let e : ⊥ = cc in e)
+all_final_each (x ∷ xs) (b ∷ bs) h zero seat there rests =
+    let (first, others) = and_parts (not x.rests || is_final x.beh b) (all_final xs bs) h in
+    let same : x ≡ seat = cc in
+    subst (λ (x : Seat). IsTrue (is_final x.beh b)) same (rested x.rests (is_final x.beh b) (subst (λ (x : Seat). IsTrue x.rests) (sym same) rests) first)
+all_final_each (x ∷ xs) (b ∷ bs) h (suc k) seat there rests =
+    let (first, others) = and_parts (not x.rests || is_final x.beh b) (all_final xs bs) h in
+    all_final_each xs bs others k seat there rests
+
+all_final_from : (seats : List Seat) (bs : List ℕ) → AllZip (λ seat b. b < seat.beh.states) seats bs →
+    ((k : ℕ) (seat : Seat) → slice_get seats k ≡ Some seat → IsTrue seat.rests → IsTrue (is_final seat.beh (slice_index bs k))) → IsTrue (all_final seats bs)
+all_final_from [] bs zip each = refl
+all_final_from (x ∷ xs) [] zip each = absurd zip
+all_final_from (x ∷ xs) (b ∷ bs) zip each =
+    and_from (not x.rests || is_final x.beh b) (all_final xs bs) (resting x.rests (is_final x.beh b) (λ r. each 0 x refl r))
+    (all_final_from xs bs zip.1 (λ k seat there rests. each (suc k) seat there rests))
+
+pub outcomes_steps : OutcomesAreSteps
+outcomes_steps s p ok = record {
+  allowed = λ a. (from_allowed s p a, allowed_in s p a ok);
+  reached = λ a k q. (from_outcome s p a k q, λ (target, system). outcome_in s p a k q.t q.e q.bs ok target system);
+  fine = (fine_is s p, fine_from s p);
+  rests = λ pair. (all_final_each s.seats p.bs, all_final_from s.seats p.bs pair.bs);
+}
+
+pub tests_membership : TestsAreMembership
+tests_membership = record {
+  triple = λ env e a e'. (triple_listed env e a e', listed_triple env e a e');
+  step = λ beh b e a b'. (step_listed beh b e a b', listed_step beh b e a b');
+  final = λ beh b. (number_listed beh.finals b, listed_number beh.finals b);
+}

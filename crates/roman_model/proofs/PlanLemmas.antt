@@ -1,0 +1,186 @@
+-- Of all plans at a related pair the one that takes the choice at each pair costs least.
+use Rattle.std.proofs.Common.{◌≡◌, ◌≢◌, ℕ, zero, suc, ◌+◌, ◌-◌, ◌<◌, ◌≤◌, Bool, true, false, cond, not, ◌⊎◌, List, [], ◌∷◌, ◌++◌, IsTrue, filter, nat_le, inl, inr, refl, sym, ap, ap₂, ◌∙◌, subst, arith}
+use Rattle.std.specs.Prelude.{max}
+use Rattle.std.proofs.Math.Nat.{le-max_left, le-max_right, max-le}
+use Rattle.std.proofs.lemmas.Bool.{cond-true, cond-false, leb-true, leb-false}
+use Rattle.roman_model.specs.Lists.{IsIn, below}
+use Rattle.roman_model.specs.System.{Sys, Pair, IsSys, IsPair, outcomes, is_allowed}
+use Rattle.roman_model.specs.Arena.{is_beaten}
+use Rattle.roman_model.specs.Composition.{Great, arena}
+use Rattle.roman_model.specs.Offers.{is_related, offers}
+use Rattle.roman_model.specs.Plans.{Costs, Plan, Leaf, Node, max_over, allowed_actions, IsPlan, worst, least_from, first_least, through, least, choice, chosen, IsChoice, PlansCostLeast}
+use Rattle.roman_model.proofs.Lists.{by_test, filter_in, from_below, from_push, not_empty_in, ne_not_empty}
+use Rattle.roman_model.proofs.SystemLemmas.{outcome_pair}
+use Rattle.roman_model.proofs.OfferLemmas.{offer_is, related_offers}
+
+-- The greatest value over a list.
+
+pub le_max_over : {X : Type 0} (f : X → ℕ) (x : X) (xs : List X) → IsIn x xs → f x ≤ max_over f xs
+le_max_over f x [] i = absurd i
+le_max_over f x (y ∷ xs) (inl e) = subst (λ z. f z ≤ max (f y) (max_over f xs)) (sym e) (le-max_left (f y) (max_over f xs))
+le_max_over f x (y ∷ xs) (inr i) =
+    let rest : f x ≤ max_over f xs = le_max_over f x xs i in
+    let more : max_over f xs ≤ max (f y) (max_over f xs) = le-max_right (f y) (max_over f xs) in
+    omega arith
+
+pub max_over_le : {X : Type 0} (f : X → ℕ) (m : ℕ) (xs : List X) → ((x : X) → IsIn x xs → f x ≤ m) → max_over f xs ≤ m
+max_over_le f m [] h = omega arith
+max_over_le f m (x ∷ xs) h = max-le (h x (inl refl)) (max_over_le f m xs (λ y i. h y (inr i)))
+
+pub max_over_more : {X : Type 0} (f g : X → ℕ) (xs : List X) → ((x : X) → IsIn x xs → f x ≤ g x) → max_over f xs ≤ max_over g xs
+max_over_more f g xs h = max_over_le f (max_over g xs) xs (λ x i.
+    let here : f x ≤ g x = h x i in
+    let there : g x ≤ max_over g xs = le_max_over g x xs i in
+    omega arith)
+
+pub max_over_same : {X : Type 0} (f g : X → ℕ) (xs : List X) → ((x : X) → IsIn x xs → f x ≡ g x) → max_over f xs ≡ max_over g xs
+max_over_same f g [] same = refl
+max_over_same f g (x ∷ xs) same = ap₂ max (same x (inl refl)) (max_over_same f g xs (λ y i. same y (inr i)))
+
+-- what is added to each value is added to the greatest
+pub max_over_plus : {X : Type 0} (c : ℕ) (f : X → ℕ) (xs : List X) → xs ≢ [] → max_over (λ x. c + f x) xs ≡ c + max_over f xs
+max_over_plus {X} c f xs some =
+    let (x, i) = not_empty_in xs (ne_not_empty xs some) in
+    let up : max_over (λ x. c + f x) xs ≤ c + max_over f xs = max_over_le (λ x. c + f x) (c + max_over f xs) xs (λ y j. let l : f y ≤ max_over f xs = le_max_over f y xs j in omega arith) in
+    let first : c + f x ≤ max_over (λ x. c + f x) xs = le_max_over (λ x. c + f x) x xs i in
+    let least : max_over f xs + c ≤ max_over (λ x. c + f x) xs = below (max_over (λ x. c + f x) xs) (omega arith) (λ y j. le_max_over (λ x. c + f x) y xs j) in
+    omega arith
+  where
+    below : (m : ℕ) → c ≤ m → ((y : X) → IsIn y xs → c + f y ≤ m) → max_over f xs + c ≤ m
+    below m l each =
+        let rest : max_over f xs ≤ m - c = max_over_le f (m - c) xs (λ y j. let e : c + f y ≤ m = each y j in omega arith) in
+        omega arith
+
+-- Rising lists.
+
+abbrev pub IsRising : List ℕ → Type 0
+IsRising [] = Unit {0}
+IsRising (x ∷ xs) = ((y : ℕ) → IsIn y xs → x < y) × IsRising xs
+
+rising_push : (xs : List ℕ) (n : ℕ) → IsRising xs → ((x : ℕ) → IsIn x xs → x < n) → IsRising (xs ++ n ∷ [])
+rising_push [] n rises less = (λ y i. absurd i, tt)
+rising_push (x ∷ xs) n rises less = (
+  λ y i. elim (from_push y n xs i) [ inl there ↦ rises.0 y there | inr e ↦ subst (λ m. x < m) (sym e) (less x (inl refl)) ],
+  rising_push xs n rises.1 (λ y i. less y (inr i)),
+)
+
+rising_below : (n : ℕ) → IsRising (below n)
+rising_below zero = tt
+rising_below (suc n) = rising_push (below n) n (rising_below n) (λ x i. from_below n x i)
+
+rising_filter : (p : ℕ → Bool) (xs : List ℕ) → IsRising xs → IsRising (filter p xs)
+rising_filter p [] rises = tt
+rising_filter p (x ∷ xs) rises =
+    let rest : IsRising (filter p xs) = rising_filter p xs rises.1 in
+    elim (p x) as (λ b. IsRising (cond b (x ∷ filter p xs) (filter p xs))) [ true ↦ (λ y i. rises.0 y (filter_in p y xs i).0, rest) | false ↦ rest ]
+
+rising_offers : (s : Sys) (p : Pair) (a : ℕ) → IsRising (offers s p a)
+rising_offers s p a =
+    elim (is_allowed s p a) as (λ b. IsRising (cond b (mask_seats s p a) [])) [ true ↦ rising_filter _ (below (arena s).seats) (rising_below (arena s).seats) | false ↦ tt ]
+  where
+    mask_seats : Sys → Pair → ℕ → List ℕ
+    mask_seats s p a = filter (λ k. not (is_beaten (arena s) (λ q. not (is_related s q)) p a k)) (below (arena s).seats)
+
+-- The first of the least.
+
+-- k costs less than j, or as much and isn't the greater
+abbrev pub IsBefore : (ℕ → ℕ) → ℕ → ℕ → Type 0
+IsBefore f k j = (f k < f j) ⊎ ((f k ≡ f j) × (k ≤ j))
+
+before_le : (f : ℕ → ℕ) (k j : ℕ) → IsBefore f k j → f k ≤ f j
+before_le f k j (inl l) = omega arith
+before_le f k j (inr (e, l)) = omega arith
+
+least_from_is : (f : ℕ → ℕ) (x : ℕ) (xs : List ℕ) → IsRising (x ∷ xs) → IsIn (least_from f x xs) (x ∷ xs) × ((j : ℕ) → IsIn j (x ∷ xs) → IsBefore f (least_from f x xs) j)
+least_from_is f x [] rises = (inl refl, λ j i. elim i [ inl e ↦ inr (ap f (sym e), omega arith) | inr none ↦ absurd none ])
+least_from_is f x (y ∷ ys) rises = by_test (nat_le (f x) (f y))
+    (λ t. subst (λ r. IsIn r (x ∷ y ∷ ys) × ((j : ℕ) → IsIn j (x ∷ y ∷ ys) → IsBefore f r j)) (sym (cond-true (nat_le (f x) (f y)) (least_from f x ys) (least_from f y ys) t))
+    (kept (least_from f x ys) (leb-true (f x) (f y) t) (least_from_is f x ys (λ z i. rises.0 z (inr i), rises.1.1))))
+    (λ g. subst (λ r. IsIn r (x ∷ y ∷ ys) × ((j : ℕ) → IsIn j (x ∷ y ∷ ys) → IsBefore f r j)) (sym (cond-false (nat_le (f x) (f y)) (least_from f x ys) (least_from f y ys) g))
+    (taken (least_from f y ys) (leb-false (f x) (f y) g) (least_from_is f y ys rises.1)))
+  where
+    kept : (r : ℕ) → f x ≤ f y → IsIn r (x ∷ ys) × ((j : ℕ) → IsIn j (x ∷ ys) → IsBefore f r j) → IsIn r (x ∷ y ∷ ys) × ((j : ℕ) → IsIn j (x ∷ y ∷ ys) → IsBefore f r j)
+    kept r l (i, best) = (
+      elim i [ inl e ↦ inl e | inr k ↦ inr (inr k) ],
+      λ j m. elim m [
+        | inl e ↦ best j (inl e)
+        | inr n ↦ elim n [
+          | inl e ↦ second j e (best x (inl refl))
+          | inr k ↦ best j (inr k)
+        ]
+      ],
+    )
+      where
+        second : (j : ℕ) → j ≡ y → IsBefore f r x → IsBefore f r j
+        second j e (inl less) = inl (subst (λ z. f r < f z) (sym e) (omega arith))
+        second j e (inr (same, before)) =
+            let far : x < y = rises.0 y (inl refl) in
+            subst (λ z. IsBefore f r z) (sym e) (by_test (nat_le (f y) (f r))
+            (λ t. let le : f y ≤ f r = leb-true (f y) (f r) t in inr (omega arith, omega arith))
+            (λ g. let lt : f r < f y = leb-false (f y) (f r) g in inl lt))
+
+    taken : (r : ℕ) → f y < f x → IsIn r (y ∷ ys) × ((j : ℕ) → IsIn j (y ∷ ys) → IsBefore f r j) → IsIn r (x ∷ y ∷ ys) × ((j : ℕ) → IsIn j (x ∷ y ∷ ys) → IsBefore f r j)
+    taken r l (i, best) = (
+      inr i,
+      λ j m. elim m [
+        | inl e ↦ (let le : f r ≤ f y = before_le f r y (best y (inl refl)) in inl (subst (λ z. f r < f z) (sym e) (omega arith)))
+        | inr k ↦ best j k
+      ],
+    )
+
+pub first_least_is : (f : ℕ → ℕ) (xs : List ℕ) → IsRising xs → xs ≢ [] → IsIn (first_least f xs) xs × ((j : ℕ) → IsIn j xs → IsBefore f (first_least f xs) j)
+first_least_is f [] rises some = absurd (some refl)
+first_least_is f (x ∷ xs) rises some = least_from_is f x xs rises
+
+pub choice_is : (s : Sys) (C : Costs) (h : ℕ) (p : Pair) (a : ℕ) → IsSys s → Great s p → IsTrue (is_allowed s p a) → IsChoice s C h p a (choice s C h p a)
+choice_is s C h p a ok great allowed =
+    let (offered, best) = first_least_is (through s C (least s C h) p a) (offers s p a) (rising_offers s p a) (related_offers s p a ok great allowed) in
+    record { offered = offered; best = best }
+
+-- Plans.
+
+pub chosen_plan : (s : Sys) (C : Costs) (h : ℕ) (p : Pair) → IsSys s → IsPair s p → Great s p → IsPlan s h p (chosen s C h p)
+chosen_plan s C zero p ok pair great = refl
+chosen_plan s C (suc h) p ok pair great = λ a allowed.
+    let offered : IsIn (choice s C h p a) (offers s p a) = (choice_is s C h p a ok great allowed).offered in
+    let (allows, l, some, all) = offer_is s p a (choice s C h p a) ok pair offered in
+    (offered, λ q i. chosen_plan s C h q ok (outcome_pair s p a (choice s C h p a) q ok pair i) (all q i))
+
+pub chosen_cost : (s : Sys) (C : Costs) (h : ℕ) (p : Pair) → IsSys s → IsPair s p → Great s p → worst s C p (chosen s C h p) ≡ least s C h p
+chosen_cost s C zero p ok pair great = refl
+chosen_cost s C (suc h) p ok pair great =
+    max_over_same (λ a. max_over (λ q. C (choice s C h p a) a + worst s C q (chosen s C h q)) (outcomes s p a (choice s C h p a)))
+    (λ a. through s C (least s C h) p a (choice s C h p a)) (allowed_actions s p)
+    (λ a i.
+    let k : ℕ = choice s C h p a in
+    let allowed : IsTrue (is_allowed s p a) = (filter_in (is_allowed s p) a (below s.env.actions) i).1 in
+    let (allows, l, some, all) = offer_is s p a (choice s C h p a) ok pair (choice_is s C h p a ok great allowed).offered in
+    max_over_same (λ q. C (choice s C h p a) a + worst s C q (chosen s C h q)) (λ q. C (choice s C h p a) a + least s C h q) (outcomes s p a (choice s C h p a))
+    (λ q j. ap (λ n. C (choice s C h p a) a + n) (chosen_cost s C h q ok (outcome_pair s p a (choice s C h p a) q ok pair j) (all q j)))
+    ∙ max_over_plus (C (choice s C h p a) a) (least s C h) (outcomes s p a (choice s C h p a)) some)
+
+pub no_plan_less : (s : Sys) (C : Costs) (h : ℕ) (p : Pair) → IsSys s → IsPair s p → Great s p → (plan : Plan) → IsPlan s h p plan → least s C h p ≤ worst s C p plan
+no_plan_less s C zero p ok pair great plan is = omega arith
+no_plan_less s C (suc h) p ok pair great Leaf is = absurd is
+no_plan_less s C (suc h) p ok pair great (Node seat next) is =
+    max_over_more (λ a. through s C (least s C h) p a (choice s C h p a)) (λ a. max_over (λ q. C (seat a) a + worst s C q (next a q)) (outcomes s p a (seat a))) (allowed_actions s p)
+    (λ a i.
+    let allowed : IsTrue (is_allowed s p a) = (filter_in (is_allowed s p) a (below s.env.actions) i).1 in
+    let (offered, plans) = is a allowed in
+    let (allows, l, some, all) = offer_is s p a (seat a) ok pair offered in
+    let best : through s C (least s C h) p a (choice s C h p a) ≤ through s C (least s C h) p a (seat a) =
+    before_le (through s C (least s C h) p a) (choice s C h p a) (seat a) ((choice_is s C h p a ok great allowed).best (seat a) offered) in
+    let sum : max_over (λ q. C (seat a) a + least s C h q) (outcomes s p a (seat a)) ≡ through s C (least s C h) p a (seat a) =
+    max_over_plus (C (seat a) a) (least s C h) (outcomes s p a (seat a)) some in
+    let more : max_over (λ q. C (seat a) a + least s C h q) (outcomes s p a (seat a)) ≤ max_over (λ q. C (seat a) a + worst s C q (next a q)) (outcomes s p a (seat a)) =
+    max_over_more (λ q. C (seat a) a + least s C h q) (λ q. C (seat a) a + worst s C q (next a q)) (outcomes s p a (seat a))
+    (λ q j. let rest : least s C h q ≤ worst s C q (next a q) = no_plan_less s C h q ok (outcome_pair s p a (seat a) q ok pair j) (all q j) (next a q) (plans q j) in omega arith) in
+    omega arith)
+
+pub plans_least : PlansCostLeast
+plans_least s C h p ok pair great = record {
+  plan = chosen_plan s C h p ok pair great;
+  cost = chosen_cost s C h p ok pair great;
+  none_less = no_plan_less s C h p ok pair great;
+  choice = λ a allowed. choice_is s C h p a ok great allowed;
+}

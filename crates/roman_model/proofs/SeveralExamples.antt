@@ -1,0 +1,58 @@
+-- What the definitions of several targets say of two lamps and two targets that each turn a lamp on and off; and that
+-- a normal form is a record made by the test of its steps.
+use Rattle.std.proofs.Common.{◌≡◌, ℕ, [], ◌∷◌, length, inl, inr, refl, sym, subst, arith}
+use Rattle.roman_model.specs.System.{Env, Beh, Seat, IsBeh, IsDeterministic, pairs, has_triple, has_move, is_final}
+use Rattle.roman_model.specs.Normal.{normal_env, normal_beh}
+use Rattle.roman_model.specs.Made.{env_from, beh_from}
+use Rattle.roman_model.specs.Offers.{offers}
+use Rattle.roman_model.specs.Several.{Several}
+use Rattle.roman_model.specs.Combined.{IsSeveral, all_requests, combined}
+use Rattle.roman_model.specs.declared.request.Request.{Request}
+use Rattle.roman_model.proofs.Examples.{room, lamp, seat_of, pair_of, related_pairs, lamp_is_system}
+
+normal_env_is : (env : Env) → normal_env env ≡ env_from env.states env.actions env.start (has_triple env)
+normal_env_is env = refl
+
+normal_beh_is : (env_states actions : ℕ) (beh : Beh) → normal_beh env_states actions beh ≡ beh_from env_states actions beh.states beh.start (is_final beh) (has_move beh)
+normal_beh_is env_states actions beh = refl
+
+abbrev two : Several
+two = record { env = room; targets = lamp ∷ lamp ∷ []; seats = seat_of lamp ∷ seat_of lamp ∷ [] }
+
+two_is : IsSeveral two
+two_is = record {
+  env = lamp_is_system.env;
+  targets = λ target i. elim i [
+    | inl e ↦ subst (λ b. IsBeh room b × IsDeterministic b) (sym e) (lamp_is_system.target, lamp_is_system.single)
+    | inr j ↦ elim j [
+      | inl e ↦ subst (λ b. IsBeh room b × IsDeterministic b) (sym e) (lamp_is_system.target, lamp_is_system.single)
+      | inr none ↦ absurd none
+    ]
+  ];
+  seats = λ x i. elim i [
+    | inl e ↦ subst (λ (y : Seat). IsBeh room y.beh) (sym e) lamp_is_system.target
+    | inr j ↦ elim j [ inl e ↦ subst (λ (y : Seat). IsBeh room y.beh) (sym e) lamp_is_system.target | inr none ↦ absurd none ]
+  ];
+  few = omega arith;
+  states = omega arith;
+  actions = (omega arith, omega arith);
+}
+
+two_requests : all_requests two ≡
+    record { target = 0; action = 0 } ∷ record { target = 0; action = 1 } ∷ record { target = 1; action = 0 } ∷ record { target = 1; action = 1 } ∷ []
+two_requests = refl
+
+two_pairs : length (pairs (combined two)) ≡ 16
+two_pairs = refl
+
+-- as many lamps are on as targets want it
+two_related : related_pairs (combined two) ≡
+    pair_of 0 (0 ∷ 0 ∷ []) ∷ pair_of 1 (0 ∷ 1 ∷ []) ∷ pair_of 1 (1 ∷ 0 ∷ []) ∷ pair_of 2 (0 ∷ 1 ∷ []) ∷ pair_of 2 (1 ∷ 0 ∷ []) ∷ pair_of 3 (1 ∷ 1 ∷ []) ∷ []
+two_related = refl
+
+two_offers : offers (combined two) (pair_of 0 (0 ∷ 0 ∷ [])) 0 ≡ 0 ∷ 1 ∷ []
+two_offers = refl
+
+-- where the second lamp is on for the second target, the first is left for the other
+two_offers_on : offers (combined two) (pair_of 1 (0 ∷ 1 ∷ [])) 0 ≡ 0 ∷ []
+two_offers_on = refl

@@ -1,0 +1,60 @@
+-- Tables of rows with a place for each of some elements, and the rank of a number among those that pass a test.
+use Rattle.std.proofs.Common.{◌≡◌, ℕ, zero, suc, ◌+◌, ◌*◌, ◌<◌, Bool, cond, List, [], ◌∷◌, ◌++◌, map, length, get_or, filter, flat_map, IsTrue, sym, ap, ◌∙◌, subst, arith, inl, inr, length-append, append-nil}
+use Rattle.std.proofs.lemmas.Bool.{cases_eq, cond-true}
+use Rattle.std.proofs.lemmas.Nat.{mul-add-lt}
+use Rattle.std.proofs.lemmas.List.{get_or_append_left, get_or-append-add, get_or_push, length-map, get_or-map}
+use Rattle.std.proofs.lemmas.Grind.{flat_map-append}
+use Rattle.roman_model.specs.Lists.{below}
+use Rattle.roman_model.proofs.Lists.{filter_below_more}
+
+-- one row more
+pub flat_map_row : {Y : Type 0} (f : ℕ → List Y) (n : ℕ) → flat_map f (below (suc n)) ≡ flat_map f (below n) ++ f n
+flat_map_row f n = flat_map-append f (below n) (n ∷ []) ∙ ap (λ ys. flat_map f (below n) ++ ys) (append-nil (f n))
+
+-- how long a table is
+pub length_rows : {X Y : Type 0} (f : ℕ → X → Y) (xs : List X) (n : ℕ) → length (flat_map (λ h. map (f h) xs) (below n)) ≡ n * length xs
+length_rows f xs zero = omega arith
+length_rows f xs (suc n) =
+    let before : length (flat_map (λ h. map (f h) xs) (below n)) ≡ n * length xs = length_rows f xs n in
+    let last : length (map (f n) xs) ≡ length xs = length-map xs (f n) in
+    ap length (flat_map_row (λ h. map (f h) xs) n) ∙ omega (arith, length-append (flat_map (λ h. map (f h) xs) (below n)) (map (f n) xs))
+
+-- what stands in row h at place r
+pub table_at : {X Y : Type 0} (f : ℕ → X → Y) (xs : List X) (n h r : ℕ) (d : Y) (x : X) → h < n → r < length xs →
+    get_or (flat_map (λ h. map (f h) xs) (below n)) (h * length xs + r) d ≡ f h (get_or xs r x)
+table_at f xs zero h r d x hn hr = absurd (omega arith)
+table_at f xs (suc n) h r d x hn hr =
+    ap (λ ys. get_or ys (h * length xs + r) d) (flat_map_row (λ h. map (f h) xs) n) ∙ elim (cases_eq h n) [
+      | inl e ↦
+          ap (λ k. get_or (flat_map (λ h. map (f h) xs) (below n) ++ map (f n) xs) k d)
+          (ap (λ k. k * length xs + r) e ∙ ap (λ k. k + r) (sym (length_rows f xs n)))
+          ∙ get_or-append-add (flat_map (λ h. map (f h) xs) (below n)) (map (f n) xs) r d ∙ get_or-map (f n) xs r x d hr ∙ ap (λ k. f k (get_or xs r x)) (sym e)
+      | inr ne ↦
+          let small : h < n = omega arith in
+          get_or_append_left (flat_map (λ h. map (f h) xs) (below n)) (map (f n) xs) d (h * length xs + r)
+          (subst (λ m. h * length xs + r < m) (sym (length_rows f xs n)) (let l : h * length xs + r < n * length xs = omega (arith, mul-add-lt h (length xs) r n small hr) in l))
+          ∙ table_at f xs n h r d x small hr
+    ]
+
+-- how many numbers below it pass
+abbrev pub rank : (ℕ → Bool) → ℕ → ℕ
+rank q p = length (filter q (below p))
+
+-- a number that passes stands at its rank
+pub rank_at : (q : ℕ → Bool) (n p d : ℕ) → p < n → IsTrue (q p) → (rank q p < rank q n) × (get_or (filter q (below n)) (rank q p) d ≡ p)
+rank_at q zero p d l t = absurd (omega arith)
+rank_at q (suc n) p d l t = elim (cases_eq p n) [
+  | inl e ↦
+      let here : filter q (below (suc n)) ≡ filter q (below n) ++ n ∷ [] =
+      filter_below_more q n ∙ ap (λ ys. filter q (below n) ++ ys) (cond-true (q n) (n ∷ []) [] (subst (λ k. IsTrue (q k)) e t)) in
+      let long : length (filter q (below (suc n))) ≡ length (filter q (below n) ++ n ∷ []) = ap length here in (
+        subst (λ k. rank q k < rank q (suc n)) (sym e) (omega (arith, length-append (filter q (below n)) (n ∷ []))),
+        ap (λ ys. get_or ys (rank q p) d) here ∙ get_or_push (filter q (below n)) n d (rank q p) (ap (rank q) (sym e)) ∙ sym e,
+      )
+  | inr ne ↦
+      let (less, is) = rank_at q n p d (omega arith) t in
+      let more : length (filter q (below (suc n))) ≡ length (filter q (below n) ++ cond (q n) (n ∷ []) []) = ap length (filter_below_more q n) in (
+        omega (arith, length-append (filter q (below n)) (cond (q n) (n ∷ []) [])),
+        ap (λ ys. get_or ys (rank q p) d) (filter_below_more q n) ∙ get_or_append_left (filter q (below n)) (cond (q n) (n ∷ []) []) d (rank q p) less ∙ is,
+      )
+]

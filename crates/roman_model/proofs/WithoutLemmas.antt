@@ -1,0 +1,139 @@
+-- A system without one or two seats is the one after as many changes.
+use Rattle.std.proofs.Common.{◌≡◌, ℕ, zero, suc, pred, ◌<◌, ◌==◌, Bool, true, false, cond, ◌||◌, List, [], ◌∷◌, Some, IsTrue, slice_get, remove, refl, sym, ap, ap₂, ◌∙◌, subst, arith}
+use Rattle.std.proofs.lemmas.Bool.{false≢true, eq-eqb, eqb-true}
+use Rattle.std.proofs.lemmas.Option.{same_Some}
+use Rattle.roman_model.specs.System.{Seat, Sys, Pair, has}
+use Rattle.roman_model.specs.Change.{set_frozen}
+use Rattle.roman_model.specs.Without.{leave_out, freeze_at, WithoutByChanges}
+use Rattle.roman_model.proofs.Lists.{same_test}
+
+suc_same : (i k : ℕ) → (suc i == suc k) ≡ (i == k)
+suc_same i k = same_test (suc i == suc k) (i == k)
+    (λ t. let e : suc i ≡ suc k = eqb-true (suc i) (suc k) t in eq-eqb i k (omega arith))
+    (λ t. let e : i ≡ k = eqb-true i k t in eq-eqb (suc i) (suc k) (omega arith))
+
+-- tests of numbers, which compute at numerals alone
+zero_other : (i : ℕ) → (0 == suc i) ≡ false
+zero_other i = same_test (0 == suc i) false (λ t. let e : 0 ≡ suc i = eqb-true 0 (suc i) t in absurd (omega arith)) (λ f. absurd (false≢true f))
+
+other_zero : (k : ℕ) → (suc k == 0) ≡ false
+other_zero k = same_test (suc k == 0) false (λ t. let e : suc k ≡ 0 = eqb-true (suc k) 0 t in absurd (omega arith)) (λ f. absurd (false≢true f))
+
+zero_next : (i : ℕ) → has (0 ∷ []) (suc i) ≡ false
+zero_next i = ap (λ b. b || false) (zero_other i)
+
+leave_out_same : {X : Type 0} (at bt : ℕ → Bool) (xs : List X) → ((i : ℕ) → at i ≡ bt i) → leave_out at xs ≡ leave_out bt xs
+leave_out_same at bt [] same = refl
+leave_out_same at bt (x ∷ xs) same = ap₂ (λ b ys. cond b ys (x ∷ ys)) (same 0) (leave_out_same (λ i. at (suc i)) (λ i. bt (suc i)) xs (λ i. same (suc i)))
+
+leave_none : {X : Type 0} (at : ℕ → Bool) (xs : List X) → ((i : ℕ) → at i ≡ false) → leave_out at xs ≡ xs
+leave_none at [] none = refl
+leave_none at (x ∷ xs) none = ap₂ (λ b ys. cond b ys (x ∷ ys)) (none 0) (leave_none (λ i. at (suc i)) xs (λ i. none (suc i)))
+
+freeze_same : (at bt : ℕ → Bool) (seats : List Seat) → ((i : ℕ) → at i ≡ bt i) → freeze_at at seats ≡ freeze_at bt seats
+freeze_same at bt [] same = refl
+freeze_same at bt (x ∷ xs) same =
+    ap₂ (λ b ys. record { beh = x.beh; frozen = x.frozen || b; rests = x.rests } ∷ ys) (same 0) (freeze_same (λ i. at (suc i)) (λ i. bt (suc i)) xs (λ i. same (suc i)))
+
+or_none : (b : Bool) → (b || false) ≡ b
+or_none true = refl
+or_none false = refl
+
+or_true : (b : Bool) → (b || true) ≡ true
+or_true true = refl
+or_true false = refl
+
+freeze_none : (at : ℕ → Bool) (seats : List Seat) → ((i : ℕ) → at i ≡ false) → freeze_at at seats ≡ seats
+freeze_none at [] none = refl
+freeze_none at (x ∷ xs) none =
+    ap₂ (λ b ys. record { beh = x.beh; frozen = b; rests = x.rests } ∷ ys) (ap (λ b. x.frozen || b) (none 0) ∙ or_none x.frozen) (freeze_none (λ i. at (suc i)) xs (λ i. none (suc i)))
+
+-- One place.
+
+pub leave_one : {X : Type 0} (k : ℕ) (xs : List X) → leave_out (has (k ∷ [])) xs ≡ remove xs k
+leave_one zero [] = refl
+leave_one (suc k) [] = refl
+leave_one zero (x ∷ xs) = leave_none (λ i. has (zero ∷ []) (suc i)) xs zero_next
+leave_one (suc k) (x ∷ xs) =
+    ap₂ (λ b ys. cond b ys (x ∷ ys)) (ap (λ b. b || false) (other_zero k)) (leave_out_same (λ i. has (suc k ∷ []) (suc i)) (has (k ∷ [])) xs (λ i. ap (λ b. b || false) (suc_same k i)) ∙ leave_one k xs)
+
+pub freeze_one : (k : ℕ) (seats : List Seat) → freeze_at (has (k ∷ [])) seats ≡ set_frozen seats k true
+freeze_one k [] = refl
+freeze_one zero (x ∷ xs) =
+    ap₂ (λ b ys. record { beh = x.beh; frozen = b; rests = x.rests } ∷ ys) (or_true x.frozen) (freeze_none (λ i. has (zero ∷ []) (suc i)) xs zero_next)
+freeze_one (suc k) (x ∷ xs) =
+    ap₂ (λ b ys. record { beh = x.beh; frozen = b; rests = x.rests } ∷ ys) (ap (λ b. x.frozen || (b || false)) (other_zero k) ∙ or_none x.frozen)
+    (freeze_same (λ i. has (suc k ∷ []) (suc i)) (has (k ∷ [])) xs (λ i. ap (λ b. b || false) (suc_same k i)) ∙ freeze_one k xs)
+
+-- Two places.
+
+-- the later place first
+pub leave_two : {X : Type 0} (k j : ℕ) (xs : List X) → k < j → leave_out (has (k ∷ j ∷ [])) xs ≡ remove (remove xs j) k
+leave_two zero zero xs l = absurd (omega arith)
+leave_two (suc k) zero xs l = absurd (omega arith)
+leave_two zero (suc j) [] l = refl
+leave_two (suc k) (suc j) [] l = refl
+leave_two zero (suc j) (x ∷ xs) l =
+    leave_out_same (λ i. has (zero ∷ suc j ∷ []) (suc i)) (has (j ∷ [])) xs (λ i. ap₂ (λ b c. b || (c || false)) (zero_other i) (suc_same j i)) ∙ leave_one j xs
+leave_two (suc k) (suc j) (x ∷ xs) l =
+    ap₂ (λ b ys. cond b ys (x ∷ ys)) (ap₂ (λ b c. b || (c || false)) (other_zero k) (other_zero j))
+    (leave_out_same (λ i. has (suc k ∷ suc j ∷ []) (suc i)) (has (k ∷ j ∷ [])) xs (λ i. ap₂ (λ b c. b || (c || false)) (suc_same k i) (suc_same j i)) ∙ leave_two k j xs (omega arith))
+
+-- the earlier place first: the later one moves down
+pub remove_in_turn : {X : Type 0} (k j : ℕ) (xs : List X) → k < j → remove (remove xs k) (pred j) ≡ remove (remove xs j) k
+remove_in_turn zero zero xs l = absurd (omega arith)
+remove_in_turn (suc k) zero xs l = absurd (omega arith)
+remove_in_turn zero (suc zero) [] l = refl
+remove_in_turn zero (suc (suc j)) [] l = refl
+remove_in_turn (suc k) (suc zero) [] l = refl
+remove_in_turn (suc k) (suc (suc j)) [] l = refl
+remove_in_turn zero (suc j) (x ∷ xs) l = refl
+remove_in_turn (suc k) (suc zero) (x ∷ xs) l = absurd (omega arith)
+remove_in_turn (suc k) (suc (suc j)) (x ∷ xs) l = ap (λ ys. x ∷ ys) (remove_in_turn k (suc j) xs (omega arith))
+
+or_swap : (f b c : Bool) → ((f || b) || c) ≡ (f || (b || c))
+or_swap true b c = refl
+or_swap false b c = refl
+
+-- freezing by one test and then by another is freezing by either
+freeze_both : (at bt : ℕ → Bool) (seats : List Seat) → freeze_at bt (freeze_at at seats) ≡ freeze_at (λ i. at i || bt i) seats
+freeze_both at bt [] = refl
+freeze_both at bt (x ∷ xs) =
+    ap₂ (λ b ys. record { beh = x.beh; frozen = b; rests = x.rests } ∷ ys) (or_swap x.frozen (at 0) (bt 0)) (freeze_both (λ i. at (suc i)) (λ i. bt (suc i)) xs)
+
+pub freeze_two : (k j : ℕ) (seats : List Seat) → set_frozen (set_frozen seats k true) j true ≡ freeze_at (has (k ∷ j ∷ [])) seats
+freeze_two k j seats =
+    sym (freeze_one j (set_frozen seats k true)) ∙ ap (freeze_at (has (j ∷ []))) (sym (freeze_one k seats)) ∙ freeze_both (has (k ∷ [])) (has (j ∷ [])) seats
+    ∙ freeze_same (λ i. has (k ∷ []) i || has (j ∷ []) i) (has (k ∷ j ∷ [])) seats (λ i. or_swap (k == i) false (j == i || false))
+
+-- a seat that is frozen already
+pub freeze_again : (k : ℕ) (seats : List Seat) (seat : Seat) → slice_get seats k ≡ Some seat → IsTrue seat.frozen → set_frozen seats k true ≡ seats
+freeze_again k [] seat at frozen = refl
+freeze_again zero (x ∷ seats) seat at frozen =
+    ap (λ b. record { beh = x.beh; frozen = b; rests = x.rests } ∷ seats) (sym (subst (λ (y : Seat). IsTrue y.frozen) (sym (same_Some x seat at)) frozen))
+freeze_again (suc k) (x ∷ seats) seat at frozen = ap (λ ys. x ∷ ys) (freeze_again k seats seat at frozen)
+
+pub without_changes : WithoutByChanges
+without_changes s p = record {
+  one_gone = λ k seat. (seated (sym (leave_one k s.seats)), stated (sym (leave_one k p.bs)));
+  two_gone = λ k j seat other l. (seated (sym (leave_two k j s.seats l)), stated (sym (leave_two k j p.bs l)));
+  two_in_turn = λ k j seat other l. (
+    seated (remove_in_turn k j s.seats l ∙ sym (leave_two k j s.seats l)),
+    stated (remove_in_turn k j p.bs l ∙ sym (leave_two k j p.bs l)),
+  );
+  one_frozen = λ k. seated (sym (freeze_one k s.seats));
+  two_frozen = λ k j. seated (freeze_two k j s.seats);
+  already = λ k seat at frozen. seated (freeze_again k s.seats seat at frozen);
+}
+  where
+    with_seats : List Seat → Sys
+    with_seats seats = record { env = s.env; target = s.target; seats = seats }
+
+    with_states : List ℕ → Pair
+    with_states bs = record { t = p.t; e = p.e; bs = bs }
+
+    seated : {xs ys : List Seat} → xs ≡ ys → with_seats xs ≡ with_seats ys
+    seated e = ap with_seats e
+
+    stated : {bs cs : List ℕ} → bs ≡ cs → with_states bs ≡ with_states cs
+    stated e = ap with_states e
