@@ -4,3 +4,6 @@ pub mod PlaceLemmas
 mod LibraryLemmas
 mod StepLemmas
 mod PlacedLemmas
+pub mod KnownLemmas
+mod ReadLemmas
+mod WrittenLemmas

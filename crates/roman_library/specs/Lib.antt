@@ -2,3 +2,6 @@ pub mod Texts
 pub mod Refusals
 pub mod Library
 pub mod Documents
+pub mod Known
+pub mod Reads
+pub mod Written

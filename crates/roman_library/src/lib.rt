@@ -9,6 +9,7 @@
 mod catalogue;
 mod file_name;
 mod header;
+mod laws;
 mod library;
 mod loading;
 mod looks;
@@ -21,6 +22,7 @@ mod services;
 mod text;
 
 pub use file_name::FileName;
+pub use laws::{document_lists_are_read, libraries_are_known, libraries_are_said};
 pub use library::{Library, Service};
 pub use loading::load;
 pub use refusal::{LoadError, Part, Refusal};

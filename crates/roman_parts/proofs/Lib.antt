@@ -8,3 +8,8 @@ mod GuardLemmas
 mod StepLemmas
 mod ChoiceLemmas
 mod SingleLemmas
+mod Rising
+mod NormalForms
+pub mod PartLemmas
+pub mod ReadLemmas
+pub mod WrittenLemmas

@@ -7,7 +7,7 @@ use Rattle.std.proofs.lemmas.Nat.Bits.{bit_at_above}
 use Rattle.std.proofs.lemmas.Option.{none-some, same_Some, slice_get-get_or}
 use Rattle.roman_model.specs.Lists.{IsIn, below}
 use Rattle.roman_model.specs.Normal.{normal_beh}
-use Rattle.roman_model.specs.System.{Move, has, IsDeterministic}
+use Rattle.roman_model.specs.System.{Beh, Move, has, IsDeterministic}
 use Rattle.roman_model.proofs.Lists.{any_from, any_true, by_test, find_found, find_least, find_some, in_below, in_contains}
 use Rattle.roman_guard.specs.Meaning.{has_state, states_of}
 use Rattle.roman_guard.proofs.StateLemmas.{states_below_are}
@@ -89,15 +89,19 @@ module _ (steps : List Move) (none : choice_of steps ≡ None) where
             sym m_to ∙ no_choice m n e (apart j i n m after i_in get_j get_i) (m_from ∙ sym n_from) (m_action ∙ sym n_action) m_guard (any_from (λ s. s == e) e n.guard n_guard (eq-eqb e e refl)) ∙ n_to
       ]
 
--- a target whose steps leave no choice goes to at most one state
+-- a behaviour whose steps leave no choice goes to at most one state
+pub single_moves : (env_states actions : ℕ) (beh : Beh) → choice_of beh.steps ≡ None → IsDeterministic (normal_beh env_states actions beh)
+single_moves env_states actions beh none b e a b1 b2 h1 h2 =
+    let own1 = (from_normal_move env_states actions beh b e a b1 h1).4 in
+    let own2 = (from_normal_move env_states actions beh b e a b2 h2).4 in
+    let (m, m_in, m_test) = any_true (λ x. x.from == b && x.action == a && has x.guard e && x.to == b1) beh.steps own1 in
+    let (n, n_in, n_test) = any_true (λ x. x.from == b && x.action == a && has x.guard e && x.to == b2) beh.steps own2 in
+    one_to beh.steps none b e a m n b1 b2 m_in n_in m_test n_test
+
+-- so does a target from lists
 pub single_steps : (env_states actions states start : ℕ) (finals : List ℕ) (steps : List (ℕ × ℕ × ℕ × ℕ)) → choice_of (map move_of steps) ≡ None
     → IsDeterministic (normal_beh env_states actions (listed_beh states start finals steps))
-single_steps env_states actions states start finals steps none b e a b1 b2 h1 h2 =
-    let own1 = (from_normal_move env_states actions (listed_beh states start finals steps) b e a b1 h1).4 in
-    let own2 = (from_normal_move env_states actions (listed_beh states start finals steps) b e a b2 h2).4 in
-    let (m, m_in, m_test) = any_true (λ x. x.from == b && x.action == a && has x.guard e && x.to == b1) (map move_of steps) own1 in
-    let (n, n_in, n_test) = any_true (λ x. x.from == b && x.action == a && has x.guard e && x.to == b2) (map move_of steps) own2 in
-    one_to (map move_of steps) none b e a m n b1 b2 m_in n_in m_test n_test
+single_steps env_states actions states start finals steps none = single_moves env_states actions (listed_beh states start finals steps) none
 
 -- ---- a choice
 

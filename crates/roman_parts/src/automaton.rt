@@ -86,6 +86,19 @@ impl Automaton {
         })
     }
 
+    /// The same automaton again.
+    pub(crate) fn copy(&self, alloc: Global) -> Result<Automaton, AllocError>
+        ensures same { IfOk result (λ copy. copy ≡ self.now) }
+    {
+        Ok(Automaton {
+            cells: self.cells,
+            start: self.start,
+            finals: self.finals,
+            next: self.next.copy(alloc)?,
+            prev: self.prev.copy(alloc)?,
+        })
+    }
+
     /// The start state.
     pub(crate) fn start(&self) -> u8
         ensures start { result ≡ self.now.beh.start }

@@ -72,6 +72,17 @@ impl Behaviour {
         })
     }
 
+    /// An equal behaviour.
+    pub fn copy(&self, alloc: Global) -> Result<Behaviour, AllocError>
+        ensures same { IfOk result (λ copy. copy ≡ self.now) }
+    {
+        Ok(Behaviour {
+            name: self.name,
+            states: self.states.copy(alloc)?,
+            automaton: self.automaton.copy(alloc)?,
+        })
+    }
+
     /// The behaviour's name.
     pub fn name(&self) -> &Name
         ensures { result.now ≡ self.now.name }

@@ -80,6 +80,19 @@ impl Environment {
         })
     }
 
+    /// An equal environment.
+    pub fn copy(&self, alloc: Global) -> Result<Environment, AllocError>
+        ensures same { IfOk result (λ copy. copy ≡ self.now) }
+    {
+        Ok(Environment {
+            states: self.states.copy(alloc)?,
+            actions: self.actions.copy(alloc)?,
+            start: self.start,
+            next: self.next.copy(alloc)?,
+            prev: self.prev.copy(alloc)?,
+        })
+    }
+
     /// The names of the states, by number.
     pub fn states(&self) -> &NameTable
         ensures names { result.now ≡ self.now.states }

@@ -41,6 +41,16 @@ impl Rows {
         Ok(Rows { bounds, items })
     }
 
+    /// The same rows again.
+    pub(crate) fn copy(&self, alloc: Global) -> Result<Rows, AllocError>
+        ensures same { IfOk result (λ copy. copy ≡ self.now) }
+    {
+        Ok(Rows {
+            bounds: Vec::from_slice(alloc, &self.bounds)?,
+            items: Vec::from_slice(alloc, &self.items)?,
+        })
+    }
+
     #[tactic(auto, using(crate::proofs::RowLemmas::row_steps))]
     /// The row at place k.
     pub(crate) fn row(&self, k: usize) -> &[u8]

@@ -68,6 +68,16 @@ impl Target {
         Ok(Target { states, automaton })
     }
 
+    /// An equal target.
+    pub fn copy(&self, alloc: Global) -> Result<Target, AllocError>
+        ensures same { IfOk result (λ copy. copy ≡ self.now) }
+    {
+        Ok(Target {
+            states: self.states.copy(alloc)?,
+            automaton: self.automaton.copy(alloc)?,
+        })
+    }
+
     /// The names of the states, by number.
     pub fn states(&self) -> &NameTable
         ensures names { result.now ≡ self.now.states }

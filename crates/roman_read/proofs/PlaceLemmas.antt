@@ -1,8 +1,11 @@
 -- Where a name stands in a list of names.
-use Rattle.std.proofs.Common.{◌≡◌, ℕ, suc, ◌+◌, ◌<◌, ◌≤◌, List, [], ◌∷◌, length, Bool, true, false, not, cond, ◌&&◌, ◌||◌, Some, None, IsTrue, true≢false, refl, sym, subst, arith}
-use Rattle.std.specs.List.{list_all, list_any, position, position_or_len}
+use Rattle.std.proofs.Common.{◌≡◌, ℕ, zero, suc, ◌+◌, ◌<◌, ◌≤◌, List, [], ◌∷◌, ◌++◌, length, take, Bool, true, false, not, cond, ◌&&◌, ◌||◌, Some, None, IsTrue, slice_get, true≢false, refl, sym, ap, ◌∙◌, subst, arith}
+use Rattle.std.specs.List.{list_all, list_any, position, position_or_len, AllByRecursion, IsDistinct}
 use Rattle.std.specs.Str.{bytes_eq}
-use Rattle.std.proofs.lemmas.Bool.{le-ltb, lt-ltb}
+use Rattle.std.proofs.lemmas.Bool.{le-ltb, lt-ltb, or_from}
+use Rattle.std.proofs.lemmas.Option.{none-some, same_Some, slice_get_within, get_or_from_slice_get}
+use Rattle.std.proofs.lemmas.List.{take_more}
+use Rattle.std.proofs.lemmas.Map.Keys.{IsDistinct-head, IsDistinct-tail}
 use Rattle.std.proofs.lemmas.Slice.Eq.{bytes_eq-Decides}
 use Rattle.roman_read.specs.Names.{is_name, place_of}
 
@@ -74,6 +77,31 @@ no_name_step names bytes false e h k = place_of-absent names bytes (list_any-fai
 -- bytes that are no name have no place among names
 pub place_of-no_name : (names : List (List ℕ)) (bytes : List ℕ) → IsTrue (list_all is_name names) → (IsTrue (is_name bytes) → ⊥) → place_of names bytes ≡ None
 place_of-no_name names bytes h k = no_name_step names bytes (is_name bytes) refl h k
+
+later_differs : (x : List ℕ) (names : List (List ℕ)) (i : ℕ) (name : List ℕ) → AllByRecursion (λ y. bytes_eq x y ≡ false) names → slice_get names i ≡ Some name → bytes_eq name x ≡ false
+later_differs x [] i name apart at = absurd (none-some name at)
+later_differs x (y ∷ names) zero name apart at = flipped (bytes_eq name x) refl
+  where
+    flipped : (b : Bool) → bytes_eq name x ≡ b → b ≡ false
+    flipped false e = refl
+    flipped true e =
+        let same : name ≡ x = (bytes_eq-Decides name x).0 e in
+        let here : bytes_eq x name ≡ false = subst (λ n. bytes_eq x n ≡ false) (same_Some y name at) apart.0 in
+        absurd (true≢false (sym ((bytes_eq-Decides x name).1 (sym same)) ∙ here))
+later_differs x (y ∷ names) (suc i) name apart at = later_differs x names i name apart.1 at
+
+-- where no name stands twice, none stands among those before it
+pub none_before : (names : List (List ℕ)) (i : ℕ) (name : List ℕ) → IsDistinct bytes_eq names → slice_get names i ≡ Some name → list_any (bytes_eq name) (take i names) ≡ false
+none_before [] i name apart at = absurd (none-some name at)
+none_before (x ∷ names) zero name apart at = refl
+none_before (x ∷ names) (suc i) name apart at =
+    or_from (bytes_eq name x) (list_any (bytes_eq name) (take i names)) (later_differs x names i name (IsDistinct-head bytes_eq x names apart) at)
+    (none_before names i name (IsDistinct-tail bytes_eq x names apart) at)
+
+-- one name more of those in order
+pub take_name : (names : List (List ℕ)) (i : ℕ) (name : List ℕ) → slice_get names i ≡ Some name → take (i + 1) names ≡ take i names ++ name ∷ []
+take_name names i name at =
+    take_more names i [] (slice_get_within names i name at) ∙ ap (λ n. take i names ++ n ∷ []) (get_or_from_slice_get names i name [] at)
 
 -- what adding and finding names rest on
 pub ruleset places = (place_of-absent, place_of-present, place_is_length, place_of-no_name)

@@ -1,11 +1,11 @@
 //! Names by number.
-ghost use Rattle.std.specs.Prelude.{◌≡◌, ◌-◌, ◌^◌, ◌<◌, [], length, slice_get, Some, IfSome, IsTrue, ◌↔◌};
+ghost use Rattle.std.specs.Prelude.{◌≡◌, ◌-◌, ◌^◌, ◌<◌, [], ◌∷◌, ◌++◌, length, slice_get, Some, None, IfSome, IfOk, OnOk, IsTrue, ◌↔◌};
 ghost use Rattle.roman_read.specs.Names.{is_name, place_of};
 ghost use Rattle.roman_read.specs.Tables.{Adds, AreDistinct, add_error_number};
 
 use crate::name::Name;
 use indexmap::IndexSet;
-use std::alloc::Global;
+use std::alloc::{AllocError, Global};
 use std::marker::Model;
 use thiserror::Error;
 
@@ -59,6 +59,17 @@ impl NameTable {
         NameTable {
             names: IndexSet::new(alloc),
         }
+    }
+
+    /// A table with the same names.
+    pub fn copy(&self, alloc: Global) -> Result<NameTable, AllocError>
+        ensures same { IfOk result (λ copy. copy ≡ self.now) }
+    {
+        let mut copy = NameTable::new(alloc);
+        for i in 0..self.len() {
+            push_new(&mut copy, *self.at(i))?;
+        }
+        Ok(copy)
     }
 
     /// The number of names.
@@ -115,5 +126,17 @@ impl NameTable {
         ensures name { slice_get self.now i ≡ Some result.now }
     {
         &self.names.as_slice()[i as usize]
+    }
+}
+
+// Adds a name that the table lacks: nothing but memory can be wanting.
+fn push_new(table: &mut NameTable, name: Name) -> Result<(), AllocError>
+    requires room { length table.old < 2 ^ 32 - 1 }
+    requires new { place_of table.old name ≡ None }
+    ensures added { OnOk result (table.new ≡ table.old ++ name ∷ []) }
+{
+    match table.add(name) {
+        Ok(_) => Ok(()),
+        Err(_) => Err(AllocError),
     }
 }

@@ -1,0 +1,235 @@
+-- What an accepted document means is a library.
+use Rattle.std.proofs.Common.{◌≡◌, ℕ, ◌+◌, ◌<◌, ◌≤◌, ◌&&◌, List, [], ◌∷◌, ◌++◌, map, length, Option, Some, None, is_some, is_none, IfSome, slice_get, nat_le, codes, Result, Ok, Err, refl, sym, ap, ◌∙◌, subst, arith, leb-true, length-append}
+use Rattle.std.proofs.lemmas.Bool.{and_parts}
+use Rattle.std.proofs.lemmas.List.Elements.{All-get_or}
+use Rattle.std.proofs.lemmas.Option.{get_or_from_slice_get, slice_get_within}
+use Rattle.serde_json.specs.Data.{Data, Items, no_items, item}
+use Rattle.serde_json.specs.Find.{as_object}
+use Rattle.serde_json.specs.Events.{items_len}
+use Rattle.roman_io.specs.Shelf.{Texts}
+use Rattle.roman_model.specs.declared.limits.TheConstants.{MAX_BEHAVIOURS, MAX_SERVICES, MAX_CELLS, DEFAULT_CELLS}
+use Rattle.roman_read.specs.Items.{each_item}
+use Rattle.roman_read.specs.Json.{member_of, number_of}
+use Rattle.roman_read.specs.Names.{place_of}
+use Rattle.roman_read.specs.declared.rules.Miss.{Miss}
+use Rattle.roman_read.specs.declared.rules.Kind.TheVariants as kind
+use Rattle.roman_read.proofs.Given.{same_ok, bind_ok}
+use Rattle.roman_parts.specs.Lists.{place_in}
+use Rattle.roman_parts.specs.Named.{NamedEnv, NamedBeh, NamedTarget}
+use Rattle.roman_parts.specs.Parts.{environment_of, name_of, target_of}
+use Rattle.roman_parts.specs.Reading.{looked, found, check, counted_items}
+use Rattle.roman_parts.specs.declared.error.List.TheVariants as list
+use Rattle.roman_parts.specs.declared.error.PartError.{PartError}
+use Rattle.roman_parts.proofs.NormalLemmas.{IsOver-start}
+use Rattle.roman_parts.proofs.PartLemmas.{check_is, found_is, none_is, counted_are, place_below, IsEnvironment, environment_known, behaviour_known, target_known}
+use Rattle.roman_library.specs.Documents.{value_at, part_of, limit_in, limit_of, version_of, optional, new_name_of, environment_in, new_behaviour_of, behaviour_in, behaviour_step, catalogue_in, target_in, behaviour_place, state_of, frozen_of, rests_of, service_of, service_step, services_of, library_in, library_of}
+use Rattle.roman_library.specs.Known.{IsKnownLibrary, LibrariesAreKnown}
+use Rattle.roman_library.specs.Library.{PlainLibrary, IsBehaviour, IsTarget, IsService, IsCatalogue, AreServices, behaviour_name, service_name}
+use Rattle.roman_library.specs.Refusals.{placed}
+use Rattle.roman_library.specs.declared.library.Service.{Service}
+use Rattle.roman_library.specs.declared.refusal.Part.{Part}
+use Rattle.roman_library.specs.declared.refusal.Part.TheVariants as part
+use Rattle.roman_library.proofs.LibraryLemmas.{IsCatalogue-push, AreServices-push}
+
+-- a reading that isn't refused gives the same in its place
+placed_is : {X : Type 0} (document : List ℕ) (part : Part) (r : Result X PartError) (x : X) → placed document part r ≡ Ok x → r ≡ Ok x
+placed_is document part (Ok y) x h = ap Ok (same_ok y x h)
+placed_is document part (Err e) x h = cc
+
+-- The catalogue
+
+-- a behaviour whose name is new
+record IsNewBehaviour (env : NamedEnv) (before : List NamedBeh) (b : NamedBeh) : Type 0 where
+  known : IsBehaviour env b
+  new : place_of (map behaviour_name before) b.name ≡ None
+
+name_is_new : (before : List (List ℕ)) (d : Data) (name : List ℕ) → new_name_of before d ≡ Ok name → (name_of d ≡ Ok name) × (place_of before name ≡ None)
+unfolding new_name_of
+name_is_new before d name h =
+    let (whole, e, h1) = bind_ok (check (is_some (as_object d)) kind.Form list.Whole 0 d) _ name h in
+    let (object, same) = check_is (is_some (as_object d)) kind.Form list.Whole 0 d whole e in
+    let (text, e1, h2) = bind_ok (name_of whole) _ name h1 in
+    let (free, is) = check_is (is_none (place_of before text)) kind.Repeated list.Name 0 text name h2 in
+    (ap name_of same ∙ e1 ∙ ap Ok is, subst (λ (n : List ℕ). place_of before n ≡ None) is (none_is (place_of before text) free))
+
+new_behaviour_known : (env : NamedEnv) (before : List NamedBeh) (d : Data) (b : NamedBeh) → new_behaviour_of env before d ≡ Ok b → IsNewBehaviour env before b
+unfolding new_behaviour_of
+new_behaviour_known env before d b h =
+    let (name, e, h1) = bind_ok (new_name_of (map behaviour_name before) d) _ b h in
+    let (named, free) = name_is_new (map behaviour_name before) d name e in
+    let is = behaviour_known env d b h1 in
+    record { known = record { env_states = is.env_states; actions = is.actions; names = is.names; known = is.known }; new = subst (λ (n : List ℕ). place_of (map behaviour_name before) n ≡ None) (same_ok name b.name (sym named ∙ is.name)) free }
+
+behaviour_in_known : (texts : Texts) (document : List ℕ) (env : NamedEnv) (before : List NamedBeh) (i : ℕ) (d : Data) (b : NamedBeh) → behaviour_in texts document env before i d ≡ Ok b → IsNewBehaviour env before b
+unfolding behaviour_in
+behaviour_in_known texts document env before i d b h =
+    let (p, e, h1) = bind_ok (part_of texts document (part.Behaviour i) d) _ b h in
+    new_behaviour_known env before p.1 b (placed_is p.0 (part.Behaviour i) (new_behaviour_of env before p.1) b h1)
+
+record IsCatalogueOf (env : NamedEnv) (out : List NamedBeh) (n : ℕ) : Type 0 where
+  known : IsCatalogue env out
+  count : length out ≡ n
+
+behaviours_grow : (texts : Texts) (document : List ℕ) (env : NamedEnv) (i : ℕ) (before : List NamedBeh) (items : Items) (out : List NamedBeh) → IsCatalogue env before →
+    each_item (behaviour_step texts document env) i before items ≡ Ok out → IsCatalogueOf env out (length before + items_len items)
+unfolding each_item behaviour_step
+behaviours_grow texts document env i before no_items out are h =
+    let same = same_ok before out h in
+    record { known = subst (IsCatalogue env) same are; count = let e : length before ≡ length out = ap length same in omega arith }
+behaviours_grow texts document env i before (item d ds) out are h =
+    let (more, e, h1) = bind_ok (behaviour_step texts document env i before d) _ out h in
+    let (b, e1, h2) = bind_ok (behaviour_in texts document env before i d) _ more e in
+    let is = behaviour_in_known texts document env before i d b e1 in
+    let next : before ++ b ∷ [] ≡ more = same_ok (before ++ b ∷ []) more h2 in
+    let rest = behaviours_grow texts document env (i + 1) more ds out (IsCatalogue-push env before more b are is.known is.new (sym next)) h1 in
+    let long : length more ≡ length before + 1 = sym (ap length next) ∙ length-append before (b ∷ []) in
+    record { known = rest.known; count = omega (arith, rest.count, long) }
+
+no_behaviours : (env : NamedEnv) → IsCatalogue env []
+no_behaviours env = record { known = λ d i l. absurd (omega (arith, l)); names = tt }
+
+catalogue_known : (texts : Texts) (document : List ℕ) (env : NamedEnv) (d : Data) (out : List NamedBeh) → catalogue_in texts document env d ≡ Ok out → IsCatalogue env out × (length out ≤ MAX_BEHAVIOURS)
+unfolding catalogue_in
+catalogue_known texts document env d out h =
+    let (items, e, h1) = bind_ok (placed document part.System (counted_items list.Behaviours (codes "behaviours") 0 MAX_BEHAVIOURS d)) _ out h in
+    let few = counted_are list.Behaviours (codes "behaviours") 0 MAX_BEHAVIOURS d items (placed_is document part.System (counted_items list.Behaviours (codes "behaviours") 0 MAX_BEHAVIOURS d) items e) in
+    let all = behaviours_grow texts document env 0 [] items out (no_behaviours env) h1 in
+    (all.known, omega (arith, all.count, few.few))
+
+-- the target of a document
+target_in_known : (texts : Texts) (document : List ℕ) (env : NamedEnv) (d : Data) (t : NamedTarget) → target_in texts document env d ≡ Ok t → IsTarget env t
+unfolding target_in
+target_in_known texts document env d t h =
+    let (member, e, h1) = bind_ok (placed document (part.Target 0) (looked list.Whole 0 (member_of d (codes "target")))) _ t h in
+    let (p, e1, h2) = bind_ok (part_of texts document (part.Target 0) member) _ t h1 in
+    let is = target_known env p.1 t (placed_is p.0 (part.Target 0) (target_of env p.1) t h2) in
+    record { env_states = is.env_states; actions = is.actions; names = is.names; known = is.known; single = is.single }
+
+-- its environment
+environment_in_known : (texts : Texts) (document : List ℕ) (d : Data) (env : NamedEnv) → environment_in texts document d ≡ Ok env → IsEnvironment env
+unfolding environment_in
+environment_in_known texts document d env h =
+    let (member, e, h1) = bind_ok (placed document part.Environment (looked list.Whole 0 (member_of d (codes "environment")))) _ env h in
+    let (p, e1, h2) = bind_ok (part_of texts document part.Environment member) _ env h1 in
+    environment_known p.1 env (placed_is p.0 part.Environment (environment_of p.1) env h2)
+
+-- Services
+
+-- the behaviour at a place of the catalogue
+pub behaviour_there : (env : NamedEnv) (catalogue : List NamedBeh) (k : ℕ) (b : NamedBeh) → IsCatalogue env catalogue → slice_get catalogue k ≡ Some b → IsBehaviour env b
+behaviour_there env catalogue k b are there =
+    subst (IsBehaviour env) (get_or_from_slice_get catalogue k b b there) (All-get_or (IsBehaviour env) catalogue k b (slice_get_within catalogue k b there) are.known)
+
+state_below : (env : NamedEnv) (b : NamedBeh) (d : Data) (state : ℕ) → IsBehaviour env b → state_of b d ≡ Ok state → state < b.beh.states
+unfolding state_of
+state_below env b d state is h = by (member_of d (codes "state")) h
+  where
+    by : (r : Result Data Miss) → optional (place_in b.states list.State 0) b.beh.start r ≡ Ok state → state < b.beh.states
+    by (Ok member) g = let less = place_below b.states list.State 0 member state g in omega (arith, less, is.names)
+    by (Err miss) g = let same : b.beh.start ≡ state = same_ok b.beh.start state g in omega (arith, same, IsOver-start b.env_states b.actions b.beh is.known)
+
+record IsNewService (catalogue : List NamedBeh) (before : List Service) (x : Service) : Type 0 where
+  known : IsService catalogue x
+  new : place_of (map service_name before) x.name ≡ None
+
+service_known : (version : ℕ) (env : NamedEnv) (catalogue : List NamedBeh) (before : List Service) (d : Data) (x : Service) → IsCatalogue env catalogue → service_of version catalogue before d ≡ Ok x →
+    IsNewService catalogue before x
+unfolding service_of
+service_known version env catalogue before d x are h =
+    let (name, e, h1) = bind_ok (new_name_of (map service_name before) d) _ x h in
+    let (place, e1, h2) = bind_ok (behaviour_place catalogue d) _ x h1 in
+    let (b, e2, h3) = bind_ok (found kind.Unknown list.Behaviour 0 (slice_get catalogue place)) _ x h2 in
+    let (state, e3, h4) = bind_ok (state_of b d) _ x h3 in
+    let (frozen, e4, h5) = bind_ok (frozen_of d) _ x h4 in
+    let (rests, e5, h6) = bind_ok (rests_of version d) _ x h5 in
+    let there : slice_get catalogue place ≡ Some b = found_is kind.Unknown list.Behaviour 0 (slice_get catalogue place) b e2 in
+    subst (IsNewService catalogue before) (same_ok _ x h6) (record {
+      known = record {
+        behaviour = slice_get_within catalogue place b there;
+        state = subst (λ (o : Option NamedBeh). IfSome o (λ behaviour. state < behaviour.beh.states)) (sym there) (state_below env b d state (behaviour_there env catalogue place b are there) e3);
+      };
+      new = (name_is_new (map service_name before) d name e).1;
+    })
+
+record AreServicesOf (catalogue : List NamedBeh) (out : List Service) (n : ℕ) : Type 0 where
+  known : AreServices catalogue out
+  count : length out ≡ n
+
+services_grow : (document : List ℕ) (version : ℕ) (env : NamedEnv) (catalogue : List NamedBeh) (i : ℕ) (before : List Service) (items : Items) (out : List Service) → IsCatalogue env catalogue →
+    AreServices catalogue before → each_item (service_step document version catalogue) i before items ≡ Ok out → AreServicesOf catalogue out (length before + items_len items)
+unfolding each_item service_step
+services_grow document version env catalogue i before no_items out behaviours are h =
+    let same = same_ok before out h in
+    record { known = subst (AreServices catalogue) same are; count = let e : length before ≡ length out = ap length same in omega arith }
+services_grow document version env catalogue i before (item d ds) out behaviours are h =
+    let (more, e, h1) = bind_ok (service_step document version catalogue i before d) _ out h in
+    let (x, e1, h2) = bind_ok (placed document (part.Service i) (service_of version catalogue before d)) _ more e in
+    let is = service_known version env catalogue before d x behaviours (placed_is document (part.Service i) (service_of version catalogue before d) x e1) in
+    let next : before ++ x ∷ [] ≡ more = same_ok (before ++ x ∷ []) more h2 in
+    let rest = services_grow document version env catalogue (i + 1) more ds out behaviours (AreServices-push catalogue before more x are is.known is.new (sym next)) h1 in
+    let long : length more ≡ length before + 1 = sym (ap length next) ∙ length-append before (x ∷ []) in
+    record { known = rest.known; count = omega (arith, rest.count, long) }
+
+no_services : (catalogue : List NamedBeh) → AreServices catalogue []
+no_services catalogue = record { known = λ d i l. absurd (omega (arith, l)); names = tt }
+
+services_known : (document : List ℕ) (version : ℕ) (env : NamedEnv) (catalogue : List NamedBeh) (d : Data) (out : List Service) → IsCatalogue env catalogue → services_of document version catalogue d ≡ Ok out →
+    AreServices catalogue out × (length out ≤ MAX_SERVICES)
+unfolding services_of
+services_known document version env catalogue d out behaviours h =
+    let (items, e, h1) = bind_ok (placed document part.System (counted_items list.Services (codes "services") 0 MAX_SERVICES d)) _ out h in
+    let few = counted_are list.Services (codes "services") 0 MAX_SERVICES d items (placed_is document part.System (counted_items list.Services (codes "services") 0 MAX_SERVICES d) items e) in
+    let all = services_grow document version env catalogue 0 [] items out behaviours (no_services catalogue) h1 in
+    (all.known, omega (arith, all.count, few.few))
+
+-- The limit
+
+limit_in_known : (d : Data) (limit : ℕ) → limit_in d ≡ Ok limit → (0 < limit) × (limit ≤ MAX_CELLS)
+unfolding limit_in
+limit_in_known d limit h =
+    let (number, e, h1) = bind_ok (looked list.Limit 0 (number_of d)) _ limit h in
+    let (within, same) = check_is (nat_le 1 number && nat_le number MAX_CELLS) kind.Count list.Limit 0 number limit h1 in
+    let (some, few) = and_parts (nat_le 1 number) (nat_le number MAX_CELLS) within in
+    subst (λ (limit : ℕ). (0 < limit) × (limit ≤ MAX_CELLS)) same (leb-true 1 number some, leb-true number MAX_CELLS few)
+
+limit_known : (d : Data) (limit : ℕ) → limit_of d ≡ Ok limit → (0 < limit) × (limit ≤ MAX_CELLS)
+unfolding limit_of
+limit_known d limit h = by (member_of d (codes "limit")) h
+  where
+    by : (r : Result Data Miss) → optional limit_in DEFAULT_CELLS r ≡ Ok limit → (0 < limit) × (limit ≤ MAX_CELLS)
+    by (Ok member) g = limit_in_known member limit g
+    by (Err miss) g = subst (λ (limit : ℕ). (0 < limit) × (limit ≤ MAX_CELLS)) (same_ok DEFAULT_CELLS limit g) (leb-true 1 DEFAULT_CELLS refl, leb-true DEFAULT_CELLS MAX_CELLS refl)
+
+-- The document
+
+library_in_known : (texts : Texts) (document : List ℕ) (d : Data) (library : PlainLibrary) → library_in texts document d ≡ Ok library → IsKnownLibrary library
+unfolding library_in
+library_in_known texts document d library h =
+    let (version, e, h1) = bind_ok (placed document part.System (version_of d)) _ library h in
+    let (limit, e1, h2) = bind_ok (placed document part.System (limit_of d)) _ library h1 in
+    let (env, e2, h3) = bind_ok (environment_in texts document d) _ library h2 in
+    let (catalogue, e3, h4) = bind_ok (catalogue_in texts document env d) _ library h3 in
+    let (services, e4, h5) = bind_ok (services_of document version catalogue d) _ library h4 in
+    let (target, e5, h6) = bind_ok (target_in texts document env d) _ library h5 in
+    let environment = environment_in_known texts document d env e2 in
+    let behaviours = catalogue_known texts document env d catalogue e3 in
+    let all = services_known document version env catalogue d services behaviours.0 e4 in
+    subst IsKnownLibrary (same_ok _ library h6) (record {
+      known = record {
+        environment = environment.known;
+        catalogue = behaviours.0;
+        few_behaviours = behaviours.1;
+        services = all.0;
+        few_services = all.1;
+        target = target_in_known texts document env d target e5;
+        limit = limit_known d limit (placed_is document part.System (limit_of d) limit e1);
+      };
+      states = environment.states;
+      actions = environment.actions;
+    })
+
+pub libraries_known : LibrariesAreKnown
+unfolding library_of
+libraries_known texts document library h =
+    let (d, e, h1) = bind_ok (value_at texts document part.System) _ library h in
+    library_in_known texts document d library h1

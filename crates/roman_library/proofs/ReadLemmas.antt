@@ -1,0 +1,128 @@
+-- The lists of a document: what they are read as, and how they are refused.
+use Rattle.std.proofs.Common.{◌≡◌, ℕ, ◌≤◌, inl, inr, List, [], ◌∷◌, ◌++◌, length, codes, Result, Ok, Err, refl, sym, ap, ◌∙◌, subst, arith}
+use Rattle.serde_json.specs.Data.{Data}
+use Rattle.roman_io.specs.Shelf.{Texts}
+use Rattle.roman_model.specs.declared.limits.TheConstants.{MAX_BEHAVIOURS, MAX_SERVICES}
+use Rattle.roman_read.specs.Items.{◌>>=◌}
+use Rattle.roman_read.proofs.Given.{same_ok, bind_ok}
+use Rattle.roman_read.proofs.ListLemmas.{same_err, bind_err, IsStep, IsListing, list_gives, list_given, list_refuses, list_refused}
+use Rattle.roman_parts.specs.Named.{NamedEnv, NamedBeh}
+use Rattle.roman_parts.specs.Reading.{counted_items}
+use Rattle.roman_parts.specs.declared.error.List.{List as Place}
+use Rattle.roman_parts.specs.declared.error.List.TheVariants as list
+use Rattle.roman_parts.specs.declared.error.PartError.{PartError}
+use Rattle.roman_parts.proofs.ReadLemmas.{counted_listing}
+use Rattle.roman_library.specs.Documents.{behaviour_in, behaviour_step, catalogue_in, service_of, service_step, services_of}
+use Rattle.roman_library.specs.Reads.{refused_list, BreaksService, ReadsServices, ReadsBehaviours, DocumentListsAreRead}
+use Rattle.roman_library.specs.Refusals.{refusal_of, placed}
+use Rattle.roman_library.specs.declared.library.Service.{Service}
+use Rattle.roman_library.specs.declared.refusal.Part.{Part}
+use Rattle.roman_library.specs.declared.refusal.Part.TheVariants as part
+use Rattle.roman_library.specs.declared.refusal.Refusal.{Refusal}
+
+placed_ok : {X : Type 0} (document : List ℕ) (part : Part) (r : Result X PartError) (x : X) → placed document part r ≡ Ok x → r ≡ Ok x
+placed_ok document part (Ok y) x h = ap Ok (same_ok y x h)
+placed_ok document part (Err e) x h = cc
+
+placed_err : {X : Type 0} (document : List ℕ) (part : Part) (r : Result X PartError) (e : Refusal) → placed document part r ≡ Err e → (why : PartError) × (r ≡ Err why) × (e ≡ refusal_of document part why)
+placed_err document part (Ok y) e h = absurd (let f : ⊥ = cc in f)
+placed_err document part (Err why) e h = (why, refl, sym (same_err (refusal_of document part why) e h))
+
+-- a list of at most so many items, in its place
+at_most : ℕ → ℕ → Type 0
+at_most most n = n ≤ most
+
+placed_listing : (document name : List ℕ) (place : Place) (most : ℕ) (d : Data) → IsListing name (refused_list document place) (at_most most) d (placed document part.System (counted_items place name 0 most d))
+unfolding at_most
+placed_listing document name place most d =
+    let listing = counted_listing place name 0 most (at_most most) (λ n fits. fits.1) (λ n fits. (omega arith, fits)) d in
+    record {
+      gives = λ items h. listing.gives items (placed_ok document part.System (counted_items place name 0 most d) items h);
+      given = λ ds at fits. ap (placed document part.System) (listing.given ds at fits);
+      refuses = λ e h.
+          let (why, bad, is) = placed_err document part.System (counted_items place name 0 most d) e h in
+          elim (listing.refuses why bad) [
+            | inl (miss, misses, same) ↦ inl (miss, misses, is ∙ ap (refusal_of document part.System) same)
+            | inr (ds, at, never, same) ↦ inr (ds, at, never, is ∙ ap (refusal_of document part.System) same)
+          ];
+      missed = λ miss misses. ap (placed document part.System) (listing.missed miss misses);
+      miscounted = λ ds at never. ap (placed document part.System) (listing.miscounted ds at never);
+    }
+
+module _ (document : List ℕ) (version : ℕ) (catalogue : List NamedBeh) where
+  IsServiceItem : List Service → Data → Service → Type 0
+  IsServiceItem before item x = service_of version catalogue before item ≡ Ok x
+
+  services_step : IsStep (service_step document version catalogue) IsServiceItem (BreaksService document version catalogue)
+  unfolding service_step IsServiceItem
+  services_step = record {
+    gives = λ i before d out at h.
+        let (x, e, h1) = bind_ok (placed document (part.Service i) (service_of version catalogue before d)) _ out h in
+        (x, same_ok (before ++ x ∷ []) out h1, placed_ok document (part.Service i) (service_of version catalogue before d) x e);
+    given = λ i before d x at is. ap (λ (r : Result Service PartError). placed document (part.Service i) r >>= (λ service. Ok (before ++ service ∷ []))) is;
+    refuses = λ i before d e h. elim (bind_err (placed document (part.Service i) (service_of version catalogue before d)) _ e h) [
+      | inl bad ↦ placed_err document (part.Service i) (service_of version catalogue before d) e bad
+      | inr (x, there, h1) ↦ absurd (let f : ⊥ = cc in f)
+    ];
+    refused = λ i before d e (why, bad, is).
+        ap (λ (r : Result Service PartError). placed document (part.Service i) r >>= (λ service. Ok (before ++ service ∷ []))) bad ∙ ap Err (sym is);
+  }
+
+  services_read : ReadsServices document version catalogue
+  unfolding services_of IsServiceItem at_most
+  services_read = record {
+    gives = λ d xs. (
+      list_gives (service_step document version catalogue) IsServiceItem (BreaksService document version catalogue) services_step (codes "services") (refused_list document list.Services) (at_most MAX_SERVICES) d
+          (placed document part.System (counted_items list.Services (codes "services") 0 MAX_SERVICES d)) (placed_listing document (codes "services") list.Services MAX_SERVICES d) xs,
+      list_given (service_step document version catalogue) IsServiceItem (BreaksService document version catalogue) services_step (codes "services") (refused_list document list.Services) (at_most MAX_SERVICES) d
+          (placed document part.System (counted_items list.Services (codes "services") 0 MAX_SERVICES d)) (placed_listing document (codes "services") list.Services MAX_SERVICES d) xs,
+    );
+    refuses = λ d e. (
+      list_refuses (service_step document version catalogue) IsServiceItem (BreaksService document version catalogue) services_step (codes "services") (refused_list document list.Services) (at_most MAX_SERVICES) d
+          (placed document part.System (counted_items list.Services (codes "services") 0 MAX_SERVICES d)) (placed_listing document (codes "services") list.Services MAX_SERVICES d) e,
+      list_refused (service_step document version catalogue) IsServiceItem (BreaksService document version catalogue) services_step (codes "services") (refused_list document list.Services) (at_most MAX_SERVICES) d
+          (placed document part.System (counted_items list.Services (codes "services") 0 MAX_SERVICES d)) (placed_listing document (codes "services") list.Services MAX_SERVICES d) e,
+    );
+  }
+
+module _ (texts : Texts) (document : List ℕ) (env : NamedEnv) where
+  IsBehaviourItem : List NamedBeh → Data → NamedBeh → Type 0
+  IsBehaviourItem before item x = behaviour_in texts document env before (length before) item ≡ Ok x
+
+  BreaksBehaviour : ℕ → List NamedBeh → Data → Refusal → Type 0
+  BreaksBehaviour i before item e = behaviour_in texts document env before i item ≡ Err e
+
+  behaviours_step : IsStep (behaviour_step texts document env) IsBehaviourItem BreaksBehaviour
+  unfolding behaviour_step IsBehaviourItem BreaksBehaviour
+  behaviours_step = record {
+    gives = λ i before d out at h.
+        let (x, e, h1) = bind_ok (behaviour_in texts document env before i d) _ out h in
+        (x, same_ok (before ++ x ∷ []) out h1, subst (λ (i : ℕ). behaviour_in texts document env before i d ≡ Ok x) at e);
+    given = λ i before d x at is.
+        ap (λ (r : Result NamedBeh Refusal). r >>= (λ behaviour. Ok (before ++ behaviour ∷ []))) (subst (λ (i : ℕ). behaviour_in texts document env before i d ≡ Ok x) (sym at) is);
+    refuses = λ i before d e h. elim (bind_err (behaviour_in texts document env before i d) _ e h) [
+      | inl bad ↦ bad
+      | inr (x, there, h1) ↦ absurd (let f : ⊥ = cc in f)
+    ];
+    refused = λ i before d e bad. ap (λ (r : Result NamedBeh Refusal). r >>= (λ behaviour. Ok (before ++ behaviour ∷ []))) bad;
+  }
+
+  behaviours_read : ReadsBehaviours texts document env
+  unfolding catalogue_in IsBehaviourItem BreaksBehaviour at_most
+  behaviours_read = record {
+    gives = λ d xs. (
+      list_gives (behaviour_step texts document env) IsBehaviourItem BreaksBehaviour behaviours_step (codes "behaviours") (refused_list document list.Behaviours) (at_most MAX_BEHAVIOURS) d
+          (placed document part.System (counted_items list.Behaviours (codes "behaviours") 0 MAX_BEHAVIOURS d)) (placed_listing document (codes "behaviours") list.Behaviours MAX_BEHAVIOURS d) xs,
+      list_given (behaviour_step texts document env) IsBehaviourItem BreaksBehaviour behaviours_step (codes "behaviours") (refused_list document list.Behaviours) (at_most MAX_BEHAVIOURS) d
+          (placed document part.System (counted_items list.Behaviours (codes "behaviours") 0 MAX_BEHAVIOURS d)) (placed_listing document (codes "behaviours") list.Behaviours MAX_BEHAVIOURS d) xs,
+    );
+    refuses = λ d e. (
+      list_refuses (behaviour_step texts document env) IsBehaviourItem BreaksBehaviour behaviours_step (codes "behaviours") (refused_list document list.Behaviours) (at_most MAX_BEHAVIOURS) d
+          (placed document part.System (counted_items list.Behaviours (codes "behaviours") 0 MAX_BEHAVIOURS d)) (placed_listing document (codes "behaviours") list.Behaviours MAX_BEHAVIOURS d) e,
+      list_refused (behaviour_step texts document env) IsBehaviourItem BreaksBehaviour behaviours_step (codes "behaviours") (refused_list document list.Behaviours) (at_most MAX_BEHAVIOURS) d
+          (placed document part.System (counted_items list.Behaviours (codes "behaviours") 0 MAX_BEHAVIOURS d)) (placed_listing document (codes "behaviours") list.Behaviours MAX_BEHAVIOURS d) e,
+    );
+  }
+
+pub document_lists_read : DocumentListsAreRead
+document_lists_read = record { services = services_read; behaviours = behaviours_read }

@@ -1,0 +1,153 @@
+-- What is written of a library means that library.
+use Rattle.std.proofs.Common.{◌≡◌, ℕ, zero, suc, ◌<◌, ◌≤◌, ◌&&◌, List, [], ◌∷◌, ◌++◌, map, length, Bool, Option, None, Some, IfSome, codes, nat_le, Result, Ok, Err, IsTrue, All, slice_get, slice_index_or, inl, inr, refl, sym, ap, ◌∙◌, subst, arith}
+use Rattle.std.proofs.lemmas.Bool.{and_from, le-leb}
+use Rattle.std.proofs.lemmas.List.{length-map, map_push}
+use Rattle.std.proofs.lemmas.List.Elements.{All-get_or}
+use Rattle.std.proofs.lemmas.Option.{get_or_from_slice_get}
+use Rattle.serde_json.specs.Data.{Data}
+use Rattle.roman_io.specs.Shelf.{Texts}
+use Rattle.roman_model.specs.Lists.{IsIn, HasNoRepeats}
+use Rattle.roman_model.specs.declared.limits.TheConstants.{MAX_BEHAVIOURS, MAX_SERVICES, MAX_CELLS}
+use Rattle.roman_model.proofs.Lists.{in_map, from_push, in_contains}
+use Rattle.roman_read.specs.Items.{◌>>=◌}
+use Rattle.roman_read.specs.Listed.{AreItems}
+use Rattle.roman_read.specs.Names.{is_name, place_of}
+use Rattle.roman_parts.specs.Lists.{place_in}
+use Rattle.roman_parts.specs.Named.{NamedEnv, NamedBeh}
+use Rattle.roman_parts.specs.Parts.{behaviour_of, name_of}
+use Rattle.roman_parts.specs.Written.{list_value, place_value, environment_value, behaviour_value, target_value, IsSayableEnv, IsSayableBeh, IsSayableTarget}
+use Rattle.roman_parts.specs.declared.error.List.TheVariants as list
+use Rattle.roman_parts.proofs.ReadLemmas.{ok_place, absent_none}
+use Rattle.roman_parts.proofs.WrittenLemmas.{is_place, name_said, parts_said, get_in}
+use Rattle.roman_library.specs.Documents.{version_of, limit_in, limit_of, file_of, part_of, new_name_of, environment_in, new_behaviour_of, behaviour_in, catalogue_in, target_in, behaviour_place, state_of, frozen_of, rests_of, service_of, services_of, library_in}
+use Rattle.roman_library.specs.Library.{PlainLibrary, IsService, behaviour_name, service_name}
+use Rattle.roman_library.specs.Refusals.{placed}
+use Rattle.roman_library.specs.Written.{states_at, service_value, library_value, IsSayable, LibrariesAreSaid}
+use Rattle.roman_library.specs.declared.library.Service.{Service}
+use Rattle.roman_library.specs.declared.refusal.Part.{Part}
+use Rattle.roman_library.specs.declared.refusal.Part.TheVariants as part
+use Rattle.roman_library.proofs.ReadLemmas.{document_lists_read}
+
+-- The environment and the target
+
+environment_said : (texts : Texts) (document : List ℕ) (library : PlainLibrary) → IsSayableEnv library.environment → environment_in texts document (library_value library) ≡ Ok library.environment
+unfolding environment_in part_of file_of
+environment_said texts document library is = ap (placed document part.Environment) (parts_said.environment library.environment is)
+
+target_said : (texts : Texts) (document : List ℕ) (library : PlainLibrary) → IsSayableEnv library.environment → IsSayableTarget library.environment library.target →
+    target_in texts document library.environment (library_value library) ≡ Ok library.target
+unfolding target_in part_of file_of
+target_said texts document library env is = ap (placed document (part.Target 0)) (parts_said.target library.environment library.target env is)
+
+-- Behaviours
+
+behaviour_said : (texts : Texts) (document : List ℕ) (env : NamedEnv) (before : List NamedBeh) (i : ℕ) (b : NamedBeh) → IsSayableEnv env → IsSayableBeh env b → (IsIn b.name (map behaviour_name before) → ⊥) →
+    behaviour_in texts document env before i (behaviour_value env b) ≡ Ok b
+unfolding behaviour_in part_of file_of new_behaviour_of new_name_of
+behaviour_said texts document env before i b env_is is new =
+    rw (name_said (behaviour_value env b) b.name refl is.name, absent_none (map behaviour_name before) b.name new) (ap (placed document (part.Behaviour i)) (parts_said.behaviour env b env_is is))
+
+-- things with names of their own behind others
+still_new : {X : Type 0} (f : X → List ℕ) (before : List X) (x y : X) (xs : List X) → (IsIn (f x) (map f xs) → ⊥) → IsIn y xs → (IsIn (f y) (map f before) → ⊥) → IsIn (f y) (map f (before ++ x ∷ [])) → ⊥
+still_new f before x y xs once i new there =
+    elim (from_push (f y) (f x) (map f before) (subst (λ (names : List (List ℕ)). IsIn (f y) names) (map_push f before x) there)) [
+      | inl earlier ↦ new earlier
+      | inr same ↦ once (subst (λ (n : List ℕ). IsIn n (map f xs)) same (in_map f y xs i))
+    ]
+
+are_behaviours : (texts : Texts) (document : List ℕ) (env : NamedEnv) (before xs : List NamedBeh) → IsSayableEnv env → ((b : NamedBeh) → IsIn b xs → IsSayableBeh env b) → HasNoRepeats (map behaviour_name xs) →
+    ((b : NamedBeh) → IsIn b xs → IsIn b.name (map behaviour_name before) → ⊥) →
+    AreItems (λ before item x. behaviour_in texts document env before (length before) item ≡ Ok x) before (map (behaviour_value env) xs) xs
+are_behaviours texts document env before [] env_is is once new = tt
+are_behaviours texts document env before (b ∷ bs) env_is is once new = (
+  behaviour_said texts document env before (length before) b env_is (is b (inl refl)) (new b (inl refl)),
+  are_behaviours texts document env (before ++ b ∷ []) bs env_is (λ c i. is c (inr i)) once.1 (λ c i. still_new behaviour_name before b c bs once.0 i (new c (inr i))),
+)
+
+catalogue_said : (texts : Texts) (document : List ℕ) (library : PlainLibrary) → IsSayable library → catalogue_in texts document library.environment (library_value library) ≡ Ok library.catalogue
+catalogue_said texts document library is = ((document_lists_read.behaviours texts document library.environment).gives (library_value library) library.catalogue).1 (record {
+  items = map (behaviour_value library.environment) library.catalogue;
+  list = record { value = list_value (map (behaviour_value library.environment) library.catalogue); there = refl; list = refl };
+  fits = omega (arith, is.known.few_behaviours, length-map library.catalogue (behaviour_value library.environment));
+  are = are_behaviours texts document library.environment [] library.catalogue is.environment is.catalogue is.known.catalogue.names (λ b i none. none);
+})
+
+-- Services
+
+there_is : {X : Type 0} (xs : List X) (k : ℕ) → k < length xs → (x : X) × (slice_get xs k ≡ Some x)
+there_is [] k h = absurd (omega (arith, h))
+there_is (x ∷ xs) zero h = (x, refl)
+there_is (x ∷ xs) (suc k) h = there_is xs k (omega (arith, h))
+
+states_there : (catalogue : List NamedBeh) (k : ℕ) (b : NamedBeh) → slice_get catalogue k ≡ Some b → states_at catalogue k ≡ b.states
+states_there [] k b h = cc
+states_there (c ∷ cs) zero b h = let same : c ≡ b = cc in ap (λ (b : NamedBeh). b.states) same
+states_there (c ∷ cs) (suc k) b h = states_there cs k b h
+
+-- the parts of a service, read one by one
+service_read : (catalogue : List NamedBeh) (before : List Service) (d : Data) (name : List ℕ) (place : ℕ) (b : NamedBeh) (state : ℕ) (frozen rests : Bool) → new_name_of (map service_name before) d ≡ Ok name → behaviour_place catalogue d ≡ Ok place →
+    slice_get catalogue place ≡ Some b → state_of b d ≡ Ok state → frozen_of d ≡ Ok frozen → rests_of 2 d ≡ Ok rests →
+    service_of 2 catalogue before d ≡ Ok (record { name = name; behaviour = place; state = state; frozen = frozen; rests = rests })
+unfolding service_of
+service_read catalogue before d name place b state frozen rests h1 h2 h3 h4 h5 h6 = rw (h1, h2, h3, h4, h5, h6) refl
+
+service_said : (env : NamedEnv) (catalogue : List NamedBeh) (before : List Service) (x : Service) → IsTrue (is_name x.name) → (IsIn x.name (map service_name before) → ⊥) → HasNoRepeats (map behaviour_name catalogue) → IsService catalogue x →
+    ((b : NamedBeh) → IsIn b catalogue → IsSayableBeh env b) → service_of 2 catalogue before (service_value catalogue x) ≡ Ok x
+unfolding new_name_of behaviour_place state_of frozen_of rests_of
+service_said env catalogue before x named new once is sayable =
+    let d = service_value catalogue x in
+    let (b, there) = there_is catalogue x.behaviour is.behaviour in
+    let less : x.state < b.beh.states = subst (λ (o : Option NamedBeh). IfSome o (λ b. x.state < b.beh.states)) there is.state in
+    let can = sayable b (get_in catalogue x.behaviour b there) in
+    let inside : x.behaviour < length (map behaviour_name catalogue) = omega (arith, is.behaviour, length-map catalogue behaviour_name) in
+    let state : x.state < length b.states = omega (arith, less, can.state_count) in
+    service_read catalogue before d x.name x.behaviour b x.state x.frozen x.rests
+    (rw (name_said d x.name refl named, absent_none (map service_name before) x.name new) refl)
+    (ok_place (map behaviour_name catalogue) list.Behaviour 0 (place_value (map behaviour_name catalogue) x.behaviour) x.behaviour (is_place (map behaviour_name catalogue) x.behaviour once inside))
+    there
+    (subst (λ (states : List (List ℕ)). place_in b.states list.State 0 (place_value states x.state) ≡ Ok x.state) (sym (states_there catalogue x.behaviour b there))
+    (ok_place b.states list.State 0 (place_value b.states x.state) x.state (is_place b.states x.state can.states.once state)))
+    refl refl
+
+are_services : (env : NamedEnv) (catalogue : List NamedBeh) (before xs : List Service) → HasNoRepeats (map behaviour_name catalogue) → ((b : NamedBeh) → IsIn b catalogue → IsSayableBeh env b) → ((x : Service) → IsIn x xs → IsTrue (is_name x.name)) →
+    ((x : Service) → IsIn x xs → IsService catalogue x) → HasNoRepeats (map service_name xs) → ((x : Service) → IsIn x xs → IsIn x.name (map service_name before) → ⊥) →
+    AreItems (λ before item x. service_of 2 catalogue before item ≡ Ok x) before (map (service_value catalogue) xs) xs
+are_services env catalogue before [] once sayable named is own new = tt
+are_services env catalogue before (x ∷ xs) once sayable named is own new = (
+  service_said env catalogue before x (named x (inl refl)) (new x (inl refl)) once (is x (inl refl)) sayable,
+  are_services env catalogue (before ++ x ∷ []) xs once sayable (λ y i. named y (inr i)) (λ y i. is y (inr i)) own.1 (λ y i. still_new service_name before x y xs own.0 i (new y (inr i))),
+)
+
+services_said : (document : List ℕ) (library : PlainLibrary) → IsSayable library → services_of document 2 library.catalogue (library_value library) ≡ Ok library.services
+services_said document library is = ((document_lists_read.services document 2 library.catalogue).gives (library_value library) library.services).1 (record {
+  items = map (service_value library.catalogue) library.services;
+  list = record { value = list_value (map (service_value library.catalogue) library.services); there = refl; list = refl };
+  fits = omega (arith, is.known.few_services, length-map library.services (service_value library.catalogue));
+  are = are_services library.environment library.catalogue [] library.services is.known.catalogue.names is.catalogue is.services
+      (λ x i. let (k, l, e) = in_contains library.services x i in subst (IsService library.catalogue) e (is.known.services.known k x l))
+      is.known.services.names (λ x i none. none);
+})
+
+-- The document
+
+version_said : (library : PlainLibrary) → version_of (library_value library) ≡ Ok 2
+unfolding version_of
+version_said library = refl
+
+limit_said : (library : PlainLibrary) → (0 < library.limit) × (library.limit ≤ MAX_CELLS) → limit_of (library_value library) ≡ Ok library.limit
+unfolding limit_of limit_in
+limit_said library (some, few) =
+    let within : IsTrue (nat_le 1 library.limit && nat_le library.limit MAX_CELLS) =
+    and_from (nat_le 1 library.limit) (nat_le library.limit MAX_CELLS) (le-leb 1 library.limit (omega (arith, some))) (le-leb library.limit MAX_CELLS few) in
+    rw within refl
+
+pub libraries_said : LibrariesAreSaid
+unfolding library_in
+libraries_said texts document library is = rw (
+  version_said library,
+  limit_said library is.known.limit,
+  environment_said texts document library is.environment,
+  catalogue_said texts document library is,
+  services_said document library is,
+  target_said texts document library is.environment is.target,
+) refl

@@ -1,0 +1,51 @@
+-- A writer of documents, which is a definition alone: a JSON value that means the library, with all parts in place.
+use Rattle.std.specs.Prelude.{◌≡◌, ℕ, List, [], map, Ok, IsTrue, codes, slice_index_or}
+use Rattle.serde_json.specs.Data.{Data, boolean, number, string, object, no_members, member, unsigned}
+use Rattle.roman_io.specs.Shelf.{Texts}
+use Rattle.roman_model.specs.Lists.{IsIn}
+use Rattle.roman_read.specs.Names.{is_name}
+use Rattle.roman_parts.specs.Named.{NamedBeh}
+use Rattle.roman_parts.specs.Written.{list_value, place_value, environment_value, behaviour_value, target_value, IsSayableEnv, IsSayableBeh, IsSayableTarget}
+use Rattle.roman_library.specs.Documents.{library_in}
+use Rattle.roman_library.specs.Library.{PlainLibrary, IsLibrary, behaviour_name}
+use Rattle.roman_library.specs.declared.library.Service.{Service}
+
+-- ---- the writer
+
+-- the names of the states of the behaviour at place k
+abbrev pub states_at : List NamedBeh → ℕ → List (List ℕ)
+states_at catalogue k = slice_index_or (map (λ b. b.states) catalogue) k []
+
+abbrev pub service_value : List NamedBeh → Service → Data
+service_value catalogue x =
+    object (member (codes "behaviour") (place_value (map behaviour_name catalogue) x.behaviour)
+    (member (codes "frozen") (boolean x.frozen)
+    (member (codes "name") (string x.name)
+    (member (codes "rests") (boolean x.rests)
+    (member (codes "state") (place_value (states_at catalogue x.behaviour) x.state)
+    no_members)))))
+
+-- a document of version 2
+abbrev pub library_value : PlainLibrary → Data
+library_value library =
+    object (member (codes "behaviours") (list_value (map (behaviour_value library.environment) library.catalogue))
+    (member (codes "environment") (environment_value library.environment)
+    (member (codes "limit") (number (unsigned library.limit))
+    (member (codes "roman") (number (unsigned 2))
+    (member (codes "services") (list_value (map (service_value library.catalogue) library.services))
+    (member (codes "target") (target_value library.environment library.target)
+    no_members))))))
+
+-- ---- what a document can say
+
+-- the library is one, each part can be said, and the services have names
+pub record IsSayable (library : PlainLibrary) : Type 0 where
+  pub known : IsLibrary library
+  pub environment : IsSayableEnv library.environment
+  pub catalogue : (b : NamedBeh) → IsIn b library.catalogue → IsSayableBeh library.environment b
+  pub target : IsSayableTarget library.environment library.target
+  pub services : (x : Service) → IsIn x library.services → IsTrue (is_name x.name)
+
+-- what is written of a library that can be said means that library, whatever the shelf holds
+abbrev pub LibrariesAreSaid : Type 0
+LibrariesAreSaid = (texts : Texts) (document : List ℕ) (library : PlainLibrary) → IsSayable library → library_in texts document (library_value library) ≡ Ok library

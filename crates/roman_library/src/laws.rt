@@ -1,0 +1,23 @@
+//! Laws over the definitions of documents, each the contract of a function that does nothing.
+
+ghost use Rattle.roman_library.specs.Known.{LibrariesAreKnown};
+ghost use Rattle.roman_library.specs.Reads.{DocumentListsAreRead};
+ghost use Rattle.roman_library.specs.Written.{LibrariesAreSaid};
+
+/// What an accepted document means is a library: its parts are over one environment, its numbers are
+/// in range, and its names are apart.
+pub fn libraries_are_known()
+    ensures known { LibrariesAreKnown }
+{}
+
+/// Services and behaviours are read exactly where each item of their list is one, in their order; a
+/// refusal is the list's own, or that of the least item at fault.
+pub fn document_lists_are_read()
+    ensures read { DocumentListsAreRead }
+{}
+
+/// Each library within the limits of documents is what some JSON value means: that of a writer which
+/// is a definition alone.
+pub fn libraries_are_said()
+    ensures said { LibrariesAreSaid }
+{}

@@ -1,0 +1,208 @@
+-- Normal forms rise, have the same steps, and are determined by them.
+use Rattle.std.proofs.Common.{◌≡◌, ◌≢◌, ℕ, inl, inr, List, [], ◌∷◌, map, refl, sym, ◌∙◌, subst, arith}
+use Rattle.std.specs.List.{flat_map}
+use Rattle.roman_model.specs.Lists.{IsIn, below}
+use Rattle.roman_model.specs.System.{Triple, Env, Move, Beh, has_triple, has_move, env_next, is_final}
+use Rattle.roman_model.specs.Normal.{normal_env, normal_beh, guard_of, guarded_step}
+use Rattle.roman_model.specs.Outcomes.{HasStep}
+use Rattle.roman_model.proofs.Lists.{from_flat_map, from_map}
+use Rattle.roman_model.proofs.OutcomeLemmas.{triple_listed, listed_triple, number_listed, listed_number, step_listed, listed_step}
+use Rattle.roman_parts.proofs.NormalLemmas.{has_triple-normal, has_move-normal, is_final-normal}
+use Rattle.roman_parts.specs.Normals.{Rises, IsLess, AreBefore, IsTripleBefore, IsMoveBefore, IsNormalEnv, IsNormalBeh, SameEnv, SameBeh, NormalFormsAreNormal, NormalFormsAreUnique}
+use Rattle.roman_parts.proofs.Rising.{rises_filter, rises_flat, rises_map, rises_same, rises_below}
+
+-- They rise
+
+-- an environment's triples, from one state by one action
+tripled : ℕ → ℕ → ℕ → Triple
+tripled e a e' = record { from = e; action = a; to = e' }
+
+env_rises : (env : Env) → Rises IsTripleBefore (normal_env env).triples
+unfolding tripled
+env_rises env =
+    rises_flat IsTripleBefore (λ e. flat_map (λ a. map (tripled e a) (env_next env e a)) (below env.actions)) (below env.states) (rises_below env.states)
+    (λ e i.
+    rises_flat IsTripleBefore (λ a. map (tripled e a) (env_next env e a)) (below env.actions) (rises_below env.actions)
+    (λ a j. rises_map IsTripleBefore (tripled e a) (env_next env e a) (rises_filter IsLess (has_triple env e a) (below env.states) (rises_below env.states)) (λ j k less. inr (refl, inr (refl, less))))
+    (λ a b x y less ix iy.
+    let (p, ip, sx) = from_map (tripled e a) x (env_next env e a) ix in
+    let (q, iq, sy) = from_map (tripled e b) y (env_next env e b) iy in
+    subst (λ (x : Triple). IsTripleBefore x y) (sym sx) (subst (IsTripleBefore (tripled e a p)) (sym sy) (inr (refl, inl less)))))
+    (λ d e x y less ix iy.
+    let (a, ia, jx) = from_flat_map (λ a. map (tripled d a) (env_next env d a)) x (below env.actions) ix in
+    let (b, ib, jy) = from_flat_map (λ a. map (tripled e a) (env_next env e a)) y (below env.actions) iy in
+    let (p, ip, sx) = from_map (tripled d a) x (env_next env d a) jx in
+    let (q, iq, sy) = from_map (tripled e b) y (env_next env e b) jy in
+    subst (λ (x : Triple). IsTripleBefore x y) (sym sx) (subst (IsTripleBefore (tripled d a p)) (sym sy) (inl less)))
+
+-- a step with a guard, if it isn't empty
+record IsGuarded (b a b' : ℕ) (es : List ℕ) (m : Move) : Type 0 where
+  from : m.from ≡ b
+  action : m.action ≡ a
+  to : m.to ≡ b'
+  guard : m.guard ≡ es
+  some : m.guard ≢ []
+
+guarded_is : (b a b' : ℕ) (es : List ℕ) (m : Move) → IsIn m (guarded_step b a b' es) → IsGuarded b a b' es m
+guarded_is b a b' [] m i = absurd i
+guarded_is b a b' (e ∷ es) m (inl same) = subst (IsGuarded b a b' (e ∷ es)) (sym same) (record { from = refl; action = refl; to = refl; guard = refl; some = λ none. cc })
+guarded_is b a b' (e ∷ es) m (inr none) = absurd none
+
+guarded_rises : (b a b' : ℕ) (es : List ℕ) → Rises IsMoveBefore (guarded_step b a b' es)
+guarded_rises b a b' [] = tt
+guarded_rises b a b' (e ∷ es) = ((λ y i. absurd i), tt)
+
+before_by : (x y : Move) (a b c d e f : ℕ) → x.from ≡ a → x.action ≡ b → x.to ≡ c → y.from ≡ d → y.action ≡ e → y.to ≡ f → AreBefore (a, b, c) (d, e, f) → IsMoveBefore x y
+before_by x y a b c d e f h1 h2 h3 h4 h5 h6 h = rw (h1, h2, h3, h4, h5, h6) h
+
+module _ (env_states actions : ℕ) (beh : Beh) where
+  by_to : ℕ → ℕ → ℕ → List Move
+  by_to b a b' = guarded_step b a b' (guard_of env_states beh b a b')
+
+  by_action : ℕ → ℕ → List Move
+  by_action b a = flat_map (by_to b a) (below beh.states)
+
+  by_state : ℕ → List Move
+  by_state b = flat_map (by_action b) (below actions)
+
+  to_is : (b a : ℕ) (m : Move) → IsIn m (by_action b a) → (b' : ℕ) × IsGuarded b a b' (guard_of env_states beh b a b') m
+  unfolding by_action by_to
+  to_is b a m i = let (b', j, k) = from_flat_map (by_to b a) m (below beh.states) i in (b', guarded_is b a b' (guard_of env_states beh b a b') m k)
+
+  action_is : (b : ℕ) (m : Move) → IsIn m (by_state b) → (a : ℕ) × (b' : ℕ) × IsGuarded b a b' (guard_of env_states beh b a b') m
+  unfolding by_state
+  action_is b m i = let (a, j, k) = from_flat_map (by_action b) m (below actions) i in let (b', is) = to_is b a m k in (a, b', is)
+
+  steps_rise : Rises IsMoveBefore (normal_beh env_states actions beh).steps
+  unfolding by_state by_action by_to
+  steps_rise =
+      rises_flat IsMoveBefore by_state (below beh.states) (rises_below beh.states)
+      (λ b i.
+      rises_flat IsMoveBefore (by_action b) (below actions) (rises_below actions)
+      (λ a j.
+      rises_flat IsMoveBefore (by_to b a) (below beh.states) (rises_below beh.states) (λ b' k. guarded_rises b a b' (guard_of env_states beh b a b'))
+      (λ j k x y less ix iy.
+      let p = guarded_is b a j (guard_of env_states beh b a j) x ix in
+      let q = guarded_is b a k (guard_of env_states beh b a k) y iy in
+      before_by x y b a j b a k p.from p.action p.to q.from q.action q.to (inr (refl, inr (refl, less)))))
+      (λ j k x y less ix iy.
+      let (c, p) = to_is b j x ix in
+      let (d, q) = to_is b k y iy in
+      before_by x y b j c b k d p.from p.action p.to q.from q.action q.to (inr (refl, inl less))))
+      (λ j k x y less ix iy.
+      let (a, c, p) = action_is j x ix in
+      let (b, d, q) = action_is k y iy in
+      before_by x y j a c k b d p.from p.action p.to q.from q.action q.to (inl less))
+
+  guards_rise : (m : Move) → IsIn m (normal_beh env_states actions beh).steps → Rises IsLess m.guard × (m.guard ≢ [])
+  unfolding by_state by_action by_to
+  guards_rise m i =
+      let (b, j, k) = from_flat_map by_state m (below beh.states) i in
+      let (a, b', is) = action_is b m k in (
+        subst (Rises IsLess) (sym is.guard) (rises_filter IsLess (λ e. has_move beh b e a b') (below env_states) (rises_below env_states)),
+        is.some,
+      )
+
+pub forms_normal : NormalFormsAreNormal
+forms_normal = record {
+  env = λ env. record { form = record { triples = env_rises env }; states = refl; actions = refl; start = refl; same = λ e a e' he ha he'. has_triple-normal env e a e' he ha he' };
+  beh = λ env_states actions beh. record {
+    form = record {
+      finals = rises_filter IsLess (is_final beh) (below beh.states) (rises_below beh.states);
+      steps = steps_rise env_states actions beh;
+      guards = guards_rise env_states actions beh;
+    };
+    states = refl;
+    start = refl;
+    final = λ b hb. is_final-normal env_states actions beh b hb;
+    same = λ b e a b' hb he ha hb'. has_move-normal env_states actions beh b e a b' hb he ha hb';
+  };
+}
+
+-- They are determined by their steps
+
+never_both : (a b c x y z : ℕ) → AreBefore (a, b, c) (x, y, z) → AreBefore (x, y, z) (a, b, c) → ⊥
+never_both a b c x y z (inl l) (inl m) = omega arith
+never_both a b c x y z (inl l) (inr (e, m)) = omega arith
+never_both a b c x y z (inr (d, l)) (inl m) = omega arith
+never_both a b c x y z (inr (d, inl l)) (inr (e, inl m)) = omega arith
+never_both a b c x y z (inr (d, inl l)) (inr (e, inr (f, m))) = omega arith
+never_both a b c x y z (inr (d, inr (g, l))) (inr (e, inl m)) = omega arith
+never_both a b c x y z (inr (d, inr (g, l))) (inr (e, inr (f, m))) = omega arith
+
+less_both : (m n : ℕ) → IsLess m n → IsLess n m → ⊥
+less_both m n h i = omega arith
+
+triples_within : (x y : Env) → ((e a e' : ℕ) → has_triple x e a e' ≡ has_triple y e a e') → (t : Triple) → IsIn t x.triples → IsIn t y.triples
+triples_within x y same t i = triple_listed y t.from t.action t.to (sym (same t.from t.action t.to) ∙ listed_triple x t.from t.action t.to i)
+
+env_unique : (x y : Env) → IsNormalEnv x → IsNormalEnv y → SameEnv x y → x ≡ y
+env_unique x y hx hy same =
+    let triples : x.triples ≡ y.triples = rises_same IsTripleBefore x.triples y.triples (λ t u. never_both t.from t.action t.to u.from u.action u.to) hx.triples hy.triples
+    (triples_within x y same.steps) (triples_within y x (λ e a e'. sym (same.steps e a e'))) in
+    rebuilt x.states y.states x.actions y.actions x.start y.start x.triples y.triples same.states same.actions same.start triples
+  where
+    rebuilt : (s s' a a' b b' : ℕ) (t t' : List Triple) → s ≡ s' → a ≡ a' → b ≡ b' → t ≡ t' →
+        ◌≡◌ {A = Env} (record { states = s; actions = a; start = b; triples = t }) (record { states = s'; actions = a'; start = b'; triples = t' })
+    rebuilt s s' a a' b b' t t' hs ha hb ht = rw (hs, ha, hb, ht) refl
+
+-- two steps at one place don't come one before the other
+at_one_place : (m n : Move) → m.from ≡ n.from → m.action ≡ n.action → m.to ≡ n.to → IsMoveBefore m n → ⊥
+at_one_place m n f a t (inl l) = omega (arith, f, l)
+at_one_place m n f a t (inr (d, inl l)) = omega (arith, a, l)
+at_one_place m n f a t (inr (d, inr (g, l))) = omega (arith, t, l)
+
+-- a list that rises has one step at a place
+one_at_place : (ms : List Move) (m n : Move) → Rises IsMoveBefore ms → IsIn m ms → IsIn n ms → m.from ≡ n.from → m.action ≡ n.action → m.to ≡ n.to → m ≡ n
+one_at_place [] m n h i j f a t = absurd i
+one_at_place (x ∷ xs) m n h (inl e) (inl g) f a t = e ∙ sym g
+one_at_place (x ∷ xs) m n h (inl e) (inr j) f a t = absurd (at_one_place x n
+    (subst (λ (z : Move). z.from ≡ n.from) e f) (subst (λ (z : Move). z.action ≡ n.action) e a) (subst (λ (z : Move). z.to ≡ n.to) e t) (h.0 n j))
+one_at_place (x ∷ xs) m n h (inr i) (inl g) f a t = absurd (at_one_place x m
+    (subst (λ (z : Move). z.from ≡ m.from) g (sym f)) (subst (λ (z : Move). z.action ≡ m.action) g (sym a)) (subst (λ (z : Move). z.to ≡ m.to) g (sym t)) (h.0 m i))
+one_at_place (x ∷ xs) m n h (inr i) (inr j) f a t = one_at_place xs m n h.1 i j f a t
+
+first_of : (ns : List ℕ) → ns ≢ [] → (n : ℕ) × IsIn n ns
+first_of [] some = absurd (some refl)
+first_of (n ∷ ns) some = (n, inl refl)
+
+-- the step of the other form with the same states and action
+twin : (x y : Beh) (m : Move) (e : ℕ) → ((b e a b' : ℕ) → has_move x b e a b' ≡ has_move y b e a b') → IsIn m x.steps → IsIn e m.guard → HasStep y m.from e m.action m.to
+twin x y m e same i g =
+    step_listed y m.from e m.action m.to (sym (same m.from e m.action m.to) ∙ listed_step x m.from e m.action m.to (record { step = m; listed = i; from = refl; action = refl; to = refl; guard = g }))
+
+guard_within : (x y : Beh) (m n : Move) → IsNormalBeh y → ((b e a b' : ℕ) → has_move x b e a b' ≡ has_move y b e a b') → IsIn m x.steps → IsIn n y.steps → m.from ≡ n.from → m.action ≡ n.action → m.to ≡ n.to →
+    (e : ℕ) → IsIn e m.guard → IsIn e n.guard
+guard_within x y m n hy same i j f a t e g =
+    let other = twin x y m e same i g in
+    let is : other.step ≡ n = one_at_place y.steps other.step n hy.steps other.listed j (other.from ∙ f) (other.action ∙ a) (other.to ∙ t) in
+    subst (λ (z : Move). IsIn e z.guard) is other.guard
+
+moves_within : (x y : Beh) → IsNormalBeh x → IsNormalBeh y → ((b e a b' : ℕ) → has_move x b e a b' ≡ has_move y b e a b') → (m : Move) → IsIn m x.steps → IsIn m y.steps
+moves_within x y hx hy same m i =
+    let (e, g) = first_of m.guard (hx.guards m i).1 in
+    let other = twin x y m e same i g in
+    let n = other.step in
+    let guard : m.guard ≡ n.guard = rises_same IsLess m.guard n.guard less_both (hx.guards m i).0 (hy.guards n other.listed).0
+    (guard_within x y m n hy same i other.listed (sym other.from) (sym other.action) (sym other.to))
+    (guard_within y x n m hx (λ b e a b'. sym (same b e a b')) other.listed i other.from other.action other.to) in
+    subst (λ (z : Move). IsIn z y.steps) (rebuilt n.from m.from n.guard m.guard n.action m.action n.to m.to other.from (sym guard) other.action other.to) other.listed
+  where
+    rebuilt : (f f' : ℕ) (g g' : List ℕ) (a a' t t' : ℕ) → f ≡ f' → g ≡ g' → a ≡ a' → t ≡ t' →
+        ◌≡◌ {A = Move} (record { from = f; guard = g; action = a; to = t }) (record { from = f'; guard = g'; action = a'; to = t' })
+    rebuilt f f' g g' a a' t t' hf hg ha ht = rw (hf, hg, ha, ht) refl
+
+beh_unique : (x y : Beh) → IsNormalBeh x → IsNormalBeh y → SameBeh x y → x ≡ y
+beh_unique x y hx hy same =
+    let finals : x.finals ≡ y.finals = rises_same IsLess x.finals y.finals less_both hx.finals hy.finals
+    (λ b i. number_listed y.finals b (sym (same.finals b) ∙ listed_number x.finals b i)) (λ b i. number_listed x.finals b (same.finals b ∙ listed_number y.finals b i)) in
+    let steps : x.steps ≡ y.steps = rises_same IsMoveBefore x.steps y.steps (λ t u. never_both t.from t.action t.to u.from u.action u.to) hx.steps hy.steps
+    (moves_within x y hx hy same.steps) (moves_within y x hy hx (λ b e a b'. sym (same.steps b e a b'))) in
+    rebuilt x.states y.states x.start y.start x.finals y.finals x.steps y.steps same.states same.start finals steps
+  where
+    rebuilt : (s s' b b' : ℕ) (f f' : List ℕ) (t t' : List Move) → s ≡ s' → b ≡ b' → f ≡ f' → t ≡ t' →
+        ◌≡◌ {A = Beh} (record { states = s; start = b; finals = f; steps = t }) (record { states = s'; start = b'; finals = f'; steps = t' })
+    rebuilt s s' b b' f f' t t' hs hb hf ht = rw (hs, hb, hf, ht) refl
+
+pub forms_unique : NormalFormsAreUnique
+forms_unique = record { env = env_unique; beh = beh_unique }

@@ -1,0 +1,178 @@
+-- What a document's value is read as, an environment, a behaviour or a target, is one.
+use Rattle.std.proofs.Common.{◌≡◌, ℕ, ◌+◌, ◌<◌, ◌≤◌, ◌&&◌, Bool, true, false, List, [], ◌∷◌, ◌++◌, length, Option, Some, None, is_some, is_none, nat_le, codes, Ok, IsTrue, refl, sym, ap, ◌∙◌, subst, arith, leb-true, length-append}
+use Rattle.std.specs.Str.{bytes_eq}
+use Rattle.std.proofs.lemmas.Bool.{and_parts}
+use Rattle.std.proofs.lemmas.List.Quantifiers.{position-Some}
+use Rattle.serde_json.specs.Data.{Data, Items, no_items, item}
+use Rattle.serde_json.specs.Find.{as_object}
+use Rattle.serde_json.specs.Events.{items_len}
+use Rattle.roman_model.specs.System.{Beh, Move, IsEnv, IsDeterministic}
+use Rattle.roman_model.specs.declared.limits.TheConstants.{MAX_STATES, MAX_ACTIONS}
+use Rattle.roman_read.specs.Items.{each_item}
+use Rattle.roman_read.specs.Json.{member_of, text_of}
+use Rattle.roman_read.specs.Names.{is_name, place_of}
+use Rattle.roman_read.specs.declared.rules.Kind.{Kind}
+use Rattle.roman_read.specs.declared.rules.Kind.TheVariants as kind
+use Rattle.roman_read.proofs.Given.{same_ok, bind_ok}
+use Rattle.roman_parts.specs.Choices.{choice_of, refuse_choice, single_of}
+use Rattle.roman_parts.specs.Lists.{name_step, names_of, place_in, start_of, finals_of}
+use Rattle.roman_parts.specs.Named.{NamedEnv, NamedBeh, NamedTarget, IsOver}
+use Rattle.roman_parts.specs.Parts.{environment_of, name_of, behaviour_of, target_of}
+use Rattle.roman_parts.specs.Reading.{looked, found, check, items_at, counted_items}
+use Rattle.roman_parts.specs.Steps.{triples_of, moves_of}
+use Rattle.roman_parts.specs.declared.error.List.{List as Place}
+use Rattle.roman_parts.specs.declared.error.List.TheVariants as list
+use Rattle.roman_parts.proofs.NormalLemmas.{IsEnv-normal, IsOver-normal}
+use Rattle.roman_parts.proofs.SingleLemmas.{single_moves}
+
+-- Readings that aren't refused
+
+pub check_is : {X : Type 0} (b : Bool) (rule : Kind) (list : Place) (i : ℕ) (x y : X) → check b rule list i x ≡ Ok y → IsTrue b × (x ≡ y)
+check_is true rule list i x y h = (refl, same_ok x y h)
+check_is false rule list i x y h = cc
+
+pub found_is : {X : Type 0} (rule : Kind) (list : Place) (i : ℕ) (o : Option X) (x : X) → found rule list i o ≡ Ok x → o ≡ Some x
+found_is rule list i None x h = cc
+found_is rule list i (Some y) x h = ap Some (same_ok y x h)
+
+pub none_is : {X : Type 0} (o : Option X) → IsTrue (is_none o) → o ≡ None
+none_is None h = refl
+none_is (Some x) h = absurd (let e : ⊥ = cc in e)
+
+-- Lists
+
+-- the items of a member that is a list, and their number
+pub record AreCounted (list : Place) (member : List ℕ) (least most : ℕ) (d : Data) (items : Items) : Type 0 where
+  pub are : items_at list member d ≡ Ok items
+  pub some : least ≤ items_len items
+  pub few : items_len items ≤ most
+
+pub counted_are : (list : Place) (member : List ℕ) (least most : ℕ) (d : Data) (items : Items) → counted_items list member least most d ≡ Ok items → AreCounted list member least most d items
+unfolding counted_items
+counted_are list member least most d items h =
+    let (all, e, h1) = bind_ok (items_at list member d) _ items h in
+    let (within, same) = check_is (nat_le least (items_len all) && nat_le (items_len all) most) kind.Count list 0 all items h1 in
+    let (some, few) = and_parts (nat_le least (items_len all)) (nat_le (items_len all) most) within in
+    subst (AreCounted list member least most d) same (record { are = e; some = leb-true least (items_len all) some; few = leb-true (items_len all) most few })
+
+name_grows : (list : Place) (i : ℕ) (names : List (List ℕ)) (d : Data) (out : List (List ℕ)) → name_step list i names d ≡ Ok out → length out ≡ length names + 1
+unfolding name_step
+name_grows list i names d out h =
+    let (text, e1, h1) = bind_ok (looked list i (text_of d)) _ out h in
+    let (name, e2, h2) = bind_ok (check (is_name text) kind.BadName list i text) _ out h1 in
+    let (new, same) = check_is (is_none (place_of names name)) kind.Repeated list i (names ++ name ∷ []) out h2 in
+    sym (ap length same) ∙ length-append names (name ∷ [])
+
+names_grow : (list : Place) (i : ℕ) (names : List (List ℕ)) (items : Items) (out : List (List ℕ)) → each_item (name_step list) i names items ≡ Ok out → length out ≡ length names + items_len items
+unfolding each_item
+names_grow list i names no_items out h = let e : length names ≡ length out = ap length (same_ok names out h) in omega arith
+names_grow list i names (item d ds) out h =
+    let (more, e, h1) = bind_ok (name_step list i names d) _ out h in
+    let one = name_grows list i names d more e in
+    let rest = names_grow list (i + 1) more ds out h1 in
+    omega arith
+
+pub names_counted : (list : Place) (member : List ℕ) (most : ℕ) (d : Data) (names : List (List ℕ)) → names_of list member most d ≡ Ok names → (0 < length names) × (length names ≤ most)
+unfolding names_of
+names_counted list member most d names h =
+    let (items, e, h1) = bind_ok (counted_items list member 1 most d) _ names h in
+    let counted = counted_are list member 1 most d items e in
+    let count = names_grow list 0 [] items names h1 in
+    (omega (arith, counted.some, count), omega (arith, counted.few, count))
+
+pub place_below : (names : List (List ℕ)) (list : Place) (i : ℕ) (d : Data) (k : ℕ) → place_in names list i d ≡ Ok k → k < length names
+unfolding place_in
+place_below names list i d k h =
+    let (text, e, h1) = bind_ok (looked list i (text_of d)) _ k h in
+    (position-Some (bytes_eq text) names k [] (found_is kind.Unknown list i (place_of names text) k h1)).0
+
+pub start_below : (states : List (List ℕ)) (d : Data) (k : ℕ) → start_of states d ≡ Ok k → k < length states
+unfolding start_of
+start_below states d k h =
+    let (member, e, h1) = bind_ok (looked list.Start 0 (member_of d (codes "start"))) _ k h in
+    place_below states list.Start 0 member k h1
+
+-- Parts
+
+-- the environment is in range, and has a name for each of its states and actions
+pub record IsEnvironment (env : NamedEnv) : Type 0 where
+  pub known : IsEnv env.env
+  pub states : length env.states ≡ env.env.states
+  pub actions : length env.actions ≡ env.env.actions
+
+pub environment_known : (d : Data) (env : NamedEnv) → environment_of d ≡ Ok env → IsEnvironment env
+unfolding environment_of
+environment_known d env h =
+    let (whole, e, h1) = bind_ok (check (is_some (as_object d)) kind.Form list.Whole 0 d) _ env h in
+    let (states, e1, h2) = bind_ok (names_of list.States (codes "states") MAX_STATES whole) _ env h1 in
+    let (start, e2, h3) = bind_ok (start_of states whole) _ env h2 in
+    let (actions, e3, h4) = bind_ok (names_of list.Actions (codes "actions") MAX_ACTIONS whole) _ env h3 in
+    let (steps, e4, h5) = bind_ok (triples_of states actions whole) _ env h4 in
+    subst IsEnvironment (same_ok _ env h5) (record {
+      known = IsEnv-normal (record { states = length states; actions = length actions; start = start; triples = steps })
+          (names_counted list.States (codes "states") MAX_STATES whole states e1) (names_counted list.Actions (codes "actions") MAX_ACTIONS whole actions e3) (start_below states whole start e2);
+      states = refl;
+      actions = refl;
+    })
+
+-- the behaviour is over that environment, has a name for each of its states, and the name that was read
+pub record IsNamedBehaviour (env : NamedEnv) (d : Data) (b : NamedBeh) : Type 0 where
+  pub env_states : b.env_states ≡ env.env.states
+  pub actions : b.actions ≡ env.env.actions
+  pub names : length b.states ≡ b.beh.states
+  pub known : IsOver b.env_states b.actions b.beh
+  pub name : name_of d ≡ Ok b.name
+
+pub behaviour_known : (env : NamedEnv) (d : Data) (b : NamedBeh) → behaviour_of env d ≡ Ok b → IsNamedBehaviour env d b
+unfolding behaviour_of
+behaviour_known env d b h =
+    let (whole, e, h1) = bind_ok (check (is_some (as_object d)) kind.Form list.Whole 0 d) _ b h in
+    let (object, same) = check_is (is_some (as_object d)) kind.Form list.Whole 0 d whole e in
+    let (name, e0, h2) = bind_ok (name_of whole) _ b h1 in
+    let (states, e1, h3) = bind_ok (names_of list.States (codes "states") MAX_STATES whole) _ b h2 in
+    let (start, e2, h4) = bind_ok (start_of states whole) _ b h3 in
+    let (finals, e3, h5) = bind_ok (finals_of states whole) _ b h4 in
+    let (steps, e4, h6) = bind_ok (moves_of env.states env.actions states whole) _ b h5 in
+    subst (IsNamedBehaviour env d) (same_ok _ b h6) (record {
+      env_states = refl;
+      actions = refl;
+      names = refl;
+      known = IsOver-normal env.env.states env.env.actions (record { states = length states; start = start; finals = finals; steps = steps })
+          (names_counted list.States (codes "states") MAX_STATES whole states e1) (start_below states whole start e2);
+      name = ap name_of same ∙ e0;
+    })
+
+-- the target is over that environment, is deterministic, and has a name for each of its states
+pub record IsNamedTarget (env : NamedEnv) (t : NamedTarget) : Type 0 where
+  pub env_states : t.env_states ≡ env.env.states
+  pub actions : t.actions ≡ env.env.actions
+  pub names : length t.states ≡ t.beh.states
+  pub known : IsOver t.env_states t.actions t.beh
+  pub single : IsDeterministic t.beh
+
+choice_free : (env_states : List (List ℕ)) (moves steps : List Move) → single_of env_states moves ≡ Ok steps → (choice_of moves ≡ None) × (moves ≡ steps)
+unfolding single_of
+choice_free env_states moves steps h = by (choice_of moves) refl h
+  where
+    by : (o : Option (ℕ × (ℕ × ℕ))) → choice_of moves ≡ o → refuse_choice env_states moves o ≡ Ok steps → (choice_of moves ≡ None) × (moves ≡ steps)
+    by None e g = (e, same_ok moves steps g)
+    by (Some (j, (i, x))) e g = absurd (let f : ⊥ = cc in f)
+
+pub target_known : (env : NamedEnv) (d : Data) (t : NamedTarget) → target_of env d ≡ Ok t → IsNamedTarget env t
+unfolding target_of
+target_known env d t h =
+    let (whole, e, h1) = bind_ok (check (is_some (as_object d)) kind.Form list.Whole 0 d) _ t h in
+    let (states, e1, h2) = bind_ok (names_of list.States (codes "states") MAX_STATES whole) _ t h1 in
+    let (start, e2, h3) = bind_ok (start_of states whole) _ t h2 in
+    let (finals, e3, h4) = bind_ok (finals_of states whole) _ t h3 in
+    let (moves, e4, h5) = bind_ok (moves_of env.states env.actions states whole) _ t h4 in
+    let (steps, e5, h6) = bind_ok (single_of env.states moves) _ t h5 in
+    let (none, same) = choice_free env.states moves steps e5 in
+    let beh : Beh = record { states = length states; start = start; finals = finals; steps = steps } in
+    subst (IsNamedTarget env) (same_ok _ t h6) (record {
+      env_states = refl;
+      actions = refl;
+      names = refl;
+      known = IsOver-normal env.env.states env.env.actions beh (names_counted list.States (codes "states") MAX_STATES whole states e1) (start_below states whole start e2);
+      single = single_moves env.env.states env.env.actions beh (sym (ap choice_of same) ∙ none);
+    })

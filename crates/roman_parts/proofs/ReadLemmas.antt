@@ -1,0 +1,637 @@
+-- Lists of names, final states and steps: what they are read as, and how they are refused.
+use Rattle.std.proofs.Common.{◌≡◌, ◌≢◌, ℕ, zero, suc, ◌<◌, ◌≤◌, ◌⊎◌, ◌&&◌, inl, inr, Bool, true, false, List, [], ◌∷◌, ◌++◌, length, get_or, Option, Some, None, is_none, nat_le, codes, Result, Ok, Err, IsTrue, IsFalse, slice_get, refl, sym, ap, ◌∙◌, subst, arith, leb-true, true≢false}
+use Rattle.std.specs.List.{AllZip, list_any, position_or_len}
+use Rattle.std.specs.Str.{bytes_eq}
+use Rattle.std.proofs.lemmas.Bool.{and_parts, and_from, both_ways, cases_order, le-leb}
+use Rattle.std.proofs.lemmas.List.Quantifiers.{position-Some}
+use Rattle.std.proofs.lemmas.Option.{same_Some, slice_get-get_or, get_or_from_slice_get}
+use Rattle.std.proofs.lemmas.Slice.Eq.{bytes_eq-Decides}
+use Rattle.serde_json.specs.Data.{Data, Items, no_items, item}
+use Rattle.serde_json.specs.Events.{items_len}
+use Rattle.serde_json.specs.View.{items_of}
+use Rattle.roman_model.specs.Lists.{IsIn, HasNoRepeats}
+use Rattle.roman_model.specs.System.{Triple, Move}
+use Rattle.roman_model.specs.declared.limits.TheConstants.{MAX_STEPS}
+use Rattle.roman_model.proofs.Lists.{by_test, any_from, any_true, from_push, in_push, in_append_left}
+use Rattle.roman_read.specs.Items.{◌>>=◌, each_item, pushing}
+use Rattle.roman_read.specs.Json.{member_of, text_of, list_of}
+use Rattle.roman_read.specs.Kinds.{kind_of}
+use Rattle.roman_read.specs.Listed.{IsListAt, MissesList, AreItems}
+use Rattle.roman_read.specs.Names.{is_name, place_of}
+use Rattle.roman_read.specs.declared.rules.Kind.{Kind}
+use Rattle.roman_read.specs.declared.rules.Kind.TheVariants as kind
+use Rattle.roman_read.specs.declared.rules.Miss.{Miss}
+use Rattle.roman_read.proofs.Given.{same_ok, bind_ok}
+use Rattle.roman_read.proofs.ListLemmas.{same_err, bind_err, listed, items_listed, items_count, IsStep, IsListing, list_gives, list_given, list_refuses, list_refused}
+use Rattle.roman_read.proofs.PlaceLemmas.{place_of-present, place_of-absent}
+use Rattle.roman_parts.specs.Guards.{guarded_states}
+use Rattle.roman_parts.specs.Lists.{name_step, names_of, place_in, finals_of}
+use Rattle.roman_parts.specs.Reading.{looked, found, check, items_at, counted_items}
+use Rattle.roman_parts.specs.Reads.{IsNewName, BreaksName, IsPlace, BreaksPlace, IsNoRow, IsTripleItem, BreaksTriple, IsMoveItem, BreaksMove, ReadsList, AreNames, ListsAreRead}
+use Rattle.roman_parts.specs.Steps.{three_of, four_of, triple_item, triples_of, move_item, moves_of}
+use Rattle.roman_parts.specs.declared.error.List.{List as Place}
+use Rattle.roman_parts.specs.declared.error.List.TheVariants as list
+use Rattle.roman_parts.specs.declared.error.PartError.{PartError}
+use Rattle.roman_parts.specs.declared.error.PartError.TheVariants.{Refused}
+use Rattle.roman_parts.proofs.PartLemmas.{check_is, found_is, none_is}
+
+-- Looks and tests
+
+looked_ok : {X : Type 0} (list : Place) (i : ℕ) (r : Result X Miss) (x : X) → looked list i r ≡ Ok x → r ≡ Ok x
+looked_ok list i (Ok y) x h = ap Ok (same_ok y x h)
+looked_ok list i (Err miss) x h = cc
+
+looked_err : {X : Type 0} (list : Place) (i : ℕ) (r : Result X Miss) (e : PartError) → looked list i r ≡ Err e → (miss : Miss) × (r ≡ Err miss) × (e ≡ Refused (kind_of miss) list i)
+looked_err list i (Ok y) e h = absurd (let f : ⊥ = cc in f)
+looked_err list i (Err miss) e h = (miss, refl, sym (same_err (Refused (kind_of miss) list i) e h))
+
+check_true : {X : Type 0} (b : Bool) (rule : Kind) (list : Place) (i : ℕ) (x : X) → IsTrue b → check b rule list i x ≡ Ok x
+check_true true rule list i x h = refl
+check_true false rule list i x h = absurd (true≢false (sym h))
+
+check_false : {X : Type 0} (b : Bool) (rule : Kind) (list : Place) (i : ℕ) (x : X) → IsFalse b → check b rule list i x ≡ Err (Refused rule list i)
+check_false false rule list i x h = refl
+check_false true rule list i x h = absurd (true≢false h)
+
+check_err : {X : Type 0} (b : Bool) (rule : Kind) (list : Place) (i : ℕ) (x : X) (e : PartError) → check b rule list i x ≡ Err e → IsFalse b × (e ≡ Refused rule list i)
+check_err true rule list i x e h = absurd (let f : ⊥ = cc in f)
+check_err false rule list i x e h = (refl, sym (same_err (Refused rule list i) e h))
+
+found_err : {X : Type 0} (rule : Kind) (list : Place) (i : ℕ) (o : Option X) (e : PartError) → found rule list i o ≡ Err e → (o ≡ None) × (e ≡ Refused rule list i)
+found_err rule list i None e h = (refl, sym (same_err (Refused rule list i) e h))
+found_err rule list i (Some y) e h = absurd (let f : ⊥ = cc in f)
+
+-- Places of names
+
+itself : (name : List ℕ) → IsTrue (bytes_eq name name)
+itself name = (bytes_eq-Decides name name).1 refl
+
+in_place : (names : List (List ℕ)) (text : List ℕ) (k : ℕ) → place_of names text ≡ Some k → (slice_get names k ≡ Some text) × ((j : ℕ) → j < k → slice_get names j ≡ Some text → ⊥)
+in_place names text k h =
+    let (less, here, before) = position-Some (bytes_eq text) names k [] h in
+    let same : text ≡ get_or names k [] = (bytes_eq-Decides text (get_or names k [])).0 here in (
+      slice_get-get_or names k [] less ∙ ap Some (sym same),
+      λ j earlier there.
+          let is : get_or names j [] ≡ text = get_or_from_slice_get names j text [] there in
+          both_ways (bytes_eq text (get_or names j [])) (before j earlier) (subst (λ (n : List ℕ). IsTrue (bytes_eq text n)) (sym is) (itself text)),
+    )
+
+get_in : {X : Type 0} (xs : List X) (k : ℕ) (x : X) → slice_get xs k ≡ Some x → IsIn x xs
+get_in [] k x h = absurd (let f : ⊥ = cc in f)
+get_in (y ∷ ys) zero x h = inl (let same : y ≡ x = cc in sym same)
+get_in (y ∷ ys) (suc k) x h = inr (get_in ys k x h)
+
+there_some : (names : List (List ℕ)) (text : List ℕ) → IsIn text names → (k : ℕ) × (place_of names text ≡ Some k)
+there_some names text there = (position_or_len (bytes_eq text) names, place_of-present names text (any_from (bytes_eq text) text names there (itself text)))
+
+-- a name stands first at one place
+place_from : (names : List (List ℕ)) (text : List ℕ) (k : ℕ) → slice_get names k ≡ Some text → ((j : ℕ) → j < k → slice_get names j ≡ Some text → ⊥) → place_of names text ≡ Some k
+place_from names text k there first =
+    let (i, found) = there_some names text (get_in names k text there) in
+    let (here, before) = in_place names text i found in
+    elim (cases_order i k) [
+      | inl same ↦ found ∙ ap Some same
+      | inr (inl less) ↦ absurd (first i less here)
+      | inr (inr more) ↦ absurd (before k more there)
+    ]
+
+pub absent_none : (names : List (List ℕ)) (text : List ℕ) → (IsIn text names → ⊥) → place_of names text ≡ None
+absent_none names text never = by_test (list_any (bytes_eq text) names)
+    (λ yes. let (n, i, same) = any_true (bytes_eq text) names yes in absurd (never (subst (λ (n : List ℕ). IsIn n names) (sym ((bytes_eq-Decides text n).0 same)) i)))
+    (λ fails. place_of-absent names text fails)
+
+none_absent : (names : List (List ℕ)) (text : List ℕ) → place_of names text ≡ None → IsIn text names → ⊥
+none_absent names text none there = let (k, some) = there_some names text there in cc
+
+pub place_ok : (names : List (List ℕ)) (list : Place) (i : ℕ) (d : Data) (k : ℕ) → place_in names list i d ≡ Ok k → IsPlace names d k
+unfolding place_in
+place_ok names list i d k h =
+    let (text, e, h1) = bind_ok (looked list i (text_of d)) _ k h in
+    let (there, first) = in_place names text k (found_is kind.Unknown list i (place_of names text) k h1) in
+    record { name = text; text = looked_ok list i (text_of d) text e; there = there; first = first }
+
+pub ok_place : (names : List (List ℕ)) (list : Place) (i : ℕ) (d : Data) (k : ℕ) → IsPlace names d k → place_in names list i d ≡ Ok k
+unfolding place_in
+ok_place names list i d k is = rw (is.text, place_from names is.name k is.there is.first) refl
+
+pub place_err : (names : List (List ℕ)) (list : Place) (i : ℕ) (d : Data) (e : PartError) → place_in names list i d ≡ Err e → BreaksPlace names list i d e
+unfolding place_in
+place_err names list i d e h = elim (bind_err (looked list i (text_of d)) _ e h) [
+  | inl bad ↦ inl (looked_err list i (text_of d) e bad)
+  | inr (text, given, h1) ↦
+      let (none, is) = found_err kind.Unknown list i (place_of names text) e h1 in
+      inr (text, looked_ok list i (text_of d) text given, none_absent names text none, is)
+]
+
+pub err_place : (names : List (List ℕ)) (list : Place) (i : ℕ) (d : Data) (e : PartError) → BreaksPlace names list i d e → place_in names list i d ≡ Err e
+unfolding place_in
+err_place names list i d e (inl (miss, missed, is)) = rw (missed, is) refl
+err_place names list i d e (inr (text, reads, never, is)) = rw (reads, absent_none names text never, is) refl
+
+-- Lists in a member
+
+missed_list : (list : Place) (name : List ℕ) (d : Data) (e : PartError) → items_at list name d ≡ Err e → (miss : Miss) × MissesList d name miss × (e ≡ Refused (kind_of miss) list 0)
+unfolding items_at
+missed_list list name d e h = elim (bind_err (looked list 0 (member_of d name)) _ e h) [
+  | inl bad ↦ let (miss, missed, is) = looked_err list 0 (member_of d name) e bad in (miss, inl missed, is)
+  | inr (value, given, h1) ↦
+      let (miss, missed, is) = looked_err list 0 (list_of value) e h1 in
+      (miss, inr (value, looked_ok list 0 (member_of d name) value given, missed), is)
+]
+
+list_missed : (list : Place) (name : List ℕ) (d : Data) (miss : Miss) → MissesList d name miss → items_at list name d ≡ Err (Refused (kind_of miss) list 0)
+unfolding items_at
+list_missed list name d miss (inl missed) = rw missed refl
+list_missed list name d miss (inr (value, there, missed)) = rw (there, missed) refl
+
+list_there : (list : Place) (name : List ℕ) (d : Data) (items : Items) → items_at list name d ≡ Ok items → (ds : List Data) × (items ≡ items_of ds) × IsListAt d name ds
+unfolding items_at
+list_there list name d items h =
+    let (value, e, h1) = bind_ok (looked list 0 (member_of d name)) _ items h in
+    let same : items ≡ items_of (listed items) = sym (items_listed items) in
+    let found : list_of value ≡ Ok items = looked_ok list 0 (list_of value) items h1 in
+    (listed items, same, record { value = value; there = looked_ok list 0 (member_of d name) value e; list = found ∙ ap Ok same })
+
+there_list : (list : Place) (name : List ℕ) (d : Data) (ds : List Data) → IsListAt d name ds → items_at list name d ≡ Ok (items_of ds)
+unfolding items_at
+there_list list name d ds is = rw (is.there, is.list) refl
+
+any_listing : (list : Place) (name : List ℕ) (d : Data) → IsListing name (λ rule. Refused rule list 0) (λ n. Unit {0}) d (items_at list name d)
+any_listing list name d = record {
+  gives = λ items h. let (ds, same, is) = list_there list name d items h in (ds, same, is, tt);
+  given = λ ds is fits. there_list list name d ds is;
+  refuses = λ e h. inl (missed_list list name d e h);
+  missed = λ miss m. list_missed list name d miss m;
+  miscounted = λ ds is never. absurd (never tt);
+}
+
+within_is : (least most n : ℕ) → IsTrue (nat_le least n && nat_le n most) → (least ≤ n) × (n ≤ most)
+within_is least most n h = let (some, few) = and_parts (nat_le least n) (nat_le n most) h in (leb-true least n some, leb-true n most few)
+
+is_within : (least most n : ℕ) → (least ≤ n) × (n ≤ most) → IsTrue (nat_le least n && nat_le n most)
+is_within least most n (some, few) = and_from (nat_le least n) (nat_le n most) (le-leb least n some) (le-leb n most few)
+
+module _ (list : Place) (name : List ℕ) (least most : ℕ) (Fits : ℕ → Type 0) (there : (n : ℕ) → (least ≤ n) × (n ≤ most) → Fits n) (back : (n : ℕ) → Fits n → (least ≤ n) × (n ≤ most)) (d : Data) where
+  counted_gives : (items : Items) → counted_items list name least most d ≡ Ok items → (ds : List Data) × (items ≡ items_of ds) × IsListAt d name ds × Fits (length ds)
+  unfolding counted_items
+  counted_gives items h =
+      let (all, e, h1) = bind_ok (items_at list name d) _ items h in
+      let (within, same) = check_is (nat_le least (items_len all) && nat_le (items_len all) most) kind.Count list 0 all items h1 in
+      let (ds, is, at) = list_there list name d all e in
+      let count : items_len all ≡ length ds = ap items_len is ∙ items_count ds in
+      (ds, sym same ∙ is, at, subst Fits count (there (items_len all) (within_is least most (items_len all) within)))
+
+  counted_given : (ds : List Data) → IsListAt d name ds → Fits (length ds) → counted_items list name least most d ≡ Ok (items_of ds)
+  unfolding counted_items
+  counted_given ds at fits =
+      let within : (least ≤ items_len (items_of ds)) × (items_len (items_of ds) ≤ most) = subst (λ (n : ℕ). (least ≤ n) × (n ≤ most)) (sym (items_count ds)) (back (length ds) fits) in
+      ap (λ (r : Result Items PartError). r >>= (λ items. check (nat_le least (items_len items) && nat_le (items_len items) most) kind.Count list 0 items)) (there_list list name d ds at)
+      ∙ check_true (nat_le least (items_len (items_of ds)) && nat_le (items_len (items_of ds)) most) kind.Count list 0 (items_of ds) (is_within least most (items_len (items_of ds)) within)
+
+  counted_refuses : (e : PartError) → counted_items list name least most d ≡ Err e →
+      ((miss : Miss) × MissesList d name miss × (e ≡ Refused (kind_of miss) list 0)) ⊎ ((ds : List Data) × IsListAt d name ds × (Fits (length ds) → ⊥) × (e ≡ Refused kind.Count list 0))
+  unfolding counted_items
+  counted_refuses e h = elim (bind_err (items_at list name d) _ e h) [
+    | inl bad ↦ inl (missed_list list name d e bad)
+    | inr (all, given, h1) ↦
+        let (fails, is) = check_err (nat_le least (items_len all) && nat_le (items_len all) most) kind.Count list 0 all e h1 in
+        let (ds, same, at) = list_there list name d all given in
+        let count : length ds ≡ items_len all = sym (items_count ds) ∙ ap items_len (sym same) in
+        inr (
+          ds,
+          at,
+          λ fits. both_ways (nat_le least (items_len all) && nat_le (items_len all) most) fails (is_within least most (items_len all) (back (items_len all) (subst Fits count fits))),
+          is,
+        )
+  ]
+
+  counted_missed : (miss : Miss) → MissesList d name miss → counted_items list name least most d ≡ Err (Refused (kind_of miss) list 0)
+  unfolding counted_items
+  counted_missed miss misses =
+      ap (λ (r : Result Items PartError). r >>= (λ items. check (nat_le least (items_len items) && nat_le (items_len items) most) kind.Count list 0 items)) (list_missed list name d miss misses)
+
+  miscounted : (ds : List Data) → IsListAt d name ds → (Fits (length ds) → ⊥) → counted_items list name least most d ≡ Err (Refused kind.Count list 0)
+  unfolding counted_items
+  miscounted ds at never =
+      ap (λ (r : Result Items PartError). r >>= (λ items. check (nat_le least (items_len items) && nat_le (items_len items) most) kind.Count list 0 items)) (there_list list name d ds at)
+      ∙ by_test (nat_le least (items_len (items_of ds)) && nat_le (items_len (items_of ds)) most)
+      (λ yes. absurd (never (subst Fits (items_count ds) (there (items_len (items_of ds)) (within_is least most (items_len (items_of ds)) yes)))))
+      (λ fails. check_false (nat_le least (items_len (items_of ds)) && nat_le (items_len (items_of ds)) most) kind.Count list 0 (items_of ds) fails)
+
+  pub counted_listing : IsListing name (λ rule. Refused rule list 0) Fits d (counted_items list name least most d)
+  counted_listing = record { gives = counted_gives; given = counted_given; refuses = counted_refuses; missed = counted_missed; miscounted = miscounted }
+
+-- Names
+
+name_gives : (list : Place) (i : ℕ) (before : List (List ℕ)) (d : Data) (out : List (List ℕ)) → name_step list i before d ≡ Ok out → (name : List ℕ) × (before ++ name ∷ [] ≡ out) × IsNewName before d name
+unfolding name_step
+name_gives list i before d out h =
+    let (text, e, h1) = bind_ok (looked list i (text_of d)) _ out h in
+    let (name, e1, h2) = bind_ok (check (is_name text) kind.BadName list i text) _ out h1 in
+    let (named, same) = check_is (is_name text) kind.BadName list i text name e1 in
+    let (free, is) = check_is (is_none (place_of before name)) kind.Repeated list i (before ++ name ∷ []) out h2 in (
+      name,
+      is,
+      record {
+        text = looked_ok list i (text_of d) text e ∙ ap Ok same;
+        named = subst (λ (n : List ℕ). IsTrue (is_name n)) same named;
+        new = none_absent before name (none_is (place_of before name) free);
+      },
+    )
+
+name_given : (list : Place) (i : ℕ) (before : List (List ℕ)) (d : Data) (name : List ℕ) → IsNewName before d name → name_step list i before d ≡ Ok (before ++ name ∷ [])
+unfolding name_step
+name_given list i before d name is = rw (is.text, is.named, absent_none before name is.new) refl
+
+name_refuses : (list : Place) (i : ℕ) (before : List (List ℕ)) (d : Data) (e : PartError) → name_step list i before d ≡ Err e → BreaksName list i before d e
+unfolding name_step
+name_refuses list i before d e h = elim (bind_err (looked list i (text_of d)) _ e h) [
+  | inl bad ↦ inl (looked_err list i (text_of d) e bad)
+  | inr (text, given, h1) ↦
+      let reads = looked_ok list i (text_of d) text given in
+      elim (bind_err (check (is_name text) kind.BadName list i text) _ e h1) [
+        | inl bad ↦ inr (text, reads, inl (check_err (is_name text) kind.BadName list i text e bad))
+        | inr (name, given1, h2) ↦
+            let (named, same) = check_is (is_name text) kind.BadName list i text name given1 in
+            let (taken, is) = check_err (is_none (place_of before name)) kind.Repeated list i (before ++ name ∷ []) e h2 in
+            inr (text, reads, inr (named, subst (λ (n : List ℕ). IsIn n before) (sym same) (some_there before name (place_of before name) refl taken), is))
+      ]
+]
+  where
+    some_there : (names : List (List ℕ)) (text : List ℕ) (o : Option ℕ) → place_of names text ≡ o → IsFalse (is_none o) → IsIn text names
+    some_there names text None e fails = absurd (true≢false fails)
+    some_there names text (Some k) e fails = get_in names k text (in_place names text k e).0
+
+name_refused : (list : Place) (i : ℕ) (before : List (List ℕ)) (d : Data) (e : PartError) → BreaksName list i before d e → name_step list i before d ≡ Err e
+unfolding name_step
+name_refused list i before d e (inl (miss, missed, is)) = rw (missed, is) refl
+name_refused list i before d e (inr (text, reads, inl (bad, is))) = rw (reads, bad, is) refl
+name_refused list i before d e (inr (text, reads, inr (named, there, is))) = let (k, some) = there_some before text there in rw (reads, named, some, is) refl
+
+name_steps : (list : Place) → IsStep (name_step list) IsNewName (BreaksName list)
+name_steps list = record {
+  gives = λ i before d out at h. name_gives list i before d out h;
+  given = λ i before d x at is. name_given list i before d x is;
+  refuses = name_refuses list;
+  refused = name_refused list;
+}
+
+-- names behind some others: each is one, none stands twice or among those
+record AreNamesAfter (before : List (List ℕ)) (ds : List Data) (names : List (List ℕ)) : Type 0 where
+  texts : AllZip (λ item name. text_of item ≡ Ok name) ds names
+  named : (name : List ℕ) → IsIn name names → IsTrue (is_name name)
+  once : HasNoRepeats names
+  new : (name : List ℕ) → IsIn name names → IsIn name before → ⊥
+
+names_are : (before : List (List ℕ)) (ds : List Data) (names : List (List ℕ)) → AreItems IsNewName before ds names → AreNamesAfter before ds names
+names_are before [] [] are = record { texts = tt; named = λ n i. absurd i; once = tt; new = λ n i. absurd i }
+names_are before [] (n ∷ ns) are = absurd are
+names_are before (d ∷ ds) [] are = absurd are
+names_are before (d ∷ ds) (n ∷ ns) are =
+    let rest = names_are (before ++ n ∷ []) ds ns are.1 in
+    record {
+      texts = (are.0.text, rest.texts);
+      named = λ m i. elim i [ inl same ↦ subst (λ (m : List ℕ). IsTrue (is_name m)) (sym same) are.0.named | inr later ↦ rest.named m later ];
+      once = (λ i. rest.new n i (in_push n before), rest.once);
+      new = λ m i there. elim i [
+        | inl same ↦ are.0.new (subst (λ (m : List ℕ). IsIn m before) same there)
+        | inr later ↦ rest.new m later (in_append_left m before (n ∷ []) there)
+      ];
+    }
+
+are_names : (before : List (List ℕ)) (ds : List Data) (names : List (List ℕ)) → AreNamesAfter before ds names → AreItems IsNewName before ds names
+are_names before [] [] are = tt
+are_names before [] (n ∷ ns) are = absurd are.texts
+are_names before (d ∷ ds) [] are = absurd are.texts
+are_names before (d ∷ ds) (n ∷ ns) are = (
+  record { text = are.texts.0; named = are.named n (inl refl); new = are.new n (inl refl) },
+  are_names (before ++ n ∷ []) ds ns (record {
+    texts = are.texts.1;
+    named = λ m i. are.named m (inr i);
+    once = are.once.1;
+    new = λ m i there. elim (from_push m n before there) [
+      | inl earlier ↦ are.new m (inr i) earlier
+      | inr same ↦ are.once.0 (subst (λ (m : List ℕ). IsIn m ns) same i)
+    ];
+  }),
+)
+
+items_zip : (ds : List Data) (names : List (List ℕ)) → AllZip (λ item name. text_of item ≡ Ok name) ds names → length ds ≡ length names
+items_zip [] [] zip = refl
+items_zip [] (n ∷ ns) zip = absurd zip
+items_zip (d ∷ ds) [] zip = absurd zip
+items_zip (d ∷ ds) (n ∷ ns) zip = ap suc (items_zip ds ns zip.1)
+
+some_few : ℕ → ℕ → Type 0
+some_few most n = (0 < n) × (n ≤ most)
+
+names_listing : (list : Place) (name : List ℕ) (most : ℕ) (d : Data) → IsListing name (λ rule. Refused rule list 0) (some_few most) d (counted_items list name 1 most d)
+unfolding some_few
+names_listing list name most d = counted_listing list name 1 most (some_few most) (λ n fits. (omega (arith, fits.0), fits.1)) (λ n fits. (omega (arith, fits.0), fits.1)) d
+
+-- a member's items, and then a step for each
+module _ {X : Type 0} (step : ℕ → List X → Data → Result (List X) PartError) (Is : List X → Data → X → Type 0) (Breaks : ℕ → List X → Data → PartError → Type 0) (ok : IsStep step Is Breaks)
+    (list : Place) (name : List ℕ) (Fits : ℕ → Type 0) (r : Data → Result Items PartError) (listing : (d : Data) → IsListing name (λ rule. Refused rule list 0) Fits d (r d)) where
+  list_reads : ReadsList list name Fits Is Breaks (λ d. r d >>= each_item step 0 [])
+  list_reads = record {
+    gives = λ d xs. (
+      list_gives step Is Breaks ok name (λ rule. Refused rule list 0) Fits d (r d) (listing d) xs,
+      list_given step Is Breaks ok name (λ rule. Refused rule list 0) Fits d (r d) (listing d) xs,
+    );
+    refuses = λ d e. (
+      list_refuses step Is Breaks ok name (λ rule. Refused rule list 0) Fits d (r d) (listing d) e,
+      list_refused step Is Breaks ok name (λ rule. Refused rule list 0) Fits d (r d) (listing d) e,
+    );
+  }
+
+names_read : (list : Place) (name : List ℕ) (most : ℕ) → ReadsList list name (λ n. (0 < n) × (n ≤ most)) IsNewName (BreaksName list) (names_of list name most)
+unfolding names_of some_few
+names_read list name most = list_reads (name_step list) IsNewName (BreaksName list) (name_steps list) list name (some_few most) (counted_items list name 1 most) (names_listing list name most)
+
+names_exact : (list : Place) (name : List ℕ) (most : ℕ) (d : Data) (names : List (List ℕ)) → (names_of list name most d ≡ Ok names → AreNames name most d names) × (AreNames name most d names → names_of list name most d ≡ Ok names)
+names_exact list name most d names = (
+  λ h.
+      let is = ((names_read list name most).gives d names).0 h in
+      let are = names_are [] is.items names is.are in
+      let count = items_zip is.items names are.texts in
+      record { items = is.items; list = is.list; texts = are.texts; some = omega (arith, is.fits.0, count); few = omega (arith, is.fits.1, count); named = are.named; once = are.once },
+  λ is.
+      let count = items_zip is.items names is.texts in
+      ((names_read list name most).gives d names).1 (record {
+        items = is.items;
+        list = is.list;
+        fits = (omega (arith, is.some, count), omega (arith, is.few, count));
+        are = are_names [] is.items names (record { texts = is.texts; named = is.named; once = is.once; new = λ n i none. absurd none });
+      }),
+)
+
+-- What a list of things read one by one is
+
+module _ {X : Type 0} (read : ℕ → Data → Result X PartError) (Is : ℕ → Data → X → Type 0) (Breaks : ℕ → Data → PartError → Type 0)
+    (ok : (i : ℕ) (d : Data) (x : X) → read i d ≡ Ok x → Is i d x) (given : (i : ℕ) (d : Data) (x : X) → Is i d x → read i d ≡ Ok x)
+    (err : (i : ℕ) (d : Data) (e : PartError) → read i d ≡ Err e → Breaks i d e) (refused : (i : ℕ) (d : Data) (e : PartError) → Breaks i d e → read i d ≡ Err e) where
+  pub pushing_steps : IsStep (pushing read) (λ before d x. Is (length before) d x) (λ i before d e. Breaks i d e)
+  unfolding pushing
+  pushing_steps = record {
+    gives = λ i before d out at h.
+        let (x, e, h1) = bind_ok (read i d) _ out h in
+        (x, same_ok (before ++ x ∷ []) out h1, subst (λ (i : ℕ). Is i d x) at (ok i d x e));
+    given = λ i before d x at is. ap (λ (r : Result X PartError). r >>= (λ x. Ok (before ++ x ∷ []))) (given i d x (subst (λ (i : ℕ). Is i d x) (sym at) is));
+    refuses = λ i before d e h. elim (bind_err (read i d) _ e h) [
+      | inl bad ↦ err i d e bad
+      | inr (x, there, h1) ↦ absurd (let f : ⊥ = cc in f)
+    ];
+    refused = λ i before d e bad. ap (λ (r : Result X PartError). r >>= (λ x. Ok (before ++ x ∷ []))) (refused i d e bad);
+  }
+
+-- Final states
+
+finals_read : (states : List (List ℕ)) → ReadsList list.Finals (codes "final") (λ n. Unit {0}) (λ before d b. IsPlace states d b) (λ i before d e. BreaksPlace states list.Finals i d e) (finals_of states)
+unfolding finals_of
+finals_read states =
+    list_reads (pushing (place_in states list.Finals)) (λ before d b. IsPlace states d b) (λ i before d e. BreaksPlace states list.Finals i d e)
+    (pushing_steps (place_in states list.Finals) (λ i d b. IsPlace states d b) (BreaksPlace states list.Finals) (place_ok states list.Finals) (ok_place states list.Finals) (place_err states list.Finals) (err_place states list.Finals))
+    list.Finals (codes "final") (λ n. Unit {0}) (items_at list.Finals (codes "final")) (any_listing list.Finals (codes "final"))
+
+-- Rows of three and of four
+
+row_fails : (i n : ℕ) (d : Data) (e : PartError) → looked list.Steps i (list_of d) ≡ Err e → IsNoRow n i d e
+row_fails i n d e h = inl (looked_err list.Steps i (list_of d) e h)
+
+row_there : (i : ℕ) (d : Data) (items : Items) → looked list.Steps i (list_of d) ≡ Ok items → list_of d ≡ Ok (items_of (listed items))
+row_there i d items h = looked_ok list.Steps i (list_of d) items h ∙ ap Ok (sym (items_listed items))
+
+three_is : (items : Items) (a b c : Data) → three_of items ≡ Some (a, b, c) → items ≡ items_of (a ∷ b ∷ c ∷ [])
+three_is no_items a b c h = cc
+three_is (item x no_items) a b c h = cc
+three_is (item x (item y no_items)) a b c h = cc
+three_is (item x (item y (item z no_items))) a b c h =
+    let same = same_Some (x, y, z) (a, b, c) h in
+    rw (ap (λ (p : Data × Data × Data). p.0) same, ap (λ (p : Data × Data × Data). p.1) same, ap (λ (p : Data × Data × Data). p.2) same) refl
+three_is (item x (item y (item z (item w items)))) a b c h = cc
+
+not_three : (items : Items) → three_of items ≡ None → length (listed items) ≢ 3
+not_three no_items h = λ e. omega (arith, e)
+not_three (item x no_items) h = λ e. omega (arith, e)
+not_three (item x (item y no_items)) h = λ e. omega (arith, e)
+not_three (item x (item y (item z no_items))) h = cc
+not_three (item x (item y (item z (item w items)))) h = λ e. omega (arith, e)
+
+no_three : (ds : List Data) → length ds ≢ 3 → three_of (items_of ds) ≡ None
+no_three [] h = refl
+no_three (x ∷ []) h = refl
+no_three (x ∷ y ∷ []) h = refl
+no_three (x ∷ y ∷ z ∷ []) h = absurd (h refl)
+no_three (x ∷ y ∷ z ∷ w ∷ ds) h = refl
+
+four_is : (items : Items) (a b c d : Data) → four_of items ≡ Some (a, b, c, d) → items ≡ items_of (a ∷ b ∷ c ∷ d ∷ [])
+four_is no_items a b c d h = cc
+four_is (item x no_items) a b c d h = cc
+four_is (item x (item y no_items)) a b c d h = cc
+four_is (item x (item y (item z no_items))) a b c d h = cc
+four_is (item x (item y (item z (item w no_items)))) a b c d h =
+    let same = same_Some (x, y, z, w) (a, b, c, d) h in
+    rw (ap (λ (p : Data × Data × Data × Data). p.0) same, ap (λ (p : Data × Data × Data × Data). p.1) same, ap (λ (p : Data × Data × Data × Data). p.2) same, ap (λ (p : Data × Data × Data × Data). p.3) same) refl
+four_is (item x (item y (item z (item w (item v items))))) a b c d h = cc
+
+not_four : (items : Items) → four_of items ≡ None → length (listed items) ≢ 4
+not_four no_items h = λ e. omega (arith, e)
+not_four (item x no_items) h = λ e. omega (arith, e)
+not_four (item x (item y no_items)) h = λ e. omega (arith, e)
+not_four (item x (item y (item z no_items))) h = λ e. omega (arith, e)
+not_four (item x (item y (item z (item w no_items)))) h = cc
+not_four (item x (item y (item z (item w (item v items))))) h = λ e. omega (arith, e)
+
+no_four : (ds : List Data) → length ds ≢ 4 → four_of (items_of ds) ≡ None
+no_four [] h = refl
+no_four (x ∷ []) h = refl
+no_four (x ∷ y ∷ []) h = refl
+no_four (x ∷ y ∷ z ∷ []) h = refl
+no_four (x ∷ y ∷ z ∷ w ∷ []) h = absurd (h refl)
+no_four (x ∷ y ∷ z ∷ w ∷ v ∷ ds) h = refl
+
+-- Steps of environments
+
+module _ (states actions : List (List ℕ)) where
+  triple_ok : (i : ℕ) (d : Data) (x : Triple) → triple_item states actions i d ≡ Ok x → IsTripleItem states actions d x
+  unfolding triple_item
+  triple_ok i d x h =
+      let (items, e, h1) = bind_ok (looked list.Steps i (list_of d)) _ x h in
+      let ((a, b, c), e1, h2) = bind_ok (found kind.Form list.Steps i (three_of items)) _ x h1 in
+      let (from, e2, h3) = bind_ok (place_in states list.Steps i a) _ x h2 in
+      let (action, e3, h4) = bind_ok (place_in actions list.Steps i b) _ x h3 in
+      let (to, e4, h5) = bind_ok (place_in states list.Steps i c) _ x h4 in
+      let row : list_of d ≡ Ok (items_of (a ∷ b ∷ c ∷ [])) = looked_ok list.Steps i (list_of d) items e ∙ ap Ok (three_is items a b c (found_is kind.Form list.Steps i (three_of items) (a, b, c) e1)) in
+      subst (IsTripleItem states actions d) (same_ok _ x h5) (record {
+        from = a;
+        action = b;
+        to = c;
+        row = row;
+        from_is = place_ok states list.Steps i a from e2;
+        action_is = place_ok actions list.Steps i b action e3;
+        to_is = place_ok states list.Steps i c to e4;
+      })
+
+  ok_triple : (i : ℕ) (d : Data) (x : Triple) → IsTripleItem states actions d x → triple_item states actions i d ≡ Ok x
+  unfolding triple_item
+  ok_triple i d x is = rw (is.row, ok_place states list.Steps i is.from x.from is.from_is, ok_place actions list.Steps i is.action x.action is.action_is, ok_place states list.Steps i is.to x.to is.to_is) refl
+
+  triple_err : (i : ℕ) (d : Data) (e : PartError) → triple_item states actions i d ≡ Err e → BreaksTriple states actions i [] d e
+  unfolding triple_item
+  triple_err i d e h = elim (bind_err (looked list.Steps i (list_of d)) _ e h) [
+    | inl bad ↦ inl (row_fails i 3 d e bad)
+    | inr (items, given, h1) ↦ elim (bind_err (found kind.Form list.Steps i (three_of items)) _ e h1) [
+      | inl bad ↦
+          let (none, is) = found_err kind.Form list.Steps i (three_of items) e bad in
+          inl (inr (listed items, row_there i d items given, not_three items none, is))
+      | inr ((a, b, c), given1, h2) ↦
+          let row : list_of d ≡ Ok (items_of (a ∷ b ∷ c ∷ [])) = looked_ok list.Steps i (list_of d) items given ∙ ap Ok (three_is items a b c (found_is kind.Form list.Steps i (three_of items) (a, b, c) given1)) in
+          inr (
+            a,
+            b,
+            c,
+            row,
+            elim (bind_err (place_in states list.Steps i a) _ e h2) [
+              | inl bad ↦ inl (place_err states list.Steps i a e bad)
+              | inr (from, given2, h3) ↦ inr (
+                (from, place_ok states list.Steps i a from given2),
+                elim (bind_err (place_in actions list.Steps i b) _ e h3) [
+                  | inl bad ↦ inl (place_err actions list.Steps i b e bad)
+                  | inr (action, given3, h4) ↦ inr (
+                    (action, place_ok actions list.Steps i b action given3),
+                    elim (bind_err (place_in states list.Steps i c) _ e h4) [
+                      | inl bad ↦ place_err states list.Steps i c e bad
+                      | inr (to, given4, h5) ↦ absurd (let f : ⊥ = cc in f)
+                    ],
+                  )
+                ],
+              )
+            ],
+          )
+    ]
+  ]
+
+  err_triple : (i : ℕ) (d : Data) (e : PartError) → BreaksTriple states actions i [] d e → triple_item states actions i d ≡ Err e
+  unfolding triple_item
+  err_triple i d e (inl (inl (miss, missed, is))) = rw (missed, is) refl
+  err_triple i d e (inl (inr (ds, row, few, is))) = rw (row, no_three ds few, is) refl
+  err_triple i d e (inr (a, b, c, row, inl bad)) = rw (row, err_place states list.Steps i a e bad) refl
+  err_triple i d e (inr (a, b, c, row, inr ((from, is), inl bad))) = rw (row, ok_place states list.Steps i a from is, err_place actions list.Steps i b e bad) refl
+  err_triple i d e (inr (a, b, c, row, inr ((from, is), inr ((action, is1), bad)))) =
+      rw (row, ok_place states list.Steps i a from is, ok_place actions list.Steps i b action is1, err_place states list.Steps i c e bad) refl
+
+at_most_steps : ℕ → Type 0
+at_most_steps n = n ≤ MAX_STEPS
+
+steps_listing : (d : Data) → IsListing (codes "steps") (λ rule. Refused rule list.Steps 0) at_most_steps d (counted_items list.Steps (codes "steps") 0 MAX_STEPS d)
+unfolding at_most_steps
+steps_listing d = counted_listing list.Steps (codes "steps") 0 MAX_STEPS at_most_steps (λ n fits. fits.1) (λ n fits. (omega arith, fits)) d
+
+triples_read : (states actions : List (List ℕ)) → ReadsList list.Steps (codes "steps") (λ n. n ≤ MAX_STEPS) (λ before d x. IsTripleItem states actions d x) (BreaksTriple states actions) (triples_of states actions)
+unfolding triples_of at_most_steps
+triples_read states actions =
+    list_reads (pushing (triple_item states actions)) (λ before d x. IsTripleItem states actions d x) (BreaksTriple states actions)
+    (pushing_steps (triple_item states actions) (λ i d x. IsTripleItem states actions d x) (λ i d e. BreaksTriple states actions i [] d e)
+    (triple_ok states actions) (ok_triple states actions) (triple_err states actions) (err_triple states actions))
+    list.Steps (codes "steps") at_most_steps (counted_items list.Steps (codes "steps") 0 MAX_STEPS) steps_listing
+
+-- Steps of behaviours
+
+module _ (env_states actions states : List (List ℕ)) where
+  move_ok : (i : ℕ) (d : Data) (x : Move) → move_item env_states actions states i d ≡ Ok x → IsMoveItem env_states actions states i d x
+  unfolding move_item
+  move_ok i d x h =
+      let (items, e, h1) = bind_ok (looked list.Steps i (list_of d)) _ x h in
+      let ((a, g, b, c), e1, h2) = bind_ok (found kind.Form list.Steps i (four_of items)) _ x h1 in
+      let (from, e2, h3) = bind_ok (place_in states list.Steps i a) _ x h2 in
+      let (guard, e3, h4) = bind_ok (guarded_states env_states i g) _ x h3 in
+      let (action, e4, h5) = bind_ok (place_in actions list.Steps i b) _ x h4 in
+      let (to, e5, h6) = bind_ok (place_in states list.Steps i c) _ x h5 in
+      let row : list_of d ≡ Ok (items_of (a ∷ g ∷ b ∷ c ∷ [])) = looked_ok list.Steps i (list_of d) items e ∙ ap Ok (four_is items a g b c (found_is kind.Form list.Steps i (four_of items) (a, g, b, c) e1)) in
+      subst (IsMoveItem env_states actions states i d) (same_ok _ x h6) (record {
+        from = a;
+        guard = g;
+        action = b;
+        to = c;
+        row = row;
+        from_is = place_ok states list.Steps i a from e2;
+        guard_is = e3;
+        action_is = place_ok actions list.Steps i b action e4;
+        to_is = place_ok states list.Steps i c to e5;
+      })
+
+  ok_move : (i : ℕ) (d : Data) (x : Move) → IsMoveItem env_states actions states i d x → move_item env_states actions states i d ≡ Ok x
+  unfolding move_item
+  ok_move i d x is = rw (
+    is.row,
+    ok_place states list.Steps i is.from x.from is.from_is,
+    is.guard_is,
+    ok_place actions list.Steps i is.action x.action is.action_is,
+    ok_place states list.Steps i is.to x.to is.to_is,
+  ) refl
+
+  move_err : (i : ℕ) (d : Data) (e : PartError) → move_item env_states actions states i d ≡ Err e → BreaksMove env_states actions states i [] d e
+  unfolding move_item
+  move_err i d e h = elim (bind_err (looked list.Steps i (list_of d)) _ e h) [
+    | inl bad ↦ inl (row_fails i 4 d e bad)
+    | inr (items, given, h1) ↦ elim (bind_err (found kind.Form list.Steps i (four_of items)) _ e h1) [
+      | inl bad ↦
+          let (none, is) = found_err kind.Form list.Steps i (four_of items) e bad in
+          inl (inr (listed items, row_there i d items given, not_four items none, is))
+      | inr ((a, g, b, c), given1, h2) ↦
+          let row : list_of d ≡ Ok (items_of (a ∷ g ∷ b ∷ c ∷ [])) = looked_ok list.Steps i (list_of d) items given ∙ ap Ok (four_is items a g b c (found_is kind.Form list.Steps i (four_of items) (a, g, b, c) given1)) in
+          inr (
+            a,
+            g,
+            b,
+            c,
+            row,
+            elim (bind_err (place_in states list.Steps i a) _ e h2) [
+              | inl bad ↦ inl (place_err states list.Steps i a e bad)
+              | inr (from, given2, h3) ↦ inr (
+                (from, place_ok states list.Steps i a from given2),
+                elim (bind_err (guarded_states env_states i g) _ e h3) [
+                  | inl bad ↦ inl bad
+                  | inr (guard, given3, h4) ↦ inr (
+                    guard,
+                    given3,
+                    elim (bind_err (place_in actions list.Steps i b) _ e h4) [
+                      | inl bad ↦ inl (place_err actions list.Steps i b e bad)
+                      | inr (action, given4, h5) ↦ inr (
+                        (action, place_ok actions list.Steps i b action given4),
+                        elim (bind_err (place_in states list.Steps i c) _ e h5) [
+                          | inl bad ↦ place_err states list.Steps i c e bad
+                          | inr (to, given5, h6) ↦ absurd (let f : ⊥ = cc in f)
+                        ],
+                      )
+                    ],
+                  )
+                ],
+              )
+            ],
+          )
+    ]
+  ]
+
+  err_move : (i : ℕ) (d : Data) (e : PartError) → BreaksMove env_states actions states i [] d e → move_item env_states actions states i d ≡ Err e
+  unfolding move_item
+  err_move i d e (inl (inl (miss, missed, is))) = rw (missed, is) refl
+  err_move i d e (inl (inr (ds, row, few, is))) = rw (row, no_four ds few, is) refl
+  err_move i d e (inr (a, g, b, c, row, inl bad)) = rw (row, err_place states list.Steps i a e bad) refl
+  err_move i d e (inr (a, g, b, c, row, inr ((from, is), inl bad))) = rw (row, ok_place states list.Steps i a from is, bad) refl
+  err_move i d e (inr (a, g, b, c, row, inr ((from, is), inr (guard, given, inl bad)))) =
+      rw (row, ok_place states list.Steps i a from is, given, err_place actions list.Steps i b e bad) refl
+  err_move i d e (inr (a, g, b, c, row, inr ((from, is), inr (guard, given, inr ((action, is1), bad))))) =
+      rw (row, ok_place states list.Steps i a from is, given, ok_place actions list.Steps i b action is1, err_place states list.Steps i c e bad) refl
+
+moves_read : (env_states actions states : List (List ℕ)) →
+    ReadsList list.Steps (codes "steps") (λ n. n ≤ MAX_STEPS) (λ before d x. IsMoveItem env_states actions states (length before) d x) (BreaksMove env_states actions states) (moves_of env_states actions states)
+unfolding moves_of at_most_steps
+moves_read env_states actions states =
+    list_reads (pushing (move_item env_states actions states)) (λ before d x. IsMoveItem env_states actions states (length before) d x) (BreaksMove env_states actions states)
+    (pushing_steps (move_item env_states actions states) (IsMoveItem env_states actions states) (λ i d e. BreaksMove env_states actions states i [] d e)
+    (move_ok env_states actions states) (ok_move env_states actions states) (move_err env_states actions states) (err_move env_states actions states))
+    list.Steps (codes "steps") at_most_steps (counted_items list.Steps (codes "steps") 0 MAX_STEPS) steps_listing
+
+pub lists_read : ListsAreRead
+lists_read = record { names = names_exact; each_name = names_read; finals = finals_read; triples = triples_read; moves = moves_read }

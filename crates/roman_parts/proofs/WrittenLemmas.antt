@@ -1,0 +1,364 @@
+-- What is written of a part means that part.
+use Rattle.std.proofs.Common.{◌≡◌, ◌≢◌, ℕ, zero, suc, ◌<◌, ◌≤◌, ◌==◌, ◌&&◌, not, cond, Bool, true, false, List, [], ◌∷◌, ◌++◌, map, length, Option, None, Some, is_some, find, codes, Result, Ok, Err, IsTrue, IsFalse, slice_get, slice_index_or, inl, inr, refl, sym, ap, ◌∙◌, subst, arith, eqb-true}
+use Rattle.std.specs.List.{AllZip}
+use Rattle.std.proofs.lemmas.Bool.{and_parts, not-true, both_ways, cond-true, cond-false, eq-eqb}
+use Rattle.std.proofs.lemmas.List.{length-map}
+use Rattle.std.proofs.lemmas.Option.{same_Some}
+use Rattle.serde_json.specs.Data.{Data, string, array}
+use Rattle.serde_json.specs.Find.{as_object}
+use Rattle.serde_json.specs.View.{items_of}
+use Rattle.roman_guard.specs.Meaning.{is_among, states_below}
+use Rattle.roman_guard.proofs.StateLemmas.{in_states_below, states_below_are, states_below-suc, states_below-zero}
+use Rattle.roman_model.specs.Explanation.{name_at}
+use Rattle.roman_model.specs.Lists.{IsIn, HasNoRepeats, below}
+use Rattle.roman_model.specs.System.{Env, Beh, Triple, Move, IsEnv, IsBeh, IsDeterministic, has, has_triple, has_move, is_final}
+use Rattle.roman_model.specs.Normal.{normal_env, normal_beh}
+use Rattle.roman_model.specs.declared.limits.TheConstants.{MAX_STATES, MAX_ACTIONS, MAX_STEPS}
+use Rattle.roman_model.proofs.Lists.{by_test, same_test, none_from, find_not_found, in_contains, contains_in, filter_in, from_below}
+use Rattle.roman_model.proofs.OutcomeLemmas.{triple_listed, listed_triple, number_listed, listed_number, step_listed, listed_step}
+use Rattle.roman_read.specs.Items.{◌>>=◌, each_item, pushing}
+use Rattle.roman_read.specs.Json.{member_of, text_of}
+use Rattle.roman_read.specs.Names.{is_name}
+use Rattle.roman_read.specs.Listed.{IsListAt, AreItems}
+use Rattle.roman_read.proofs.ListLemmas.{all_given}
+use Rattle.roman_parts.specs.Choices.{first_below, choice_between, choice_at, choice_with, choice_of, refuse_choice, single_of}
+use Rattle.roman_parts.specs.Guards.{state_in, among_of, guard_of, guarded_states}
+use Rattle.roman_parts.specs.Lists.{names_of, place_in, start_of, finals_of}
+use Rattle.roman_parts.specs.Named.{NamedEnv, NamedBeh, NamedTarget, IsOver}
+use Rattle.roman_parts.specs.Normals.{Rises, IsLess, IsNormalEnv, IsNormalBeh}
+use Rattle.roman_parts.specs.Parts.{environment_of, name_of, behaviour_of, target_of}
+use Rattle.roman_parts.specs.Reads.{IsPlace, BreaksPlace, IsTripleItem, IsMoveItem}
+use Rattle.roman_parts.specs.Steps.{triples_of, moves_of}
+use Rattle.roman_parts.specs.Written.{list_value, names_value, place_value, places_value, triple_value, move_value, environment_value, behaviour_value, target_value, CanList, IsSayableEnv, IsSayableBeh, IsSayableTarget, PartsAreSaid}
+use Rattle.roman_parts.specs.declared.error.List.{List as Place}
+use Rattle.roman_parts.specs.declared.error.List.TheVariants as list
+use Rattle.roman_parts.specs.declared.error.PartError.{PartError}
+use Rattle.roman_parts.proofs.NormalForms.{forms_normal, forms_unique}
+use Rattle.roman_parts.proofs.NormalLemmas.{from_normal_triples, has_triple-normal, from_normal_move, has_move-normal, is_final-normal}
+use Rattle.roman_parts.proofs.ReadLemmas.{ok_place, place_ok, place_err, err_place, pushing_steps, lists_read}
+use Rattle.roman_parts.proofs.Rising.{rises_same, rises_append}
+
+-- Names and their places
+
+there : (names : List (List ℕ)) (k : ℕ) → k < length names → slice_get names k ≡ Some (name_at names k)
+there [] k h = absurd (omega (arith, h))
+there (n ∷ ns) zero h = refl
+there (n ∷ ns) (suc k) h = there ns k (omega (arith, h))
+
+pub get_in : {X : Type 0} (xs : List X) (k : ℕ) (x : X) → slice_get xs k ≡ Some x → IsIn x xs
+get_in [] k x h = absurd (let f : ⊥ = cc in f)
+get_in (y ∷ ys) zero x h = inl (let same : y ≡ x = cc in sym same)
+get_in (y ∷ ys) (suc k) x h = inr (get_in ys k x h)
+
+-- a name that stands once stands at one place
+once_at : (names : List (List ℕ)) (j k : ℕ) (name : List ℕ) → HasNoRepeats names → j < k → slice_get names j ≡ Some name → slice_get names k ≡ Some name → ⊥
+once_at [] j k name once less at_j at_k = let f : ⊥ = cc in f
+once_at (n ∷ ns) j zero name once less at_j at_k = omega (arith, less)
+once_at (n ∷ ns) zero (suc k) name once less at_j at_k =
+    let same : n ≡ name = same_Some n name at_j in
+    once.0 (subst (λ (x : List ℕ). IsIn x ns) (sym same) (get_in ns k name at_k))
+once_at (n ∷ ns) (suc j) (suc k) name once less at_j at_k = once_at ns j k name once.1 (omega (arith, less)) at_j at_k
+
+pub is_place : (names : List (List ℕ)) (k : ℕ) → HasNoRepeats names → k < length names → IsPlace names (place_value names k) k
+is_place names k once h = record {
+  name = name_at names k;
+  text = refl;
+  there = there names k h;
+  first = λ j less at. once_at names j k (name_at names k) once less at (there names k h);
+}
+
+texts_are : (names : List (List ℕ)) → AllZip (λ item name. text_of item ≡ Ok name) (map string names) names
+texts_are [] = tt
+texts_are (n ∷ ns) = (refl, texts_are ns)
+
+-- Lists of places and of steps
+
+are_places : (names : List (List ℕ)) (before ks : List ℕ) → HasNoRepeats names → ((k : ℕ) → IsIn k ks → k < length names) → AreItems (λ before d k. IsPlace names d k) before (map (place_value names) ks) ks
+are_places names before [] once within = tt
+are_places names before (k ∷ ks) once within = (is_place names k once (within k (inl refl)), are_places names (before ++ k ∷ []) ks once (λ j i. within j (inr i)))
+
+are_triples : (states actions : List (List ℕ)) (before xs : List Triple) → HasNoRepeats states → HasNoRepeats actions →
+    ((x : Triple) → IsIn x xs → (x.from < length states) × (x.action < length actions) × (x.to < length states)) → AreItems (λ before d x. IsTripleItem states actions d x) before (map (triple_value states actions) xs) xs
+are_triples states actions before [] once once' within = tt
+are_triples states actions before (x ∷ xs) once once' within =
+    let (from, action, to) = within x (inl refl) in (
+      record {
+        from = place_value states x.from;
+        action = place_value actions x.action;
+        to = place_value states x.to;
+        row = refl;
+        from_is = is_place states x.from once from;
+        action_is = is_place actions x.action once' action;
+        to_is = is_place states x.to once to;
+      },
+      are_triples states actions (before ++ x ∷ []) xs once once' (λ y i. within y (inr i)),
+    )
+
+-- Guards
+
+rises_states : (test : ℕ → Bool) (n : ℕ) → Rises IsLess (states_below test n)
+rises_states test zero = subst (Rises IsLess) (sym (states_below-zero test)) tt
+rises_states test (suc n) = subst (Rises IsLess) (sym (states_below-suc test n)) (rises_append IsLess (states_below test n) (cond (test n) (n ∷ []) []) (rises_states test n) (last (test n)) earlier)
+  where
+    last : (b : Bool) → Rises IsLess (cond b (n ∷ []) [])
+    last true = ((λ y i. absurd i), tt)
+    last false = tt
+
+    is_last : (b : Bool) (y : ℕ) → IsIn y (cond b (n ∷ []) []) → y ≡ n
+    is_last true y (inl same) = same
+    is_last true y (inr none) = absurd none
+    is_last false y none = absurd none
+
+    earlier : (x y : ℕ) → IsIn x (states_below test n) → IsIn y (cond (test n) (n ∷ []) []) → IsLess x y
+    earlier x y i j =
+        let less : x < n = (states_below_are test n x (in_contains (states_below test n) x i)).0 in
+        let same = is_last (test n) y j in
+        omega arith
+
+-- a list of states that rises is the set of its states
+among_is : (n : ℕ) (G : List ℕ) → Rises IsLess G → ((e : ℕ) → IsIn e G → e < n) → states_below (is_among G) n ≡ G
+among_is n G rises within = rises_same IsLess (states_below (is_among G) n) G (λ x y h i. omega arith) (rises_states (is_among G) n) rises
+    (λ e i. number_listed G e (states_below_are (is_among G) n e (in_contains (states_below (is_among G) n) e i)).1)
+    (λ e i. contains_in (states_below (is_among G) n) e (in_states_below (is_among G) n e (within e i) (listed_number G e i)))
+
+guard_said : (states : List (List ℕ)) (i : ℕ) (G : List ℕ) → HasNoRepeats states → Rises IsLess G → ((e : ℕ) → IsIn e G → e < length states) → guarded_states states i (places_value states G) ≡ Ok G
+unfolding guarded_states guard_of among_of state_in
+guard_said states i G once rises within =
+    let steps = pushing_steps (state_in states i) (λ k d x. IsPlace states d x) (λ k d e. BreaksPlace states list.Steps i d e)
+    (λ k d x h. place_ok states list.Steps i d x h) (λ k d x h. ok_place states list.Steps i d x h) (λ k d e h. place_err states list.Steps i d e h) (λ k d e h. err_place states list.Steps i d e h) in
+    let places : each_item (pushing (state_in states i)) 0 [] (items_of (map (place_value states) G)) ≡ Ok G =
+    (all_given (pushing (state_in states i)) (λ before d x. IsPlace states d x) (λ k before d e. BreaksPlace states list.Steps i d e) steps (map (place_value states) G) G).1 (are_places states [] G once within) in
+    ap (λ (r : Result (List ℕ) PartError). (r >>= (λ places. Ok (is_among places))) >>= (λ set. Ok (states_below set (length states)))) places ∙ ap Ok (among_is (length states) G rises within)
+
+-- what the steps of a behaviour are in range of
+record AreMovesIn (env_states actions states : List (List ℕ)) (xs : List Move) : Type 0 where
+  ends : (x : Move) → IsIn x xs → (x.from < length states) × (x.action < length actions) × (x.to < length states)
+  guards : (x : Move) → IsIn x xs → (e : ℕ) → IsIn e x.guard → e < length env_states
+  rise : (x : Move) → IsIn x xs → Rises IsLess x.guard
+
+are_moves : (env_states actions states : List (List ℕ)) (before xs : List Move) → HasNoRepeats env_states → HasNoRepeats actions → HasNoRepeats states → AreMovesIn env_states actions states xs →
+    AreItems (λ before d x. IsMoveItem env_states actions states (length before) d x) before (map (move_value env_states actions states) xs) xs
+are_moves env_states actions states before [] once once' once'' within = tt
+are_moves env_states actions states before (x ∷ xs) once once' once'' within =
+    let (from, action, to) = within.ends x (inl refl) in (
+      record {
+        from = place_value states x.from;
+        guard = places_value env_states x.guard;
+        action = place_value actions x.action;
+        to = place_value states x.to;
+        row = refl;
+        from_is = is_place states x.from once'' from;
+        guard_is = guard_said env_states (length before) x.guard once (within.rise x (inl refl)) (within.guards x (inl refl));
+        action_is = is_place actions x.action once' action;
+        to_is = is_place states x.to once'' to;
+      },
+      are_moves env_states actions states (before ++ x ∷ []) xs once once' once'' (record { ends = λ y i. within.ends y (inr i); guards = λ y i. within.guards y (inr i); rise = λ y i. within.rise y (inr i) }),
+    )
+
+-- Normal forms of what is normal
+
+normal_env_is : (e : Env) → IsEnv e → IsNormalEnv e → normal_env e ≡ e
+normal_env_is e is form = forms_unique.env (normal_env e) e (forms_normal.env e).form form (record {
+  states = refl;
+  actions = refl;
+  start = refl;
+  steps = λ b a c. same_test (has_triple (normal_env e) b a c) (has_triple e b a c)
+      (λ t. let (l, m, n, own) = from_normal_triples e (record { from = b; action = a; to = c }) (triple_listed (normal_env e) b a c t) in own)
+      (λ t. let (l, m, n) = is.triples (record { from = b; action = a; to = c }) (triple_listed e b a c t) in has_triple-normal e b a c l m n ∙ t);
+})
+
+normal_beh_is : (env_states actions : ℕ) (b : Beh) → IsOver env_states actions b → IsNormalBeh b → normal_beh env_states actions b ≡ b
+normal_beh_is env_states actions b over form =
+    let env : Env = record { states = env_states; actions = actions; start = 0; triples = [] } in
+    let is : IsBeh env b = over env refl refl in
+    forms_unique.beh (normal_beh env_states actions b) b (forms_normal.beh env_states actions b).form form (record {
+      states = refl;
+      start = refl;
+      finals = λ x. same_test (is_final (normal_beh env_states actions b) x) (is_final b x)
+          (λ t. (filter_in (is_final b) x (below b.states) (number_listed (normal_beh env_states actions b).finals x t)).1)
+          (λ t. is_final-normal env_states actions b x (is.finals x (number_listed b.finals x t)) ∙ t);
+      steps = λ x e a y. same_test (has_move (normal_beh env_states actions b) x e a y) (has_move b x e a y)
+          (λ t. (from_normal_move env_states actions b x e a y t).4)
+          (λ t.
+          let h = step_listed b x e a y t in
+          let (from, action, to) = is.steps h.step h.listed in
+          has_move-normal env_states actions b x e a y (subst (λ n. n < b.states) h.from from) (is.guards h.step h.listed e h.guard)
+          (subst (λ n. n < actions) h.action action) (subst (λ n. n < b.states) h.to to) ∙ t);
+    })
+
+-- No choices
+
+none_below : {X : Type 0} (f : ℕ → Option X) (n : ℕ) → ((k : ℕ) → k < n → f k ≡ None) → first_below f n ≡ None
+unfolding first_below
+none_below f n none =
+    rw (find_not_found (λ k. is_some (f k)) (below n) (none_from (λ k. is_some (f k)) (below n) (λ k i. ap is_some (none k (from_below n k i))))) refl
+
+between_none : (steps : List Move) (single : (x y : Move) (e : ℕ) → IsIn x steps → IsIn y steps → x.from ≡ y.from → x.action ≡ y.action → IsIn e x.guard → IsIn e y.guard → x.to ≡ y.to) (m n : Option Move) →
+    ((x : Move) → m ≡ Some x → IsIn x steps) → ((x : Move) → n ≡ Some x → IsIn x steps) → choice_between m n ≡ None
+unfolding choice_between
+between_none steps single None n in_m in_n = refl
+between_none steps single (Some x) None in_m in_n = refl
+between_none steps single (Some x) (Some y) in_m in_n = by_test (x.from == y.from && x.action == y.action && not (x.to == y.to))
+    (λ yes.
+    let (same, apart) = and_parts (x.from == y.from && x.action == y.action) (not (x.to == y.to)) yes in
+    let (from, action) = and_parts (x.from == y.from) (x.action == y.action) same in
+    let none : find (has y.guard) x.guard ≡ None = find_not_found (has y.guard) x.guard (none_from (has y.guard) x.guard (λ e i. by_test (has y.guard e)
+    (λ both. absurd (both_ways (x.to == y.to) (not-true (x.to == y.to) apart)
+    (eq-eqb x.to y.to (single x y e (in_m x refl) (in_n y refl) (eqb-true x.from y.from from) (eqb-true x.action y.action action) i (number_listed y.guard e both)))))
+    (λ fails. fails))) in
+    cond-true (x.from == y.from && x.action == y.action && not (x.to == y.to)) (find (has y.guard) x.guard) None yes ∙ none)
+    (λ other. cond-false (x.from == y.from && x.action == y.action && not (x.to == y.to)) (find (has y.guard) x.guard) None other)
+
+no_choice_in : (b : Beh) → IsDeterministic b → choice_of b.steps ≡ None
+unfolding choice_of choice_with choice_at
+no_choice_in b single = none_below (choice_with b.steps) (length b.steps) (λ j l. none_below (choice_at b.steps j) j (λ i less.
+    between_none b.steps
+    (λ x y e in_x in_y from action here there'.
+    single x.from e x.action x.to y.to (listed_step b x.from e x.action x.to (record { step = x; listed = in_x; from = refl; action = refl; to = refl; guard = here }))
+    (listed_step b x.from e x.action y.to (record { step = y; listed = in_y; from = sym from; action = sym action; to = refl; guard = there' })))
+    (slice_get b.steps j) (slice_get b.steps i) (λ x h. get_in b.steps j x h) (λ x h. get_in b.steps i x h)))
+
+-- Parts
+
+names_said : (place : Place) (name : List ℕ) (most : ℕ) (d : Data) (names : List (List ℕ)) → IsListAt d name (map string names) → CanList names most → names_of place name most d ≡ Ok names
+names_said place name most d names at can = (lists_read.names place name most d names).1 (record {
+  items = map string names;
+  list = at;
+  texts = texts_are names;
+  some = can.some;
+  few = can.few;
+  named = can.named;
+  once = can.once;
+})
+
+env_read : (d : Data) (states actions : List (List ℕ)) (start : ℕ) (triples : List Triple) → IsTrue (is_some (as_object d)) → names_of list.States (codes "states") MAX_STATES d ≡ Ok states → start_of states d ≡ Ok start →
+    names_of list.Actions (codes "actions") MAX_ACTIONS d ≡ Ok actions → triples_of states actions d ≡ Ok triples →
+    environment_of d ≡ Ok (record { states = states; actions = actions; env = normal_env (record { states = length states; actions = length actions; start = start; triples = triples }) })
+unfolding environment_of
+env_read d states actions start triples object h1 h2 h3 h4 = rw (object, h1, h2, h3, h4) refl
+
+start_said : (d : Data) (states : List (List ℕ)) (k : ℕ) → member_of d (codes "start") ≡ Ok (place_value states k) → HasNoRepeats states → k < length states → start_of states d ≡ Ok k
+unfolding start_of
+start_said d states k at once less = rw at (ok_place states list.Start 0 (place_value states k) k (is_place states k once less))
+
+same_env : (states : List (List ℕ)) (actions : List (List ℕ)) (e : Env) → length states ≡ e.states → length actions ≡ e.actions →
+    ◌≡◌ {A = Env} (record { states = length states; actions = length actions; start = e.start; triples = e.triples }) e
+same_env states actions e hs ha = rw (hs, ha) refl
+
+env_said : (env : NamedEnv) → IsSayableEnv env → environment_of (environment_value env) ≡ Ok env
+env_said env is =
+    let d = environment_value env in
+    let start : env.env.start < length env.states = omega (arith, is.known.start, is.state_count) in
+    let triples : triples_of env.states env.actions d ≡ Ok env.env.triples = ((lists_read.triples env.states env.actions).gives d env.env.triples).1 (record {
+      items = map (triple_value env.states env.actions) env.env.triples;
+      list = record { value = list_value (map (triple_value env.states env.actions) env.env.triples); there = refl; list = refl };
+      fits = omega (arith, is.few, length-map env.env.triples (triple_value env.states env.actions));
+      are = are_triples env.states env.actions [] env.env.triples is.states.once is.actions.once (λ x i.
+          let (from, action, to) = is.known.triples x i in (omega (arith, from, is.state_count), omega (arith, action, is.action_count), omega (arith, to, is.state_count)));
+    }) in
+    env_read d env.states env.actions env.env.start env.env.triples refl
+    (names_said list.States (codes "states") MAX_STATES d env.states (record { value = names_value env.states; there = refl; list = refl }) is.states)
+    (start_said d env.states env.env.start refl is.states.once start)
+    (names_said list.Actions (codes "actions") MAX_ACTIONS d env.actions (record { value = names_value env.actions; there = refl; list = refl }) is.actions) triples
+    ∙ ap (λ (e : Env). Ok (record { states = env.states; actions = env.actions; env = e }))
+    (ap normal_env (same_env env.states env.actions env.env is.state_count is.action_count) ∙ normal_env_is env.env is.known is.form)
+
+moves_within : (env : NamedEnv) (states : List (List ℕ)) (b : Beh) → IsSayableEnv env → length states ≡ b.states → IsOver env.env.states env.env.actions b → IsNormalBeh b → AreMovesIn env.states env.actions states b.steps
+moves_within env states b env_is count over form =
+    let is : IsBeh env.env b = over env.env refl refl in
+    record {
+      ends = λ x i. let (from, action, to) = is.steps x i in (omega (arith, from, count), omega (arith, action, env_is.action_count), omega (arith, to, count));
+      guards = λ x i e g. let less = is.guards x i e g in omega (arith, less, env_is.state_count);
+      rise = λ x i. (form.guards x i).0;
+    }
+
+moves_said : (env : NamedEnv) (states : List (List ℕ)) (b : Beh) (d : Data) → IsSayableEnv env → HasNoRepeats states → length states ≡ b.states → IsOver env.env.states env.env.actions b → IsNormalBeh b → length b.steps ≤ MAX_STEPS →
+    IsListAt d (codes "steps") (map (move_value env.states env.actions states) b.steps) → moves_of env.states env.actions states d ≡ Ok b.steps
+moves_said env states b d env_is once count over form few at = ((lists_read.moves env.states env.actions states).gives d b.steps).1 (record {
+  items = map (move_value env.states env.actions states) b.steps;
+  list = at;
+  fits = omega (arith, few, length-map b.steps (move_value env.states env.actions states));
+  are = are_moves env.states env.actions states [] b.steps env_is.states.once env_is.actions.once once (moves_within env states b env_is count over form);
+})
+
+finals_said : (env : Env) (states : List (List ℕ)) (b : Beh) (d : Data) → HasNoRepeats states → length states ≡ b.states → IsBeh env b → IsListAt d (codes "final") (map (place_value states) b.finals) → finals_of states d ≡ Ok b.finals
+finals_said env states b d once count is at = ((lists_read.finals states).gives d b.finals).1 (record {
+  items = map (place_value states) b.finals;
+  list = at;
+  fits = tt;
+  are = are_places states [] b.finals once (λ x i. let less = is.finals x i in omega (arith, less, count));
+})
+
+same_beh : (states : List (List ℕ)) (b : Beh) → length states ≡ b.states → ◌≡◌ {A = Beh} (record { states = length states; start = b.start; finals = b.finals; steps = b.steps }) b
+same_beh states b h = rw h refl
+
+beh_read : (env : NamedEnv) (d : Data) (name : List ℕ) (states : List (List ℕ)) (start : ℕ) (finals : List ℕ) (steps : List Move) → IsTrue (is_some (as_object d)) → name_of d ≡ Ok name →
+    names_of list.States (codes "states") MAX_STATES d ≡ Ok states → start_of states d ≡ Ok start → finals_of states d ≡ Ok finals → moves_of env.states env.actions states d ≡ Ok steps →
+    behaviour_of env d ≡ Ok (record {
+      name = name;
+      states = states;
+      env_states = env.env.states;
+      actions = env.env.actions;
+      beh = normal_beh env.env.states env.env.actions (record { states = length states; start = start; finals = finals; steps = steps });
+    })
+unfolding behaviour_of
+beh_read env d name states start finals steps object h0 h1 h2 h3 h4 = rw (object, h0, h1, h2, h3, h4) refl
+
+pub name_said : (d : Data) (name : List ℕ) → member_of d (codes "name") ≡ Ok (string name) → IsTrue (is_name name) → name_of d ≡ Ok name
+unfolding name_of
+name_said d name at named = rw (at, named) refl
+
+same_named_beh : (name : List ℕ) (states : List (List ℕ)) (m n k l : ℕ) (x y : Beh) → m ≡ n → k ≡ l → x ≡ y →
+    ◌≡◌ {A = NamedBeh} (record { name = name; states = states; env_states = m; actions = k; beh = x }) (record { name = name; states = states; env_states = n; actions = l; beh = y })
+same_named_beh name states m n k l x y hm hk hx = rw (hm, hk, hx) refl
+
+beh_said : (env : NamedEnv) (b : NamedBeh) → IsSayableEnv env → IsSayableBeh env b → behaviour_of env (behaviour_value env b) ≡ Ok b
+beh_said env b env_is is =
+    let d = behaviour_value env b in
+    let known : IsBeh env.env b.beh = is.known env.env refl refl in
+    let start : b.beh.start < length b.states = omega (arith, known.start, is.state_count) in
+    beh_read env d b.name b.states b.beh.start b.beh.finals b.beh.steps refl (name_said d b.name refl is.name)
+    (names_said list.States (codes "states") MAX_STATES d b.states (record { value = names_value b.states; there = refl; list = refl }) is.states)
+    (start_said d b.states b.beh.start refl is.states.once start)
+    (finals_said env.env b.states b.beh d is.states.once is.state_count known (record { value = places_value b.states b.beh.finals; there = refl; list = refl }))
+    (moves_said env b.states b.beh d env_is is.states.once is.state_count is.known is.form is.few
+    (record { value = list_value (map (move_value env.states env.actions b.states) b.beh.steps); there = refl; list = refl }))
+    ∙ ap Ok (same_named_beh b.name b.states env.env.states b.env_states env.env.actions b.actions _ b.beh (sym is.env_states) (sym is.actions)
+    (ap (normal_beh env.env.states env.env.actions) (same_beh b.states b.beh is.state_count) ∙ normal_beh_is env.env.states env.env.actions b.beh is.known is.form))
+
+target_read : (env : NamedEnv) (d : Data) (states : List (List ℕ)) (start : ℕ) (finals : List ℕ) (steps : List Move) → IsTrue (is_some (as_object d)) → names_of list.States (codes "states") MAX_STATES d ≡ Ok states →
+    start_of states d ≡ Ok start → finals_of states d ≡ Ok finals → moves_of env.states env.actions states d ≡ Ok steps → single_of env.states steps ≡ Ok steps →
+    target_of env d ≡ Ok (record {
+      states = states;
+      env_states = env.env.states;
+      actions = env.env.actions;
+      beh = normal_beh env.env.states env.env.actions (record { states = length states; start = start; finals = finals; steps = steps });
+    })
+unfolding target_of
+target_read env d states start finals steps object h1 h2 h3 h4 h5 = rw (object, h1, h2, h3, h4, h5) refl
+
+single_said : (env_states : List (List ℕ)) (b : Beh) → IsDeterministic b → single_of env_states b.steps ≡ Ok b.steps
+unfolding single_of
+single_said env_states b single = ap (refuse_choice env_states b.steps) (no_choice_in b single)
+
+same_named_target : (states : List (List ℕ)) (m n k l : ℕ) (x y : Beh) → m ≡ n → k ≡ l → x ≡ y →
+    ◌≡◌ {A = NamedTarget} (record { states = states; env_states = m; actions = k; beh = x }) (record { states = states; env_states = n; actions = l; beh = y })
+same_named_target states m n k l x y hm hk hx = rw (hm, hk, hx) refl
+
+target_said : (env : NamedEnv) (t : NamedTarget) → IsSayableEnv env → IsSayableTarget env t → target_of env (target_value env t) ≡ Ok t
+target_said env t env_is is =
+    let d = target_value env t in
+    let known : IsBeh env.env t.beh = is.known env.env refl refl in
+    let start : t.beh.start < length t.states = omega (arith, known.start, is.state_count) in
+    target_read env d t.states t.beh.start t.beh.finals t.beh.steps refl
+    (names_said list.States (codes "states") MAX_STATES d t.states (record { value = names_value t.states; there = refl; list = refl }) is.states)
+    (start_said d t.states t.beh.start refl is.states.once start)
+    (finals_said env.env t.states t.beh d is.states.once is.state_count known (record { value = places_value t.states t.beh.finals; there = refl; list = refl }))
+    (moves_said env t.states t.beh d env_is is.states.once is.state_count is.known is.form is.few
+    (record { value = list_value (map (move_value env.states env.actions t.states) t.beh.steps); there = refl; list = refl }))
+    (single_said env.states t.beh is.single)
+    ∙ ap Ok (same_named_target t.states env.env.states t.env_states env.env.actions t.actions _ t.beh (sym is.env_states) (sym is.actions)
+    (ap (normal_beh env.env.states env.env.actions) (same_beh t.states t.beh is.state_count) ∙ normal_beh_is env.env.states env.env.actions t.beh is.known is.form))
+
+pub parts_said : PartsAreSaid
+parts_said = record { environment = env_said; behaviour = beh_said; target = target_said }
