@@ -2,3 +2,4 @@ pub mod StateLemmas
 pub mod MarkLemmas
 pub mod HoldsLemmas
 pub mod CommonLemmas
+pub mod SingleLemmas

@@ -1,5 +1,5 @@
 //! Sets of environment states in one word.
-ghost use Rattle.std.specs.Prelude.{◌≡◌, ℕ, ◌<◌, ◌≤◌, ◌↔◌, IsTrue, Contains, IfSome};
+ghost use Rattle.std.specs.Prelude.{◌≡◌, ℕ, ◌^◌, ◌<◌, ◌≤◌, ◌↔◌, [], ◌∷◌, IsTrue, Contains, IfSome};
 ghost use Rattle.roman_guard.specs.Meaning.{holds, means, has_state, states_of, Marks, has_both, least_below};
 
 use crate::formula::{Guard, holds_at};
@@ -23,6 +23,15 @@ impl Model for StateSet {
 }
 
 impl StateSet {
+    /// The set of state `e` alone.
+    pub fn single(e: u8) -> StateSet
+        requires { e < 64 }
+        ensures states { states_of result ≡ e ∷ [] }
+        ensures word { result ≡ 2 ^ e }
+    {
+        StateSet { bits: 1 << e }
+    }
+
     /// Whether state `e` is in the set.
     pub fn has(&self, e: u8) -> bool
         requires { e < 64 }

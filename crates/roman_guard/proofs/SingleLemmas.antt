@@ -1,0 +1,31 @@
+-- A word with one bit stands for one state.
+use Rattle.std.proofs.Common.{◌≡◌, ℕ, ◌+◌, ◌*◌, ◌%◌, ◌^◌, ◌<◌, ◌==◌, false, [], ◌∷◌, ◌++◌, zero, suc, add-one, refl, ap, sym, subst, ◌∙◌, arith}
+use Rattle.std.specs.Int.Bits.{or_zero_l}
+use Rattle.std.proofs.lemmas.Bool.{eq-eqb, ne_eqb}
+use Rattle.std.proofs.lemmas.Nat.{one_shl, pow_pos}
+use Rattle.std.proofs.lemmas.Nat.Bits.{bit_at-zero}
+use Rattle.roman_guard.specs.Meaning.{bit, Marks, states_below, states_of}
+use Rattle.roman_guard.proofs.StateLemmas.{states_below-passing, states_below-failing, states_below-zero, states_below-same}
+use Rattle.roman_guard.proofs.MarkLemmas.{marks_one, marked_states}
+
+none_below : (n : ℕ) → states_below (λ _. false) n ≡ []
+none_below zero = states_below-zero (λ _. false)
+none_below (suc n) = rw (← add-one n) (states_below-failing (λ _. false) n refl ∙ none_below n)
+
+other : (k e : ℕ) → k < e → (k == e) ≡ false
+other k e h = ne_eqb k e (λ same. omega arith)
+
+-- one bit is the mark of one state
+pub marks_single : (e : ℕ) → e < 64 → Marks (1 * 2 ^ e % 2 ^ 64) (e + 1) (λ k. k == e)
+marks_single e h =
+    subst (λ w. Marks w (e + 1) (λ k. k == e)) (or_zero_l (1 * 2 ^ e % 2 ^ 64))
+    (marks_one 0 e (λ k. k == e) h (record { fits = pow_pos e; bits = λ k l. bit_at-zero k ∙ ap bit (sym (other k e l)) }) (eq-eqb e e refl))
+
+pub single_states : (e : ℕ) → e < 64 → states_of (1 * 2 ^ e % 2 ^ 64) ≡ e ∷ []
+single_states e h =
+    marked_states (1 * 2 ^ e % 2 ^ 64) (e + 1) (λ k. k == e) (omega arith) (marks_single e h)
+    ∙ states_below-passing (λ k. k == e) e (eq-eqb e e refl)
+    ∙ ap (λ xs. xs ++ e ∷ []) (states_below-same (λ k. k == e) (λ _. false) e (λ k l. other k e l) ∙ none_below e)
+
+pub states_of-single : (e : ℕ) → e < 64 → states_of (2 ^ e) ≡ e ∷ []
+states_of-single e h = ap states_of (sym (one_shl e 64 h)) ∙ single_states e h

@@ -1,0 +1,92 @@
+-- Which rule forbids the targets to be combined.
+use Rattle.std.proofs.Common.{◌≡◌, ℕ, ◌<◌, ◌≤◌, List, [], ◌∷◌, map, length, Some, None, Err, IsTrue, IsFalse, refl, ap, ap₂, ◌∙◌, arith}
+use Rattle.std.proofs.lemmas.Bool.{ltb-false, lt-ltb, le-ltb, true≢false}
+use Rattle.std.proofs.lemmas.List.{length-map}
+use Rattle.roman_model.specs.Lists.{below, product_of}
+use Rattle.roman_model.specs.Combined.{target_sizes, combined_env, combined_target}
+use Rattle.roman_model.specs.declared.limits.TheConstants.{MAX_STATES, MAX_ACTIONS}
+use Rattle.roman_model.specs.declared.request.Request.{Request}
+use Rattle.roman_model.proofs.Lists.{length-below}
+use Rattle.roman_parts.specs.Named.{NamedEnv, NamedBeh, NamedTarget}
+use Rattle.roman_multi.specs.Combining.{PlainCombined, machines, state_names, request_names, requests_in, has_many_states, has_bad_count, has_long_name, has_one_name, forbidding, Keeps, combined_parts, combined_behaviour}
+use Rattle.roman_multi.specs.Lists.{AreNames}
+use Rattle.roman_multi.specs.declared.parts.Named.{Named}
+use Rattle.roman_multi.specs.declared.error.CombineError.{CombineError}
+use Rattle.roman_multi.specs.declared.error.CombineError.TheVariants as error
+
+pub forbids_states : (env : NamedEnv) (targets : List Named) → IsTrue (has_many_states targets) → forbidding env targets ≡ Some error.States
+unfolding forbidding
+forbids_states env targets many = rw many refl
+
+pub forbids_actions : (env : NamedEnv) (targets : List Named) → IsFalse (has_many_states targets) → IsTrue (has_bad_count (requests_in env targets)) → forbidding env targets ≡ Some error.Actions
+unfolding forbidding
+forbids_actions env targets few bad = rw (few, bad) refl
+
+pub forbids_long : (env : NamedEnv) (targets : List Named) → IsFalse (has_many_states targets) → IsFalse (has_bad_count (requests_in env targets)) → IsTrue (has_long_name env targets) →
+    forbidding env targets ≡ Some error.LongName
+unfolding forbidding
+forbids_long env targets few good long = rw (few, good, long) refl
+
+pub forbids_one : (env : NamedEnv) (targets : List Named) → IsFalse (has_many_states targets) → IsFalse (has_bad_count (requests_in env targets)) → IsFalse (has_long_name env targets) →
+    IsTrue (has_one_name env targets) → forbidding env targets ≡ Some error.Repeated
+unfolding forbidding
+forbids_one env targets few good short one = rw (few, good, short, one) refl
+
+pub forbids_none : (env : NamedEnv) (targets : List Named) → IsFalse (has_many_states targets) → IsFalse (has_bad_count (requests_in env targets)) → IsFalse (has_long_name env targets) →
+    IsFalse (has_one_name env targets) → forbidding env targets ≡ None
+unfolding forbidding
+forbids_none env targets few good short apart = rw (few, good, short, apart) refl
+
+-- an error of the names is the first rule that forbids them
+pub names_forbid : (env : NamedEnv) (targets : List Named) (why : CombineError) → IsFalse (has_many_states targets) → IsFalse (has_bad_count (requests_in env targets)) → AreNames env targets (Err why) →
+    Keeps (Err why) (forbidding env targets)
+names_forbid env targets error.States few good h = absurd h
+names_forbid env targets error.Actions few good h = absurd h
+names_forbid env targets error.LongName few good h = forbids_long env targets few good h
+names_forbid env targets error.Repeated few good h = forbids_one env targets few good h.0 h.1
+names_forbid env targets error.Memory few good h = tt
+
+-- a count that isn't bad is within the limits
+pub good_count : (requests : List Request) → IsFalse (has_bad_count requests) → (0 < length requests) × (length requests ≤ MAX_ACTIONS)
+good_count [] good = absurd (true≢false good)
+good_count (r ∷ requests) good =
+    let most : length (r ∷ requests) ≤ MAX_ACTIONS = ltb-false MAX_ACTIONS (length (r ∷ requests)) good in
+    (omega arith, most)
+
+pub few_states : (targets : List Named) → product_of (target_sizes (machines targets)) ≤ MAX_STATES → IsFalse (has_many_states targets)
+few_states targets few = le-ltb MAX_STATES (product_of (target_sizes (machines targets))) few
+
+pub many_states : (targets : List Named) → (product_of (target_sizes (machines targets)) ≤ MAX_STATES → ⊥) → IsTrue (has_many_states targets)
+many_states targets many = lt-ltb MAX_STATES (product_of (target_sizes (machines targets))) (omega arith)
+
+pub state_count : (targets : List Named) → length (state_names targets) ≡ product_of (target_sizes (machines targets))
+state_count targets = length-map (below (product_of (target_sizes (machines targets)))) _ ∙ length-below (product_of (target_sizes (machines targets)))
+
+pub request_count : (env : NamedEnv) (targets : List Named) → length (request_names env targets) ≡ length (requests_in env targets)
+request_count env targets = length-map (requests_in env targets) _
+
+same_env : (a b : NamedEnv) → a.states ≡ b.states → a.actions ≡ b.actions → a.env ≡ b.env → a ≡ b
+same_env a b s k e = ap₂ (λ x y. record { states = x; actions = y; env = a.env }) s k ∙ ap (λ x. record { states = b.states; actions = b.actions; env = x }) e
+
+same_target : (a b : NamedTarget) → a.states ≡ b.states → a.env_states ≡ b.env_states → a.actions ≡ b.actions → a.beh ≡ b.beh → a ≡ b
+same_target a b s n k t =
+    ap₂ (λ x y. record { states = x; env_states = y; actions = a.actions; beh = a.beh }) s n ∙ ap₂ (λ x y. record { states = b.states; env_states = b.env_states; actions = x; beh = y }) k t
+
+abbrev parts : NamedEnv → List NamedBeh → NamedTarget → PlainCombined
+parts environment catalogue target = record { environment = environment; catalogue = catalogue; target = target }
+
+-- parts with those names and records are the combined parts
+pub parts_are : (env : NamedEnv) (catalogue : List NamedBeh) (targets : List Named) (requests : List Request) (states actions : List (List ℕ)) (environment : NamedEnv) (made : List NamedBeh) (target : NamedTarget) →
+    requests ≡ requests_in env targets → states ≡ state_names targets → actions ≡ request_names env targets →
+    environment.env ≡ combined_env requests env.env → (environment.states ≡ env.states) × (environment.actions ≡ actions) →
+    made ≡ map (combined_behaviour env requests) catalogue →
+    target.states ≡ states → (target.env_states ≡ env.env.states) × (target.actions ≡ length requests) → target.beh ≡ combined_target env.env.states requests (machines targets) →
+    ◌≡◌ {A = PlainCombined} (record { environment = environment; catalogue = made; target = target }) (combined_parts env catalogue targets)
+unfolding combined_parts
+parts_are env catalogue targets requests states actions environment made target asked named called world names behaviours kept over goes =
+    let world_is : environment ≡ (combined_parts env catalogue targets).environment =
+    same_env environment (combined_parts env catalogue targets).environment names.0 (names.1 ∙ called) (world ∙ ap (λ rs. combined_env rs env.env) asked) in
+    let made_is : made ≡ (combined_parts env catalogue targets).catalogue = behaviours ∙ ap (λ rs. map (combined_behaviour env rs) catalogue) asked in
+    let target_is : target ≡ (combined_parts env catalogue targets).target =
+    same_target target (combined_parts env catalogue targets).target (kept ∙ named) over.0 (over.1 ∙ ap length asked) (goes ∙ ap (λ rs. combined_target env.env.states rs (machines targets)) asked) in
+    ap₂ (λ x y. parts x y target) world_is made_is ∙ ap (parts (combined_parts env catalogue targets).environment (combined_parts env catalogue targets).catalogue) target_is

@@ -1,0 +1,81 @@
+-- Lists of one state for each target are pairs of one target and one environment state: so a shape numbers them.
+use Rattle.std.proofs.Common.{◌≡◌, ℕ, ◌+◌, ◌*◌, ◌%◌, ◌<◌, ◌≤◌, List, map, length, get_or, slice_index, slice_set, All, sym, ap, ap₂, ◌∙◌, subst, arith}
+use Rattle.std.specs.List.{AllZip}
+use Rattle.std.proofs.lemmas.Nat.{mod-mul-add}
+use Rattle.roman_model.specs.Lists.{product_of}
+use Rattle.roman_multi.specs.Lists.{flat}
+use Rattle.roman_model.specs.Numbers.{Sizes, IsPairOf, count, states_number, states_at, number, pair_at}
+use Rattle.roman_model.specs.Combined.{target_sizes, combined_start}
+use Rattle.roman_model.proofs.NumberLemmas.{IsPairOf-at}
+use Rattle.roman_model.specs.declared.limits.TheConstants.{MAX_STATES}
+use Rattle.roman_radix.specs.Radix.{with_part}
+use Rattle.roman_parts.specs.Named.{NamedEnv}
+use Rattle.roman_multi.specs.Combining.{IsKnown, machines}
+use Rattle.roman_multi.specs.declared.parts.Named.{Named}
+use Rattle.roman_multi.proofs.KnownLemmas.{machines_known, size_is, starts_below}
+
+pub count-flat : (sizes : List ℕ) → count (flat sizes) ≡ product_of sizes
+count-flat sizes = omega arith
+
+pub number-flat : (sizes bs : List ℕ) → number (flat sizes) (record { t = 0; e = 0; bs = bs }) ≡ states_number sizes bs
+number-flat sizes bs = omega arith
+
+pub pair_at-flat : (sizes : List ℕ) (i : ℕ) → i < product_of sizes → (pair_at (flat sizes) i).bs ≡ states_at sizes i
+pair_at-flat sizes i l = ap (states_at sizes) (small i (product_of sizes) l)
+  where
+    zero_times : (i n : ℕ) → i ≡ 0 * n + i
+    zero_times i n = omega arith
+
+    small : (i n : ℕ) → i < n → i % n ≡ i
+    small i n l = ap (λ m. m % n) (zero_times i n) ∙ mod-mul-add 0 n i l
+
+-- ---- a shape over the sizes of the targets
+
+-- the state of a target at a combined state
+pub part_is : (sizes : List ℕ) (shape : Sizes) (t i state : ℕ) → shape ≡ flat sizes → t < product_of sizes → state ≡ slice_index (pair_at shape t).bs i → state ≡ slice_index (states_at sizes t) i
+part_is sizes shape t i state same l is = is ∙ ap (λ (n : Sizes). slice_index (pair_at n t).bs i) same ∙ ap (λ xs. slice_index xs i) (pair_at-flat sizes t l)
+
+pub part_below : (targets : List Named) (shape : Sizes) (i state : ℕ) (d : Named) → shape ≡ flat (target_sizes (machines targets)) → i < length targets → state < slice_index shape.seats i →
+    state < (get_or targets i d).target.beh.states
+part_below targets shape i state d same l h = subst (λ n. state < n) (ap (λ (n : Sizes). slice_index n.seats i) same ∙ size_is targets i d l) h
+
+pub below_part : (targets : List Named) (shape : Sizes) (i state : ℕ) (d : Named) → shape ≡ flat (target_sizes (machines targets)) → i < length targets → state < (get_or targets i d).target.beh.states →
+    state < slice_index shape.seats i
+below_part targets shape i state d same l h = subst (λ n. state < n) (sym (ap (λ (n : Sizes). slice_index n.seats i) same ∙ size_is targets i d l)) h
+
+-- the combined state with one target in another state
+pub moved_is : (sizes : List ℕ) (shape : Sizes) (t k b next : ℕ) → shape ≡ flat sizes → t < product_of sizes → next ≡ number shape (with_part (pair_at shape t) k b) →
+    next ≡ states_number sizes (slice_set (states_at sizes t) k b)
+moved_is sizes shape t k b next same l is =
+    is ∙ ap (λ (n : Sizes). number n (with_part (pair_at n t) k b)) same
+    ∙ ap₂ (λ u v. (u * 1 + v) * product_of sizes + states_number sizes (slice_set (pair_at (flat sizes) t).bs k b)) (none_below (pair_at (flat sizes) t).t pair.t) (none_below (pair_at (flat sizes) t).e pair.e)
+    ∙ number-flat sizes (slice_set (pair_at (flat sizes) t).bs k b)
+    ∙ ap (λ xs. states_number sizes (slice_set xs k b)) (pair_at-flat sizes t l)
+  where
+    none_below : (n : ℕ) → n < 1 → n ≡ 0
+    none_below n l = omega arith
+
+    pair : IsPairOf (flat sizes) (pair_at (flat sizes) t)
+    pair = IsPairOf-at (flat sizes) t (subst (λ n. t < n) (sym (count-flat sizes)) l)
+
+-- the starts are a pair of the shape
+pub starts_pair : (env : NamedEnv) (targets : List Named) (shape : Sizes) (starts : List ℕ) → All (λ named. IsKnown env named.target) targets → shape ≡ flat (target_sizes (machines targets)) →
+    starts ≡ map (λ target. target.start) (machines targets) → IsPairOf shape (record { t = 0; e = 0; bs = starts })
+starts_pair env targets shape starts known same is =
+    subst (λ (n : Sizes). IsPairOf n (record { t = 0; e = 0; bs = starts })) (sym same) (record {
+      t = omega arith;
+      e = omega arith;
+      bs = subst (λ xs. AllZip (λ size b. b < size) (target_sizes (machines targets)) xs) (sym is) (starts_below env.env (machines targets) (machines_known env targets known));
+    })
+
+pub starts_number : (targets : List Named) (shape : Sizes) (starts : List ℕ) (n : ℕ) → shape ≡ flat (target_sizes (machines targets)) → starts ≡ map (λ target. target.start) (machines targets) →
+    n ≡ number shape (record { t = 0; e = 0; bs = starts }) → n ≡ combined_start (machines targets)
+starts_number targets shape starts n same is number_is =
+    number_is ∙ ap₂ (λ (s : Sizes) (xs : List ℕ). number s (record { t = 0; e = 0; bs = xs })) same is ∙ number-flat (target_sizes (machines targets)) (map (λ target. target.start) (machines targets))
+
+-- a shape fits exactly where the combined states are few enough
+pub fits_within : (sizes others : List ℕ) (cap : ℕ) → sizes ≡ others → cap ≡ MAX_STATES → count (flat sizes) ≤ cap → product_of others ≤ MAX_STATES
+fits_within sizes others cap same is fits = subst (λ n. n ≤ MAX_STATES) (count-flat sizes ∙ ap product_of same) (subst (λ n. count (flat sizes) ≤ n) is fits)
+
+pub within_fits : (sizes others : List ℕ) (cap : ℕ) → sizes ≡ others → cap ≡ MAX_STATES → product_of others ≤ MAX_STATES → count (flat sizes) ≤ cap
+within_fits sizes others cap same is fits = subst (λ n. count (flat sizes) ≤ n) (sym is) (subst (λ n. n ≤ MAX_STATES) (sym (count-flat sizes ∙ ap product_of same)) fits)

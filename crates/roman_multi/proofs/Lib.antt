@@ -1,0 +1,10 @@
+pub mod ListLemmas
+pub mod FlatLemmas
+pub mod TripleLemmas
+pub mod MoveLemmas
+pub mod TargetLemmas
+pub mod KnownLemmas
+pub mod WordLemmas
+pub mod PartLemmas
+pub mod TableLemmas
+pub mod CombineLemmas

@@ -1,0 +1,72 @@
+-- What is made of lists is the combined behaviour.
+use Rattle.std.proofs.Common.{◌≡◌, ℕ, ◌+◌, ◌<◌, ◌++◌, ◌∷◌, [], List, map, length, filter, slice_get, get_or, take, Result, Ok, Err, IfOk, All, sym, ap, ap₂, ◌∙◌, subst}
+use Rattle.std.proofs.lemmas.List.{take_more, map-append}
+use Rattle.roman_model.specs.Lists.{below}
+use Rattle.roman_model.specs.System.{IsEnv, is_final}
+use Rattle.roman_model.specs.Normal.{normal_beh}
+use Rattle.roman_model.specs.Combined.{combined_beh}
+use Rattle.roman_model.specs.declared.request.Request.{Request}
+use Rattle.roman_parts.specs.Listed.{listed_beh, AreMoves}
+use Rattle.roman_parts.specs.Named.{NamedEnv, NamedBeh, IsOver}
+use Rattle.roman_multi.specs.Combining.{IsBehaviourOf, combined_behaviour}
+use Rattle.roman_multi.specs.Lists.{listed_moves, moves_on}
+use Rattle.roman_multi.proofs.MoveLemmas.{combined_beh_is, moves_in_range, moves_on_below, passing_below}
+
+pub if_ok_three : {X E : Type 0} (P Q R S : X → Type 0) (r : Result X E) → ((x : X) → P x → Q x → R x → S x) → IfOk r P → IfOk r Q → IfOk r R → IfOk r S
+if_ok_three P Q R S (Ok x) more p q s = more x p q s
+if_ok_three P Q R S (Err e) more p q s = p
+
+same_behaviour : (a b : NamedBeh) → a.name ≡ b.name → a.states ≡ b.states → a.env_states ≡ b.env_states → a.actions ≡ b.actions → a.beh ≡ b.beh → a ≡ b
+same_behaviour a b n s e k m =
+    ap₂ (λ x y. record { name = x; states = y; env_states = a.env_states; actions = a.actions; beh = a.beh }) n s
+    ∙ ap₂ (λ x y. record { name = b.name; states = b.states; env_states = x; actions = y; beh = a.beh }) e k
+    ∙ ap (λ x. record { name = b.name; states = b.states; env_states = b.env_states; actions = b.actions; beh = x }) m
+
+-- the lists of which a behaviour over the combined actions is made
+pub record AreListsOf (env : NamedEnv) (requests : List Request) (behaviour : NamedBeh) (size begin : ℕ) (ends : List ℕ) (moves : List (ℕ × ℕ × ℕ × ℕ)) : Type 0 where
+  pub world : IsEnv env.env
+  pub of : IsBehaviourOf env behaviour
+  pub known : IsOver behaviour.env_states behaviour.actions behaviour.beh
+  pub count : size ≡ behaviour.beh.states
+  pub start : begin ≡ behaviour.beh.start
+  pub finals : ends ≡ filter (is_final behaviour.beh) (below behaviour.beh.states)
+  pub steps : moves ≡ listed_moves env.env.states (length requests) behaviour.beh.states (λ b n e. moves_on behaviour.beh b e (slice_get requests n))
+
+pub made_beh_is : (env : NamedEnv) (requests : List Request) (behaviour : NamedBeh) (count start : ℕ) (finals : List ℕ) (steps : List (ℕ × ℕ × ℕ × ℕ)) (env_states actions : ℕ) →
+    AreListsOf env requests behaviour count start finals steps → env_states ≡ env.env.states → actions ≡ length requests →
+    normal_beh env_states actions (listed_beh count start finals steps) ≡ combined_beh env.env.states requests behaviour.beh
+made_beh_is env requests behaviour count start finals steps env_states actions lists es ns =
+    ap₂ (λ n m. normal_beh n m (listed_beh count start finals steps)) es ns
+    ∙ ap₂ (λ n m. normal_beh env.env.states (length requests) (listed_beh n m finals steps)) lists.count lists.start
+    ∙ ap₂ (λ xs ys. normal_beh env.env.states (length requests) (listed_beh behaviour.beh.states behaviour.beh.start xs ys)) lists.finals lists.steps
+    ∙ combined_beh_is env.env behaviour.beh requests lists.world.states.1 (lists.known env.env (sym lists.of.env_states) (sym lists.of.actions))
+
+pub made_steps_in_range : (env : NamedEnv) (requests : List Request) (behaviour : NamedBeh) (count start : ℕ) (finals : List ℕ) (steps : List (ℕ × ℕ × ℕ × ℕ)) (actions : ℕ) →
+    AreListsOf env requests behaviour count start finals steps → actions ≡ length requests → AreMoves count actions steps
+made_steps_in_range env requests behaviour count start finals steps actions lists ns =
+    subst (λ xs. AreMoves count actions xs) (sym lists.steps) (subst (λ n. AreMoves n actions moves) (sym lists.count) (subst (λ n. AreMoves behaviour.beh.states n moves) (sym ns)
+    (moves_in_range env.env.states (length requests) behaviour.beh.states (λ b n e. moves_on behaviour.beh b e (slice_get requests n))
+    (λ b n e to hb hn he i. moves_on_below behaviour.beh b e (slice_get requests n) to i))))
+  where
+    moves : List (ℕ × ℕ × ℕ × ℕ)
+    moves = listed_moves env.env.states (length requests) behaviour.beh.states (λ b n e. moves_on behaviour.beh b e (slice_get requests n))
+
+pub made_finals_below : (env : NamedEnv) (requests : List Request) (behaviour : NamedBeh) (count start : ℕ) (finals : List ℕ) (steps : List (ℕ × ℕ × ℕ × ℕ)) →
+    AreListsOf env requests behaviour count start finals steps → All (λ b. b < count) finals
+made_finals_below env requests behaviour count start finals steps lists =
+    subst (λ xs. All (λ b. b < count) xs) (sym lists.finals) (subst (λ n. All (λ b. b < n) (filter (is_final behaviour.beh) (below behaviour.beh.states))) (sym lists.count)
+    (passing_below (is_final behaviour.beh) behaviour.beh.states))
+
+pub made_behaviour_is : (env : NamedEnv) (requests : List Request) (behaviour made : NamedBeh) (name : List ℕ) (states : List (List ℕ)) (start : ℕ) (finals : List ℕ) (steps : List (ℕ × ℕ × ℕ × ℕ)) (env_states actions : ℕ) →
+    AreListsOf env requests behaviour (length states) start finals steps → env_states ≡ env.env.states → actions ≡ length requests → name ≡ behaviour.name → states ≡ behaviour.states →
+    (made.name ≡ name) × (made.states ≡ states) → (made.env_states ≡ env_states) × (made.actions ≡ actions) →
+    made.beh ≡ normal_beh env_states actions (listed_beh (length states) start finals steps) → made ≡ combined_behaviour env requests behaviour
+made_behaviour_is env requests behaviour made name states start finals steps env_states actions lists es ns named kept names over normal =
+    same_behaviour made (combined_behaviour env requests behaviour) (names.0 ∙ named) (names.1 ∙ kept) (over.0 ∙ es) (over.1 ∙ ns)
+    (normal ∙ made_beh_is env requests behaviour (length states) start finals steps env_states actions lists es ns)
+
+-- one more behaviour is made
+pub map_more : {X Y : Type 0} (f : X → Y) (xs : List X) (i : ℕ) (x : X) (now new : List Y) (y : Y) → now ≡ map f (take i xs) → i < length xs → x ≡ get_or xs i x → new ≡ now ++ y ∷ [] → y ≡ f x →
+    new ≡ map f (take (i + 1) xs)
+map_more f xs i x now new y before l at step is =
+    step ∙ ap₂ (λ us v. us ++ v ∷ []) before (is ∙ ap f at) ∙ sym (ap (map f) (take_more xs i x l) ∙ map-append f (take i xs) (get_or xs i x ∷ []))

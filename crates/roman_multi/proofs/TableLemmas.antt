@@ -1,0 +1,69 @@
+-- Words that are gathered, and the tables of those that are names.
+use Rattle.std.proofs.Common.{◌≡◌, ℕ, ◌+◌, ◌<◌, List, [], ◌∷◌, ◌++◌, map, length, take, get_or, All, Option, Some, None, IsSome, IsTrue, IsFalse, is_some, refl, sym, ap, ap₂, ◌∙◌, subst, add-one}
+use Rattle.std.specs.List.{list_any}
+use Rattle.std.specs.Option.{SomeIff}
+use Rattle.std.proofs.lemmas.List.{take_more, map-append, length-map, get_or-map}
+use Rattle.std.proofs.lemmas.List.Elements.{All-push}
+use Rattle.roman_model.specs.Lists.{below}
+use Rattle.std.proofs.lemmas.Option.{none-some, same_Some}
+use Rattle.roman_model.proofs.Lists.{any_false}
+use Rattle.roman_read.specs.Names.{is_name, place_of}
+use Rattle.roman_multi.specs.Combining.{is_long, stands_before, has_repeats}
+use Rattle.roman_multi.specs.Lists.{is_word}
+use Rattle.roman_multi.proofs.ListLemmas.{none_more, any_at}
+use Rattle.roman_multi.proofs.TripleLemmas.{get_or_in}
+use Rattle.roman_multi.proofs.WordLemmas.{word_is_name}
+
+-- one more word, for the next number
+pub counted_more : {W : Type 0} (items : W → List ℕ) (f : ℕ → List ℕ) (now new : List W) (n : ℕ) (w : W) → map items now ≡ map f (below n) → new ≡ now ++ w ∷ [] → items w ≡ f n →
+    map items new ≡ map f (below (n + 1))
+counted_more items f now new n w before step is =
+    ap (map items) step ∙ map-append items now (w ∷ []) ∙ ap₂ (λ us v. us ++ v ∷ []) before is ∙ sym (ap (λ m. map f (below m)) (add-one n) ∙ map-append f (below n) (n ∷ []))
+
+-- one more word, for the next of a list
+pub taken_more : {W X : Type 0} (items : W → List ℕ) (f : X → List ℕ) (now new : List W) (xs : List X) (i : ℕ) (d : X) (w : W) → map items now ≡ map f (take i xs) → i < length xs → new ≡ now ++ w ∷ [] →
+    items w ≡ f (get_or xs i d) → map items new ≡ map f (take (i + 1) xs)
+taken_more items f now new xs i d w before l step is =
+    ap (map items) step ∙ map-append items now (w ∷ []) ∙ ap₂ (λ us v. us ++ v ∷ []) before is ∙ sym (ap (map f) (take_more xs i d l) ∙ map-append f (take i xs) (get_or xs i d ∷ []))
+
+pub all_more : {W : Type 0} (P : W → Type 0) (now new : List W) (w : W) → All P now → new ≡ now ++ w ∷ [] → P w → All P new
+all_more P now new w all step here = subst (All P) (sym step) (All-push P now w all here)
+
+-- a word that is read is a name
+pub read_is_name : {W : Type 0} (items : W → List ℕ) (words : List W) (i : ℕ) (w : W) → All (λ w. IsTrue (is_word (items w))) words → IsFalse (list_any is_long (map items words)) → i < length words →
+    w ≡ get_or words i w → IsTrue (is_name (items w))
+read_is_name items words i w all short l is =
+    word_is_name (items w) (subst (λ v. IsTrue (is_word (items v))) (sym is) (all i w l))
+    (subst (λ v. IsFalse (is_long v)) (get_or-map items words i w [] l ∙ ap items (sym is)) (short_at (map items words) i short (subst (λ n. i < n) (sym (length-map words items)) l)))
+  where
+    short_at : (names : List (List ℕ)) (i : ℕ) → IsFalse (list_any is_long names) → i < length names → IsFalse (is_long (get_or names i []))
+    short_at names i short l = any_false is_long (get_or names i []) names short (get_or_in names i [] l)
+
+pub made_name : (o : Option (List ℕ)) (bytes : List ℕ) → SomeIff o (IsTrue (is_name bytes)) bytes → IsTrue (is_name bytes) → IsSome o
+made_name None bytes h t = absurd (h t)
+made_name (Some x) bytes h t = refl
+
+pub made_is : (o : Option (List ℕ)) (name bytes : List ℕ) (P : Type 0) → SomeIff o P bytes → o ≡ Some name → name ≡ bytes
+made_is None name bytes P h e = absurd (none-some name e)
+made_is (Some x) name bytes P h e = sym (same_Some x name e) ∙ h.1
+
+-- the word at a place
+pub word_at : {W : Type 0} (items : W → List ℕ) (words : List W) (i : ℕ) (w : W) → i < length words → w ≡ get_or words i w → get_or (map items words) i [] ≡ items w
+word_at items words i w l is = get_or-map items words i w [] l ∙ ap items (sym is)
+
+-- the next name is new
+pub new_more : (names table : List (List ℕ)) (i : ℕ) (name : List ℕ) → table ≡ take i names → get_or names i [] ≡ name → place_of table name ≡ None → IsFalse (list_any (stands_before names) (below i)) →
+    IsFalse (list_any (stands_before names) (below (i + 1)))
+new_more names table i name front there new before =
+    subst (λ n. IsFalse (list_any (stands_before names) (below n))) (sym (add-one i))
+    (none_more (stands_before names) i before (ap is_some (ap₂ place_of (sym front) there ∙ new)))
+
+-- or it stands before
+pub found_before : (names table : List (List ℕ)) (i place : ℕ) (name : List ℕ) → i < length names → table ≡ take i names → get_or names i [] ≡ name → place_of table name ≡ Some place →
+    IsTrue (has_repeats names)
+found_before names table i place name l front there found =
+    any_at (stands_before names) (length names) i l (ap is_some (ap₂ place_of (sym front) there ∙ found))
+
+pub named_more : (names table new : List (List ℕ)) (i : ℕ) (name : List ℕ) → i < length names → table ≡ take i names → get_or names i [] ≡ name → new ≡ table ++ name ∷ [] → new ≡ take (i + 1) names
+named_more names table new i name l front there step =
+    step ∙ ap₂ (λ xs x. xs ++ x ∷ []) front (sym there) ∙ sym (take_more names i [] l)

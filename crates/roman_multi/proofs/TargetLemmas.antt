@@ -1,0 +1,150 @@
+-- The steps that the loops list are those of the combined target.
+use Rattle.std.proofs.Common.{◌≡◌, ℕ, zero, suc, ◌^◌, ◌&&◌, ◌++◌, ◌<◌, ◌≤◌, Bool, drop, filter, All, List, [], ◌∷◌, map, length, Option, Some, None, IsTrue, slice_get, slice_index, slice_set, refl, sym, ap, ap₂, ◌∙◌, subst, arith}
+use Rattle.std.proofs.lemmas.Option.{none-some, same_Some}
+use Rattle.std.proofs.lemmas.List.{append-nil}
+use Rattle.roman_model.specs.Lists.{IsIn, below, product_of}
+use Rattle.roman_model.specs.System.{Beh, has, has_move, is_final, beh_next}
+use Rattle.roman_model.specs.Normal.{normal_beh}
+use Rattle.roman_model.specs.Numbers.{states_number, states_at}
+use Rattle.roman_model.specs.Several.{Several, are_final}
+use Rattle.roman_model.specs.Combined.{targets_go, target_sizes, combined_start, combined_target, all_requests, combined, IsSeveral}
+use Rattle.roman_model.specs.declared.request.Request.{Request}
+use Rattle.roman_parts.specs.Listed.{listed_beh, AreMoves}
+use Rattle.roman_multi.specs.Lists.{moves_in, listed_moves, member_next, next_of_all}
+use Rattle.roman_model.proofs.Lists.{same_test, in_map, from_map}
+use Rattle.roman_model.proofs.SystemLemmas.{in_beh_next, from_beh_next}
+use Rattle.roman_model.proofs.NumberLemmas.{states_number-at}
+use Rattle.roman_model.proofs.MadeLemmas.{beh_from_same, from_made_move, made_move}
+use Rattle.roman_model.proofs.Places.{get_in}
+use Rattle.roman_model.proofs.CombinedLemmas.{IsMemberStep, from_combined_target, combined_target_goes}
+use Rattle.roman_multi.proofs.MoveLemmas.{has_in, in_has, has-filter, listed_moves_made, moves_in_range, passing_below}
+
+from_next_of_all : (targets : List Beh) (ts : List ℕ) (e : ℕ) (o : Option Request) (t' : ℕ) → IsIn t' (next_of_all targets ts e o) →
+    (r : Request) × (target : Beh) × (x : ℕ) × (o ≡ Some r) × (slice_get targets r.target ≡ Some target) × IsTrue (has_move target (slice_index ts r.target) e r.action x)
+    × (t' ≡ states_number (target_sizes targets) (slice_set ts r.target x))
+from_next_of_all targets ts e None t' i = absurd i
+from_next_of_all targets ts e (Some r) t' i =
+    let (x, j, same) = from_map (λ t'. states_number (target_sizes targets) (slice_set ts r.target t')) t' (member_next (slice_get targets r.target) (slice_index ts r.target) e r.action) i in
+    let (target, member, goes) = by_member (slice_get targets r.target) x j in
+    (r, target, x, refl, member, goes, same)
+  where
+    by_member : (o : Option Beh) (x : ℕ) → IsIn x (member_next o (slice_index ts r.target) e r.action) → (target : Beh) × (o ≡ Some target) × IsTrue (has_move target (slice_index ts r.target) e r.action x)
+    by_member None x j = absurd j
+    by_member (Some target) x j = (target, refl, from_beh_next target (slice_index ts r.target) e r.action x j)
+
+-- a step that is listed is one of the combined target
+next_goes : (w : Several) (t e n t' : ℕ) → IsSeveral w → t < product_of (target_sizes w.targets) → IsIn t' (next_of_all w.targets (states_at (target_sizes w.targets) t) e (slice_get (all_requests w) n)) →
+    IsTrue (has_move (combined w).target t e n t')
+next_goes w t e n t' ok ht i =
+    let (r, target, x, at, member, moves, same) = from_next_of_all w.targets (states_at (target_sizes w.targets) t) e (slice_get (all_requests w) n) t' i in
+    subst (λ k. IsTrue (has_move (combined w).target t e n k)) (sym same) (combined_target_goes w t e n x r target ok ht at member moves)
+
+-- the combined target: its steps ns they are listed, one environment state for a guard
+pub combined_target_is : (w : Several) (fins : List ℕ) → IsSeveral w → w.env.states ≤ 64 →
+    ((t : ℕ) → t < product_of (target_sizes w.targets) → has fins t ≡ are_final w.targets (states_at (target_sizes w.targets) t)) →
+    normal_beh w.env.states (length (all_requests w))
+    (listed_beh (product_of (target_sizes w.targets)) (combined_start w.targets) fins
+    (listed_moves w.env.states (length (all_requests w)) (product_of (target_sizes w.targets))
+    (λ t n e. next_of_all w.targets (states_at (target_sizes w.targets) t) e (slice_get (all_requests w) n))))
+    ≡ combined_target w.env.states (all_requests w) w.targets
+combined_target_is w fins ok few ends =
+    listed_moves_made w.env.states (length (all_requests w)) size start fins next few
+    ∙ beh_from_same w.env.states (length (all_requests w)) size start (has fins) (λ t. are_final w.targets (states_at (target_sizes w.targets) t)) (λ t e n t'. has (next t n e) t') goes ends
+    (λ t e n t' ht he hn ht'. same_test (has (next t n e) t') (goes t e n t') (λ h. there t e n t' ht (has_in (next t n e) t' h)) (λ h. in_has (next t n e) t' (back t e n t' ht he hn ht' h)))
+  where
+    size : ℕ
+    size = product_of (target_sizes w.targets)
+
+    start : ℕ
+    start = combined_start w.targets
+
+    next : ℕ → ℕ → ℕ → List ℕ
+    next t n e = next_of_all w.targets (states_at (target_sizes w.targets) t) e (slice_get (all_requests w) n)
+
+    goes : ℕ → ℕ → ℕ → ℕ → Bool
+    goes t e n t' = targets_go w.targets (slice_get (all_requests w) n) (states_at (target_sizes w.targets) t) e (states_at (target_sizes w.targets) t')
+
+    there : (t e n t' : ℕ) → t < size → IsIn t' (next t n e) → IsTrue (goes t e n t')
+    there t e n t' ht i =
+        let step : IsTrue (has_move (combined w).target t e n t') = next_goes w t e n t' ok ht i in
+        (from_made_move w.env.states (length (all_requests w)) size start (λ t. are_final w.targets (states_at (target_sizes w.targets) t)) goes t e n t' step).4
+
+    back : (t e n t' : ℕ) → t < size → e < w.env.states → n < length (all_requests w) → t' < size → IsTrue (goes t e n t') → IsIn t' (next t n e)
+    back t e n t' ht he hn ht' h =
+        let moves : IsTrue (has_move (combined w).target t e n t') = made_move w.env.states (length (all_requests w)) size start (λ t. are_final w.targets (states_at (target_sizes w.targets) t)) goes t e n t' ht he hn ht' h in
+        let (l, m, r, target, step) = from_combined_target w t e n t' moves in
+        subst (λ o. IsIn t' (next_of_all w.targets (states_at (target_sizes w.targets) t) e o)) (sym step.request) (found t e n t' r target ht' step)
+      where
+        found : (t e n t' : ℕ) (r : Request) (target : Beh) → t' < size → IsMemberStep w n (states_at (target_sizes w.targets) t) e (states_at (target_sizes w.targets) t') r target →
+            IsIn t' (next_of_all w.targets (states_at (target_sizes w.targets) t) e (Some r))
+        found t e n t' r target ht' step =
+            let x : ℕ = slice_index (states_at (target_sizes w.targets) t') r.target in
+            let there : states_number (target_sizes w.targets) (slice_set (states_at (target_sizes w.targets) t) r.target (slice_index (states_at (target_sizes w.targets) t') r.target)) ≡ t' =
+            ap (states_number (target_sizes w.targets)) step.others ∙ states_number-at (target_sizes w.targets) t' ht' in
+            subst (λ k. IsIn k (next_of_all w.targets (states_at (target_sizes w.targets) t) e (Some r))) there
+            (in_map (λ t'. states_number (target_sizes w.targets) (slice_set (states_at (target_sizes w.targets) t) r.target t')) (slice_index (states_at (target_sizes w.targets) t') r.target)
+            (member_next (slice_get w.targets r.target) (slice_index (states_at (target_sizes w.targets) t) r.target) e r.action)
+            (subst (λ o. IsIn (slice_index (states_at (target_sizes w.targets) t') r.target) (member_next o (slice_index (states_at (target_sizes w.targets) t) r.target) e r.action)) (sym step.member)
+            (in_beh_next w.env target (slice_index (states_at (target_sizes w.targets) t) r.target) e r.action (slice_index (states_at (target_sizes w.targets) t') r.target)
+            (ok.targets target (get_in w.targets r.target target step.member)).0 step.goes)))
+
+-- ---- one step at a time
+
+-- where the target goes nowhere there is no step
+pub no_step : (targets : List Beh) (ts : List ℕ) (t n e : ℕ) (r : Request) (target : Beh) (state : ℕ) (old : List (ℕ × ℕ × ℕ × ℕ)) → slice_get targets r.target ≡ Some target →
+    state ≡ slice_index ts r.target → beh_next target state e r.action ≡ [] → old ≡ old ++ moves_in t n e (next_of_all targets ts e (Some r))
+no_step targets ts t n e r target state old at is none =
+    sym (append-nil old)
+    ∙ ap (λ xs. old ++ moves_in t n e (map (λ t'. states_number (target_sizes targets) (slice_set ts r.target t')) xs))
+    (sym (ap (λ o. member_next o (slice_index ts r.target) e r.action) at ∙ ap (λ b. beh_next target b e r.action) (sym is) ∙ none))
+
+-- where it goes to a state there is one
+pub one_step : (targets : List Beh) (ts : List ℕ) (t n e : ℕ) (r : Request) (target : Beh) (state to next word : ℕ) (old new : List (ℕ × ℕ × ℕ × ℕ)) → slice_get targets r.target ≡ Some target →
+    state ≡ slice_index ts r.target → beh_next target state e r.action ≡ to ∷ [] → next ≡ states_number (target_sizes targets) (slice_set ts r.target to) → word ≡ 2 ^ e →
+    new ≡ old ++ (t, word, n, next) ∷ [] → new ≡ old ++ moves_in t n e (next_of_all targets ts e (Some r))
+one_step targets ts t n e r target state to next word old new at is one there bits step =
+    step ∙ ap₂ (λ w x. old ++ (t, w, n, x) ∷ []) bits there
+    ∙ ap (λ xs. old ++ moves_in t n e (map (λ t'. states_number (target_sizes targets) (slice_set ts r.target t')) xs))
+    (sym (ap (λ o. member_next o (slice_index ts r.target) e r.action) at ∙ ap (λ b. beh_next target b e r.action) (sym is) ∙ one))
+
+-- the states from a place on are final
+pub final_drop : (targets : List Beh) (ts : List ℕ) (i : ℕ) (target : Beh) (t : ℕ) → slice_get targets i ≡ Some target → i < length ts → t ≡ slice_index ts i →
+    are_final (drop i targets) (drop i ts) ≡ (is_final target t && are_final (drop (suc i) targets) (drop (suc i) ts))
+final_drop [] ts i target t at l is = absurd (none-some target at)
+final_drop (x ∷ targets) [] i target t at l is = absurd (omega arith)
+final_drop (x ∷ targets) (u ∷ ts) zero target t at l is = ap₂ (λ b v. is_final b v && are_final targets ts) (same_Some x target at) (sym is)
+final_drop (x ∷ targets) (u ∷ ts) (suc i) target t at l is = final_drop targets ts i target t at (omega arith) is
+
+-- the lists of which the combined target is made
+pub record AreListsOf (w : Several) (size begin : ℕ) (ends : List ℕ) (moves : List (ℕ × ℕ × ℕ × ℕ)) : Type 0 where
+  pub several : IsSeveral w
+  pub count : size ≡ product_of (target_sizes w.targets)
+  pub start : begin ≡ combined_start w.targets
+  pub finals : ends ≡ filter (λ t. are_final w.targets (states_at (target_sizes w.targets) t)) (below (product_of (target_sizes w.targets)))
+  pub steps : moves ≡ listed_moves w.env.states (length (all_requests w)) (product_of (target_sizes w.targets))
+      (λ t n e. next_of_all w.targets (states_at (target_sizes w.targets) t) e (slice_get (all_requests w) n))
+
+pub made_target_is : (w : Several) (count start : ℕ) (finals : List ℕ) (steps : List (ℕ × ℕ × ℕ × ℕ)) (env_states actions : ℕ) → AreListsOf w count start finals steps →
+    env_states ≡ w.env.states → actions ≡ length (all_requests w) → normal_beh env_states actions (listed_beh count start finals steps) ≡ combined_target w.env.states (all_requests w) w.targets
+made_target_is w count start finals steps env_states actions lists es ns =
+    ap₂ (λ n m. normal_beh n m (listed_beh count start finals steps)) es ns
+    ∙ ap₂ (λ n m. normal_beh w.env.states (length (all_requests w)) (listed_beh n m finals steps)) lists.count lists.start
+    ∙ ap₂ (λ xs ys. normal_beh w.env.states (length (all_requests w)) (listed_beh (product_of (target_sizes w.targets)) (combined_start w.targets) xs ys)) lists.finals lists.steps
+    ∙ combined_target_is w (filter (λ t. are_final w.targets (states_at (target_sizes w.targets) t)) (below (product_of (target_sizes w.targets)))) lists.several lists.several.env.states.1
+    (λ t l. has-filter (λ t. are_final w.targets (states_at (target_sizes w.targets) t)) (product_of (target_sizes w.targets)) t l)
+
+pub made_steps_in_range : (w : Several) (count start : ℕ) (finals : List ℕ) (steps : List (ℕ × ℕ × ℕ × ℕ)) (actions : ℕ) → AreListsOf w count start finals steps → actions ≡ length (all_requests w) →
+    AreMoves count actions steps
+made_steps_in_range w count start finals steps actions lists ns =
+    subst (λ xs. AreMoves count actions xs) (sym lists.steps) (subst (λ n. AreMoves n actions moves) (sym lists.count) (subst (λ n. AreMoves (product_of (target_sizes w.targets)) n moves) (sym ns)
+    (moves_in_range w.env.states (length (all_requests w)) (product_of (target_sizes w.targets)) (λ t n e. next_of_all w.targets (states_at (target_sizes w.targets) t) e (slice_get (all_requests w) n))
+    (λ t n e to ht hn he i. (from_combined_target w t e n to (next_goes w t e n to lists.several ht i)).1))))
+  where
+    moves : List (ℕ × ℕ × ℕ × ℕ)
+    moves = listed_moves w.env.states (length (all_requests w)) (product_of (target_sizes w.targets)) (λ t n e. next_of_all w.targets (states_at (target_sizes w.targets) t) e (slice_get (all_requests w) n))
+
+pub made_finals_below : (w : Several) (count start : ℕ) (finals : List ℕ) (steps : List (ℕ × ℕ × ℕ × ℕ)) → AreListsOf w count start finals steps → All (λ t. t < count) finals
+made_finals_below w count start finals steps lists =
+    subst (λ xs. All (λ b. b < count) xs) (sym lists.finals)
+    (subst (λ n. All (λ b. b < n) (filter (λ t. are_final w.targets (states_at (target_sizes w.targets) t)) (below (product_of (target_sizes w.targets))))) (sym lists.count)
+    (passing_below (λ t. are_final w.targets (states_at (target_sizes w.targets) t)) (product_of (target_sizes w.targets))))

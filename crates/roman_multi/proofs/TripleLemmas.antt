@@ -1,0 +1,86 @@
+-- The triples that the loops list are those of the combined environment.
+use Rattle.std.proofs.Common.{◌≡◌, ℕ, zero, suc, ◌<◌, ◌==◌, ◌&&◌, List, [], ◌∷◌, map, length, get_or, Option, Some, None, IsTrue, Result, Ok, Err, IfOk, slice_get, inl, inr, refl, sym, ap, ap₂, ◌∙◌, subst, arith}
+use Rattle.std.proofs.lemmas.Bool.{false≢true, eq-eqb, eqb-true, and_parts, and_from}
+use Rattle.roman_model.specs.Lists.{IsIn, below}
+use Rattle.roman_model.specs.System.{Triple, Env, has_triple, IsEnv}
+use Rattle.roman_model.specs.Normal.{normal_env}
+use Rattle.roman_model.specs.Combined.{has_triple_on, combined_env}
+use Rattle.roman_model.specs.declared.request.Request.{Request}
+use Rattle.roman_parts.specs.Listed.{triple_of, listed_env, AreTriples}
+use Rattle.roman_multi.specs.Lists.{next_on, triples_by, listed_triples}
+use Rattle.roman_model.proofs.Lists.{same_test, any_true, any_from, in_map, from_map, in_flat_map, from_flat_map, in_below, from_below}
+use Rattle.roman_model.proofs.SystemLemmas.{triple_in_range, in_env_next, from_env_next}
+use Rattle.roman_model.proofs.MadeLemmas.{env_from_same}
+
+from_next_on : (env : Env) (e : ℕ) (o : Option Request) (to : ℕ) → IsIn to (next_on env e o) → IsTrue (has_triple_on env o e to)
+from_next_on env e None to i = absurd i
+from_next_on env e (Some r) to i = from_env_next env e r.action to i
+
+in_next_on : (env : Env) (e : ℕ) (o : Option Request) (to : ℕ) → IsEnv env → IsTrue (has_triple_on env o e to) → IsIn to (next_on env e o)
+in_next_on env e None to ok t = absurd (false≢true t)
+in_next_on env e (Some r) to ok t = in_env_next env e r.action to ok t
+
+from_listed : (env : Env) (requests : List Request) (x : ℕ × ℕ × ℕ) → IsIn x (listed_triples env requests) →
+    (x.0 < env.states) × (x.1 < length requests) × IsTrue (has_triple_on env (slice_get requests x.1) x.0 x.2)
+from_listed env requests x i =
+    let (e, ie, ix) = from_flat_map (triples_by env requests) x (below env.states) i in
+    let (n, in', iy) = from_flat_map (λ n. map (λ to. (e, n, to)) (next_on env e (slice_get requests n))) x (below (length requests)) ix in
+    let (to, it, same) = from_map (λ to. (e, n, to)) x (next_on env e (slice_get requests n)) iy in
+    subst (λ (y : ℕ × ℕ × ℕ). (y.0 < env.states) × (y.1 < length requests) × IsTrue (has_triple_on env (slice_get requests y.1) y.0 y.2)) (sym same)
+    (from_below env.states e ie, from_below (length requests) n in', from_next_on env e (slice_get requests n) to it)
+
+in_listed : (env : Env) (requests : List Request) (e n to : ℕ) → IsEnv env → e < env.states → n < length requests → IsTrue (has_triple_on env (slice_get requests n) e to) →
+    IsIn (e, n, to) (listed_triples env requests)
+in_listed env requests e n to ok he hn t =
+    in_flat_map (triples_by env requests) e (e, n, to) (below env.states) (in_below env.states e he)
+    (in_flat_map (λ n. map (λ to. (e, n, to)) (next_on env e (slice_get requests n))) n (e, n, to) (below (length requests)) (in_below (length requests) n hn)
+    (in_map (λ to. (e, n, to)) to (next_on env e (slice_get requests n)) (in_next_on env e (slice_get requests n) to ok t)))
+
+pub combined_env_is : (env : Env) (requests : List Request) → IsEnv env →
+    normal_env (listed_env env.states (length requests) env.start (listed_triples env requests)) ≡ combined_env requests env
+combined_env_is env requests ok =
+    env_from_same env.states (length requests) env.start (has_triple (listed_env env.states (length requests) env.start (listed_triples env requests)))
+    (λ e n e'. has_triple_on env (slice_get requests n) e e')
+    (λ e n e' he hn he'.
+    same_test (has_triple (listed_env env.states (length requests) env.start (listed_triples env requests)) e n e') (has_triple_on env (slice_get requests n) e e')
+    (λ t. there e n e' t)
+    (λ t. any_from (λ x. x.from == e && x.action == n && x.to == e') (record { from = e; action = n; to = e' }) (map triple_of (listed_triples env requests))
+    (in_map triple_of (e, n, e') (listed_triples env requests) (in_listed env requests e n e' ok he hn t))
+    (and_from (e == e && n == n) (e' == e') (and_from (e == e) (n == n) (eq-eqb e e refl) (eq-eqb n n refl)) (eq-eqb e' e' refl))))
+  where
+    there : (e n e' : ℕ) → IsTrue (has_triple (listed_env env.states (length requests) env.start (listed_triples env requests)) e n e') → IsTrue (has_triple_on env (slice_get requests n) e e')
+    there e n e' t =
+        let (x, i, passes) = any_true (λ x. x.from == e && x.action == n && x.to == e') (map triple_of (listed_triples env requests)) t in
+        let (y, j, same) = from_map triple_of x (listed_triples env requests) i in
+        let (front, to) = and_parts (x.from == e && x.action == n) (x.to == e') passes in
+        let (from, action) = and_parts (x.from == e) (x.action == n) front in
+        let (l, m, own) = from_listed env requests y j in
+        let e0 : y.0 ≡ e = ap (λ (z : Triple). z.from) (sym same) ∙ eqb-true x.from e from in
+        let e1 : y.1 ≡ n = ap (λ (z : Triple). z.action) (sym same) ∙ eqb-true x.action n action in
+        let e2 : y.2 ≡ e' = ap (λ (z : Triple). z.to) (sym same) ∙ eqb-true x.to e' to in
+        subst (λ k. IsTrue (has_triple_on env (slice_get requests n) e k)) e2
+        (subst (λ k. IsTrue (has_triple_on env (slice_get requests k) e y.2)) e1 (subst (λ k. IsTrue (has_triple_on env (slice_get requests y.1) k y.2)) e0 own))
+
+pub get_or_in : {X : Type 0} (xs : List X) (k : ℕ) (d : X) → k < length xs → IsIn (get_or xs k d) xs
+get_or_in [] k d l = absurd (omega arith)
+get_or_in (x ∷ xs) zero d l = inl refl
+get_or_in (x ∷ xs) (suc k) d l = inr (get_or_in xs k d (omega arith))
+
+next_in_range : (env : Env) (e : ℕ) (o : Option Request) (to : ℕ) → IsEnv env → IsTrue (has_triple_on env o e to) → to < env.states
+next_in_range env e None to ok t = absurd (false≢true t)
+next_in_range env e (Some r) to ok t = (triple_in_range env e r.action to ok t).2
+
+pub listed_in_range : (env : Env) (requests : List Request) → IsEnv env → AreTriples env.states (length requests) (listed_triples env requests)
+listed_in_range env requests ok k d l =
+    let i : IsIn (get_or (listed_triples env requests) k d) (listed_triples env requests) = get_or_in (listed_triples env requests) k d l in
+    let (he, hn, t) = from_listed env requests (get_or (listed_triples env requests) k d) i in
+    (he, hn, next_in_range env (get_or (listed_triples env requests) k d).0 (slice_get requests (get_or (listed_triples env requests) k d).1) (get_or (listed_triples env requests) k d).2 ok t)
+
+pub if_ok_more : {X E : Type 0} (P Q : X → Type 0) (r : Result X E) → ((x : X) → P x → Q x) → IfOk r P → IfOk r Q
+if_ok_more P Q (Ok x) more h = more x h
+if_ok_more P Q (Err e) more h = h
+
+pub made_env_is : (env : Env) (requests : List Request) (states actions start : ℕ) (steps : List (ℕ × ℕ × ℕ)) → IsEnv env → states ≡ env.states → actions ≡ length requests →
+    start ≡ env.start → steps ≡ listed_triples env requests → normal_env (listed_env states actions start steps) ≡ combined_env requests env
+made_env_is env requests states actions start steps ok s a b l =
+    ap₂ (λ n m. normal_env (listed_env n m start steps)) s a ∙ ap₂ (λ n xs. normal_env (listed_env env.states (length requests) n xs)) b l ∙ combined_env_is env requests ok

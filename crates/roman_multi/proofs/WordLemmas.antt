@@ -1,0 +1,87 @@
+-- Names that are joined, and tables of them.
+use Rattle.std.proofs.Common.{◌≡◌, ℕ, zero, suc, ◌+◌, ◌<◌, ◌≤◌, ◌==◌, ◌&&◌, false, not, List, [], ◌∷◌, ◌++◌, length, take, get_or, slice_index, None, IsTrue, IsFalse, refl, sym, ap, ◌∙◌, arith}
+use Rattle.std.specs.Prelude.{slice_index_or, if◌then◌else◌, nat_le}
+use Rattle.std.specs.List.{list_all, IsDistinct}
+use Rattle.std.specs.Str.{bytes_eq}
+use Rattle.std.proofs.lemmas.Bool.{and_parts, and_from, false≢true, ltb-false, leb-true, le-leb, ne_eqb, false_from_ne_true}
+use Rattle.std.proofs.lemmas.List.{take_more, get_or_default, get_or-take, length-take-le}
+use Rattle.std.proofs.lemmas.List.Folds.{list_any_none}
+use Rattle.std.proofs.lemmas.Map.Made.{AllPairs-from_IsDistinct}
+use Rattle.std.proofs.lemmas.Slice.Eq.{bytes_eq-Decides}
+use Rattle.roman_model.specs.Lists.{is_empty}
+use Rattle.roman_read.specs.Names.{is_name, is_name_byte, place_of}
+use Rattle.roman_read.proofs.PlaceLemmas.{place_of-absent}
+use Rattle.roman_multi.specs.Combining.{joined, names_at, is_long}
+use Rattle.roman_multi.specs.Lists.{is_word}
+use Rattle.roman_multi.specs.declared.parts.Named.{Named}
+
+-- one more name is put behind a dash, unless it is the first
+joined_push : (names : List (List ℕ)) (name : List ℕ) → joined (names ++ name ∷ []) ≡ joined names ++ (if is_empty names then name else 45 ∷ name)
+joined_push [] name = refl
+joined_push (first ∷ []) name = refl
+joined_push (first ∷ other ∷ names) name = ap (λ bytes. first ++ 45 ∷ bytes) (joined_push (other ∷ names) name) ∙ again first (45 ∷ joined (other ∷ names)) (45 ∷ name)
+  where
+    again : (xs ys zs : List ℕ) → xs ++ (ys ++ zs) ≡ (xs ++ ys) ++ zs
+    again [] ys zs = refl
+    again (x ∷ xs) ys zs = ap (λ ws. x ∷ ws) (again xs ys zs)
+
+take_empty : (names : List (List ℕ)) (i : ℕ) → i < length names → is_empty (take i names) ≡ (i == 0)
+take_empty [] i l = absurd (omega arith)
+take_empty (name ∷ names) zero l = refl
+take_empty (name ∷ names) (suc i) l = sym (ne_eqb (suc i) 0 (λ same. omega arith))
+
+pub joined_more : (names : List (List ℕ)) (i : ℕ) (name : List ℕ) → i < length names → get_or names i [] ≡ name →
+    joined (take (i + 1) names) ≡ joined (take i names) ++ (if i == 0 then name else 45 ∷ name)
+joined_more names i name l is =
+    ap joined (take_more names i [] l ∙ ap (λ x. take i names ++ x ∷ []) is) ∙ joined_push (take i names) name
+    ∙ ap (λ b. joined (take i names) ++ (if b then name else 45 ∷ name)) (take_empty names i l)
+
+-- the names of the states
+pub names_at_length : (targets : List Named) (ts : List ℕ) → length ts ≡ length targets → length (names_at targets ts) ≡ length targets
+names_at_length [] ts e = refl
+names_at_length (named ∷ targets) [] e = absurd (omega arith)
+names_at_length (named ∷ targets) (t ∷ ts) e = ap suc (names_at_length targets ts (omega arith))
+
+pub names_at_get : (targets : List Named) (ts : List ℕ) (i : ℕ) (d : Named) → i < length targets → i < length ts →
+    get_or (names_at targets ts) i [] ≡ slice_index_or (get_or targets i d).target.states (slice_index ts i) []
+names_at_get [] ts i d l m = absurd (omega arith)
+names_at_get (named ∷ targets) [] i d l m = absurd (omega arith)
+names_at_get (named ∷ targets) (t ∷ ts) zero d l m = refl
+names_at_get (named ∷ targets) (t ∷ ts) (suc i) d l m = names_at_get targets ts i d (omega arith) (omega arith)
+
+-- a name is a word, and a word that isn't long is a name
+pub name_is_word : (bytes : List ℕ) → IsTrue (is_name bytes) → IsTrue (list_all is_name_byte bytes) × (0 < length bytes)
+name_is_word bytes t =
+    let (front, all) = and_parts (nat_le 1 (length bytes) && nat_le (length bytes) 32) (list_all is_name_byte bytes) t in
+    let (some, short) = and_parts (nat_le 1 (length bytes)) (nat_le (length bytes) 32) front in
+    let long : 1 ≤ length bytes = leb-true 1 (length bytes) some in
+    (all, omega arith)
+
+pub word_is_name : (bytes : List ℕ) → IsTrue (is_word bytes) → IsFalse (is_long bytes) → IsTrue (is_name bytes)
+word_is_name bytes t short =
+    let (some, all) = and_parts (not (is_empty bytes)) (list_all is_name_byte bytes) t in
+    let few : length bytes ≤ 32 = ltb-false 32 (length bytes) short in
+    and_from (nat_le 1 (length bytes) && nat_le (length bytes) 32) (list_all is_name_byte bytes)
+    (and_from (nat_le 1 (length bytes)) (nat_le (length bytes) 32) (le-leb 1 (length bytes) (not_none bytes some)) (le-leb (length bytes) 32 few)) all
+  where
+    not_none : (bytes : List ℕ) → IsTrue (not (is_empty bytes)) → 1 ≤ length bytes
+    not_none [] t = absurd (false≢true t)
+    not_none (b ∷ bytes) t = omega arith
+
+pub is_word_from : (bytes : List ℕ) → IsTrue (list_all is_name_byte bytes) → 0 < length bytes → IsTrue (is_word bytes)
+is_word_from [] t l = absurd (omega arith)
+is_word_from (b ∷ bytes) t l = t
+
+-- no name of a table stands before its place
+pub fresh : (names : List (List ℕ)) (i : ℕ) (d : List ℕ) → IsDistinct bytes_eq names → i < length names → place_of (take i names) (get_or names i d) ≡ None
+fresh names i d distinct l = place_of-absent (take i names) (get_or names i d)
+    (list_any_none (bytes_eq (get_or names i d)) (take i names) (λ k e m. other k e m))
+  where
+    other : (k : ℕ) (e : List ℕ) → k < length (take i names) → bytes_eq (get_or names i d) (get_or (take i names) k e) ≡ false
+    other k e m =
+        let before : k < i = omega (arith, length-take-le i names (omega arith)) in
+        let within : k < length names = omega arith in
+        let there : get_or (take i names) k e ≡ get_or names k e = get_or-take i names k e before in
+        false_from_ne_true (bytes_eq (get_or names i d) (get_or (take i names) k e)) (λ t.
+        AllPairs-from_IsDistinct bytes_eq-Decides names distinct k i d before l
+        (get_or_default names k d e within ∙ sym there ∙ sym ((bytes_eq-Decides (get_or names i d) (get_or (take i names) k e)).0 t)))

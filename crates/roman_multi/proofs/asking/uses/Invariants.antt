@@ -1,0 +1,8 @@
+use Rattle.std.proofs.Common.{IsFalse, not}
+use Rattle.std.specs.List.{list_any}
+use Rattle.roman_model.specs.Lists.{below, is_empty}
+use Rattle.roman_model.specs.System.{beh_next}
+use Rattle.roman_multi.proofs.asking.uses.Given as goal
+
+abbrev pub invariant-loop-t : goal.invariant-loop-t
+invariant-loop-t l = IsFalse (list_any (λ b. list_any (λ e. not (is_empty (beh_next l.target.beh b e l.a))) (below l.env_states)) (below l.t))

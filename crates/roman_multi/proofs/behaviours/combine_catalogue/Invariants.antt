@@ -1,0 +1,6 @@
+use Rattle.std.proofs.Common.{◌≡◌, map, take}
+use Rattle.roman_multi.specs.Combining.{combined_behaviour}
+use Rattle.roman_multi.proofs.behaviours.combine_catalogue.Given as goal
+
+abbrev pub invariant-loop-behaviour : goal.invariant-loop-behaviour
+invariant-loop-behaviour l = l.made.items ≡ map (combined_behaviour l.env l.requests) (take l.behaviour-index l.catalogue)

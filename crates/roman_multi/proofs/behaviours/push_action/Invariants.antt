@@ -1,0 +1,7 @@
+use Rattle.std.proofs.Common.{◌≡◌, ◌++◌}
+use Rattle.roman_model.specs.System.{beh_next}
+use Rattle.roman_multi.specs.Lists.{moves_by}
+use Rattle.roman_multi.proofs.behaviours.push_action.Given as goal
+
+abbrev pub invariant-loop-e : goal.invariant-loop-e
+invariant-loop-e l = l.steps.items ≡ l.fn.steps.items ++ moves_by l.e (λ e. beh_next l.behaviour.beh l.b e l.a) l.b l.n

@@ -1,0 +1,7 @@
+use Rattle.std.proofs.Common.{◌≡◌, flat_map}
+use Rattle.roman_model.specs.Lists.{below}
+use Rattle.roman_multi.specs.Lists.{triples_by}
+use Rattle.roman_multi.proofs.environment.triples_of.Given as goal
+
+abbrev pub invariant-loop-e : goal.invariant-loop-e
+invariant-loop-e l = l.steps.items ≡ flat_map (triples_by l.env.env l.requests) (below l.e)

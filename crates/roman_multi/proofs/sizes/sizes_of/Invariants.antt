@@ -1,0 +1,10 @@
+use Rattle.std.proofs.Common.{◌≡◌, take, All}
+use Rattle.roman_model.specs.Combined.{target_sizes}
+use Rattle.roman_multi.specs.Combining.{IsKnown, machines}
+use Rattle.roman_multi.proofs.sizes.sizes_of.Given as goal
+
+abbrev pub invariant-loop-i : goal.invariant-loop-i
+invariant-loop-i l = record {
+  sizes : l.sizes.items ≡ target_sizes (machines (take l.i l.targets));
+  known : All (λ named. IsKnown l.env named.target) (take l.i l.targets);
+}

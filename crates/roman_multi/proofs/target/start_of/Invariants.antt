@@ -1,0 +1,6 @@
+use Rattle.std.proofs.Common.{◌≡◌, map, take}
+use Rattle.roman_multi.specs.Combining.{machines}
+use Rattle.roman_multi.proofs.target.start_of.Given as goal
+
+abbrev pub invariant-loop-named : goal.invariant-loop-named
+invariant-loop-named l = l.starts.items ≡ map (λ target. target.start) (machines (take l.named-index l.targets))

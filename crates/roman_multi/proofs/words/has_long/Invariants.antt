@@ -1,0 +1,7 @@
+use Rattle.std.proofs.Common.{◌≡◌, map, drop}
+use Rattle.std.specs.List.{list_any}
+use Rattle.roman_multi.specs.Combining.{is_long}
+use Rattle.roman_multi.proofs.words.has_long.Given as goal
+
+abbrev pub invariant-loop-word : goal.invariant-loop-word
+invariant-loop-word l = list_any is_long (map (λ word. word.items) (drop l.word-index l.words)) ≡ list_any is_long (map (λ word. word.items) l.words)

@@ -1,0 +1,10 @@
+use Rattle.std.proofs.Common.{◌≡◌, map, take, All, IsTrue}
+use Rattle.roman_multi.specs.Combining.{request_name}
+use Rattle.roman_multi.specs.Lists.{is_word}
+use Rattle.roman_multi.proofs.words.request_words.Given as goal
+
+abbrev pub invariant-loop-request : goal.invariant-loop-request
+invariant-loop-request l = record {
+  words : map (λ word. word.items) l.words.items ≡ map (request_name l.env.actions l.targets) (take l.request-index l.requests);
+  bytes : All (λ word. IsTrue (is_word word.items)) l.words.items;
+}

@@ -1,0 +1,14 @@
+use Rattle.std.proofs.Common.{◌≡◌, ◌<◌, length, take, IsTrue}
+use Rattle.std.specs.List.{list_all}
+use Rattle.roman_model.specs.Combined.{target_sizes}
+use Rattle.roman_model.specs.Numbers.{states_at}
+use Rattle.roman_read.specs.Names.{is_name_byte}
+use Rattle.roman_multi.specs.Combining.{joined, machines, names_at}
+use Rattle.roman_multi.proofs.words.state_word.Given as goal
+
+abbrev pub invariant-loop-i : goal.invariant-loop-i
+invariant-loop-i l = record {
+  word : l.word.items ≡ joined (take l.i (names_at l.targets (states_at (target_sizes (machines l.targets)) l.t)));
+  bytes : IsTrue (list_all is_name_byte l.word.items);
+  some : 0 < l.i → 0 < length l.word.items;
+}

@@ -1,0 +1,13 @@
+use Rattle.std.proofs.Common.{◌≡◌, map, All, IsTrue}
+use Rattle.roman_model.specs.Combined.{target_sizes}
+use Rattle.roman_model.specs.Lists.{below}
+use Rattle.roman_model.specs.Numbers.{states_at}
+use Rattle.roman_multi.specs.Combining.{joined, machines, names_at}
+use Rattle.roman_multi.specs.Lists.{is_word}
+use Rattle.roman_multi.proofs.words.state_words.Given as goal
+
+abbrev pub invariant-loop-t : goal.invariant-loop-t
+invariant-loop-t l = record {
+  words : map (λ word. word.items) l.words.items ≡ map (λ t. joined (names_at l.targets (states_at (target_sizes (machines l.targets)) t))) (below l.t);
+  bytes : All (λ word. IsTrue (is_word word.items)) l.words.items;
+}

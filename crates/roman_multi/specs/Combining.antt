@@ -1,0 +1,154 @@
+-- Several named targets as one: the names and records of the combined parts, and the rules that may forbid them.
+use Rattle.std.specs.Prelude.{◌≡◌, ℕ, Bool, ◌||◌, List, [], ◌∷◌, ◌++◌, map, length, take, is_some, Option, None, Some, Result, Ok, Err, nat_lt, slice_index_or, if◌then◌else◌}
+use Rattle.std.specs.List.{list_any}
+use Rattle.roman_model.specs.Lists.{below, is_empty, product_of}
+use Rattle.roman_model.specs.System.{Beh, IsDeterministic}
+use Rattle.roman_model.specs.Numbers.{states_at}
+use Rattle.roman_model.specs.Combined.{requests_of, target_sizes, combined_env, combined_beh, combined_target}
+use Rattle.roman_model.specs.declared.request.Request.{Request}
+use Rattle.roman_model.specs.declared.limits.TheConstants.{MAX_STATES, MAX_ACTIONS, MAX_NAME_BYTES}
+use Rattle.roman_read.specs.Names.{place_of}
+use Rattle.roman_parts.specs.Named.{NamedEnv, NamedBeh, NamedTarget, IsOver}
+use Rattle.roman_multi.specs.declared.parts.Named.{Named}
+use Rattle.roman_multi.specs.declared.parts.Combined.{Combined}
+use Rattle.roman_multi.specs.declared.error.CombineError.{CombineError}
+use Rattle.roman_multi.specs.declared.error.CombineError.TheVariants as error
+
+-- the combined environment, the behaviours over it, and the combined target
+pub record PlainCombined : Type 0 where
+  pub environment : NamedEnv
+  pub catalogue : List NamedBeh
+  pub target : NamedTarget
+
+-- the combined parts without where they lie in memory
+abbrev pub plain : Combined → PlainCombined
+plain made = record { environment = made.environment; catalogue = made.catalogue.items; target = made.target }
+
+-- a target's name
+abbrev pub target_name : Named → List ℕ
+target_name named = named.name
+
+-- the targets without their names
+abbrev pub machines : List Named → List Beh
+machines targets = map (λ named. named.target.beh) targets
+
+-- the combined actions
+abbrev pub requests_in : NamedEnv → List Named → List Request
+requests_in env targets = requests_of env.env.actions (machines targets)
+
+-- ---- names
+
+-- the names with a dash between each two
+abbrev pub joined : List (List ℕ) → List ℕ
+joined [] = []
+joined (name ∷ []) = name
+joined (name ∷ other ∷ names) = name ++ 45 ∷ joined (other ∷ names)
+
+-- the names of the targets' states
+abbrev pub names_at : List Named → List ℕ → List (List ℕ)
+names_at [] ts = []
+names_at (named ∷ targets) [] = []
+names_at (named ∷ targets) (t ∷ ts) = slice_index_or named.target.states t [] ∷ names_at targets ts
+
+-- the names of the combined states: each joins those of the targets' states
+abbrev pub state_names : List Named → List (List ℕ)
+state_names targets =
+    map (λ t. joined (names_at targets (states_at (target_sizes (machines targets)) t))) (below (product_of (target_sizes (machines targets))))
+
+-- the name of a combined action: the action's, a dash, and that of the target that requests it
+abbrev pub request_name : List (List ℕ) → List Named → Request → List ℕ
+request_name actions targets r = slice_index_or actions r.action [] ++ 45 ∷ slice_index_or (map target_name targets) r.target []
+
+-- the names of the combined actions
+abbrev pub request_names : NamedEnv → List Named → List (List ℕ)
+request_names env targets = map (request_name env.actions targets) (requests_in env targets)
+
+-- ---- rules
+
+-- the name has more bytes than a name may have
+abbrev pub is_long : List ℕ → Bool
+is_long name = nat_lt MAX_NAME_BYTES (length name)
+
+-- the name at that place stands at an earlier one too
+abbrev pub stands_before : List (List ℕ) → ℕ → Bool
+stands_before names i = is_some (place_of (take i names) (slice_index_or names i []))
+
+-- some name stands at two places
+abbrev pub has_repeats : List (List ℕ) → Bool
+has_repeats names = list_any (stands_before names) (below (length names))
+
+-- there are too many combined states
+abbrev pub has_many_states : List Named → Bool
+has_many_states targets = nat_lt MAX_STATES (product_of (target_sizes (machines targets)))
+
+-- there are no combined actions, or too many
+abbrev pub has_bad_count : List Request → Bool
+has_bad_count requests = is_empty requests || nat_lt MAX_ACTIONS (length requests)
+
+-- some combined name is too long
+abbrev pub has_long_name : NamedEnv → List Named → Bool
+has_long_name env targets = list_any is_long (state_names targets) || list_any is_long (request_names env targets)
+
+-- two combined states, or two combined actions, have one name
+abbrev pub has_one_name : NamedEnv → List Named → Bool
+has_one_name env targets = has_repeats (state_names targets) || has_repeats (request_names env targets)
+
+-- the first rule that forbids the combination
+unfoldable pub forbidding : NamedEnv → List Named → Option CombineError
+forbidding env targets =
+    if has_many_states targets then Some error.States
+    else (if has_bad_count (requests_in env targets) then Some error.Actions
+    else (if has_long_name env targets then Some error.LongName
+    else (if has_one_name env targets then Some error.Repeated
+    else None)))
+
+-- what is answered keeps to the rules: they allow what is made, and an error is the first that forbids; want of memory says nothing
+abbrev pub Keeps : Result Combined CombineError → Option CombineError → Type 0
+Keeps (Ok made) rule = rule ≡ None
+Keeps (Err error.States) rule = rule ≡ Some error.States
+Keeps (Err error.Actions) rule = rule ≡ Some error.Actions
+Keeps (Err error.LongName) rule = rule ≡ Some error.LongName
+Keeps (Err error.Repeated) rule = rule ≡ Some error.Repeated
+Keeps (Err error.Memory) rule = Unit {0}
+
+-- ---- parts
+
+-- a behaviour over the combined actions
+abbrev pub combined_behaviour : NamedEnv → List Request → NamedBeh → NamedBeh
+combined_behaviour env requests behaviour = record {
+  name = behaviour.name;
+  states = behaviour.states;
+  env_states = env.env.states;
+  actions = length requests;
+  beh = combined_beh env.env.states requests behaviour.beh;
+}
+
+-- the environment, the catalogue and the target over the combined actions
+unfoldable pub combined_parts : NamedEnv → List NamedBeh → List Named → PlainCombined
+combined_parts env catalogue targets = record {
+  environment = record { states = env.states; actions = request_names env targets; env = combined_env (requests_in env targets) env.env };
+  catalogue = map (combined_behaviour env (requests_in env targets)) catalogue;
+  target = record {
+    states = state_names targets;
+    env_states = env.env.states;
+    actions = length (requests_in env targets);
+    beh = combined_target env.env.states (requests_in env targets) (machines targets);
+  };
+}
+
+-- the target is over that environment
+pub record IsOf (env : NamedEnv) (target : NamedTarget) : Type 0 where
+  pub env_states : target.env_states ≡ env.env.states
+  pub actions : target.actions ≡ env.env.actions
+
+-- the behaviour is over that environment
+pub record IsBehaviourOf (env : NamedEnv) (behaviour : NamedBeh) : Type 0 where
+  pub env_states : behaviour.env_states ≡ env.env.states
+  pub actions : behaviour.actions ≡ env.env.actions
+
+-- the target's numbers are in range, it is deterministic, and it has a name for each of its states
+pub record IsKnown (env : NamedEnv) (target : NamedTarget) : Type 0 where
+  pub over : IsOf env target
+  pub names : length target.states ≡ target.beh.states
+  pub known : IsOver target.env_states target.actions target.beh
+  pub single : IsDeterministic target.beh

@@ -1,0 +1,116 @@
+//! The combination.
+ghost use Rattle.std.specs.Prelude.{◌≡◌, ◌<◌, ◌≤◌, length, All, IfOk};
+ghost use Rattle.roman_multi.specs.Combining.{IsBehaviourOf, IsKnown, IsOf, Keeps, combined_parts, forbidding, has_bad_count, machines, plain, request_names, requests_in, state_names};
+ghost use Rattle.roman_multi.specs.Lists.{AreNames, flat};
+ghost use Rattle.roman_model.specs.Combined.{target_sizes};
+ghost use Rattle.roman_model.specs.Lists.{product_of};
+
+use crate::asking::requests;
+use crate::behaviours::combine_catalogue;
+use crate::environment::combine_environment;
+use crate::error::CombineError;
+use crate::parts::{Combined, Named};
+use crate::sizes::sizes_of;
+use crate::tables::table_of;
+use crate::target::combine_target;
+use crate::words::{has_long, request_words, state_words};
+use roman_model::{MAX_ACTIONS, MAX_STATES, Request};
+use roman_parts::{Behaviour, Environment};
+use roman_radix::Shape;
+use roman_read::NameTable;
+use std::alloc::{AllocError, Global};
+
+/// The targets as one, with the environment and the catalogue over its actions: target by target,
+/// the actions that stand in its steps, each named by the action and the target. The first rule that
+/// forbids it is the error.
+pub fn combine(
+    alloc: Global,
+    env: &Environment,
+    catalogue: &[Behaviour],
+    targets: &[Named],
+) -> Result<Combined, CombineError>
+    requires count { (2 ≤ length targets.now) × (length targets.now ≤ 4) }
+    requires catalogue { All (IsBehaviourOf env.now) catalogue.now }
+    requires targets { All (λ named. IsOf env.now named.target) targets.now }
+    ensures parts { IfOk result (λ made. plain made ≡ combined_parts env.now catalogue.now targets.now) }
+    ensures rules { Keeps result (forbidding env.now targets.now) }
+{
+    let sizes = sizes_of(alloc, env, targets)?;
+    let Some(shape) = Shape::new(1, 1, &sizes, u32::from(MAX_STATES)) else {
+        return Err(CombineError::States);
+    };
+    let requests = requests(alloc, env, targets)?;
+    if has_bad_count(&requests) {
+        return Err(CombineError::Actions);
+    }
+    let (states, actions) = names_of(alloc, env, targets, &shape, &requests)?;
+    let made = combine_parts(
+        alloc, env, catalogue, targets, &shape, &requests, states, actions,
+    )?;
+    Ok(made)
+}
+
+/// Whether there are no requests, or more than there may be actions.
+fn has_bad_count(requests: &[Request]) -> bool
+    ensures { result ≡ has_bad_count requests.now }
+{
+    requests.is_empty() || requests.len() > MAX_ACTIONS as usize
+}
+
+/// The parts over those requests, with those names.
+fn combine_parts(
+    alloc: Global,
+    env: &Environment,
+    catalogue: &[Behaviour],
+    targets: &[Named],
+    shape: &Shape,
+    requests: &[Request],
+    states: NameTable,
+    actions: NameTable,
+) -> Result<Combined, AllocError>
+    requires count { length targets.now ≤ 4 }
+    requires catalogue { All (IsBehaviourOf env.now) catalogue.now }
+    requires known { All (λ named. IsKnown env.now named.target) targets.now }
+    requires shape { shape.now ≡ flat (target_sizes (machines targets.now)) }
+    requires few { product_of (target_sizes (machines targets.now)) ≤ MAX_STATES }
+    requires requests { requests.now ≡ requests_in env.now targets.now }
+    requires some { (0 < length requests.now) × (length requests.now ≤ MAX_ACTIONS) }
+    requires states { states ≡ state_names targets.now }
+    requires actions { actions ≡ request_names env.now targets.now }
+    ensures { IfOk result (λ made. plain made ≡ combined_parts env.now catalogue.now targets.now) }
+{
+    let environment = combine_environment(alloc, env, requests, actions)?;
+    let catalogue = combine_catalogue(alloc, env, catalogue, requests, &environment)?;
+    let target = combine_target(alloc, env, targets, shape, requests, states, &environment)?;
+    Ok(Combined {
+        environment,
+        catalogue,
+        target,
+    })
+}
+
+/// The names of the combined states and actions.
+fn names_of(
+    alloc: Global,
+    env: &Environment,
+    targets: &[Named],
+    shape: &Shape,
+    requests: &[Request],
+) -> Result<(NameTable, NameTable), CombineError>
+    requires count { (0 < length targets.now) × (length targets.now ≤ 4) }
+    requires known { All (λ named. IsKnown env.now named.target) targets.now }
+    requires shape { shape.now ≡ flat (target_sizes (machines targets.now)) }
+    requires states { product_of (target_sizes (machines targets.now)) ≤ MAX_STATES }
+    requires requests { requests.now ≡ requests_in env.now targets.now }
+    requires actions { length requests.now ≤ MAX_ACTIONS }
+    ensures { AreNames env.now targets.now result }
+{
+    let states = state_words(alloc, env, targets, shape)?;
+    let actions = request_words(alloc, env, targets, requests)?;
+    if has_long(&states) || has_long(&actions) {
+        return Err(CombineError::LongName);
+    }
+    let states = table_of(alloc, &states)?;
+    let actions = table_of(alloc, &actions)?;
+    Ok((states, actions))
+}

@@ -1,0 +1,94 @@
+//! The environment over the combined actions.
+ghost use Rattle.std.specs.Prelude.{◌≡◌, ◌<◌, ◌≤◌, ◌++◌, length, map, All, IfOk};
+ghost use Rattle.roman_model.specs.System.{env_next};
+ghost use Rattle.roman_model.specs.Combined.{combined_env};
+ghost use Rattle.roman_model.specs.declared.limits.TheConstants.{MAX_ACTIONS};
+ghost use Rattle.roman_multi.specs.Lists.{listed_triples, triples_by};
+
+use crate::tables::copied;
+use roman_model::Request;
+use roman_parts::Environment;
+use roman_read::NameTable;
+use std::alloc::{AllocError, Global};
+
+/// A step (e, n, e') by combined action n.
+type Triple = (u8, u8, u8);
+
+/// Adds the steps from `e` by combined action `n` to those states.
+fn push_triples(steps: &mut Vec<Triple>, e: u8, n: u8, next: &[u8]) -> Result<(), AllocError>
+    ensures { IfOk result (λ _. steps.new.items ≡ steps.old.items ++ map (λ to. (e, n, to)) next.now) }
+{
+    for to in next {
+        steps.push((e, n, *to))?;
+    }
+    Ok(())
+}
+
+/// Adds the steps from `e` by combined action `n`, which is that request.
+fn push_request(
+    steps: &mut Vec<Triple>,
+    env: &Environment,
+    e: u8,
+    n: u8,
+    request: &Request,
+) -> Result<(), AllocError>
+    requires state { e < env.now.env.states }
+    requires action { request.now.action < env.now.env.actions }
+    ensures { IfOk result
+        (λ _. steps.new.items ≡ steps.old.items ++ map (λ to. (e, n, to)) (env_next env.now.env e request.now.action)) }
+{
+    push_triples(steps, e, n, env.next(e, request.action))
+}
+
+/// Adds the steps from `e`.
+fn push_row(
+    steps: &mut Vec<Triple>,
+    env: &Environment,
+    requests: &[Request],
+    e: u8,
+) -> Result<(), AllocError>
+    requires state { e < env.now.env.states }
+    requires few { length requests.now ≤ MAX_ACTIONS }
+    requires actions { All (λ r. r.action < env.now.env.actions) requests.now }
+    ensures { IfOk result (λ _. steps.new.items ≡ steps.old.items ++ triples_by env.now.env requests.now e) }
+{
+    for n in 0..requests.len() {
+        push_request(steps, env, e, n as u8, &requests[n])?;
+    }
+    Ok(())
+}
+
+/// The steps by the combined actions.
+fn triples_of(
+    alloc: Global,
+    env: &Environment,
+    requests: &[Request],
+) -> Result<Vec<Triple>, AllocError>
+    requires few { length requests.now ≤ MAX_ACTIONS }
+    requires actions { All (λ r. r.action < env.now.env.actions) requests.now }
+    ensures { IfOk result (λ steps. steps.items ≡ listed_triples env.now.env requests.now) }
+{
+    let mut steps = Vec::new(alloc);
+    for e in 0..env.states().len() as u8 {
+        push_row(&mut steps, env, requests, e)?;
+    }
+    Ok(steps)
+}
+
+/// The environment with the combined actions, which have those names.
+pub(crate) fn combine_environment(
+    alloc: Global,
+    env: &Environment,
+    requests: &[Request],
+    names: NameTable,
+) -> Result<Environment, AllocError>
+    requires few { (0 < length requests.now) × (length requests.now ≤ MAX_ACTIONS) }
+    requires names { length names ≡ length requests.now }
+    requires actions { All (λ r. r.action < env.now.env.actions) requests.now }
+    ensures env { IfOk result (λ made. made.env ≡ combined_env requests.now env.now.env) }
+    ensures names { IfOk result (λ made. (made.states ≡ env.now.states) × (made.actions ≡ names)) }
+{
+    let steps = triples_of(alloc, env, requests)?;
+    let states = copied(alloc, env.states())?;
+    Environment::from_lists(alloc, states, names, env.start(), &steps)
+}

@@ -1,0 +1,128 @@
+//! The combined names, before it is known whether they are names.
+ghost use Rattle.std.specs.Prelude.{◌≡◌, ◌<◌, ◌≤◌, ◌++◌, ◌∷◌, length, map, All, IfOk, IsTrue, if◌then◌else◌};
+ghost use Rattle.std.specs.List.{list_any, list_all};
+ghost use Rattle.roman_model.specs.Combined.{target_sizes};
+ghost use Rattle.roman_model.specs.Lists.{product_of};
+ghost use Rattle.roman_model.specs.Numbers.{states_at};
+ghost use Rattle.roman_model.specs.declared.limits.TheConstants.{MAX_STATES};
+ghost use Rattle.roman_read.specs.Names.{is_name_byte};
+ghost use Rattle.roman_multi.specs.Combining.{IsKnown, is_long, joined, machines, names_at, request_name, state_names};
+ghost use Rattle.roman_multi.specs.Lists.{flat, is_word};
+
+use crate::parts::Named;
+use roman_model::{MAX_NAME_BYTES, Request};
+use roman_parts::Environment;
+use roman_radix::Shape;
+use roman_read::Name;
+use std::alloc::{AllocError, Global};
+
+/// Adds a name, behind a dash where it isn't the first.
+fn push_name(word: &mut Vec<u8>, name: &Name, first: bool) -> Result<(), AllocError>
+    requires { IsTrue (list_all is_name_byte word.old.items) }
+    ensures word { IfOk result
+        (λ _. word.new.items ≡ word.old.items ++ (if first then name.now else 45 ∷ name.now)) }
+    ensures bytes { IfOk result (λ _. IsTrue (list_all is_name_byte word.new.items)) }
+    ensures some { IfOk result (λ _. 0 < length word.new.items) }
+{
+    if !first {
+        word.push(b'-')?;
+    }
+    word.extend_from_slice(name.bytes())?;
+    Ok(())
+}
+
+/// The name of combined state `t`.
+fn state_word(
+    alloc: Global,
+    env: &Environment,
+    targets: &[Named],
+    shape: &Shape,
+    t: u32,
+) -> Result<Vec<u8>, AllocError>
+    requires some { (0 < length targets.now) × (length targets.now ≤ 4) }
+    requires known { All (λ named. IsKnown env.now named.target) targets.now }
+    requires shape { shape.now ≡ flat (target_sizes (machines targets.now)) }
+    requires state { t < product_of (target_sizes (machines targets.now)) }
+    ensures word { IfOk result
+        (λ word. word.items ≡ joined (names_at targets.now (states_at (target_sizes (machines targets.now)) t))) }
+    ensures bytes { IfOk result (λ word. IsTrue (is_word word.items)) }
+{
+    let mut word = Vec::new(alloc);
+    for i in 0..targets.len() {
+        let names = targets[i].target.states();
+        let state = shape.part_of(t, i as u8);
+        push_name(&mut word, names.at(u32::from(state)), i == 0)?;
+    }
+    Ok(word)
+}
+
+/// The names of the combined states.
+pub(crate) fn state_words(
+    alloc: Global,
+    env: &Environment,
+    targets: &[Named],
+    shape: &Shape,
+) -> Result<Vec<Vec<u8>>, AllocError>
+    requires some { (0 < length targets.now) × (length targets.now ≤ 4) }
+    requires known { All (λ named. IsKnown env.now named.target) targets.now }
+    requires shape { shape.now ≡ flat (target_sizes (machines targets.now)) }
+    ensures words { IfOk result (λ words. map (λ word. word.items) words.items ≡ state_names targets.now) }
+    ensures bytes { IfOk result (λ words. All (λ word. IsTrue (is_word word.items)) words.items) }
+{
+    let mut words = Vec::new(alloc);
+    for t in 0..shape.pairs() {
+        words.push(state_word(alloc, env, targets, shape, t)?)?;
+    }
+    Ok(words)
+}
+
+/// The name of a combined action.
+fn request_word(
+    alloc: Global,
+    env: &Environment,
+    targets: &[Named],
+    request: &Request,
+) -> Result<Vec<u8>, AllocError>
+    requires target { request.now.target < length targets.now }
+    requires action { request.now.action < env.now.env.actions }
+    ensures word { IfOk result (λ word. word.items ≡ request_name env.now.actions targets.now request.now) }
+    ensures bytes { IfOk result (λ word. IsTrue (is_word word.items)) }
+{
+    let mut word = Vec::new(alloc);
+    let actions = env.actions();
+    push_name(&mut word, actions.at(u32::from(request.action)), true)?;
+    push_name(&mut word, &targets[request.target as usize].name, false)?;
+    Ok(word)
+}
+
+/// The names of the combined actions.
+pub(crate) fn request_words(
+    alloc: Global,
+    env: &Environment,
+    targets: &[Named],
+    requests: &[Request],
+) -> Result<Vec<Vec<u8>>, AllocError>
+    requires targets { All (λ r. r.target < length targets.now) requests.now }
+    requires actions { All (λ r. r.action < env.now.env.actions) requests.now }
+    ensures words { IfOk result
+        (λ words. map (λ word. word.items) words.items ≡ map (request_name env.now.actions targets.now) requests.now) }
+    ensures bytes { IfOk result (λ words. All (λ word. IsTrue (is_word word.items)) words.items) }
+{
+    let mut words = Vec::new(alloc);
+    for request in requests {
+        words.push(request_word(alloc, env, targets, request)?)?;
+    }
+    Ok(words)
+}
+
+/// Whether some word is longer than a name may be.
+pub(crate) fn has_long(words: &[Vec<u8>]) -> bool
+    ensures { result ≡ list_any is_long (map (λ word. word.items) words.now) }
+{
+    for word in words {
+        if word.len() > MAX_NAME_BYTES as usize {
+            return true;
+        }
+    }
+    false
+}
