@@ -8,7 +8,7 @@ use Rattle.roman_model.proofs.ArenaLemmas.{IsSame, IsArena}
 use Rattle.roman_model.specs.Numbers.{sizes_of, count, numbered}
 use Rattle.roman_model.proofs.NumberedLists.{numbered_is_arena}
 use Rattle.roman_joint.specs.NamedSys.{NamedSys, system_of, IsNamedSys}
-use Rattle.roman_joint.specs.Numbered.{IsNumbered}
+use Rattle.roman_rules.specs.Numbered.{IsNumbered}
 use Rattle.roman_joint.proofs.Rows.{count_fits}
 
 pub numbered_same : (A : Arena ℕ) → IsNumbered A → IsSame A

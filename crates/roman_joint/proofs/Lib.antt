@@ -8,7 +8,13 @@ pub mod OutcomeLemmas
 pub mod WalkLemmas
 pub mod Rows
 pub mod ArenaFacts
-pub mod OpenLemmas
 pub mod BehaviourLemmas
-pub mod NextLemmas
 pub mod SceneLemmas
+pub mod SeatRead
+pub mod WordLemmas
+pub mod SplitLemmas
+pub mod LeadLemmas
+pub mod GoodLemmas
+pub mod AllowedLemmas
+pub mod MarkLemmas
+pub mod FineLemmas

@@ -1,9 +1,9 @@
 -- What scenes say of a system.
-use Rattle.std.proofs.Common.{◌≡◌, ℕ, zero, suc, ◌+◌, ◌*◌, ◌/◌, ◌%◌, ◌<◌, true, List, [], ◌∷◌, ◌++◌, length, take, get_or, slice_index_or, inl, inr, refl, sym, ap, ◌∙◌, subst, arith}
+use Rattle.std.proofs.Common.{◌≡◌, ℕ, zero, suc, ◌+◌, ◌*◌, ◌/◌, ◌%◌, ◌<◌, ◌≤◌, Bool, true, IsFalse, List, [], ◌∷◌, ◌++◌, length, take, get_or, slice_index_or, inl, inr, refl, sym, ap, ◌∙◌, subst, arith}
 use Rattle.std.specs.Int.{bit_at}
 use Rattle.std.specs.List.{flat_map}
 use Rattle.std.proofs.Math.Seq.{get_or-append_seam}
-use Rattle.std.proofs.lemmas.Bool.{cases_eq}
+use Rattle.std.proofs.lemmas.Bool.{cases_eq, cases_lt}
 use Rattle.std.proofs.lemmas.List.{take_more, get_or_append_left}
 use Rattle.roman_model.specs.Lists.{IsIn, is_empty}
 use Rattle.roman_model.specs.System.{Env, Beh, Sys, Pair, IsSys, env_prev}
@@ -12,9 +12,8 @@ use Rattle.roman_model.proofs.Lists.{by_test, from_push}
 use Rattle.roman_model.proofs.NumberedLists.{numbered_is_arena}
 use Rattle.roman_joint.specs.declared.scene.Scene.{Scene}
 use Rattle.roman_joint.specs.Backward.{from_target, from_env, from_action}
-use Rattle.roman_joint.specs.Bits.{HasBits}
+use Rattle.roman_rules.specs.Bits.{bit_of, HasBits}
 use Rattle.roman_joint.specs.Scenes.{ArePermitted, AreLeading, IsScene}
-use Rattle.roman_joint.proofs.OpenLemmas.{bits_full}
 
 pub empty_list : (xs : List ℕ) → is_empty xs ≡ true → xs ≡ []
 empty_list [] h = refl
@@ -36,6 +35,12 @@ scenes_more env target old new i scene long is before here j x l at = elim (case
       (subst (IsScene env target (i / env.states) (i % env.states)) (sym (at ∙ ap (λ xs. get_or xs j x) is ∙ ap (λ k. get_or (old ++ scene ∷ []) k x) (e ∙ sym long) ∙ get_or-append_seam old scene [] x)) here)
   | inr other ↦ before j x (omega (arith, l, other)) (at ∙ ap (λ xs. get_or xs j x) is ∙ get_or_append_left old (scene ∷ []) x j (omega (arith, l, other, long)))
 ]
+
+-- all numbers that may pass are asked
+bits_full : (test : ℕ → Bool) (n bits : ℕ) → ((j : ℕ) → j < n → bit_at bits j ≡ bit_of (test j)) → ((j : ℕ) → n ≤ j → bit_at bits j ≡ 0) → ((j : ℕ) → n ≤ j → IsFalse (test j)) → HasBits bits test
+bits_full test n bits asked rest past = record {
+  each = λ j m. elim (cases_lt j n) [ inl less ↦ asked j less | inr more ↦ rest j more ∙ sym (ap bit_of (past j more)) ];
+}
 
 -- the actions that a scene allows are those that are allowed at a pair
 pub permitted_at : (s : Sys) (p bits : ℕ) → IsSys s → ArePermitted s.env s.target (pair_at (sizes_of s) p).t (pair_at (sizes_of s) p).e bits → HasBits bits ((numbered s).allows p)

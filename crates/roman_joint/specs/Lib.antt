@@ -3,11 +3,10 @@ pub mod NamedSys
 pub mod Names
 pub mod Behaviours
 pub mod Layout
-pub mod Finding
 pub mod Outcomes
 pub mod Backward
 pub mod Walks
 pub mod Changes
-pub mod Bits
-pub mod Numbered
 pub mod Scenes
+pub mod Rows
+pub mod Marks

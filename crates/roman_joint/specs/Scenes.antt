@@ -3,7 +3,7 @@ use Rattle.std.specs.Prelude.{◌≡◌, ℕ, ◌*◌, ◌/◌, ◌%◌, ◌<◌
 use Rattle.std.specs.Int.{bit_at}
 use Rattle.roman_model.specs.Lists.{IsIn, is_empty}
 use Rattle.roman_model.specs.System.{Env, Beh, env_next, env_prev, beh_next, beh_prev}
-use Rattle.roman_joint.specs.Bits.{bit_of}
+use Rattle.roman_rules.specs.Bits.{bit_of}
 use Rattle.roman_joint.specs.declared.scene.Scene.{Scene}
 
 -- the bits are those of the actions that are allowed in t and e

@@ -5,12 +5,15 @@ ghost use Rattle.roman_model.specs.Numbers.{sizes_of};
 ghost use Rattle.roman_model.specs.declared.limits.TheConstants.{MAX_SERVICES, MAX_CELLS};
 ghost use Rattle.roman_joint.specs.Behaviours.{IsBehaviourOf};
 ghost use Rattle.roman_joint.specs.NamedSys.{NamedSys, system_of, cells, IsOverEnv, TargetIsOverEnv, IsNamedSys};
+ghost use Rattle.roman_joint.specs.Rows.{AreRowsOf};
 
 mod changes;
 mod looks;
+mod rows;
 mod walks;
 
 use crate::error::JointError;
+use crate::layout::{Rows, rows_of};
 use crate::scene::{Scene, all_scenes};
 use crate::seat::Seat;
 use crate::seats::shape_of;
@@ -33,6 +36,7 @@ pub struct Joint {
     // There is room for the greatest number of services.
     seats: Vec<Seat>,
     shape: Shape,
+    rows: Rows,
     // By the target's state and then by the environment's.
     scenes: Vec<Scene>,
     limit: u32,
@@ -91,6 +95,7 @@ impl Joint {
             catalogue,
             target,
             seats: places,
+            rows: rows_of(&shape),
             shape,
             scenes,
             limit,
@@ -149,6 +154,14 @@ impl Joint {
         ensures { result.now ≡ sizes_of (system_of self.now) }
     {
         &self.shape
+    }
+
+    // How the numbers of pairs split into rows and lanes.
+    pub(crate) fn layout(&self) -> &Rows
+        ensures known { IsNamedSys self.now }
+        ensures rows { AreRowsOf (sizes_of (system_of self.now)) result.now }
+    {
+        &self.rows
     }
 
     /// The greatest number of cells that the system may have.

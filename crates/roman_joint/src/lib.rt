@@ -3,29 +3,31 @@
 //!
 //! A joint answers what the system does at a pair: which actions the target allows, whether a final
 //! target rests on a final system, and what an action leads to that is delegated to a service. It
-//! also walks backwards, over the delegations that may lead to a pair. Contracts see a joint as a
+//! also walks backwards, over the delegations that may lead to a pair. What it answers of a pair it
+//! answers of a row of up to 64 neighbouring pairs at once, by words. Contracts see a joint as a
 //! system with its names (`specs/NamedSys`), and its answers as those of the arena over the numbers
-//! of that system's pairs. [`Rules`] is what algorithms over numbered pairs ask of a system: a joint
-//! answers it, and they need not know of its parts.
+//! of that system's pairs.
 #![tactic(auto)]
 
-mod bits;
 mod error;
-mod finding;
+mod fine;
+mod good;
 mod joint;
+mod layout;
+mod marks;
 mod numbered;
-mod open;
 mod outcomes;
-mod rules;
+mod row;
 mod scene;
 mod seat;
 mod seats;
+mod states;
+mod turn;
 mod walk;
+mod words;
 
-pub use bits::with_bit;
 pub use error::{JointError, SeatError};
-pub use finding::Finding;
 pub use joint::Joint;
-pub use rules::Rules;
+pub use row::Row;
 pub use seat::Seat;
 pub use walk::Walk;

@@ -1,22 +1,28 @@
 //! A joint as algorithms over the numbers of its pairs see it.
 
-use crate::finding::Finding;
 use crate::joint::Joint;
-use crate::open;
-use crate::rules::Rules;
+use crate::row::Row;
 use crate::walk::Walk;
 use roman_io::Steps;
+use roman_rules::{Finding, Rules};
 use std::sync::ledger::Ledger;
 
 #[tactic(auto, using(crate::proofs::ArenaFacts::pair_count))]
 impl Rules for Joint {
     ghost use Rattle.roman_model.specs.Numbers.{sizes_of, numbered};
     ghost use Rattle.roman_joint.specs.NamedSys.{system_of};
+    ghost use Rattle.roman_joint.specs.Rows.{lanes_in, IsRow};
     ghost use Rattle.roman_joint.specs.Walks.{IsWalk, left as left_of_walk};
 
     type Walk = Walk;
 
     ghost arena = { λ joint. numbered (system_of joint) };
+
+    type Row = Row;
+
+    ghost lanes = { λ joint. lanes_in (system_of joint) };
+
+    ghost is_row = { λ joint x row. IsRow (system_of joint) x row };
 
     ghost sizes = { λ joint. sizes_of (system_of joint) };
 
@@ -56,12 +62,42 @@ impl Rules for Joint {
         Joint::final_ok(self, p)
     }
 
-    fn open_masks(&self, p: u32, masks: &mut [u32]) {
-        open::open_masks(self, p, masks);
+    fn lanes(&self) -> u32 {
+        Joint::lanes(self)
     }
 
-    fn next_open_masks(&self, p: u32, masks: &mut [u32]) {
-        open::next_open_masks(self, p, masks);
+    fn rows(&self) -> u32 {
+        Joint::rows(self)
+    }
+
+    fn row(&self, x: u32) -> Row {
+        Joint::row(self, x)
+    }
+
+    fn row_actions(&self, row: &Row) -> u32 {
+        Joint::row_actions(self, row)
+    }
+
+    fn unfine(&self, row: &Row) -> u64 {
+        Joint::unfine(self, row)
+    }
+
+    fn good(&self, row: &Row, words: &[u64], a: u8, k: u8) -> u64 {
+        Joint::good(self, row, words, a, k)
+    }
+
+    fn unserved(&self, row: &Row, words: &[u64], a: u8, wanted: u64) -> u64 {
+        Joint::unserved(self, row, words, a, wanted)
+    }
+
+    fn mark_before<L: Ledger>(
+        &self,
+        row: &Row,
+        lost: u64,
+        marks: &mut [u64],
+        steps: &mut Steps<L>,
+    ) {
+        Joint::mark_before(self, row, lost, marks, steps);
     }
 
     fn examine<F: Fn(u32) -> bool, L: Ledger>(

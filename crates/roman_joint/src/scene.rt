@@ -5,8 +5,8 @@ ghost use Rattle.roman_model.specs.System.{env_prev, beh_prev};
 ghost use Rattle.roman_joint.specs.NamedSys.{TargetIsOverEnv};
 ghost use Rattle.roman_joint.specs.Scenes.{ArePermitted, AreLeading, IsScene, AreScenes};
 
-use crate::bits::with_bit;
 use roman_parts::{Environment, Target};
+use roman_rules::with_bit;
 use std::alloc::{AllocError, Global};
 
 /// A state of the target and one of the environment, and what they say of each action.

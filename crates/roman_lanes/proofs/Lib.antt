@@ -1,3 +1,4 @@
 pub mod MaskBits
+pub mod RowBits
 mod Lanes
 mod Blocks

@@ -4,6 +4,7 @@ use Rattle.roman_model.specs.Numbers.{Sizes, count}
 use Rattle.roman_radix.specs.declared.shape.Shape.TheInside.{Inside}
 use Rattle.roman_radix.specs.Radix.{IsSizes, stride_of, env_stride_of, target_stride_of}
 use Rattle.roman_radix.specs.Places.{padded, strides_of}
+use Rattle.roman_radix.specs.Rows.{low_of, lanes_of}
 use Rattle.roman_radix.specs.Layout.{sizes_in, IsLaidOut}
 use Rattle.roman_radix.proofs.Strides.{product_positive, AreSizes-drop, AreSizes-index, stride_at, size_at}
 
@@ -17,6 +18,8 @@ pub record Shows (a : Inside) (n : Sizes) : Type 0 where
   pub env_stride : a.env_stride ≡ env_stride_of n
   pub target_stride : a.target_stride ≡ target_stride_of n
   pub pairs : a.pairs ≡ count n
+  pub low : a.low ≡ low_of n.seats
+  pub lanes : a.lanes ≡ lanes_of n.seats
 
 pub shown : (a : Inside) (n : Sizes) → IsLaidOut a → sizes_in a ≡ n → Shows a n
 shown a n h e =
@@ -31,6 +34,8 @@ shown a n h e =
       env_stride = h.env_stride;
       target_stride = h.target_stride;
       pairs = h.pairs;
+      low = h.low;
+      lanes = h.lanes;
     })
 
 pub record StrideIs (n : Sizes) (k stride : ℕ) : Type 0 where

@@ -1,3 +1,4 @@
 pub mod Radix
 pub mod Places
 pub mod Layout
+pub mod Rows

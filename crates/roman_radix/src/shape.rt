@@ -1,17 +1,21 @@
 //! Shapes: how many states each part of a pair has, and the pairs' numbers.
 
-ghost use Rattle.std.specs.Prelude.{◌≡◌, ◌/◌, ◌%◌, ◌^◌, ◌<◌, ◌≤◌, ◌↔◌, length, take, slice_index, IsTrue, IsSome, IfSome, All};
+ghost use Rattle.std.specs.Prelude.{◌≡◌, ◌*◌, ◌/◌, ◌%◌, ◌^◌, ◌<◌, ◌≤◌, ◌↔◌, length, take, slice_index, IsTrue, IsSome, IfSome, All};
 ghost use Rattle.roman_model.specs.Lists.{product_of};
 ghost use Rattle.roman_model.specs.Numbers.{IsPairOf, grown_sizes, sizes_without, count, number, pair_at};
 ghost use Rattle.roman_model.specs.Change.{grown, without};
 ghost use Rattle.roman_radix.specs.Radix.{IsSizes, stride_of, env_stride_of, target_stride_of, with_part, moved, AreSizes};
 ghost use Rattle.roman_radix.specs.Places.{padded, strides_of};
+ghost use Rattle.roman_radix.specs.Rows.{low_of, lanes_of};
 
 use roman_model::MAX_SERVICES;
 use std::marker::Model;
 
 /// The greatest number of components.
 const PLACES: usize = MAX_SERVICES as usize;
+
+/// The greatest number of pairs in a row: a bit of a word for each.
+const MAX_LANES: u32 = 64;
 
 /// How many states the target, the environment and each component of a pair have.
 ///
@@ -30,6 +34,8 @@ pub struct Shape {
     env_stride: u32,
     sizes: [u8; PLACES],
     strides: [u32; PLACES],
+    low: u8,
+    lanes: u32,
 }
 
 impl Model for Shape {
@@ -78,6 +84,31 @@ impl Shape {
         let _pairs = &self.pairs;
     }
 
+    /// How many components stand before the lanes: the last components, as many of them as have at
+    /// most 64 states together, are a pair's lane in its row. The others are in one state at all pairs
+    /// of a row, and so are the target and the environment.
+    pub fn low(&self) -> u8
+        ensures value { result ≡ low_of self.now.seats }
+        ensures within { result ≤ length self.now.seats }
+    {
+        self.low
+    }
+
+    /// How many pairs a row has: pair p is lane `p % lanes` of row `p / lanes`.
+    pub fn lanes(&self) -> u32
+        ensures value { result ≡ lanes_of self.now.seats }
+        ensures few { (0 < result) × (result ≤ 64) }
+    {
+        self.lanes
+    }
+
+    /// How many rows there are.
+    pub fn rows(&self) -> u32
+        ensures { result * lanes_of self.now.seats ≡ count self.now }
+    {
+        self.pairs / self.lanes
+    }
+
     /// What one more state of the target adds to a pair's number.
     pub fn target_stride(&self) -> u32
         ensures { result ≡ target_stride_of self.now }
@@ -98,6 +129,21 @@ impl Shape {
         ensures { result ≡ stride_of self.now k }
     {
         self.strides[k as usize]
+    }
+
+    /// How many components there are.
+    pub fn components(&self) -> u8
+        ensures { result ≡ length self.now.seats }
+    {
+        self.components
+    }
+
+    /// How many states component k has.
+    pub fn size(&self, k: u8) -> u8
+        requires { k < length self.now.seats }
+        ensures { result ≡ slice_index self.now.seats k }
+    {
+        self.sizes[k as usize]
     }
 
     /// The number of the pair with these states.
@@ -303,6 +349,27 @@ fn strides_over(components: u8, sizes: &[u8; PLACES]) -> ([u32; PLACES], u32)
     (strides, stride)
 }
 
+/// How many components stand before the lanes, and how many lanes there are.
+fn lanes_over(components: u8, sizes: &[u8; PLACES]) -> (u8, u32)
+    requires few { components ≤ MAX_SERVICES }
+    requires padded { sizes.now ≡ padded (take components sizes.now) }
+    requires positive { AreSizes (take components sizes.now) }
+    ensures low { result.0 ≡ low_of (take components sizes.now) }
+    ensures lanes { result.1 ≡ lanes_of (take components sizes.now) }
+{
+    let mut low = components;
+    let mut lanes: u32 = 1;
+    while low > 0 {
+        let more = lanes * u32::from(sizes[low as usize - 1]);
+        if more > MAX_LANES {
+            return (low, lanes);
+        }
+        lanes = more;
+        low -= 1;
+    }
+    (low, lanes)
+}
+
 /// The shape of these sizes, padded with zeros.
 fn lay_out(target: u8, env: u8, components: u8, sizes: [u8; PLACES]) -> Shape
     requires few { components ≤ MAX_SERVICES }
@@ -312,6 +379,7 @@ fn lay_out(target: u8, env: u8, components: u8, sizes: [u8; PLACES]) -> Shape
 {
     let (strides, env_stride) = strides_over(components, &sizes);
     let target_stride = u32::from(env) * env_stride;
+    let (low, lanes) = lanes_over(components, &sizes);
     Shape {
         target,
         env,
@@ -321,6 +389,8 @@ fn lay_out(target: u8, env: u8, components: u8, sizes: [u8; PLACES]) -> Shape
         env_stride,
         sizes,
         strides,
+        low,
+        lanes,
     }
 }
 
@@ -341,6 +411,8 @@ mod tests {
         let grown = shape.grow(5, 240).ok_or("240 pairs")?;
         assert_eq!(rt; shape.grown(45, 5, 2), 227);
         assert_eq!(rt; grown.part_of(227, 1), 1);
+        assert_eq!(rt; grown.low(), 0);
+        assert_eq!(rt; grown.rows(), 6);
         Ok(())
     }
 }

@@ -10,6 +10,7 @@ ghost use Rattle.roman_joint.specs.Changes.{with_frozen};
 
 use super::Joint;
 use crate::error::SeatError;
+use crate::layout::rows_of;
 use crate::seat::Seat;
 use roman_model::MAX_SERVICES;
 
@@ -31,6 +32,7 @@ impl Joint {
     {
         let _seat = self.seats.remove(k as usize);
         self.shape = self.shape.shrink(k);
+        self.rows = rows_of(&self.shape);
     }
 
     /// Adds a service, whose name is new, at the last place.
@@ -56,6 +58,7 @@ impl Joint {
         let Some(shape) = self.shape.grow(size, cap) else {
             return Err(SeatError::Limit);
         };
+        self.rows = rows_of(&shape);
         self.shape = shape;
         self.seats.push_reserved(seat);
         Ok(())

@@ -3,18 +3,18 @@ ghost use Rattle.std.specs.Prelude.{◌≡◌, ℕ, ◌+◌, ◌<◌, ◌≤◌,
 ghost use Rattle.roman_model.specs.Lists.{IsIn, is_empty};
 ghost use Rattle.roman_model.specs.Numbers.{sizes_of, count, pair_at, numbered};
 ghost use Rattle.roman_model.specs.declared.limits.TheConstants.{MAX_CELLS};
-ghost use Rattle.roman_joint.specs.Bits.{HasBits};
+ghost use Rattle.roman_rules.specs.Bits.{HasBits};
 ghost use Rattle.roman_joint.specs.NamedSys.{system_of};
 ghost use Rattle.roman_joint.specs.Scenes.{IsScene};
-ghost use Rattle.roman_joint.specs.Finding.{Finds};
+ghost use Rattle.roman_rules.specs.Finding.{Finds};
 ghost use Rattle.roman_joint.specs.Outcomes.{outcome_number, outcome_numbers, IsPlaced};
 
 use super::Joint;
-use crate::finding::Finding;
 use crate::outcomes::{Outcomes, outcome_gone};
 use crate::scene::Scene;
 use crate::seats::are_final;
 use roman_io::Steps;
+use roman_rules::Finding;
 use std::sync::ledger::Ledger;
 
 impl Joint {

@@ -1,6 +1,6 @@
 use Rattle.std.proofs.Common.{◌≡◌, ℕ, ◌<◌, List, [], length, get_or, sym, ap, ◌∙◌, subst}
 use Rattle.roman_model.specs.System.{env_prev, beh_prev}
-use Rattle.roman_joint.proofs.OpenLemmas.{len_empty}
+use Rattle.roman_joint.proofs.SeatRead.{len_empty}
 use Rattle.roman_joint.proofs.SceneLemmas.{empty_list, none_more}
 use Rattle.roman_joint.proofs.scene.may_lead.Goals as goal
 

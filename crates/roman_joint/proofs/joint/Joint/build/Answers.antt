@@ -5,6 +5,7 @@ use Rattle.roman_model.specs.Numbers.{sizes_of}
 use Rattle.roman_parts.specs.Named.{NamedBeh}
 use Rattle.roman_joint.specs.declared.seat.Seat.{Seat}
 use Rattle.roman_joint.specs.NamedSys.{NamedSys, system_of, cells, IsNamedSys}
+use Rattle.roman_joint.specs.Rows.{AreRowsOf}
 use Rattle.roman_joint.proofs.joint.Joint.build.Goals as goal
 
 pub invariant_of-result : goal.invariant_of-result
@@ -23,9 +24,11 @@ invariant_of-result c =
     } in
     let seats : c.loop-seat.places.items ≡ c.args.seats.items =
     c.loop-seat.invariant.items ∙ (take_all c.loop-seat.seat-index c.deref-seat-items.result.now c.loop-seat-test.false ∙ c.deref-seat-items.ensures.value) in
+    let shape = c.in-Some.ensures.shape ∙ (ap (λ m. sizes_of (system_of m)) same ∙ ap (λ xs. sizes_of (system_of (named c.args.catalogue.items xs))) (sym seats)) in
     record {
       known = subst (λ xs. IsNamedSys (named c.args.catalogue.items xs)) (sym seats) known;
-      shape = c.in-Some.ensures.shape ∙ (ap (λ m. sizes_of (system_of m)) same ∙ ap (λ xs. sizes_of (system_of (named c.args.catalogue.items xs))) (sym seats));
+      shape = shape;
+      rows = subst (λ m. AreRowsOf m c.rows_of.result) shape c.rows_of.ensures;
       scenes = c.in-Ok-all_scenes.ensures;
       room = c.loop-seat.invariant.room;
     }

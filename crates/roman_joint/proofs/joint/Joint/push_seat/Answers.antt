@@ -7,6 +7,7 @@ use Rattle.roman_model.specs.Numbers.{sizes_of, count, grown_sizes}
 use Rattle.roman_model.specs.declared.limits.TheConstants.{MAX_SERVICES}
 use Rattle.roman_joint.specs.NamedSys.{NamedSys, beh_at, seat_of, system_of, cells, IsOverEnv, IsNamedSys}
 use Rattle.roman_joint.specs.Layout.{named_sys_in}
+use Rattle.roman_joint.specs.Rows.{AreRowsOf}
 use Rattle.roman_joint.proofs.SeatLemmas.{beh_read, few_states}
 use Rattle.roman_joint.proofs.SeatChanges.{with_seats, joined_known, joined_sizes, joined_test, more_than}
 use Rattle.roman_joint.proofs.joint.Joint.push_seat.Goals as goal
@@ -74,10 +75,12 @@ invariant_of-self c =
     let fits : cells (after (Join (seat_of n.catalogue c.args.seat)) (system_of n)) ≤ n.limit = test.0 (c.in-Some.ensures.fits.0 refl) in
     let new = rw (← c.self.view_is) at c.requires.name in
     let seats : c.push_reserved.new.self.items ≡ n.seats ++ c.args.seat ∷ [] = c.push_reserved.ensures.items in
+    let shape = c.in-Some.ensures.shape ∙ (ap₂ (λ m k. grown_sizes m k) c.self.invariant.shape size
+    ∙ (joined_sizes n c.args.seat ∙ ap (λ xs. sizes_of (system_of (with_seats n xs))) (sym seats))) in
     record {
       known = subst (λ xs. IsNamedSys (with_seats n xs)) (sym seats) (joined_known n c.args.seat known room place beh new fits);
-      shape = c.in-Some.ensures.shape ∙ (ap₂ (λ m k. grown_sizes m k) c.self.invariant.shape size
-          ∙ (joined_sizes n c.args.seat ∙ ap (λ xs. sizes_of (system_of (with_seats n xs))) (sym seats)));
+      shape = shape;
+      rows = subst (λ m. AreRowsOf m c.rows_of-self-inside.result) shape c.rows_of-self-inside.ensures;
       scenes = c.self.invariant.scenes;
       room = omega (arith, c.push_reserved.ensures.capacity, c.self.invariant.room);
     }

@@ -1,17 +1,51 @@
-use Rattle.std.proofs.Common.{◌≡◌, ◌+◌, ◌-◌, ◌*◌, ◌<◌, ◌≤◌, length, get_or, slice_index, slice_set, refl, sym, ap, ap₂, ◌∙◌, subst, arith}
-use Rattle.std.proofs.lemmas.Option.{slice_get_within}
-use Rattle.roman_model.specs.System.{Beh, beh_prev}
+use Rattle.std.proofs.Common.{◌≡◌, ℕ, List, [], drop, cond, ◌+◌, ◌-◌, ◌*◌, ◌<◌, ◌≤◌, length, get_or, slice_get, slice_index, slice_set, refl, sym, ap, ap₂, ◌∙◌, subst, arith}
+use Rattle.std.proofs.lemmas.List.{drop_all}
+use Rattle.std.proofs.lemmas.Option.{slice_get_within, slice_get_past}
+use Rattle.roman_model.specs.System.{Sys, Pair, Beh, beh_prev}
 use Rattle.roman_model.specs.Numbers.{sizes_of, count, number}
 use Rattle.roman_model.specs.declared.limits.TheConstants.{MAX_CELLS}
 use Rattle.roman_model.proofs.NumberLemmas.{numbers_are_pairs}
 use Rattle.roman_model.proofs.SystemLemmas.{seat_in}
 use Rattle.roman_radix.specs.Radix.{stride_of}
 use Rattle.roman_joint.specs.NamedSys.{system_of, seat_of}
+use Rattle.roman_joint.specs.Backward.{seat_prev, from_states}
 use Rattle.roman_joint.specs.Walks.{goal_of}
 use Rattle.roman_joint.proofs.Rows.{SeatMoves, seat_moves, state_in_range, count_fits}
-use Rattle.roman_joint.proofs.Shown.{Shows, shown, Reads, reads}
+use Rattle.roman_joint.proofs.SeatLemmas.{seat_there}
+use Rattle.roman_joint.proofs.Shown.{Shows, shown, seats_shown, Reads, reads}
 use Rattle.roman_joint.proofs.WalkLemmas.{Passes, passes_state, no_state_left, few_beh_prev}
 use Rattle.roman_joint.proofs.joint.Joint.take_state.Goals as goal
+
+-- where there are no states before, nothing is left
+no_states : (s : Sys) (q : Pair) (a e t k taken : ℕ) → seat_prev (slice_get s.seats k) (slice_index q.bs k) e a ≡ [] →
+    from_states s q a e t k (drop taken (seat_prev (slice_get s.seats k) (slice_index q.bs k) e a)) ≡ []
+no_states s q a e t k taken none = ap (λ bs. from_states s q a e t k (drop taken bs)) none ∙ ap (from_states s q a e t k) (drop_all taken [] (omega arith))
+
+pub returns-then-k-len-clause-taken : goal.returns-then-k-len-clause-taken
+returns-then-k-len-clause-taken c =
+    let a = c.self.inside in
+    let n = c.args.self.now in
+    let w = c.args.walk.now in
+    let s = system_of n in
+    let fields : Shows a n = shown a n c.self.invariant c.self.view_is in
+    let past : length s.seats ≤ w.seat = omega (arith, c.if-k-len.true, c.len.ensures, seats_shown a n fields) in
+    (refl, no_states s (goal_of s w) w.action w.env w.target w.seat w.states_taken (ap (λ o. seat_prev o (slice_index (goal_of s w).bs w.seat) w.env w.action) (slice_get_past s.seats w.seat past)))
+
+pub returns-then-seat-clause-taken : goal.returns-then-seat-clause-taken
+returns-then-seat-clause-taken c =
+    let a = c.self.inside in
+    let n = c.args.self.now in
+    let w = c.args.walk.now in
+    let s = system_of n in
+    let fields : Shows a n = shown a n c.self.invariant c.self.view_is in
+    let x = c.index-seat.result.now in
+    let within : w.seat < length n.seats = omega (arith, c.if-k-len.false, c.len.ensures, a.seats.ok.0, ap length fields.seats) in
+    let seated = seat_there n.catalogue n.seats w.seat x within (c.index-seat.ensures ∙ ap (λ xs. get_or xs w.seat x) fields.seats) in (
+      refl,
+      no_states s (goal_of s w) w.action w.env w.target w.seat w.states_taken
+          (ap (λ o. seat_prev o (slice_index (goal_of s w).bs w.seat) w.env w.action) seated
+          ∙ ap (λ f. cond f [] (beh_prev (seat_of n.catalogue x).beh (slice_index (goal_of s w).bs w.seat) w.env w.action)) c.if-seat.true),
+    )
 
 pub into-states-requires-clause-state : goal.into-states-requires-clause-state
 into-states-requires-clause-state c =

@@ -1,0 +1,381 @@
+-- Where a seat serves an action at the pairs of a row.
+use Rattle.std.proofs.Common.{◌≡◌, ℕ, zero, suc, ◌+◌, ◌-◌, ◌*◌, ◌/◌, ◌%◌, ◌<◌, ◌≤◌, ◌^◌, Bool, true, false, not, ◌&&◌, ◌||◌, eqb, ltb, inl, inr, get_or, List, [], ◌∷◌, length, map, slice_get, slice_index, IsTrue, IsFalse, refl, sym, ap, ap₂, ◌∙◌, subst, arith}
+use Rattle.std.specs.List.{list_any}
+use Rattle.std.proofs.lemmas.List.{length-map}
+use Rattle.std.proofs.lemmas.Nat.{mul-add-lt, mul-le, mod_below, div_below, div-mul-add, mod-mul-add, div-add-mod'}
+use Rattle.std.proofs.lemmas.Bool.{cases_lt, cases_eq, eq-eqb, ne_eqb, eqb-true, lt-ltb, le-ltb}
+use Rattle.roman_model.specs.Lists.{IsIn, is_empty}
+use Rattle.roman_model.proofs.Lists.{length-below, by_test, any_same}
+use Rattle.roman_model.specs.System.{Sys, Seat, IsSys, beh_next, seat_next}
+use Rattle.roman_model.proofs.SystemLemmas.{triple_in_range, from_env_next}
+use Rattle.roman_model.specs.Arena.{Arena, is_beaten}
+use Rattle.roman_model.specs.Numbers.{Sizes, sizes_of, count, pair_at, numbered}
+use Rattle.roman_radix.specs.Radix.{IsSizes, stride_of, env_stride_of}
+use Rattle.roman_radix.specs.Rows.{low_of, lanes_of, env_rows_of, target_rows_of}
+use Rattle.roman_radix.proofs.Strides.{AreSizes-index, product_positive}
+use Rattle.roman_radix.proofs.RowLemmas.{low_of-le, lanes_few, lanes_positive, row_least, row_below, env_rows_are}
+use Rattle.roman_lanes.specs.Rows.{is_on, HasLanes, AreRows}
+use Rattle.roman_rules.specs.Numbered.{IsNumbered}
+use Rattle.roman_joint.specs.NamedSys.{NamedSys, system_of, seat_of, IsNamedSys}
+use Rattle.roman_joint.specs.Rows.{lanes_in, low_in, has_state, AreRowsOf, IsRow, IsTurn, AreAlive}
+use Rattle.roman_joint.specs.declared.layout.Rows.{Rows}
+use Rattle.roman_joint.specs.declared.row.Row.{Row}
+use Rattle.roman_joint.specs.declared.turn.Turn.{Turn}
+use Rattle.roman_joint.proofs.ArenaFacts.{joint_numbered}
+use Rattle.roman_joint.proofs.OutcomeLemmas.{StartsAt, target_in_range}
+use Rattle.roman_joint.proofs.WordLemmas.{on_zero, on_shl, on_below, not_not}
+use Rattle.roman_joint.proofs.SplitLemmas.{joint_sizes, factor}
+use Rattle.roman_joint.proofs.LeadLemmas.{leads_within, leads_served, leads_nothing, any_turned, start_before, leads_before, LaneState, lanes_parts, stride_positive, lane_state, leads_lanes}
+
+-- What is known of a row.
+pub record Known (s : Sys) (r : Rows) (x : ℕ) (row : Row) : Type 0 where
+  pub nodes : IsNumbered (numbered s)
+  pub sys : IsSys s
+  pub sizes : IsSizes (sizes_of s)
+  pub laid : AreRowsOf (sizes_of s) r
+  pub looked : IsRow s x row
+
+pub known : (n : NamedSys) (r : Rows) (x : ℕ) (row : Row) → IsNamedSys n → AreRowsOf (sizes_of (system_of n)) r → IsRow (system_of n) x row → Known (system_of n) r x row
+known n r x row ok laid looked = record { nodes = joint_numbered n ok; sys = ok.system; sizes = joint_sizes n ok; laid = laid; looked = looked }
+
+pub width_positive : (s : Sys) → IsSizes (sizes_of s) → 0 < lanes_in s
+width_positive s sizes = lanes_positive (sizes_of s).seats sizes.seats
+
+pub env_rows_positive : (s : Sys) → IsSizes (sizes_of s) → 0 < env_rows_of (sizes_of s)
+env_rows_positive s sizes = by (env_rows_of (sizes_of s)) (lanes_in s) (env_stride_of (sizes_of s)) (env_rows_are (sizes_of s)) (product_positive (sizes_of s).seats sizes.seats)
+  where
+    by : (r w m : ℕ) → r * w ≡ m → 0 < m → 0 < r
+    by zero w m e pos = absurd (omega arith)
+    by (suc r) w m e pos = omega arith
+
+-- the rows are as many as the words
+pub rows_all : (s : Sys) (long : ℕ) → IsSizes (sizes_of s) → long * lanes_in s ≡ count (sizes_of s) → long ≡ s.target.states * s.env.states * env_rows_of (sizes_of s)
+rows_all s long sizes room =
+    let n = sizes_of s in
+    let whole : s.target.states * s.env.states * (env_rows_of n * lanes_in s) ≡ count n = ap (λ m. s.target.states * s.env.states * m) (env_rows_are n) in
+    factor long (s.target.states * s.env.states * env_rows_of n) (lanes_in s) (width_positive s sizes) (room ∙ (sym whole ∙ omega arith))
+
+-- a row at other states of the target and the environment is one
+pub row_there : (target env r to e part : ℕ) → to < target → e < env → part < r → to * (env * r) + part + e * r < target * env * r
+row_there target env r to e part a b c =
+    let front : to * env + e < env * target = mul-add-lt to env e target a b in
+    let whole : (to * env + e) * r + part < r * (env * target) = mul-add-lt (to * env + e) r part (env * target) front c in
+    let left : (to * env + e) * r + part ≡ to * (env * r) + part + e * r = omega arith in
+    let right : r * (env * target) ≡ target * env * r = omega arith in
+    omega arith
+
+pub part_below : (s : Sys) (x : ℕ) (row : Row) → IsSizes (sizes_of s) → IsRow s x row → row.part < env_rows_of (sizes_of s)
+part_below s x row sizes ok = subst (λ m. m < env_rows_of (sizes_of s)) (sym ok.part) (mod_below x (env_rows_of (sizes_of s)) (env_rows_positive s sizes))
+
+pub rows_few : (s : Sys) (long : ℕ) → IsSizes (sizes_of s) → long * lanes_in s ≡ count (sizes_of s) → long < 2 ^ 32
+rows_few s long sizes room =
+    let pos = width_positive s sizes in
+    let less : long * 1 ≤ long * lanes_in s = mul-le long 1 long (lanes_in s) (omega arith) (omega arith) in
+    omega (arith, less, room, sizes.counted)
+
+-- the first row of a turn is a number of 32 bits
+pub turn_fits : (n : NamedSys) (r : Rows) (x : ℕ) (row : Row) (to : ℕ) → IsNamedSys n → AreRowsOf (sizes_of (system_of n)) r → IsRow (system_of n) x row → to < (system_of n).target.states →
+    (to * r.target_rows < 2 ^ 32) × (to * r.target_rows + row.part < 2 ^ 32)
+turn_fits n r x row to ok laid looked in_target =
+    let s = system_of n in
+    let sizes = joint_sizes n ok in
+    let there = row_there s.target.states s.env.states (env_rows_of (sizes_of s)) to 0 row.part in_target ok.system.env.states.0 (part_below s x row sizes looked) in
+    let few : s.target.states * s.env.states * env_rows_of (sizes_of s) < 2 ^ 32 = all_few s sizes in
+    let base : to * r.target_rows ≡ to * (s.env.states * env_rows_of (sizes_of s)) = ap (λ m. to * m) laid.target in
+    (omega (arith, there, few, base), omega (arith, there, few, base))
+  where
+    all_few : (s : Sys) → IsSizes (sizes_of s) → s.target.states * s.env.states * env_rows_of (sizes_of s) < 2 ^ 32
+    all_few s sizes =
+        let n = sizes_of s in
+        let whole : s.target.states * s.env.states * (env_rows_of n * lanes_in s) ≡ count n = ap (λ m. s.target.states * s.env.states * m) (env_rows_are n) in
+        let turned : s.target.states * s.env.states * (env_rows_of n * lanes_in s) ≡ s.target.states * s.env.states * env_rows_of n * lanes_in s = omega arith in
+        rows_few s (s.target.states * s.env.states * env_rows_of n) sizes (sym turned ∙ whole)
+
+-- the rows of a turn
+pub record RowsThere (s : Sys) (r : Rows) (row : Row) (turn : Turn) (long : ℕ) : Type 0 where
+  pub inside : turn.base < long
+  pub there : (e : ℕ) → IsIn e turn.envs.now → turn.base + e * r.env_rows < long
+  pub few : long < 2 ^ 32
+
+pub rows_there : (s : Sys) (r : Rows) (x a long : ℕ) (row : Row) (turn : Turn) → Known s r x row → IsTurn s row a turn → long * lanes_in s ≡ count (sizes_of s) → RowsThere s r row turn long
+rows_there s r x a long row turn h ok room =
+    let n = sizes_of s in
+    let in_target : ok.to < s.target.states = target_in_range s row.target row.env a ok.to h.sys ok.target in
+    let all = rows_all s long h.sizes room in
+    let part = part_below s x row h.sizes h.looked in
+    let begins : ok.to * (s.env.states * env_rows_of n) + row.part + 0 * env_rows_of n < s.target.states * s.env.states * env_rows_of n =
+    row_there s.target.states s.env.states (env_rows_of n) ok.to 0 row.part in_target h.sys.env.states.0 part in
+    record {
+      inside = omega (arith, begins, all, ok.base);
+      there = λ e i.
+          let env : e < s.env.states = (triple_in_range s.env row.env a e h.sys.env (from_env_next s.env row.env a e (subst (λ es. IsIn e es) ok.worlds i))).2 in
+          let at : ok.to * (s.env.states * env_rows_of n) + row.part + e * env_rows_of n < s.target.states * s.env.states * env_rows_of n =
+          row_there s.target.states s.env.states (env_rows_of n) ok.to e row.part in_target env part in
+          let rows : e * r.env_rows ≡ e * env_rows_of n = ap (λ m. e * m) h.laid.env in
+          omega (arith, at, all, ok.base, rows);
+      few = rows_few s long h.sizes room;
+    }
+
+-- the rows to which a seat before the lanes goes
+pub record RowsBefore (r : Rows) (turn : Turn) (k part long : ℕ) (states : List ℕ) : Type 0 where
+  pub taken : part * slice_index r.strides k ≤ turn.base
+  pub there : (e b : ℕ) → IsIn e turn.envs.now → IsIn b states → turn.base - part * slice_index r.strides k + e * r.env_rows + b * slice_index r.strides k < long
+
+pub rows_before : (s : Sys) (r : Rows) (x a k part long : ℕ) (row : Row) (turn : Turn) (states : List ℕ) → Known s r x row → IsTurn s row a turn → k < low_in s → long * lanes_in s ≡ count (sizes_of s) →
+    states ≡ seat_next (slice_get s.seats k) (slice_index row.states k) row.env a → part ≡ slice_index row.states k → RowsBefore r turn k part long states
+rows_before s r x a k part long row turn states h ok before room is_states is_part =
+    let n = sizes_of s in
+    let w = lanes_in s in
+    let u = slice_index r.strides k in
+    let own = slice_index row.states k in
+    let pos : 0 < w = width_positive s h.sizes in
+    let in_target : ok.to < s.target.states = target_in_range s row.target row.env a ok.to h.sys ok.target in
+    let start = start_before s row x 0 k ok.to u h.sys h.looked pos before in_target (h.laid.before k before) in
+    let product : own * (u * w) ≡ own * u * w = omega arith in
+    let sum : ok.to * target_rows_of n * w + (row.part * w + 0) ≡ (ok.to * target_rows_of n + row.part) * w + 0 = omega arith in
+    let taken : own * u ≤ ok.to * target_rows_of n + row.part = row_least (own * u) (ok.to * target_rows_of n + row.part) w 0 pos (omega (arith, start.taken, product, sum)) in
+    let same : part * u ≡ own * u = ap (λ m. m * u) is_part in
+    let base : turn.base - part * u ≡ ok.to * target_rows_of n + row.part - own * u = ap₂ (λ m l. m - l) ok.base same in
+    let leads = leads_before s row x 0 a k ok.to (turn.base - part * u) u turn.envs.now states h.sys h.looked pos before (h.laid.before k before) ok.target ok.worlds is_states base in
+    record {
+      taken = omega (arith, taken, same, ok.base);
+      there = λ e b i j.
+          let below : (turn.base - part * u + e * env_rows_of n + b * u) * w + 0 < length (numbered s).nodes =
+          leads_within (numbered s) (x * w + 0) a k e b turn.envs.now states (λ c d. (turn.base - part * u + c * env_rows_of n + d * u) * w + 0) h.nodes
+          (omega (arith, h.looked.below 0 pos, length-below (count n))) leads i j in
+          let row_in : turn.base - part * u + e * env_rows_of n + b * u < long = row_below (turn.base - part * u + e * env_rows_of n + b * u) w 0 long (omega (arith, below, room, length-below (count n))) in
+          let rows : e * r.env_rows ≡ e * env_rows_of n = ap (λ m. e * m) h.laid.env in
+          omega (arith, row_in, rows);
+    }
+
+pub full_on : (n : Sizes) (r : Rows) (lane : ℕ) → AreRowsOf n r → lane < lanes_of n.seats → is_on r.full lane ≡ true
+full_on n r lane laid l = laid.full lane ∙ lt-ltb lane (lanes_of n.seats) l
+
+pub full_off : (n : Sizes) (r : Rows) (lane : ℕ) → AreRowsOf n r → lanes_of n.seats ≤ lane → is_on r.full lane ≡ false
+full_off n r lane laid l = laid.full lane ∙ le-ltb lane (lanes_of n.seats) l
+
+-- where a seat before the lanes serves
+pub serves_before : (s : Sys) (r : Rows) (x a k part word : ℕ) (row : Row) (turn : Turn) (states words : List ℕ) (gone : ℕ → Bool) → Known s r x row → IsTurn s row a turn → k < low_in s →
+    length words * lanes_in s ≡ count (sizes_of s) → states ≡ seat_next (slice_get s.seats k) (slice_index row.states k) row.env a → part ≡ slice_index row.states k → IsFalse (is_empty states) →
+    AreRows (lanes_in s) (λ q. not (gone q)) words →
+    ((lane : ℕ) → is_on word lane ≡ (is_on r.full lane && not (list_any (λ e. list_any (λ b. not (is_on (slice_index words (turn.base - part * slice_index r.strides k + e * r.env_rows + b * slice_index r.strides k)) lane)) states) turn.envs.now))) →
+    HasLanes (lanes_in s) x (λ p. not (is_beaten (numbered s) gone p a k)) word
+serves_before s r x a k part word row turn states words gone h ok before room is_states is_part some rows told = record {
+  each = λ lane l. told lane ∙ (ap (λ b. b && not (list_any (λ e. list_any (test lane e) states) turn.envs.now)) (full_on n r lane h.laid l)
+      ∙ leads_served (numbered s) gone (x * w + lane) a k turn.envs.now states (to lane) (test lane)
+      (leads_before s row x lane a k ok.to (turn.base - part * u) u turn.envs.now states h.sys h.looked l before (h.laid.before k before) ok.target ok.worlds is_states (ap₂ (λ m d. m - d * u) ok.base is_part))
+      ok.some some (λ e b i j. same lane e b l i j));
+  rest = λ lane l. told lane ∙ ap (λ b. b && not (list_any (λ e. list_any (test lane e) states) turn.envs.now)) (full_off n r lane h.laid l);
+}
+  where
+    n : Sizes
+    n = sizes_of s
+
+    w : ℕ
+    w = lanes_in s
+
+    u : ℕ
+    u = slice_index r.strides k
+
+    test : ℕ → ℕ → ℕ → Bool
+    test lane e b = not (is_on (slice_index words (turn.base - part * u + e * r.env_rows + b * u)) lane)
+
+    to : ℕ → ℕ → ℕ → ℕ
+    to lane e b = (turn.base - part * u + e * env_rows_of n + b * u) * w + lane
+
+    same : (lane e b : ℕ) → lane < w → IsIn e turn.envs.now → IsIn b states → test lane e b ≡ gone (to lane e b)
+    same lane e b l i j =
+        let all = rows_before s r x a k part (length words) row turn states h ok before room is_states is_part in
+        let here : is_on (slice_index words (turn.base - part * u + e * r.env_rows + b * u)) lane ≡ not (gone ((turn.base - part * u + e * r.env_rows + b * u) * w + lane)) =
+        (rows.each (turn.base - part * u + e * r.env_rows + b * u) (all.there e b i j)).each lane l in
+        ap not here ∙ (sym (not_not (gone ((turn.base - part * u + e * r.env_rows + b * u) * w + lane))) ∙ ap (λ m. gone ((turn.base - part * u + e * m + b * u) * w + lane)) h.laid.env)
+
+pub beaten_before : (s : Sys) (r : Rows) (x a k : ℕ) (row : Row) (turn : Turn) (states : List ℕ) (gone : ℕ → Bool) → Known s r x row → IsTurn s row a turn → k < low_in s →
+    states ≡ seat_next (slice_get s.seats k) (slice_index row.states k) row.env a → states ≡ [] → HasLanes (lanes_in s) x (λ p. not (is_beaten (numbered s) gone p a k)) 0
+beaten_before s r x a k row turn states gone h ok before is_states none = record {
+  each = λ lane l. on_zero lane ∙ sym (ap not (leads_nothing (numbered s) gone (x * lanes_in s + lane) a k turn.envs.now states
+      (λ e b. (ok.to * target_rows_of (sizes_of s) + row.part - slice_index row.states k * slice_index r.strides k + e * env_rows_of (sizes_of s) + b * slice_index r.strides k) * lanes_in s + lane)
+      (leads_before s row x lane a k ok.to (ok.to * target_rows_of (sizes_of s) + row.part - slice_index row.states k * slice_index r.strides k) (slice_index r.strides k) turn.envs.now states h.sys h.looked l before (h.laid.before k before) ok.target ok.worlds is_states refl)
+      none));
+  rest = λ lane l. on_zero lane;
+}
+
+-- the lanes at which the rows of a turn are alive
+pub alive_there : (s : Sys) (r : Rows) (x a alive : ℕ) (row : Row) (turn : Turn) (words : List ℕ) (gone : ℕ → Bool) → Known s r x row → IsTurn s row a turn → length words * lanes_in s ≡ count (sizes_of s) →
+    AreRows (lanes_in s) (λ q. not (gone q)) words →
+    ((lane : ℕ) → is_on alive lane ≡ (is_on r.full lane && not (list_any (λ e. not (is_on (slice_index words (turn.base + e * r.env_rows)) lane)) turn.envs.now))) → AreAlive s gone turn alive
+alive_there s r x a alive row turn words gone h ok room rows told = record {
+  each = λ lane l. told lane ∙ (ap (λ b. b && not (list_any (λ e. not (is_on (slice_index words (turn.base + e * r.env_rows)) lane)) turn.envs.now)) (full_on (sizes_of s) r lane h.laid l)
+      ∙ ap not (any_same (λ e. not (is_on (slice_index words (turn.base + e * r.env_rows)) lane)) (λ e. gone ((turn.base + e * env_rows_of (sizes_of s)) * lanes_in s + lane)) turn.envs.now (λ e i. same lane e l i)));
+}
+  where
+    same : (lane e : ℕ) → lane < lanes_in s → IsIn e turn.envs.now → not (is_on (slice_index words (turn.base + e * r.env_rows)) lane) ≡ gone ((turn.base + e * env_rows_of (sizes_of s)) * lanes_in s + lane)
+    same lane e l i =
+        let all = rows_there s r x a (length words) row turn h ok room in
+        let here : is_on (slice_index words (turn.base + e * r.env_rows)) lane ≡ not (gone ((turn.base + e * r.env_rows) * lanes_in s + lane)) = (rows.each (turn.base + e * r.env_rows) (all.there e i)).each lane l in
+        ap not here ∙ (sym (not_not (gone ((turn.base + e * r.env_rows) * lanes_in s + lane))) ∙ ap (λ m. gone ((turn.base + e * m) * lanes_in s + lane)) h.laid.env)
+
+-- a state's lanes begin within the lanes
+pub state_below : (n : Sizes) (k b : ℕ) → IsSizes n → low_of n.seats ≤ k → k < length n.seats → b < slice_index n.seats k → b * stride_of n k < 64
+state_below n k b h within seat state =
+    let (m, e) = lanes_parts n k within seat in
+    let st = stride_of n k in
+    let size = slice_index n.seats k in
+    let pos : 0 < st = stride_positive n k h in
+    let next : (b + 1) * st ≤ size * st = mul-le (b + 1) st size st (omega arith) (omega arith) in
+    let whole : size * st ≤ lanes_of n.seats = all m (size * st) (lanes_of n.seats) (lanes_positive n.seats h.seats) (e ∙ omega arith) in
+    let few : lanes_of n.seats ≤ 64 = lanes_few n.seats in
+    let split : (b + 1) * st ≡ b * st + st = omega arith in
+    omega arith
+  where
+    all : (m p w : ℕ) → 0 < w → w ≡ m * p → p ≤ w
+    all zero p w pos e = absurd (omega arith)
+    all (suc m) p w pos e = omega arith
+
+-- the lanes of state b, from those of state 0
+pub state_shift : (first b st size lane : ℕ) → ((j : ℕ) → j < 64 → is_on first j ≡ has_state st size 0 j) → 0 < st → b < size → lane < 64 →
+    is_on (first * 2 ^ (b * st) % 2 ^ 64) lane ≡ has_state st size b lane
+unfolding has_state
+state_shift first b st size lane is pos l low = elim (cases_lt lane (b * st)) [
+  | inl less ↦
+      let high : lane / st < b = div_below lane st b pos less in
+      let start : lane / st ≡ 0 * size + lane / st = omega arith in
+      let own : lane / st % size ≡ lane / st = ap (λ m. m % size) start ∙ mod-mul-add 0 size (lane / st) (omega arith) in
+      on_below first (b * st) lane less ∙ sym (ne_eqb (lane / st % size) b (omega (arith, own, high)))
+  | inr more ↦
+      let rest : lane ≡ b * st + (lane - b * st) = omega arith in
+      let shifted = on_shl first (b * st) lane (lane - b * st) low rest in
+      let split : (lane - b * st) / st * st + (lane - b * st) % st ≡ lane - b * st = div-add-mod' (lane - b * st) st in
+      let sum : lane ≡ (b + (lane - b * st) / st) * st + (lane - b * st) % st = omega arith in
+      let high : lane / st ≡ b + (lane - b * st) / st = ap (λ m. m / st) sum ∙ div-mul-add (b + (lane - b * st) / st) st ((lane - b * st) % st) (mod_below (lane - b * st) st pos) in
+      shifted ∙ (is (lane - b * st) (omega arith) ∙ (turns ((lane - b * st) / st) size b l ∙ ap (λ m. eqb (m % size) b) (sym high)))
+]
+  where
+    turns : (h size b : ℕ) → b < size → eqb (h % size) 0 ≡ eqb ((b + h) % size) b
+    turns h size b l =
+        let digits : h / size * size + h % size ≡ h = div-add-mod' h size in
+        let less : h % size < size = mod_below h size (omega arith) in
+        elim (cases_eq (h % size) 0) [
+          | inl none ↦
+              let sum : b + h ≡ h / size * size + b = omega arith in
+              let same : (b + h) % size ≡ b = ap (λ m. m % size) sum ∙ mod-mul-add (h / size) size b l in
+              eq-eqb (h % size) 0 none ∙ sym (eq-eqb ((b + h) % size) b same)
+          | inr some ↦ ne_eqb (h % size) 0 some ∙ sym (ne_eqb ((b + h) % size) b (λ same. elim (cases_lt (b + h % size) size) [
+            | inl fits ↦
+                let sum : b + h ≡ h / size * size + (b + h % size) = omega arith in
+                let other : (b + h) % size ≡ b + h % size = ap (λ m. m % size) sum ∙ mod-mul-add (h / size) size (b + h % size) fits in
+                some (omega (arith, same, other))
+            | inr past ↦
+                let sum : b + h ≡ (h / size + 1) * size + (b + h % size - size) = omega arith in
+                let other : (b + h) % size ≡ b + h % size - size = ap (λ m. m % size) sum ∙ mod-mul-add (h / size + 1) size (b + h % size - size) (omega arith) in
+                let none : ⊥ = omega (arith, same, other, less) in
+                absurd none
+          ]))
+        ]
+
+-- where a seat within the lanes serves from one state
+pub serves_from : (s : Sys) (r : Rows) (x a k b own lane good alive word : ℕ) (row : Row) (turn : Turn) (states : List ℕ) (gone : ℕ → Bool) → Known s r x row → IsTurn s row a turn → low_in s ≤ k → k < length s.seats →
+    own ≡ b → states ≡ seat_next (slice_get s.seats k) b row.env a → ((c : ℕ) → IsIn c states → c < slice_index (sizes_of s).seats k) → IsFalse (is_empty states) → AreAlive s gone turn alive → lane < lanes_in s →
+    is_on good lane ≡ has_state (stride_of (sizes_of s) k) (slice_index (sizes_of s).seats k) b lane →
+    (own * stride_of (sizes_of s) k ≤ lane → ((c : ℕ) → IsIn c states → lane + c * stride_of (sizes_of s) k - own * stride_of (sizes_of s) k < 64) →
+    is_on word lane ≡ (is_on good lane && not (list_any (λ c. not (is_on alive (lane + c * stride_of (sizes_of s) k - own * stride_of (sizes_of s) k))) states))) →
+    (is_on good lane ≡ false → is_on word lane ≡ false) →
+    is_on word lane ≡ (has_state (stride_of (sizes_of s) k) (slice_index (sizes_of s).seats k) b lane && not (is_beaten (numbered s) gone (x * lanes_in s + lane) a k))
+unfolding has_state
+serves_from s r x a k b own lane good alive word row turn states gone h ok within seat is_own is_states below_size some living in_lanes masked told off =
+    by_test (has_state (stride_of (sizes_of s) k) (slice_index (sizes_of s).seats k) b lane)
+    (λ t. here t ∙ sym (ap (λ y. y && not (is_beaten (numbered s) gone (x * lanes_in s + lane) a k)) t))
+    (λ f. off (masked ∙ f) ∙ sym (ap (λ y. y && not (is_beaten (numbered s) gone (x * lanes_in s + lane) a k)) f))
+  where
+    here : IsTrue (has_state (stride_of (sizes_of s) k) (slice_index (sizes_of s).seats k) b lane) → is_on word lane ≡ not (is_beaten (numbered s) gone (x * lanes_in s + lane) a k)
+    here t =
+        let n = sizes_of s in
+        let w = lanes_in s in
+        let st = stride_of n k in
+        let seats : k < length n.seats = omega (arith, length-map s.seats (λ (y : Seat). y.beh.states)) in
+        let part : lane / st % slice_index n.seats k ≡ b = eqb-true (lane / st % slice_index n.seats k) b t in
+        let moves = lane_state n k lane h.sizes within seats in_lanes in
+        let same : own ≡ lane / st % slice_index n.seats k = is_own ∙ sym part in
+        let taken : own * st ≤ lane = subst (λ m. m * st ≤ lane) (sym same) moves.taken in
+        let inside : (c : ℕ) → IsIn c states → lane + c * st - own * st < w = λ c i. subst (λ m. lane + c * st - m * st < w) (sym same) (moves.moves c (below_size c i)) in
+        let few : w ≤ 64 = lanes_few n.seats in
+        let lives : (c : ℕ) → IsIn c states → not (is_on alive (lane + c * st - own * st)) ≡ list_any (λ e. gone ((turn.base + e * env_rows_of n) * w + (lane + c * st - own * st))) turn.envs.now = λ c i.
+        ap not (living.each (lane + c * st - own * st) (inside c i)) ∙ sym (not_not (list_any (λ e. gone ((turn.base + e * env_rows_of n) * w + (lane + c * st - own * st))) turn.envs.now)) in
+        told taken (λ c i. omega (arith, inside c i, few))
+        ∙ (ap (λ y. y && not (list_any (λ c. not (is_on alive (lane + c * st - own * st))) states)) (masked ∙ t)
+        ∙ (ap not (any_same (λ c. not (is_on alive (lane + c * st - own * st))) (λ c. list_any (λ e. gone ((turn.base + e * env_rows_of n) * w + (lane + c * st - own * st))) turn.envs.now) states lives
+        ∙ any_turned (λ c e. gone ((turn.base + e * env_rows_of n) * w + (lane + c * st - own * st))) states turn.envs.now)
+        ∙ leads_served (numbered s) gone (x * w + lane) a k turn.envs.now states (λ e c. (turn.base + e * env_rows_of n) * w + (lane + c * st - own * st))
+        (λ e c. gone ((turn.base + e * env_rows_of n) * w + (lane + c * st - own * st)))
+        (leads_lanes s row x lane a k ok.to turn.base own turn.envs.now states h.sys h.sizes h.looked in_lanes within seat same ok.target ok.worlds (is_states ∙ ap (λ m. seat_next (slice_get s.seats k) m row.env a) (sym is_own)) ok.base)
+        ok.some some (λ e c i j. refl)))
+
+-- where a seat within the lanes goes nowhere from one state
+pub beaten_from : (s : Sys) (r : Rows) (x a k b lane : ℕ) (row : Row) (turn : Turn) (states : List ℕ) (gone : ℕ → Bool) → Known s r x row → IsTurn s row a turn → low_in s ≤ k → k < length s.seats →
+    states ≡ seat_next (slice_get s.seats k) b row.env a → states ≡ [] → lane < lanes_in s →
+    false ≡ (has_state (stride_of (sizes_of s) k) (slice_index (sizes_of s).seats k) b lane && not (is_beaten (numbered s) gone (x * lanes_in s + lane) a k))
+unfolding has_state
+beaten_from s r x a k b lane row turn states gone h ok within seat is_states none in_lanes =
+    by_test (has_state (stride_of (sizes_of s) k) (slice_index (sizes_of s).seats k) b lane)
+    (λ t. sym (ap₂ (λ y z. y && not z) t (nothing t)))
+    (λ f. sym (ap (λ y. y && not (is_beaten (numbered s) gone (x * lanes_in s + lane) a k)) f))
+  where
+    nothing : IsTrue (has_state (stride_of (sizes_of s) k) (slice_index (sizes_of s).seats k) b lane) → is_beaten (numbered s) gone (x * lanes_in s + lane) a k ≡ true
+    nothing t =
+        let n = sizes_of s in
+        let part : b ≡ lane / stride_of n k % slice_index n.seats k = sym (eqb-true (lane / stride_of n k % slice_index n.seats k) b t) in
+        leads_nothing (numbered s) gone (x * lanes_in s + lane) a k turn.envs.now states (λ e c. (turn.base + e * env_rows_of n) * lanes_in s + (lane + c * stride_of n k - b * stride_of n k))
+        (leads_lanes s row x lane a k ok.to turn.base b turn.envs.now states h.sys h.sizes h.looked in_lanes within seat part ok.target ok.worlds is_states ok.base) none
+
+-- what is said of each element, by membership
+pub each_below : (xs : List ℕ) (m : ℕ) → ((i d : ℕ) → i < length xs → get_or xs i d < m) → (c : ℕ) → IsIn c xs → c < m
+each_below [] m h c i = absurd i
+each_below (x ∷ xs) m h c (inl e) = subst (λ y. y < m) (sym e) (h 0 0 (omega arith))
+each_below (x ∷ xs) m h c (inr i) = each_below xs m (λ j d l. h (suc j) d (omega arith)) c i
+
+-- the lanes of one state more
+pub below_more : (m b : ℕ) (x : Bool) → ((ltb m b && x) || (eqb m b && x)) ≡ (ltb m (b + 1) && x)
+below_more m b x = elim (cases_lt m b) [
+  | inl less ↦
+      let a : ltb m b ≡ true = lt-ltb m b less in
+      let d : ltb m (b + 1) ≡ true = lt-ltb m (b + 1) (omega arith) in
+      let e : eqb m b ≡ false = ne_eqb m b (omega arith) in
+      ap₂ (λ y z. (y && x) || (z && x)) a e ∙ (or_nothing x ∙ sym (ap (λ y. y && x) d))
+  | inr more ↦
+      let a : ltb m b ≡ false = le-ltb m b more in
+      ap (λ y. (y && x) || (eqb m b && x)) a ∙ elim (cases_eq m b) [
+        | inl same ↦ ap₂ (λ y z. y && z) (eq-eqb m b same ∙ sym (lt-ltb m (b + 1) (omega arith))) refl
+        | inr other ↦ ap₂ (λ y z. y && z) (ne_eqb m b other ∙ sym (le-ltb m (b + 1) (omega arith))) refl
+      ]
+]
+  where
+    or_nothing : (y : Bool) → (y || false) ≡ y
+    or_nothing true = refl
+    or_nothing false = refl
+
+pub state_is : (st size b lane : ℕ) → has_state st size b lane ≡ eqb (lane / st % size) b
+unfolding has_state
+state_is st size b lane = refl
+
+-- a seat before the lanes is one of the seats
+pub low_few : (n : NamedSys) (k : ℕ) → IsNamedSys n → k < low_in (system_of n) → (k < 32) × (k < length n.seats)
+low_few n k ok l =
+    let few = low_of-le (sizes_of (system_of n)).seats in
+    let long = length-map (system_of n).seats (λ (y : Seat). y.beh.states) in
+    let same = length-map n.seats (seat_of n.catalogue) in
+    (omega (arith, few, long, ok.system.few), omega (arith, few, long, same))
+
+-- what is known of a seat within the lanes
+pub record Within (n : NamedSys) (r : Rows) (k : ℕ) : Type 0 where
+  pub seats : k < length (sizes_of (system_of n)).seats
+  pub seat : k < length (system_of n).seats
+  pub stride : slice_index r.strides k ≡ stride_of (sizes_of (system_of n)) k
+  pub small : (b : ℕ) → b < slice_index (sizes_of (system_of n)).seats k → b * slice_index r.strides k < 64
+
+pub within : (n : NamedSys) (r : Rows) (k : ℕ) → IsNamedSys n → AreRowsOf (sizes_of (system_of n)) r → low_in (system_of n) ≤ k → k < length n.seats → Within n r k
+within n r k ok laid low l =
+    let s = system_of n in
+    let seat : k < length s.seats = omega (arith, length-map n.seats (seat_of n.catalogue)) in
+    let seats : k < length (sizes_of s).seats = omega (arith, length-map s.seats (λ (y : Seat). y.beh.states)) in
+    let stride = laid.within k low seats in
+    record { seats = seats; seat = seat; stride = stride; small = λ b m. subst (λ u. b * u < 64) (sym stride) (state_below (sizes_of s) k b (joint_sizes n ok) low seats m) }

@@ -1,0 +1,215 @@
+-- Where a delegation leads, by rows and lanes.
+use Rattle.std.proofs.Common.{◌≡◌, ℕ, zero, suc, ◌+◌, ◌-◌, ◌*◌, ◌/◌, ◌%◌, ◌<◌, ◌≤◌, Bool, true, false, not, ◌||◌, List, [], ◌∷◌, length, drop, map, slice_get, slice_index, IsTrue, IsFalse, inl, inr, refl, sym, ap, ap₂, ◌∙◌, subst, arith}
+use Rattle.std.specs.List.{list_any, flat_map}
+use Rattle.std.proofs.lemmas.Nat.{div-mul-add, mod-mul-add, div-add-mod', mul-add-lt, mod_below, div_below}
+use Rattle.std.proofs.lemmas.List.{length-map}
+use Rattle.roman_model.specs.Lists.{IsIn, is_empty, product_of}
+use Rattle.roman_model.proofs.Lists.{in_map, in_flat_map, any_same, list_any-map, list_any-flat_map, not_empty_in, any_true, any_from, same_test}
+use Rattle.roman_model.specs.System.{Sys, Seat, Pair, IsSys, env_next, beh_next, seat_next}
+use Rattle.roman_model.specs.Arena.{Arena, is_beaten}
+use Rattle.roman_model.specs.Numbers.{Sizes, sizes_of, count, pair_at, number, numbered}
+use Rattle.roman_model.proofs.NumberLemmas.{part_at}
+use Rattle.roman_radix.specs.Radix.{IsSizes, stride_of, env_stride_of, target_stride_of}
+use Rattle.roman_radix.specs.Rows.{low_of, lanes_of, env_rows_of, target_rows_of}
+use Rattle.roman_radix.proofs.Strides.{product_positive, AreSizes-drop, AreSizes-index, product_more}
+use Rattle.roman_radix.proofs.RowLemmas.{low_of-le, tails_from, row_div, row_mod, row_least, env_rows_are}
+use Rattle.roman_rules.specs.Numbered.{IsNumbered}
+use Rattle.roman_joint.proofs.OutcomeLemmas.{StartsAt, starts_at, numbers_are, target_in_range, outcome}
+use Rattle.roman_joint.proofs.Finds.{some_numbers, no_numbers}
+use Rattle.roman_joint.specs.Rows.{lanes_in, low_in, IsRow}
+use Rattle.roman_joint.specs.declared.row.Row.{Row}
+
+-- the outcomes are those numbers
+pub record Leads (A : Arena ℕ) (p a k : ℕ) (envs states : List ℕ) (to : ℕ → ℕ → ℕ) : Type 0 where
+  pub outcomes : A.outcomes p a k ≡ flat_map (λ e. map (to e) states) envs
+
+pub leads_within : (A : Arena ℕ) (p a k e b : ℕ) (envs states : List ℕ) (to : ℕ → ℕ → ℕ) → IsNumbered A → p < length A.nodes → Leads A p a k envs states to →
+    IsIn e envs → IsIn b states → to e b < length A.nodes
+leads_within A p a k e b envs states to ok l leads in_envs in_states =
+    ok.closed p a k (to e b) l (subst (λ qs. IsIn (to e b) qs) (sym leads.outcomes) (in_flat_map (λ x. map (to x) states) e (to e b) envs in_envs (in_map (to e) b states in_states)))
+
+pub leads_served : (A : Arena ℕ) (gone : ℕ → Bool) (p a k : ℕ) (envs states : List ℕ) (to : ℕ → ℕ → ℕ) (test : ℕ → ℕ → Bool) → Leads A p a k envs states to →
+    IsFalse (is_empty envs) → IsFalse (is_empty states) → ((e b : ℕ) → IsIn e envs → IsIn b states → test e b ≡ gone (to e b)) →
+    not (list_any (λ e. list_any (test e) states) envs) ≡ not (is_beaten A gone p a k)
+leads_served A gone p a k envs states to test leads some_env some_state same =
+    let (b, i) = not_empty_in states some_state in
+    let some : is_empty (A.outcomes p a k) ≡ false = ap is_empty leads.outcomes ∙ some_numbers to envs states b some_env i in
+    let any : list_any gone (A.outcomes p a k) ≡ list_any (λ e. list_any (test e) states) envs =
+    ap (list_any gone) leads.outcomes ∙ (list_any-flat_map (λ e. map (to e) states) gone envs
+    ∙ any_same (λ e. list_any gone (map (to e) states)) (λ e. list_any (test e) states) envs (λ e j. list_any-map (to e) gone states ∙ any_same (λ x. gone (to e x)) (test e) states (λ x m. sym (same e x j m)))) in
+    ap not (sym (ap₂ (λ x y. x || y) some any))
+
+pub leads_nothing : (A : Arena ℕ) (gone : ℕ → Bool) (p a k : ℕ) (envs states : List ℕ) (to : ℕ → ℕ → ℕ) → Leads A p a k envs states to → states ≡ [] → is_beaten A gone p a k ≡ true
+leads_nothing A gone p a k envs states to leads none =
+    let no : A.outcomes p a k ≡ [] = leads.outcomes ∙ no_numbers to envs states none in
+    ap (λ qs. is_empty qs || list_any gone qs) no
+
+-- the order of two searches doesn't matter
+pub any_turned : (test : ℕ → ℕ → Bool) (xs ys : List ℕ) → list_any (λ x. list_any (test x) ys) xs ≡ list_any (λ y. list_any (λ x. test x y) xs) ys
+any_turned test xs ys = same_test (list_any (λ x. list_any (test x) ys) xs) (list_any (λ y. list_any (λ x. test x y) xs) ys)
+    (λ t.
+    let (x, i, u) = any_true (λ x. list_any (test x) ys) xs t in
+    let (y, j, v) = any_true (test x) ys u in
+    any_from (λ y. list_any (λ x. test x y) xs) y ys j (any_from (λ x. test x y) x xs i v))
+    (λ t.
+    let (y, j, u) = any_true (λ y. list_any (λ x. test x y) xs) ys t in
+    let (x, i, v) = any_true (λ x. test x y) xs u in
+    any_from (λ x. list_any (test x) ys) x xs i (any_from (test x) y ys j v))
+
+-- an outcome's number by rows: the seat in state b goes from one state to another
+pub row_moves : (to_rows rest u w lane r part e b : ℕ) → lane < w → part * (u * w) ≤ to_rows * w + (rest * w + lane) →
+    to_rows * w + (rest * w + lane) - part * (u * w) + e * (r * w) + b * (u * w) ≡ (to_rows + rest - part * u + e * r + b * u) * w + lane
+row_moves to_rows rest u w lane r part e b h l =
+    let sum : (to_rows + rest) * w + lane ≡ to_rows * w + (rest * w + lane) = omega arith in
+    let product : part * u * w ≡ part * (u * w) = omega arith in
+    let taken : part * u ≤ to_rows + rest = row_least (part * u) (to_rows + rest) w lane h (omega arith) in
+    by (to_rows + rest) (to_rows + rest - part * u) (part * u) u w lane r part e b (to_rows * w + (rest * w + lane)) (omega arith) (sym sum) product
+  where
+    by : (x y z u w lane r part e b whole : ℕ) → y + z ≡ x → whole ≡ x * w + lane → z * w ≡ part * (u * w) →
+        whole - part * (u * w) + e * (r * w) + b * (u * w) ≡ (y + e * r + b * u) * w + lane
+    by x y z u w lane r part e b whole d is product =
+        let split : x * w ≡ y * w + z * w = ap (λ n. n * w) (sym d) ∙ omega arith in
+        let spread : (y + e * r + b * u) * w ≡ y * w + e * (r * w) + b * (u * w) = omega arith in
+        omega arith
+
+-- the rows of the target
+pub target_rows_are : (n : Sizes) → target_rows_of n * lanes_of n.seats ≡ target_stride_of n
+target_rows_are n = by n.env (env_rows_of n) (lanes_of n.seats) (env_stride_of n) (env_rows_are n)
+  where
+    by : (e r w p : ℕ) → r * w ≡ p → e * r * w ≡ e * p
+    by e r w p is = let same : e * (r * w) ≡ e * p = ap (λ x. e * x) is in omega arith
+
+-- where the numbers begin for a seat before the lanes
+pub start_before : (s : Sys) (row : Row) (x lane k to u : ℕ) → IsSys s → IsRow s x row → lane < lanes_in s → k < low_in s → to < s.target.states → u * lanes_in s ≡ stride_of (sizes_of s) k →
+    StartsAt s (x * lanes_in s + lane) k to (to * target_rows_of (sizes_of s) * lanes_in s + (row.part * lanes_in s + lane)) (slice_index row.states k) (env_rows_of (sizes_of s) * lanes_in s) (u * lanes_in s)
+start_before s row x lane k to u sys ok in_lanes before in_target stride =
+    let n = sizes_of s in
+    let w = lanes_in s in
+    let p = x * w + lane in
+    let R = env_rows_of n in
+    let seat : k < length s.seats = omega (arith, low_of-le n.seats, length-map s.seats (λ (y : Seat). y.beh.states)) in
+    let start : StartsAt s p k to (to * (target_rows_of n * w) + p % (R * w)) (slice_index row.states k) (R * w) (u * w) =
+    starts_at s p k to to (target_rows_of n * w) (slice_index row.states k) (R * w) (u * w) sys (ok.below lane in_lanes) seat in_target refl
+    (target_rows_are n) (sym (ok.states k lane before in_lanes)) (env_rows_are n) stride in
+    let within_env : p % (R * w) ≡ row.part * w + lane = row_mod x w lane R in_lanes ∙ ap (λ m. m * w + lane) (sym ok.part) in
+    let whole : to * (target_rows_of n * w) + p % (R * w) ≡ to * target_rows_of n * w + (row.part * w + lane) = ap (λ m. to * (target_rows_of n * w) + m) within_env ∙ omega arith in
+    subst (λ m. StartsAt s p k to m (slice_index row.states k) (R * w) (u * w)) whole start
+
+-- a seat before the lanes
+pub leads_before : (s : Sys) (row : Row) (x lane a k to base u : ℕ) (envs states : List ℕ) → IsSys s → IsRow s x row → lane < lanes_in s → k < low_in s → u * lanes_in s ≡ stride_of (sizes_of s) k →
+    beh_next s.target row.target row.env a ≡ to ∷ [] → envs ≡ env_next s.env row.env a → states ≡ seat_next (slice_get s.seats k) (slice_index row.states k) row.env a →
+    base ≡ to * target_rows_of (sizes_of s) + row.part - slice_index row.states k * u →
+    Leads (numbered s) (x * lanes_in s + lane) a k envs states (λ e b. (base + e * env_rows_of (sizes_of s) + b * u) * lanes_in s + lane)
+leads_before s row x lane a k to base u envs states sys ok in_lanes before stride target is_envs is_states is_base =
+    let n = sizes_of s in
+    let w = lanes_in s in
+    let q = pair_at n (x * w + lane) in
+    let R = env_rows_of n in
+    let part = slice_index row.states k in
+    let in_target : to < s.target.states = target_in_range s row.target row.env a to sys target in
+    let start = start_before s row x lane k to u sys ok in_lanes before in_target stride in
+    record {
+      outcomes = numbers_are s q a k to (λ e b. (base + e * R + b * u) * w + lane) envs states
+          (ap₂ (λ t e. beh_next s.target t e a) (ok.targets lane in_lanes) (ok.envs lane in_lanes) ∙ target)
+          (is_envs ∙ ap (λ e. env_next s.env e a) (sym (ok.envs lane in_lanes)))
+          (is_states ∙ ap₂ (λ b e. seat_next (slice_get s.seats k) b e a) (sym (ok.states k lane before in_lanes)) (sym (ok.envs lane in_lanes)))
+          (λ e b.
+          let here = row_moves (to * target_rows_of n) row.part u w lane R part e b in_lanes start.taken in
+          ap (λ m. (m + e * R + b * u) * w + lane) is_base ∙ (sym here ∙ start.number e b));
+    }
+
+-- the state of a seat within the lanes
+pub record LaneState (n : Sizes) (k lane : ℕ) : Type 0 where
+  pub taken : lane / stride_of n k % slice_index n.seats k * stride_of n k ≤ lane
+  pub moves : (b : ℕ) → b < slice_index n.seats k → lane + b * stride_of n k - lane / stride_of n k % slice_index n.seats k * stride_of n k < lanes_of n.seats
+
+lane_moves : (lane st size m : ℕ) → 0 < st → 0 < size → lane < m * size * st → (lane / st % size * st ≤ lane) × ((b : ℕ) → b < size → lane + b * st - lane / st % size * st < m * size * st)
+lane_moves lane st size m pos some h =
+    let split : lane / st * st + lane % st ≡ lane = div-add-mod' lane st in
+    let low : lane % st < st = mod_below lane st pos in
+    let digits : lane / st / size * size + lane / st % size ≡ lane / st = div-add-mod' (lane / st) size in
+    let parts : (lane / st / size * size + lane / st % size) * st ≡ lane / st * st = ap (λ x. x * st) digits in
+    let spread : (lane / st / size * size + lane / st % size) * st ≡ lane / st / size * size * st + lane / st % size * st = omega arith in
+    let high : lane / st < m * size = div_below lane st (m * size) pos h in
+    let top : lane / st / size < m = div_below (lane / st) size m some high in (
+      omega arith,
+      λ b l.
+          let digit : lane / st / size * size + b < size * m = mul-add-lt (lane / st / size) size b m top l in
+          let there : (lane / st / size * size + b) * st + lane % st < st * (size * m) = mul-add-lt (lane / st / size * size + b) st (lane % st) (size * m) digit low in
+          let same : st * (size * m) ≡ m * size * st = omega arith in
+          let apart : (lane / st / size * size + b) * st ≡ lane / st / size * size * st + b * st = omega arith in
+          omega arith,
+    )
+
+-- the strides of seats within the lanes go into them
+pub lanes_parts : (n : Sizes) (k : ℕ) → low_of n.seats ≤ k → k < length n.seats → (m : ℕ) × (lanes_of n.seats ≡ m * slice_index n.seats k * stride_of n k)
+lanes_parts n k within seat =
+    let (m, e) = tails_from n.seats (low_of n.seats) k within in
+    let next : product_of (drop (k + 1) n.seats) * slice_index n.seats k ≡ product_of (drop k n.seats) = product_more n.seats k (k + 1) (product_of (drop (k + 1) n.seats)) (slice_index n.seats k) refl seat refl refl in
+    (m, e ∙ (ap (λ x. m * x) (sym next) ∙ omega arith))
+
+pub stride_positive : (n : Sizes) (k : ℕ) → IsSizes n → 0 < stride_of n k
+stride_positive n k h = product_positive (drop (k + 1) n.seats) (AreSizes-drop (k + 1) n.seats h.seats)
+
+pub lane_state : (n : Sizes) (k lane : ℕ) → IsSizes n → low_of n.seats ≤ k → k < length n.seats → lane < lanes_of n.seats → LaneState n k lane
+lane_state n k lane h within seat l =
+    let (m, e) = lanes_parts n k within seat in
+    let (taken, moves) = lane_moves lane (stride_of n k) (slice_index n.seats k) m (stride_positive n k h) (AreSizes-index n.seats k h.seats seat).0 (subst (λ x. lane < x) e l) in
+    record {
+      taken = taken;
+      moves = λ b less. subst (λ x. lane + b * stride_of n k - lane / stride_of n k % slice_index n.seats k * stride_of n k < x) (sym e) (moves b less);
+    }
+
+-- the state at a pair is that of its lane
+digit_at : (row lane st size m : ℕ) → 0 < st → (row * (m * size * st) + lane) / st % size ≡ lane / st % size
+digit_at row lane st size m pos =
+    let split : lane / st * st + lane % st ≡ lane = div-add-mod' lane st in
+    let whole : row * (m * size * st) + lane ≡ (row * m * size + lane / st) * st + lane % st = omega arith in
+    let high : (row * (m * size * st) + lane) / st ≡ row * m * size + lane / st = ap (λ x. x / st) whole ∙ div-mul-add (row * m * size + lane / st) st (lane % st) (mod_below lane st pos) in
+    ap (λ x. x % size) high ∙ digit_low (row * m) (lane / st) size
+  where
+    digit_low : (r h w : ℕ) → (r * w + h) % w ≡ h % w
+    digit_low r h zero = omega arith
+    digit_low r h (suc w) =
+        let split : h / suc w * suc w + h % suc w ≡ h = div-add-mod' h (suc w) in
+        let whole : r * suc w + h ≡ (r + h / suc w) * suc w + h % suc w = omega arith in
+        ap (λ x. x % suc w) whole ∙ mod-mul-add (r + h / suc w) (suc w) (h % suc w) (mod_below h (suc w) (omega arith))
+
+pub lane_part : (n : Sizes) (x lane k : ℕ) → IsSizes n → x * lanes_of n.seats + lane < count n → low_of n.seats ≤ k → k < length n.seats →
+    slice_index (pair_at n (x * lanes_of n.seats + lane)).bs k ≡ lane / stride_of n k % slice_index n.seats k
+lane_part n x lane k h inside within seat =
+    let (m, e) = lanes_parts n k within seat in
+    part_at n (x * lanes_of n.seats + lane) k inside seat
+    ∙ (ap (λ w. (x * w + lane) / stride_of n k % slice_index n.seats k) e ∙ digit_at x lane (stride_of n k) (slice_index n.seats k) m (stride_positive n k h))
+
+-- a seat within the lanes
+pub leads_lanes : (s : Sys) (row : Row) (x lane a k to base part : ℕ) (envs states : List ℕ) → IsSys s → IsSizes (sizes_of s) → IsRow s x row → lane < lanes_in s →
+    low_in s ≤ k → k < length s.seats → part ≡ lane / stride_of (sizes_of s) k % slice_index (sizes_of s).seats k →
+    beh_next s.target row.target row.env a ≡ to ∷ [] → envs ≡ env_next s.env row.env a → states ≡ seat_next (slice_get s.seats k) part row.env a → base ≡ to * target_rows_of (sizes_of s) + row.part →
+    Leads (numbered s) (x * lanes_in s + lane) a k envs states (λ e b. (base + e * env_rows_of (sizes_of s)) * lanes_in s + (lane + b * stride_of (sizes_of s) k - part * stride_of (sizes_of s) k))
+leads_lanes s row x lane a k to base part envs states sys sizes ok in_lanes within seat is_part target is_envs is_states is_base =
+    let n = sizes_of s in
+    let w = lanes_in s in
+    let p = x * w + lane in
+    let q = pair_at n p in
+    let R = env_rows_of n in
+    let st = stride_of n k in
+    let inside : p < count n = ok.below lane in_lanes in
+    let seats : k < length n.seats = omega (arith, length-map s.seats (λ (y : Seat). y.beh.states)) in
+    let in_target : to < s.target.states = target_in_range s row.target row.env a to sys target in
+    let at_part : part ≡ slice_index q.bs k = is_part ∙ sym (lane_part n x lane k sizes inside within seats) in
+    let start : StartsAt s p k to (to * (target_rows_of n * w) + p % (R * w)) part (R * w) st =
+    starts_at s p k to to (target_rows_of n * w) part (R * w) st sys inside seat in_target refl (target_rows_are n) at_part (env_rows_are n) refl in
+    let within_env : p % (R * w) ≡ row.part * w + lane = row_mod x w lane R in_lanes ∙ ap (λ m. m * w + lane) (sym ok.part) in
+    let moves = lane_state n k lane sizes within seats in_lanes in
+    let taken : part * st ≤ lane = subst (λ y. y * st ≤ lane) (sym is_part) moves.taken in
+    record {
+      outcomes = numbers_are s q a k to (λ e b. (base + e * R) * w + (lane + b * st - part * st)) envs states
+          (ap₂ (λ t e. beh_next s.target t e a) (ok.targets lane in_lanes) (ok.envs lane in_lanes) ∙ target)
+          (is_envs ∙ ap (λ e. env_next s.env e a) (sym (ok.envs lane in_lanes)))
+          (is_states ∙ ap₂ (λ b e. seat_next (slice_get s.seats k) b e a) at_part (sym (ok.envs lane in_lanes)))
+          (λ e b.
+          let spread : (base + e * R) * w ≡ to * (target_rows_of n * w) + row.part * w + e * (R * w) = ap (λ m. (m + e * R) * w) is_base ∙ omega arith in
+          let here = start.number e b in
+          omega (arith, taken, within_env, spread, here) ∙ here);
+    }

@@ -1,0 +1,165 @@
+-- How rows and what is looked up of them are made.
+use Rattle.std.proofs.Common.{◌≡◌, ℕ, zero, suc, ◌+◌, ◌*◌, ◌/◌, ◌%◌, ◌<◌, ◌≤◌, ◌^◌, cond, true, List, [], ◌∷◌, length, map, take, drop, slice_index, get_or, inl, inr, refl, sym, ap, ap₂, ◌∙◌, subst, arith, ltb}
+use Rattle.std.proofs.lemmas.Bool.{cases_eq, lt-ltb, le-ltb}
+use Rattle.std.proofs.lemmas.Nat.{mul-add-lt}
+use Rattle.std.proofs.lemmas.List.{get_or-take, get_or-set_same, get_or-set_other, length-map}
+use Rattle.std.proofs.Math.ListN.{set}
+use Rattle.roman_model.specs.Lists.{IsIn, product_of}
+use Rattle.roman_model.specs.System.{Sys, Seat, IsSys, IsBeh}
+use Rattle.roman_model.specs.Numbers.{Sizes, IsPairOf, sizes_of, count, pair_at}
+use Rattle.roman_model.proofs.NumberLemmas.{part_at, IsPairOf-at, AreBelow-index, AreBelow-length}
+use Rattle.roman_radix.specs.Radix.{AreSizes, IsSizes, stride_of, env_stride_of, target_stride_of}
+use Rattle.roman_radix.specs.Rows.{low_of, lanes_of, env_rows_of, target_rows_of}
+use Rattle.roman_radix.proofs.Strides.{product_positive, AreSizes-drop}
+use Rattle.roman_radix.proofs.RowLemmas.{low_of-le, lanes_few, lanes_positive, tails_from, exact, row_div, row_least, row_below, env_rows_are}
+use Rattle.roman_lanes.specs.Rows.{is_on}
+use Rattle.roman_joint.specs.NamedSys.{NamedSys, system_of, IsNamedSys}
+use Rattle.roman_joint.specs.Rows.{lanes_in, low_in, has_state, AreRowsOf, IsRow}
+use Rattle.roman_joint.specs.Scenes.{ArePermitted, AreLeading}
+use Rattle.roman_joint.specs.declared.layout.Rows.{Rows}
+use Rattle.roman_joint.specs.declared.row.Row.{Row}
+use Rattle.roman_joint.proofs.Rows.{count_fits}
+
+-- a joint's sizes are those of pairs with numbers of 32 bits
+pub joint_sizes : (n : NamedSys) → IsNamedSys n → IsSizes (sizes_of (system_of n))
+joint_sizes n known =
+    let s = system_of n in
+    record {
+      target = (known.system.target.states.0, omega (arith, known.system.target.states.1));
+      env = (known.system.env.states.0, omega (arith, known.system.env.states.1));
+      seats = all_sizes s.seats (λ x i. known.system.seats x i);
+      few = omega (arith, known.system.few, length-map s.seats (λ (x : Seat). x.beh.states));
+      counted = omega (arith, count_fits n known);
+    }
+  where
+    all_sizes : (seats : List Seat) → ((x : Seat) → IsIn x seats → IsBeh (system_of n).env x.beh) → AreSizes (map (λ x. x.beh.states) seats)
+    all_sizes [] h = tt
+    all_sizes (seat ∷ seats) h = let ok = h seat (inl refl) in (ok.states.0, omega (arith, ok.states.1), all_sizes seats (λ x i. h x (inr i)))
+
+-- a factor may be left out
+pub factor : (x y w : ℕ) → 0 < w → x * w ≡ y * w → x ≡ y
+factor x y w pos e =
+    let less : x ≤ y = row_least x y w 0 pos (omega arith) in
+    let more : y ≤ x = row_least y x w 0 pos (omega arith) in
+    omega arith
+
+-- a stride in rows
+pub stride_rows : (n : Sizes) (k : ℕ) → IsSizes n → k < low_of n.seats → stride_of n k / lanes_of n.seats * lanes_of n.seats ≡ stride_of n k
+stride_rows n k h l =
+    let (m, e) = tails_from n.seats (k + 1) (low_of n.seats) (omega arith) in
+    exact (stride_of n k) m (lanes_of n.seats) (lanes_positive n.seats h.seats) e
+
+pub env_rows_made : (n : Sizes) → IsSizes n → env_stride_of n / lanes_of n.seats ≡ env_rows_of n
+env_rows_made n h = sym (ap (λ x. x / lanes_of n.seats) (env_rows_are n)) ∙ by_lanes (env_rows_of n) (lanes_of n.seats) (lanes_positive n.seats h.seats)
+  where
+    by_lanes : (r w : ℕ) → 0 < w → r * w / w ≡ r
+    by_lanes r w pos = factor (r * w / w) r w pos (exact (r * w) r w pos refl)
+
+-- the rows of sizes
+pub rows_made : (n : Sizes) (r : Rows) → IsSizes n → r.low ≡ low_of n.seats → r.lanes ≡ lanes_of n.seats → ((lane : ℕ) → is_on r.full lane ≡ ltb lane r.lanes) →
+    r.rows * lanes_of n.seats ≡ count n → r.env_rows ≡ env_stride_of n / r.lanes → r.target_rows ≡ target_stride_of n / r.lanes →
+    ((k : ℕ) → k < length n.seats → slice_index r.strides k ≡ cond (ltb k r.low) (stride_of n k / r.lanes) (stride_of n k)) →
+    ((k : ℕ) → k < length n.seats → slice_index r.sizes k ≡ slice_index n.seats k) →
+    ((k lane : ℕ) → k < length n.seats → lane < 64 → is_on (slice_index r.firsts k) lane ≡ has_state (stride_of n k) (slice_index n.seats k) 0 lane) → AreRowsOf n r
+rows_made n r h is_low is_lanes full rows env target strides sizes firsts = record {
+  low = is_low;
+  lanes = is_lanes;
+  full = λ lane. full lane ∙ ap (ltb lane) is_lanes;
+  rows = rows;
+  env = env ∙ (ap (λ w. env_stride_of n / w) is_lanes ∙ env_rows_made n h);
+  target = target ∙ (ap (λ w. target_stride_of n / w) is_lanes ∙ target_made);
+  before = λ k l.
+      let within : k < length n.seats = omega (arith, low_of-le n.seats) in
+      let is : slice_index r.strides k ≡ stride_of n k / lanes_of n.seats =
+      strides k within ∙ (ap (λ b. cond b (stride_of n k / r.lanes) (stride_of n k)) (lt-ltb k r.low (omega (arith, is_low))) ∙ ap (λ w. stride_of n k / w) is_lanes) in
+      ap (λ x. x * lanes_of n.seats) is ∙ stride_rows n k h l;
+  within = λ k l m. strides k m ∙ ap (λ b. cond b (stride_of n k / r.lanes) (stride_of n k)) (le-ltb k r.low (omega (arith, is_low)));
+  sizes = sizes;
+  firsts = firsts;
+}
+  where
+    target_made : target_stride_of n / lanes_of n.seats ≡ target_rows_of n
+    target_made =
+        let whole : target_stride_of n ≡ target_rows_of n * lanes_of n.seats = sym (omega_turn n.env (env_rows_of n) (lanes_of n.seats) (env_stride_of n) (env_rows_are n)) in
+        whole_rows (target_stride_of n) (target_rows_of n) (lanes_of n.seats) (lanes_positive n.seats h.seats) whole
+      where
+        omega_turn : (e r w p : ℕ) → r * w ≡ p → e * r * w ≡ e * p
+        omega_turn e r w p is = let same : e * (r * w) ≡ e * p = ap (λ x. e * x) is in omega arith
+
+        whole_rows : (a m w : ℕ) → 0 < w → a ≡ m * w → a / w ≡ m
+        whole_rows a m w pos is = factor (a / w) m w pos (exact a m w pos is ∙ is)
+
+-- one service more
+pub sizes_more : (n : Sizes) (sizes : List ℕ) (k size : ℕ) → k < length sizes → size ≡ slice_index n.seats k → ((j : ℕ) → j < k → slice_index sizes j ≡ slice_index n.seats j) →
+    (j : ℕ) → j < k + 1 → slice_index (set sizes k size) j ≡ slice_index n.seats j
+sizes_more n sizes k size room is before j l = elim (cases_eq j k) [
+  | inl e ↦ subst (λ x. slice_index (set sizes k size) x ≡ slice_index n.seats x) (sym e) (get_or-set_same sizes k size 0 room ∙ is)
+  | inr other ↦ get_or-set_other sizes k j size 0 other ∙ before j (omega arith)
+]
+
+pub strides_more : (n : Sizes) (strides : List ℕ) (low w k value : ℕ) → k < length strides → value ≡ cond (ltb k low) (stride_of n k / w) (stride_of n k) →
+    ((j : ℕ) → j < k → slice_index strides j ≡ cond (ltb j low) (stride_of n j / w) (stride_of n j)) →
+    (j : ℕ) → j < k + 1 → slice_index (set strides k value) j ≡ cond (ltb j low) (stride_of n j / w) (stride_of n j)
+strides_more n strides low w k value room is before j l = elim (cases_eq j k) [
+  | inl e ↦ subst (λ x. slice_index (set strides k value) x ≡ cond (ltb x low) (stride_of n x / w) (stride_of n x)) (sym e) (get_or-set_same strides k value 0 room ∙ is)
+  | inr other ↦ get_or-set_other strides k j value 0 other ∙ before j (omega arith)
+]
+
+pub firsts_more : (n : Sizes) (firsts : List ℕ) (k word : ℕ) → k < length firsts → ((lane : ℕ) → lane < 64 → is_on word lane ≡ has_state (stride_of n k) (slice_index n.seats k) 0 lane) →
+    ((j lane : ℕ) → j < k → lane < 64 → is_on (slice_index firsts j) lane ≡ has_state (stride_of n j) (slice_index n.seats j) 0 lane) →
+    (j lane : ℕ) → j < k + 1 → lane < 64 → is_on (slice_index (set firsts k word) j) lane ≡ has_state (stride_of n j) (slice_index n.seats j) 0 lane
+firsts_more n firsts k word room is before j lane l m = elim (cases_eq j k) [
+  | inl e ↦ subst (λ x. is_on (slice_index (set firsts k word) x) lane ≡ has_state (stride_of n x) (slice_index n.seats x) 0 lane) (sym e)
+      (ap (λ w. is_on w lane) (get_or-set_same firsts k word 0 room) ∙ is lane m)
+  | inr other ↦ ap (λ w. is_on w lane) (get_or-set_other firsts k j word 0 other) ∙ before j lane (omega arith) m
+]
+
+turned : (a b : ℕ) → a * b ≡ b * a
+turned a b = omega arith
+
+-- the pairs of a row are pairs
+pub row_inside : (n : Sizes) (x lane rows : ℕ) → rows * lanes_of n.seats ≡ count n → x < rows → lane < lanes_of n.seats → x * lanes_of n.seats + lane < count n
+row_inside n x lane rows is l m = subst (λ y. x * lanes_of n.seats + lane < y) (turned (lanes_of n.seats) rows ∙ is) (mul-add-lt x (lanes_of n.seats) lane rows l m)
+
+pub row_number : (x rows w c : ℕ) → 0 < w → rows * w ≡ c → x * w < c → x < rows
+row_number x rows w c pos is l =
+    let first : x * w ≡ x * w + 0 = omega arith in
+    row_below x w 0 rows (subst (λ m. m < rows * w) first (subst (λ m. x * w < m) (sym is) l))
+
+-- what is looked up of a row
+pub row_made : (s : Sys) (x : ℕ) (row : Row) → IsSizes (sizes_of s) → x * lanes_in s < count (sizes_of s) → (rows : ℕ) → rows * lanes_in s ≡ count (sizes_of s) → row.part ≡ x % env_rows_of (sizes_of s) →
+    row.target ≡ (pair_at (sizes_of s) (x * lanes_in s)).t → row.env ≡ (pair_at (sizes_of s) (x * lanes_in s)).e →
+    take (length (sizes_of s).seats) row.states ≡ (pair_at (sizes_of s) (x * lanes_in s)).bs →
+    ArePermitted s.env s.target row.target row.env row.allowed → AreLeading s.env s.target row.target row.env row.leading → IsRow s x row
+row_made s x row sizes start rows is_rows part at_target at_env at_states allowed leading =
+    let n = sizes_of s in
+    let w = lanes_in s in
+    let pos : 0 < w = lanes_positive n.seats sizes.seats in
+    let in_rows : x < rows = row_number x rows w (count n) pos is_rows start in
+    let first : x * w ≡ x * w + 0 = omega arith in
+    let pair : IsPairOf n (pair_at n (x * w)) = IsPairOf-at n (x * w) start in
+    let inside : (lane : ℕ) → lane < w → x * w + lane < count n = λ lane l. row_inside n x lane rows is_rows in_rows l in
+    let front : (lane : ℕ) → lane < w → (x * w + lane) / product_of n.seats ≡ x * w / product_of n.seats = λ lane l.
+    ap (λ y. (x * w + lane) / y) (sym (env_rows_are n)) ∙ (row_div x w lane (env_rows_of n) l
+    ∙ sym (ap₂ (λ y z. y / z) first (sym (env_rows_are n)) ∙ row_div x w 0 (env_rows_of n) pos)) in
+    let state : (k : ℕ) → k < low_of n.seats → slice_index row.states k ≡ slice_index (pair_at n (x * w)).bs k = λ k l.
+    sym (get_or-take (length n.seats) row.states k 0 (omega (arith, low_of-le n.seats))) ∙ ap (λ bs. get_or bs k 0) at_states in
+    record {
+      part = part;
+      target_range = subst (λ y. y < n.target) (sym at_target) pair.t;
+      env_range = subst (λ y. y < n.env) (sym at_env) pair.e;
+      state_range = λ k l. subst (λ y. y < slice_index n.seats k) (sym (state k l)) (AreBelow-index n.seats (pair_at n (x * w)).bs k pair.bs (omega (arith, low_of-le n.seats)));
+      below = inside;
+      targets = λ lane l. ap (λ y. y / n.env) (front lane l) ∙ sym at_target;
+      envs = λ lane l. ap (λ y. y % n.env) (front lane l) ∙ sym at_env;
+      states = λ k lane l h.
+          let r : ℕ = stride_of n k / w in
+          let is : r * w ≡ stride_of n k = stride_rows n k sizes l in
+          part_at n (x * w + lane) k (inside lane h) (omega (arith, low_of-le n.seats))
+          ∙ (ap (λ y. (x * w + lane) / y % slice_index n.seats k) (sym is)
+          ∙ (ap (λ y. y % slice_index n.seats k) (row_div x w lane r h
+          ∙ sym (ap₂ (λ y z. y / z) first (sym is) ∙ row_div x w 0 r pos))
+          ∙ (sym (part_at n (x * w) k start (omega (arith, low_of-le n.seats))) ∙ sym (state k l))));
+      allowed = allowed;
+      leading = leading;
+    }

@@ -1,0 +1,159 @@
+-- The lanes of words that are combined.
+use Rattle.std.proofs.Common.{◌≡◌, ◌≢◌, ℕ, zero, ◌+◌, ◌-◌, ◌*◌, ◌/◌, ◌%◌, ◌^◌, ◌<◌, ◌≤◌, min, max, Bool, true, false, not, ◌&&◌, ◌||◌, List, [], ◌∷◌, ◌++◌, length, take, get_or, inl, inr, refl, sym, ap, ap₂, ◌∙◌, subst, arith, eqb, ltb, bit_and}
+use Rattle.std.specs.Int.{bit_at, bit_not, w64}
+use Rattle.std.specs.Prelude.{bit_or}
+use Rattle.std.specs.List.{list_any}
+use Rattle.std.proofs.lemmas.Bool.{cases_eq, cases_lt, eq-eqb, ne_eqb, lt-ltb, le-ltb}
+use Rattle.std.proofs.lemmas.Nat.{shr-shr, pow_pos}
+use Rattle.std.proofs.lemmas.Nat.Bits.{bit_at_and, bit_at_or, bit_at_not, bit_at-lt, bit_at-zero, bit_at_ones, bit_at_ones_above, bit_at_cat_low, bit_at_cat_high, bit_at_above, bit_at_set_same, bit_at_set_other, shr_and_one}
+use Rattle.std.proofs.lemmas.List.{take_more}
+use Rattle.std.proofs.lemmas.List.Folds.{list_any-append}
+use Rattle.roman_lanes.specs.Rows.{is_on}
+
+pub on_zero : (i : ℕ) → is_on zero i ≡ false
+unfolding is_on
+on_zero i = ap (λ n. eqb n 1) (bit_at-zero i)
+
+pub on_ones : (i : ℕ) → i < 64 → is_on (2 ^ 64 - 1) i ≡ true
+unfolding is_on
+on_ones i h = ap (λ n. eqb n 1) (bit_at_ones 64 i h)
+
+-- the first lanes
+pub on_first : (k i : ℕ) → is_on (2 ^ k - 1) i ≡ ltb i k
+unfolding is_on
+on_first k i = elim (cases_lt i k) [
+  | inl less ↦ ap (λ n. eqb n 1) (bit_at_ones k i less) ∙ sym (lt-ltb i k less)
+  | inr more ↦ ap (λ n. eqb n 1) (bit_at_ones_above k i more) ∙ sym (le-ltb i k more)
+]
+
+min_on : (m n : ℕ) → m < 2 → n < 2 → eqb (min m n) 1 ≡ (eqb m 1 && eqb n 1)
+min_on m n h l = elim (cases_eq m 1) [
+  | inl one ↦ elim (cases_eq n 1) [
+    | inl other ↦ rw (one, other) refl
+    | inr none ↦ let e : n ≡ 0 = omega arith in rw (one, e) refl
+  ]
+  | inr none ↦ elim (cases_eq n 1) [
+    | inl other ↦ let e : m ≡ 0 = omega arith in rw (e, other) refl
+    | inr neither ↦ let e : m ≡ 0 = omega arith in let f : n ≡ 0 = omega arith in rw (e, f) refl
+  ]
+]
+
+max_on : (m n : ℕ) → m < 2 → n < 2 → eqb (max m n) 1 ≡ (eqb m 1 || eqb n 1)
+max_on m n h l = elim (cases_eq m 1) [
+  | inl one ↦ elim (cases_eq n 1) [
+    | inl other ↦ rw (one, other) refl
+    | inr none ↦ let e : n ≡ 0 = omega arith in rw (one, e) refl
+  ]
+  | inr none ↦ elim (cases_eq n 1) [
+    | inl other ↦ let e : m ≡ 0 = omega arith in rw (e, other) refl
+    | inr neither ↦ let e : m ≡ 0 = omega arith in let f : n ≡ 0 = omega arith in rw (e, f) refl
+  ]
+]
+
+not_on : (m : ℕ) → m < 2 → eqb (1 - m) 1 ≡ not (eqb m 1)
+not_on m h = elim (cases_eq m 1) [
+  | inl one ↦ rw one refl
+  | inr none ↦ let e : m ≡ 0 = omega arith in rw e refl
+]
+
+pub on_and : (a b i : ℕ) → is_on (bit_and a b) i ≡ (is_on a i && is_on b i)
+unfolding is_on
+on_and a b i = ap (λ n. eqb n 1) (bit_at_and a b i) ∙ min_on (bit_at a i) (bit_at b i) (bit_at-lt a i) (bit_at-lt b i)
+
+pub on_or : (a b i : ℕ) → is_on (bit_or a b) i ≡ (is_on a i || is_on b i)
+unfolding is_on
+on_or a b i = ap (λ n. eqb n 1) (bit_at_or a b i) ∙ max_on (bit_at a i) (bit_at b i) (bit_at-lt a i) (bit_at-lt b i)
+
+pub on_not : (a i : ℕ) → a < 2 ^ 64 → i < 64 → is_on (bit_not w64 a) i ≡ not (is_on a i)
+unfolding is_on
+on_not a i h l = ap (λ n. eqb n 1) (bit_at_not w64 a i h l) ∙ not_on (bit_at a i) (bit_at-lt a i)
+
+pub on_past : (a i : ℕ) → a < 2 ^ 64 → 64 ≤ i → is_on a i ≡ false
+unfolding is_on
+on_past a i h l = ap (λ n. eqb n 1) (bit_at_above a 64 i h l)
+
+pub on_shr : (a d i j : ℕ) → j ≡ d + i → is_on (a / 2 ^ d) i ≡ is_on a j
+unfolding is_on
+on_shr a d i j e = ap (λ n. eqb n 1) (sym (shr_and_one (a / 2 ^ d) i) ∙ (ap (λ n. bit_and n 1) (shr-shr a d i) ∙ (shr_and_one a (d + i) ∙ ap (bit_at a) (sym e))))
+
+pub on_shl : (a d i j : ℕ) → i < 64 → i ≡ d + j → is_on (a * 2 ^ d % 2 ^ 64) i ≡ is_on a j
+unfolding is_on
+on_shl a d i j h e =
+    let whole : a * 2 ^ d ≡ (a * 2 ^ d / 2 ^ 64) * 2 ^ 64 + a * 2 ^ d % 2 ^ 64 = omega arith in
+    let low : bit_at (a * 2 ^ d) i ≡ bit_at (a * 2 ^ d % 2 ^ 64) i = ap (λ n. bit_at n i) whole ∙ bit_at_cat_low (a * 2 ^ d / 2 ^ 64) 64 (a * 2 ^ d % 2 ^ 64) i h in
+    let pos : 0 < 2 ^ d = pow_pos d in
+    let same : a * 2 ^ d ≡ a * 2 ^ d + 0 = omega arith in
+    let high : bit_at (a * 2 ^ d) i ≡ bit_at a (i - d) = ap (λ n. bit_at n i) same ∙ bit_at_cat_high a d 0 i pos (omega arith) in
+    let place : i - d ≡ j = omega arith in
+    ap (λ n. eqb n 1) (sym low ∙ (high ∙ ap (bit_at a) place))
+
+pub on_below : (a d i : ℕ) → i < d → is_on (a * 2 ^ d % 2 ^ 64) i ≡ false
+unfolding is_on
+on_below a d i l = elim (cases_lt i 64) [
+  | inl h ↦
+      let whole : a * 2 ^ d ≡ (a * 2 ^ d / 2 ^ 64) * 2 ^ 64 + a * 2 ^ d % 2 ^ 64 = omega arith in
+      let low : bit_at (a * 2 ^ d) i ≡ bit_at (a * 2 ^ d % 2 ^ 64) i = ap (λ n. bit_at n i) whole ∙ bit_at_cat_low (a * 2 ^ d / 2 ^ 64) 64 (a * 2 ^ d % 2 ^ 64) i h in
+      let same : a * 2 ^ d ≡ a * 2 ^ d + 0 = omega arith in
+      let none : bit_at (a * 2 ^ d) i ≡ bit_at 0 i = ap (λ n. bit_at n i) same ∙ bit_at_cat_low a d 0 i l in
+      ap (λ n. eqb n 1) (sym low ∙ (none ∙ bit_at-zero i))
+  | inr past ↦ let small : a * 2 ^ d % 2 ^ 64 < 2 ^ 64 = omega arith in ap (λ n. eqb n 1) (bit_at_above (a * 2 ^ d % 2 ^ 64) 64 i small past)
+]
+
+pub on_set_same : (a i : ℕ) → i < 64 → is_on (bit_or a (1 * 2 ^ i % 2 ^ 64)) i ≡ true
+unfolding is_on
+on_set_same a i h = ap (λ n. eqb n 1) (bit_at_set_same w64 a i h)
+
+pub on_set_other : (a i j : ℕ) → i < 64 → j ≢ i → is_on (bit_or a (1 * 2 ^ i % 2 ^ 64)) j ≡ is_on a j
+unfolding is_on
+on_set_other a i j h ne = ap (λ n. eqb n 1) (bit_at_set_other w64 a i h j ne)
+
+-- none so far and none more
+pub none_more : {X : Type 0} (p : X → Bool) (xs : List X) (x : X) → not (list_any p (xs ++ x ∷ [])) ≡ (not (list_any p xs) && not (p x))
+none_more p xs x = ap not (list_any-append p xs (x ∷ [])) ∙ by_cases (list_any p xs) (p x)
+  where
+    by_cases : (a b : Bool) → not (a || (b || false)) ≡ (not a && not b)
+    by_cases true b = refl
+    by_cases false true = refl
+    by_cases false false = refl
+
+-- one word more
+pub alive_more : {X : Type 0} (test : X → Bool) (xs : List X) (i : ℕ) (d : X) (good alive word lane : ℕ) → i < length xs →
+    is_on alive lane ≡ (is_on good lane && not (list_any test (take i xs))) → is_on word lane ≡ not (test (get_or xs i d)) →
+    is_on (bit_and alive word) lane ≡ (is_on good lane && not (list_any test (take (i + 1) xs)))
+alive_more test xs i d good alive word lane l before here =
+    on_and alive word lane ∙ (ap₂ (λ a b. a && b) before here ∙ (shift (is_on good lane) (not (list_any test (take i xs))) (not (test (get_or xs i d)))
+    ∙ ap (λ b. is_on good lane && b) (sym (none_more test (take i xs) (get_or xs i d)) ∙ ap (λ ys. not (list_any test ys)) (sym (take_more xs i d l)))))
+  where
+    shift : (a b c : Bool) → ((a && b) && c) ≡ (a && (b && c))
+    shift true b c = refl
+    shift false b c = refl
+
+-- none of both
+pub none_after : {X : Type 0} (test : X → Bool) (xs : List X) (i : ℕ) (d : X) (good alive next : Bool) → i < length xs →
+    alive ≡ (good && not (list_any test (take i xs))) → next ≡ (alive && not (test (get_or xs i d))) → next ≡ (good && not (list_any test (take (i + 1) xs)))
+none_after test xs i d good alive next l before here =
+    here ∙ (ap (λ a. a && not (test (get_or xs i d))) before ∙ (shift good (not (list_any test (take i xs))) (not (test (get_or xs i d)))
+    ∙ ap (λ b. good && b) (sym (none_more test (take i xs) (get_or xs i d)) ∙ ap (λ ys. not (list_any test ys)) (sym (take_more xs i d l)))))
+  where
+    shift : (a b c : Bool) → ((a && b) && c) ≡ (a && (b && c))
+    shift true b c = refl
+    shift false b c = refl
+
+-- what is on is said twice
+pub not_not : (b : Bool) → b ≡ not (not b)
+not_not true = refl
+not_not false = refl
+
+-- nothing is tested
+pub all_pass : (b : Bool) → b ≡ (b && true)
+all_pass true = refl
+all_pass false = refl
+
+-- those of a word that aren't of another
+pub on_less : (word other lane : ℕ) → word < 2 ^ 64 → other < 2 ^ 64 → is_on (bit_and word (bit_not w64 other)) lane ≡ (is_on word lane && not (is_on other lane))
+on_less word other lane l m = elim (cases_lt lane 64) [
+  | inl less ↦ on_and word (bit_not w64 other) lane ∙ ap (λ b. is_on word lane && b) (on_not other lane m less)
+  | inr past ↦
+      on_and word (bit_not w64 other) lane
+      ∙ (ap (λ b. b && is_on (bit_not w64 other) lane) (on_past word lane l past) ∙ sym (ap (λ b. b && not (is_on other lane)) (on_past word lane l past)))
+]

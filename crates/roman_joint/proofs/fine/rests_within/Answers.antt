@@ -1,0 +1,55 @@
+use Rattle.std.proofs.Common.{◌≡◌, ℕ, ◌/◌, ◌%◌, ◌<◌, ◌≤◌, Bool, ◌&&◌, ◌||◌, length, map, slice_get, slice_index, ltb, sym, ap, ap₂, ◌∙◌, arith}
+use Rattle.std.proofs.lemmas.Bool.{le-ltb, lt-ltb}
+use Rattle.std.proofs.lemmas.List.{length-map}
+use Rattle.std.proofs.lemmas.Nat.{mod_below}
+use Rattle.roman_model.specs.Numbers.{sizes_of}
+use Rattle.roman_radix.specs.Radix.{stride_of}
+use Rattle.roman_radix.proofs.Strides.{AreSizes-index}
+use Rattle.roman_lanes.specs.Rows.{is_on}
+use Rattle.roman_joint.specs.NamedSys.{system_of}
+use Rattle.roman_joint.specs.Rows.{may_rest}
+use Rattle.roman_joint.proofs.WordLemmas.{on_zero}
+use Rattle.roman_joint.proofs.SplitLemmas.{joint_sizes}
+use Rattle.roman_joint.proofs.GoodLemmas.{within, below_more, state_is}
+use Rattle.roman_joint.proofs.FineLemmas.{same_state}
+use Rattle.roman_joint.proofs.fine.rests_within.Goals as goal
+
+pub state_lanes-in_state-requires-clause-state : goal.state_lanes-in_state-requires-clause-state
+state_lanes-in_state-requires-clause-state c =
+    let w = within c.args.joint.now c.layout-rows.result.now c.args.k c.layout-rows.ensures.known c.layout-rows.ensures.rows c.requires.within c.requires.seat in
+    omega (arith, c.layout-rows.ensures.rows.sizes c.args.k w.seats)
+
+pub may_rest-rests-requires-clause-state : goal.may_rest-rests-requires-clause-state
+may_rest-rests-requires-clause-state c =
+    let w = within c.args.joint.now c.layout-rows.result.now c.args.k c.layout-rows.ensures.known c.layout-rows.ensures.rows c.requires.within c.requires.seat in
+    omega (arith, c.layout-rows.ensures.rows.sizes c.args.k w.seats)
+
+pub loop-b-init : goal.loop-b-init
+loop-b-init c lane l =
+    let s = system_of c.args.joint.now in
+    let m = lane / stride_of (sizes_of s) c.args.k % slice_index (sizes_of s).seats c.args.k in
+    on_zero lane ∙ sym (ap (λ t. t && may_rest (slice_get s.seats c.args.k) m) (le-ltb m 0 (omega arith)))
+
+pub loop-b-preserved : goal.loop-b-preserved
+loop-b-preserved c lane l =
+    let s = system_of c.args.joint.now in
+    let st = stride_of (sizes_of s) c.args.k in
+    let size = slice_index (sizes_of s).seats c.args.k in
+    let m = lane / st % size in
+    let b = c.loop-b.b in
+    let f = may_rest (slice_get s.seats c.args.k) in
+    c.with_lanes-lanes.ensures lane
+    ∙ (ap₂ (λ y z. y || z) (c.loop-b.invariant lane l)
+    (ap₂ (λ y z. y && z) (c.state_lanes-in_state.ensures.each lane l ∙ state_is st size b lane) c.may_rest-rests.ensures ∙ same_state m b f)
+    ∙ below_more m b (f m))
+
+pub returns : goal.returns
+returns c lane l =
+    let n = c.args.joint.now in
+    let s = system_of n in
+    let st = stride_of (sizes_of s) c.args.k in
+    let size = slice_index (sizes_of s).seats c.args.k in
+    let w = within n c.layout-rows.result.now c.args.k c.layout-rows.ensures.known c.layout-rows.ensures.rows c.requires.within c.requires.seat in
+    let some = (AreSizes-index (sizes_of s).seats c.args.k (joint_sizes n c.layout-rows.ensures.known).seats w.seats).0 in
+    let less = mod_below (lane / st) size some in
+    c.loop-b.invariant lane l ∙ ap (λ t. t && may_rest (slice_get s.seats c.args.k) (lane / st % size)) (lt-ltb (lane / st % size) c.loop-b.b (omega (arith, less, c.layout-rows.ensures.rows.sizes c.args.k w.seats)))

@@ -1,0 +1,15 @@
+use Rattle.std.proofs.Common.{◌≡◌, ℕ, ◌+◌, ◌*◌, ◌∙◌, sym, ap, not}
+use Rattle.roman_joint.specs.NamedSys.{system_of}
+use Rattle.roman_joint.specs.Rows.{lanes_in}
+use Rattle.roman_joint.proofs.ArenaFacts.{joint_numbered}
+use Rattle.roman_joint.proofs.AllowedLemmas.{unopened}
+use Rattle.roman_joint.proofs.WordLemmas.{on_zero}
+use Rattle.roman_joint.proofs.joint.Joint.good.Goals as goal
+
+pub returns-in_default : goal.returns-in_default
+returns-in_default c x gone ok rows =
+    let n = c.args.self.now in
+    record {
+      each = λ lane l. on_zero lane ∙ sym (ap not (unopened (system_of n) c.args.row.now x c.args.a c.args.k lane gone (joint_numbered n c.known.ensures) ok l c.in_default.ensures));
+      rest = λ lane l. on_zero lane;
+    }

@@ -1,0 +1,60 @@
+use Rattle.std.proofs.Common.{◌≡◌, ℕ, ◌+◌, ◌*◌, Bool, true, false, not, ◌&&◌, ◌∙◌, sym, ap, ap₂, refl, add-one, arith, length}
+use Rattle.std.proofs.lemmas.List.{length-map}
+use Rattle.roman_model.specs.Lists.{all_below}
+use Rattle.roman_model.specs.Arena.{is_beaten, is_justified}
+use Rattle.roman_model.specs.declared.reason.Reason.TheVariants.{Act}
+use Rattle.roman_model.specs.Numbers.{numbered}
+use Rattle.roman_lanes.specs.Rows.{is_on}
+use Rattle.roman_joint.specs.NamedSys.{system_of, seat_of}
+use Rattle.roman_joint.specs.Rows.{lanes_in}
+use Rattle.roman_joint.proofs.WordLemmas.{on_zero, all_pass}
+use Rattle.roman_joint.proofs.AllowedLemmas.{turn_open, refused, judged, and_nothing, cut_off}
+use Rattle.roman_joint.proofs.joint.Joint.unserved.Goals as goal
+
+one_more : (p : ℕ → Bool) (k : ℕ) (wanted : Bool) → ((wanted && all_below p k) && not (not (p k))) ≡ (wanted && all_below p (k + 1))
+one_more p k wanted = rw add-one (by_cases wanted (all_below p k) (p k))
+  where
+    by_cases : (a b c : Bool) → ((a && b) && not (not c)) ≡ (a && (b && c))
+    by_cases true true true = refl
+    by_cases true true false = refl
+    by_cases true false c = refl
+    by_cases false b c = refl
+
+pub returns-in_default-clause-lost : goal.returns-in_default-clause-lost
+returns-in_default-clause-lost c x gone ok rows lane l =
+    let s = system_of c.args.self.now in
+    on_zero lane ∙ and_nothing (is_on c.args.wanted lane) (is_justified (numbered s) gone (x * lanes_in s + lane) (Act c.args.a)) (refused s c.args.row.now x c.args.a lane gone ok l c.in_default.ensures)
+
+pub loop-k-init : goal.loop-k-init
+loop-k-init c = record { lost = λ x gone ok rows lane l. all_pass (is_on c.args.wanted lane); within = λ lane off. off }
+
+pub returns-then-left-eq0-clause-lost : goal.returns-then-left-eq0-clause-lost
+returns-then-left-eq0-clause-lost c x gone ok rows lane l =
+    let s = system_of c.args.self.now in
+    let beaten = is_beaten (numbered s) gone (x * lanes_in s + lane) c.args.a in
+    let none : (is_on c.args.wanted lane && all_below beaten c.loop-k.k) ≡ false = sym (c.loop-k.invariant.lost x gone ok rows lane l) ∙ (ap (λ w. is_on w lane) c.if-left-eq0.true ∙ on_zero lane) in
+    on_zero lane ∙ (sym (cut_off beaten c.loop-k.k (length s.seats) (is_on c.args.wanted lane) (omega (arith, length-map c.args.self.now.seats (seat_of c.args.self.now.catalogue))) none)
+    ∙ ap (λ b. is_on c.args.wanted lane && b) (judged s c.args.row.now x c.args.a lane gone ok l (turn_open s c.args.row.now c.args.a c.in-Some.turn c.in-Some.ensures)))
+
+pub loop-k-preserved : goal.loop-k-preserved
+loop-k-preserved c = record {
+  lost = λ x gone ok rows lane l.
+      let s = system_of c.args.self.now in
+      let beaten = is_beaten (numbered s) gone (x * lanes_in s + lane) c.args.a in
+      c.less-left.ensures lane ∙ (ap₂ (λ u v. u && not v) (c.loop-k.invariant.lost x gone ok rows lane l) ((c.good_on-good.ensures x gone ok rows).each lane l) ∙ one_more beaten c.loop-k.k (is_on c.args.wanted lane));
+  within = λ lane off. c.less-left.ensures lane ∙ ap (λ u. u && not (is_on c.good_on-good.result lane)) (c.loop-k.invariant.within lane off);
+}
+
+pub returns-clause-lost : goal.returns-clause-lost
+returns-clause-lost c x gone ok rows lane l =
+    let s = system_of c.args.self.now in
+    let beaten = is_beaten (numbered s) gone (x * lanes_in s + lane) c.args.a in
+    let end : c.loop-k.k ≡ length s.seats = omega (arith, length-map c.args.self.now.seats (seat_of c.args.self.now.catalogue)) in
+    c.loop-k.invariant.lost x gone ok rows lane l
+    ∙ (ap (λ m. is_on c.args.wanted lane && all_below beaten m) end ∙ ap (λ b. is_on c.args.wanted lane && b) (judged s c.args.row.now x c.args.a lane gone ok l (turn_open s c.args.row.now c.args.a c.in-Some.turn c.in-Some.ensures)))
+
+pub returns-in_default-clause-within : goal.returns-in_default-clause-within
+returns-in_default-clause-within c lane off = on_zero lane
+
+pub returns-then-left-eq0-clause-within : goal.returns-then-left-eq0-clause-within
+returns-then-left-eq0-clause-within c lane off = on_zero lane

@@ -1,0 +1,16 @@
+use Rattle.std.proofs.Common.{◌≡◌, ℕ, ◌+◌, ◌*◌, ◌<◌, Bool, false, not, ◌&&◌}
+use Rattle.roman_model.specs.Lists.{all_below}
+use Rattle.roman_model.specs.Arena.{is_beaten}
+use Rattle.roman_model.specs.Numbers.{numbered}
+use Rattle.roman_lanes.specs.Rows.{is_on, AreRows}
+use Rattle.roman_joint.specs.NamedSys.{system_of}
+use Rattle.roman_joint.specs.Rows.{lanes_in, IsRow}
+use Rattle.roman_joint.proofs.joint.Joint.unserved.Given as goal
+
+-- those that no seat so far serves
+abbrev pub invariant-loop-k : goal.invariant-loop-k
+invariant-loop-k l = record {
+  lost : (x : ℕ) (gone : ℕ → Bool) → IsRow (system_of l.self) x l.row → AreRows (lanes_in (system_of l.self)) (λ q. not (gone q)) l.words → (lane : ℕ) → lane < lanes_in (system_of l.self) →
+      is_on l.left lane ≡ (is_on l.wanted lane && all_below (is_beaten (numbered (system_of l.self)) gone (x * lanes_in (system_of l.self) + lane) l.a) l.k);
+  within : (lane : ℕ) → is_on l.wanted lane ≡ false → is_on l.left lane ≡ false;
+}

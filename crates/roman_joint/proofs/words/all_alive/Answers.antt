@@ -1,0 +1,14 @@
+use Rattle.std.proofs.Common.{◌≡◌, ℕ, ◌+◌, ◌*◌, not, ◌&&◌, slice_index, ap, ◌∙◌, arith}
+use Rattle.std.specs.List.{list_any}
+use Rattle.roman_lanes.specs.Rows.{is_on}
+use Rattle.roman_joint.proofs.WordLemmas.{none_after, all_pass}
+use Rattle.roman_joint.proofs.words.all_alive.Goals as goal
+
+pub loop-env-init : goal.loop-env-init
+loop-env-init c lane = all_pass (is_on c.args.good lane)
+
+pub loop-env-preserved : goal.loop-env-preserved
+loop-env-preserved c lane =
+    let test = λ (e : ℕ). list_any (λ b. not (is_on (slice_index c.args.words.now (c.args.base + e * c.args.env_stride + b * c.args.stride)) lane)) c.args.states.now in
+    none_after test c.args.envs.now c.loop-env.env-index 0 (is_on c.args.good lane) (is_on c.loop-env.alive lane) (is_on c.rows_alive-alive.result lane)
+    (omega arith) (c.loop-env.invariant lane) (c.rows_alive-alive.ensures lane ∙ ap (λ e. is_on c.loop-env.alive lane && not (test e)) c.from.ensures)

@@ -1,0 +1,13 @@
+use Rattle.std.proofs.Common.{◌≡◌, ℕ, ◌+◌, ◌*◌, not, slice_index, ap, ◌∙◌, arith}
+use Rattle.roman_lanes.specs.Rows.{is_on}
+use Rattle.roman_joint.proofs.WordLemmas.{alive_more, not_not, all_pass}
+use Rattle.roman_joint.proofs.words.rows_alive.Goals as goal
+
+pub loop-state-init : goal.loop-state-init
+loop-state-init c lane = all_pass (is_on c.args.good lane)
+
+pub loop-state-preserved : goal.loop-state-preserved
+loop-state-preserved c lane =
+    let word = λ (b : ℕ). is_on (slice_index c.args.words.now (c.args.base + b * c.args.stride)) lane in
+    alive_more (λ (b : ℕ). not (word b)) c.args.states.now c.loop-state.state-index 0 c.args.good c.loop-state.alive (slice_index c.args.words.now (c.args.base + c.from.result * c.args.stride)) lane
+    (omega arith) (c.loop-state.invariant lane) (ap word c.from.ensures ∙ not_not _)

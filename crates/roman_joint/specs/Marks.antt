@@ -1,0 +1,48 @@
+-- Marks on the rows before a row.
+use Rattle.std.specs.Prelude.{◌≡◌, ℕ, ◌+◌, ◌*◌, ◌<◌, List, length, slice_get, slice_index, IsTrue}
+use Rattle.roman_model.specs.Lists.{IsIn}
+use Rattle.roman_model.specs.System.{Sys, Pair, env_prev, beh_prev}
+use Rattle.roman_model.specs.Numbers.{sizes_of}
+use Rattle.roman_radix.specs.Radix.{stride_of}
+use Rattle.roman_radix.specs.Rows.{env_rows_of, target_rows_of}
+use Rattle.roman_lanes.specs.Flags.{has_flag}
+use Rattle.roman_joint.specs.Backward.{seat_prev}
+use Rattle.roman_joint.specs.Rows.{lanes_in, low_in}
+use Rattle.roman_joint.specs.declared.row.Row.{Row}
+
+-- the row is marked, if the table has a place for it
+abbrev pub IsMarked : List ℕ → ℕ → Type 0
+IsMarked marks x = x < 64 * length marks → IsTrue (has_flag marks x)
+
+-- marks are added, none is taken off
+pub record Grows (old new : List ℕ) : Type 0 where
+  pub long : length new ≡ length old
+  pub still : (x : ℕ) → IsTrue (has_flag old x) → IsTrue (has_flag new x)
+
+-- the row's own row at the target's t and the environment's e
+abbrev pub row_at : Sys → Row → ℕ → ℕ → ℕ
+row_at s row e t = t * target_rows_of (sizes_of s) + e * env_rows_of (sizes_of s) + row.part
+
+-- the rows from which seat k goes to the row by a, where the row at the states of the others is `base` and u rows lie between two of its states
+pub record MarksSeat (s : Sys) (row : Row) (marks : List ℕ) (a e base k : ℕ) : Type 0 where
+  pub moved : (u b x : ℕ) → u * lanes_in s ≡ stride_of (sizes_of s) k → IsIn b (seat_prev (slice_get s.seats k) (slice_index row.states k) e a) →
+      x + slice_index row.states k * u ≡ base + b * u → IsMarked marks x
+
+-- the rows at t and e from which a leads to the row
+pub record MarksTurn (s : Sys) (row : Row) (marks : List ℕ) (a e t : ℕ) : Type 0 where
+  pub own : IsMarked marks (row_at s row e t)
+  pub seats : (k : ℕ) → k < low_in s → MarksSeat s row marks a e (row_at s row e t) k
+
+-- those at e
+pub record MarksEnv (s : Sys) (row : Row) (marks : List ℕ) (a e : ℕ) : Type 0 where
+  pub turns : (t : ℕ) → IsIn t (beh_prev s.target row.target e a) → MarksTurn s row marks a e t
+
+-- those from which a leads to the row
+pub record MarksAction (s : Sys) (row : Row) (marks : List ℕ) (a : ℕ) : Type 0 where
+  pub envs : (e : ℕ) → IsIn e (env_prev s.env row.env a) → MarksEnv s row marks a e
+
+-- the pair is in the states that all pairs of the row have
+pub record IsAt (s : Sys) (row : Row) (q : Pair) : Type 0 where
+  pub target : q.t ≡ row.target
+  pub env : q.e ≡ row.env
+  pub states : (k : ℕ) → k < low_in s → slice_index q.bs k ≡ slice_index row.states k

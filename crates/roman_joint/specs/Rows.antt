@@ -1,0 +1,72 @@
+-- Rows of a system's pairs.
+use Rattle.std.specs.Prelude.{◌≡◌, ℕ, ◌+◌, ◌*◌, ◌/◌, ◌%◌, ◌<◌, ◌≤◌, ◌==◌, ◌&&◌, ◌||◌, ltb, Bool, true, not, Option, None, Some, List, [], ◌∷◌, length, slice_index, IsFalse}
+use Rattle.std.specs.List.{list_any}
+use Rattle.roman_model.specs.Lists.{is_empty}
+use Rattle.roman_model.specs.System.{Sys, Seat, is_final, env_next, beh_next}
+use Rattle.roman_model.specs.Numbers.{Sizes, sizes_of, count, pair_at}
+use Rattle.roman_radix.specs.Radix.{stride_of}
+use Rattle.roman_radix.specs.Rows.{low_of, lanes_of, env_rows_of, target_rows_of}
+use Rattle.roman_lanes.specs.Rows.{is_on}
+use Rattle.roman_joint.specs.Scenes.{ArePermitted, AreLeading}
+use Rattle.roman_joint.specs.declared.layout.Rows.{Rows}
+use Rattle.roman_joint.specs.declared.row.Row.{Row}
+use Rattle.roman_joint.specs.declared.turn.Turn.{Turn}
+
+-- how many pairs a row of the system has
+abbrev pub lanes_in : Sys → ℕ
+lanes_in s = lanes_of (sizes_of s).seats
+
+-- how many seats stand before the lanes
+abbrev pub low_in : Sys → ℕ
+low_in s = low_of (sizes_of s).seats
+
+-- the lane is one of state b, for a seat of that stride and size
+unfoldable pub has_state : ℕ → ℕ → ℕ → ℕ → Bool
+has_state stride size b lane = lane / stride % size == b
+
+-- the rows are those of the sizes: strides of seats before the lanes are counted in rows, those of seats within them in lanes
+pub record AreRowsOf (n : Sizes) (r : Rows) : Type 0 where
+  pub low : r.low ≡ low_of n.seats
+  pub lanes : r.lanes ≡ lanes_of n.seats
+  pub full : (lane : ℕ) → is_on r.full lane ≡ ltb lane (lanes_of n.seats)
+  pub rows : r.rows * lanes_of n.seats ≡ count n
+  pub env : r.env_rows ≡ env_rows_of n
+  pub target : r.target_rows ≡ target_rows_of n
+  pub before : (k : ℕ) → k < low_of n.seats → slice_index r.strides k * lanes_of n.seats ≡ stride_of n k
+  pub within : (k : ℕ) → low_of n.seats ≤ k → k < length n.seats → slice_index r.strides k ≡ stride_of n k
+  pub sizes : (k : ℕ) → k < length n.seats → slice_index r.sizes k ≡ slice_index n.seats k
+  pub firsts : (k lane : ℕ) → k < length n.seats → lane < 64 → is_on (slice_index r.firsts k) lane ≡ has_state (stride_of n k) (slice_index n.seats k) 0 lane
+
+-- what was looked up is that of row x: all its pairs have these states of the target, the environment and the seats before the lanes
+pub record IsRow (s : Sys) (x : ℕ) (row : Row) : Type 0 where
+  pub part : row.part ≡ x % env_rows_of (sizes_of s)
+  pub target_range : row.target < s.target.states
+  pub env_range : row.env < s.env.states
+  pub state_range : (k : ℕ) → k < low_in s → slice_index row.states k < slice_index (sizes_of s).seats k
+  pub below : (lane : ℕ) → lane < lanes_in s → x * lanes_in s + lane < count (sizes_of s)
+  pub targets : (lane : ℕ) → lane < lanes_in s → (pair_at (sizes_of s) (x * lanes_in s + lane)).t ≡ row.target
+  pub envs : (lane : ℕ) → lane < lanes_in s → (pair_at (sizes_of s) (x * lanes_in s + lane)).e ≡ row.env
+  pub states : (k lane : ℕ) → k < low_in s → lane < lanes_in s → slice_index (pair_at (sizes_of s) (x * lanes_in s + lane)).bs k ≡ slice_index row.states k
+  pub allowed : ArePermitted s.env s.target row.target row.env row.allowed
+  pub leading : AreLeading s.env s.target row.target row.env row.leading
+
+-- the target allows the action at the row's pairs
+abbrev pub is_open : Sys → Row → ℕ → Bool
+is_open s row a = not (is_empty (env_next s.env row.env a)) && not (is_empty (beh_next s.target row.target row.env a))
+
+-- the action leads from the row to one state of the target and these of the environment; the rows of the first of all begin at `base`
+pub record IsTurn (s : Sys) (row : Row) (a : ℕ) (turn : Turn) : Type 0 where
+  pub to : ℕ
+  pub target : beh_next s.target row.target row.env a ≡ to ∷ []
+  pub base : turn.base ≡ to * target_rows_of (sizes_of s) + row.part
+  pub worlds : turn.envs.now ≡ env_next s.env row.env a
+  pub some : IsFalse (is_empty turn.envs.now)
+
+-- the lanes are those at which the environment's rows of the turn hold pairs that aren't gone
+pub record AreAlive (s : Sys) (gone : ℕ → Bool) (turn : Turn) (alive : ℕ) : Type 0 where
+  pub each : (lane : ℕ) → lane < lanes_in s → is_on alive lane ≡ not (list_any (λ e. gone ((turn.base + e * env_rows_of (sizes_of s)) * lanes_in s + lane)) turn.envs.now)
+
+-- the seat may rest in state b: it is final there, or needn't be
+abbrev pub may_rest : Option Seat → ℕ → Bool
+may_rest None b = true
+may_rest (Some seat) b = not seat.rests || is_final seat.beh b

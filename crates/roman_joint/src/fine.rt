@@ -1,0 +1,75 @@
+//! Which pairs of a row don't meet clause 2.
+ghost use Rattle.std.specs.Prelude.{◌≡◌, ℕ, ◌+◌, ◌*◌, ◌/◌, ◌%◌, ◌<◌, ◌≤◌, Bool, not, ◌&&◌, ◌||◌, length, slice_get, slice_index};
+ghost use Rattle.roman_model.specs.Numbers.{sizes_of, pair_at, numbered};
+ghost use Rattle.roman_radix.specs.Radix.{stride_of};
+ghost use Rattle.roman_lanes.specs.Rows.{is_on, HasLanes};
+ghost use Rattle.roman_joint.specs.NamedSys.{system_of};
+ghost use Rattle.roman_joint.specs.Rows.{lanes_in, low_in, IsRow, may_rest as may_rest_in};
+
+use crate::joint::Joint;
+use crate::row::Row;
+use crate::states::{may_rest, state_lanes};
+use crate::words::less;
+
+/// The lanes of a word with those of another where `is_in` says so.
+fn with_lanes(word: u64, lanes: u64, is_in: bool) -> u64
+    ensures { (lane : ℕ) → is_on result lane ≡ (is_on word lane || (is_on lanes lane && is_in)) }
+{
+    if is_in { word | lanes } else { word }
+}
+
+/// The lanes in which a seat within the lanes may rest.
+fn rests_within(joint: &Joint, k: u8) -> u64
+    requires within { low_in (system_of joint.now) ≤ k }
+    requires seat { k < length joint.now.seats }
+    ensures { (lane : ℕ) → lane < lanes_in (system_of joint.now) → is_on result lane
+        ≡ may_rest_in (slice_get (system_of joint.now).seats k) (lane / stride_of (sizes_of (system_of joint.now)) k % slice_index (sizes_of (system_of joint.now)).seats k) }
+{
+    let rows = joint.layout();
+    let mut lanes = 0;
+    for b in 0..rows.sizes[k as usize] {
+        let in_state = state_lanes(joint, k, b);
+        let rests = may_rest(joint, k, b);
+        lanes = with_lanes(lanes, in_state, rests);
+    }
+    lanes
+}
+
+/// The lanes of a row at which a seat may rest.
+fn rests_on(joint: &Joint, row: &Row, k: u8) -> u64
+    requires row { (x : ℕ) × IsRow (system_of joint.now) x row.now }
+    requires seat { k < length joint.now.seats }
+    ensures { (x lane : ℕ) → IsRow (system_of joint.now) x row.now → lane < lanes_in (system_of joint.now) → is_on result lane
+        ≡ may_rest_in (slice_get (system_of joint.now).seats k) (slice_index (pair_at (sizes_of (system_of joint.now)) (x * lanes_in (system_of joint.now) + lane)).bs k) }
+{
+    let rows = joint.layout();
+    if k < rows.low {
+        let rests = may_rest(joint, k, row.states[k as usize]);
+        return with_lanes(0, rows.full, rests);
+    }
+    rests_within(joint, k)
+}
+
+impl Joint {
+    /// The pairs of a row that don't meet clause 2: the target is final there, and some seat that must
+    /// be isn't.
+    pub fn unfine(&self, row: &Row) -> u64
+        requires { (x : ℕ) × IsRow (system_of self.now) x row.now }
+        ensures { (x : ℕ) → IsRow (system_of self.now) x row.now →
+            HasLanes (lanes_in (system_of self.now)) x (λ p. not ((numbered (system_of self.now)).fine p)) result }
+    {
+        self.known();
+        if !self.target().is_final(row.target) {
+            return 0;
+        }
+        let full = self.layout().full;
+        let mut rests = full;
+        for k in 0..self.seats() {
+            if rests == 0 {
+                return full;
+            }
+            rests &= rests_on(self, row, k);
+        }
+        less(full, rests)
+    }
+}

@@ -1,0 +1,55 @@
+//! What the system does at the pairs of a row.
+ghost use Rattle.std.specs.Prelude.{◌≡◌, ℕ, ◌+◌, ◌*◌, ◌<◌, ◌≤◌, not};
+ghost use Rattle.roman_model.specs.Numbers.{sizes_of, count, numbered};
+ghost use Rattle.roman_rules.specs.Bits.{HasBits};
+ghost use Rattle.roman_lanes.specs.Rows.{HasLanes};
+ghost use Rattle.roman_joint.specs.NamedSys.{system_of};
+ghost use Rattle.roman_joint.specs.Rows.{lanes_in, IsRow};
+
+use super::Joint;
+use crate::row::Row;
+
+impl Joint {
+    /// How many pairs a row has, from 1 to 64: pair p is lane `p % lanes` of row `p / lanes`.
+    pub fn lanes(&self) -> u32
+        ensures value { result ≡ lanes_in (system_of self.now) }
+        ensures few { (0 < result) × (result ≤ 64) }
+    {
+        self.shape.lanes()
+    }
+
+    /// How many rows there are.
+    pub fn rows(&self) -> u32
+        ensures { result * lanes_in (system_of self.now) ≡ count (sizes_of (system_of self.now)) }
+    {
+        self.rows.rows
+    }
+
+    /// Looks up what holds of the row `x`.
+    pub fn row(&self, x: u32) -> Row
+        requires { x * lanes_in (system_of self.now) < count (sizes_of (system_of self.now)) }
+        ensures { IsRow (system_of self.now) x result }
+    {
+        let rows = self.layout();
+        let shape = self.shape();
+        let p = x * rows.lanes;
+        let scene = self.scene_at(p);
+        Row {
+            part: x % rows.env_rows,
+            allowed: scene.allowed,
+            leading: scene.leading,
+            target: shape.target_of(p),
+            env: shape.env_of(p),
+            states: shape.parts_of(p),
+        }
+    }
+
+    /// The actions that the target allows at the pairs of a row: bit a is set exactly where it allows a.
+    pub fn row_actions(&self, row: &Row) -> u32
+        ensures { (x lane : ℕ) → IsRow (system_of self.now) x row.now → lane < lanes_in (system_of self.now) →
+            HasBits result ((numbered (system_of self.now)).allows (x * lanes_in (system_of self.now) + lane)) }
+    {
+        self.known();
+        row.allowed
+    }
+}

@@ -1,0 +1,75 @@
+//! The states of services: where they go, where they come from and where they may rest.
+ghost use Rattle.std.specs.Prelude.{◌≡◌, ℕ, ◌<◌, ◌≤◌, false, length, slice_get, slice_index, All};
+ghost use Rattle.roman_model.specs.System.{seat_next};
+ghost use Rattle.roman_model.specs.Numbers.{sizes_of};
+ghost use Rattle.roman_radix.specs.Radix.{stride_of};
+ghost use Rattle.roman_lanes.specs.Rows.{is_on};
+ghost use Rattle.roman_joint.specs.NamedSys.{system_of};
+ghost use Rattle.roman_joint.specs.Backward.{seat_prev};
+ghost use Rattle.roman_joint.specs.Rows.{lanes_in, low_in, has_state, may_rest as may_rest_in};
+
+use crate::joint::Joint;
+
+/// The states to which a service goes: none where it is frozen.
+pub(crate) fn next_states<'a>(joint: &'a Joint, k: u8, b: u8, e: u8, a: u8) -> &'a [u8]
+    requires seat { k < length joint.now.seats }
+    requires state { b < slice_index (sizes_of (system_of joint.now)).seats k }
+    requires env { e < (system_of joint.now).env.states }
+    requires action { a < (system_of joint.now).env.actions }
+    ensures next { result.now ≡ seat_next (slice_get (system_of joint.now).seats k) b e a }
+    ensures below { All (λ c. c < slice_index (sizes_of (system_of joint.now)).seats k) result.now }
+{
+    joint.known();
+    let seat = joint.seat(k);
+    if seat.frozen {
+        return &[];
+    }
+    let behaviour = &joint.catalogue()[seat.behaviour as usize];
+    behaviour.out(b, e, a)
+}
+
+/// The states from which a service goes to one: none where it is frozen.
+pub(crate) fn prev_states<'a>(joint: &'a Joint, k: u8, b: u8, e: u8, a: u8) -> &'a [u8]
+    requires seat { k < length joint.now.seats }
+    requires state { b < slice_index (sizes_of (system_of joint.now)).seats k }
+    requires env { e < (system_of joint.now).env.states }
+    requires action { a < (system_of joint.now).env.actions }
+    ensures { result.now ≡ seat_prev (slice_get (system_of joint.now).seats k) b e a }
+{
+    joint.known();
+    let seat = joint.seat(k);
+    if seat.frozen {
+        return &[];
+    }
+    let behaviour = &joint.catalogue()[seat.behaviour as usize];
+    behaviour.into(b, e, a)
+}
+
+/// Whether a service may rest in a state: it is final there, or needn't be.
+pub(crate) fn may_rest(joint: &Joint, k: u8, b: u8) -> bool
+    requires seat { k < length joint.now.seats }
+    requires state { b < slice_index (sizes_of (system_of joint.now)).seats k }
+    ensures { result ≡ may_rest_in (slice_get (system_of joint.now).seats k) b }
+{
+    joint.known();
+    let seat = joint.seat(k);
+    if !seat.rests {
+        return true;
+    }
+    let behaviour = &joint.catalogue()[seat.behaviour as usize];
+    behaviour.is_final(b)
+}
+
+/// The lanes in which a service within the lanes is in a state.
+pub(crate) fn state_lanes(joint: &Joint, k: u8, b: u8) -> u64
+    requires within { low_in (system_of joint.now) ≤ k }
+    requires seat { k < length joint.now.seats }
+    requires state { b < slice_index (sizes_of (system_of joint.now)).seats k }
+    ensures each { (lane : ℕ) → lane < lanes_in (system_of joint.now) →
+        is_on result lane ≡ has_state (stride_of (sizes_of (system_of joint.now)) k) (slice_index (sizes_of (system_of joint.now)).seats k) b lane }
+    ensures rest { (lane : ℕ) → lanes_in (system_of joint.now) ≤ lane → is_on result lane ≡ false }
+{
+    let rows = joint.layout();
+    let from = u32::from(b) * rows.strides[k as usize];
+    (rows.firsts[k as usize] << from) & rows.full
+}

@@ -1,0 +1,34 @@
+//! Where an action leads from a row, whoever serves it.
+ghost use Rattle.std.specs.Prelude.{◌≡◌, ℕ, ◌<◌, IsFalse, MatchOption};
+ghost use Rattle.roman_joint.specs.NamedSys.{system_of};
+ghost use Rattle.roman_joint.specs.Rows.{IsRow, IsTurn, is_open};
+
+use crate::joint::Joint;
+use crate::row::Row;
+
+/// Where an action leads from a row: to one state of the target and some of the environment.
+#[derive(Clone, Copy)]
+pub(crate) struct Turn<'a> {
+    /// The row at that state of the target and the environment's first.
+    pub(crate) base: u32,
+    /// The environment's states.
+    pub(crate) envs: &'a [u8],
+}
+
+/// Where the action leads from a row; `None` exactly where it isn't allowed there.
+pub(crate) fn turn_of<'a>(joint: &'a Joint, row: &Row, a: u8) -> Option<Turn<'a>>
+    requires row { (x : ℕ) × IsRow (system_of joint.now) x row.now }
+    requires action { a < (system_of joint.now).env.actions }
+    ensures { MatchOption result (IsFalse (is_open (system_of joint.now) row.now a)) (IsTurn (system_of joint.now) row.now a) }
+{
+    let rows = joint.layout();
+    let Some(to) = joint.target().step(row.target, row.env, a) else {
+        return None;
+    };
+    let envs = joint.environment().next(row.env, a);
+    if envs.is_empty() {
+        return None;
+    }
+    let base = u32::from(to) * rows.target_rows + row.part;
+    Some(Turn { base, envs })
+}

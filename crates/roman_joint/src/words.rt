@@ -1,0 +1,83 @@
+//! Words of lanes: what several rows have in common.
+ghost use Rattle.std.specs.Prelude.{◌≡◌, ℕ, ◌+◌, ◌-◌, ◌*◌, ◌^◌, ◌<◌, ◌≤◌, Bool, false, not, ◌&&◌, All, length, slice_index};
+ghost use Rattle.std.specs.List.{list_any};
+ghost use Rattle.roman_lanes.specs.Rows.{is_on};
+
+/// Those of the lanes `good` that are on in all of the rows `base + b * stride`, for each state b.
+pub(crate) fn rows_alive(words: &[u64], base: u32, states: &[u8], stride: u32, good: u64) -> u64
+    requires fits { All (λ b. base + b * stride < 2 ^ 32) states.now }
+    requires within { All (λ b. base + b * stride < length words.now) states.now }
+    ensures { (lane : ℕ) → is_on result lane
+        ≡ (is_on good lane && not (list_any (λ b. not (is_on (slice_index words.now (base + b * stride)) lane)) states.now)) }
+{
+    let mut alive = good;
+    for state in states {
+        alive &= words[(base + u32::from(*state) * stride) as usize];
+    }
+    alive
+}
+
+/// Those of the lanes `good` that are on in all of the rows `base + e * env_stride + b * stride`.
+pub(crate) fn all_alive(
+    words: &[u64],
+    base: u32,
+    envs: &[u8],
+    env_stride: u32,
+    states: &[u8],
+    stride: u32,
+    good: u64,
+) -> u64
+    requires envs { All (λ e. base + e * env_stride < 2 ^ 32) envs.now }
+    requires fits { All (λ e. All (λ b. base + e * env_stride + b * stride < 2 ^ 32) states.now) envs.now }
+    requires within { All (λ e. All (λ b. base + e * env_stride + b * stride < length words.now) states.now) envs.now }
+    ensures { (lane : ℕ) → is_on result lane
+        ≡ (is_on good lane && not (list_any (λ e. list_any (λ b. not (is_on (slice_index words.now (base + e * env_stride + b * stride)) lane)) states.now) envs.now)) }
+{
+    let mut alive = good;
+    for env in envs {
+        alive = rows_alive(
+            words,
+            base + u32::from(*env) * env_stride,
+            states,
+            stride,
+            alive,
+        );
+    }
+    alive
+}
+
+/// The word whose lane `l` is lane `l + to - from` of this one.
+pub(crate) fn shifted(word: u64, from: u32, to: u32) -> u64
+    requires from { from < 64 }
+    requires to { to < 64 }
+    ensures { (lane : ℕ) → from ≤ lane → lane < 64 → lane + to - from < 64 → is_on result lane ≡ is_on word (lane + to - from) }
+{
+    if to >= from {
+        word >> (to - from)
+    } else {
+        word << (from - to)
+    }
+}
+
+/// Those of the lanes `good` from which lanes that are on are reached, where a lane in state `from`
+/// goes to each of the states.
+pub(crate) fn lanes_alive(word: u64, states: &[u8], from: u32, stride: u32, good: u64) -> u64
+    requires from { from < 64 }
+    requires states { All (λ b. b * stride < 64) states.now }
+    ensures alive { (lane : ℕ) → from ≤ lane → lane < 64 → All (λ b. lane + b * stride - from < 64) states.now → is_on result lane
+        ≡ (is_on good lane && not (list_any (λ b. not (is_on word (lane + b * stride - from))) states.now)) }
+    ensures within { (lane : ℕ) → is_on good lane ≡ false → is_on result lane ≡ false }
+{
+    let mut alive = good;
+    for state in states {
+        alive &= shifted(word, from, u32::from(*state) * stride);
+    }
+    alive
+}
+
+/// The lanes of a word that aren't those of another.
+pub(crate) fn less(word: u64, other: u64) -> u64
+    ensures { (lane : ℕ) → is_on result lane ≡ (is_on word lane && not (is_on other lane)) }
+{
+    word & !other
+}

@@ -1,0 +1,75 @@
+-- The lanes of words that are combined.
+use Rattle.std.proofs.Common.{◌≡◌, ◌≢◌, ℕ, zero, ◌-◌, ◌*◌, ◌/◌, ◌%◌, ◌^◌, ◌<◌, ◌≤◌, min, max, Bool, true, false, not, ◌&&◌, ◌||◌, inl, inr, refl, sym, ap, ap₂, ◌∙◌, arith, eqb, bit_and}
+use Rattle.std.specs.Int.{bit_at, bit_not, w64}
+use Rattle.std.specs.Prelude.{bit_or}
+use Rattle.std.proofs.lemmas.Bool.{cases_eq, eq-eqb}
+use Rattle.std.proofs.lemmas.Nat.Bits.{bit_at_and, bit_at_or, bit_at_not, bit_at-lt, bit_at-zero, bit_at_ones, bit_at_ones_above, bit_at-pow_same, bit_at-pow_other, shr_and_one}
+use Rattle.roman_lanes.specs.Rows.{is_on}
+
+pub on_zero : (i : ℕ) → is_on zero i ≡ false
+unfolding is_on
+on_zero i = ap (λ n. eqb n 1) (bit_at-zero i)
+
+pub on_ones : (k i : ℕ) → i < k → is_on (2 ^ k - 1) i ≡ true
+unfolding is_on
+on_ones k i h = eq-eqb (bit_at (2 ^ k - 1) i) 1 (bit_at_ones k i h)
+
+pub on_ones_above : (k i : ℕ) → k ≤ i → is_on (2 ^ k - 1) i ≡ false
+unfolding is_on
+on_ones_above k i h = ap (λ n. eqb n 1) (bit_at_ones_above k i h)
+
+min_on : (m n : ℕ) → m < 2 → n < 2 → eqb (min m n) 1 ≡ (eqb m 1 && eqb n 1)
+min_on m n a b = elim (cases_eq m 1) as (λ _. eqb (min m n) 1 ≡ (eqb m 1 && eqb n 1)) [
+  | inl e ↦ elim (cases_eq n 1) as (λ _. eqb (min m n) 1 ≡ (eqb m 1 && eqb n 1)) [ inl f ↦ rw (e, f) refl | inr f ↦ let n0 : n ≡ 0 = omega arith in rw (e, n0) refl ]
+  | inr e ↦
+      let m0 : m ≡ 0 = omega arith in
+      elim (cases_eq n 1) as (λ _. eqb (min m n) 1 ≡ (eqb m 1 && eqb n 1)) [ inl f ↦ rw (m0, f) refl | inr f ↦ let n0 : n ≡ 0 = omega arith in rw (m0, n0) refl ]
+]
+
+max_on : (m n : ℕ) → m < 2 → n < 2 → eqb (max m n) 1 ≡ (eqb m 1 || eqb n 1)
+max_on m n a b = elim (cases_eq m 1) as (λ _. eqb (max m n) 1 ≡ (eqb m 1 || eqb n 1)) [
+  | inl e ↦ elim (cases_eq n 1) as (λ _. eqb (max m n) 1 ≡ (eqb m 1 || eqb n 1)) [ inl f ↦ rw (e, f) refl | inr f ↦ let n0 : n ≡ 0 = omega arith in rw (e, n0) refl ]
+  | inr e ↦
+      let m0 : m ≡ 0 = omega arith in
+      elim (cases_eq n 1) as (λ _. eqb (max m n) 1 ≡ (eqb m 1 || eqb n 1)) [ inl f ↦ rw (m0, f) refl | inr f ↦ let n0 : n ≡ 0 = omega arith in rw (m0, n0) refl ]
+]
+
+not_on : (m : ℕ) → m < 2 → eqb (1 - m) 1 ≡ not (eqb m 1)
+not_on m a = elim (cases_eq m 1) as (λ _. eqb (1 - m) 1 ≡ not (eqb m 1)) [ inl e ↦ rw e refl | inr e ↦ let m0 : m ≡ 0 = omega arith in rw m0 refl ]
+
+pub on_and : (a b i : ℕ) → is_on (bit_and a b) i ≡ (is_on a i && is_on b i)
+unfolding is_on
+on_and a b i = ap (λ n. eqb n 1) (bit_at_and a b i) ∙ min_on (bit_at a i) (bit_at b i) (bit_at-lt a i) (bit_at-lt b i)
+
+pub on_or : (a b i : ℕ) → is_on (bit_or a b) i ≡ (is_on a i || is_on b i)
+unfolding is_on
+on_or a b i = ap (λ n. eqb n 1) (bit_at_or a b i) ∙ max_on (bit_at a i) (bit_at b i) (bit_at-lt a i) (bit_at-lt b i)
+
+pub on_not : (a i : ℕ) → a < 2 ^ 64 → i < 64 → is_on (bit_not w64 a) i ≡ not (is_on a i)
+unfolding is_on
+on_not a i h l = ap (λ n. eqb n 1) (bit_at_not w64 a i h l) ∙ not_on (bit_at a i) (bit_at-lt a i)
+
+-- the word of one lane
+pub on_pow_same : (i : ℕ) → is_on (2 ^ i) i ≡ true
+unfolding is_on
+on_pow_same i = eq-eqb (bit_at (2 ^ i) i) 1 (bit_at-pow_same i)
+
+pub on_pow_other : (i j : ℕ) → j ≢ i → is_on (2 ^ i) j ≡ false
+unfolding is_on
+on_pow_other i j ne = ap (λ n. eqb n 1) (bit_at-pow_other i j ne)
+
+-- the lanes of one word that aren't those of another
+pub on_less : (a b i : ℕ) → b < 2 ^ 64 → i < 64 → is_on (bit_and a (bit_not w64 b)) i ≡ (is_on a i && not (is_on b i))
+on_less a b i h l = on_and a (bit_not w64 b) i ∙ ap (λ x. is_on a i && x) (on_not b i h l)
+
+-- the test of one bit
+pub on_tested : (w i : ℕ) → (bit_and (w / 2 ^ i) 1 ≡ 0 → ⊥) → is_on w i ≡ true
+unfolding is_on
+on_tested w i some =
+    let other : bit_at w i ≢ 0 = λ e. some (shr_and_one w i ∙ e) in
+    let one : bit_at w i ≡ 1 = omega (arith, bit_at-lt w i) in
+    eq-eqb (bit_at w i) 1 one
+
+pub off_tested : (w i : ℕ) → bit_and (w / 2 ^ i) 1 ≡ 0 → is_on w i ≡ false
+unfolding is_on
+off_tested w i none = ap (λ n. eqb n 1) (sym (shr_and_one w i) ∙ none)

@@ -1,0 +1,16 @@
+-- Sets of numbers as words: rows of up to 64 neighbouring numbers, a word to a row and a bit to a number.
+use Rattle.std.specs.Prelude.{◌≡◌, ℕ, ◌+◌, ◌*◌, ◌<◌, ◌≤◌, ◌==◌, Bool, false, List, length, slice_index}
+use Rattle.std.specs.Int.{bit_at}
+
+-- the bit of a lane is set
+unfoldable pub is_on : ℕ → ℕ → Bool
+is_on word lane = bit_at word lane == 1
+
+-- the bit of each lane of a row tells whether its number passes the test, and no bit is set past the lanes
+pub record HasLanes (lanes row : ℕ) (test : ℕ → Bool) (word : ℕ) : Type 0 where
+  pub each : (lane : ℕ) → lane < lanes → is_on word lane ≡ test (row * lanes + lane)
+  pub rest : (lane : ℕ) → lanes ≤ lane → is_on word lane ≡ false
+
+-- each word is that of its row
+pub record AreRows (lanes : ℕ) (test : ℕ → Bool) (words : List ℕ) : Type 0 where
+  pub each : (row : ℕ) → row < length words → HasLanes lanes row test (slice_index words row)

@@ -1,0 +1,119 @@
+-- Rows and lanes.
+use Rattle.std.proofs.Common.{◌≡◌, ℕ, zero, suc, ◌+◌, ◌-◌, ◌*◌, ◌/◌, ◌%◌, ◌<◌, ◌≤◌, ltb, cond, List, [], ◌∷◌, length, take, drop, slice_index, inl, inr, ◌⊎◌, refl, sym, ap, ap₂, ◌∙◌, subst, arith}
+use native.Mathlib.Nat.{div-div-eq-div-mul}
+use Rattle.std.proofs.lemmas.Nat.{div-mul-add, mod-mul-add, div-add-mod', mul-le}
+use Rattle.std.proofs.lemmas.Bool.{cases_lt, lt-ltb, le-ltb}
+use Rattle.std.proofs.Math.Nat.{mul-le-mul_left}
+use Rattle.roman_model.specs.Lists.{product_of}
+use Rattle.roman_model.specs.Numbers.{Sizes, count}
+use Rattle.roman_radix.specs.Radix.{AreSizes, IsSizes, stride_of, env_stride_of}
+use Rattle.roman_radix.specs.Rows.{low_of, lanes_of, env_rows_of}
+use Rattle.roman_radix.proofs.Strides.{product_positive, product_drop-le, AreSizes-drop}
+
+pub low_of-le : (ns : List ℕ) → low_of ns ≤ length ns
+low_of-le [] = omega arith
+low_of-le (n ∷ ns) = elim (cases_lt 64 (product_of (n ∷ ns))) [
+  | inl more ↦ let rest : low_of ns ≤ length ns = low_of-le ns in subst (λ b. cond b (suc (low_of ns)) 0 ≤ suc (length ns)) (sym (lt-ltb 64 (product_of (n ∷ ns)) more)) (omega arith)
+  | inr few ↦ subst (λ b. cond b (suc (low_of ns)) 0 ≤ suc (length ns)) (sym (le-ltb 64 (product_of (n ∷ ns)) few)) (omega arith)
+]
+
+pub lanes_few : (ns : List ℕ) → lanes_of ns ≤ 64
+lanes_few [] = omega arith
+lanes_few (n ∷ ns) = elim (cases_lt 64 (product_of (n ∷ ns))) [
+  | inl more ↦ subst (λ b. product_of (drop (cond b (suc (low_of ns)) 0) (n ∷ ns)) ≤ 64) (sym (lt-ltb 64 (product_of (n ∷ ns)) more)) (lanes_few ns)
+  | inr few ↦ subst (λ b. product_of (drop (cond b (suc (low_of ns)) 0) (n ∷ ns)) ≤ 64) (sym (le-ltb 64 (product_of (n ∷ ns)) few)) few
+]
+
+pub lanes_positive : (ns : List ℕ) → AreSizes ns → 0 < lanes_of ns
+lanes_positive ns h = product_positive (drop (low_of ns) ns) (AreSizes-drop (low_of ns) ns h)
+
+-- the lanes begin where the states of the components from there on fit, and with one component more they don't
+pub low_is : (ns : List ℕ) (k : ℕ) → AreSizes ns → product_of (drop k ns) ≤ 64 → ((j : ℕ) → j < k → 64 < product_of (drop j ns)) → k ≤ length ns → low_of ns ≡ k
+low_is [] k h few more within = omega arith
+low_is (n ∷ ns) zero h few more within = ap (λ b. cond b (suc (low_of ns)) 0) (le-ltb 64 (product_of (n ∷ ns)) few)
+low_is (n ∷ ns) (suc k) h few more within =
+    ap (λ b. cond b (suc (low_of ns)) 0) (lt-ltb 64 (product_of (n ∷ ns)) (more 0 (omega arith)))
+    ∙ ap suc (low_is ns k h.2 few (λ j l. more (suc j) (omega arith)) (omega arith))
+
+-- where it is too many from one component on, it is from those before
+pub too_many_from : (ns : List ℕ) (k j : ℕ) → AreSizes ns → j ≤ k → 64 < product_of (drop k ns) → 64 < product_of (drop j ns)
+too_many_from ns k zero h l more = let less : product_of (drop k ns) ≤ product_of ns = product_drop-le k ns h in omega arith
+too_many_from [] zero (suc j) h l more = absurd (omega arith)
+too_many_from [] (suc k) (suc j) h l more = more
+too_many_from (n ∷ ns) zero (suc j) h l more = absurd (omega arith)
+too_many_from (n ∷ ns) (suc k) (suc j) h l more = too_many_from ns k j h.2 (omega arith) more
+
+-- the product of the last numbers goes into that of all
+pub tails : (ns : List ℕ) (j : ℕ) → (m : ℕ) × (product_of ns ≡ m * product_of (drop j ns))
+tails ns zero = (1, omega arith)
+tails [] (suc j) = (1, omega arith)
+tails (n ∷ ns) (suc j) =
+    let (m, e) = tails ns j in
+    let whole : n * product_of ns ≡ n * (m * product_of (drop j ns)) = ap (λ x. n * x) e in
+    (n * m, omega arith)
+
+pub tails_from : (ns : List ℕ) (i j : ℕ) → i ≤ j → (m : ℕ) × (product_of (drop i ns) ≡ m * product_of (drop j ns))
+tails_from ns zero j l = tails ns j
+tails_from [] (suc i) zero l = absurd (omega arith)
+tails_from [] (suc i) (suc j) l = (1, omega arith)
+tails_from (n ∷ ns) (suc i) zero l = absurd (omega arith)
+tails_from (n ∷ ns) (suc i) (suc j) l = tails_from ns i j (omega arith)
+
+pub product_split : (ns : List ℕ) (j : ℕ) → product_of (take j ns) * product_of (drop j ns) ≡ product_of ns
+product_split ns zero = omega arith
+product_split [] (suc j) = omega arith
+product_split (n ∷ ns) (suc j) =
+    let rest : n * (product_of (take j ns) * product_of (drop j ns)) ≡ n * product_of ns = ap (λ x. n * x) (product_split ns j) in
+    omega arith
+
+-- the rows of a state of the environment
+pub env_rows_are : (n : Sizes) → env_rows_of n * lanes_of n.seats ≡ env_stride_of n
+env_rows_are n = product_split n.seats (low_of n.seats)
+
+-- what is divided by a factor
+pub exact : (a m w : ℕ) → 0 < w → a ≡ m * w → a / w * w ≡ a
+exact a m w pos is = ap (λ x. x / w * w) is ∙ (ap (λ x. x * w) (omega_div m w pos) ∙ sym is)
+  where
+    omega_div : (m w : ℕ) → 0 < w → m * w / w ≡ m
+    omega_div m w pos =
+        let same : m * w ≡ m * w + 0 = omega arith in
+        ap (λ x. x / w) same ∙ div-mul-add m w 0 pos
+
+-- where a pair's row is
+pub row_div : (row w lane r : ℕ) → lane < w → (row * w + lane) / (r * w) ≡ row / r
+row_div row w lane r h =
+    let turned : r * w ≡ w * r = omega arith in
+    ap (λ x. (row * w + lane) / x) turned ∙ (sym (div-div-eq-div-mul (row * w + lane) w r) ∙ ap (λ x. x / r) (div-mul-add row w lane h))
+
+pub row_mod : (row w lane r : ℕ) → lane < w → (row * w + lane) % (r * w) ≡ row % r * w + lane
+row_mod row w lane r h =
+    let whole : (row * w + lane) / (r * w) * (r * w) + (row * w + lane) % (r * w) ≡ row * w + lane = div-add-mod' (row * w + lane) (r * w) in
+    let front : (row * w + lane) / (r * w) * (r * w) ≡ row / r * (r * w) = ap (λ x. x * (r * w)) (row_div row w lane r h) in
+    let rows : (row / r * r + row % r) * w ≡ row * w = ap (λ x. x * w) (div-add-mod' row r) in
+    let split : (row / r * r + row % r) * w ≡ row / r * (r * w) + row % r * w = omega arith in
+    omega arith
+
+-- a number of rows that goes into a pair goes into its row
+pub row_least : (x y w lane : ℕ) → lane < w → x * w ≤ y * w + lane → x ≤ y
+row_least x y w lane h l = elim (cases_lt y x) [
+  | inl more ↦
+      let next : (y + 1) * w ≤ x * w = mul-le (y + 1) w x w (omega arith) (omega arith) in
+      let split : (y + 1) * w ≡ y * w + w = omega arith in
+      absurd (omega arith)
+  | inr fits ↦ fits
+]
+
+pub row_below : (row w lane rows : ℕ) → row * w + lane < rows * w → row < rows
+row_below row w lane rows l = elim (cases_lt row rows) [
+  | inl less ↦ less
+  | inr more ↦
+      let most : rows * w ≤ row * w = mul-le rows w row w more (omega arith) in
+      absurd (omega arith)
+]
+
+-- the pairs are whole rows
+pub rows_are : (n : Sizes) → IsSizes n → count n / lanes_of n.seats * lanes_of n.seats ≡ count n
+rows_are n h =
+    let (m, e) = tails n.seats (low_of n.seats) in
+    let whole : count n ≡ n.target * n.env * m * lanes_of n.seats = ap (λ x. n.target * n.env * x) e ∙ omega arith in
+    exact (count n) (n.target * n.env * m) (lanes_of n.seats) (lanes_positive n.seats h.seats) whole

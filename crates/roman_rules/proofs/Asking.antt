@@ -1,0 +1,62 @@
+-- What is known of a row goes on to hold, words of lanes, and counts of the numbers below a bound.
+use Rattle.std.proofs.Common.{◌≡◌, ℕ, ◌+◌, ◌-◌, ◌*◌, ◌/◌, ◌^◌, ◌<◌, ◌≤◌, Bool, true, false, cond, ◌&&◌, List, [], ◌∷◌, length, filter, count_by, IsTrue, IsFalse, refl, sym, ap, ap₂, ◌∙◌, add-one, length-append, eqb, arith}
+use Rattle.std.specs.Int.{bit_at}
+use Rattle.std.proofs.lemmas.Bool.{cond-true, cond-false, eq-eqb}
+use Rattle.std.proofs.lemmas.Nat.Bits.{bit_at-zero, bit_at_ones, ones_shr}
+use Rattle.std.proofs.lemmas.List.Sums.{length-filter}
+use Rattle.roman_model.specs.Lists.{below}
+use Rattle.roman_model.specs.Arena.{Arena, is_justified}
+use Rattle.roman_model.proofs.Lists.{filter_below_more}
+use Rattle.roman_model.proofs.ArenaLemmas.{justified_more}
+use Rattle.roman_lanes.specs.Rows.{is_on}
+use Rattle.roman_rules.specs.Bits.{bit_of}
+use Rattle.roman_rules.specs.Asked.{IsKnown, readings_of}
+use Rattle.roman_rules.specs.declared.asked.Asked.{Asked}
+
+-- what is known goes on to hold where more is gone
+pub known_more : (A : Arena ℕ) (lanes : ℕ) (gone more : ℕ → Bool) (asked : Asked) → ((q : ℕ) → IsTrue (gone q) → IsTrue (more q)) → IsKnown A lanes gone asked → IsKnown A lanes more asked
+known_more A lanes gone more asked h known = record {
+  each = λ lane l on. justified_more A gone more (asked.row * lanes + lane) asked.reason (λ a k q i t. h q t) (known.each lane l on);
+}
+
+-- Words of lanes.
+
+pub none_on : (lane : ℕ) → is_on 0 lane ≡ false
+unfolding is_on
+none_on lane = ap (λ bit. eqb bit 1) (bit_at-zero lane)
+
+-- the word of that many lanes has each of them
+pub all_on : (lanes lane : ℕ) → lanes ≤ 64 → lane < lanes → is_on ((2 ^ 64 - 1) / 2 ^ (64 - lanes)) lane ≡ true
+unfolding is_on
+all_on lanes lane few within =
+    let rest : 64 - (64 - lanes) ≡ lanes = omega arith in
+    eq-eqb (bit_at ((2 ^ 64 - 1) / 2 ^ (64 - lanes)) lane) 1
+    (ap (λ word. bit_at word lane) (ones_shr 64 (64 - lanes) (omega arith) ∙ ap (λ n. 2 ^ n - 1) rest) ∙ bit_at_ones lanes lane within)
+
+-- Bits of a set.
+
+pub bit_off : (test : Bool) → bit_of test ≡ 0 → IsFalse test
+bit_off true off = absurd (omega arith)
+bit_off false off = refl
+
+pub bit_on : (test : Bool) → 0 < bit_of test → IsTrue test
+bit_on true on = refl
+bit_on false on = absurd (omega arith)
+
+-- Counts.
+
+pub count_below_more : (f : ℕ → Bool) (n : ℕ) → count_by f (below (n + 1)) ≡ count_by f (below n) + cond (f n) 1 0
+count_below_more f n =
+    sym (length-filter f (below (n + 1)))
+    ∙ ap (λ m. length (filter f (below m))) (add-one n)
+    ∙ ap length (filter_below_more f n)
+    ∙ length-append (filter f (below n)) (cond (f n) (n ∷ []) [])
+    ∙ ap₂ (λ x y. x + y) (length-filter f (below n)) (one_if (f n))
+  where
+    one_if : (b : Bool) → length (cond b (n ∷ []) []) ≡ cond b 1 0
+    one_if true = refl
+    one_if false = refl
+
+pub readings_of-allowed : (A : Arena ℕ) (p a : ℕ) → IsTrue (A.allows p a) → readings_of A p a ≡ count_by A.ready (below A.seats)
+unfolding readings_of
+readings_of-allowed A p a t = cond-true (A.allows p a) (count_by A.ready (below A.seats)) 0 t

@@ -1,0 +1,2 @@
+pub mod NumberedFacts
+pub mod Asking

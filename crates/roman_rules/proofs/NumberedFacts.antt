@@ -1,0 +1,30 @@
+-- Arenas over numbers keep the laws of arenas.
+use Rattle.std.proofs.Common.{◌≡◌, ℕ, ◌<◌, length, refl, sym, ◌∙◌, subst}
+use Rattle.std.proofs.lemmas.Bool.{eqb-true, eq-eqb}
+use Rattle.roman_model.specs.Lists.{IsIn, HasNoRepeats}
+use Rattle.roman_model.specs.Arena.{Arena}
+use Rattle.roman_model.proofs.Lists.{in_below, from_below, HasNoRepeats-below}
+use Rattle.roman_model.proofs.ArenaLemmas.{IsSame, IsArena}
+use Rattle.roman_rules.specs.Numbered.{IsNumbered}
+
+pub numbered_same : (A : Arena ℕ) → IsNumbered A → IsSame A
+numbered_same A ok = record {
+  is = λ p q t. eqb-true p q (sym (ok.same p q) ∙ t);
+  itself = λ p. ok.same p p ∙ eq-eqb p p refl;
+}
+
+-- the nodes are the numbers below their count
+pub in_nodes : (A : Arena ℕ) → IsNumbered A → (p : ℕ) → p < length A.nodes → IsIn p A.nodes
+in_nodes A ok p l = subst (λ ps. IsIn p ps) (sym ok.nodes) (in_below (length A.nodes) p l)
+
+pub from_nodes : (A : Arena ℕ) → IsNumbered A → (p : ℕ) → IsIn p A.nodes → p < length A.nodes
+from_nodes A ok p i = from_below (length A.nodes) p (subst (λ ps. IsIn p ps) ok.nodes i)
+
+pub numbered_arena : (A : Arena ℕ) → IsNumbered A → IsArena A
+numbered_arena A ok = record {
+  same = numbered_same A ok;
+  allowed = ok.allowed;
+  closed = λ p i a k q j. in_nodes A ok q (ok.closed p a k q (from_nodes A ok p i) j);
+  served = ok.served;
+  once = subst HasNoRepeats (sym ok.nodes) (HasNoRepeats-below (length A.nodes));
+}

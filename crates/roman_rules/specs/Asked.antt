@@ -1,0 +1,26 @@
+-- A row that was asked about a reason, and what asking costs.
+use Rattle.std.specs.Prelude.{ℕ, ◌+◌, ◌*◌, ◌≡◌, ◌<◌, Bool, true, IsTrue, count_by, if◌then◌else◌}
+use Rattle.roman_lanes.specs.Rows.{is_on}
+use Rattle.roman_model.specs.Lists.{below}
+use Rattle.roman_model.specs.Arena.{Arena, is_justified}
+use Rattle.roman_model.specs.declared.reason.Reason.{Reason}
+use Rattle.roman_model.specs.declared.reason.Reason.TheVariants.{Final, Act}
+use Rattle.roman_rules.specs.declared.asked.Asked.{Asked}
+
+-- at each pair that is kept of the row the reason holds, where those pairs are gone
+pub record IsKnown (A : Arena ℕ) (lanes : ℕ) (gone : ℕ → Bool) (asked : Asked) : Type 0 where
+  pub each : (lane : ℕ) → lane < lanes → is_on asked.lanes lane ≡ true → IsTrue (is_justified A gone (asked.row * lanes + lane) asked.reason)
+
+-- the action of the reason, where it names one, is one of the system
+abbrev pub IsReasonOf : Arena ℕ → Reason → Type 0
+IsReasonOf A Final = Unit {0}
+IsReasonOf A (Act a) = a < A.actions
+
+-- how many seats are asked for an action at a pair: those that are ready, where it is allowed
+unfoldable pub readings_of : Arena ℕ → ℕ → ℕ → ℕ
+readings_of A p a = if A.allows p a then count_by A.ready (below A.seats) else 0
+
+-- how many seats are asked about a reason
+abbrev pub readings_of_reason : Arena ℕ → ℕ → Reason → ℕ
+readings_of_reason A p Final = 0
+readings_of_reason A p (Act a) = readings_of A p a

@@ -1,0 +1,196 @@
+//! Entries of a list, judged row by row.
+ghost use Rattle.std.specs.Prelude.{◌≡◌, ℕ, ◌+◌, ◌*◌, ◌/◌, ◌%◌, ◌<◌, ◌≤◌, ◌==◌, Bool, true, not, length, count_by, IsTrue, MatchOption};
+ghost use Rattle.roman_model.specs.Lists.{below};
+ghost use Rattle.roman_model.specs.Arena.{Arena, is_justified};
+ghost use Rattle.roman_lanes.specs.Rows.{is_on, AreRows};
+ghost use Rattle.roman_rules.specs.Asked.{IsKnown, IsReasonOf, readings_of, readings_of_reason};
+
+use crate::rules::Rules;
+use roman_io::Steps;
+use roman_model::Reason;
+use std::sync::ledger::Ledger;
+
+/// A row that was asked about a reason, and the pairs of it at which the reason is known to hold.
+///
+/// Neighbouring entries of a list mostly lie in one row and have one reason: the row is asked once,
+/// and the answer serves the others. What is known goes on to hold while more pairs are gone, so
+/// nothing is asked again because the list has grown. A pair at which the reason didn't hold is
+/// asked about anew.
+#[derive(Clone, Copy, Debug)]
+pub struct Asked {
+    /// The row.
+    pub row: u32,
+    /// The reason.
+    pub reason: Reason,
+    /// The lanes of the pairs at which it is known to hold.
+    pub lanes: u64,
+}
+
+/// Whether the bit of a lane is set.
+fn has_lane(word: u64, lane: u32) -> bool
+    requires { lane < 64 }
+    ensures { result ≡ is_on word lane }
+{
+    (word >> lane) & 1 == 1
+}
+
+/// Counts a step for each seat that is ready.
+fn tick_ready<J: Rules, L: Ledger>(joint: &J, steps: &mut Steps<L>)
+    ensures { let A = J.arena joint.now in steps.new ≡ steps.old + count_by A.ready (below A.seats) }
+{
+    for k in 0..joint.seats() {
+        if joint.is_ready(k) {
+            steps.tick();
+        }
+    }
+}
+
+/// The pairs of a row at which the action `a` is allowed and no seat serves it. A step is counted for
+/// each seat that is ready, where the action is allowed.
+fn ask_seats<J: Rules, L: Ledger>(
+    joint: &J,
+    row: &J::Row,
+    words: &[u64],
+    a: u8,
+    steps: &mut Steps<L>,
+) -> u64
+    requires row { (x : ℕ) × J.is_row joint.now x row.now }
+    requires action { a < (J.arena joint.now).actions }
+    requires room { length words.now * J.lanes joint.now ≡ length (J.arena joint.now).nodes }
+    ensures lost { let A = J.arena joint.now in let lanes = J.lanes joint.now in
+        (x : ℕ) (gone : ℕ → Bool) → J.is_row joint.now x row.now → AreRows lanes (λ q. not (gone q)) words.now →
+        (lane : ℕ) → lane < lanes →
+        is_on result lane ≡ is_justified A gone (x * lanes + lane) (Reason.Act a) }
+    ensures cost { let A = J.arena joint.now in let lanes = J.lanes joint.now in
+        (x lane : ℕ) → J.is_row joint.now x row.now → lane < lanes →
+        steps.new ≤ steps.old + readings_of A (x * lanes + lane) a }
+{
+    joint.known();
+    if (joint.row_actions(row) >> a) & 1 == 0 {
+        return 0;
+    }
+    tick_ready(joint, steps);
+    joint.unserved(row, words, a, u64::MAX >> (64 - joint.lanes()))
+}
+
+/// The pairs of the row `x` at which the reason holds.
+fn ask_row<J: Rules, L: Ledger>(
+    joint: &J,
+    words: &[u64],
+    x: u32,
+    reason: Reason,
+    steps: &mut Steps<L>,
+) -> u64
+    requires row { x * J.lanes joint.now < length (J.arena joint.now).nodes }
+    requires reason { IsReasonOf (J.arena joint.now) reason }
+    requires room { length words.now * J.lanes joint.now ≡ length (J.arena joint.now).nodes }
+    ensures holds { let A = J.arena joint.now in let lanes = J.lanes joint.now in
+        (gone : ℕ → Bool) → AreRows lanes (λ q. not (gone q)) words.now →
+        (lane : ℕ) → lane < lanes →
+        is_on result lane ≡ is_justified A gone (x * lanes + lane) reason }
+    ensures cost { let A = J.arena joint.now in let lanes = J.lanes joint.now in
+        (lane : ℕ) → lane < lanes →
+        steps.new ≤ steps.old + readings_of_reason A (x * lanes + lane) reason }
+{
+    let row = joint.row(x);
+    match reason {
+        Reason::Final => joint.unfine(&row),
+        Reason::Act(a) => ask_seats(joint, &row, words, a, steps),
+    }
+}
+
+impl Asked {
+    /// No row was asked: nothing is known.
+    pub fn nothing() -> Asked
+        ensures { (A : Arena ℕ) (lanes : ℕ) (gone : ℕ → Bool) → IsKnown A lanes gone result }
+    {
+        Asked {
+            row: 0,
+            reason: Reason::Final,
+            lanes: 0,
+        }
+    }
+
+    /// The lane of the pair `p`, where it lies in the row.
+    fn lane_of(&self, p: u32, lanes: u32) -> Option<u32>
+        ensures { MatchOption result (Unit {0}) (λ lane. (lane < lanes) × (p ≡ self.now.row * lanes + lane)) }
+    {
+        let first = u64::from(self.row) * u64::from(lanes);
+        let p = u64::from(p);
+        if p < first || p - first >= u64::from(lanes) {
+            return None;
+        }
+        Some((p - first) as u32)
+    }
+
+    /// Asks the row `x` about a reason. Whether it holds at that lane.
+    fn ask<J: Rules, L: Ledger>(
+        &mut self,
+        joint: &J,
+        words: &[u64],
+        x: u32,
+        lane: u32,
+        reason: Reason,
+        steps: &mut Steps<L>,
+    ) -> bool
+        requires row { x * J.lanes joint.now < length (J.arena joint.now).nodes }
+        requires lane { lane < J.lanes joint.now }
+        requires reason { IsReasonOf (J.arena joint.now) reason }
+        requires room { length words.now * J.lanes joint.now ≡ length (J.arena joint.now).nodes }
+        ensures justified { let A = J.arena joint.now in let lanes = J.lanes joint.now in
+            (gone : ℕ → Bool) → AreRows lanes (λ q. not (gone q)) words.now →
+            result ≡ is_justified A gone (x * lanes + lane) reason }
+        ensures known { let A = J.arena joint.now in let lanes = J.lanes joint.now in
+            (gone : ℕ → Bool) → AreRows lanes (λ q. not (gone q)) words.now →
+            IsKnown A lanes gone self.new }
+        ensures row { self.new.row ≡ x }
+        ensures cost { let A = J.arena joint.now in let lanes = J.lanes joint.now in
+            steps.new ≤ steps.old + readings_of_reason A (x * lanes + lane) reason }
+    {
+        joint.lanes();
+        let lanes = ask_row(joint, words, x, reason, steps);
+        *self = Asked {
+            row: x,
+            reason,
+            lanes,
+        };
+        has_lane(lanes, lane)
+    }
+
+    /// Whether a reason holds at the pair `p`, where the words tell the pairs that aren't gone. Nothing
+    /// is asked where that is known: the row was asked about the reason before, when it held there. The
+    /// row is then that of the pair.
+    ///
+    /// The action of the reason is one of the system. A step is counted for each seat that is asked, and
+    /// none is asked where the action isn't allowed.
+    pub fn holds<J: Rules, L: Ledger>(
+        &mut self,
+        joint: &J,
+        words: &[u64],
+        p: u32,
+        reason: Reason,
+        steps: &mut Steps<L>,
+    ) -> bool
+        requires pair { p < length (J.arena joint.now).nodes }
+        requires reason { IsReasonOf (J.arena joint.now) reason }
+        requires room { length words.now * J.lanes joint.now ≡ length (J.arena joint.now).nodes }
+        ensures justified { let A = J.arena joint.now in let lanes = J.lanes joint.now in
+            (gone : ℕ → Bool) → AreRows lanes (λ q. not (gone q)) words.now →
+            IsKnown A lanes gone self.old → result ≡ is_justified A gone p reason }
+        ensures known { let A = J.arena joint.now in let lanes = J.lanes joint.now in
+            (gone : ℕ → Bool) → AreRows lanes (λ q. not (gone q)) words.now →
+            IsKnown A lanes gone self.old → IsKnown A lanes gone self.new }
+        ensures row { let first = self.new.row * J.lanes joint.now in (first ≤ p) × (p < first + J.lanes joint.now) }
+        ensures cost { let A = J.arena joint.now in
+            steps.new ≤ steps.old + readings_of_reason A p reason }
+    {
+        let lanes = joint.lanes();
+        let Some(lane) = self.lane_of(p, lanes) else {
+            return self.ask(joint, words, p / lanes, p % lanes, reason, steps);
+        };
+        if self.reason == reason && has_lane(self.lanes, lane) {
+            return true;
+        }
+        self.ask(joint, words, self.row, lane, reason, steps)
+    }
+}

@@ -1,0 +1,18 @@
+//! What algorithms over numbered pairs ask of a system.
+//!
+//! [`Rules`] is the interface: pairs are numbers, a system says which actions are allowed at a pair,
+//! which seats are ready, and to which pairs a delegation may lead. Pairs lie in rows of up to 64
+//! neighbours, a word to a row; what a system says of a row it says of all its pairs at once. Contracts
+//! see a system as an arena over numbers (`specs/Numbered`), so that algorithms and their proofs know
+//! nothing of environments, guards or the numbering.
+#![tactic(auto)]
+
+mod asked;
+mod bits;
+mod finding;
+mod rules;
+
+pub use asked::Asked;
+pub use bits::with_bit;
+pub use finding::Finding;
+pub use rules::Rules;

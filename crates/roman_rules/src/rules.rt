@@ -1,0 +1,188 @@
+//! What algorithms over the numbers of pairs ask of a system.
+ghost use Rattle.std.specs.Prelude.{◌≡◌, ℕ, ◌+◌, ◌*◌, ◌/◌, ◌<◌, ◌≤◌, Bool, true, false, not, ◌&&◌, List, [], ◌∷◌};
+ghost use Rattle.std.specs.Prelude.{length, IsTrue, MatchOption};
+ghost use Rattle.roman_model.specs.Lists.{HoldsEachOnce, IsIn};
+ghost use Rattle.roman_model.specs.Arena.{Arena, Delegation, is_beaten, is_justified, back as predecessors};
+ghost use Rattle.roman_model.specs.Numbers.{Sizes};
+ghost use Rattle.roman_lanes.specs.Rows.{is_on, HasLanes, AreRows};
+ghost use Rattle.roman_lanes.specs.Flags.{has_flag};
+ghost use Rattle.roman_rules.specs.Bits.{HasBits};
+ghost use Rattle.roman_rules.specs.Numbered.{IsNumbered};
+ghost use Rattle.roman_rules.specs.Finding.{Finds};
+
+use crate::finding::Finding;
+use roman_io::Steps;
+use roman_model::Reason;
+use std::sync::ledger::Ledger;
+
+/// A system over the numbers of its pairs, for the algorithms that need no more of it.
+///
+/// Pairs, actions and seats are numbers below [`pairs`](Rules::pairs), [`actions`](Rules::actions)
+/// and [`seats`](Rules::seats).
+pub trait Rules {
+    /// A walk backwards from a pair: plain data.
+    type Walk: Drop;
+
+    /// The system, as removal lists and masks see it.
+    ghost arena: { Self → Arena ℕ };
+
+    /// What is looked up for a row once: plain data.
+    type Row: Drop;
+
+    /// How many pairs a row has.
+    ghost lanes: { Self → ℕ };
+
+    /// What was looked up is that of the row.
+    ghost is_row: { Self → ℕ → Self.Row → Type 0 };
+
+    /// The numbers of states by which the pairs are numbered.
+    ghost sizes: { Self → Sizes };
+
+    /// The walk is one through this system.
+    ghost is_walk: { Self → Self.Walk → Type 0 };
+
+    /// The delegations that are left of a walk.
+    ghost left: { Self → Self.Walk → List (Delegation ℕ) };
+
+    /// What all arenas of systems have in common.
+    fn known(&self)
+        ensures { IsNumbered (arena self.now) };
+
+    /// How many pairs there are.
+    fn pairs(&self) -> u32
+        ensures { result ≡ length (arena self.now).nodes };
+
+    /// How many actions there are.
+    fn actions(&self) -> u8
+        ensures { result ≡ (arena self.now).actions };
+
+    /// How many seats there are.
+    fn seats(&self) -> u8
+        ensures { result ≡ (arena self.now).seats };
+
+    /// Whether seat `k` is ready.
+    fn is_ready(&self, k: u8) -> bool
+        requires { k < (arena self.now).seats }
+        ensures { result ≡ (arena self.now).ready k };
+
+    /// Whether the target allows the action `a` at the pair `p`.
+    fn allowed(&self, p: u32, a: u8) -> bool
+        requires pair { p < length (arena self.now).nodes }
+        requires action { a < (arena self.now).actions }
+        ensures { result ≡ (arena self.now).allows p a };
+
+    /// The actions that the target allows at the pair `p`: bit a is set exactly where it allows a.
+    fn allowed_actions(&self, p: u32) -> u32
+        requires { p < length (arena self.now).nodes }
+        ensures { HasBits result ((arena self.now).allows p) };
+
+    /// Whether the pair `p` meets clause 2: where its target part is final, its system part is.
+    fn final_ok(&self, p: u32) -> bool
+        requires { p < length (arena self.now).nodes }
+        ensures { result ≡ (arena self.now).fine p };
+
+    /// How many pairs a row has: from 1 to 64. Pair p is lane `p % lanes` of row `p / lanes`.
+    fn lanes(&self) -> u32
+        ensures value { result ≡ lanes self.now }
+        ensures few { (0 < result) × (result ≤ 64) };
+
+    /// How many rows there are.
+    fn rows(&self) -> u32
+        ensures { result * lanes self.now ≡ length (arena self.now).nodes };
+
+    /// Looks up what holds of the row `x`.
+    fn row(&self, x: u32) -> Self::Row
+        requires { x * lanes self.now < length (arena self.now).nodes }
+        ensures { is_row self.now x result };
+
+    /// The actions that the target allows at the pairs of a row: the same at each. Bit a is set exactly
+    /// where it allows a.
+    fn row_actions(&self, row: &Self::Row) -> u32
+        ensures { (x lane : ℕ) → is_row self.now x row.now → lane < lanes self.now →
+            HasBits result ((arena self.now).allows (x * lanes self.now + lane)) };
+
+    /// The pairs of a row that don't meet clause 2.
+    fn unfine(&self, row: &Self::Row) -> u64
+        requires row { (x : ℕ) × is_row self.now x row.now }
+        ensures { (x : ℕ) → is_row self.now x row.now →
+            HasLanes (lanes self.now) x (λ p. not ((arena self.now).fine p)) result };
+
+    /// The pairs of a row at which seat `k` serves the action `a`: it has an outcome there, and none
+    /// that is gone. The words tell the pairs that aren't gone, row by row.
+    fn good(&self, row: &Self::Row, words: &[u64], a: u8, k: u8) -> u64
+        requires row { (x : ℕ) × is_row self.now x row.now }
+        requires action { a < (arena self.now).actions }
+        requires seat { k < (arena self.now).seats }
+        requires room { length words.now * lanes self.now ≡ length (arena self.now).nodes }
+        ensures { (x : ℕ) (gone : ℕ → Bool) → is_row self.now x row.now →
+            AreRows (lanes self.now) (λ q. not (gone q)) words.now →
+            HasLanes (lanes self.now) x (λ p. not (is_beaten (arena self.now) gone p a k)) result };
+
+    /// Those of the pairs `wanted` of a row at which the action `a` is allowed and no seat serves it.
+    fn unserved(&self, row: &Self::Row, words: &[u64], a: u8, wanted: u64) -> u64
+        requires row { (x : ℕ) × is_row self.now x row.now }
+        requires action { a < (arena self.now).actions }
+        requires room { length words.now * lanes self.now ≡ length (arena self.now).nodes }
+        ensures lost { (x : ℕ) (gone : ℕ → Bool) → is_row self.now x row.now →
+            AreRows (lanes self.now) (λ q. not (gone q)) words.now →
+            (lane : ℕ) → lane < lanes self.now →
+            is_on result lane ≡ (is_on wanted lane && is_justified (arena self.now) gone (x * lanes self.now + lane) (Reason.Act a)) }
+        ensures within { (lane : ℕ) → is_on wanted lane ≡ false → is_on result lane ≡ false };
+
+    /// Marks each row with a pair that has one of the pairs `lost` of a row as an outcome. The marks are
+    /// flags, one for each row. The steps are at most as many as delegations lead to any of the pairs
+    /// that are lost.
+    fn mark_before<L: Ledger>(
+        &self,
+        row: &Self::Row,
+        lost: u64,
+        marks: &mut [u64],
+        steps: &mut Steps<L>,
+    )
+        requires row { (x : ℕ) × is_row self.now x row.now }
+        requires room { length (arena self.now).nodes ≤ 64 * length marks.old * lanes self.now }
+        ensures long { length marks.new ≡ length marks.old }
+        ensures marked { (x lane p a k : ℕ) → is_row self.now x row.now → lane < lanes self.now → is_on lost lane ≡ true →
+            p < length (arena self.now).nodes → IsIn (x * lanes self.now + lane) ((arena self.now).outcomes p a k) →
+            has_flag marks.new (p / lanes self.now) ≡ true }
+        ensures still { (y : ℕ) → has_flag marks.old y ≡ true → has_flag marks.new y ≡ true }
+        ensures cost { (x lane : ℕ) → is_row self.now x row.now → lane < lanes self.now → is_on lost lane ≡ true →
+            steps.new ≤ steps.old + length (predecessors (arena self.now) (x * lanes self.now + lane)) };
+
+    /// Looks for an outcome of the action `a` at the pair `p`, delegated to seat `k`, whose pair isn't
+    /// alive. The action must be allowed there, and the seat ready. One step is counted.
+    fn examine<F: Fn(u32) -> bool, L: Ledger>(
+        &self,
+        alive: &F,
+        p: u32,
+        a: u8,
+        k: u8,
+        steps: &mut Steps<L>,
+    ) -> Finding
+        requires pair { p < length (arena self.now).nodes }
+        requires allowed { IsTrue ((arena self.now).allows p a) }
+        requires seat { k < (arena self.now).seats }
+        requires ready { IsTrue ((arena self.now).ready k) }
+        requires callable { (q : ℕ) → q < length (arena self.now).nodes → F.pre alive.now q }
+        ensures finding { (gone : ℕ → Bool)
+            → ((q : ℕ) (r : Bool) → q < length (arena self.now).nodes → F.post alive.now q r → r ≡ not (gone q))
+            → Finds (sizes self.now) k gone ((arena self.now).outcomes p a k) result }
+        ensures step { steps.new ≡ steps.old + 1 };
+
+    /// Begins a walk through all delegations of which the pair `p2` is an outcome.
+    fn walk(&self, p2: u32) -> Self::Walk
+        requires { p2 < length (arena self.now).nodes }
+        ensures walk { is_walk self.now result }
+        ensures left { HoldsEachOnce (left self.now result) (predecessors (arena self.now) p2) };
+
+    /// Gives a delegation that is left of a walk through this system: a pair, an action and a seat.
+    /// `None` comes exactly where none is left. A delegation that is given counts as one step.
+    fn back<L: Ledger>(&self, walk: &mut Self::Walk, steps: &mut Steps<L>) -> Option<(u32, u8, u8)>
+        requires { is_walk self.now walk.old }
+        ensures walk { is_walk self.now walk.new }
+        ensures given { MatchOption result (left self.now walk.old ≡ [])
+            (λ d. left self.now walk.old
+            ≡ record { node = d.0; action = d.1; seat = d.2 } ∷ left self.now walk.new) }
+        ensures step { MatchOption result (steps.new ≡ steps.old)
+            (λ d. steps.new ≡ steps.old + 1) };
+}
