@@ -5,19 +5,18 @@ ghost use Rattle.roman_model.specs.Numbers.{sizes_of, count, pair_at};
 ghost use Rattle.roman_joint.specs.NamedSys.{system_of};
 ghost use Rattle.roman_generator.specs.Moves.{CanMove, Moves};
 
-use roman_relation::Relation;
+use roman_joint::Joint;
 
 /// The pair after an action that is allowed at pair p and that service k serves, where the service
 /// is then in state `b2` and the environment in `e2`. `None` comes exactly where no step of the
 /// system leads there.
-pub fn next_pair(relation: &Relation, p: u32, a: u8, k: u8, b2: u8, e2: u8) -> Option<u32>
-    requires pair { p < count (sizes_of (system_of relation.now.joint)) }
-    requires allowed { IsTrue (is_allowed (system_of relation.now.joint) (pair_at (sizes_of (system_of relation.now.joint)) p) a) }
-    requires ready { IsTrue (is_ready (slice_get (system_of relation.now.joint).seats k)) }
-    ensures moves { IfSome result (Moves (system_of relation.now.joint) (pair_at (sizes_of (system_of relation.now.joint)) p) a k b2 e2) }
-    ensures none { IfNone result (CanMove (system_of relation.now.joint) (pair_at (sizes_of (system_of relation.now.joint)) p) a k b2 e2 → ⊥) }
+pub fn next_pair(joint: &Joint, p: u32, a: u8, k: u8, b2: u8, e2: u8) -> Option<u32>
+    requires pair { p < count (sizes_of (system_of joint.now)) }
+    requires allowed { IsTrue (is_allowed (system_of joint.now) (pair_at (sizes_of (system_of joint.now)) p) a) }
+    requires ready { IsTrue (is_ready (slice_get (system_of joint.now).seats k)) }
+    ensures moves { IfSome result (Moves (system_of joint.now) (pair_at (sizes_of (system_of joint.now)) p) a k b2 e2) }
+    ensures none { IfNone result (CanMove (system_of joint.now) (pair_at (sizes_of (system_of joint.now)) p) a k b2 e2 → ⊥) }
 {
-    let joint = &relation.joint;
     joint.known();
     let shape = joint.shape();
     let e = shape.env_of(p);

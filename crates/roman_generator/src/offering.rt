@@ -3,7 +3,7 @@ ghost use Rattle.std.specs.Prelude.{◌≢◌, ◌<◌, IsTrue};
 ghost use Rattle.roman_model.specs.System.{has, is_allowed};
 ghost use Rattle.roman_model.specs.Numbers.{sizes_of, count, pair_at};
 ghost use Rattle.roman_model.specs.Offers.{is_related, offers};
-ghost use Rattle.roman_joint.specs.Bits.{HasBits};
+ghost use Rattle.roman_rules.specs.Bits.{HasBits};
 ghost use Rattle.roman_joint.specs.NamedSys.{system_of};
 ghost use Rattle.roman_relation.specs.Greatest.{IsRelation};
 
@@ -22,5 +22,5 @@ pub fn offers(relation: &Relation, p: u32, a: u8) -> u32
 {
     relation.joint.known();
     relation.order.len();
-    relation.order.mask(p, a)
+    relation.mask(p, a)
 }

@@ -1,8 +1,8 @@
 pub mod Blanks
 pub mod Words
+pub mod Lanes
 pub mod Places
-pub mod Masks
 pub mod Pushes
-pub mod Rows
 pub mod Counts
 pub mod Distinct
+pub mod Lent

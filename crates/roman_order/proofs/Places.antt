@@ -8,7 +8,6 @@ use Rattle.std.proofs.lemmas.Map.Keys.{IsDistinct-push}
 use Rattle.std.proofs.lemmas.Map.Steps.{length-le_from_distinct_below}
 use Rattle.roman_model.specs.Arena.{Entry}
 use Rattle.roman_order.specs.Board.{nodes_of, has_entry, place_of}
-use Rattle.roman_order.specs.Flags.{has_flag}
 use Rattle.roman_order.specs.Sound.{IsPlaced, stamp_of}
 
 -- ---- places
@@ -135,13 +134,12 @@ place_of-from_stamp L p s e small =
 -- ---- lists and their tables
 
 -- an empty list
-pub IsPlaced-nil : (n : ℕ) (stamps gone : List ℕ) → ((p : ℕ) → get_or stamps p (2 ^ 32 - 1) ≡ 2 ^ 32 - 1) → ((p : ℕ) → has_flag gone p ≡ false) → IsPlaced n [] stamps gone
+pub IsPlaced-nil : (n : ℕ) (stamps : List ℕ) → ((p : ℕ) → get_or stamps p (2 ^ 32 - 1) ≡ 2 ^ 32 - 1) → IsPlaced n [] stamps
 unfolding IsDistinct
-IsPlaced-nil n stamps gone blank clear = record {
+IsPlaced-nil n stamps blank = record {
   apart = tt;
   in_range = λ p h. absurd (false≢true h);
   stamped = blank;
-  flagged = clear;
 }
 
 -- a pair out of range isn't listed
@@ -151,9 +149,6 @@ unlisted-beyond n L p in_range h =
       | inl t ↦ let below = in_range p t in absurd (omega arith)
       | inr f ↦ f
     ]
-
-pub stamp-beyond : {n : ℕ} {L : List (Entry ℕ)} {stamps gone : List ℕ} (placed : IsPlaced n L stamps gone) (p : ℕ) → n ≤ p → get_or stamps p (2 ^ 32 - 1) ≡ 2 ^ 32 - 1
-stamp-beyond {n} {L} placed p h = placed.stamped p ∙ stamp_of-none L p (unlisted-beyond n L p placed.in_range h)
 
 -- ---- what a place says
 

@@ -1,23 +1,35 @@
--- What callers see of an order: the removal list, what waits, and what is kept for each pair.
-use Rattle.std.specs.Prelude.{ℕ, ◌+◌, ◌*◌, ◌==◌, Bool, false, List, Option, map, slice_index, slice_index_or}
-use Rattle.std.specs.List.{list_any, position_from}
+-- What callers see of an order: the removal list, what waits, and what is kept beside them.
+use Rattle.std.specs.Prelude.{ℕ, ◌+◌, ◌*◌, ◌==◌, Bool, List, Option, map}
+use Rattle.std.specs.List.{list_any, position_from, filter}
+use Rattle.roman_model.specs.Lists.{below}
 use Rattle.roman_model.specs.Arena.{Entry}
 use Rattle.roman_model.specs.declared.reason.Reason.{Reason}
+use Rattle.roman_lanes.specs.Rows.{is_on}
+use Rattle.roman_lanes.specs.Flags.{has_flag}
 
 pub record Board : Type 0 where
-  -- the greatest numbers of pairs, and of pairs times actions
+  -- the greatest number of pairs
   pub cap_pairs : ℕ
-  pub cap_cells : ℕ
-  -- the numbers of pairs and of actions for which it is shaped
-  pub pairs : ℕ
-  pub actions : ℕ
+  -- the shape: how many rows there are, and how many pairs each row has
+  pub rows : ℕ
+  pub lanes : ℕ
   -- the removal list, and the entries that wait
   pub list : List (Entry ℕ)
   pub waiting : List (Entry ℕ)
-  -- a mask for each pair and action, the actions of a pair side by side
-  pub masks : List ℕ
-  -- for each pair whether it is marked
-  pub marks : List Bool
+  -- words of flags, for each number of a pair or of a row whether it is marked
+  pub marks : List ℕ
+  -- for each row the word that was kept of it
+  pub before : List ℕ
+  -- how long the list was when each of its levels ended
+  pub levels : List ℕ
+
+-- how many pairs there are
+abbrev pub pairs_of : Board → ℕ
+pairs_of board = board.rows * board.lanes
+
+-- the number is marked
+abbrev pub is_marked : Board → ℕ → Bool
+is_marked board p = has_flag board.marks p
 
 -- the entry of a pair and a reason
 abbrev pub entry_of : ℕ × Reason → Entry ℕ
@@ -35,10 +47,10 @@ has_entry L p = list_any (λ x. p == x.node) L
 abbrev pub place_of : List (Entry ℕ) → ℕ → Option ℕ
 place_of L p = position_from (λ x. p == x.node) 0 L
 
--- the mask of the pair p and the action a
-unfoldable pub mask_at : Board → ℕ → ℕ → ℕ
-mask_at board p a = slice_index board.masks (p * board.actions + a)
+-- the lanes whose bits are set, rising
+unfoldable pub lanes_in : ℕ → List ℕ
+lanes_in word = filter (is_on word) (below 64)
 
--- the pair p is marked
-unfoldable pub is_marked : Board → ℕ → Bool
-is_marked board p = slice_index_or board.marks p false
+-- the entries of those pairs of a row, for one reason
+abbrev pub entries_in : ℕ → ℕ → ℕ → Reason → List (Entry ℕ)
+entries_in lanes row word reason = map (λ lane. entry_of (row * lanes + lane, reason)) (lanes_in word)

@@ -1,3 +1,3 @@
 pub mod Board
-pub mod Flags
 pub mod Sound
+pub mod Lending

@@ -1,6 +1,14 @@
 // A flag for each number, sixty-four of them to a word.
-ghost use Rattle.std.specs.Prelude.{◌≡◌, ◌≢◌, ℕ, ◌+◌, ◌/◌, ◌<◌, ◌≤◌, true, false, length};
-ghost use Rattle.roman_order.specs.Flags.{has_flag};
+ghost use Rattle.std.specs.Prelude.{◌≡◌, ◌≢◌, ℕ, ◌+◌, ◌*◌, ◌/◌, ◌^◌, ◌<◌, ◌≤◌, true, false, nat_lt, length, slice_index, IfSome, IfNone};
+ghost use Rattle.roman_lanes.specs.Rows.{is_on};
+ghost use Rattle.roman_lanes.specs.Flags.{has_flag};
+
+/// How many words that many flags take.
+pub(crate) fn words_for(flags: u32) -> usize
+    ensures { result ≡ (flags + 63) / 64 }
+{
+    (flags as usize + 63) / 64
+}
 
 /// Whether flag `p` is set.
 pub(crate) fn has(words: &[u64], p: u32) -> bool
@@ -19,11 +27,66 @@ pub(crate) fn set(words: &mut [u64], p: u32)
     words[(p / 64) as usize] |= 1 << (p % 64);
 }
 
-/// Clears all flags, where those from `end` on are clear.
-pub(crate) fn clear(words: &mut [u64], end: u32)
-    requires room { end / 64 < length words.old }
-    requires beyond { (p : ℕ) → end ≤ p → has_flag words.old p ≡ false }
-    ensures { (p : ℕ) → has_flag words.new p ≡ false }
+/// Sets the flags below `end`, and clears all others.
+pub(crate) fn set_front(words: &mut [u64], end: u32)
+    requires { end ≤ 64 * length words.old }
+    ensures { (p : ℕ) → has_flag words.new p ≡ nat_lt p end }
 {
-    words[..=(end / 64) as usize].fill(0);
+    words.fill(0);
+    let whole = (end / 64) as usize;
+    words[..whole].fill(u64::MAX);
+    if end % 64 != 0 {
+        words[whole] = u64::MAX >> (64 - end % 64);
+    }
+}
+
+/// The place of the next word with a flag, from `from` on and round. `None` comes exactly where no flag is set.
+pub(crate) fn next_word(words: &[u64], from: usize) -> Option<usize>
+    ensures none { IfNone result ((p : ℕ) → has_flag words.now p ≡ false) }
+    ensures some { IfSome result (λ i. (i < length words.now) × (slice_index words.now i ≢ 0)) }
+{
+    let start = from.min(words.len());
+    if let Some(i) = first_word(words, start, words.len()) {
+        return Some(i);
+    }
+    first_word(words, 0, start)
+}
+
+/// The place of the first word with a flag, from `from` on to `end`.
+fn first_word(words: &[u64], from: usize, end: usize) -> Option<usize>
+    requires { end ≤ length words.now }
+    ensures none { IfNone result ((i : ℕ) → from ≤ i → i < end → slice_index words.now i ≡ 0) }
+    ensures some { IfSome result (λ i. (i < length words.now) × (slice_index words.now i ≢ 0)) }
+{
+    for i in from..end {
+        if words[i] != 0 {
+            return Some(i);
+        }
+    }
+    None
+}
+
+/// The lowest bit of a word that is set.
+pub(crate) fn lowest(word: u64) -> u32
+    requires { word ≢ 0 }
+    ensures within { result < 64 }
+    ensures on { is_on word result ≡ true }
+    ensures first { (bit : ℕ) → bit < result → is_on word bit ≡ false }
+{
+    word.trailing_zeros()
+}
+
+/// Clears the lowest flag of a word, and gives its number.
+pub(crate) fn take_first(words: &mut [u64], i: usize) -> u32
+    requires place { i < length words.old }
+    requires some { slice_index words.old i ≢ 0 }
+    requires few { 64 * length words.old ≤ 2 ^ 32 }
+    ensures was { has_flag words.old result ≡ true }
+    ensures taken { has_flag words.new result ≡ false }
+    ensures others { (q : ℕ) → q ≢ result → has_flag words.new q ≡ has_flag words.old q }
+{
+    let word = words[i];
+    let flag = lowest(word);
+    words[i] = word & !(1 << flag);
+    i as u32 * 64 + flag
 }

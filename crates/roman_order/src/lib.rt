@@ -1,17 +1,16 @@
-//! The removal list of a system's pairs, with what is kept for each pair: its place in the list,
-//! a mask of seats for each action, and a mark.
+//! The removal list of a system's pairs, with what is kept beside it: each pair's place in the list,
+//! the pairs that aren't listed as words, one to a row, and marks.
 //!
-//! All tables are made once, by [`Order::build`], or by a copy, and no other call takes memory. The
-//! list can be reopened: its entries then wait, to be taken one after the other, while a new list is
-//! begun.
+//! Pairs lie in rows of up to 64 neighbours: pair p is lane `p % lanes` of row `p / lanes`. All tables are
+//! reserved once, by [`Order::build`] or by a copy, and are as long as the present shape needs; no other
+//! call takes memory. The list can be reopened: its entries then wait, to be taken one after the other,
+//! while a new list is begun.
 //! `specs/` has what contracts see of an order (`Board`) and how its tables make that (`Sound`).
 #![tactic(auto)]
 
 mod flags;
 mod order;
-mod plane;
 mod removal;
-mod tables;
 #[cfg(test)]
 mod tests;
 

@@ -1,38 +1,47 @@
-// The removal list, and what is kept for each pair.
-ghost use Rattle.std.specs.Prelude.{◌≡◌, ◌≢◌, ℕ, ◌+◌, ◌*◌, ◌^◌, ◌<◌, ◌≤◌, ◌==◌, not, true, false, List, [], ◌∷◌, ◌++◌, length, min, slice_get, IfOk, IfSome, IfNone};
+// The removal list, and what is kept beside it.
+ghost use Rattle.std.specs.Prelude.{◌≡◌, ℕ, ◌+◌, ◌*◌, ◌/◌, ◌<◌, ◌≤◌, ◌==◌, not, true, false, List, [], ◌∷◌, length, replicate, slice_get, count_by, vec_capacity};
+ghost use Rattle.std.specs.Prelude.{IfOk, IfSome, IfNone};
 ghost use Rattle.std.specs.List.{IsDistinct};
-ghost use Rattle.roman_order.specs.Board.{entry_of, nodes_of, has_entry, place_of, mask_at, is_marked};
+ghost use Rattle.roman_model.specs.Lists.{below};
+ghost use Rattle.roman_order.specs.Board.{pairs_of, entry_of, nodes_of, has_entry, place_of, is_marked};
 
-mod passes;
+mod levels;
+mod marks;
+mod pushes;
+mod words;
 
+use crate::flags;
 use crate::removal::Removal;
-use crate::{flags, plane, tables};
 use roman_model::Reason;
 use std::alloc::{AllocError, Global};
 use std::marker::Model;
 use std::mem;
 
-/// The removal list of a system's pairs, and for each pair its place in the list, a mask of seats
-/// for each action, and a mark.
+/// The removal list of a system's pairs, each pair's place in it, the pairs that aren't listed as words,
+/// and marks.
 ///
-/// Pairs and actions are numbers below those that the order was last shaped for.
+/// Pairs and rows are numbers below those that the order was last shaped for: pair p is lane `p % lanes`
+/// of row `p / lanes`.
 #[derive(Drop)]
 pub struct Order {
-    pairs: u32,
-    actions: u8,
-    // how many entries are listed
-    count: u32,
-    // the entries that wait are those from `next` to `held`
-    next: u32,
-    held: u32,
+    // the greatest number of pairs
+    room: u32,
+    rows: u32,
+    lanes: u32,
+    // the entries that wait are those from here on
+    next: usize,
+    // where the search for marks goes on
+    cursor: usize,
     entries: Vec<Removal>,
     waiting: Vec<Removal>,
     // a pair's place in the list, or `u32::MAX`
     stamps: Vec<u32>,
-    // a flag for each pair that is listed
-    gone: Vec<u64>,
-    masks: Vec<u32>,
-    marks: Vec<bool>,
+    // a word for each row, with the bits of the pairs that aren't listed
+    words: Vec<u64>,
+    before: Vec<u64>,
+    marks: Vec<u64>,
+    // how long the list was when each of its levels ended
+    levels: Vec<u32>,
 }
 
 impl Model for Order {
@@ -48,117 +57,115 @@ impl Model for Order {
 }
 
 impl Order {
-    /// Makes an order for at most `cap_pairs` pairs and `cap_cells` pairs times actions, which is
-    /// shaped for no pairs. No other call but `copy` takes memory.
-    pub fn build(alloc: Global, cap_pairs: u32, cap_cells: u32) -> Result<Order, AllocError>
+    /// Makes an order with room for `cap_pairs` pairs, which is shaped for no rows. The room is reserved
+    /// and not written. No other call but `copy` takes memory.
+    pub fn build(alloc: Global, cap_pairs: u32) -> Result<Order, AllocError>
         ensures { IfOk result (λ order. order ≡ record {
           cap_pairs = cap_pairs;
-          cap_cells = cap_cells;
-          pairs = 0;
-          actions = 0;
+          rows = 0;
+          lanes = 1;
           list = [];
           waiting = [];
-          masks = [];
           marks = [];
+          before = [];
+          levels = [];
         }) }
     {
         let places = cap_pairs as usize;
-        let blank = Removal {
-            pair: 0,
-            reason: Reason::Final,
-        };
         Ok(Order {
-            pairs: 0,
-            actions: 0,
-            count: 0,
+            room: cap_pairs,
+            rows: 0,
+            lanes: 1,
             next: 0,
-            held: 0,
-            entries: vec![in alloc; blank; places]?,
-            waiting: vec![in alloc; blank; places]?,
-            stamps: vec![in alloc; u32::MAX; places]?,
-            gone: vec![in alloc; 0; places / 64 + 1]?,
-            masks: vec![in alloc; 0; cap_cells as usize]?,
-            marks: vec![in alloc; false; places]?,
+            cursor: 0,
+            entries: Vec::with_capacity(alloc, places)?,
+            waiting: Vec::with_capacity(alloc, places)?,
+            stamps: Vec::with_capacity(alloc, places)?,
+            words: Vec::with_capacity(alloc, places)?,
+            before: Vec::with_capacity(alloc, places)?,
+            marks: Vec::with_capacity(alloc, flags::words_for(cap_pairs))?,
+            levels: Vec::with_capacity(alloc, places + 1)?,
         })
     }
 
-    /// Makes an equal order, with tables of its own.
+    /// Makes an equal order, with tables of its own and the same room.
     pub fn copy(&self, alloc: Global) -> Result<Order, AllocError>
         ensures { IfOk result (λ order. order ≡ self.now) }
     {
+        let places = self.room as usize;
         Ok(Order {
-            pairs: self.pairs,
-            actions: self.actions,
-            count: self.count,
+            room: self.room,
+            rows: self.rows,
+            lanes: self.lanes,
             next: self.next,
-            held: self.held,
-            entries: Vec::from_slice(alloc, &self.entries)?,
-            waiting: Vec::from_slice(alloc, &self.waiting)?,
-            stamps: Vec::from_slice(alloc, &self.stamps)?,
-            gone: Vec::from_slice(alloc, &self.gone)?,
-            masks: Vec::from_slice(alloc, &self.masks)?,
-            marks: Vec::from_slice(alloc, &self.marks)?,
+            cursor: self.cursor,
+            entries: copied(alloc, &self.entries, places)?,
+            waiting: copied(alloc, &self.waiting, places)?,
+            stamps: copied(alloc, &self.stamps, places)?,
+            words: copied(alloc, &self.words, places)?,
+            before: copied(alloc, &self.before, places)?,
+            marks: copied(alloc, &self.marks, flags::words_for(self.room))?,
+            levels: copied(alloc, &self.levels, places + 1)?,
         })
     }
 
-    /// Empties the order, and shapes it for those numbers of pairs and actions: no pair is listed
-    /// or marked, and each mask is empty.
-    pub fn shape_to(&mut self, pairs: u32, actions: u8)
-        requires pairs { pairs ≤ self.old.cap_pairs }
-        requires cells { pairs * actions ≤ self.old.cap_cells }
+    /// Empties the order, and shapes it for that many rows of so many pairs: no pair is listed, and
+    /// nothing is marked.
+    pub fn shape_to(&mut self, rows: u32, lanes: u32)
+        requires pairs { rows * lanes ≤ self.old.cap_pairs }
+        requires lanes { (0 < lanes) × (lanes ≤ 64) }
         requires idle { self.old.waiting ≡ [] }
         ensures shaped { self.new ≡ record self.old {
-          pairs = pairs;
-          actions = actions;
+          rows = rows;
+          lanes = lanes;
           list = [];
-          masks = self.new.masks;
           marks = self.new.marks;
+          before = self.new.before;
+          levels = [];
         } }
-        ensures empty { (p a : ℕ) → mask_at self.new p a ≡ 0 }
         ensures unmarked { (p : ℕ) → is_marked self.new p ≡ false }
     {
-        let end = self.cells();
-        plane::clear(&mut self.masks, 0, end);
-        tables::clear_marks(&mut self.marks, self.pairs as usize);
-        tables::clear_stamps(&mut self.stamps, self.pairs as usize);
-        flags::clear(&mut self.gone, self.pairs);
-        self.count = 0;
-        self.pairs = pairs;
-        self.actions = actions;
+        self.entries.clear();
+        self.levels.clear();
+        let pairs = rows * lanes;
+        refill(&mut self.stamps, pairs as usize, u32::MAX);
+        refill(&mut self.words, rows as usize, u64::MAX >> (64 - lanes));
+        refill(&mut self.before, rows as usize, 0);
+        refill(&mut self.marks, flags::words_for(pairs), 0);
+        self.rows = rows;
+        self.lanes = lanes;
     }
 
-    /// Turns the entries into those that wait, in their order, and begins an empty list for that
-    /// number of pairs and the same actions. The masks of the pairs below both numbers stay, and all
-    /// others are empty; no pair is marked.
-    pub fn reopen(&mut self, pairs: u32)
-        requires pairs { pairs ≤ self.old.cap_pairs }
-        requires cells { pairs * self.old.actions ≤ self.old.cap_cells }
+    /// Turns the entries into those that wait, in their order, and begins an empty list for that many
+    /// rows of so many pairs; nothing is marked.
+    pub fn reopen(&mut self, rows: u32, lanes: u32)
+        requires pairs { rows * lanes ≤ self.old.cap_pairs }
+        requires lanes { (0 < lanes) × (lanes ≤ 64) }
         requires idle { self.old.waiting ≡ [] }
         ensures moved { self.new ≡ record self.old {
-          pairs = pairs;
+          rows = rows;
+          lanes = lanes;
           list = [];
           waiting = self.old.list;
-          masks = self.new.masks;
           marks = self.new.marks;
+          before = self.new.before;
+          levels = [];
         } }
-        ensures kept { (p a : ℕ) → p < min self.old.pairs pairs → a < self.old.actions →
-            mask_at self.new p a ≡ mask_at self.old p a }
-        ensures empty { (p a : ℕ) → min self.old.pairs pairs ≤ p → mask_at self.new p a ≡ 0 }
         ensures unmarked { (p : ℕ) → is_marked self.new p ≡ false }
         ensures distinct { IsDistinct (λ x y. x == y) (nodes_of self.old.list) }
-        ensures in_range { (p : ℕ) → has_entry self.old.list p ≡ true → p < self.old.pairs }
+        ensures in_range { (p : ℕ) → has_entry self.old.list p ≡ true → p < pairs_of self.old }
     {
-        let end = self.cells();
-        let kept = pairs as usize * self.actions as usize;
-        plane::clear(&mut self.masks, kept.min(end), end);
-        tables::clear_marks(&mut self.marks, self.pairs as usize);
-        tables::clear_stamps(&mut self.stamps, self.pairs as usize);
-        flags::clear(&mut self.gone, self.pairs);
+        self.waiting.clear();
         mem::swap(&mut self.entries, &mut self.waiting);
+        self.levels.clear();
         self.next = 0;
-        self.held = self.count;
-        self.count = 0;
-        self.pairs = pairs;
+        let pairs = rows * lanes;
+        refill(&mut self.stamps, pairs as usize, u32::MAX);
+        refill(&mut self.words, rows as usize, u64::MAX >> (64 - lanes));
+        refill(&mut self.before, rows as usize, 0);
+        refill(&mut self.marks, flags::words_for(pairs), 0);
+        self.rows = rows;
+        self.lanes = lanes;
     }
 
     /// Takes the first entry that waits, or `None` where none does.
@@ -167,10 +174,10 @@ impl Order {
         ensures first { IfSome result (λ x. self.old.waiting ≡ entry_of x ∷ self.new.waiting) }
         ensures rest { self.new ≡ record self.old { waiting = self.new.waiting } }
     {
-        if self.next == self.held {
+        if self.next == self.waiting.len() {
             return None;
         }
-        let entry = self.waiting[self.next as usize];
+        let entry = self.waiting[self.next];
         self.next += 1;
         Some((entry.pair, entry.reason))
     }
@@ -179,14 +186,22 @@ impl Order {
     pub fn len(&self) -> u32
         ensures value { result ≡ length self.now.list }
         ensures distinct { IsDistinct (λ x y. x == y) (nodes_of self.now.list) }
-        ensures in_range { (p : ℕ) → has_entry self.now.list p ≡ true → p < self.now.pairs }
-        ensures bound { length self.now.list ≤ self.now.pairs }
-        ensures pairs { self.now.pairs ≤ self.now.cap_pairs }
-        ensures plane { self.now.pairs * self.now.actions ≤ self.now.cap_cells }
-        ensures cells { length self.now.masks ≡ self.now.pairs * self.now.actions }
-        ensures narrow { (p a : ℕ) → mask_at self.now p a < 2 ^ 32 }
+        ensures in_range { (p : ℕ) → has_entry self.now.list p ≡ true → p < pairs_of self.now }
+        ensures bound { length self.now.list ≤ pairs_of self.now }
+        ensures room { pairs_of self.now ≤ self.now.cap_pairs }
+        ensures lanes { (0 < self.now.lanes) × (self.now.lanes ≤ 64) }
+        ensures marks { length self.now.marks ≡ (pairs_of self.now + 63) / 64 }
+        ensures before { length self.now.before ≡ self.now.rows }
     {
-        self.count
+        self.entries.len() as u32
+    }
+
+    /// How many pairs aren't listed.
+    pub fn unlisted(&self) -> u32
+        ensures counted { result ≡ count_by (λ p. not (has_entry self.now.list p)) (below (pairs_of self.now)) }
+        ensures rest { result + length self.now.list ≡ pairs_of self.now }
+    {
+        self.rows * self.lanes - self.len()
     }
 
     /// The entry at place `i` of the list: the pair, and why it was removed.
@@ -200,85 +215,40 @@ impl Order {
 
     /// Whether the pair `p` isn't listed.
     pub fn alive(&self, p: u32) -> bool
-        requires { p < self.now.pairs }
+        requires { p < pairs_of self.now }
         ensures { result ≡ not (has_entry self.now.list p) }
     {
-        !flags::has(&self.gone, p)
+        (self.words[(p / self.lanes) as usize] >> (p % self.lanes)) & 1 == 1
     }
 
     /// The place of the pair `p` in the list, or `None` where it isn't listed.
     pub fn stamp(&self, p: u32) -> Option<u32>
-        requires { p < self.now.pairs }
+        requires { p < pairs_of self.now }
         ensures { result ≡ place_of self.now.list p }
     {
         let stamp = self.stamps[p as usize];
         if stamp == u32::MAX { None } else { Some(stamp) }
     }
+}
 
-    /// Adds an entry for a pair that is alive.
-    pub fn push(&mut self, p: u32, reason: Reason)
-        requires in_range { p < self.old.pairs }
-        requires alive { has_entry self.old.list p ≡ false }
-        ensures { self.new ≡ record self.old { list = self.old.list ++ entry_of (p, reason) ∷ [] } }
-    {
-        self.entries[self.count as usize] = Removal { pair: p, reason };
-        self.stamps[p as usize] = self.count;
-        flags::set(&mut self.gone, p);
-        self.count += 1;
-    }
+// A table with the same items, with room for that many.
+fn copied<T: Copy>(alloc: Global, items: &[T], room: usize) -> Result<Vec<T>, AllocError>
+    ensures items { IfOk result (λ table. table.items ≡ items.now) }
+    ensures room { IfOk result (λ table. room ≤ vec_capacity table) }
+{
+    let mut table = Vec::with_capacity(alloc, room)?;
+    table.extend_from_slice(items)?;
+    Ok(table)
+}
 
-    /// The mask of the pair `p` and the action `a`.
-    pub fn mask(&self, p: u32, a: u8) -> u32
-        requires pair { p < self.now.pairs }
-        requires action { a < self.now.actions }
-        ensures { result ≡ mask_at self.now p a }
-    {
-        self.masks[p as usize * self.actions as usize + a as usize]
-    }
-
-    /// Sets the mask of the pair `p` and the action `a`.
-    pub fn set_mask(&mut self, p: u32, a: u8, mask: u32)
-        requires pair { p < self.old.pairs }
-        requires action { a < self.old.actions }
-        ensures set { mask_at self.new p a ≡ mask }
-        ensures others { (q b : ℕ) → b < self.old.actions → (q ≡ p → b ≡ a → ⊥) →
-            mask_at self.new q b ≡ mask_at self.old q b }
-        ensures rest { self.new ≡ record self.old { masks = self.new.masks } }
-    {
-        self.masks[p as usize * self.actions as usize + a as usize] = mask;
-    }
-
-    /// Marks the pair `p`.
-    pub fn mark(&mut self, p: u32)
-        requires { p < self.old.pairs }
-        ensures marked { is_marked self.new p ≡ true }
-        ensures others { (q : ℕ) → q ≢ p → is_marked self.new q ≡ is_marked self.old q }
-        ensures rest { self.new ≡ record self.old { marks = self.new.marks } }
-    {
-        self.marks[p as usize] = true;
-    }
-
-    /// Whether the pair `p` is marked.
-    pub fn marked(&self, p: u32) -> bool
-        requires { p < self.now.pairs }
-        ensures { result ≡ is_marked self.now p }
-    {
-        self.marks[p as usize]
-    }
-
-    /// Takes all marks off.
-    pub fn clear_marks(&mut self)
-        ensures unmarked { (p : ℕ) → is_marked self.new p ≡ false }
-        ensures rest { self.new ≡ record self.old { marks = self.new.marks } }
-    {
-        tables::clear_marks(&mut self.marks, self.pairs as usize);
-    }
-
-    // How many cells the mask plane has.
-    fn cells(&self) -> usize
-        ensures value { result ≡ self.now.pairs * self.now.actions }
-        ensures room { result ≤ self.now.cap_cells }
-    {
-        self.pairs as usize * self.actions as usize
-    }
+// Makes all items of a table that value, and as many as said.
+fn refill<T: Copy + Drop>(table: &mut Vec<T>, n: usize, value: T)
+    requires { n ≤ vec_capacity table.old }
+    ensures items { table.new.items ≡ replicate n value }
+    ensures room { vec_capacity table.old ≤ vec_capacity table.new }
+{
+    table.clear();
+    let Ok(()) = table.resize(n, value) else {
+        unreachable!()
+    };
 }

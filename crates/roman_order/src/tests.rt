@@ -3,20 +3,19 @@ use std::test::Fail;
 
 #[test]
 fn a_list_is_kept_and_reopened(rt: HostRuntime) -> Result<(), Fail> {
-    let mut order = Order::build(rt.alloc(), 70, 140)?;
-    order.shape_to(70, 2);
+    let mut order = Order::build(rt.alloc(), 128)?;
+    order.shape_to(2, 64);
     order.push(65, Reason::Act(1));
     order.push(2, Reason::Final);
     assert_eq!(rt; order.entry(0), (65, Reason::Act(1)));
     assert_eq!(rt; (order.alive(65), order.alive(64)), (false, true));
     assert_eq!(rt; (order.stamp(2), order.stamp(3)), (Some(1), None));
-    assert_eq!(rt; order.unlisted(), 68);
-    order.set_mask(1, 0, 0b1011);
-    order.set_mask(1, 1, 0b0110);
-    order.set_mask(69, 1, 0b1111);
-    assert_eq!(rt; order.bits(), 9);
-    order.mark(1);
-    order.reopen(3);
+    assert_eq!(rt; (order.len(), order.unlisted()), (2, 126));
+    assert_eq!(rt; order.words()[1], u64::MAX - 2);
+    order.mark_front(66);
+    order.mark(100);
+    assert_eq!(rt; order.next_marked(), Some(0));
+    order.reopen(3, 1);
     assert_eq!(rt;
         (order.len(), order.alive(2), order.marked(1)),
         (0, true, false)
@@ -24,12 +23,11 @@ fn a_list_is_kept_and_reopened(rt: HostRuntime) -> Result<(), Fail> {
     assert_eq!(rt; order.next_waiting(), Some((65, Reason::Act(1))));
     assert_eq!(rt; order.next_waiting(), Some((2, Reason::Final)));
     assert_eq!(rt; order.next_waiting(), None);
-    order.set_mask(0, 0, 0b0011);
-    order.fold_into(1, 0);
-    order.drop_all(0);
-    assert_eq!(rt; (order.mask(1, 0), order.mask(1, 1)), (0b0001, 0));
-    order.clear_all(0);
-    order.reopen(70);
-    assert_eq!(rt; order.bits(), 0);
+    order.marks_mut()[0] = 6;
+    assert_eq!(rt;
+        (order.next_marked(), order.next_marked()),
+        (Some(1), Some(2))
+    );
+    assert_eq!(rt; order.next_marked(), None);
     Ok(())
 }

@@ -6,7 +6,7 @@ use Rattle.std.proofs.lemmas.List.{take-take, take-append-le, length-take, get_o
 use Rattle.roman_model.specs.Arena.{Arena, Entry, is_listed}
 use Rattle.roman_model.proofs.Lists.{any_same}
 use Rattle.roman_model.proofs.ArenaLemmas.{listed_append}
-use Rattle.roman_joint.specs.Numbered.{IsNumbered}
+use Rattle.roman_rules.specs.Numbered.{IsNumbered}
 use Rattle.roman_order.specs.Board.{has_entry}
 use Rattle.roman_relation.specs.Settled.{Begins}
 

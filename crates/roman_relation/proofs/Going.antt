@@ -1,14 +1,16 @@
 -- Orders that go on from others.
-use Rattle.std.proofs.Common.{◌≡◌, ℕ, ◌+◌, ◌*◌, false, List, [], ◌∷◌, ◌++◌, IsTrue, refl, sym, ap, ap₂, ◌∙◌, subst, slice_index}
-use Rattle.roman_model.specs.Arena.{Arena, Entry, is_listed, is_justified, IsOrder}
-use Rattle.roman_model.specs.declared.reason.Reason.{Reason}
-use Rattle.roman_model.proofs.ArenaLemmas.{justified_more}
-use Rattle.roman_model.proofs.OrderLemmas.{order_push}
-use Rattle.roman_joint.specs.Numbered.{IsNumbered}
-use Rattle.roman_order.specs.Board.{Board, has_entry, mask_at}
-use Rattle.roman_relation.specs.Masked.{IsShaped}
+use Rattle.std.proofs.Common.{◌≡◌, ℕ, ◌+◌, ◌*◌, ◌≤◌, List, [], ◌∷◌, ◌++◌, length, take, drop, refl, sym, ap, ap₂, ◌∙◌, subst, arith, take-append-drop}
+use Rattle.std.proofs.Math.Seq.{take-append_seam, take-length}
+use Rattle.std.proofs.lemmas.List.{take-append-le}
+use Rattle.roman_model.specs.Arena.{Arena, Entry, IsOrder, fall}
+use Rattle.roman_model.proofs.WorkLemmas.{fall_append}
+use Rattle.roman_order.specs.Board.{Board, pairs_of}
+use Rattle.roman_relation.specs.Shaped.{IsShaped}
 use Rattle.roman_relation.specs.Settled.{Begins, GoesOn}
-use Rattle.roman_relation.proofs.Beginnings.{listed_is, begins_itself, begins_push, begins_on, begins_listed}
+use Rattle.roman_relation.proofs.Beginnings.{begins_itself, begins_on}
+
+pub begins_append : (L M : List (Entry ℕ)) → Begins L (L ++ M)
+begins_append L M = take-append_seam L M
 
 pub goes_on_itself : (A : Arena ℕ) (b : Board) → IsOrder A b.list → GoesOn A b b
 goes_on_itself A b order = record { valid = order; begins = begins_itself b.list; rest = refl }
@@ -17,42 +19,46 @@ pub goes_on_on : (A : Arena ℕ) (a b c : Board) → GoesOn A a b → GoesOn A b
 goes_on_on A a b c p q = record {
   valid = q.valid;
   begins = begins_on a.list b.list c.list p.begins q.begins;
-  rest = q.rest ∙ ap (λ (x : Board). record x { list = c.list; masks = c.masks }) p.rest;
+  rest = q.rest ∙ ap (λ (x : Board). record x { list = c.list; marks = c.marks; before = c.before }) p.rest;
 }
 
--- by an entry that the list justifies
-pub goes_on_pushed : (A : Arena ℕ) (b c : Board) (x : Entry ℕ) → IsNumbered A → IsOrder A b.list → has_entry b.list x.node ≡ false →
-    IsTrue (is_justified A (is_listed A b.list) x.node x.reason) → c ≡ record b { list = b.list ++ x ∷ [] } → GoesOn A b c
-goes_on_pushed A b c x ok order new j e =
-    subst (λ d. GoesOn A b d) (sym e) (record {
-      valid = order_push A b.list x order (listed_is A ok b.list x.node ∙ new) j;
-      begins = begins_push b.list b.list x (begins_itself b.list);
-      rest = refl;
-    })
-
--- by a change of masks
-pub goes_on_masked : (A : Arena ℕ) (b c : Board) → IsOrder A b.list → c ≡ record b { masks = c.masks } → GoesOn A b c
-goes_on_masked A b c order e =
-    let same : c.list ≡ b.list = ap (λ (x : Board). x.list) e in
-    record {
-      valid = subst (λ L. IsOrder A L) (sym same) order;
-      begins = subst (λ L. Begins b.list L) (sym same) (begins_itself b.list);
-      rest = e ∙ ap (λ (L : List (Entry ℕ)). record b { list = L; masks = c.masks }) (sym same);
-    }
-
-pub shaped_on : (A : Arena ℕ) (b c : Board) → IsShaped A b → GoesOn A b c → IsShaped A c
-shaped_on A b c s g = record {
-  pairs = ap (λ (x : Board). x.pairs) g.rest ∙ s.pairs;
-  actions = ap (λ (x : Board). x.actions) g.rest ∙ s.actions;
+-- what has the shape and has gone on has the shape
+pub shaped_on : (A : Arena ℕ) (lanes : ℕ) (b c : Board) → IsShaped A lanes b → GoesOn A b c → IsShaped A lanes c
+shaped_on A lanes b c s g = record {
+  pairs = ap (λ (x : Board). pairs_of x) g.rest ∙ s.pairs;
+  lanes = ap (λ (x : Board). x.lanes) g.rest ∙ s.lanes;
 }
 
--- where the masks are the same, so is each of them
-pub mask_kept : (A : Arena ℕ) (b c : Board) (p a : ℕ) → GoesOn A b c → c.masks ≡ b.masks → mask_at c p a ≡ mask_at b p a
-unfolding mask_at
-mask_kept A b c p a g e = ap₂ (λ ms n. slice_index ms (p * n + a)) e (ap (λ (x : Board). x.actions) g.rest)
+-- the front of a list that goes on stays
+pub front_kept : (start : ℕ) (L M : List (Entry ℕ)) → start ≤ length L → take start (L ++ M) ≡ take start L
+front_kept start L M l = take-append-le start L M l
 
--- a reason that holds goes on to hold
-pub justified_on : (A : Arena ℕ) (b c : Board) (p : ℕ) (reason : Reason) → GoesOn A b c →
-    IsTrue (is_justified A (is_listed A b.list) p reason) → IsTrue (is_justified A (is_listed A c.list) p reason)
-justified_on A b c p reason g j =
-    justified_more A (is_listed A b.list) (is_listed A c.list) p reason (λ a k q i t. begins_listed A b.list c.list q g.begins t) j
+-- by entries that a removal list can have next
+pub goes_on_added : (A : Arena ℕ) (b c : Board) (M : List (Entry ℕ)) → IsOrder A (b.list ++ M) → c ≡ record b { list = b.list ++ M } → GoesOn A b c
+goes_on_added A b c M order e = subst (λ (d : Board). GoesOn A b d) (sym e) (record { valid = order; begins = begins_append b.list M; rest = refl })
+
+pub begins_added : (b c : Board) (M : List (Entry ℕ)) → c ≡ record b { list = b.list ++ M } → Begins b.list c.list
+begins_added b c M e = subst (λ (d : Board). Begins b.list d.list) (sym e) (begins_append b.list M)
+
+-- what has the same shape
+pub shaped_same : (A : Arena ℕ) (lanes : ℕ) (b c : Board) → IsShaped A lanes b → c.rows ≡ b.rows → c.lanes ≡ b.lanes → IsShaped A lanes c
+shaped_same A lanes b c s e f = record { pairs = ap₂ (λ x y. x * y) e f ∙ s.pairs; lanes = f ∙ s.lanes }
+
+-- a longer list is a fall of more
+pub fall_added : (A : Arena ℕ) (L M : List (Entry ℕ)) → Begins L M → fall A M ≡ fall A L + fall A (drop (length L) M)
+fall_added A L M b =
+    ap (fall A) (sym (take-append-drop (length L) M) ∙ ap (λ N. N ++ drop (length L) M) b) ∙ fall_append A L (drop (length L) M)
+
+-- a list that begins with one as long is that one
+pub same_list : (L M : List (Entry ℕ)) → Begins L M → length M ≡ length L → M ≡ L
+same_list L M b e = sym (take-length M) ∙ (ap (λ n. take n M) e ∙ b)
+
+-- an order of the same room and shape, in which the same entries wait, differs in nothing but what rounds change
+pub rest_from : (b c : Board) → c.cap_pairs ≡ b.cap_pairs → c.rows ≡ b.rows → c.lanes ≡ b.lanes → c.waiting ≡ b.waiting → c ≡ record b { list = c.list; marks = c.marks; before = c.before; levels = c.levels }
+rest_from b c room rows lanes waiting =
+    ap (λ k. record c { cap_pairs = k }) room ∙ (ap (λ k. record c { cap_pairs = b.cap_pairs; rows = k }) rows
+    ∙ (ap (λ k. record c { cap_pairs = b.cap_pairs; rows = b.rows; lanes = k }) lanes ∙ ap (λ k. record c { cap_pairs = b.cap_pairs; rows = b.rows; lanes = b.lanes; waiting = k }) waiting))
+
+pub no_entries : (L : List (Entry ℕ)) → length L ≡ 0 → L ≡ []
+no_entries [] e = refl
+no_entries (x ∷ L) e = absurd (omega arith)

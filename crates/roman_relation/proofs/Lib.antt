@@ -1,10 +1,9 @@
 pub mod Beginnings
 pub mod Going
-pub mod MaskBits
-pub mod Reading
-pub mod Sweeping
-pub mod Clearing
-pub mod Closing
-pub mod Endings
-pub mod Counting
+pub mod Lanes
+pub mod Pushing
+pub mod Playing
+pub mod Marks
+pub mod Rising
+pub mod Choosing
 pub mod Relating

@@ -1,9 +1,9 @@
 -- What a relation whose list is complete says of the greatest ND-simulation.
-use Rattle.std.proofs.Common.{◌≡◌, ℕ, ◌+◌, ◌*◌, ◌/◌, ◌^◌, ◌<◌, ◌≤◌, ◌↔◌, Bool, true, false, not, List, [], ◌++◌, length, drop, filter, sum_by, count_ones, IsTrue, refl, sym, ap, ◌∙◌, subst, arith, take-append-drop}
+use Rattle.std.proofs.Common.{◌≡◌, ◌≢◌, ℕ, ◌+◌, ◌*◌, ◌/◌, ◌^◌, ◌<◌, ◌≤◌, ◌↔◌, ◌⊎◌, Bool, true, false, not, List, [], ◌∷◌, ◌++◌, length, drop, filter, sum_by, count_ones, IsTrue, inl, inr, refl, sym, ap, ◌∙◌, subst, arith, take-append-drop}
 use Rattle.std.proofs.Math.Nat.{le-div_iff_mul-le}
 use Rattle.roman_model.specs.Lists.{below}
 use Rattle.roman_model.specs.System.{Sys, pairs}
-use Rattle.roman_model.specs.Arena.{Arena, Entry, fall}
+use Rattle.roman_model.specs.Arena.{Arena, Entry, is_listed, choices}
 use Rattle.roman_model.specs.Composition.{Great}
 use Rattle.roman_model.specs.Numbers.{sizes_of, count, pair_at, numbered}
 use Rattle.roman_model.specs.Offers.{is_related, choice_count}
@@ -13,31 +13,33 @@ use Rattle.roman_model.proofs.CompositionLemmas.{related_great, great_related}
 use Rattle.roman_model.proofs.NumberLemmas.{numbers_are_pairs}
 use Rattle.roman_model.proofs.NumberedArena.{AreNumbers}
 use Rattle.roman_model.proofs.NumberedLists.{numbered_is_same, numbered_completed_by, numbered_listed, numbered_choices, numbered_related_count}
-use Rattle.roman_model.proofs.WorkLemmas.{fall_append}
 use Rattle.roman_joint.specs.NamedSys.{NamedSys, system_of, IsNamedSys}
-use Rattle.roman_joint.proofs.ArenaFacts.{joint_numbered}
-use Rattle.roman_order.specs.Board.{Board, has_entry, mask_at}
-use Rattle.roman_relation.specs.Masked.{IsShaped, AreMasks}
-use Rattle.roman_relation.specs.Settled.{Begins, IsSettled}
-use Rattle.roman_relation.specs.Greatest.{arena_of, HasCaps, HasCompleteList}
-use Rattle.roman_relation.proofs.Counting.{bits_counted}
+use Rattle.roman_order.specs.Board.{Board, pairs_of, has_entry}
+use Rattle.roman_relation.specs.Shaped.{IsShaped}
+use Rattle.roman_relation.specs.Settled.{IsSettled, AreLevels}
+use Rattle.roman_relation.specs.Greatest.{arena_of, lanes_of, HasCaps, HasCompleteList}
+
+-- the levels are those of the list, or there are none
+pub either_levels : (A : Arena ℕ) (L : List (Entry ℕ)) (board : Board) → (L ≡ [] → AreLevels A board.levels board.list) → (L ≢ [] → board.levels ≡ []) → (board.levels ≡ []) ⊎ AreLevels A board.levels board.list
+either_levels A [] board fresh stale = inr (fresh refl)
+either_levels A (x ∷ L) board fresh stale = inl (stale (λ e. cc))
 
 -- a settled list is complete
-pub completed : (n : NamedSys) (board : Board) → IsNamedSys n → IsSettled (arena_of n) board.list → AreMasks (arena_of n) board.list board → board.waiting ≡ [] → HasCompleteList n board
-completed n board known settled masks idle =
+pub completed : (n : NamedSys) (board : Board) → IsNamedSys n → IsSettled (arena_of n) board.list → board.waiting ≡ [] → (board.levels ≡ []) ⊎ AreLevels (arena_of n) board.levels board.list → HasCompleteList n board
+completed n board known settled idle levels =
     let s = system_of n in
     let nodes : length (below (count (sizes_of s))) ≡ count (sizes_of s) = length-below (count (sizes_of s)) in
     record {
       list = numbered_completed_by s board.list known.system (λ x i. subst (λ m. x.node < m) nodes (settled.nodes x i)) settled.order
           (λ p l unlisted reason. settled.no_more p (subst (λ m. p < m) (sym nodes) l) unlisted reason);
-      masks = masks;
       idle = idle;
+      levels = levels;
     }
 
 -- the entries are of pairs
-pub listed_numbers : (s : Sys) (board : Board) → board.pairs ≡ length (below (count (sizes_of s))) → ((p : ℕ) → has_entry board.list p ≡ true → p < board.pairs) → AreNumbers s board.list
+pub listed_numbers : (s : Sys) (board : Board) → pairs_of board ≡ length (below (count (sizes_of s))) → ((p : ℕ) → has_entry board.list p ≡ true → p < pairs_of board) → AreNumbers s board.list
 listed_numbers s board pairs in_range x i =
-    let within : x.node < board.pairs = in_range x.node (in_listed (numbered s) (numbered_is_same s) board.list x i) in
+    let within : x.node < pairs_of board = in_range x.node (in_listed (numbered s) (numbered_is_same s) board.list x i) in
     omega (arith, pairs, length-below (count (sizes_of s)))
 
 not_twice : (b : Bool) → not (not b) ≡ b
@@ -59,10 +61,8 @@ pub related_counted : (n : NamedSys) (board : Board) (m : ℕ) → IsNamedSys n 
     m ≡ length (filter (is_related (system_of n)) (pairs (system_of n)))
 related_counted n board m known complete rest = omega (arith, rest, numbered_related_count (system_of n) board.list known.system complete.list)
 
-pub choices_counted : (n : NamedSys) (board : Board) (m : ℕ) → IsNamedSys n → HasCompleteList n board → IsShaped (arena_of n) board → AreNumbers (system_of n) board.list →
-    ((p a : ℕ) → mask_at board p a < 2 ^ 32) → m ≡ sum_by (λ p. sum_by (λ a. count_ones (mask_at board p a)) (below board.actions)) (below board.pairs) → m ≡ choice_count (system_of n)
-choices_counted n board m known complete shaped are narrow is =
-    is ∙ bits_counted (arena_of n) board.list board (joint_numbered n known) shaped complete.masks narrow ∙ numbered_choices (system_of n) board.list known.system are complete.list
+pub choices_counted : (n : NamedSys) (board : Board) (m : ℕ) → IsNamedSys n → HasCompleteList n board → AreNumbers (system_of n) board.list → m ≡ choices (arena_of n) (is_listed (arena_of n) board.list) → m ≡ choice_count (system_of n)
+choices_counted n board m known complete are is = is ∙ numbered_choices (system_of n) board.list known.system are complete.list
 
 -- the order has room for the joint
 pub room_for_pairs : (n : NamedSys) (board : Board) → IsNamedSys n → HasCaps n board → length (below (count (sizes_of (system_of n)))) ≤ board.cap_pairs
@@ -70,14 +70,3 @@ room_for_pairs n board known caps =
     let s = system_of n in
     let fits : count (sizes_of s) ≤ n.limit / s.env.actions = (le-div_iff_mul-le known.system.env.actions.0).1 known.fits in
     omega (arith, fits, caps.pairs, length-below (count (sizes_of s)))
-
-pub room_for_cells : (n : NamedSys) (board : Board) → IsNamedSys n → HasCaps n board → length (below (count (sizes_of (system_of n)))) * (system_of n).env.actions ≤ board.cap_cells
-room_for_cells n board known caps =
-    let s = system_of n in
-    let cells : length (below (count (sizes_of s))) * s.env.actions ≡ count (sizes_of s) * s.env.actions = ap (λ m. m * s.env.actions) (length-below (count (sizes_of s))) in
-    omega (arith, cells, known.fits, caps.cells)
-
--- the fall of what was added
-pub fall_added : (A : Arena ℕ) (L M : List (Entry ℕ)) → Begins L M → fall A M ≡ fall A L + fall A (drop (length L) M)
-fall_added A L M b =
-    ap (fall A) (sym (take-append-drop (length L) M) ∙ ap (λ N. N ++ drop (length L) M) b) ∙ fall_append A L (drop (length L) M)

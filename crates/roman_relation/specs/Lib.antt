@@ -1,3 +1,4 @@
-pub mod Masked
+pub mod Shaped
 pub mod Settled
+pub mod Rounds
 pub mod Greatest

@@ -1,7 +1,7 @@
 -- Removal lists that go on from others, until nothing can be added.
-use Rattle.std.specs.Prelude.{◌≡◌, ℕ, ◌<◌, List, length, take, IsFalse}
+use Rattle.std.specs.Prelude.{◌≡◌, ℕ, ◌-◌, ◌<◌, ◌≤◌, List, length, take, slice_get, slice_index, Some, IsTrue, IsFalse}
 use Rattle.roman_model.specs.Lists.{IsIn}
-use Rattle.roman_model.specs.Arena.{Arena, Entry, is_listed, is_justified, IsOrder}
+use Rattle.roman_model.specs.Arena.{Arena, Entry, is_listed, is_justified, loses, IsOrder}
 use Rattle.roman_model.specs.declared.reason.Reason.{Reason}
 use Rattle.roman_order.specs.Board.{Board}
 
@@ -9,14 +9,30 @@ use Rattle.roman_order.specs.Board.{Board}
 abbrev pub Begins : List (Entry ℕ) → List (Entry ℕ) → Type 0
 Begins L M = take (length L) M ≡ L
 
--- the new order has a removal list that begins with the old one's, and nothing else has changed but masks
+-- the new order has a removal list that begins with the old one's, and nothing else has changed but marks and kept words
 pub record GoesOn (A : Arena ℕ) (old new : Board) : Type 0 where
   pub valid : IsOrder A new.list
   pub begins : Begins old.list new.list
-  pub rest : new ≡ record old { list = new.list; masks = new.masks }
+  pub rest : new ≡ record old { list = new.list; marks = new.marks; before = new.before }
 
 -- a removal list of nodes to which no reason adds a node
 pub record IsSettled (A : Arena ℕ) (L : List (Entry ℕ)) : Type 0 where
   pub nodes : (x : Entry ℕ) → IsIn x L → x.node < length A.nodes
   pub order : IsOrder A L
   pub no_more : (p : ℕ) → p < length A.nodes → IsFalse (is_listed A L p) → (reason : Reason) → IsFalse (is_justified A (is_listed A L) p reason)
+
+-- the list has exactly the nodes at which the opponent wins within n requests
+pub record HoldsLost (A : Arena ℕ) (n : ℕ) (L : List (Entry ℕ)) : Type 0 where
+  pub each : (p : ℕ) → p < length A.nodes → is_listed A L p ≡ loses A n p
+
+-- the entries rise by depth: within as many requests as at an entry's node the opponent wins at those of all entries before it
+pub record RisesByDepth (A : Arena ℕ) (L : List (Entry ℕ)) : Type 0 where
+  pub each : (n i j : ℕ) (x y : Entry ℕ) → i < j → slice_get L i ≡ Some x → slice_get L j ≡ Some y → IsTrue (loses A n y.node) → IsTrue (loses A n x.node)
+
+-- the list in levels: where level n ends it has exactly the nodes at which the opponent wins within n requests, and the last
+-- level ends the list
+pub record AreLevels (A : Arena ℕ) (levels : List ℕ) (L : List (Entry ℕ)) : Type 0 where
+  pub some : 0 < length levels
+  pub within : (n : ℕ) → n < length levels → slice_index levels n ≤ length L
+  pub each : (n : ℕ) → n < length levels → HoldsLost A n (take (slice_index levels n) L)
+  pub last : slice_index levels (length levels - 1) ≡ length L

@@ -1,17 +1,20 @@
-//! The greatest ND-simulation of a system, by a removal list, masks and a worklist.
+//! The greatest ND-simulation of a system, by a removal list and rounds over rows of pairs.
 //!
-//! A [`Relation`] has a joint and the removal list of its pairs: those that the greatest
-//! ND-simulation doesn't hold, in an order in which each is justified by those before it. The
-//! functions beside it work over any system with numbered pairs ([`Rules`](roman_joint::Rules)):
-//! [`settle_list`] makes a removal list complete, and [`open_masks`] and [`read_masks`] set the masks
-//! beside it. `specs/` says when masks are those of a list (`Masked`), when a list is settled
-//! (`Settled`) and what a complete relation is (`Greatest`).
+//! A [`Relation`] has a joint and the removal list of its pairs: those that the greatest ND-simulation
+//! doesn't hold, in an order in which each is justified by those before it. The functions beside it work
+//! over any system with numbered pairs ([`Rules`](roman_rules::Rules)): [`settle_list`] makes a removal
+//! list complete. It lists the pairs that don't meet clause 2 ([`begin_rounds`]), and then goes by
+//! rounds: [`play_round`] lists each pair at which some action is served by no seat that keeps to the
+//! pairs that were left before the round. So after n rounds on an empty list exactly those pairs are
+//! listed at which the opponent wins within n requests.
+//!
+//! `specs/` says when a list is settled (`Settled`), what holds between rounds and within one (`Rounds`)
+//! and what a complete relation is (`Greatest`).
 #![tactic(auto)]
 
 mod masks;
 mod relation;
-mod worklist;
+mod rounds;
 
-pub use masks::{is_good, open_masks, read_masks, read_pair};
 pub use relation::Relation;
-pub use worklist::settle_list;
+pub use rounds::{begin_rounds, play_round, settle_list};

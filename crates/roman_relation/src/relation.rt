@@ -1,22 +1,24 @@
 //! The greatest relation of a joint.
-ghost use Rattle.std.specs.Prelude.{◌≡◌, ◌+◌, ◌<◌, ◌↔◌, not, []};
+ghost use Rattle.std.specs.Prelude.{◌≡◌, ◌+◌, ◌<◌, ◌≤◌, ◌↔◌, not, []};
 ghost use Rattle.std.specs.Prelude.{length, drop, filter, IsTrue, IfOk};
-ghost use Rattle.roman_model.specs.System.{pairs};
-ghost use Rattle.roman_model.specs.Arena.{IsOrder, fall};
+ghost use Rattle.roman_model.specs.System.{has, pairs};
+ghost use Rattle.roman_model.specs.Arena.{is_listed, mask, IsOrder, fall};
 ghost use Rattle.roman_model.specs.Composition.{Great};
 ghost use Rattle.roman_model.specs.Numbers.{sizes_of, count, pair_at};
 ghost use Rattle.roman_model.specs.Offers.{is_related, choice_count};
+ghost use Rattle.roman_rules.specs.Bits.{HasBits};
 ghost use Rattle.roman_joint.specs.NamedSys.{system_of};
 ghost use Rattle.roman_order.specs.Board.{has_entry};
-ghost use Rattle.roman_relation.specs.Masked.{IsShaped, AreMasks};
-ghost use Rattle.roman_relation.specs.Settled.{Begins};
-ghost use Rattle.roman_relation.specs.Greatest.{arena_of, HasCaps, HasCompleteList};
+ghost use Rattle.roman_relation.specs.Shaped.{IsShaped};
+ghost use Rattle.roman_relation.specs.Settled.{Begins, RisesByDepth, AreLevels};
+ghost use Rattle.roman_relation.specs.Greatest.{arena_of, lanes_of, HasCaps, HasCompleteList};
 
-use crate::masks::open_masks;
-use crate::worklist::settle_list;
+use crate::masks;
+use crate::rounds::settle_list;
 use roman_io::Steps;
-use roman_joint::{Joint, Rules};
+use roman_joint::Joint;
 use roman_order::Order;
+use roman_rules::Rules;
 use std::alloc::{AllocError, Global};
 use std::sync::ledger::Ledger;
 
@@ -24,19 +26,19 @@ use std::sync::ledger::Ledger;
 /// pair is related where it isn't listed.
 ///
 /// The two fields can be lent apart. What the calls say of the greatest ND-simulation they say where
-/// the list is [complete](Relation::build): it holds exactly the pairs that aren't related, the masks
-/// are those of the list, and nothing waits.
+/// the list is [complete](Relation::build): it holds exactly the pairs that aren't related, and nothing
+/// waits.
 #[derive(Drop)]
 pub struct Relation {
     /// The system.
     pub joint: Joint,
-    /// The removal list, and the masks.
+    /// The removal list.
     pub order: Order,
 }
 
 impl Relation {
-    /// The greatest relation of a joint, with a complete removal list and room for every system
-    /// within the joint's limit. No other call takes memory.
+    /// The greatest relation of a joint, with a complete removal list whose entries rise by depth,
+    /// level by level, and room for every system within the joint's limit. No other call takes memory.
     pub fn build<L: Ledger>(
         alloc: Global,
         joint: Joint,
@@ -44,13 +46,14 @@ impl Relation {
     ) -> Result<Relation, AllocError>
         ensures joint { IfOk result (λ relation. relation.joint ≡ joint) }
         ensures complete { IfOk result (λ relation. HasCompleteList relation.joint relation.order) }
-        ensures shaped { IfOk result (λ relation. IsShaped (arena_of relation.joint) relation.order) }
+        ensures rises { IfOk result (λ relation. RisesByDepth (arena_of relation.joint) relation.order.list) }
+        ensures levels { IfOk result (λ relation. AreLevels (arena_of relation.joint) relation.order.levels relation.order.list) }
+        ensures shaped { IfOk result (λ relation. IsShaped (arena_of relation.joint) (lanes_of relation.joint) relation.order) }
         ensures caps { IfOk result (λ relation. HasCaps relation.joint relation.order) }
     {
         joint.known();
-        let cells = joint.limit();
-        let places = cells / u32::from(Rules::actions(&joint));
-        let order = Order::build(alloc, places, cells)?;
+        let places = joint.limit() / u32::from(Rules::actions(&joint));
+        let order = Order::build(alloc, places)?;
         let mut relation = Relation { joint, order };
         relation.afresh(steps);
         Ok(relation)
@@ -58,7 +61,7 @@ impl Relation {
 
     /// Whether the pair `p` is related.
     pub fn related(&self, p: u32) -> bool
-        requires shaped { IsShaped (arena_of self.now.joint) self.now.order }
+        requires shaped { IsShaped (arena_of self.now.joint) (lanes_of self.now.joint) self.now.order }
         requires pair { p < count (sizes_of (system_of self.now.joint)) }
         ensures listed { result ≡ not (has_entry self.now.order.list p) }
         ensures great { let s = system_of self.now.joint in
@@ -72,7 +75,7 @@ impl Relation {
 
     /// How many pairs are related.
     pub fn count(&self) -> u32
-        requires { IsShaped (arena_of self.now.joint) self.now.order }
+        requires { IsShaped (arena_of self.now.joint) (lanes_of self.now.joint) self.now.order }
         ensures listed { result + length self.now.order.list
             ≡ count (sizes_of (system_of self.now.joint)) }
         ensures related { let s = system_of self.now.joint in
@@ -83,6 +86,19 @@ impl Relation {
         self.order.unlisted()
     }
 
+    /// The mask of the pair `p` and the action `a`, whether the pair is related or not: bit k is set
+    /// exactly where service k has an outcome there, and none that is listed.
+    pub fn mask(&self, p: u32, a: u8) -> u32
+        requires shaped { IsShaped (arena_of self.now.joint) (lanes_of self.now.joint) self.now.order }
+        requires pair { p < count (sizes_of (system_of self.now.joint)) }
+        requires action { a < (system_of self.now.joint).env.actions }
+        ensures { let A = arena_of self.now.joint in
+            HasBits result (has (mask A (is_listed A self.now.order.list) p a)) }
+    {
+        self.joint.known();
+        masks::mask(&self.joint, &self.order, p, a)
+    }
+
     /// The system.
     pub fn joint(&self) -> &Joint
         ensures { result.now ≡ self.now.joint }
@@ -90,7 +106,7 @@ impl Relation {
         &self.joint
     }
 
-    /// The removal list, and the masks.
+    /// The removal list.
     pub fn order(&self) -> &Order
         ensures { result.now ≡ self.now.order }
     {
@@ -99,47 +115,50 @@ impl Relation {
 
     /// How many seats the masks of all pairs, related or not, have together.
     pub fn choices(&self) -> u64
-        requires { IsShaped (arena_of self.now.joint) self.now.order }
+        requires { IsShaped (arena_of self.now.joint) (lanes_of self.now.joint) self.now.order }
         ensures { HasCompleteList self.now.joint self.now.order
             → result ≡ choice_count (system_of self.now.joint) }
     {
         self.joint.known();
         self.order.len();
-        self.order.bits()
+        masks::choices(&self.joint, &self.order)
     }
 
-    /// Empties the list, sets the masks to those while all pairs are alive, and settles. The order
-    /// is shaped for the joint.
+    /// Empties the list, and settles. The order is shaped for the joint. The entries rise by depth.
     pub fn afresh<L: Ledger>(&mut self, steps: &mut Steps<L>)
         requires caps { HasCaps self.old.joint self.old.order }
         requires idle { self.old.order.waiting ≡ [] }
         ensures joint { self.new.joint ≡ self.old.joint }
         ensures complete { HasCompleteList self.new.joint self.new.order }
-        ensures shaped { IsShaped (arena_of self.new.joint) self.new.order }
+        ensures rises { RisesByDepth (arena_of self.new.joint) self.new.order.list }
+        ensures levels { AreLevels (arena_of self.new.joint) self.new.order.levels self.new.order.list }
+        ensures shaped { IsShaped (arena_of self.new.joint) (lanes_of self.new.joint) self.new.order }
         ensures caps { HasCaps self.new.joint self.new.order }
     {
         self.joint.known();
-        let pairs = self.joint.pairs();
-        let actions = self.joint.actions();
-        self.order.shape_to(pairs, actions);
-        open_masks(&self.joint, &mut self.order);
+        let lanes = self.joint.lanes();
+        self.order.shape_to(self.joint.rows(), lanes);
         settle_list(&self.joint, &mut self.order, steps);
     }
 
-    /// Goes on from a removal list, with its masks, to a complete one. The steps are as many as
-    /// delegations lead to the pairs that are added.
+    /// Goes on from a removal list to a complete one. The steps are at most as many as delegations lead to
+    /// the pairs that are added.
     pub fn settle<L: Ledger>(&mut self, steps: &mut Steps<L>)
-        requires shaped { IsShaped (arena_of self.old.joint) self.old.order }
+        requires shaped { IsShaped (arena_of self.old.joint) (lanes_of self.old.joint) self.old.order }
         requires valid { IsOrder (arena_of self.old.joint) self.old.order.list }
-        requires masks { AreMasks (arena_of self.old.joint) self.old.order.list self.old.order }
         requires idle { self.old.order.waiting ≡ [] }
         ensures complete { HasCompleteList self.new.joint self.new.order }
         ensures begins { Begins self.old.order.list self.new.order.list }
         ensures rest { self.new ≡ record self.old {
-          order = record self.old.order { list = self.new.order.list; masks = self.new.order.masks };
+          order = record self.old.order {
+            list = self.new.order.list;
+            marks = self.new.order.marks;
+            before = self.new.order.before;
+            levels = self.new.order.levels;
+          };
         } }
         ensures cost { steps.new
-            ≡ steps.old + fall (arena_of self.old.joint) (drop (length self.old.order.list) self.new.order.list) }
+            ≤ steps.old + fall (arena_of self.old.joint) (drop (length self.old.order.list) self.new.order.list) }
     {
         self.joint.known();
         settle_list(&self.joint, &mut self.order, steps);

@@ -15,20 +15,20 @@ use Rattle.roman_generator.proofs.moves.next_pair.Goals as goal
 
 pub next-requires-clause-action : goal.next-requires-clause-action
 next-requires-clause-action c =
-    let n = c.args.relation.now.joint in
+    let n = c.args.joint.now in
     let s = system_of n in
     subst (λ (env : NamedEnv). c.args.a < env.env.actions) (sym c.environment.ensures)
     (allowed_in_range s (pair_at (sizes_of s) c.args.p) c.args.a c.known.ensures.system c.requires.allowed)
 
 pub behaviour-behaviour-requires : goal.behaviour-behaviour-requires
 behaviour-behaviour-requires c =
-    let n = c.args.relation.now.joint in
+    let n = c.args.joint.now in
     let (seat, seated, ready) = ready_seat _ c.requires.ready in
     seat_within n c.args.k seat seated
 
 pub part_of-requires-clause-component : goal.part_of-requires-clause-component
 part_of-requires-clause-component c =
-    let n = c.args.relation.now.joint in
+    let n = c.args.joint.now in
     let s = system_of n in
     let (seat, seated, ready) = ready_seat _ c.requires.ready in
     let l = slice_get_within s.seats c.args.k seat seated in
@@ -36,7 +36,7 @@ part_of-requires-clause-component c =
 
 pub out-requires-clause-state : goal.out-requires-clause-state
 out-requires-clause-state c =
-    let n = c.args.relation.now.joint in
+    let n = c.args.joint.now in
     let s = system_of n in
     let q = pair_at (sizes_of s) c.args.p in
     let of = behaves n c.args.k c.behaviour-behaviour.result.now c.known.ensures c.behaviour-behaviour.ensures in
@@ -47,13 +47,13 @@ out-requires-clause-state c =
 
 pub out-requires-clause-env_state : goal.out-requires-clause-env_state
 out-requires-clause-env_state c =
-    let n = c.args.relation.now.joint in
+    let n = c.args.joint.now in
     let of = behaves n c.args.k c.behaviour-behaviour.result.now c.known.ensures c.behaviour-behaviour.ensures in
     omega (arith, c.env_of-e.ensures.below, of.env_states, ap (λ (m : Sizes). m.env) c.shape-shape.ensures)
 
 pub out-requires-clause-action : goal.out-requires-clause-action
 out-requires-clause-action c =
-    let n = c.args.relation.now.joint in
+    let n = c.args.joint.now in
     let s = system_of n in
     let of = behaves n c.args.k c.behaviour-behaviour.result.now c.known.ensures c.behaviour-behaviour.ensures in
     let l = allowed_in_range s (pair_at (sizes_of s) c.args.p) c.args.a c.known.ensures.system c.requires.allowed in
@@ -61,14 +61,14 @@ out-requires-clause-action c =
 
 pub step-requires-clause-action : goal.step-requires-clause-action
 step-requires-clause-action c =
-    let n = c.args.relation.now.joint in
+    let n = c.args.joint.now in
     let s = system_of n in
     let l = allowed_in_range s (pair_at (sizes_of s) c.args.p) c.args.a c.known.ensures.system c.requires.allowed in
     omega (arith, l, c.known.ensures.target.1, ap (λ (t : NamedTarget). t.actions) c.target.ensures)
 
 pub returns-then-not-holds-clause-none : goal.returns-then-not-holds-clause-none
 returns-then-not-holds-clause-none c =
-    let n = c.args.relation.now.joint in
+    let n = c.args.joint.now in
     let s = system_of n in
     let q = pair_at (sizes_of s) c.args.p in
     let (seat, seated, ready) = ready_seat _ c.requires.ready in
@@ -80,7 +80,7 @@ returns-then-not-holds-clause-none c =
 
 pub returns-then-not-holds-2-clause-none : goal.returns-then-not-holds-2-clause-none
 returns-then-not-holds-2-clause-none c =
-    let n = c.args.relation.now.joint in
+    let n = c.args.joint.now in
     let s = system_of n in
     let q = pair_at (sizes_of s) c.args.p in
     let of = behaves n c.args.k c.behaviour-behaviour.result.now c.known.ensures c.behaviour-behaviour.ensures in
@@ -93,13 +93,13 @@ returns-then-not-holds-2-clause-none c =
 
 pub moved-requires-clause-e : goal.moved-requires-clause-e
 moved-requires-clause-e c =
-    let n = c.args.relation.now.joint in
+    let n = c.args.joint.now in
     let within = has_below c.next.result.now c.args.e2 c.environment.result.now.env.states c.next.ensures.below (sym c.holds.ensures ∙ c.if-not-holds.false) in
     omega (arith, within, ap (λ (env : NamedEnv). env.env.states) c.environment.ensures, ap (λ (m : Sizes). m.env) c.shape-shape.ensures)
 
 pub moved-requires-clause-state : goal.moved-requires-clause-state
 moved-requires-clause-state c =
-    let n = c.args.relation.now.joint in
+    let n = c.args.joint.now in
     let s = system_of n in
     let of = behaves n c.args.k c.behaviour-behaviour.result.now c.known.ensures c.behaviour-behaviour.ensures in
     let within = has_below c.out.result.now c.args.b2 c.behaviour-behaviour.result.now.beh.states c.out.ensures.below (sym c.holds-2.ensures ∙ c.if-not-holds-2.false) in
@@ -108,7 +108,7 @@ moved-requires-clause-state c =
 
 pub returns-clause-moves : goal.returns-clause-moves
 returns-clause-moves c =
-    let n = c.args.relation.now.joint in
+    let n = c.args.joint.now in
     let s = system_of n in
     let q = pair_at (sizes_of s) c.args.p in
     let (x, x_seated, ready) = ready_seat _ c.requires.ready in

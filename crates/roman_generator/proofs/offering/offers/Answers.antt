@@ -1,21 +1,19 @@
 use Rattle.roman_joint.specs.NamedSys.{system_of}
 use Rattle.roman_model.specs.Numbers.{sizes_of, pair_at}
-use Rattle.roman_generator.proofs.OfferLemmas.{pair_shaped, action_shaped, mask_offers, offers_set}
+use Rattle.roman_model.proofs.SystemLemmas.{allowed_in_range}
+use Rattle.roman_generator.proofs.OfferLemmas.{mask_offers, offers_set}
 use Rattle.roman_generator.proofs.offering.offers.Goals as goal
-
-pub mask-requires-clause-pair : goal.mask-requires-clause-pair
-mask-requires-clause-pair c = pair_shaped (system_of c.args.relation.now.joint) c.args.relation.now.order c.args.p c.requires.complete.shaped c.requires.pair
 
 pub mask-requires-clause-action : goal.mask-requires-clause-action
 mask-requires-clause-action c =
     let s = system_of c.args.relation.now.joint in
-    action_shaped s c.args.relation.now.order (pair_at (sizes_of s) c.args.p) c.args.a c.known.ensures.system c.requires.complete.shaped c.requires.allowed
+    allowed_in_range s (pair_at (sizes_of s) c.args.p) c.args.a c.known.ensures.system c.requires.allowed
 
 pub returns-clause-offers : goal.returns-clause-offers
 returns-clause-offers c =
-    mask_offers c.args.relation.now.joint c.args.relation.now.order c.args.p c.args.a c.mask.result c.known.ensures c.requires.complete c.len.ensures.in_range c.requires.pair c.requires.allowed c.mask.ensures
+    mask_offers c.args.relation.now.joint c.args.relation.now.order c.args.p c.args.a c.mask.result c.known.ensures c.requires.complete c.len.ensures.in_range c.requires.pair c.mask.ensures
 
 pub returns-clause-some : goal.returns-clause-some
 returns-clause-some c =
     offers_set c.args.relation.now.joint c.args.p c.args.a c.mask.result c.known.ensures c.requires.pair c.requires.related c.requires.allowed
-    (mask_offers c.args.relation.now.joint c.args.relation.now.order c.args.p c.args.a c.mask.result c.known.ensures c.requires.complete c.len.ensures.in_range c.requires.pair c.requires.allowed c.mask.ensures)
+    (mask_offers c.args.relation.now.joint c.args.relation.now.order c.args.p c.args.a c.mask.result c.known.ensures c.requires.complete c.len.ensures.in_range c.requires.pair c.mask.ensures)

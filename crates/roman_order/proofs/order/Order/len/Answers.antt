@@ -1,10 +1,14 @@
-use Rattle.std.proofs.Common.{refl}
-use Rattle.roman_order.proofs.Masks.{mask_at-narrow}
+use Rattle.std.proofs.Common.{◌≡◌, ◌≤◌, ◌*◌, length, arith}
+use Rattle.std.proofs.lemmas.List.{length-map}
+use Rattle.roman_order.specs.Sound.{list_of}
 use Rattle.roman_order.proofs.Places.{length-le_from_apart}
+use Rattle.roman_order.proofs.Pushes.{entry_in}
 use Rattle.roman_order.proofs.order.Order.len.Goals as goal
 
-pub returns-clause-bound : goal.returns-clause-bound
-returns-clause-bound c = rw (← c.self.view_is) (length-le_from_apart c.self.inside.pairs _ c.self.invariant.placed.apart c.self.invariant.placed.in_range)
+pub overflow_cast-result : goal.overflow_cast-result
+overflow_cast-result c =
+    let bound = length-le_from_apart (c.self.inside.rows * c.self.inside.lanes) (list_of c.self.inside) c.self.invariant.placed.apart c.self.invariant.placed.in_range in
+    omega (arith, bound, length-map c.self.inside.entries.items entry_in, c.self.invariant.room, c.self.invariant.few)
 
-pub returns-clause-narrow : goal.returns-clause-narrow
-returns-clause-narrow c p a = rw (← c.self.view_is) (mask_at-narrow _ c.self.inside.masks.items _ p a refl c.self.invariant.blank_masks c.self.invariant.narrow)
+pub returns-clause-bound : goal.returns-clause-bound
+returns-clause-bound c = rw (← c.self.view_is) (length-le_from_apart (c.self.inside.rows * c.self.inside.lanes) _ c.self.invariant.placed.apart c.self.invariant.placed.in_range)

@@ -1,48 +1,43 @@
-use Rattle.std.proofs.Common.{ℕ, ◌≤◌, ◌*◌, ◌-◌, ◌^◌, ◌∙◌, List, ap, length, take, get_or, arith}
-use Rattle.std.proofs.lemmas.List.{with_items_is}
+use Rattle.std.proofs.Common.{◌≡◌, ℕ, zero, ◌+◌, ◌-◌, ◌*◌, ◌/◌, ◌^◌, ◌<◌, ◌≤◌, [], length, replicate, vec_capacity, ap, ◌∙◌, arith}
+use Rattle.std.proofs.lemmas.List.{length-replicate, get_or-replicate}
+use Rattle.std.proofs.lemmas.Nat.Bits.{ones_shr}
 use Rattle.roman_order.specs.Board.{Board}
-use Rattle.roman_order.proofs.Masks.{mask_at-cells, is_marked-table}
-use Rattle.roman_order.proofs.Places.{IsPlaced-nil, stamp-beyond}
+use Rattle.roman_order.proofs.Blanks.{get_or-all_blank}
+use Rattle.roman_order.proofs.Lanes.{AreRows-full}
+use Rattle.roman_order.proofs.Places.{IsPlaced-nil}
+use Rattle.roman_order.proofs.Words.{has_flag-none}
 use Rattle.roman_order.proofs.order.Order.shape_to.Goals as goal
 
-pub clear_stamps-requires-clause-beyond : goal.clear_stamps-requires-clause-beyond
-clear_stamps-requires-clause-beyond c p h = ap (λ (stamps : List ℕ). get_or stamps p (2 ^ 32 - 1)) c.deref_mut-3.ensures.value ∙ stamp-beyond c.self.invariant.placed p h
+pub overflow_mul-pairs : goal.overflow_mul-pairs
+overflow_mul-pairs c = omega (arith, ap (λ (b : Board). b.cap_pairs) c.self.view_is, c.self.invariant.few)
 
 pub invariant_of-self : goal.invariant_of-self
 invariant_of-self c =
-    let inside = c.self.inside in
     let invariant = c.self.invariant in
-    let masks = with_items_is inside.masks c.clear.new.masks (omega (arith, c.clear.auto.masks, c.deref_mut.ensures.len)) in
-    let marks = with_items_is inside.marks c.clear_marks.new.marks (omega (arith, c.clear_marks.auto.marks, c.deref_mut-2.ensures.len)) in
-    let stamps = with_items_is inside.stamps c.clear_stamps.new.stamps (omega (arith, c.clear_stamps.auto.stamps, c.deref_mut-3.ensures.len)) in
-    let gone = with_items_is inside.gone c.clear-2.new.words (omega (arith, c.clear-2.auto.words, c.deref_mut-4.ensures.len)) in
-    let cap_pairs : c.args.pairs ≤ length inside.entries.items = omega (arith, ap (λ (b : Board). b.cap_pairs) c.self.view_is) in
-    let cap_cells : c.args.pairs * c.args.actions ≤ length inside.masks.items = omega (arith, ap (λ (b : Board). b.cap_cells) c.self.view_is) in
+    let room : c.args.rows * c.args.lanes ≤ c.self.inside.room = omega (arith, ap (λ (b : Board). b.cap_pairs) c.self.view_is) in
+    let full : ℕ = (2 ^ 64 - 1) / 2 ^ (64 - c.args.lanes) in
+    let back : 64 - (64 - c.args.lanes) ≡ c.args.lanes = omega (arith, c.requires.lanes.1) in
+    let all : full ≡ 2 ^ c.args.lanes - 1 = ones_shr 64 (64 - c.args.lanes) (omega arith) ∙ ap (λ k. 2 ^ k - 1) back in
     record {
-      placed = rw (stamps, gone) (IsPlaced-nil c.args.pairs _ _ c.clear_stamps.ensures c.clear-2.ensures);
-      few = omega (arith, c.ranges.pairs);
-      counted = omega arith;
-      room = cap_pairs;
-      cells = rw masks (omega (arith, cap_cells, c.clear.auto.masks, ap length c.deref_mut.ensures.value));
-      few_cells = rw masks (omega (arith, invariant.few_cells, c.clear.auto.masks, ap length c.deref_mut.ensures.value));
-      waiting_room = invariant.waiting_room;
-      stamp_room = rw stamps (omega (arith, invariant.stamp_room, c.clear_stamps.auto.stamps, ap length c.deref_mut-3.ensures.value));
-      flag_room = rw gone (omega (arith, invariant.flag_room, c.clear-2.auto.words, ap length c.deref_mut-4.ensures.value));
-      mark_room = rw marks (omega (arith, invariant.mark_room, c.clear_marks.auto.marks, ap length c.deref_mut-2.ensures.value));
-      held_in = invariant.held_in;
+      placed = rw (c.clear.ensures.items, c.refill.ensures.items) (IsPlaced-nil (c.args.rows * c.args.lanes) _ (λ p. get_or-all_blank (c.args.rows * c.args.lanes) p (2 ^ 32 - 1)));
+      alive = rw (c.clear.ensures.items, c.refill-2.ensures.items) (AreRows-full c.args.lanes (replicate c.args.rows full)
+          (λ y h. get_or-replicate c.args.rows y full 0 (omega (arith, h, length-replicate c.args.rows full)) ∙ all));
+      few_lanes = c.requires.lanes;
+      room = room;
+      few = invariant.few;
+      stamps_long = rw c.refill.ensures.items (length-replicate (c.args.rows * c.args.lanes) (2 ^ 32 - 1));
+      words_long = rw c.refill-2.ensures.items (length-replicate c.args.rows full);
+      before_long = rw c.refill-3.ensures.items (length-replicate c.args.rows zero);
+      marks_long = rw c.refill-4.ensures.items (length-replicate c.words_for.result zero ∙ c.words_for.ensures);
       next_in = invariant.next_in;
-      blank_masks = λ k h. rw masks (c.clear.ensures.cleared k (omega arith));
-      blank_marks = λ p h. rw marks (c.clear_marks.ensures p);
-      narrow = λ k. rw masks (rw (c.clear.ensures.cleared k (omega arith)) (omega arith));
+      entries_room = omega (arith, invariant.entries_room, c.clear.ensures.capacity);
+      waiting_room = invariant.waiting_room;
+      stamps_room = omega (arith, invariant.stamps_room, c.refill.ensures.room);
+      words_room = omega (arith, invariant.words_room, c.refill-2.ensures.room);
+      before_room = omega (arith, invariant.before_room, c.refill-3.ensures.room);
+      marks_room = omega (arith, invariant.marks_room, c.refill-4.ensures.room);
+      levels_room = omega (arith, invariant.levels_room, c.clear-2.ensures.capacity);
     }
 
-pub returns-clause-empty : goal.returns-clause-empty
-returns-clause-empty c p a =
-    let masks = with_items_is c.self.inside.masks c.clear.new.masks (omega (arith, c.clear.auto.masks, c.deref_mut.ensures.len)) in
-    mask_at-cells _ c.clear.new.masks _ p a (ap (take (c.args.pairs * c.args.actions)) masks) (λ k h. c.clear.ensures.cleared k (omega arith))
-    ∙ c.clear.ensures.cleared _ (omega arith)
-
 pub returns-clause-unmarked : goal.returns-clause-unmarked
-returns-clause-unmarked c p =
-    let marks = with_items_is c.self.inside.marks c.clear_marks.new.marks (omega (arith, c.clear_marks.auto.marks, c.deref_mut-2.ensures.len)) in
-    is_marked-table _ c.clear_marks.new.marks _ p (ap (take c.args.pairs) marks) (λ k h. c.clear_marks.ensures k) ∙ c.clear_marks.ensures p
+returns-clause-unmarked c p = rw c.refill-4.ensures.items (has_flag-none c.words_for.result p)

@@ -1,18 +1,35 @@
-use Rattle.std.proofs.Common.{◌≡◌, ◌*◌, [], ap, ap₂, ◌∙◌, arith}
-use Rattle.roman_order.specs.Board.{Board}
-use Rattle.roman_relation.proofs.Relating.{completed, room_for_pairs, room_for_cells}
+use Rattle.std.proofs.Common.{◌≡◌, ◌*◌, ◌≤◌, [], inr, sym, ap, ◌∙◌, arith}
+use Rattle.roman_model.specs.Numbers.{sizes_of, count}
+use Rattle.roman_model.proofs.Lists.{length-below}
+use Rattle.roman_joint.specs.NamedSys.{system_of}
+use Rattle.roman_order.specs.Board.{Board, pairs_of}
+use Rattle.roman_relation.proofs.Relating.{completed, room_for_pairs}
 use Rattle.roman_relation.proofs.relation.Relation.afresh.Goals as goal
 
 pub shape_to-requires-clause-pairs : goal.shape_to-requires-clause-pairs
-shape_to-requires-clause-pairs g c = omega (arith, c.pairs-pairs.ensures, room_for_pairs c.args.self.now.joint c.args.self.now.order c.known.ensures c.requires.caps)
-
-pub shape_to-requires-clause-cells : goal.shape_to-requires-clause-cells
-shape_to-requires-clause-cells g c =
-    let same = ap₂ (λ m n. m * n) c.pairs-pairs.ensures c.actions-actions.ensures in
-    omega (arith, same, room_for_cells c.args.self.now.joint c.args.self.now.order c.known.ensures c.requires.caps)
+shape_to-requires-clause-pairs g c =
+    let same : c.rows.result * c.lanes-lanes.result ≡ count (sizes_of (system_of c.args.self.now.joint)) = ap (λ m. c.rows.result * m) c.lanes-lanes.ensures.value ∙ c.rows.ensures in
+    omega (arith, same, length-below (count (sizes_of (system_of c.args.self.now.joint))), room_for_pairs c.args.self.now.joint c.args.self.now.order c.known.ensures c.requires.caps)
 
 pub returns-clause-complete : goal.returns-clause-complete
 returns-clause-complete g c =
     let idle : c.settle_list.new.order.waiting ≡ [] =
-    ap (λ (x : Board). x.waiting) c.settle_list.ensures.rest ∙ ap (λ (x : Board). x.waiting) c.open_masks.ensures.rest ∙ ap (λ (x : Board). x.waiting) c.shape_to.ensures.shaped ∙ c.requires.idle in
-    completed c.args.self.now.joint c.settle_list.new.order c.known.ensures c.settle_list.ensures.settled c.settle_list.ensures.masks idle
+    ap (λ (x : Board). x.waiting) c.settle_list.ensures.rest ∙ ap (λ (x : Board). x.waiting) c.shape_to.ensures.shaped ∙ c.requires.idle in
+    completed c.args.self.now.joint c.settle_list.new.order c.known.ensures c.settle_list.ensures.settled idle
+    (inr (c.settle_list.ensures.levels (ap (λ (x : Board). x.list) c.shape_to.ensures.shaped)))
+
+pub settle_list-requires-clause-shaped : goal.settle_list-requires-clause-shaped
+settle_list-requires-clause-shaped g c =
+    let same : c.rows.result * c.lanes-lanes.result ≡ count (sizes_of (system_of c.args.self.now.joint)) = ap (λ m. c.rows.result * m) c.lanes-lanes.ensures.value ∙ c.rows.ensures in
+    record {
+      pairs = ap (λ (x : Board). pairs_of x) c.shape_to.ensures.shaped ∙ (same ∙ sym (length-below (count (sizes_of (system_of c.args.self.now.joint)))));
+      lanes = ap (λ (x : Board). x.lanes) c.shape_to.ensures.shaped ∙ c.lanes-lanes.ensures.value;
+    }
+
+pub returns-clause-shaped : goal.returns-clause-shaped
+returns-clause-shaped g c =
+    let same : c.rows.result * c.lanes-lanes.result ≡ count (sizes_of (system_of c.args.self.now.joint)) = ap (λ m. c.rows.result * m) c.lanes-lanes.ensures.value ∙ c.rows.ensures in
+    record {
+      pairs = ap (λ (x : Board). pairs_of x) c.settle_list.ensures.rest ∙ (ap (λ (x : Board). pairs_of x) c.shape_to.ensures.shaped ∙ (same ∙ sym (length-below (count (sizes_of (system_of c.args.self.now.joint))))));
+      lanes = ap (λ (x : Board). x.lanes) c.settle_list.ensures.rest ∙ (ap (λ (x : Board). x.lanes) c.shape_to.ensures.shaped ∙ c.lanes-lanes.ensures.value);
+    }

@@ -1,0 +1,181 @@
+-- The lanes of a word, and the entries of the pairs at them.
+use Rattle.std.proofs.Common.{◌≡◌, ◌≢◌, ℕ, zero, suc, ◌+◌, ◌-◌, ◌*◌, ◌/◌, ◌%◌, ◌^◌, ◌<◌, ◌≤◌, Bool, true, false, cond, not, ◌&&◌, ◌||◌, eqb, List, [], ◌∷◌, ◌++◌, map, length, get_or, IsTrue, IsFalse, refl, ap, ap₂, sym, ◌∙◌, subst, inl, inr, arith, filter, bit_and}
+use Rattle.std.specs.List.{list_any}
+use Rattle.std.specs.Int.{w64, bit_not}
+use Rattle.std.proofs.Math.ListN.{set}
+use Rattle.std.proofs.Math.Pow.{pow-lt}
+use Rattle.std.proofs.lemmas.Bool.{cases_eq, cases_lt, cases_Bool, eq-eqb, ne_eqb, eqb-true, cond-true, cond-false, false_from_ne_true, both_ways}
+use Rattle.std.proofs.lemmas.List.{length-set, get_or-set_same, get_or-set_other}
+use Rattle.std.proofs.lemmas.List.Folds.{list_any-append}
+use Rattle.std.proofs.lemmas.Nat.{same_from_place}
+use Rattle.std.proofs.lemmas.Nat.Bits.{bit_at_clear_same, bit_at_clear_other}
+use Rattle.roman_model.specs.Lists.{IsIn, HasNoRepeats, below}
+use Rattle.roman_model.specs.Arena.{Entry}
+use Rattle.roman_model.specs.declared.reason.Reason.{Reason}
+use Rattle.roman_model.proofs.Lists.{filter_below_more, list_any-map, any_true, any_from, none_from, filter_in, in_filter, in_below, from_below, same_test, HasNoRepeats-filter, HasNoRepeats-below}
+use Rattle.roman_lanes.specs.Rows.{is_on, HasLanes, AreRows}
+use Rattle.roman_lanes.proofs.RowBits.{on_and, on_less, on_zero, on_ones, on_ones_above, on_pow_same, on_pow_other}
+use Rattle.roman_order.specs.Board.{entry_of, lanes_in, entries_in, has_entry}
+
+-- ---- the lanes of a word, the first apart
+
+-- up to t there are none
+none_before : (n t m : ℕ) → ((i : ℕ) → i < t → is_on n i ≡ false) → m ≤ t → filter (is_on n) (below m) ≡ []
+none_before n t zero off h = refl
+none_before n t (suc m) off h =
+    filter_below_more (is_on n) m
+    ∙ (ap₂ (λ xs b. xs ++ cond b (m ∷ []) []) (none_before n t m off (omega arith)) (off m (omega arith)))
+
+-- word n is the word m with the lane t before all others
+pub record IsFirstOf (n m t : ℕ) : Type 0 where
+  pub low : t < 64
+  pub on : is_on n t ≡ true
+  pub before : (i : ℕ) → i < t → is_on n i ≡ false
+  pub off : is_on m t ≡ false
+  pub same : (i : ℕ) → i < 64 → i ≢ t → is_on m i ≡ is_on n i
+
+first_then : (n m t k : ℕ) → IsFirstOf n m t → t < k → k ≤ 64 → filter (is_on n) (below k) ≡ t ∷ filter (is_on m) (below k)
+first_then n m t zero is h l = absurd (omega arith)
+first_then n m t (suc k) is h l =
+    elim (cases_eq k t) [
+      | inl e ↦
+          let low : k ≤ t = omega arith in
+          let none_m = none_before m t k (λ i b. is.same i (omega (arith, is.low)) (λ s. omega arith) ∙ is.before i b) low in
+          filter_below_more (is_on n) k
+          ∙ (ap₂ (λ xs b. xs ++ cond b (k ∷ []) []) (none_before n t k is.before low) (ap (is_on n) e ∙ is.on)
+          ∙ (ap (λ j. j ∷ []) e ∙ ap (λ xs. t ∷ xs) (sym (filter_below_more (is_on m) k ∙ ap₂ (λ xs b. xs ++ cond b (k ∷ []) []) none_m (ap (is_on m) e ∙ is.off)))))
+      | inr ne ↦
+          filter_below_more (is_on n) k
+          ∙ (ap₂ (λ xs b. xs ++ cond b (k ∷ []) []) (first_then n m t k is (omega arith) (omega arith)) (sym (is.same k (omega arith) ne))
+          ∙ ap (λ xs. t ∷ xs) (sym (filter_below_more (is_on m) k)))
+    ]
+
+pub lanes_in-first : (n m t : ℕ) → IsFirstOf n m t → lanes_in n ≡ t ∷ lanes_in m
+unfolding lanes_in
+lanes_in-first n m t is = first_then n m t 64 is is.low (omega arith)
+
+pub lanes_in-zero : lanes_in 0 ≡ []
+unfolding lanes_in
+lanes_in-zero = none_before 0 64 64 (λ i h. on_zero i) (omega arith)
+
+-- a word without one of its lanes
+abbrev pub without_lane : ℕ → ℕ → ℕ
+without_lane n t = bit_and n (bit_not w64 (1 * 2 ^ t % 2 ^ 64))
+
+pub without_first : (n t : ℕ) → t < 64 → is_on n t ≡ true → ((i : ℕ) → i < t → is_on n i ≡ false) → IsFirstOf n (without_lane n t) t
+unfolding is_on
+without_first n t low on before = record {
+  low = low;
+  on = on;
+  before = before;
+  off = ap (λ b. eqb b 1) (bit_at_clear_same w64 n t low);
+  same = λ i l ne. ap (λ b. eqb b 1) (bit_at_clear_other w64 n t low i l ne);
+}
+
+pub without_first-less : (n m t : ℕ) → IsFirstOf n m t → m ≤ n → m < n
+without_first-less n m t is h = elim (cases_eq m n) [ inl e ↦ absurd (both_ways (is_on n t) (sym (ap (λ w. is_on w t) e) ∙ is.off) is.on) | inr ne ↦ omega arith ]
+
+-- a word of one lane
+pub lanes_in-one : (k : ℕ) → k < 64 → lanes_in (2 ^ k) ≡ k ∷ []
+lanes_in-one k l =
+    lanes_in-first (2 ^ k) 0 k (record {
+      low = l;
+      on = on_pow_same k;
+      before = λ i h. on_pow_other k i (λ e. omega arith);
+      off = on_zero k;
+      same = λ i h ne. on_zero i ∙ sym (on_pow_other k i ne);
+    })
+    ∙ ap (λ xs. k ∷ xs) lanes_in-zero
+
+-- the word as it is computed
+pub one_pow : (k : ℕ) → k < 64 → 1 * 2 ^ k % 2 ^ 64 ≡ 2 ^ k
+one_pow k l = let below : 2 ^ k < 2 ^ 64 = pow-lt l in omega arith
+
+pub one_lane : (k lane : ℕ) → k < 64 → is_on (1 * 2 ^ k % 2 ^ 64) lane ≡ true → lane ≡ k
+one_lane k lane l t = elim (cases_eq lane k) [ inl e ↦ e | inr ne ↦ absurd (both_ways (is_on (2 ^ k) lane) (on_pow_other k lane ne) (sym (ap (λ w. is_on w lane) (one_pow k l)) ∙ t)) ]
+
+pub in_lanes : (word lane : ℕ) → IsIn lane (lanes_in word) → (lane < 64) × (is_on word lane ≡ true)
+unfolding lanes_in
+in_lanes word lane i = let (j, t) = filter_in (is_on word) lane (below 64) i in (from_below 64 lane j, t)
+
+pub lanes_once : (word : ℕ) → HasNoRepeats (lanes_in word)
+unfolding lanes_in
+lanes_once word = HasNoRepeats-filter (is_on word) (below 64) (HasNoRepeats-below 64)
+
+-- ---- which pairs are listed after entries for the lanes of a row
+
+-- the pair at a lane of the row is listed where it was, or where its lane is one of them
+pub has_entry-lane : (L : List (Entry ℕ)) (first lost lane : ℕ) (reason : Reason) → lane < 64 →
+    has_entry (L ++ map (λ l. entry_of (first + l, reason)) (lanes_in lost)) (first + lane) ≡ (has_entry L (first + lane) || is_on lost lane)
+unfolding lanes_in
+has_entry-lane L first lost lane reason low =
+    list_any-append (λ (x : Entry ℕ). eqb (first + lane) x.node) L (map (λ l. entry_of (first + l, reason)) (lanes_in lost))
+    ∙ ap (λ b. has_entry L (first + lane) || b) (list_any-map (λ l. entry_of (first + l, reason)) (λ (x : Entry ℕ). eqb (first + lane) x.node) (lanes_in lost)
+    ∙ same_test (list_any (λ l. eqb (first + lane) (first + l)) (lanes_in lost)) (is_on lost lane)
+    (λ t.
+    let (l, i, e) = any_true (λ l. eqb (first + lane) (first + l)) (lanes_in lost) t in
+    let equal = eqb-true (first + lane) (first + l) e in
+    let same : l ≡ lane = omega arith in
+    subst (λ j. IsTrue (is_on lost j)) same (filter_in (is_on lost) l (below 64) i).1)
+    (λ t. any_from (λ l. eqb (first + lane) (first + l)) lane (lanes_in lost) (in_filter (is_on lost) lane (below 64) (in_below 64 lane low) t) (eq-eqb (first + lane) (first + lane) refl)))
+
+-- another pair is listed where it was
+pub has_entry-elsewhere : (L : List (Entry ℕ)) (first lost p : ℕ) (reason : Reason) → ((lane : ℕ) → lane < 64 → is_on lost lane ≡ true → p ≢ first + lane) →
+    has_entry (L ++ map (λ l. entry_of (first + l, reason)) (lanes_in lost)) p ≡ has_entry L p
+unfolding lanes_in
+has_entry-elsewhere L first lost p reason apart =
+    list_any-append (λ (x : Entry ℕ). eqb p x.node) L (map (λ l. entry_of (first + l, reason)) (lanes_in lost))
+    ∙ (ap (λ b. has_entry L p || b) (list_any-map (λ l. entry_of (first + l, reason)) (λ (x : Entry ℕ). eqb p x.node) (lanes_in lost)
+    ∙ none_from (λ l. eqb p (first + l)) (lanes_in lost)
+    (λ l i. let (j, t) = filter_in (is_on lost) l (below 64) i in ne_eqb p (first + l) (apart l (from_below 64 l j) t)))
+    ∙ or_off (has_entry L p))
+  where
+    or_off : (b : Bool) → (b || false) ≡ b
+    or_off true = refl
+    or_off false = refl
+
+-- ---- the words of the pairs that aren't listed
+
+not_or : (a b : Bool) → not (a || b) ≡ (not a && not b)
+not_or true b = refl
+not_or false b = refl
+
+pub AreRows-pushed : (lanes x lost : ℕ) (L : List (Entry ℕ)) (reason : Reason) (words : List ℕ) → lanes ≤ 64 → x < length words → lost < 2 ^ 64 → ((lane : ℕ) → is_on lost lane ≡ true → lane < lanes) →
+    AreRows lanes (λ p. not (has_entry L p)) words →
+    AreRows lanes (λ p. not (has_entry (L ++ entries_in lanes x lost reason) p)) (set words x (bit_and (get_or words x 0) (bit_not w64 lost)))
+AreRows-pushed lanes x lost L reason words few room fits within rows = record {
+  each = λ y h. elim (cases_eq y x) [
+    | inl e ↦ subst (λ z. HasLanes lanes z (λ p. not (has_entry after p)) (get_or (set words x word) z 0)) (sym e)
+        (subst (HasLanes lanes x (λ p. not (has_entry after p))) (sym (get_or-set_same words x word 0 room)) own)
+    | inr ne ↦ subst (HasLanes lanes y (λ p. not (has_entry after p))) (sym (get_or-set_other words x y word 0 ne))
+        (other y ne (rows.each y (omega (arith, h, length-set words x word))))
+  ];
+}
+  where
+    after : List (Entry ℕ)
+    after = L ++ entries_in lanes x lost reason
+
+    word : ℕ
+    word = bit_and (get_or words x 0) (bit_not w64 lost)
+
+    own : HasLanes lanes x (λ p. not (has_entry after p)) word
+    own = record {
+      each = λ lane l.
+          let low : lane < 64 = omega arith in
+          on_less (get_or words x 0) lost lane fits low ∙ (ap (λ b. b && not (is_on lost lane)) ((rows.each x room).each lane l)
+          ∙ (sym (not_or (has_entry L (x * lanes + lane)) (is_on lost lane)) ∙ ap not (sym (has_entry-lane L (x * lanes) lost lane reason low))));
+      rest = λ lane l. on_and (get_or words x 0) (bit_not w64 lost) lane ∙ ap (λ b. b && is_on (bit_not w64 lost) lane) ((rows.each x room).rest lane l);
+    }
+
+    other : (y : ℕ) → y ≢ x → HasLanes lanes y (λ p. not (has_entry L p)) (get_or words y 0) → HasLanes lanes y (λ p. not (has_entry after p)) (get_or words y 0)
+    other y ne was = record {
+      each = λ lane l. was.each lane l
+          ∙ ap not (sym (has_entry-elsewhere L (x * lanes) lost (y * lanes + lane) reason (λ j low t e. ne (same_from_place y lane x j lanes l (within j t) e).0)));
+      rest = was.rest;
+    }
+
+-- the full words of an empty list
+pub AreRows-full : (lanes : ℕ) (words : List ℕ) → ((y : ℕ) → y < length words → get_or words y 0 ≡ 2 ^ lanes - 1) → AreRows lanes (λ p. not (has_entry [] p)) words
+AreRows-full lanes words full = record {
+  each = λ y h. subst (HasLanes lanes y (λ p. true)) (sym (full y h)) (record { each = λ lane l. on_ones lanes lane l; rest = λ lane l. on_ones_above lanes lane l });
+}

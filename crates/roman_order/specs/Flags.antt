@@ -1,7 +1,0 @@
--- A flag for each number, sixty-four of them to a word.
-use Rattle.std.specs.Prelude.{ℕ, ◌/◌, ◌%◌, ◌==◌, Bool, List, slice_index}
-use Rattle.std.specs.Int.{bit_at}
-
--- flag p is set
-unfoldable pub has_flag : List ℕ → ℕ → Bool
-has_flag words p = bit_at (slice_index words (p / 64)) (p % 64) == 1

@@ -1,0 +1,29 @@
+// How long the list was when each of its levels ended.
+ghost use Rattle.std.specs.Prelude.{◌≡◌, ◌<◌, ◌≤◌, [], ◌∷◌, ◌++◌, length};
+
+use super::Order;
+
+impl Order {
+    /// Ends a level at the list's present end. There are at most as many levels as pairs and one.
+    pub fn end_level(&mut self)
+        requires { length self.old.levels ≤ self.old.cap_pairs }
+        ensures { self.new ≡ record self.old { levels = self.old.levels ++ length self.old.list ∷ [] } }
+    {
+        let end = self.entries.len() as u32;
+        self.levels.push_reserved(end);
+    }
+
+    /// How long the list was when each of its levels ended.
+    pub fn levels(&self) -> &[u32]
+        ensures { result.now ≡ self.now.levels }
+    {
+        &self.levels
+    }
+
+    /// Forgets where levels ended.
+    pub fn forget_levels(&mut self)
+        ensures { self.new ≡ record self.old { levels = [] } }
+    {
+        self.levels.clear();
+    }
+}

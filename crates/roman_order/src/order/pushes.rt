@@ -1,0 +1,74 @@
+// How entries are added.
+ghost use Rattle.std.specs.Prelude.{◌≡◌, ℕ, ◌+◌, ◌*◌, ◌^◌, ◌<◌, ◌≤◌, true, false, [], ◌∷◌, ◌++◌, length, map, vec_capacity};
+ghost use Rattle.roman_lanes.specs.Rows.{is_on};
+ghost use Rattle.roman_order.specs.Board.{pairs_of, entry_of, lanes_in, entries_in, has_entry};
+ghost use Rattle.roman_order.specs.Sound.{IsPlaced, entries_of};
+
+use super::Order;
+use crate::flags::lowest;
+use crate::removal::Removal;
+use roman_model::Reason;
+
+impl Order {
+    /// Adds an entry for a pair that is alive.
+    pub fn push(&mut self, p: u32, reason: Reason)
+        requires in_range { p < pairs_of self.old }
+        requires alive { has_entry self.old.list p ≡ false }
+        ensures { self.new ≡ record self.old { list = self.old.list ++ entry_of (p, reason) ∷ [] } }
+    {
+        let x = p / self.lanes;
+        self.push_at(x, p % self.lanes, reason);
+    }
+
+    /// Adds an entry for the pair at a lane of the row `x`, which is alive.
+    pub fn push_at(&mut self, x: u32, lane: u32, reason: Reason)
+        requires row { x < self.old.rows }
+        requires lane { lane < self.old.lanes }
+        requires alive { has_entry self.old.list (x * self.old.lanes + lane) ≡ false }
+        ensures { self.new ≡ record self.old { list = self.old.list ++ entry_of (x * self.old.lanes + lane, reason) ∷ [] } }
+    {
+        prove!(self.lanes <= 64);
+        self.push_lanes(x, 1 << lane, reason);
+    }
+
+    /// Adds an entry for each pair of the row `x` whose lane is in `lost`, the lanes rising, all for one
+    /// reason. All of them are alive.
+    pub fn push_lanes(&mut self, x: u32, lost: u64, reason: Reason)
+        requires row { x < self.old.rows }
+        requires within { (lane : ℕ) → is_on lost lane ≡ true → lane < self.old.lanes }
+        requires alive { (lane : ℕ) → is_on lost lane ≡ true → has_entry self.old.list (x * self.old.lanes + lane) ≡ false }
+        ensures { self.new ≡ record self.old { list = self.old.list ++ entries_in self.old.lanes x lost reason } }
+    {
+        self.words[x as usize] &= !lost;
+        let first = x * self.lanes;
+        write_lanes(&mut self.entries, &mut self.stamps, first, lost, reason);
+    }
+}
+
+// Adds an entry for each pair at the lanes `lost` from `first` on, and its stamp.
+fn write_lanes(
+    entries: &mut Vec<Removal>,
+    stamps: &mut [u32],
+    first: u32,
+    lost: u64,
+    reason: Reason,
+)
+    requires placed { IsPlaced (length stamps.old) (entries_of entries.old.items) stamps.old }
+    requires within { (lane : ℕ) → is_on lost lane ≡ true → first + lane < length stamps.old }
+    requires alive { (lane : ℕ) → is_on lost lane ≡ true → has_entry (entries_of entries.old.items) (first + lane) ≡ false }
+    requires room { length stamps.old ≤ vec_capacity entries.old }
+    requires few { length stamps.old < 2 ^ 32 }
+    ensures pushed { entries_of entries.new.items
+        ≡ entries_of entries.old.items ++ map (λ lane. entry_of (first + lane, reason)) (lanes_in lost) }
+    ensures placed { IsPlaced (length stamps.old) (entries_of entries.new.items) stamps.new }
+    ensures room { vec_capacity entries.new ≡ vec_capacity entries.old }
+{
+    let mut rest = lost;
+    'rest: while rest != 0 {
+        let lane = lowest(rest);
+        let pair = first + lane;
+        stamps[pair as usize] = entries.len() as u32;
+        entries.push_reserved(Removal { pair, reason });
+        rest &= !(1 << lane);
+    }
+}

@@ -1,0 +1,44 @@
+// The pairs that aren't listed, as words, and what was kept of them.
+ghost use Rattle.std.specs.Prelude.{◌≡◌, ◌≢◌, ℕ, ◌<◌, not, length, slice_index};
+ghost use Rattle.roman_lanes.specs.Rows.{HasLanes, AreRows};
+ghost use Rattle.roman_order.specs.Board.{has_entry};
+
+use super::Order;
+
+impl Order {
+    /// The pairs that aren't listed: a word for each row, with the bits of its pairs.
+    pub fn words(&self) -> &[u64]
+        ensures alive { AreRows self.now.lanes (λ p. not (has_entry self.now.list p)) result.now }
+        ensures long { length result.now ≡ self.now.rows }
+    {
+        &self.words
+    }
+
+    /// The words as they were when they were last kept.
+    pub fn before(&self) -> &[u64]
+        ensures value { result.now ≡ self.now.before }
+        ensures long { length result.now ≡ self.now.rows }
+    {
+        &self.before
+    }
+
+    /// Keeps all words as they are.
+    pub fn keep_before(&mut self)
+        ensures kept { AreRows self.old.lanes (λ p. not (has_entry self.old.list p)) self.new.before }
+        ensures long { length self.new.before ≡ self.old.rows }
+        ensures rest { self.new ≡ record self.old { before = self.new.before } }
+    {
+        self.before.copy_from_slice(&self.words);
+    }
+
+    /// Keeps the word of the row `x` as it is.
+    pub fn keep_row(&mut self, x: u32)
+        requires { x < self.old.rows }
+        ensures kept { HasLanes self.old.lanes x (λ p. not (has_entry self.old.list p)) (slice_index self.new.before x) }
+        ensures others { (y : ℕ) → y ≢ x → slice_index self.new.before y ≡ slice_index self.old.before y }
+        ensures long { length self.new.before ≡ length self.old.before }
+        ensures rest { self.new ≡ record self.old { before = self.new.before } }
+    {
+        self.before[x as usize] = self.words[x as usize];
+    }
+}

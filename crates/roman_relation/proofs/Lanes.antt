@@ -1,0 +1,58 @@
+-- Pairs as lanes of rows.
+use Rattle.std.proofs.Common.{◌≡◌, ℕ, ◌+◌, ◌*◌, ◌/◌, ◌%◌, ◌<◌, ◌≤◌, Bool, not, List, length, slice_index, sym, ap, ap₂, ◌∙◌, subst, arith}
+use Rattle.std.proofs.lemmas.Nat.{same_from_place, div-add-mod', div_below, mod_below, mul-le}
+use Rattle.roman_model.specs.Arena.{Arena, Entry, is_listed}
+use Rattle.roman_lanes.specs.Rows.{is_on, HasLanes, AreRows}
+use Rattle.roman_rules.specs.Numbered.{IsNumbered}
+use Rattle.roman_order.specs.Board.{Board, has_entry}
+use Rattle.roman_relation.specs.Rounds.{AreUnlisted, on_at}
+use Rattle.roman_relation.proofs.Beginnings.{listed_is}
+
+pub HasLanes_same : (lanes row : ℕ) (f g : ℕ → Bool) (word : ℕ) → ((p : ℕ) → f p ≡ g p) → HasLanes lanes row f word → HasLanes lanes row g word
+HasLanes_same lanes row f g word same is = record { each = λ lane l. is.each lane l ∙ same (row * lanes + lane); rest = is.rest }
+
+pub AreRows_same : (lanes : ℕ) (f g : ℕ → Bool) (words : List ℕ) → ((p : ℕ) → f p ≡ g p) → AreRows lanes f words → AreRows lanes g words
+AreRows_same lanes f g words same are = record { each = λ row l. HasLanes_same lanes row f g (slice_index words row) same (are.each row l) }
+
+-- where there is an entry is where a node is listed
+pub unlisted_row : (A : Arena ℕ) → IsNumbered A → (lanes row : ℕ) (L : List (Entry ℕ)) (word : ℕ) → HasLanes lanes row (λ p. not (has_entry L p)) word → HasLanes lanes row (λ p. not (is_listed A L p)) word
+unlisted_row A ok lanes row L word is = HasLanes_same lanes row (λ p. not (has_entry L p)) (λ p. not (is_listed A L p)) word (λ p. ap not (sym (listed_is A ok L p))) is
+
+pub unlisted_rows : (A : Arena ℕ) → IsNumbered A → (lanes : ℕ) (L : List (Entry ℕ)) (words : List ℕ) → AreRows lanes (λ p. not (has_entry L p)) words → AreUnlisted A lanes L words
+unlisted_rows A ok lanes L words are = AreRows_same lanes (λ p. not (has_entry L p)) (λ p. not (is_listed A L p)) words (λ p. ap not (sym (listed_is A ok L p))) are
+
+-- the row and the lane of a pair
+pub lane_place : (lanes row lane : ℕ) → lane < lanes → ((row * lanes + lane) / lanes ≡ row) × ((row * lanes + lane) % lanes ≡ lane)
+lane_place lanes row lane l =
+    let some : 0 < lanes = omega arith in
+    let p = row * lanes + lane in
+    let same = same_from_place (p / lanes) (p % lanes) row lane lanes (mod_below p lanes some) l (div-add-mod' p lanes) in
+    (same.0, same.1)
+
+pub on_lane : (lanes row lane : ℕ) (words : List ℕ) → lane < lanes → on_at lanes words (row * lanes + lane) ≡ is_on (slice_index words row) lane
+on_lane lanes row lane words l = let (e, f) = lane_place lanes row lane l in ap₂ (λ x y. is_on (slice_index words x) y) e f
+
+pub row_of : (lanes rows p : ℕ) → 0 < lanes → p < rows * lanes → p / lanes < rows
+row_of lanes rows p some l = div_below p lanes rows some l
+
+-- the bit of a pair is the test of it
+pub at_pair : (lanes : ℕ) (test : ℕ → Bool) (words : List ℕ) (p : ℕ) → 0 < lanes → p < length words * lanes → AreRows lanes test words → on_at lanes words p ≡ test p
+at_pair lanes test words p some l are =
+    (are.each (p / lanes) (row_of lanes (length words) p some l)).each (p % lanes) (mod_below p lanes some) ∙ ap test (div-add-mod' p lanes)
+
+-- what holds at each lane of each row holds at each pair
+pub each_pair : (lanes rows p : ℕ) (P : ℕ → Type 0) → 0 < lanes → p < rows * lanes → ((row lane : ℕ) → row < rows → lane < lanes → P (row * lanes + lane)) → P p
+each_pair lanes rows p P some l h = subst P (div-add-mod' p lanes) (h (p / lanes) (p % lanes) (row_of lanes rows p some l) (mod_below p lanes some))
+
+-- the first pair of a row is a pair
+pub row_within : (lanes rows row : ℕ) → 0 < lanes → row < rows → row * lanes < rows * lanes
+row_within lanes rows row some l = let h = mul-le (row + 1) lanes rows lanes (omega arith) (omega arith) in omega (arith, h)
+
+-- the word of a row tells which of its pairs aren't listed
+pub words_row : (A : Arena ℕ) → IsNumbered A → (lanes row : ℕ) (b : Board) (words : List ℕ) → b.lanes ≡ lanes → row < length words → AreRows b.lanes (λ p. not (has_entry b.list p)) words →
+    HasLanes lanes row (λ p. not (is_listed A b.list p)) (slice_index words row)
+words_row A ok lanes row b words e l are = unlisted_row A ok lanes row b.list (slice_index words row) ((subst (λ n. AreRows n (λ p. not (has_entry b.list p)) words) e are).each row l)
+
+-- rows of the same lanes that have as many pairs are as many
+pub same_rows : (a b lanes : ℕ) → 0 < lanes → a * lanes ≡ b * lanes → a ≡ b
+same_rows a b lanes some e = (same_from_place a 0 b 0 lanes some some (ap (λ n. n + 0) e)).0

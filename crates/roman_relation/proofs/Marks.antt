@@ -1,0 +1,155 @@
+-- Marks that are taken off one by one, and rows that are noted.
+use Rattle.std.proofs.Common.{◌≡◌, ◌≢◌, ℕ, zero, suc, ◌+◌, ◌*◌, ◌/◌, ◌%◌, ◌<◌, ◌≤◌, ◌==◌, Bool, true, false, cond, not, List, [], ◌∷◌, ◌++◌, length, take, Some, slice_get, slice_index, IsTrue, IsFalse, inl, inr, refl, sym, ap, ◌∙◌, subst, arith}
+use Rattle.std.specs.Prelude.{count_by}
+use Rattle.std.proofs.lemmas.Bool.{cases_eq, cases_lt, both_ways, cond-true, cond-false, not_from_true, not_from_false, not-true, false_from_ne_true, or_cases, eqb-true}
+use Rattle.std.proofs.lemmas.List.Sums.{sum_by_push}
+use Rattle.std.proofs.lemmas.List.{get_or_past, take_more}
+use Rattle.std.proofs.lemmas.Option.{get_or_from_slice_get, slice_get_within}
+use Rattle.std.proofs.lemmas.Nat.{mod_below, div-add-mod'}
+use Rattle.std.proofs.lemmas.Nat.Bits.{bit_at-zero}
+use Rattle.std.specs.Int.{bit_at}
+use Rattle.roman_model.specs.Lists.{IsIn, below}
+use Rattle.roman_model.specs.Arena.{Arena, Entry, is_listed, back, fall}
+use Rattle.roman_model.proofs.Lists.{by_test, contains_in}
+use Rattle.roman_model.proofs.ArenaLemmas.{in_listed, listed_push}
+use Rattle.roman_model.proofs.WorkLemmas.{fall_push}
+use Rattle.roman_lanes.specs.Rows.{is_on, HasLanes}
+use Rattle.roman_lanes.specs.Flags.{has_flag}
+use Rattle.roman_rules.specs.Numbered.{IsNumbered}
+use Rattle.roman_rules.proofs.NumberedFacts.{numbered_same}
+use Rattle.roman_order.specs.Board.{Board, is_marked}
+use Rattle.roman_relation.specs.Rounds.{IsMarking, on_at}
+use Rattle.roman_relation.proofs.Beginnings.{take_listed}
+
+-- ---- fewer marks
+
+one_if : Bool → ℕ
+one_if b = cond b 1 0
+
+count_same : (f h : ℕ → Bool) (n : ℕ) → ((q : ℕ) → q < n → h q ≡ f q) → count_by h (below n) ≡ count_by f (below n)
+unfolding one_if
+count_same f h zero same = refl
+count_same f h (suc n) same =
+    let one = sum_by_push (λ q. cond (f q) 1 0) (below n) n in
+    let two = sum_by_push (λ q. cond (h q) 1 0) (below n) n in
+    let last : cond (h n) 1 0 ≡ cond (f n) 1 0 = ap one_if (same n (omega arith)) in
+    omega (arith, one, two, last, count_same f h n (λ q l. same q (omega arith)))
+
+-- one that no longer passes
+pub count_falls : (f h : ℕ → Bool) (n p : ℕ) → p < n → f p ≡ true → h p ≡ false → ((q : ℕ) → q ≢ p → h q ≡ f q) → count_by h (below n) < count_by f (below n)
+unfolding one_if
+count_falls f h zero p l on off same = absurd (omega arith)
+count_falls f h (suc n) p l on off same =
+    let one = sum_by_push (λ q. cond (f q) 1 0) (below n) n in
+    let two = sum_by_push (λ q. cond (h q) 1 0) (below n) n in
+    elim (cases_eq p n) [
+      | inl e ↦
+          let now : cond (f n) 1 0 ≡ 1 = ap (λ q. one_if (f q)) (sym e) ∙ cond-true (f p) 1 0 on in
+          let then : cond (h n) 1 0 ≡ 0 = ap (λ q. one_if (h q)) (sym e) ∙ cond-false (h p) 1 0 off in
+          omega (arith, one, two, now, then, count_same f h n (λ q m. same q (λ s. omega arith)))
+      | inr ne ↦
+          let last : cond (h n) 1 0 ≡ cond (f n) 1 0 = ap one_if (same n (λ e. ne (sym e))) in
+          omega (arith, one, two, last, count_falls f h n p (omega arith) on off same)
+    ]
+
+-- what is marked has a place in the words
+pub marked_within : (words : List ℕ) (p : ℕ) → has_flag words p ≡ true → p < 64 * length words
+unfolding has_flag
+marked_within words p on = elim (cases_lt p (64 * length words)) [
+  | inl l ↦ l
+  | inr past ↦
+      let none : slice_index words (p / 64) ≡ 0 = get_or_past words (p / 64) 0 (omega arith) in
+      absurd (both_ways (bit_at (slice_index words (p / 64)) (p % 64) == 1) (ap (λ w. bit_at w (p % 64) == 1) none ∙ ap (λ n. n == 1) (bit_at-zero (p % 64))) on)
+]
+
+-- ---- a row that is noted
+
+-- the row's word is kept, and the rows before what it had lost are marked
+pub record IsNoted (A : Arena ℕ) (lanes row : ℕ) (b c : Board) : Type 0 where
+  pub some : 0 < lanes
+  pub same : c.list ≡ b.list
+  pub inside : row < length b.before
+  pub long : length c.before ≡ length b.before
+  pub kept : HasLanes lanes row (λ p. not (is_listed A b.list p)) (slice_index c.before row)
+  pub others : (y : ℕ) → y ≢ row → slice_index c.before y ≡ slice_index b.before y
+  pub still : (y : ℕ) → is_marked b y ≡ true → is_marked c y ≡ true
+  pub marked : (lane p a k : ℕ) → lane < lanes → is_on (slice_index b.before row) lane ≡ true → IsTrue (is_listed A b.list (row * lanes + lane)) → p < length A.nodes →
+      IsIn (row * lanes + lane) (A.outcomes p a k) → is_marked c (p / lanes) ≡ true
+
+-- the bit of a pair of the row
+pub noted_own : (A : Arena ℕ) (lanes row : ℕ) (b c : Board) (p : ℕ) → IsNoted A lanes row b c → p / lanes ≡ row → on_at lanes c.before p ≡ not (is_listed A b.list p)
+noted_own A lanes row b c p is e =
+    let place : row * lanes + p % lanes ≡ p = ap (λ x. x * lanes + p % lanes) (sym e) ∙ div-add-mod' p lanes in
+    ap (λ x. is_on (slice_index c.before x) (p % lanes)) e ∙ (is.kept.each (p % lanes) (mod_below p lanes is.some) ∙ ap (λ q. not (is_listed A b.list q)) place)
+
+-- the bit of another pair
+pub noted_other : (A : Arena ℕ) (lanes row : ℕ) (b c : Board) (p : ℕ) → IsNoted A lanes row b c → p / lanes ≢ row → on_at lanes c.before p ≡ on_at lanes b.before p
+noted_other A lanes row b c p is ne = ap (λ w. is_on w (p % lanes)) (is.others (p / lanes) ne)
+
+pub noted_marking : (A : Arena ℕ) (lanes row start end : ℕ) (b c : Board) → IsNoted A lanes row b c → ((p : ℕ) → IsTrue (is_listed A b.list p) → p < length A.nodes) → IsMarking A lanes start end b → IsMarking A lanes start end c
+noted_marking A lanes row start end b c is in_range marking = record {
+  old = λ p l on. elim (cases_eq (p / lanes) row) [
+    | inl e ↦ list (λ L. IsFalse (is_listed A (take start L) p))
+        (false_from_ne_true (is_listed A (take start b.list) p)
+        (λ t. both_ways (is_listed A b.list p) (not-true (is_listed A b.list p) (sym (noted_own A lanes row b c p is e) ∙ on)) (take_listed A start b.list p t)))
+    | inr ne ↦ list (λ L. IsFalse (is_listed A (take start L) p)) (marking.old p l (sym (noted_other A lanes row b c p is ne) ∙ on))
+  ];
+  alive = λ p l off. elim (cases_eq (p / lanes) row) [
+    | inl e ↦ noted_own A lanes row b c p is e ∙ not_from_false (is_listed A b.list p) (was (λ L. IsFalse (is_listed A L p)) off)
+    | inr ne ↦ noted_other A lanes row b c p is ne ∙ marking.alive p l (was (λ L. IsFalse (is_listed A L p)) off)
+  ];
+  past = λ y lane h l. elim (cases_eq y row) [
+    | inl e ↦ ap (λ z. is_on (slice_index c.before z) lane) e ∙ is.kept.rest lane l
+    | inr ne ↦ ap (λ w. is_on w lane) (is.others y ne) ∙ marking.past y lane (omega (arith, is.long)) l
+  ];
+  noted = λ p t f.
+      let there : IsTrue (is_listed A (take end b.list) p) = was (λ L. IsTrue (is_listed A (take end L) p)) t in
+      elim (cases_eq (p / lanes) row) [
+        | inl e ↦ noted_own A lanes row b c p is e ∙ not_from_true (is_listed A b.list p) (take_listed A end b.list p there)
+        | inr ne ↦ noted_other A lanes row b c p is ne ∙ marking.noted p there (was (λ L. IsFalse (is_listed A (take start L) p)) f)
+      ];
+  marked = λ p q a k l m i t f off.
+      let listed : IsTrue (is_listed A b.list q) = was (λ L. IsTrue (is_listed A L q)) t in
+      let new : IsFalse (is_listed A (take start b.list) q) = was (λ L. IsFalse (is_listed A (take start L) q)) f in
+      by_test (on_at lanes b.before q)
+      (λ on. elim (cases_eq (q / lanes) row) [
+        | inl e ↦
+            let place : row * lanes + q % lanes ≡ q = ap (λ x. x * lanes + q % lanes) (sym e) ∙ div-add-mod' q lanes in
+            is.marked (q % lanes) p a k (mod_below q lanes is.some) (ap (λ x. is_on (slice_index b.before x) (q % lanes)) (sym e) ∙ on) (subst (λ r. IsTrue (is_listed A b.list r)) (sym place) listed) l
+            (subst (λ r. IsIn r (A.outcomes p a k)) (sym place) i)
+        | inr ne ↦ absurd (both_ways (on_at lanes b.before q) (sym (noted_other A lanes row b c q is ne) ∙ off) on)
+      ])
+      (λ was_off. is.still (p / lanes) (marking.marked p q a k l m i listed new was_off));
+}
+  where
+    list : (P : List (Entry ℕ) → Type 0) → P b.list → P c.list
+    list P h = subst P (sym is.same) h
+
+    was : (P : List (Entry ℕ) → Type 0) → P c.list → P b.list
+    was P h = subst P is.same h
+
+-- one entry further
+pub noted_more : (A : Arena ℕ) → IsNumbered A → (lanes start i : ℕ) (b : Board) (x : Entry ℕ) → slice_get b.list i ≡ Some x → on_at lanes b.before x.node ≡ false → IsMarking A lanes start i b → IsMarking A lanes start (i + 1) b
+noted_more A ok lanes start i b x e off marking =
+    let within : i < length b.list = slice_get_within b.list i x e in
+    let more : take (i + 1) b.list ≡ take i b.list ++ x ∷ [] = take_more b.list i x within ∙ ap (λ y. take i b.list ++ y ∷ []) (get_or_from_slice_get b.list i x x e) in
+    record {
+      old = marking.old;
+      alive = marking.alive;
+      past = marking.past;
+      noted = λ p t f. elim (or_cases (is_listed A (take i b.list) p) (A.same p x.node) (sym (ap (λ L. is_listed A L p) more ∙ listed_push A (take i b.list) x p) ∙ t)) [
+        | inl old ↦ marking.noted p old f
+        | inr own ↦ ap (on_at lanes b.before) (eqb-true p x.node (sym (ok.same p x.node) ∙ own)) ∙ off
+      ];
+      marked = marking.marked;
+    }
+
+-- an entry's node is listed
+pub entry_listed : (A : Arena ℕ) → IsNumbered A → (L : List (Entry ℕ)) (i : ℕ) (x : Entry ℕ) → slice_get L i ≡ Some x → IsTrue (is_listed A L x.node)
+entry_listed A ok L i x e = in_listed A (numbered_same A ok) L x (contains_in L x (i, slice_get_within L i x e, get_or_from_slice_get L i x x e))
+
+-- one entry further the fall has what leads to its node
+pub fall_more : (A : Arena ℕ) (L : List (Entry ℕ)) (i : ℕ) (x : Entry ℕ) → slice_get L i ≡ Some x → fall A (take (i + 1) L) ≡ fall A (take i L) + length (back A x.node)
+fall_more A L i x e =
+    let within : i < length L = slice_get_within L i x e in
+    ap (fall A) (take_more L i x within ∙ ap (λ y. take i L ++ y ∷ []) (get_or_from_slice_get L i x x e)) ∙ fall_push A (take i L) x

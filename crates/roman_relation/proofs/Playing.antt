@@ -1,0 +1,143 @@
+-- What a round as a whole does.
+use Rattle.std.proofs.Common.{◌≡◌, ◌≢◌, ℕ, zero, suc, ◌+◌, ◌*◌, ◌/◌, ◌%◌, ◌<◌, ◌≤◌, ◌⊎◌, Bool, true, false, not, ◌||◌, List, [], ◌++◌, length, take, slice_get, slice_index, Some, IsTrue, IsFalse, inl, inr, refl, sym, ap, ◌∙◌, subst, arith}
+use Rattle.std.specs.List.{list_any}
+use Rattle.std.proofs.Math.Seq.{take-length}
+use Rattle.std.proofs.lemmas.Bool.{both_ways, or_cases, or_left, or_right, not_from_true, not_from_false, not-true, false_from_ne_true, cases_lt}
+use Rattle.std.proofs.lemmas.Nat.{mul-add-lt}
+use Rattle.roman_model.specs.Lists.{IsIn, below}
+use Rattle.roman_model.specs.Arena.{Arena, Entry, is_listed, is_justified, loses, IsOrder}
+use Rattle.roman_model.specs.declared.reason.Reason.{Reason}
+use Rattle.roman_model.specs.declared.reason.Reason.TheVariants.{Final, Act}
+use Rattle.roman_model.proofs.Lists.{by_test, same_test, any_true, any_same}
+use Rattle.roman_model.proofs.ArenaLemmas.{in_listed, justified_same, unallowed_unjustified}
+use Rattle.roman_lanes.specs.Rows.{is_on, HasLanes, AreRows}
+use Rattle.roman_rules.specs.Numbered.{IsNumbered}
+use Rattle.roman_rules.proofs.NumberedFacts.{numbered_same}
+use Rattle.roman_order.specs.Board.{Board, pairs_of, has_entry, is_marked}
+use Rattle.roman_relation.specs.Shaped.{IsShaped}
+use Rattle.roman_relation.specs.Settled.{Begins, GoesOn, IsSettled, HoldsLost}
+use Rattle.roman_relation.specs.Rounds.{AreUnlisted, AwaitsRound, InRound, IsJudged, IsDone, IsMarking, on_at, falls}
+use Rattle.roman_relation.proofs.Beginnings.{listed_is, begins_listed, begins_unlisted, take_listed}
+use Rattle.roman_relation.proofs.Lanes.{at_pair, on_lane, each_pair}
+
+-- all actions are judged
+pub done_all : (A : Arena ℕ) → IsNumbered A → (start p n : ℕ) (c : Board) → A.actions ≤ n → ((a : ℕ) → a < n → IsJudged A start c p a) → IsDone A start c p
+done_all A ok start p n c enough judged a off = by_test (A.allows p a)
+    (λ t. judged a (let l : a < A.actions = ok.allowed p a t in omega arith) off)
+    (λ refused. unallowed_unjustified A (is_listed A (take start c.list)) p a refused)
+
+-- between rounds a round can begin
+pub round_begins : (A : Arena ℕ) (lanes start : ℕ) (b : Board) → start ≡ length b.list → AwaitsRound A lanes b → InRound A lanes start b
+round_begins A lanes start b e ready =
+    let all : take start b.list ≡ b.list = ap (λ n. take n b.list) e ∙ take-length b.list in
+    record {
+      valid = ready.valid;
+      begun = omega arith;
+      kept = subst (λ L. AreUnlisted A lanes L b.before) (sym all) ready.kept;
+      because = λ p t. inl (subst (λ L. IsTrue (is_listed A L p)) (sym all) t);
+    }
+
+-- after the marked rows were judged all pairs are done
+pub all_done : (A : Arena ℕ) (lanes start : ℕ) (b c : Board) → start ≡ length b.list → AwaitsRound A lanes b → Begins b.list c.list →
+    ((p : ℕ) → p < length A.nodes → is_marked b (p / lanes) ≡ true → IsDone A start c p) → (p : ℕ) → p < length A.nodes → IsDone A start c p
+all_done A lanes start b c e ready begins done p l a off = by_test (is_marked b (p / lanes))
+    (λ t. done p l t a off)
+    (λ f. subst (λ L. IsFalse (is_justified A (is_listed A L) p (Act a))) (sym (ap (λ n. take n c.list) e ∙ begins)) (ready.served p a l f (begins_unlisted A b.list c.list p begins off)))
+
+-- then nothing is marked, and the words that were kept are those at the round's start
+pub marking_starts : (A : Arena ℕ) (lanes start : ℕ) (c : Board) → 0 < lanes → length A.nodes ≤ length c.before * lanes → InRound A lanes start c → IsMarking A lanes start start c
+marking_starts A lanes start c some long round = record {
+  old = λ p l on. not-true (is_listed A (take start c.list) p) (sym (at p l) ∙ on);
+  alive = λ p l off. at p l ∙ not_from_false (is_listed A (take start c.list) p) (false_from_ne_true (is_listed A (take start c.list) p) (λ t. both_ways (is_listed A c.list p) off (take_listed A start c.list p t)));
+  past = λ row lane l m. (round.kept.each row l).rest lane m;
+  noted = λ p t f. absurd (both_ways (is_listed A (take start c.list) p) f t);
+  marked = λ p q a k l m i t f off. absurd (both_ways (on_at lanes c.before q) off (at q m ∙ not_from_false (is_listed A (take start c.list) q) f));
+}
+  where
+    at : (p : ℕ) → p < length A.nodes → on_at lanes c.before p ≡ not (is_listed A (take start c.list) p)
+    at p l = at_pair lanes (λ q. not (is_listed A (take start c.list) q)) c.before p some (omega arith) round.kept
+
+-- when all entries are noted, the words that were kept are those of the list
+kept_at : (A : Arena ℕ) (lanes start : ℕ) (d : Board) → IsMarking A lanes start (length d.list) d → (p : ℕ) → p < length A.nodes → on_at lanes d.before p ≡ not (is_listed A d.list p)
+kept_at A lanes start d marking p l = by_test (is_listed A d.list p)
+    (λ t. by_test (is_listed A (take start d.list) p)
+    (λ old. false_from_ne_true (on_at lanes d.before p) (λ on. both_ways (is_listed A (take start d.list) p) (marking.old p l on) old) ∙ sym (not_from_true (is_listed A d.list p) t))
+    (λ new. marking.noted p (subst (λ L. IsTrue (is_listed A L p)) (sym (take-length d.list)) t) new ∙ sym (not_from_true (is_listed A d.list p) t)))
+    (λ f. marking.alive p l f ∙ sym (not_from_false (is_listed A d.list p) f))
+
+pub kept_ends : (A : Arena ℕ) (lanes start : ℕ) (d : Board) → 0 < lanes → length d.before * lanes ≤ length A.nodes → IsMarking A lanes start (length d.list) d → AreUnlisted A lanes d.list d.before
+kept_ends A lanes start d some long marking = record {
+  each = λ row h. record {
+    each = λ lane l. sym (on_lane lanes row lane d.before l) ∙ kept_at A lanes start d marking (row * lanes + lane) (below_all row lane h l);
+    rest = λ lane l. marking.past row lane h l;
+  };
+}
+  where
+    below_all : (row lane : ℕ) → row < length d.before → lane < lanes → row * lanes + lane < length A.nodes
+    below_all row lane h l = let m = mul-add-lt row lanes lane (length d.before) h l in omega (arith, m)
+
+-- pairs of rows that aren't marked are served
+pub served_next : (A : Arena ℕ) → IsNumbered A → (lanes start : ℕ) (d : Board) → IsMarking A lanes start (length d.list) d → ((p : ℕ) → p < length A.nodes → IsDone A start d p) →
+    (p a : ℕ) → p < length A.nodes → is_marked d (p / lanes) ≡ false → IsFalse (is_listed A d.list p) → IsFalse (is_justified A (is_listed A d.list) p (Act a))
+served_next A ok lanes start d marking done p a l unmarked off =
+    sym (justified_same A (is_listed A (take start d.list)) (is_listed A d.list) p (Act a) same) ∙ done p l a off
+  where
+    same : (b k q : ℕ) → IsIn q (A.outcomes p b k) → is_listed A (take start d.list) q ≡ is_listed A d.list q
+    same b k q i = same_test (is_listed A (take start d.list) q) (is_listed A d.list q) (take_listed A start d.list q)
+        (λ t. by_test (is_listed A (take start d.list) q) (λ u. u)
+        (λ f.
+        let m : q < length A.nodes = ok.closed p b k q l i in
+        let kept_off : on_at lanes d.before q ≡ false = kept_at A lanes start d marking q m ∙ not_from_true (is_listed A d.list q) t in
+        absurd (both_ways (is_marked d (p / lanes)) unmarked (marking.marked p q b k l m i t f kept_off))))
+
+-- ---- what a round lists
+
+pub lost_more : (A : Arena ℕ) → IsNumbered A → (lanes start n : ℕ) (b c : Board) → start ≡ length b.list → Begins b.list c.list → InRound A lanes start c → ((p : ℕ) → p < length A.nodes → IsDone A start c p) →
+    HoldsLost A n b.list → HoldsLost A (suc n) c.list
+lost_more A ok lanes start n b c here begins round done holds = record {
+  each = λ p l. same_test (is_listed A c.list p) (loses A (suc n) p)
+      (λ t. elim (round.because p t) [
+        | inl old ↦ or_left (loses A n p) (list_any (λ a. is_justified A (loses A n) p (Act a)) (below A.actions)) (sym (holds.each p l) ∙ ap (λ L. is_listed A L p) (sym front) ∙ old)
+        | inr fell ↦ or_right (loses A n p) (list_any (λ a. is_justified A (loses A n) p (Act a)) (below A.actions))
+            (sym (any_same (λ a. is_justified A (is_listed A (take start c.list)) p (Act a)) (λ a. is_justified A (loses A n) p (Act a)) (below A.actions) (λ a i. judged p a l)) ∙ fell)
+      ])
+      (λ t. elim (or_cases (loses A n p) (list_any (λ a. is_justified A (loses A n) p (Act a)) (below A.actions)) t) [
+        | inl old ↦ begins_listed A b.list c.list p begins (holds.each p l ∙ old)
+        | inr fell ↦ by_test (is_listed A c.list p) (λ u. u)
+            (λ off. let (a, i, j) = any_true (λ a. is_justified A (loses A n) p (Act a)) (below A.actions) fell in
+            absurd (both_ways (is_justified A (is_listed A (take start c.list)) p (Act a)) (done p l a off) (judged p a l ∙ j)))
+      ]);
+}
+  where
+    front : take start c.list ≡ b.list
+    front = ap (λ m. take m c.list) here ∙ begins
+
+    judged : (p a : ℕ) → p < length A.nodes → is_justified A (is_listed A (take start c.list)) p (Act a) ≡ is_justified A (loses A n) p (Act a)
+    judged p a l = ap (λ L. is_justified A (is_listed A L) p (Act a)) front ∙ justified_same A (is_listed A b.list) (loses A n) p (Act a) (λ d k q i. holds.each q (ok.closed p d k q l i))
+
+-- a round that adds nothing is the last
+pub settled_round : (A : Arena ℕ) → IsNumbered A → (start : ℕ) (c : Board) → IsOrder A c.list → start ≡ length c.list → ((p : ℕ) → p < length A.nodes → IsDone A start c p) →
+    ((p : ℕ) → p < length A.nodes → IsFalse (is_listed A c.list p) → IsTrue (A.fine p)) → ((p : ℕ) → has_entry c.list p ≡ true → p < length A.nodes) → IsSettled A c.list
+settled_round A ok start c valid here done fine in_range = record {
+  nodes = λ x i. in_range x.node (sym (listed_is A ok c.list x.node) ∙ in_listed A (numbered_same A ok) c.list x i);
+  order = valid;
+  no_more = λ p l off reason. no_more p l off reason;
+}
+  where
+    no_more : (p : ℕ) → p < length A.nodes → IsFalse (is_listed A c.list p) → (reason : Reason) → IsFalse (is_justified A (is_listed A c.list) p reason)
+    no_more p l off Final = not_from_true (A.fine p) (fine p l off)
+    no_more p l off (Act a) = subst (λ L. IsFalse (is_justified A (is_listed A L) p (Act a))) (ap (λ m. take m c.list) here ∙ take-length c.list) (done p l a off)
+
+-- a change of marks alone
+pub round_marks : (A : Arena ℕ) (lanes start : ℕ) (b c : Board) → c ≡ record b { marks = c.marks } → InRound A lanes start b → InRound A lanes start c
+round_marks A lanes start b c e round = subst (InRound A lanes start) (sym e) (record { valid = round.valid; begun = round.begun; kept = round.kept; because = round.because })
+
+-- a change of levels alone
+pub awaits_levels : (A : Arena ℕ) (lanes : ℕ) (b c : Board) (levels : List ℕ) → c ≡ record b { levels = levels } → AwaitsRound A lanes b → AwaitsRound A lanes c
+awaits_levels A lanes b c levels e ready = subst (AwaitsRound A lanes) (sym e) (record {
+  shaped = record { pairs = ready.shaped.pairs; lanes = ready.shaped.lanes };
+  valid = ready.valid;
+  kept = ready.kept;
+  fine = ready.fine;
+  served = ready.served;
+})

@@ -1,0 +1,89 @@
+-- Lists whose entries rise by depth.
+use Rattle.std.proofs.Common.{◌≡◌, ℕ, suc, ◌+◌, ◌-◌, ◌<◌, ◌≤◌, true, List, [], ◌∷◌, ◌++◌, length, take, slice_get, get_or, Some, IsTrue, IsFalse, inl, inr, refl, sym, ap, ◌∙◌, subst, arith}
+use Rattle.std.proofs.lemmas.Bool.{cases_lt, both_ways, false_from_ne_true}
+use Rattle.std.proofs.lemmas.List.{take-take, get_or_append_left, get_or-append_right, length_push}
+use Rattle.std.proofs.Math.Seq.{take-length}
+use Rattle.std.proofs.lemmas.Option.{get_or_from_slice_get, slice_get_within, slice_get-get_or}
+use Rattle.roman_model.specs.Arena.{Arena, Entry, is_listed, loses, IsOrder}
+use Rattle.roman_model.proofs.DepthLemmas.{loses_up}
+use Rattle.roman_model.proofs.WorkLemmas.{order_entry}
+use Rattle.roman_rules.specs.Numbered.{IsNumbered}
+use Rattle.roman_order.specs.Board.{has_entry}
+use Rattle.roman_relation.specs.Settled.{Begins, HoldsLost, RisesByDepth, AreLevels}
+use Rattle.roman_relation.proofs.Beginnings.{listed_is, begins_get, begins_length, begins_same, begins_listed}
+use Rattle.roman_relation.proofs.Marks.{entry_listed}
+
+-- an entry of the front is one of the list
+front_entry : (L M : List (Entry ℕ)) (i : ℕ) (x : Entry ℕ) → Begins L M → i < length L → slice_get M i ≡ Some x → slice_get L i ≡ Some x
+front_entry L M i x b l e = slice_get-get_or L i x l ∙ ap Some (sym (begins_get L M i x b l) ∙ get_or_from_slice_get M i x x e)
+
+-- an entry past the front is of a node that the front doesn't list
+new_entry : (A : Arena ℕ) → IsNumbered A → (L M : List (Entry ℕ)) (j : ℕ) (y : Entry ℕ) → Begins L M → IsOrder A M → length L ≤ j → slice_get M j ≡ Some y → IsFalse (is_listed A L y.node)
+new_entry A ok L M j y begins order past e =
+    let front : take (length L) M ≡ L = begins in
+    let inside = slice_get_within M j y e in
+    let before = (order_entry A M j y order inside).0 in
+    false_from_ne_true (is_listed A L y.node) (λ t. both_ways (is_listed A (take j M) y.node) (subst (λ (z : Entry ℕ). IsFalse (is_listed A (take j M) z.node)) (get_or_from_slice_get M j y y e) before)
+    (begins_listed A L (take j M) y.node (take-take (length L) j M past ∙ front) t))
+
+-- the list after the start
+pub rises_start : (A : Arena ℕ) → IsNumbered A → (L : List (Entry ℕ)) → ((p : ℕ) → has_entry L p ≡ true → p < length A.nodes) → HoldsLost A 0 L → RisesByDepth A L
+rises_start A ok L in_range holds = record {
+  each = λ n i j x y l e f t.
+      let listed = entry_listed A ok L i x e in
+      let inside : x.node < length A.nodes = in_range x.node (sym (listed_is A ok L x.node) ∙ listed) in
+      loses_up A 0 n x.node (omega arith) (sym (holds.each x.node inside) ∙ listed);
+}
+
+-- the list after one more round
+pub rises_more : (A : Arena ℕ) → IsNumbered A → (n : ℕ) (L M : List (Entry ℕ)) → Begins L M → IsOrder A M → ((p : ℕ) → has_entry M p ≡ true → p < length A.nodes) →
+    HoldsLost A n L → HoldsLost A (suc n) M → RisesByDepth A L → RisesByDepth A M
+rises_more A ok n L M begins order in_range old new rises = record {
+  each = λ m i j x y l e f t. elim (cases_lt j (length L)) [
+    | inl front ↦ rises.each m i j x y l (front_entry L M i x begins (omega arith) e) (front_entry L M j y begins front f) t
+    | inr past ↦
+        let listed = entry_listed A ok M i x e in
+        let inside : x.node < length A.nodes = in_range x.node (sym (listed_is A ok M x.node) ∙ listed) in
+        let of_y : y.node < length A.nodes = in_range y.node (sym (listed_is A ok M y.node) ∙ entry_listed A ok M j y f) in
+        let deeper : n < m = elim (cases_lt n m) [
+          | inl h ↦ h
+          | inr h ↦ absurd (both_ways (is_listed A L y.node) (new_entry A ok L M j y begins order past f) (old.each y.node of_y ∙ loses_up A m n y.node h t))
+        ] in
+        loses_up A (suc n) m x.node (omega arith) (sym (new.each x.node inside) ∙ listed)
+  ];
+}
+
+-- ---- levels
+
+pub levels_first : (A : Arena ℕ) (L : List (Entry ℕ)) → HoldsLost A 0 L → AreLevels A ([] ++ length L ∷ []) L
+levels_first A L holds = record {
+  some = omega arith;
+  within = λ n l. let none : n ≡ 0 = omega arith in subst (λ m. get_or (length L ∷ []) m 0 ≤ length L) (sym none) (omega arith);
+  each = λ n l. let none : n ≡ 0 = omega arith in subst (λ m. HoldsLost A m (take (get_or (length L ∷ []) m 0) L)) (sym none) (subst (HoldsLost A 0) (sym (take-length L)) holds);
+  last = refl;
+}
+
+pub levels_more : (A : Arena ℕ) (n : ℕ) (levels : List ℕ) (L M : List (Entry ℕ)) → Begins L M → length levels ≡ suc n → HoldsLost A (suc n) M → AreLevels A levels L → AreLevels A (levels ++ length M ∷ []) M
+levels_more A n levels L M begins long holds are = record {
+  some = omega (arith, more);
+  within = λ m l. elim (cases_lt m (length levels)) [
+    | inl old ↦ subst (λ k. k ≤ length M) (sym (get_or_append_left levels (length M ∷ []) 0 m old)) (omega (arith, are.within m old, begins_length L M begins))
+    | inr new ↦ let here : m ≡ length levels = omega (arith, more) in subst (λ k. get_or (levels ++ length M ∷ []) k 0 ≤ length M) (sym here) (subst (λ k. k ≤ length M) (sym at_end) (omega arith))
+  ];
+  each = λ m l. elim (cases_lt m (length levels)) [
+    | inl old ↦
+        subst (λ k. HoldsLost A m (take k M)) (sym (get_or_append_left levels (length M ∷ []) 0 m old))
+        (subst (HoldsLost A m) (sym (begins_same L M (get_or levels m 0) begins (are.within m old))) (are.each m old))
+    | inr new ↦
+        let here : m ≡ length levels = omega (arith, more) in
+        subst (λ k. HoldsLost A k (take (get_or (levels ++ length M ∷ []) k 0) M)) (sym here)
+        (subst (λ k. HoldsLost A (length levels) (take k M)) (sym at_end) (subst (HoldsLost A (length levels)) (sym (take-length M)) (subst (λ k. HoldsLost A k M) (sym long) holds)))
+  ];
+  last = let end : length (levels ++ length M ∷ []) - 1 ≡ length levels = omega (arith, more) in ap (λ k. get_or (levels ++ length M ∷ []) k 0) end ∙ at_end;
+}
+  where
+    more : length (levels ++ length M ∷ []) ≡ length levels + 1
+    more = length_push levels (length M)
+
+    at_end : get_or (levels ++ length M ∷ []) (length levels) 0 ≡ length M
+    at_end = get_or-append_right levels (length M ∷ []) (length levels) (length levels) 0 refl (omega arith) ∙ (let none : length levels - length levels ≡ 0 = omega arith in ap (λ k. get_or (length M ∷ []) k 0) none)

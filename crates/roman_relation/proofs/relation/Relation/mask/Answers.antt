@@ -1,0 +1,8 @@
+use Rattle.std.proofs.Common.{arith}
+use Rattle.roman_model.specs.Numbers.{sizes_of, count}
+use Rattle.roman_model.proofs.Lists.{length-below}
+use Rattle.roman_joint.specs.NamedSys.{system_of}
+use Rattle.roman_relation.proofs.relation.Relation.mask.Goals as goal
+
+pub mask-requires-clause-pair : goal.mask-requires-clause-pair
+mask-requires-clause-pair c = omega (arith, c.requires.pair, length-below (count (sizes_of (system_of c.args.self.now.joint))))

@@ -1,0 +1,38 @@
+use Rattle.std.proofs.Common.{◌≡◌, ℕ, ◌*◌, ◌/◌, ◌<◌, ◌≤◌, true, false, not, length, ltb, IsTrue, IsFalse, sym, ap, ◌∙◌, subst, arith}
+use Rattle.std.proofs.lemmas.Bool.{both_ways, lt-ltb}
+use Rattle.std.proofs.lemmas.Nat.{mul-le}
+use Rattle.roman_model.specs.Arena.{IsOrder, is_listed}
+use Rattle.roman_lanes.specs.Rows.{AreRows}
+use Rattle.roman_order.specs.Board.{Board, pairs_of, has_entry, is_marked}
+use Rattle.roman_relation.specs.Rounds.{AreUnlisted}
+use Rattle.roman_relation.proofs.Going.{shaped_on, shaped_same}
+use Rattle.roman_relation.proofs.Lanes.{unlisted_rows, row_of}
+use Rattle.roman_relation.proofs.rounds.begin_rounds.Goals as goal
+
+pub mark_front-requires : goal.mark_front-requires
+mark_front-requires g c =
+    let A = g.J.Rules.arena c.args.joint.now in
+    let n = g.J.Rules.lanes c.args.joint.now in
+    let shaped = shaped_on A n c.args.order.now c.list_unfine.new.order c.requires.shaped c.list_unfine.ensures.goes_on in
+    omega (arith, mul-le c.rows.result 1 c.rows.result n (omega arith) (omega (arith, c.lanes.ensures.value, c.lanes.ensures.few.0)), c.rows.ensures, shaped.pairs, ap (λ (d : Board). pairs_of d) c.keep_before.ensures.rest)
+
+pub returns-clause-ready : goal.returns-clause-ready
+returns-clause-ready g c =
+    let A = g.J.Rules.arena c.args.joint.now in
+    let n = g.J.Rules.lanes c.args.joint.now in
+    let mid = c.list_unfine.new.order in
+    let kept = c.keep_before.new.self in
+    let d = c.mark_front.new.self in
+    let some : 0 < n = omega (arith, c.lanes.ensures.value, c.lanes.ensures.few.0) in
+    let shaped = shaped_on A n c.args.order.now mid c.requires.shaped c.list_unfine.ensures.goes_on in
+    let list : d.list ≡ mid.list = ap (λ (y : Board). y.list) c.mark_front.ensures.rest ∙ ap (λ (y : Board). y.list) c.keep_before.ensures.rest in
+    let before : d.before ≡ kept.before = ap (λ (y : Board). y.before) c.mark_front.ensures.rest in
+    let words : AreUnlisted A n mid.list kept.before = unlisted_rows A c.known.ensures n mid.list kept.before (subst (λ m. AreRows m (λ p. not (has_entry mid.list p)) kept.before) shaped.lanes c.keep_before.ensures.kept) in
+    record {
+      shaped = shaped_same A n mid d shaped (ap (λ (y : Board). y.rows) c.mark_front.ensures.rest ∙ ap (λ (y : Board). y.rows) c.keep_before.ensures.rest) (ap (λ (y : Board). y.lanes) c.mark_front.ensures.rest ∙ ap (λ (y : Board). y.lanes) c.keep_before.ensures.rest);
+      valid = subst (IsOrder A) (sym list) c.list_unfine.ensures.goes_on.valid;
+      kept = subst (λ L. AreUnlisted A n L d.before) (sym list) (subst (AreUnlisted A n mid.list) (sym before) words);
+      fine = λ p l off. c.list_unfine.ensures.fine p l (subst (λ L. IsFalse (is_listed A L p)) list off);
+      served = λ p a l unmarked off. absurd (both_ways (is_marked d (p / n)) unmarked
+          (c.mark_front.ensures.marked (p / n) ∙ lt-ltb (p / n) c.rows.result (row_of n c.rows.result p some (omega (arith, c.rows.ensures)))));
+    }

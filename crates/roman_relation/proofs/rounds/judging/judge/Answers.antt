@@ -1,0 +1,63 @@
+use Rattle.std.proofs.Common.{◌≡◌, ℕ, ◌+◌, ◌*◌, ◌<◌, ◌≤◌, false, length, slice_index, inl, inr, refl, sym, ap, ◌∙◌, subst, arith}
+use Rattle.std.proofs.lemmas.Bool.{cases_eq, both_ways, not_from_false}
+use Rattle.roman_model.specs.Arena.{is_listed}
+use Rattle.roman_lanes.specs.Rows.{is_on}
+use Rattle.roman_lanes.proofs.RowBits.{on_zero}
+use Rattle.roman_relation.proofs.Lanes.{words_row}
+use Rattle.roman_order.specs.Board.{Board}
+use Rattle.roman_relation.specs.Rounds.{IsJudged}
+use Rattle.roman_relation.proofs.Beginnings.{begins_itself, begins_on}
+use Rattle.roman_relation.proofs.Going.{shaped_same}
+use Rattle.roman_relation.proofs.Pushing.{judged_on}
+use Rattle.roman_relation.proofs.Playing.{done_all}
+use Rattle.roman_relation.proofs.rounds.judging.judge.Goals as goal
+
+pub loop-a-init : goal.loop-a-init
+loop-a-init g c = record {
+  round = λ start round. round;
+  begins = begins_itself c.args.order.now.list;
+  rest = refl;
+  judged = λ start lane b round l m. absurd (omega arith);
+}
+
+pub judge_on-requires-clause-shaped : goal.judge_on-requires-clause-shaped
+judge_on-requires-clause-shaped g c =
+    shaped_same (g.J.Rules.arena c.args.joint.now) (g.J.Rules.lanes c.args.joint.now) c.args.order.now c.loop-a.order c.requires.shaped
+    (ap (λ (d : Board). d.rows) c.loop-a.invariant.rest) (ap (λ (d : Board). d.lanes) c.loop-a.invariant.rest)
+
+pub judge_on-requires-clause-inside : goal.judge_on-requires-clause-inside
+judge_on-requires-clause-inside g c = omega (arith, c.requires.row, ap (λ (d : Board). d.rows) c.loop-a.invariant.rest)
+
+pub loop-a-preserved : goal.loop-a-preserved
+loop-a-preserved g c =
+    let A = g.J.Rules.arena c.args.joint.now in
+    let n = g.J.Rules.lanes c.args.joint.now in
+    let x = c.args.x in
+    let old = c.loop-a.order in
+    let new = c.judge_on.new.order in
+    record {
+      round = λ start round. c.judge_on.ensures.round start (c.loop-a.invariant.round start round);
+      begins = begins_on c.args.order.now.list old.list new.list c.loop-a.invariant.begins c.judge_on.ensures.begins;
+      rest = c.judge_on.ensures.rest ∙ ap (λ (d : Board). record d { list = new.list }) c.loop-a.invariant.rest;
+      judged = λ start lane b round l m. elim (cases_eq b c.loop-a.a) [
+        | inl e ↦ subst (λ d. IsJudged A start new (x * n + lane) d) (sym e) (c.judge_on.ensures.judged start lane (c.loop-a.invariant.round start round) l)
+        | inr ne ↦ judged_on A start (x * n + lane) b old new (c.loop-a.invariant.round start round).begun c.judge_on.ensures.begins (c.loop-a.invariant.judged start lane b round l (omega arith))
+      ];
+    }
+
+pub returns-clause-done : goal.returns-clause-done
+returns-clause-done g c start lane round l =
+    let n = g.J.Rules.lanes c.args.joint.now in
+    done_all (g.J.Rules.arena c.args.joint.now) c.known.ensures start (c.args.x * n + lane) c.loop-a.a c.loop-a.order (omega (arith, c.loop-a-test.false, c.actions-a-end.ensures))
+    (λ a m. c.loop-a.invariant.judged start lane a round l m)
+
+-- a row of which all pairs are listed
+pub returns-then-words-x-eq0-clause-done : goal.returns-then-words-x-eq0-clause-done
+returns-then-words-x-eq0-clause-done g c start lane round l a off =
+    let A = g.J.Rules.arena c.args.joint.now in
+    let n = g.J.Rules.lanes c.args.joint.now in
+    let b = c.args.order.now in
+    let words = c.words.result.now in
+    let row = words_row A c.known.ensures n c.args.x b words c.requires.shaped.lanes (omega (arith, c.words.ensures.long, c.requires.row)) c.words.ensures.alive in
+    let none : is_on (slice_index words c.args.x) lane ≡ false = ap (λ w. is_on w lane) c.if-words-x-eq0.true ∙ on_zero lane in
+    absurd (both_ways (is_on (slice_index words c.args.x) lane) none (row.each lane l ∙ not_from_false (is_listed A b.list (c.args.x * n + lane)) off))

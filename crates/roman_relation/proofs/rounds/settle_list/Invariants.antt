@@ -1,0 +1,24 @@
+use Rattle.std.proofs.Common.{◌≡◌, ℕ, suc, ◌+◌, ◌-◌, ◌≤◌, true, false, [], length}
+use Rattle.roman_model.specs.Arena.{fall}
+use Rattle.roman_order.specs.Board.{pairs_of}
+use Rattle.roman_relation.specs.Settled.{Begins, HoldsLost, RisesByDepth, AreLevels}
+use Rattle.roman_relation.specs.Rounds.{AwaitsRound}
+use Rattle.roman_relation.proofs.rounds.settle_list.Given as goal
+
+-- rounds were played; from an empty list the list has what is lost within as many requests, level by level
+abbrev pub invariant-rounds : goal.invariant-rounds
+invariant-rounds g l =
+    let A = g.J.Rules.arena l.joint in
+    record {
+      ready : AwaitsRound A (g.J.Rules.lanes l.joint) l.order;
+      begins : Begins l.fn.order.list l.order.list;
+      rest : l.order ≡ record l.fn.order { list = l.order.list; marks = l.order.marks; before = l.order.before; levels = l.order.levels };
+      fresh : l.is_fresh ≡ true → (n : ℕ) × (length l.order.levels ≡ suc n) × HoldsLost A n l.order.list × RisesByDepth A l.order.list × AreLevels A l.order.levels l.order.list;
+      stale : l.is_fresh ≡ false → l.order.levels ≡ [];
+      few : length l.order.levels ≤ length l.order.list + 1;
+      cost : l.steps + fall A l.fn.order.list ≤ l.fn.steps + fall A l.order.list;
+    }
+
+-- each turn but the last lists a pair
+abbrev pub decreases-rounds : goal.decreases-rounds
+decreases-rounds g l = pairs_of l.order - length l.order.list

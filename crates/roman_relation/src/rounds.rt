@@ -1,0 +1,107 @@
+//! Rounds that make a removal list complete.
+ghost use Rattle.std.specs.Prelude.{◌≡◌, ◌≢◌, ℕ, suc, ◌+◌, ◌<◌, ◌≤◌, [], ◌∷◌, ◌++◌, if◌then◌else◌};
+ghost use Rattle.std.specs.Prelude.{length, drop, IsTrue};
+ghost use Rattle.roman_model.specs.Arena.{IsOrder, fall};
+ghost use Rattle.roman_relation.specs.Shaped.{IsShaped};
+ghost use Rattle.roman_relation.specs.Settled.{Begins, GoesOn, IsSettled, HoldsLost, RisesByDepth, AreLevels};
+ghost use Rattle.roman_relation.specs.Rounds.{AwaitsRound};
+
+mod judging;
+mod losses;
+mod unfine;
+
+use judging::judge_marked;
+use losses::mark_losses;
+use roman_io::Steps;
+use roman_order::Order;
+use roman_rules::Rules;
+use std::sync::ledger::Ledger;
+use unfine::list_unfine;
+
+/// Begins rounds on a removal list: lists the pairs that don't meet clause 2, and marks all rows.
+pub fn begin_rounds<J: Rules>(joint: &J, order: &mut Order)
+    requires shaped { IsShaped (J.arena joint.now) (J.lanes joint.now) order.old }
+    requires valid { IsOrder (J.arena joint.now) order.old.list }
+    ensures ready { AwaitsRound (J.arena joint.now) (J.lanes joint.now) order.new }
+    ensures goes_on { GoesOn (J.arena joint.now) order.old order.new }
+    ensures lost { order.old.list ≡ [] → HoldsLost (J.arena joint.now) 0 order.new.list }
+{
+    joint.known();
+    joint.lanes();
+    list_unfine(joint, order);
+    order.keep_before();
+    order.mark_front(joint.rows());
+}
+
+/// One round: lists each pair at which some action is a reason where the pairs are gone that were listed
+/// before the round, with the least such action. Only the pairs of marked rows are judged, and the rows
+/// of those that the next round has to judge are marked. The list is complete when a round adds nothing.
+///
+/// The steps are at most as many as delegations lead to the pairs that are added.
+pub fn play_round<J: Rules, L: Ledger>(joint: &J, order: &mut Order, steps: &mut Steps<L>)
+    requires ready { AwaitsRound (J.arena joint.now) (J.lanes joint.now) order.old }
+    ensures ready { AwaitsRound (J.arena joint.now) (J.lanes joint.now) order.new }
+    ensures goes_on { GoesOn (J.arena joint.now) order.old order.new }
+    ensures lost { (n : ℕ) → HoldsLost (J.arena joint.now) n order.old.list →
+        HoldsLost (J.arena joint.now) (suc n) order.new.list }
+    ensures settled { length order.new.list ≡ length order.old.list →
+        IsSettled (J.arena joint.now) order.new.list }
+    ensures cost { steps.new
+        ≤ steps.old + fall (J.arena joint.now) (drop (length order.old.list) order.new.list) }
+{
+    joint.known();
+    let start = order.len();
+    judge_marked(joint, order);
+    mark_losses(joint, order, start, steps);
+    order.len();
+}
+
+/// Goes on from a removal list to one to which no reason adds a pair, by rounds.
+///
+/// The steps are at most as many as delegations lead to the pairs that are added. From an empty list the
+/// entries rise by depth, and the order keeps where its levels ended: level n has the pairs at which the
+/// opponent wins within n requests. From another list no levels are kept.
+pub fn settle_list<J: Rules, L: Ledger>(joint: &J, order: &mut Order, steps: &mut Steps<L>)
+    requires shaped { IsShaped (J.arena joint.now) (J.lanes joint.now) order.old }
+    requires valid { IsOrder (J.arena joint.now) order.old.list }
+    ensures settled { IsSettled (J.arena joint.now) order.new.list }
+    ensures begins { Begins order.old.list order.new.list }
+    ensures rest { order.new ≡ record order.old {
+      list = order.new.list;
+      marks = order.new.marks;
+      before = order.new.before;
+      levels = order.new.levels;
+    } }
+    ensures levels { order.old.list ≡ [] → AreLevels (J.arena joint.now) order.new.levels order.new.list }
+    ensures forgotten { order.old.list ≢ [] → order.new.levels ≡ [] }
+    ensures rises { order.old.list ≡ [] → RisesByDepth (J.arena joint.now) order.new.list }
+    ensures cost { steps.new
+        ≤ steps.old + fall (J.arena joint.now) (drop (length order.old.list) order.new.list) }
+{
+    joint.known();
+    let is_fresh = order.len() == 0;
+    order.forget_levels();
+    begin_rounds(joint, order);
+    order.len();
+    end_level(order, is_fresh);
+    'rounds: loop {
+        let start = order.len();
+        play_round(joint, order, steps);
+        if order.len() == start {
+            return;
+        }
+        end_level(order, is_fresh);
+    }
+}
+
+// Ends a level, where the levels are kept.
+fn end_level(order: &mut Order, is_kept: bool)
+    requires { length order.old.levels ≤ order.old.cap_pairs }
+    ensures { order.new ≡ record order.old {
+      levels = (if is_kept then order.old.levels ++ length order.old.list ∷ [] else order.old.levels);
+    } }
+{
+    if is_kept {
+        order.end_level();
+    }
+}
