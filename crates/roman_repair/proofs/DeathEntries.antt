@@ -5,20 +5,23 @@ use Rattle.std.proofs.lemmas.Bool.{cond-true, cond-false}
 use Rattle.std.proofs.lemmas.List.{append-nil, append_assoc, map_push}
 use Rattle.std.proofs.lemmas.List.Folds.{list_any-append}
 use Rattle.std.proofs.Math.Nat.{mul-le-mul_left}
-use Rattle.roman_model.specs.System.{Seat}
+use Rattle.roman_model.specs.System.{Seat, Sys}
 use Rattle.roman_model.specs.Arena.{Entry}
 use Rattle.roman_model.specs.Change.{without, may_go}
 use Rattle.roman_model.specs.Numbers.{Sizes, sizes_of, sizes_without, count, pair_at, numbered}
 use Rattle.roman_model.proofs.Lists.{by_test, list_any-map, length-below}
+use Rattle.roman_model.proofs.ChangeLemmas.{left}
 use Rattle.roman_model.proofs.NumberLemmas.{number_without-is, count-without}
-use Rattle.roman_model.proofs.NumberedChanges.{number_entry_without, first_numbers}
+use Rattle.roman_model.proofs.NumberedChanges.{number_entry_without, first_numbers, sizes-left}
 use Rattle.roman_radix.specs.Radix.{IsSizes}
+use Rattle.roman_radix.specs.Rows.{lanes_of}
 use Rattle.roman_radix.proofs.Strides.{AreSizes-index}
 use Rattle.roman_joint.specs.NamedSys.{NamedSys, system_of}
-use Rattle.roman_order.specs.Board.{Board, has_entry, nodes_of, mask_at}
-use Rattle.roman_relation.specs.Masked.{IsShaped}
+use Rattle.roman_joint.specs.Rows.{lanes_in}
+use Rattle.roman_order.specs.Board.{Board, pairs_of, has_entry, nodes_of}
+use Rattle.roman_relation.specs.Shaped.{IsShaped}
 use Rattle.roman_repair.specs.Deaths.{entry_left, list_with}
-use Rattle.roman_repair.proofs.DeathBlocks.{seat_in_sizes}
+use Rattle.roman_repair.proofs.DeathStates.{seat_in_sizes}
 
 -- The list with one entry.
 
@@ -105,24 +108,20 @@ renaming_end n k seat whole done all = sym (append-nil done) ∙ all
 
 -- How many pairs are left.
 
--- so many pairs are those without the seat, and not more than those of the order
-pub record AreLeft (n : Sizes) (k pairs : ℕ) (board : Board) : Type 0 where
-  pub is : pairs ≡ count (sizes_without k n)
-  pub fewer : pairs ≤ board.pairs
+pub fewer_pairs : (n : NamedSys) (shape : Sizes) (k : ℕ) → shape ≡ sizes_of (system_of n) → IsSizes shape → k < length n.seats → count (sizes_without k (sizes_of (system_of n))) ≤ count (sizes_of (system_of n))
+fewer_pairs n shape k is sizes l =
+    let all = sizes_of (system_of n) in
+    let seat : k < length all.seats = seat_in_sizes n k l in
+    let once : count (sizes_without k all) * 1 ≤ count (sizes_without k all) * slice_index all.seats k =
+    mul-le-mul_left (count (sizes_without k all)) (AreSizes-index all.seats k (subst IsSizes is sizes).seats seat).0 in
+    omega (arith, once, count-without all k seat)
 
-fewer_pairs : (n : Sizes) (k : ℕ) → IsSizes n → k < length n.seats → count (sizes_without k n) ≤ count n
-fewer_pairs n k sizes seat =
-    let once : count (sizes_without k n) * 1 ≤ count (sizes_without k n) * slice_index n.seats k = mul-le-mul_left (count (sizes_without k n)) (AreSizes-index n.seats k sizes.seats seat).0 in
-    omega (arith, once, count-without n k seat)
+pub small_pairs : (n : NamedSys) (shape small : Sizes) (k rows lanes : ℕ) → shape ≡ sizes_of (system_of n) → small ≡ sizes_without k shape → rows * lanes_of small.seats ≡ count small →
+    lanes ≡ lanes_of small.seats → rows * lanes ≡ count (sizes_without k (sizes_of (system_of n)))
+small_pairs n shape small k rows lanes is without whole wide = ap (λ m. rows * m) wide ∙ whole ∙ ap count (without ∙ ap (sizes_without k) is)
 
-pub pairs_left : (n : NamedSys) (shape small : Sizes) (k pairs : ℕ) (board : Board) → shape ≡ sizes_of (system_of n) → IsSizes shape → small ≡ sizes_without k shape → pairs ≡ count small → k < length n.seats →
-    IsShaped (numbered (system_of n)) board → AreLeft (sizes_of (system_of n)) k pairs board
-pairs_left n shape small k pairs board is sizes without counted seat shaped =
-    let same : pairs ≡ count (sizes_without k (sizes_of (system_of n))) = counted ∙ ap count (without ∙ ap (sizes_without k) is) in
-    let fewer = fewer_pairs (sizes_of (system_of n)) k (subst IsSizes is sizes) (seat_in_sizes n k seat) in
-    record { is = same; fewer = omega (arith, same, fewer, shaped.pairs, length-below (count (sizes_of (system_of n)))) }
-
--- the same masks at the same places
-pub mask_stays : (b c : Board) (p a : ℕ) → c.masks ≡ b.masks → c.actions ≡ b.actions → mask_at c p a ≡ mask_at b p a
-unfolding mask_at
-mask_stays b c p a masks actions = ap₂ (λ ms n. slice_index ms (p * n + a)) masks actions
+pub left_shaped : (s : Sys) (k : ℕ) (new : Board) → pairs_of new ≡ count (sizes_without k (sizes_of s)) → new.lanes ≡ lanes_of (sizes_without k (sizes_of s)).seats → IsShaped (numbered (left s k)) (lanes_in (left s k)) new
+left_shaped s k new pairs lanes = record {
+  pairs = pairs ∙ ap count (sym (sizes-left s k)) ∙ sym (length-below (count (sizes_of (left s k))));
+  lanes = lanes ∙ ap (λ (n : Sizes). lanes_of n.seats) (sym (sizes-left s k));
+}

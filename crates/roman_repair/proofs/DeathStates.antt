@@ -1,20 +1,27 @@
--- The states that a service may leave behind when it dies.
-use Rattle.std.proofs.Common.{◌≡◌, ℕ, ◌+◌, ◌<◌, ◌≤◌, Bool, cond, not, ◌||◌, List, [], ◌∷◌, ◌++◌, length, take, filter, Some, IsTrue, IsFalse, slice_get, slice_index, sym, ap, ◌∙◌, arith, add-one}
-use Rattle.std.proofs.Math.ListN.{set}
-use Rattle.std.proofs.lemmas.List.{append-nil, take_more_set}
+-- The service that dies, and the states that it may leave behind.
+use Rattle.std.proofs.Common.{◌≡◌, ℕ, ◌<◌, Bool, not, ◌||◌, List, [], ◌∷◌, length, Some, IsTrue, IsFalse, slice_get, slice_index, suc, zero, refl, sym, ap, ◌∙◌, arith}
+use Rattle.std.proofs.lemmas.List.{length-map}
 use Rattle.std.proofs.lemmas.Option.{same_Some}
-use Rattle.roman_model.specs.Lists.{below}
 use Rattle.roman_model.specs.System.{Seat, is_final}
 use Rattle.roman_model.specs.Change.{Die, CanChange}
 use Rattle.roman_model.specs.Numbers.{sizes_of}
-use Rattle.roman_model.proofs.Lists.{filter_below_more}
 use Rattle.roman_model.proofs.NumberedChanges.{size_at}
-use Rattle.roman_parts.specs.Named.{NamedBeh, IsOver}
+use Rattle.roman_parts.specs.Named.{NamedBeh}
 use Rattle.roman_joint.specs.Behaviours.{IsBehaviourOf}
 use Rattle.roman_joint.specs.NamedSys.{NamedSys, IsNamedSys, system_of, seat_of}
 use Rattle.roman_joint.specs.declared.seat.Seat as joint
 use Rattle.roman_joint.proofs.BehaviourLemmas.{Behaves, behaves, seat_read}
-use Rattle.roman_joint.proofs.SeatLemmas.{few_states}
+
+stands : {X : Type 0} (xs : List X) (k : ℕ) → k < length xs → (x : X) × (slice_get xs k ≡ Some x)
+stands [] k l = absurd (omega arith)
+stands (x ∷ xs) zero l = (x, refl)
+stands (x ∷ xs) (suc k) l = stands xs k (omega arith)
+
+pub seat_there : (n : NamedSys) (k : ℕ) → k < length n.seats → (seat : Seat) × CanChange (Die k seat) (system_of n)
+seat_there n k l = stands (system_of n).seats k (omega (arith, length-map n.seats (seat_of n.catalogue)))
+
+pub seat_in_sizes : (n : NamedSys) (k : ℕ) → k < length n.seats → k < length (sizes_of (system_of n)).seats
+seat_in_sizes n k l = omega (arith, length-map (system_of n).seats (λ seat. seat.beh.states), length-map n.seats (seat_of n.catalogue))
 
 -- the service at a place is that of the system
 pub seat_is : (n : NamedSys) (k : ℕ) (here : joint.Seat) (seat : Seat) → slice_get n.seats k ≡ Some here → CanChange (Die k seat) (system_of n) → seat_of n.catalogue here ≡ seat
@@ -41,26 +48,3 @@ pub size_is : (n : NamedSys) (k : ℕ) (beh : NamedBeh) → IsNamedSys n → IsB
 size_is n k beh known of =
     let at : Behaves n k beh = behaves n k beh known of in
     size_at (system_of n).seats k at.seat at.seated ∙ ap (λ x. x.states) at.is
-
--- how many states a behaviour has, where their names are counted
-pub record AreCounted (beh : NamedBeh) (count : ℕ) : Type 0 where
-  pub is : count ≡ beh.beh.states
-  pub few : count ≤ 64
-
-pub states_counted : (beh : NamedBeh) (names : List (List ℕ)) (count : ℕ) → count ≡ length names → names ≡ beh.states → length beh.states ≡ beh.beh.states → IsOver beh.env_states beh.actions beh.beh →
-    AreCounted beh count
-states_counted beh names count is same states known =
-    let number : count ≡ beh.beh.states = is ∙ ap length same ∙ states in
-    record { is = number; few = omega (arith, number, few_states beh known) }
-
--- one state more, which may be left behind or not
-pub goers_more : (goes : ℕ → Bool) (table : List ℕ) (count b : ℕ) → count < length table → IsTrue (goes b) → take count table ≡ filter goes (below b) →
-    take (count + 1) (set table count b) ≡ filter goes (below (b + 1))
-goers_more goes table count b room t so_far =
-    take_more_set table count b room ∙ ap (λ xs. xs ++ b ∷ []) so_far
-    ∙ sym (ap (λ m. filter goes (below m)) (add-one b) ∙ filter_below_more goes b ∙ ap (λ x. filter goes (below b) ++ cond x (b ∷ []) []) t)
-
-pub goers_same : (goes : ℕ → Bool) (xs : List ℕ) (b : ℕ) → IsFalse (goes b) → xs ≡ filter goes (below b) → xs ≡ filter goes (below (b + 1))
-goers_same goes xs b f so_far =
-    so_far
-    ∙ sym (ap (λ m. filter goes (below m)) (add-one b) ∙ filter_below_more goes b ∙ ap (λ x. filter goes (below b) ++ cond x (b ∷ []) []) f ∙ append-nil (filter goes (below b)))

@@ -1,12 +1,12 @@
 -- The candidates for a system that a service has joined.
-use Rattle.std.proofs.Common.{◌≡◌, ℕ, ◌+◌, ◌*◌, ◌<◌, List, [], ◌∷◌, length, map, flat_map, IsTrue, inl, refl, sym, ap, ap₂, ◌∙◌, subst, arith}
+use Rattle.std.proofs.Common.{◌≡◌, ℕ, ◌+◌, ◌*◌, ◌<◌, List, [], ◌∷◌, length, map, flat_map, IsTrue, inl, refl, sym, ap, ◌∙◌, subst, arith}
 use Rattle.std.proofs.lemmas.Nat.{same_from_place}
 use Rattle.std.proofs.lemmas.List.{length_push}
 use Rattle.roman_model.specs.Lists.{IsIn, HasNoRepeats, below}
 use Rattle.roman_model.specs.System.{Sys, Seat, IsSys, is_allowed}
 use Rattle.roman_model.specs.Arena.{Entry}
 use Rattle.roman_model.specs.Change.{Join, after, CanChange}
-use Rattle.roman_model.specs.Numbers.{Sizes, sizes_of, count, pair_at, grown_sizes, numbered}
+use Rattle.roman_model.specs.Numbers.{sizes_of, count, pair_at, numbered}
 use Rattle.roman_model.specs.declared.reason.Reason.{Reason}
 use Rattle.roman_model.specs.declared.reason.Reason.TheVariants.{Final, Act}
 use Rattle.roman_model.proofs.Lists.{from_map, from_flat_map, from_below, in_append_right, length-below, HasNoRepeats-map, HasNoRepeats-flat_map, HasNoRepeats-below}
@@ -14,26 +14,15 @@ use Rattle.roman_model.proofs.ChangeLemmas.{map-map, map-flat_map, flat_map-map,
 use Rattle.roman_model.proofs.NumberLemmas.{pair_at-grown}
 use Rattle.roman_model.proofs.NumberedChanges.{sizes-joined, NumbersReplay}
 use Rattle.roman_joint.specs.NamedSys.{NamedSys, system_of, IsNamedSys}
-use Rattle.roman_order.specs.Board.{Board, nodes_of}
-use Rattle.roman_relation.specs.Greatest.{arena_of}
+use Rattle.roman_order.specs.Board.{nodes_of}
 use Rattle.roman_repair.specs.Replays.{is_possible, AreCandidates, grown_numbers}
-use Rattle.roman_repair.proofs.Growing.{grown_number}
+use Rattle.roman_repair.proofs.Keeping.{grown_number}
 
 -- the new system tells that the service could join
 pub joined_can : (joint : NamedSys) (s : Sys) (seat : Seat) → IsNamedSys joint → system_of joint ≡ after (Join seat) s → CanChange (Join seat) s
 joined_can joint s seat known system =
     let sys : IsSys (after (Join seat) s) = subst IsSys system known.system in
     (sys.seats seat (in_append_right seat s.seats (seat ∷ []) (inl refl)), omega (arith, sys.few, length_push s.seats seat))
-
--- and the service has some state
-pub joined_some : (joint : NamedSys) (s : Sys) (seat : Seat) (states : ℕ) → IsNamedSys joint → system_of joint ≡ after (Join seat) s → states ≡ seat.beh.states → 0 < states
-joined_some joint s seat states known system size = subst (λ n. 0 < n) (sym size) (joined_can joint s seat known system).0.states.0
-
-pub joined_count : (joint : NamedSys) (s : Sys) (seat : Seat) (n : Sizes) (states : ℕ) → system_of joint ≡ after (Join seat) s → n ≡ sizes_of s → states ≡ seat.beh.states →
-    length (below (count (sizes_of (system_of joint)))) ≡ count (grown_sizes n states)
-joined_count joint s seat n states system shape size =
-    length-below (count (sizes_of (system_of joint))) ∙ ap (λ (t : Sys). count (sizes_of t)) system ∙ ap count (sizes-joined s seat)
-    ∙ sym (ap₂ (λ m k. count (grown_sizes m k)) shape size)
 
 -- a grown pair allows what the pair did
 pub possible-joined : (s : Sys) (seat : Seat) (p b : ℕ) (reason : Reason) → p < count (sizes_of s) → b < seat.beh.states →
@@ -77,14 +66,3 @@ joined_candidates s seat L are replays = record {
         let pair : y.node < count (sizes_of s) = subst (λ n. y.node < n) (length-below (count (sizes_of s))) (are.nodes y j) in
         subst (λ (z : Entry ℕ). IsTrue (is_possible (numbered (after (Join seat) s)) z.node z.reason)) (sym e)
         (possible-joined s seat y.node b y.reason pair (from_below seat.beh.states b l) ∙ are.possible y j)
-
--- they are those of what waits
-pub joined_waiting : (old_joint joint : NamedSys) (seat : Seat) (states : ℕ) (old : List (Entry ℕ)) (reopened : Board) → AreCandidates (arena_of old_joint) [] old →
-    NumbersReplay (Join seat) (system_of old_joint) old → system_of joint ≡ after (Join seat) (system_of old_joint) → states ≡ seat.beh.states → reopened.list ≡ [] → reopened.waiting ≡ old →
-    AreCandidates (arena_of joint) reopened.list (flat_map (grown_numbers states) reopened.waiting)
-joined_waiting old_joint joint seat states old reopened are replays system size list waiting =
-    let s = system_of old_joint in
-    subst (λ (t : Sys). AreCandidates (numbered t) reopened.list (flat_map (grown_numbers states) reopened.waiting)) (sym system)
-    (subst (λ K. AreCandidates (numbered (after (Join seat) s)) K (flat_map (grown_numbers states) reopened.waiting)) (sym list)
-    (subst (λ L. AreCandidates (numbered (after (Join seat) s)) [] (flat_map (grown_numbers states) L)) (sym waiting)
-    (subst (λ n. AreCandidates (numbered (after (Join seat) s)) [] (flat_map (grown_numbers n) old)) (sym size) (joined_candidates s seat old are replays))))

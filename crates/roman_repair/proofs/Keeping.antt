@@ -1,35 +1,42 @@
--- What a replay keeps, entry by entry.
-use Rattle.std.proofs.Common.{◌≡◌, ℕ, ◌+◌, ◌<◌, ◌≤◌, ◌==◌, Bool, true, false, cond, if◌then◌else◌, not, List, [], ◌∷◌, ◌++◌, length, IsTrue, IsFalse, sum_by, count_by, inl, inr, refl, sym, ap, ◌∙◌, subst, arith, append-nil, append_assoc}
-use Rattle.std.proofs.lemmas.Bool.{both_ways, or_from, not-true, false_from_ne_true, eqb-true}
-use Rattle.std.proofs.lemmas.List.{map-append}
-use Rattle.std.proofs.lemmas.List.Sums.{sum_by-cons}
+-- What a replay keeps, candidate by candidate.
+use Rattle.std.proofs.Common.{◌≡◌, ℕ, ◌+◌, ◌-◌, ◌*◌, ◌<◌, ◌≤◌, ◌==◌, Bool, true, false, if◌then◌else◌, not, ◌&&◌, List, [], ◌∷◌, ◌++◌, map, flat_map, drop, length, IsTrue, IsFalse, sum_by, count_by, inl, inr, refl, sym, ap, ap₂, ◌∙◌, subst, arith, append-nil, append_assoc}
+use Rattle.std.proofs.lemmas.Bool.{or_from, or_left, false_from_ne_true, eqb-true}
+use Rattle.std.proofs.lemmas.List.{map-append, drop-map, drop_more, drop_all, length-map}
+use Rattle.std.proofs.lemmas.List.Sums.{sum_by-cons, sum_by-append}
 use Rattle.std.proofs.lemmas.List.Folds.{list_any-append}
+use Rattle.roman_lanes.specs.Rows.{AreRows}
 use Rattle.roman_model.specs.Lists.{IsIn, HasNoRepeats, below}
-use Rattle.roman_model.specs.Arena.{Arena, Entry, is_among, is_listed, is_beaten, is_justified, replay_from, readings}
+use Rattle.roman_model.specs.Arena.{Arena, Entry, is_among, is_listed, is_justified, replay_from, readings}
 use Rattle.roman_model.specs.declared.reason.Reason.{Reason}
 use Rattle.roman_model.specs.declared.reason.Reason.TheVariants.{Final, Act}
-use Rattle.roman_model.proofs.Lists.{by_test, in_map, from_map, in_append_left, in_below, from_below, sum_by_within, HasNoRepeats-below}
-use Rattle.roman_model.proofs.ArenaLemmas.{listed_among, justified_same, justified_is}
+use Rattle.roman_model.proofs.Lists.{in_map, from_map, in_append_left, in_below, sum_by_within, length-below, get_or-below}
+use Rattle.roman_model.proofs.ArenaLemmas.{listed_among, listed_append, justified_same}
 use Rattle.roman_model.proofs.OrderLemmas.{replay_from_same, middle_first}
-use Rattle.roman_joint.specs.Numbered.{IsNumbered}
-use Rattle.roman_order.specs.Board.{Board, nodes_of, has_entry}
-use Rattle.roman_relation.specs.Masked.{readings_of}
-use Rattle.roman_relation.proofs.Reading.{all_read, pair_cost, pair_cost-is}
-use Rattle.roman_repair.specs.Replays.{is_possible, AreCandidates, with_replay, readings_of_reason, readings_of_entries}
+use Rattle.roman_model.proofs.WorkLemmas.{readings_at, readings_within}
+use Rattle.roman_rules.specs.Numbered.{IsNumbered}
+use Rattle.roman_rules.specs.Asked.{IsKnown, IsReasonOf, readings_of, readings_of_reason}
+use Rattle.roman_rules.specs.declared.asked.Asked.{Asked}
+use Rattle.roman_rules.proofs.Asking.{known_more, readings_of-allowed}
+use Rattle.roman_order.specs.Board.{Board, nodes_of, has_entry, entry_of}
+use Rattle.roman_relation.proofs.Lanes.{unlisted_rows}
+use Rattle.roman_repair.specs.Replays.{is_possible, AreCandidates, with_replay, readings_of_entries, grown_numbers}
 
--- Reasons, seat by seat.
+-- the words of an order of so many lanes tell what its list doesn't hold
+pub unlisted_words : (A : Arena ℕ) → IsNumbered A → (lanes wide : ℕ) (L : List (Entry ℕ)) (words : List ℕ) → wide ≡ lanes → AreRows wide (λ p. not (has_entry L p)) words →
+    AreRows lanes (λ p. not (is_listed A L p)) words
+unlisted_words A ok lanes wide L words same rows = subst (λ m. AreRows m (λ p. not (is_listed A L p)) words) same (unlisted_rows A ok wide L words rows)
 
--- up to a number there are no more than up to a greater one
-pub count_below_le : (f : ℕ → Bool) (m n : ℕ) → m ≤ n → count_by f (below m) ≤ count_by f (below n)
-count_below_le f m n l =
-    sum_by_within (λ k. cond (f k) 1 0) (below m) (below n) (HasNoRepeats-below m) (λ k i. in_below n k (let less : k < m = from_below m k i in omega arith))
+-- a reason that may hold names an action of the system
+pub possible_reason : (A : Arena ℕ) → IsNumbered A → (p : ℕ) (reason : Reason) → IsTrue (is_possible A p reason) → IsReasonOf A reason
+possible_reason A ok p Final possible = tt
+possible_reason A ok p (Act a) possible = ok.allowed p a possible
 
--- where some seat isn't beaten the reason doesn't hold
-pub one_is_left : (A : Arena ℕ) (gone : ℕ → Bool) (p a k : ℕ) (good : Bool) → k < A.seats → good ≡ true → good ≡ not (is_beaten A gone p a k) → false ≡ is_justified A gone p (Act a)
-one_is_left A gone p a k good l yes_good is =
-    by_test (is_justified A gone p (Act a))
-    (λ t. absurd (both_ways (is_beaten A gone p a k) (not-true (is_beaten A gone p a k) (sym is ∙ yes_good)) ((justified_is A gone p a t).1 k l)))
-    (λ f. sym f)
+-- a pair by its row and lane, where the order and the system have as many lanes
+pub row_and_lane : (row lanes wide taken p : ℕ) → wide ≡ lanes → taken ≡ lanes → row * lanes ≤ p → row * wide + (p - row * taken) ≡ p
+row_and_lane row lanes wide taken p e f l =
+    let ours : row * wide ≡ row * lanes = ap (λ m. row * m) e in
+    let theirs : row * taken ≡ row * lanes = ap (λ m. row * m) f in
+    omega arith
 
 -- The list, with what a replay adds to it.
 
@@ -43,7 +50,7 @@ last_first A kept x q =
     ∙ middle_first A (nodes_of kept) [] x.node q
     ∙ ap (λ ps. is_among A (x.node ∷ ps) q) (append-nil (nodes_of kept))
 
-pub with_replay_step : (A : Arena ℕ) (kept : List (Entry ℕ)) (x : Entry ℕ) (L : List (Entry ℕ)) → with_replay A kept (x ∷ L) ≡ with_replay A (with_one A kept x) L
+with_replay_step : (A : Arena ℕ) (kept : List (Entry ℕ)) (x : Entry ℕ) (L : List (Entry ℕ)) → with_replay A kept (x ∷ L) ≡ with_replay A (with_one A kept x) L
 with_replay_step A kept x L =
     ap (λ b. kept ++ (if b then x ∷ replay_from A (x.node ∷ nodes_of kept) L else replay_from A (nodes_of kept) L))
     (justified_same A (is_among A (nodes_of kept)) (is_listed A kept) x.node x.reason (λ a k q i. sym (listed_among A kept q)))
@@ -57,6 +64,14 @@ with_replay_step A kept x L =
     by_answer : (b : Bool) → kept ++ (if b then x ∷ replay_from A (x.node ∷ nodes_of kept) L else replay_from A (nodes_of kept) L) ≡ with_replay A (if b then kept ++ x ∷ [] else kept) L
     by_answer true = pushed
     by_answer false = refl
+
+pub with_replay_one : (A : Arena ℕ) (kept : List (Entry ℕ)) (x : Entry ℕ) → with_replay A kept (x ∷ []) ≡ with_one A kept x
+with_replay_one A kept x = with_replay_step A kept x [] ∙ append-nil (with_one A kept x)
+
+with_replay_append : (A : Arena ℕ) (kept L M : List (Entry ℕ)) → with_replay A kept (L ++ M) ≡ with_replay A (with_replay A kept L) M
+with_replay_append A kept [] M = ap (λ N. with_replay A N M) (sym (append-nil kept))
+with_replay_append A kept (x ∷ L) M =
+    with_replay_step A kept x (L ++ M) ∙ with_replay_append A (with_one A kept x) L M ∙ ap (λ N. with_replay A N M) (sym (with_replay_step A kept x L))
 
 -- Candidates.
 
@@ -72,73 +87,42 @@ candidates_left A kept L M are = record {
   possible = λ x i. are.possible x (in_append_left x L M i);
 }
 
--- the candidates after one that is listed
-pub candidates_push : (A : Arena ℕ) (kept : List (Entry ℕ)) (x : Entry ℕ) (L : List (Entry ℕ)) → AreCandidates A kept (x ∷ L) → AreCandidates A (kept ++ x ∷ []) L
-candidates_push A kept x L are = record {
-  once = are.once.1;
-  new = λ y i.
-      list_any-append (λ (z : Entry ℕ). y.node == z.node) kept (x ∷ [])
-      ∙ or_from (has_entry kept y.node) (has_entry (x ∷ []) y.node) (are.new y (inr i)) (or_from (y.node == x.node) false (other y i) refl);
-  nodes = λ y i. are.nodes y (inr i);
-  possible = λ y i. are.possible y (inr i);
-}
+-- the candidates after one that is kept or not
+candidates_step : (A : Arena ℕ) (kept : List (Entry ℕ)) (x : Entry ℕ) (L : List (Entry ℕ)) → AreCandidates A kept (x ∷ L) → AreCandidates A (with_one A kept x) L
+candidates_step A kept x L are = by_answer (is_justified A (is_listed A kept) x.node x.reason)
   where
     other : (y : Entry ℕ) → IsIn y L → IsFalse (y.node == x.node)
     other y i = false_from_ne_true (y.node == x.node) (λ t. are.once.0 (subst (λ p. IsIn p (nodes_of L)) (eqb-true y.node x.node t) (in_map (λ (z : Entry ℕ). z.node) y L i)))
 
--- and after one that isn't
-candidates_skip : (A : Arena ℕ) (kept : List (Entry ℕ)) (x : Entry ℕ) (L : List (Entry ℕ)) → AreCandidates A kept (x ∷ L) → AreCandidates A kept L
-candidates_skip A kept x L are = record { once = are.once.1; new = λ y i. are.new y (inr i); nodes = λ y i. are.nodes y (inr i); possible = λ y i. are.possible y (inr i) }
-
--- the candidates after one that is kept or not
-pub candidates_step : (A : Arena ℕ) (kept : List (Entry ℕ)) (x : Entry ℕ) (L : List (Entry ℕ)) → AreCandidates A kept (x ∷ L) → AreCandidates A (with_one A kept x) L
-candidates_step A kept x L are = by_answer (is_justified A (is_listed A kept) x.node x.reason)
-  where
     by_answer : (b : Bool) → AreCandidates A (if b then kept ++ x ∷ [] else kept) L
-    by_answer true = candidates_push A kept x L are
-    by_answer false = candidates_skip A kept x L are
+    by_answer true = record {
+      once = are.once.1;
+      new = λ y i.
+          list_any-append (λ (z : Entry ℕ). y.node == z.node) kept (x ∷ [])
+          ∙ or_from (has_entry kept y.node) (has_entry (x ∷ []) y.node) (are.new y (inr i)) (or_from (y.node == x.node) false (other y i) refl);
+      nodes = λ y i. are.nodes y (inr i);
+      possible = λ y i. are.possible y (inr i);
+    }
+    by_answer false = record { once = are.once.1; new = λ y i. are.new y (inr i); nodes = λ y i. are.nodes y (inr i); possible = λ y i. are.possible y (inr i) }
 
--- those after several that are all listed
-pub candidates_listed : (A : Arena ℕ) (kept L M : List (Entry ℕ)) → AreCandidates A kept (L ++ M) → AreCandidates A (kept ++ L) M
-candidates_listed A kept [] M are = subst (λ N. AreCandidates A N M) (sym (append-nil kept)) are
-candidates_listed A kept (x ∷ L) M are =
-    subst (λ N. AreCandidates A N M) (append_assoc kept (x ∷ []) L) (candidates_listed A (kept ++ x ∷ []) L M (candidates_push A kept x (L ++ M) are))
-
--- Readings.
-
-reading_le : (A : Arena ℕ) (p : ℕ) (reason : Reason) → IsNumbered A → IsTrue (is_possible A p reason) → readings_of_reason A p reason ≤ pair_cost A p
-reading_le A p Final ok possible = omega arith
-reading_le A p (Act a) ok possible =
-    let some : sum_by (readings_of A p) (a ∷ []) ≤ sum_by (readings_of A p) (below A.actions) =
-    sum_by_within (readings_of A p) (a ∷ []) (below A.actions) (λ i. absurd i, tt) (λ b i. elim i [ inl e ↦ in_below A.actions b (subst (λ c. c < A.actions) (sym e) (ok.allowed p a possible)) | inr none ↦ absurd none ]) in
-    omega (arith, pair_cost-is A p, sum_by-cons (readings_of A p) a [])
-
-entries_le : (A : Arena ℕ) (L : List (Entry ℕ)) → IsNumbered A → ((x : Entry ℕ) → IsIn x L → IsTrue (is_possible A x.node x.reason)) →
-    readings_of_entries A L ≤ sum_by (pair_cost A) (nodes_of L)
-entries_le A [] ok possible = omega arith
-entries_le A (x ∷ L) ok possible =
-    let rest : readings_of_entries A L ≤ sum_by (pair_cost A) (nodes_of L) = entries_le A L ok (λ y i. possible y (inr i)) in
-    omega (arith, reading_le A x.node x.reason ok (possible x (inl refl)), sum_by-cons (λ (y : Entry ℕ). readings_of_reason A y.node y.reason) x L, sum_by-cons (pair_cost A) x.node (nodes_of L))
-
--- candidates ask no more than one reading of the system
-pub candidates_readings : (A : Arena ℕ) (kept L : List (Entry ℕ)) → IsNumbered A → AreCandidates A kept L → readings_of_entries A L ≤ readings A
-candidates_readings A kept L ok are =
-    let within : sum_by (pair_cost A) (nodes_of L) ≤ sum_by (pair_cost A) (below (length A.nodes)) =
-    sum_by_within (pair_cost A) (nodes_of L) (below (length A.nodes)) are.once (λ p i. in_nodes p i) in
-    omega (arith, entries_le A L ok are.possible, all_read A ok (pair_cost A) (pair_cost-is A))
-  where
-    in_nodes : (p : ℕ) → IsIn p (nodes_of L) → IsIn p (below (length A.nodes))
-    in_nodes p i =
-        let (x, j, e) = from_map (λ (x : Entry ℕ). x.node) p L i in
-        in_below (length A.nodes) p (subst (λ q. q < length A.nodes) (sym e) (are.nodes x j))
+-- and after several
+candidates_replayed : (A : Arena ℕ) (kept L M : List (Entry ℕ)) → AreCandidates A kept (L ++ M) → AreCandidates A (with_replay A kept L) M
+candidates_replayed A kept [] M are = subst (λ N. AreCandidates A N M) (sym (append-nil kept)) are
+candidates_replayed A kept (x ∷ L) M are =
+    subst (λ N. AreCandidates A N M) (sym (with_replay_step A kept x L))
+    (candidates_replayed A (with_one A kept x) L M (candidates_step A kept x (L ++ M) are))
 
 -- One turn of the replay.
 
--- what stays right while candidates are taken from those that wait
+-- what stays right while candidates are taken from those that are left
 pub record IsReplaying (A : Arena ℕ) (start now : Board) (all left : List (Entry ℕ)) : Type 0 where
   pub candidates : AreCandidates A now.list left
   pub list : with_replay A now.list left ≡ with_replay A start.list all
-  pub rest : now ≡ record start { list = now.list; waiting = now.waiting; marks = now.marks }
+  pub rest : now ≡ record start { list = now.list; waiting = now.waiting }
+
+-- at first all are left
+pub replaying_first : (A : Arena ℕ) (start : Board) (all : List (Entry ℕ)) → AreCandidates A start.list all → IsReplaying A start start all all
+replaying_first A start all are = record { candidates = are; list = refl; rest = refl }
 
 -- where what waits has changed alone
 pub replaying_still : (A : Arena ℕ) (start now next : Board) (all left : List (Entry ℕ)) → IsReplaying A start now all left → next ≡ record now { waiting = next.waiting } → IsReplaying A start next all left
@@ -147,39 +131,117 @@ replaying_still A start now next all left so_far rest =
     record {
       candidates = subst (λ N. AreCandidates A N left) same so_far.candidates;
       list = ap (λ N. with_replay A N left) (sym same) ∙ so_far.list;
-      rest =
-          rest
-          ∙ ap (λ (b : Board). record b { waiting = next.waiting }) so_far.rest
-          ∙ ap (λ (L : List (Entry ℕ)). record start { list = L; waiting = next.waiting; marks = now.marks }) same
-          ∙ ap (λ (ms : List Bool). record start { list = next.list; waiting = next.waiting; marks = ms }) (sym (ap (λ (b : Board). b.marks) rest));
+      rest = rest ∙ ap (λ (b : Board). record b { waiting = next.waiting }) so_far.rest ∙ ap (λ (L : List (Entry ℕ)). record start { list = L; waiting = next.waiting }) same;
     }
 
--- the first of those that wait is taken
-pub replaying_taken : (A : Arena ℕ) (start now next : Board) (all : List (Entry ℕ)) (x : Entry ℕ) → IsReplaying A start now all now.waiting → now.waiting ≡ x ∷ next.waiting →
-    next ≡ record now { waiting = next.waiting } → IsReplaying A start next all (x ∷ next.waiting)
-replaying_taken A start now next all x so_far first rest = replaying_still A start now next all (x ∷ next.waiting) (subst (IsReplaying A start now all) first so_far) rest
-
--- one candidate less
-pub replaying_step : (A : Arena ℕ) (start now new : Board) (all left : List (Entry ℕ)) (x : Entry ℕ) → IsReplaying A start now all (x ∷ left) → new.list ≡ with_one A now.list x →
-    new ≡ record now { list = new.list; marks = new.marks } → IsReplaying A start new all left
-replaying_step A start now new all left x so_far list rest = record {
-  candidates = subst (λ N. AreCandidates A N left) (sym list) (candidates_step A now.list x left so_far.candidates);
-  list = ap (λ N. with_replay A N left) list ∙ sym (with_replay_step A now.list x left) ∙ so_far.list;
-  rest =
-      rest
-      ∙ ap (λ (b : Board). record b { list = new.list; marks = new.marks }) so_far.rest
-      ∙ ap (λ (W : List (Entry ℕ)). record start { list = new.list; waiting = W; marks = new.marks }) (sym (ap (λ (b : Board). b.waiting) rest));
+-- several candidates less are left
+pub replaying_part : (A : Arena ℕ) (start now new : Board) (all L M : List (Entry ℕ)) → IsReplaying A start now all (L ++ M) → new.list ≡ with_replay A now.list L →
+    new ≡ record now { list = new.list } → IsReplaying A start new all M
+replaying_part A start now new all L M so_far list rest = record {
+  candidates = subst (λ N. AreCandidates A N M) (sym list) (candidates_replayed A now.list L M so_far.candidates);
+  list = ap (λ N. with_replay A N M) list ∙ sym (with_replay_append A now.list L M) ∙ so_far.list;
+  rest = rest ∙ ap (λ (b : Board). record b { list = new.list }) so_far.rest ∙ ap (λ (W : List (Entry ℕ)). record start { list = new.list; waiting = W }) (sym (ap (λ (b : Board). b.waiting) rest));
 }
 
--- a turn takes the first of those that wait, and keeps it or not
-pub replaying_turn : (A : Arena ℕ) (start now next new : Board) (all : List (Entry ℕ)) (x : Entry ℕ) → IsReplaying A start now all now.waiting → now.waiting ≡ x ∷ next.waiting →
-    next ≡ record now { waiting = next.waiting } → new.list ≡ with_one A next.list x → new ≡ record next { list = new.list; marks = new.marks } → IsReplaying A start new all new.waiting
-replaying_turn A start now next new all x so_far first rest list kept =
-    subst (IsReplaying A start new all) (sym (ap (λ (b : Board). b.waiting) kept))
-    (replaying_step A start next new all next.waiting x (replaying_taken A start now next all x so_far first rest) list kept)
+-- at the end none is left
+pub replaying_end : (A : Arena ℕ) (start now : Board) (all left : List (Entry ℕ)) → IsReplaying A start now all left → left ≡ [] → now.list ≡ with_replay A start.list all
+replaying_end A start now all left so_far none = sym (append-nil now.list) ∙ ap (with_replay A now.list) (sym none) ∙ so_far.list
 
-pub turn_cost : (A : Arena ℕ) (now next new : Board) (x : Entry ℕ) → now.waiting ≡ x ∷ next.waiting → new ≡ record next { list = new.list; marks = new.marks } →
-    readings_of_entries A now.waiting ≡ readings_of_reason A x.node x.reason + readings_of_entries A new.waiting
-turn_cost A now next new x first kept =
-    ap (readings_of_entries A) first ∙ sum_by-cons (λ (y : Entry ℕ). readings_of_reason A y.node y.reason) x next.waiting
-    ∙ ap (λ L. readings_of_reason A x.node x.reason + readings_of_entries A L) (sym (ap (λ (b : Board). b.waiting) kept))
+-- What is known.
+
+pub known_kept : (A : Arena ℕ) (lanes : ℕ) (asked : Asked) (old new : List (Entry ℕ)) (x : Entry ℕ) (b : Bool) → new ≡ (if b then old ++ x ∷ [] else old) →
+    IsKnown A lanes (is_listed A old) asked → IsKnown A lanes (is_listed A new) asked
+known_kept A lanes asked old new x b is known = subst (λ L. IsKnown A lanes (is_listed A L) asked) (sym is) (by_answer b)
+  where
+    by_answer : (b : Bool) → IsKnown A lanes (is_listed A (if b then old ++ x ∷ [] else old)) asked
+    by_answer true = known_more A lanes (is_listed A old) (is_listed A (old ++ x ∷ [])) asked (λ q t. listed_append A old (x ∷ []) q ∙ or_left (is_listed A old q) (is_listed A (x ∷ []) q) t) known
+    by_answer false = known
+
+-- The candidates of one entry.
+
+-- the candidate with the state b
+abbrev pub grown_number : ℕ → Entry ℕ → ℕ → Entry ℕ
+grown_number states x b = record { node = x.node * states + b; reason = x.reason }
+
+-- the candidates from the state b on
+pub grown_more : (states : ℕ) (x : Entry ℕ) (b : ℕ) → b < states → drop b (grown_numbers states x) ≡ grown_number states x b ∷ drop (b + 1) (grown_numbers states x)
+grown_more states x b l =
+    drop-map (grown_number states x) b (below states)
+    ∙ ap (map (grown_number states x)) (drop_more (below states) b 0 (subst (λ n. b < n) (sym (length-below states)) l) ∙ ap (λ c. c ∷ drop (b + 1) (below states)) (get_or-below states b 0 l))
+    ∙ ap (λ L. grown_number states x b ∷ L) (sym (drop-map (grown_number states x) (b + 1) (below states)))
+
+pub grown_end : (states : ℕ) (x : Entry ℕ) (b : ℕ) → states ≤ b → drop b (grown_numbers states x) ≡ []
+grown_end states x b l = drop_all b (grown_numbers states x) (omega (arith, length-map (below states) (grown_number states x), length-below states))
+
+-- the candidate at hand, whose number is m, is the first of those that are left
+pub state_first : (A : Arena ℕ) (start now : Board) (states : ℕ) (x : Entry ℕ) (b m : ℕ) → IsReplaying A start now (grown_numbers states x) (drop b (grown_numbers states x)) → b < states →
+    m ≡ x.node * states + b → IsReplaying A start now (grown_numbers states x) (entry_of (m, x.reason) ∷ drop (b + 1) (grown_numbers states x))
+state_first A start now states x b m so_far l is =
+    subst (λ (y : Entry ℕ). IsReplaying A start now (grown_numbers states x) (y ∷ drop (b + 1) (grown_numbers states x))) (ap (λ i. entry_of (i, x.reason)) (sym is))
+    (subst (IsReplaying A start now (grown_numbers states x)) (grown_more states x b l) so_far)
+
+-- the number that is computed
+pub state_number : (i states b wide small : ℕ) → wide ≡ states → small ≡ b → i * wide + small ≡ i * states + b
+state_number i states b wide small e f = ap₂ (λ m n. i * m + n) e f
+
+pub state_cost : (A : Arena ℕ) (states : ℕ) (x : Entry ℕ) (b m : ℕ) → b < states → m ≡ x.node * states + b →
+    readings_of_entries A (drop b (grown_numbers states x)) ≡ readings_of_reason A m x.reason + readings_of_entries A (drop (b + 1) (grown_numbers states x))
+state_cost A states x b m l is =
+    ap (readings_of_entries A) (grown_more states x b l)
+    ∙ sum_by-cons (λ (y : Entry ℕ). readings_of_reason A y.node y.reason) (grown_number states x b) (drop (b + 1) (grown_numbers states x))
+    ∙ ap (λ i. readings_of_reason A i x.reason + readings_of_entries A (drop (b + 1) (grown_numbers states x))) (sym is)
+
+-- Those of all entries that wait.
+
+pub entry_first : (A : Arena ℕ) (start now next : Board) (states : ℕ) (all : List (Entry ℕ)) (x : Entry ℕ) → IsReplaying A start now all (flat_map (grown_numbers states) now.waiting) →
+    now.waiting ≡ x ∷ next.waiting → next ≡ record now { waiting = next.waiting } → IsReplaying A start next all (grown_numbers states x ++ flat_map (grown_numbers states) next.waiting)
+entry_first A start now next states all x so_far first rest =
+    replaying_still A start now next all (grown_numbers states x ++ flat_map (grown_numbers states) next.waiting)
+    (subst (λ L. IsReplaying A start now all (flat_map (grown_numbers states) L)) first so_far) rest
+
+pub entry_turn : (A : Arena ℕ) (start now next new : Board) (states : ℕ) (all : List (Entry ℕ)) (x : Entry ℕ) → IsReplaying A start now all (flat_map (grown_numbers states) now.waiting) →
+    now.waiting ≡ x ∷ next.waiting → next ≡ record now { waiting = next.waiting } → new.list ≡ with_replay A next.list (grown_numbers states x) → new ≡ record next { list = new.list } →
+    IsReplaying A start new all (flat_map (grown_numbers states) new.waiting)
+entry_turn A start now next new states all x so_far first rest list kept =
+    subst (λ L. IsReplaying A start new all (flat_map (grown_numbers states) L)) (sym (ap (λ (b : Board). b.waiting) kept))
+    (replaying_part A start next new all (grown_numbers states x) (flat_map (grown_numbers states) next.waiting) (entry_first A start now next states all x so_far first rest) list kept)
+
+pub entry_cost : (A : Arena ℕ) (now next new : Board) (states : ℕ) (x : Entry ℕ) → now.waiting ≡ x ∷ next.waiting → new ≡ record next { list = new.list } →
+    readings_of_entries A (flat_map (grown_numbers states) now.waiting) ≡ readings_of_entries A (grown_numbers states x) + readings_of_entries A (flat_map (grown_numbers states) new.waiting)
+entry_cost A now next new states x first kept =
+    ap (λ W. readings_of_entries A (flat_map (grown_numbers states) W)) first
+    ∙ sum_by-append (λ (y : Entry ℕ). readings_of_reason A y.node y.reason) (grown_numbers states x) (flat_map (grown_numbers states) next.waiting)
+    ∙ ap (λ W. readings_of_entries A (grown_numbers states x) + readings_of_entries A (flat_map (grown_numbers states) W)) (sym (ap (λ (b : Board). b.waiting) kept))
+
+-- the answer to whether a candidate is justified tells the list after it
+pub one_kept : (A : Arena ℕ) (kept new : List (Entry ℕ)) (x : Entry ℕ) (b : Bool) → b ≡ is_justified A (is_listed A kept) x.node x.reason → new ≡ (if b then kept ++ x ∷ [] else kept) →
+    new ≡ with_one A kept x
+one_kept A kept new x b is list = list ∙ ap (λ y. if y then kept ++ x ∷ [] else kept) is
+
+-- Readings.
+
+reading_le : (A : Arena ℕ) (p : ℕ) (reason : Reason) → IsNumbered A → IsTrue (is_possible A p reason) → readings_of_reason A p reason ≤ readings_at A p
+reading_le A p Final ok possible = omega arith
+reading_le A p (Act a) ok possible =
+    let some : sum_by (λ b. count_by (λ k. A.allows p b && A.ready k) (below A.seats)) (a ∷ []) ≤ readings_at A p =
+    sum_by_within (λ b. count_by (λ k. A.allows p b && A.ready k) (below A.seats)) (a ∷ []) (below A.actions) (λ i. absurd i, tt)
+    (λ b i. elim i [ inl e ↦ in_below A.actions b (subst (λ c. c < A.actions) (sym e) (ok.allowed p a possible)) | inr none ↦ absurd none ]) in
+    let same : readings_of A p a ≡ count_by (λ k. A.allows p a && A.ready k) (below A.seats) = readings_of-allowed A p a possible ∙ ap (λ b. count_by (λ k. b && A.ready k) (below A.seats)) (sym possible) in
+    omega (arith, same, sum_by-cons (λ b. count_by (λ k. A.allows p b && A.ready k) (below A.seats)) a [])
+
+entries_le : (A : Arena ℕ) (L : List (Entry ℕ)) → IsNumbered A → ((x : Entry ℕ) → IsIn x L → IsTrue (is_possible A x.node x.reason)) → readings_of_entries A L ≤ sum_by (readings_at A) (nodes_of L)
+entries_le A [] ok possible = omega arith
+entries_le A (x ∷ L) ok possible =
+    let rest : readings_of_entries A L ≤ sum_by (readings_at A) (nodes_of L) = entries_le A L ok (λ y i. possible y (inr i)) in
+    omega (arith, reading_le A x.node x.reason ok (possible x (inl refl)), sum_by-cons (λ (y : Entry ℕ). readings_of_reason A y.node y.reason) x L, sum_by-cons (readings_at A) x.node (nodes_of L))
+
+-- candidates ask no more than one reading of the system
+pub candidates_readings : (A : Arena ℕ) (kept L : List (Entry ℕ)) → IsNumbered A → AreCandidates A kept L → readings_of_entries A L ≤ readings A
+candidates_readings A kept L ok are =
+    let within : sum_by (readings_at A) (nodes_of L) ≤ readings A = readings_within A (nodes_of L) are.once (λ p i. in_nodes p i) in
+    omega (arith, entries_le A L ok are.possible)
+  where
+    in_nodes : (p : ℕ) → IsIn p (nodes_of L) → IsIn p A.nodes
+    in_nodes p i =
+        let (x, j, e) = from_map (λ (x : Entry ℕ). x.node) p L i in
+        subst (IsIn p) (sym ok.nodes) (in_below (length A.nodes) p (subst (λ q. q < length A.nodes) (sym e) (are.nodes x j)))

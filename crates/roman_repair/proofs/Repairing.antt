@@ -1,5 +1,5 @@
 -- What a repair ends in, by the numbers of pairs.
-use Rattle.std.proofs.Common.{◌≡◌, ℕ, ◌+◌, ◌/◌, ◌<◌, true, List, map, length, take, sym, ap, ◌∙◌, arith}
+use Rattle.std.proofs.Common.{◌≡◌, ℕ, ◌+◌, ◌*◌, ◌/◌, ◌<◌, true, List, [], map, length, take, sym, ap, ◌∙◌, subst, arith}
 use Rattle.std.proofs.lemmas.List.{take-map, length-map}
 use Rattle.roman_model.specs.System.{Sys, IsSys}
 use Rattle.roman_model.specs.Arena.{Entry, IsOrder, replay}
@@ -11,12 +11,13 @@ use Rattle.roman_model.proofs.NumberedChanges.{rename_numbers, NumbersReplay, nu
 use Rattle.roman_model.proofs.NumberedArena.{IsNumber, AreNumbers, numbers_rename}
 use Rattle.roman_joint.specs.declared.seat.Seat.{Seat}
 use Rattle.roman_joint.specs.NamedSys.{NamedSys, system_of, IsNamedSys}
-use Rattle.roman_order.specs.Board.{Board, has_entry}
+use Rattle.roman_order.specs.Board.{Board, pairs_of, has_entry}
 use Rattle.roman_relation.specs.Settled.{Begins}
-use Rattle.roman_relation.specs.Greatest.{HasCaps, IsRelation}
+use Rattle.roman_relation.specs.Greatest.{arena_of, HasCaps, IsRelation}
 use Rattle.roman_relation.proofs.Relating.{listed_numbers}
 use Rattle.roman_repair.specs.declared.tally.Tally.{Tally}
-use Rattle.roman_repair.specs.Repairs.{replayed, GoesOnFromReplay, IsRepaired}
+use Rattle.roman_repair.specs.Repairs.{replayed, GoesOnFromReplay, IsRepaired, IsBegun}
+use Rattle.roman_repair.specs.Replays.{candidates, with_replay, IsReplayable}
 
 -- the replay of the renamed old list, over the numbers
 abbrev pub numbers_replayed : Change → Sys → List (Entry ℕ) → List (Entry ℕ)
@@ -38,7 +39,7 @@ pub numbers_order : (s : Sys) (L : List (Entry ℕ)) → IsSys s → AreNumbers 
 numbers_order s L ok are complete = order_named (numbered s) (arena s) (pair_at (sizes_of s)) (IsNumber s) (numbers_rename s ok) L are complete.order
 
 -- what a relation's list has become when it is renamed and replayed
-pub relation_replays : (change : Change) (joint : NamedSys) (order : Board) → IsNamedSys joint → IsRelation joint order → ((p : ℕ) → has_entry order.list p ≡ true → p < order.pairs) →
+pub relation_replays : (change : Change) (joint : NamedSys) (order : Board) → IsNamedSys joint → IsRelation joint order → ((p : ℕ) → has_entry order.list p ≡ true → p < pairs_of order) →
     CanChange change (system_of joint) → NumbersReplay change (system_of joint) order.list
 relation_replays change joint order known relation in_range can =
     let s = system_of joint in
@@ -56,9 +57,21 @@ repaired_from change old_joint old start new_joint new tally replays is system r
 }
 
 -- an order keeps its room for the joint where seats alone have changed
-pub caps_kept : (old_joint new_joint : NamedSys) (seats : List Seat) (old new : Board) → new_joint ≡ record old_joint { seats = seats } → new.cap_pairs ≡ old.cap_pairs → new.cap_cells ≡ old.cap_cells →
-    HasCaps old_joint old → HasCaps new_joint new
-caps_kept old_joint new_joint seats old new joint pairs cells caps =
-    let limit : new_joint.limit ≡ old_joint.limit = ap (λ (n : NamedSys). n.limit) joint in
+pub caps_kept : (old_joint new_joint : NamedSys) (seats : List Seat) (old new : Board) → new_joint ≡ record old_joint { seats = seats } → new.cap_pairs ≡ old.cap_pairs → HasCaps old_joint old →
+    HasCaps new_joint new
+caps_kept old_joint new_joint seats old new joint pairs caps =
     let places : new_joint.limit / (system_of new_joint).env.actions ≡ old_joint.limit / (system_of old_joint).env.actions = ap (λ (n : NamedSys). n.limit / (system_of n).env.actions) joint in
-    record { pairs = omega (arith, places, pairs, caps.pairs); cells = omega (arith, limit, cells, caps.cells) }
+    record { pairs = omega (arith, places, pairs, caps.pairs) }
+
+-- what a replay has listed is a list from which the repair can go on
+pub replayed_begun : (joint : NamedSys) (states : ℕ) (old new : Board) → IsReplayable joint states old → new.list ≡ with_replay (arena_of joint) old.list (candidates states old) →
+    new ≡ record old { list = new.list; waiting = [] } → IsBegun joint new
+replayed_begun joint states old new can list rest = record {
+  valid = subst (IsOrder (arena_of joint)) (sym (list ∙ ap (λ K. with_replay (arena_of joint) K (candidates states old)) can.empty)) can.valid;
+  shaped = record {
+    pairs = ap (λ (b : Board). b.rows * b.lanes) rest ∙ can.shaped.pairs;
+    lanes = ap (λ (b : Board). b.lanes) rest ∙ can.shaped.lanes;
+  };
+  caps = record { pairs = omega (arith, ap (λ (b : Board). b.cap_pairs) rest, can.caps.pairs) };
+  idle = ap (λ (b : Board). b.waiting) rest;
+}

@@ -1,10 +1,10 @@
--- Orders that are reopened for a changed system, and the candidates that wait in them.
-use Rattle.std.proofs.Common.{◌≡◌, ℕ, ◌*◌, ◌<◌, ◌≤◌, Bool, true, false, List, [], length, IsTrue, refl, sym, ap₂, ◌∙◌, subst, arith}
+-- Orders that are reopened for a changed system, and what is replayed in them.
+use Rattle.std.proofs.Common.{◌≡◌, ℕ, ◌+◌, ◌*◌, ◌<◌, ◌≤◌, Bool, true, false, List, [], ◌∷◌, flat_map, length, IsTrue, refl, sym, ap, ap₂, ◌∙◌, subst, arith}
 use Rattle.roman_model.specs.Lists.{below}
 use Rattle.roman_model.specs.System.{Sys}
-use Rattle.roman_model.specs.Arena.{Arena, Entry, is_justified, IsOrder}
-use Rattle.roman_model.specs.Change.{Thaw, after}
-use Rattle.roman_model.specs.Numbers.{sizes_of, count, numbered}
+use Rattle.roman_model.specs.Arena.{Arena, Entry, is_justified, IsOrder, replay}
+use Rattle.roman_model.specs.Change.{Change, after}
+use Rattle.roman_model.specs.Numbers.{Sizes, sizes_of, count, numbered}
 use Rattle.roman_model.specs.declared.reason.Reason.{Reason}
 use Rattle.roman_model.specs.declared.reason.Reason.TheVariants.{Final, Act}
 use Rattle.roman_model.proofs.Lists.{length-below}
@@ -13,14 +13,16 @@ use Rattle.roman_model.proofs.OrderLemmas.{order_new, new_once, order_justified}
 use Rattle.roman_model.proofs.ChangeLemmas.{turned}
 use Rattle.roman_model.proofs.NumberedArena.{AreNumbers}
 use Rattle.roman_model.proofs.NumberedLists.{numbered_is_same}
-use Rattle.roman_model.proofs.NumberedChanges.{number_allows-turned}
+use Rattle.roman_model.proofs.NumberedChanges.{sizes-turned, rename_numbers, NumbersReplay, number_allows-turned}
+use Rattle.roman_radix.specs.Rows.{lanes_of}
 use Rattle.roman_joint.specs.NamedSys.{NamedSys, system_of, IsNamedSys}
-use Rattle.roman_order.specs.Board.{Board, has_entry}
+use Rattle.roman_joint.specs.Rows.{lanes_in}
+use Rattle.roman_order.specs.Board.{Board, pairs_of, has_entry}
+use Rattle.roman_relation.specs.Shaped.{IsShaped}
 use Rattle.roman_relation.specs.Greatest.{arena_of, HasCaps, IsRelation}
-use Rattle.roman_relation.proofs.Relating.{listed_numbers, room_for_pairs, room_for_cells}
-use Rattle.roman_repair.specs.Replays.{is_possible, AreCandidates}
-use Rattle.roman_repair.proofs.Repairing.{numbers_order}
-use Rattle.roman_repair.proofs.Turning.{nodes-turned}
+use Rattle.roman_relation.proofs.Relating.{listed_numbers, room_for_pairs}
+use Rattle.roman_repair.specs.Replays.{is_possible, AreCandidates, candidates, grown_numbers, IsReplayable}
+use Rattle.roman_repair.proofs.Repairing.{numbers_order, numbers_replayed}
 
 -- Candidates.
 
@@ -38,6 +40,9 @@ listed_candidates s L are order = record {
   possible = λ x i. possible_by (numbered s) _ x.node x.reason (order_justified (numbered s) L x order i);
 }
 
+pub nodes-turned : (s : Sys) (k : ℕ) (frozen : Bool) → length (numbered (turned s k frozen)).nodes ≡ length (numbered s).nodes
+nodes-turned s k frozen = ap (λ n. length (below (count n))) (sizes-turned s k frozen)
+
 possible-turned : (s : Sys) (k : ℕ) (frozen : Bool) (p : ℕ) (reason : Reason) → is_possible (numbered (turned s k frozen)) p reason ≡ is_possible (numbered s) p reason
 possible-turned s k frozen p Final = refl
 possible-turned s k frozen p (Act a) = number_allows-turned s k frozen p a
@@ -51,7 +56,7 @@ turned_candidates s k frozen L are = record {
   possible = λ x i. possible-turned s k frozen x.node x.reason ∙ are.possible x i;
 }
 
-pub relation_candidates : (joint : NamedSys) (order : Board) → IsNamedSys joint → IsRelation joint order → ((p : ℕ) → has_entry order.list p ≡ true → p < order.pairs) →
+pub relation_candidates : (joint : NamedSys) (order : Board) → IsNamedSys joint → IsRelation joint order → ((p : ℕ) → has_entry order.list p ≡ true → p < pairs_of order) →
     AreCandidates (arena_of joint) [] order.list
 relation_candidates joint order known relation in_range =
     let are : AreNumbers (system_of joint) order.list = listed_numbers (system_of joint) order relation.shaped.pairs in_range in
@@ -60,19 +65,44 @@ relation_candidates joint order known relation in_range =
 -- Reopened orders.
 
 -- there is room for the pairs of the changed system
-pub room_to_reopen : (joint : NamedSys) (old : Board) (pairs : ℕ) → IsNamedSys joint → HasCaps joint old → pairs ≡ count (sizes_of (system_of joint)) → pairs ≤ old.cap_pairs
-room_to_reopen joint old pairs known caps is = omega (arith, is, room_for_pairs joint old known caps, length-below (count (sizes_of (system_of joint))))
+pub room_to_reopen : (joint : NamedSys) (old : Board) (shape : Sizes) (rows lanes : ℕ) → IsNamedSys joint → HasCaps joint old → shape ≡ sizes_of (system_of joint) →
+    rows * lanes_of shape.seats ≡ count shape → lanes ≡ lanes_of shape.seats → rows * lanes ≤ old.cap_pairs
+room_to_reopen joint old shape rows lanes known caps is whole wide =
+    let pairs : rows * lanes ≡ count (sizes_of (system_of joint)) = ap (λ m. rows * m) wide ∙ whole ∙ ap count is in
+    omega (arith, pairs, room_for_pairs joint old known caps, length-below (count (sizes_of (system_of joint))))
 
-pub cells_to_reopen : (joint : NamedSys) (old : Board) (pairs actions : ℕ) → IsNamedSys joint → HasCaps joint old → pairs ≡ count (sizes_of (system_of joint)) → actions ≡ (system_of joint).env.actions →
-    pairs * actions ≤ old.cap_cells
-cells_to_reopen joint old pairs actions known caps is acts =
-    let cells : pairs * actions ≡ length (below (count (sizes_of (system_of joint)))) * (system_of joint).env.actions = ap₂ (λ m n. m * n) (is ∙ sym (length-below (count (sizes_of (system_of joint))))) acts in
-    omega (arith, cells, room_for_cells joint old known caps)
+pub shaped_for : (s : Sys) (shape : Sizes) (new : Board) → shape ≡ sizes_of s → new.rows * lanes_of shape.seats ≡ count shape → new.lanes ≡ lanes_of shape.seats → IsShaped (numbered s) (lanes_in s) new
+shaped_for s shape new is whole wide = record {
+  pairs = ap (λ m. new.rows * m) wide ∙ whole ∙ ap count is ∙ sym (length-below (count (sizes_of s)));
+  lanes = wide ∙ ap (λ (n : Sizes). lanes_of n.seats) is;
+}
 
--- where a service thaws the whole list waits
-pub thawed_candidates : (k : ℕ) (old_joint joint : NamedSys) (old : List (Entry ℕ)) (reopened : Board) → AreCandidates (arena_of old_joint) [] old → system_of joint ≡ after (Thaw k) (system_of old_joint) →
-    reopened.list ≡ [] → reopened.waiting ≡ old → AreCandidates (arena_of joint) reopened.list reopened.waiting
-thawed_candidates k old_joint joint old reopened are system list waiting =
-    subst (λ (t : Sys). AreCandidates (numbered t) reopened.list reopened.waiting) (sym system)
-    (subst (λ K. AreCandidates (numbered (after (Thaw k) (system_of old_joint))) K reopened.waiting) (sym list)
-    (subst (λ L. AreCandidates (numbered (after (Thaw k) (system_of old_joint))) [] L) (sym waiting) (turned_candidates (system_of old_joint) k false old are)))
+-- the candidates for which the whole list stands are those of the renamed one
+pub those_renamed : (change : Change) (s : Sys) (states : ℕ) (old : List (Entry ℕ)) (reopened : Board) → reopened.waiting ≡ old → flat_map (grown_numbers states) old ≡ rename_numbers change (sizes_of s) old →
+    candidates states reopened ≡ rename_numbers change (sizes_of s) old
+those_renamed change s states old reopened waiting renamed = ap (flat_map (grown_numbers states)) waiting ∙ renamed
+
+-- so their replay is that of the renamed list
+pub replay_renamed : (change : Change) (s : Sys) (joint : NamedSys) (states : ℕ) (old : List (Entry ℕ)) (reopened : Board) → system_of joint ≡ after change s →
+    candidates states reopened ≡ rename_numbers change (sizes_of s) old → replay (arena_of joint) (candidates states reopened) ≡ numbers_replayed change s old
+replay_renamed change s joint states old reopened system those = ap (replay (arena_of joint)) those ∙ ap (λ (t : Sys). replay (numbered t) (rename_numbers change (sizes_of s) old)) system
+
+-- and can go on
+pub replayable : (change : Change) (s : Sys) (joint : NamedSys) (states : ℕ) (old : List (Entry ℕ)) (reopened : Board) → NumbersReplay change s old → system_of joint ≡ after change s →
+    AreCandidates (numbered (after change s)) [] (rename_numbers change (sizes_of s) old) → candidates states reopened ≡ rename_numbers change (sizes_of s) old → reopened.list ≡ [] →
+    IsShaped (arena_of joint) (lanes_in (system_of joint)) reopened → HasCaps joint reopened → IsReplayable joint states reopened
+replayable change s joint states old reopened replays system may those empty shaped caps = record {
+  shaped = shaped;
+  caps = caps;
+  empty = empty;
+  may = subst (λ (t : Sys). AreCandidates (numbered t) [] (candidates states reopened)) (sym system) (subst (AreCandidates (numbered (after change s)) []) (sym those) may);
+  valid = subst (IsOrder (arena_of joint)) (sym (replay_renamed change s joint states old reopened system those))
+      (subst (λ (t : Sys). IsOrder (numbered t) (numbers_replayed change s old)) (sym system) replays.order);
+}
+
+-- where a service thaws each entry stands for its own pair
+pub grown_by_one : (L : List (Entry ℕ)) → flat_map (grown_numbers 1) L ≡ L
+grown_by_one [] = refl
+grown_by_one (x ∷ L) =
+    let same : x.node * 1 + 0 ≡ x.node = omega arith in
+    ap₂ (λ (p : ℕ) (M : List (Entry ℕ)). record { node = p; reason = x.reason } ∷ M) same (grown_by_one L)

@@ -1,13 +1,14 @@
 -- What a repair has done: the relation is complete for the changed system, and its list goes on from the replay.
-use Rattle.std.specs.Prelude.{◌≡◌, ℕ, ◌+◌, ◌*◌, ◌≤◌, List, [], map, length, take, drop}
+use Rattle.std.specs.Prelude.{◌≡◌, ℕ, ◌+◌, ◌≤◌, List, [], map, length, take, drop}
 use Rattle.roman_model.specs.System.{Sys, Pair}
 use Rattle.roman_model.specs.Arena.{Entry, IsOrder, replay, fall, readings}
 use Rattle.roman_model.specs.Composition.{arena}
 use Rattle.roman_model.specs.Change.{Change, rename, after}
 use Rattle.roman_model.specs.Numbers.{numbered, entry_at}
 use Rattle.roman_joint.specs.NamedSys.{NamedSys, system_of}
+use Rattle.roman_joint.specs.Rows.{lanes_in}
 use Rattle.roman_order.specs.Board.{Board}
-use Rattle.roman_relation.specs.Masked.{IsShaped}
+use Rattle.roman_relation.specs.Shaped.{IsShaped}
 use Rattle.roman_relation.specs.Greatest.{arena_of, HasCaps, IsRelation}
 use Rattle.roman_repair.specs.declared.tally.Tally.{Tally}
 
@@ -30,7 +31,7 @@ pub record IsRepaired (change : Change) (old_joint : NamedSys) (old : Board) (ne
 -- a removal list of the joint's system, in an order that is shaped for it and has room, and where nothing waits
 pub record IsBegun (joint : NamedSys) (order : Board) : Type 0 where
   pub valid : IsOrder (arena_of joint) order.list
-  pub shaped : IsShaped (arena_of joint) order
+  pub shaped : IsShaped (arena_of joint) (lanes_in (system_of joint)) order
   pub caps : HasCaps joint order
   pub idle : order.waiting ≡ []
 
@@ -38,6 +39,6 @@ pub record IsBegun (joint : NamedSys) (order : Board) : Type 0 where
 abbrev pub fall_of : NamedSys → Board → Tally → ℕ
 fall_of joint order tally = fall (numbered (system_of joint)) (drop tally.kept order.list)
 
--- the steps are at most the fall and two readings of the new system
-abbrev pub IsWithinTwoReadings : NamedSys → Board → Tally → ℕ → ℕ → Type 0
-IsWithinTwoReadings joint order tally before now = now ≤ before + (fall_of joint order tally + 2 * readings (numbered (system_of joint)))
+-- the steps are at most the fall and one reading of the new system
+abbrev pub IsWithinReading : NamedSys → Board → Tally → ℕ → ℕ → Type 0
+IsWithinReading joint order tally before now = now ≤ before + (fall_of joint order tally + readings (numbered (system_of joint)))

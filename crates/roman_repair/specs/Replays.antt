@@ -1,11 +1,15 @@
 -- What a replay goes over, and what it adds to a list.
-use Rattle.std.specs.Prelude.{ℕ, ◌+◌, ◌*◌, ◌<◌, Bool, true, List, ◌++◌, map, length, sum_by, IsTrue, IsFalse}
+use Rattle.std.specs.Prelude.{◌≡◌, ℕ, ◌+◌, ◌*◌, ◌<◌, Bool, true, List, [], ◌++◌, map, flat_map, length, sum_by, IsTrue, IsFalse}
 use Rattle.roman_model.specs.Lists.{IsIn, HasNoRepeats, below}
-use Rattle.roman_model.specs.Arena.{Arena, Entry, replay_from}
+use Rattle.roman_model.specs.Arena.{Arena, Entry, IsOrder, replay, replay_from}
 use Rattle.roman_model.specs.declared.reason.Reason.{Reason}
 use Rattle.roman_model.specs.declared.reason.Reason.TheVariants.{Final, Act}
-use Rattle.roman_order.specs.Board.{nodes_of, has_entry}
-use Rattle.roman_relation.specs.Masked.{readings_of}
+use Rattle.roman_rules.specs.Asked.{readings_of_reason}
+use Rattle.roman_joint.specs.NamedSys.{NamedSys, system_of}
+use Rattle.roman_joint.specs.Rows.{lanes_in}
+use Rattle.roman_order.specs.Board.{Board, nodes_of, has_entry}
+use Rattle.roman_relation.specs.Shaped.{IsShaped}
+use Rattle.roman_relation.specs.Greatest.{arena_of, HasCaps}
 
 -- the action of the reason, where it names one, is allowed at the node
 abbrev pub is_possible : Arena ℕ → ℕ → Reason → Bool
@@ -23,15 +27,22 @@ pub record AreCandidates (A : Arena ℕ) (kept L : List (Entry ℕ)) : Type 0 wh
 abbrev pub with_replay : Arena ℕ → List (Entry ℕ) → List (Entry ℕ) → List (Entry ℕ)
 with_replay A kept L = kept ++ replay_from A (nodes_of kept) L
 
--- how many seats are asked about a reason
-abbrev pub readings_of_reason : Arena ℕ → ℕ → Reason → ℕ
-readings_of_reason A p Final = 0
-readings_of_reason A p (Act a) = readings_of A p a
-
--- and about those of all candidates
+-- how many seats are asked about the reasons of all candidates
 abbrev pub readings_of_entries : Arena ℕ → List (Entry ℕ) → ℕ
 readings_of_entries A L = sum_by (λ x. readings_of_reason A x.node x.reason) L
 
 -- an entry with each state of a service that comes last, by the numbers of the grown pairs
 abbrev pub grown_numbers : ℕ → Entry ℕ → List (Entry ℕ)
 grown_numbers states x = map (λ b. record { node = x.node * states + b; reason = x.reason }) (below states)
+
+-- the candidates for which the entries that wait stand, each for its pair with each of so many states
+abbrev pub candidates : ℕ → Board → List (Entry ℕ)
+candidates states board = flat_map (grown_numbers states) board.waiting
+
+-- the whole list waits in an empty order for the changed system, which has room, and its replay is a removal list
+pub record IsReplayable (joint : NamedSys) (states : ℕ) (board : Board) : Type 0 where
+  pub shaped : IsShaped (arena_of joint) (lanes_in (system_of joint)) board
+  pub caps : HasCaps joint board
+  pub empty : board.list ≡ []
+  pub may : AreCandidates (arena_of joint) [] (candidates states board)
+  pub valid : IsOrder (arena_of joint) (replay (arena_of joint) (candidates states board))

@@ -26,6 +26,5 @@ pub fn freeze<L: Ledger>(relation: &mut Relation, k: u8, steps: &mut Steps<L>) -
     relation.joint.known();
     relation.order.len();
     relation.joint.set_frozen(k, true);
-    relation.order.clear_all(k);
     settle_on(relation, steps)
 }

@@ -5,21 +5,19 @@ ghost use Rattle.roman_model.specs.Change.{Join, after};
 ghost use Rattle.roman_model.specs.declared.limits.TheConstants.{MAX_SERVICES};
 ghost use Rattle.roman_joint.specs.NamedSys.{seat_of, system_of, cells};
 ghost use Rattle.roman_relation.specs.Greatest.{IsRelation};
-ghost use Rattle.roman_repair.specs.Repairs.{IsRepaired, IsWithinTwoReadings};
-
-mod growing;
+ghost use Rattle.roman_repair.specs.Repairs.{IsRepaired, IsWithinReading};
 
 use crate::error::JoinError;
+use crate::reopening::reopen;
 use crate::settling::replay_and_settle_on;
 use crate::tally::Tally;
-use growing::reopen_grown;
 use roman_io::Steps;
 use roman_joint::{Joint, Seat, SeatError};
 use roman_relation::Relation;
 use std::sync::ledger::Ledger;
 
 /// Adds a service, which is ready and whose name is new, at the last place. The steps are at most as
-/// many as delegations lead to the pairs that are added, and two readings of the new system.
+/// many as delegations lead to the pairs that are added, and a reading of the new system.
 ///
 /// `Full` comes exactly where there are as many services as there may be, and `Limit` exactly where
 /// there are fewer and the system with the service has more cells than the limit. The relation then
@@ -35,7 +33,7 @@ pub fn join<L: Ledger>(
     requires ready { IsFalse seat.frozen }
     ensures joint { OnOk result (relation.new.joint ≡ record relation.old.joint { seats = relation.old.joint.seats ++ seat ∷ [] }) }
     ensures repaired { IfOk result (λ tally. IsRepaired (Join (seat_of relation.old.joint.catalogue seat)) relation.old.joint relation.old.order relation.new.joint relation.new.order tally) }
-    ensures cost { IfOk result (λ tally. IsWithinTwoReadings relation.new.joint relation.new.order tally steps.old steps.new) }
+    ensures cost { IfOk result (λ tally. IsWithinReading relation.new.joint relation.new.order tally steps.old steps.new) }
     ensures full { (result ≡ Err JoinError.Full) ↔ (length relation.old.joint.seats ≡ MAX_SERVICES) }
     ensures limit { (result ≡ Err JoinError.Limit)
         ↔ ((length relation.old.joint.seats < MAX_SERVICES) × (relation.old.joint.limit < cells (after (Join (seat_of relation.old.joint.catalogue seat)) (system_of relation.old.joint)))) }
@@ -43,17 +41,15 @@ pub fn join<L: Ledger>(
 {
     relation.joint.known();
     relation.order.len();
-    let shape = *relation.joint.shape();
     let states = states_of(&relation.joint, &seat);
-    let place = relation.joint.seats();
     match relation.joint.push_seat(seat) {
         Ok(()) => {}
         Err(SeatError::Full) => return Err(JoinError::Full),
         Err(SeatError::Limit) => return Err(JoinError::Limit),
     }
     relation.joint.known();
-    reopen_grown(relation, &shape, states);
-    Ok(replay_and_settle_on(relation, place, steps))
+    reopen(relation);
+    Ok(replay_and_settle_on(relation, states, steps))
 }
 
 /// How many states the service may be in.

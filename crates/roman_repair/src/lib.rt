@@ -2,17 +2,15 @@
 //!
 //! Each call changes the system of a relation by one service and repairs the removal list in place:
 //! the list is renamed to the pairs of the new system, its entries are kept as far as they are still
-//! justified, in their order, and then it is completed. No call takes memory. `specs/Repairs` says
+//! justified, in their order, and then it is completed. Rows are asked, not pairs: what a row answers
+//! about a reason serves the entries of its neighbours. No call takes memory. `specs/Repairs` says
 //! what a repaired relation is.
 #![tactic(auto)]
 
-mod copying;
-mod doubts;
 mod dying;
 mod error;
 mod freezing;
 mod joining;
-mod renewing;
 mod reopening;
 mod replaying;
 mod settling;

@@ -1,30 +1,26 @@
 // The end of every repair: the list is completed, and counted.
-ghost use Rattle.std.specs.Prelude.{◌≡◌, ◌+◌, length};
-ghost use Rattle.roman_model.specs.Arena.{replay};
-ghost use Rattle.roman_relation.specs.Masked.{AreMasks};
+ghost use Rattle.std.specs.Prelude.{◌≡◌, ◌+◌, ◌≤◌, length};
+ghost use Rattle.roman_model.specs.Arena.{replay as replay_of};
 ghost use Rattle.roman_relation.specs.Settled.{Begins};
 ghost use Rattle.roman_relation.specs.Greatest.{arena_of, IsRelation};
-ghost use Rattle.roman_repair.specs.Repairs.{IsBegun, IsWithinTwoReadings, fall_of};
-ghost use Rattle.roman_repair.specs.Doubts.{IsReplayable};
+ghost use Rattle.roman_repair.specs.Repairs.{IsBegun, IsWithinReading, fall_of};
+ghost use Rattle.roman_repair.specs.Replays.{candidates, IsReplayable};
 
-use crate::doubts::first_doubts;
-use crate::renewing::renew_masks;
-use crate::replaying::keep_waiting;
+use crate::replaying::replay;
 use crate::tally::Tally;
 use roman_io::Steps;
 use roman_relation::Relation;
 use std::sync::ledger::Ledger;
 
-/// Goes on from a list, with its masks, to a complete one. Counts what was kept, and what was added.
+/// Goes on from a list to a complete one. Counts what was kept, and what was added.
 pub(crate) fn settle_on<L: Ledger>(relation: &mut Relation, steps: &mut Steps<L>) -> Tally
-    requires begun { IsBegun relation.old.joint relation.old.order }
-    requires masks { AreMasks (arena_of relation.old.joint) relation.old.order.list relation.old.order }
+    requires { IsBegun relation.old.joint relation.old.order }
     ensures joint { relation.new.joint ≡ relation.old.joint }
     ensures relation { IsRelation relation.new.joint relation.new.order }
     ensures begins { Begins relation.old.order.list relation.new.order.list }
     ensures kept { result.kept ≡ length relation.old.order.list }
     ensures added { result.kept + result.added ≡ length relation.new.order.list }
-    ensures cost { steps.new ≡ steps.old + fall_of relation.new.joint relation.new.order result }
+    ensures cost { steps.new ≤ steps.old + fall_of relation.new.joint relation.new.order result }
 {
     let kept = relation.order.len();
     relation.settle(steps);
@@ -34,24 +30,22 @@ pub(crate) fn settle_on<L: Ledger>(relation: &mut Relation, steps: &mut Steps<L>
     }
 }
 
-/// Replays the list that waits, where seat `k` has changed, renews the masks, and goes on to a
-/// complete list. At most one reading goes into the replay, and one into the masks.
+/// Replays the list that waits, each entry for so many pairs, and goes on to a complete one. At most
+/// one reading goes into the replay.
 pub(crate) fn replay_and_settle_on<L: Ledger>(
     relation: &mut Relation,
-    k: u8,
+    states: u8,
     steps: &mut Steps<L>,
 ) -> Tally
-    requires { IsReplayable relation.old.joint relation.old.order k }
+    requires { IsReplayable relation.old.joint states relation.old.order }
     ensures joint { relation.new.joint ≡ relation.old.joint }
     ensures relation { IsRelation relation.new.joint relation.new.order }
-    ensures begins { Begins (replay (arena_of relation.old.joint) relation.old.order.waiting) relation.new.order.list }
-    ensures kept { result.kept ≡ length (replay (arena_of relation.old.joint) relation.old.order.waiting) }
+    ensures begins { Begins (replay_of (arena_of relation.old.joint) (candidates states relation.old.order)) relation.new.order.list }
+    ensures kept { result.kept ≡ length (replay_of (arena_of relation.old.joint) (candidates states relation.old.order)) }
     ensures added { result.kept + result.added ≡ length relation.new.order.list }
-    ensures cost { IsWithinTwoReadings relation.new.joint relation.new.order result steps.old steps.new }
+    ensures cost { IsWithinReading relation.new.joint relation.new.order result steps.old steps.new }
 {
     relation.joint.known();
-    let mut doubts = first_doubts(&relation.joint, k);
-    keep_waiting(&relation.joint, &mut relation.order, &mut doubts, steps);
-    renew_masks(&relation.joint, &mut relation.order, &doubts, steps);
+    replay(&relation.joint, &mut relation.order, states, steps);
     settle_on(relation, steps)
 }

@@ -5,7 +5,7 @@ ghost use Rattle.roman_model.specs.Change.{Thaw};
 ghost use Rattle.roman_joint.specs.NamedSys.{system_of};
 ghost use Rattle.roman_joint.specs.Changes.{with_frozen};
 ghost use Rattle.roman_relation.specs.Greatest.{IsRelation};
-ghost use Rattle.roman_repair.specs.Repairs.{IsRepaired, IsWithinTwoReadings};
+ghost use Rattle.roman_repair.specs.Repairs.{IsRepaired, IsWithinReading};
 
 use crate::reopening::reopen;
 use crate::settling::replay_and_settle_on;
@@ -15,18 +15,18 @@ use roman_relation::Relation;
 use std::sync::ledger::Ledger;
 
 /// Makes the service at place k ready, which is frozen. The steps are at most as many as delegations
-/// lead to the pairs that are added, and two readings of the new system.
+/// lead to the pairs that are added, and a reading of the new system.
 pub fn thaw<L: Ledger>(relation: &mut Relation, k: u8, steps: &mut Steps<L>) -> Tally
     requires relation { IsRelation relation.old.joint relation.old.order }
     requires place { k < length relation.old.joint.seats }
     requires frozen { IsFalse (is_ready (slice_get (system_of relation.old.joint).seats k)) }
     ensures joint { relation.new.joint ≡ record relation.old.joint { seats = with_frozen relation.old.joint.seats k false } }
     ensures repaired { IsRepaired (Thaw k) relation.old.joint relation.old.order relation.new.joint relation.new.order result }
-    ensures cost { IsWithinTwoReadings relation.new.joint relation.new.order result steps.old steps.new }
+    ensures cost { IsWithinReading relation.new.joint relation.new.order result steps.old steps.new }
 {
     relation.joint.known();
     relation.order.len();
     relation.joint.set_frozen(k, false);
     reopen(relation);
-    replay_and_settle_on(relation, k, steps)
+    replay_and_settle_on(relation, 1, steps)
 }

@@ -1,11 +1,14 @@
 // The entries of a removal list after a service's death.
-ghost use Rattle.std.specs.Prelude.{◌≡◌, ℕ, ◌<◌, [], map, length, slice_index};
+ghost use Rattle.std.specs.Prelude.{◌≡◌, ℕ, ◌*◌, ◌<◌, [], length};
 ghost use Rattle.roman_model.specs.System.{Seat};
-ghost use Rattle.roman_model.specs.Change.{Die, CanChange, after, rename};
-ghost use Rattle.roman_model.specs.Numbers.{sizes_of, sizes_without, count, numbered, entry_at};
+ghost use Rattle.roman_model.specs.Change.{Die, CanChange};
+ghost use Rattle.roman_model.specs.Numbers.{sizes_of, sizes_without, count, numbered};
+ghost use Rattle.roman_model.proofs.NumberedChanges.{rename_numbers};
+ghost use Rattle.roman_radix.specs.Rows.{lanes_of};
 ghost use Rattle.roman_joint.specs.NamedSys.{system_of};
-ghost use Rattle.roman_order.specs.Board.{mask_at, entry_of};
-ghost use Rattle.roman_relation.specs.Masked.{IsShaped};
+ghost use Rattle.roman_joint.specs.Rows.{lanes_in};
+ghost use Rattle.roman_order.specs.Board.{pairs_of, entry_of};
+ghost use Rattle.roman_relation.specs.Shaped.{IsShaped};
 ghost use Rattle.roman_repair.specs.Deaths.{list_with};
 
 use super::states::may_go;
@@ -18,7 +21,7 @@ use roman_order::Order;
 fn rename_entry(joint: &Joint, order: &mut Order, k: u8, p: u32, reason: Reason)
     requires seat { k < length joint.now.seats }
     requires pair { p < count (sizes_of (system_of joint.now)) }
-    requires shaped { order.old.pairs ≡ count (sizes_without k (sizes_of (system_of joint.now))) }
+    requires shaped { pairs_of order.old ≡ count (sizes_without k (sizes_of (system_of joint.now))) }
     ensures list { (seat : Seat) → CanChange (Die k seat) (system_of joint.now) →
         order.new.list
         ≡ list_with (sizes_of (system_of joint.now)) k seat order.old.list (entry_of (p, reason)) }
@@ -35,29 +38,24 @@ fn rename_entry(joint: &Joint, order: &mut Order, k: u8, p: u32, reason: Reason)
     }
 }
 
-/// Renames the list to the pairs without service `k`, and shapes the order for them. The masks at
-/// their numbers stay.
+/// Renames the list to the pairs without service `k`, and shapes the order for them.
 pub(crate) fn rename_list(joint: &Joint, order: &mut Order, k: u8)
-    requires shaped { IsShaped (numbered (system_of joint.now)) order.old }
+    requires shaped { IsShaped (numbered (system_of joint.now)) (lanes_in (system_of joint.now)) order.old }
     requires seat { k < length joint.now.seats }
     requires idle { order.old.waiting ≡ [] }
     ensures list { (seat : Seat) → CanChange (Die k seat) (system_of joint.now) →
-        map (entry_at (after (Die k seat) (system_of joint.now))) order.new.list
-        ≡ rename (Die k seat) (map (entry_at (system_of joint.now)) order.old.list) }
-    ensures masks { (p a : ℕ) → p < order.new.pairs → a < order.old.actions →
-        mask_at order.new p a ≡ mask_at order.old p a }
-    ensures rest { order.new ≡ record order.old {
-      pairs = count (sizes_without k (sizes_of (system_of joint.now)));
-      list = order.new.list;
-      masks = order.new.masks;
-      marks = order.new.marks;
-    } }
+        order.new.list ≡ rename_numbers (Die k seat) (sizes_of (system_of joint.now)) order.old.list }
+    ensures pairs { pairs_of order.new ≡ count (sizes_without k (sizes_of (system_of joint.now))) }
+    ensures lanes { order.new.lanes ≡ lanes_of (sizes_without k (sizes_of (system_of joint.now))).seats }
+    ensures caps { order.new.cap_pairs ≡ order.old.cap_pairs }
+    ensures idle { order.new.waiting ≡ [] }
 {
     joint.known();
     let shape = joint.shape();
     shape.known();
     order.len();
-    order.reopen(shape.shrink(k).pairs());
+    let small = shape.shrink(k);
+    order.reopen(small.rows(), small.lanes());
     'waiting: while let Some((p, reason)) = order.next_waiting() {
         rename_entry(joint, order, k, p, reason);
     }

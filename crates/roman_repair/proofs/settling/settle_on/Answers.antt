@@ -1,4 +1,4 @@
-use Rattle.std.proofs.Common.{◌+◌, drop, sym, ap, ap₂, ◌∙◌}
+use Rattle.std.proofs.Common.{◌+◌, ◌≤◌, drop, sym, ap, ap₂, subst}
 use Rattle.roman_model.specs.Arena.{fall}
 use Rattle.roman_joint.specs.NamedSys.{NamedSys}
 use Rattle.roman_relation.specs.Greatest.{arena_of}
@@ -7,5 +7,6 @@ use Rattle.roman_repair.proofs.settling.settle_on.Goals as goal
 
 pub returns-clause-cost : goal.returns-clause-cost
 returns-clause-cost g c =
+    subst (λ m. c.settle.new.steps ≤ m)
+    (ap₂ (λ (n : NamedSys) m. c.args.steps.now + fall (arena_of n) (drop m c.settle.new.self.order.list)) (sym (ap (λ (x : Relation). x.joint) c.settle.ensures.rest)) (sym c.len-kept.ensures.value))
     c.settle.ensures.cost
-    ∙ ap₂ (λ (n : NamedSys) m. c.args.steps.now + fall (arena_of n) (drop m c.settle.new.self.order.list)) (sym (ap (λ (x : Relation). x.joint) c.settle.ensures.rest)) (sym c.len-kept.ensures.value)

@@ -1,30 +1,27 @@
-use Rattle.std.proofs.Common.{◌≡◌, ℕ, ◌*◌, ◌≤◌, ◌<◌, List, [], map, inl, inr, refl, sym, ap, ◌∙◌, subst, arith}
-use Rattle.std.proofs.Math.Nat.{mul-le-mul_right}
+use Rattle.std.proofs.Common.{◌≡◌, ℕ, ◌*◌, ◌≤◌, ◌<◌, List, [], inl, inr, refl, sym, ap, ◌∙◌, subst, arith}
 use Rattle.roman_model.specs.Lists.{IsIn}
 use Rattle.roman_model.specs.Arena.{Entry}
-use Rattle.roman_model.specs.Change.{Die, after}
-use Rattle.roman_model.specs.Numbers.{sizes_of, count, entry_at}
-use Rattle.roman_model.proofs.NumberedChanges.{rename_numbers, numbers_renamed}
+use Rattle.roman_model.specs.Change.{Die}
+use Rattle.roman_model.specs.Numbers.{Sizes, sizes_of, sizes_without, count}
+use Rattle.roman_model.proofs.Lists.{length-below}
+use Rattle.roman_model.proofs.NumberedChanges.{rename_numbers}
+use Rattle.roman_radix.specs.Rows.{lanes_of}
 use Rattle.roman_joint.specs.NamedSys.{system_of}
 use Rattle.roman_order.specs.Board.{Board, entry_of}
 use Rattle.roman_relation.proofs.Relating.{listed_numbers}
 use Rattle.roman_repair.specs.Deaths.{list_with}
-use Rattle.roman_repair.proofs.DeathBlocks.{seat_in_sizes}
-use Rattle.roman_repair.proofs.DeathEntries.{AreLeft, IsRenaming, pairs_left, renaming_step, renaming_end, mask_stays}
+use Rattle.roman_repair.proofs.DeathStates.{seat_in_sizes}
+use Rattle.roman_repair.proofs.DeathEntries.{IsRenaming, renaming_step, renaming_end, fewer_pairs, small_pairs}
 use Rattle.roman_repair.proofs.dying.renaming.rename_list.Goals as goal
 
 pub reopen-requires-clause-pairs : goal.reopen-requires-clause-pairs
 reopen-requires-clause-pairs c =
-    let left : AreLeft (sizes_of (system_of c.args.joint.now)) c.args.k c.pairs.result c.args.order.now =
-    pairs_left c.args.joint.now c.shape-shape.result.now c.shrink.result c.args.k c.pairs.result c.args.order.now c.shape-shape.ensures c.known-2.ensures c.shrink.ensures c.pairs.ensures c.requires.seat c.requires.shaped in
-    omega (arith, left.fewer, c.len.ensures.pairs)
-
-pub reopen-requires-clause-cells : goal.reopen-requires-clause-cells
-reopen-requires-clause-cells c =
-    let left : AreLeft (sizes_of (system_of c.args.joint.now)) c.args.k c.pairs.result c.args.order.now =
-    pairs_left c.args.joint.now c.shape-shape.result.now c.shrink.result c.args.k c.pairs.result c.args.order.now c.shape-shape.ensures c.known-2.ensures c.shrink.ensures c.pairs.ensures c.requires.seat c.requires.shaped in
-    let fewer : c.pairs.result * c.args.order.now.actions ≤ c.args.order.now.pairs * c.args.order.now.actions = mul-le-mul_right c.args.order.now.actions left.fewer in
-    omega (arith, fewer, c.len.ensures.plane)
+    let n = c.args.joint.now in
+    let shape = c.shape-shape.result.now in
+    let small : c.rows.result * c.lanes.result ≡ count (sizes_without c.args.k (sizes_of (system_of n))) =
+    small_pairs n shape c.shrink-small.result c.args.k c.rows.result c.lanes.result c.shape-shape.ensures c.shrink-small.ensures c.rows.ensures c.lanes.ensures.value in
+    let fewer : count (sizes_without c.args.k (sizes_of (system_of n))) ≤ count (sizes_of (system_of n)) = fewer_pairs n shape c.args.k c.shape-shape.ensures c.known-2.ensures c.requires.seat in
+    omega (arith, small, fewer, c.len.ensures.room, c.requires.shaped.pairs, length-below (count (sizes_of (system_of n))))
 
 pub waiting-init : goal.waiting-init
 waiting-init c =
@@ -66,22 +63,30 @@ waiting-preserved c =
           ∙ ap (λ (W : List (Entry ℕ)). record c.reopen.new.self { list = new.list; waiting = W }) (sym waiting);
     }
 
+pub rename_entry-requires-clause-shaped : goal.rename_entry-requires-clause-shaped
+rename_entry-requires-clause-shaped c =
+    let same = c.next_waiting.ensures.rest ∙ ap (λ (y : Board). record y { waiting = c.next_waiting.new.self.waiting }) c.waiting.invariant.rest in
+    ap (λ (y : Board). y.rows * y.lanes) same ∙ ap (λ (y : Board). y.rows * y.lanes) c.reopen.ensures.moved
+    ∙ small_pairs c.args.joint.now c.shape-shape.result.now c.shrink-small.result c.args.k c.rows.result c.lanes.result c.shape-shape.ensures c.shrink-small.ensures c.rows.ensures c.lanes.ensures.value
+
 pub returns-clause-list : goal.returns-clause-list
 returns-clause-list c seat seated =
     let n = sizes_of (system_of c.args.joint.now) in
     let whole = rename_numbers (Die c.args.k seat) n c.args.order.now.list in
-    let done : c.waiting.order.list ≡ whole =
-    renaming_end n c.args.k seat whole c.waiting.order.list
-    (subst (λ W. IsRenaming n c.args.k seat whole c.waiting.order.list W) c.in_default.ensures.none.0 (c.waiting.invariant.list seat seated)) in
-    ap (map (entry_at (after (Die c.args.k seat) (system_of c.args.joint.now)))) (ap (λ (x : Board). x.list) c.in_default.ensures.none.1 ∙ done)
-    ∙ numbers_renamed (Die c.args.k seat) (system_of c.args.joint.now) c.args.order.now.list seated
-    (listed_numbers (system_of c.args.joint.now) c.args.order.now c.requires.shaped.pairs c.len.ensures.in_range)
+    ap (λ (x : Board). x.list) c.in_default.ensures.none.1
+    ∙ renaming_end n c.args.k seat whole c.waiting.order.list (subst (λ W. IsRenaming n c.args.k seat whole c.waiting.order.list W) c.in_default.ensures.none.0 (c.waiting.invariant.list seat seated))
 
-pub returns-clause-masks : goal.returns-clause-masks
-returns-clause-masks c p a l m =
-    let left : AreLeft (sizes_of (system_of c.args.joint.now)) c.args.k c.pairs.result c.args.order.now =
-    pairs_left c.args.joint.now c.shape-shape.result.now c.shrink.result c.args.k c.pairs.result c.args.order.now c.shape-shape.ensures c.known-2.ensures c.shrink.ensures c.pairs.ensures c.requires.seat c.requires.shaped in
+pub returns-clause-pairs : goal.returns-clause-pairs
+returns-clause-pairs c =
     let same = c.in_default.ensures.none.1 ∙ c.waiting.invariant.rest in
-    let pairs : c.next_waiting.new.self.pairs ≡ c.pairs.result = ap (λ (x : Board). x.pairs) same ∙ ap (λ (x : Board). x.pairs) c.reopen.ensures.moved in
-    mask_stays c.reopen.new.self c.next_waiting.new.self p a (ap (λ (x : Board). x.masks) same) (ap (λ (x : Board). x.actions) same)
-    ∙ c.reopen.ensures.kept p a (omega (arith, left.fewer)) m
+    ap (λ (y : Board). y.rows * y.lanes) same ∙ ap (λ (y : Board). y.rows * y.lanes) c.reopen.ensures.moved
+    ∙ small_pairs c.args.joint.now c.shape-shape.result.now c.shrink-small.result c.args.k c.rows.result c.lanes.result c.shape-shape.ensures c.shrink-small.ensures c.rows.ensures c.lanes.ensures.value
+
+pub returns-clause-lanes : goal.returns-clause-lanes
+returns-clause-lanes c =
+    let same = c.in_default.ensures.none.1 ∙ c.waiting.invariant.rest in
+    ap (λ (y : Board). y.lanes) same ∙ ap (λ (y : Board). y.lanes) c.reopen.ensures.moved ∙ c.lanes.ensures.value
+    ∙ ap (λ (m : Sizes). lanes_of m.seats) (c.shrink-small.ensures ∙ ap (sizes_without c.args.k) c.shape-shape.ensures)
+
+pub returns-clause-caps : goal.returns-clause-caps
+returns-clause-caps c = ap (λ (y : Board). y.cap_pairs) (c.in_default.ensures.none.1 ∙ c.waiting.invariant.rest) ∙ ap (λ (y : Board). y.cap_pairs) c.reopen.ensures.moved
