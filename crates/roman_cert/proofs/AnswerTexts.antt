@@ -18,14 +18,12 @@ use Rattle.roman_model.proofs.NumberedArena.{AreNumbers}
 use Rattle.roman_model.proofs.ExplanationRenames.{answer_at}
 use Rattle.roman_joint.specs.NamedSys.{NamedSys, system_of, seat_of, IsNamedSys}
 use Rattle.roman_joint.specs.Names.{names_of}
-use Rattle.roman_order.specs.Board.{Board, entry_of, has_entry}
-use Rattle.roman_relation.specs.Masked.{IsShaped}
+use Rattle.roman_order.specs.Board.{Board, pairs_of, entry_of, has_entry}
 use Rattle.roman_relation.specs.Greatest.{arena_of}
-use Rattle.roman_relation.proofs.Closing.{entry_in}
-use Rattle.roman_relation.proofs.Relating.{listed_numbers}
 use Rattle.roman_text.proofs.Filling.{IsFilling}
 use Rattle.roman_cert.specs.Slices.{answers_text}
 use Rattle.roman_cert.proofs.Texts.{text_of-append}
+use Rattle.roman_cert.proofs.Answering.{entry_in, listed_numbers}
 
 numbers_from : (n k : ℕ) → k < n → drop k (below n) ≡ k ∷ drop (k + 1) (below n)
 numbers_from n k l =
@@ -77,11 +75,11 @@ ready_next n L p a k found bytes sys are l within ready is said =
     ∙ ap (λ (o : Option Pair). text_of (answer_line (names_of n) k o ∷ []) ++ text_of (map line rest)) (sym (answer_at s sys L are p l a k) ∙ ap (option_map (pair_at (sizes_of s))) (sym is))
     ∙ ap (λ (bs : List ℕ). bs ++ text_of (map line rest)) (sym said)
 
-pub answers_next : (n : NamedSys) (board : Board) (i : ℕ) (x : Entry ℕ) (a k : ℕ) (found : Option ℕ) (bytes : List ℕ) → IsNamedSys n → IsShaped (arena_of n) board → ((p : ℕ) → has_entry board.list p ≡ true → p < board.pairs) →
+pub answers_next : (n : NamedSys) (board : Board) (i : ℕ) (x : Entry ℕ) (a k : ℕ) (found : Option ℕ) (bytes : List ℕ) → IsNamedSys n → pairs_of board ≡ length (arena_of n).nodes → ((p : ℕ) → has_entry board.list p ≡ true → p < pairs_of board) →
     slice_get board.list i ≡ Some x → k < length n.seats → IsTrue ((arena_of n).ready k) → found ≡ answer (arena_of n) board.list x.node a k → bytes ≡ text_of (answer_line (names_of n) k (option_map (pair_at (sizes_of (system_of n))) found) ∷ []) →
     answers_from n board.list x.node a k ≡ bytes ++ answers_from n board.list x.node a (k + 1)
 answers_next n board i x a k found bytes known shaped in_range e within ready is said =
-    let are : AreNumbers (system_of n) board.list = listed_numbers (system_of n) board shaped.pairs in_range in
+    let are : AreNumbers (system_of n) board.list = listed_numbers (system_of n) board shaped in_range in
     ready_next n board.list x.node a k found bytes known.system are (are x (entry_in board.list i x e)) within ready is said
 
 -- a seat that isn't ready is passed over

@@ -1,5 +1,5 @@
 -- The parts of a certificate, and its verdict.
-use Rattle.std.proofs.Common.{◌≡◌, ℕ, ◌+◌, ◌*◌, ◌/◌, ◌<◌, ◌≤◌, List, [], ◌∷◌, ◌++◌, map, length, drop, codes, Option, Some, Result, Ok, Err, OnOk, refl, sym, ap, ◌∙◌, inl, inr, arith, mul-le-mul}
+use Rattle.std.proofs.Common.{◌≡◌, ℕ, ◌+◌, ◌*◌, ◌/◌, ◌<◌, ◌≤◌, List, [], ◌∷◌, ◌++◌, map, length, drop, codes, Option, Some, Result, Ok, Err, OnOk, decimal, append_assoc, append-nil, refl, sym, ap, ◌∙◌, inl, inr, arith, mul-le-mul}
 use Rattle.std.specs.List.{slice_get}
 use Rattle.std.proofs.lemmas.List.{drop_all}
 use Rattle.std.proofs.Math.Nat.{div-lt_iff_lt-mul}
@@ -9,7 +9,7 @@ use Rattle.roman_model.specs.Lines.{text_of}
 use Rattle.roman_model.specs.System.{Sys, Seat, IsSys, IsPair}
 use Rattle.roman_model.specs.Arena.{Entry}
 use Rattle.roman_model.specs.Numbers.{sizes_of, count, pair_at, entry_at, IsCompleteList}
-use Rattle.roman_model.specs.Certificate.{head_line, count_line, end_line, entry_line, cert_text, IsWithinCells}
+use Rattle.roman_model.specs.Certificate.{head_line, count_line, end_line, reason_text, entry_line, cert_text, IsWithinCells}
 use Rattle.roman_model.proofs.Lists.{in_map}
 use Rattle.roman_model.proofs.NumberedArena.{AreNumbers}
 use Rattle.roman_model.proofs.CertificateLaws.{written_is_greatest}
@@ -30,6 +30,10 @@ cert_next L i x bytes e is =
     ap (λ M. text_of (map entry_line M ++ end_line ∷ [])) (drop_at L i x e)
     ∙ text_of-append (entry_line x ∷ []) (map entry_line (drop (i + 1) L) ++ end_line ∷ [])
     ∙ ap (λ (bs : List ℕ). bs ++ rest_from L (i + 1)) (sym is)
+
+-- the line of an entry: the number of its pair, a space and the reason
+pub entry_parts : (x : Entry ℕ) → decimal x.node ++ (32 ∷ (reason_text x.reason ++ 10 ∷ [])) ≡ text_of (entry_line x ∷ [])
+entry_parts x = sym (append-nil (entry_line x ++ 10 ∷ []) ∙ append_assoc (decimal x.node) (32 ∷ reason_text x.reason) (10 ∷ []))
 
 pub cert_ends : (L : List (Entry ℕ)) (i : ℕ) → length L ≤ i → rest_from L i ≡ codes "end\n" ++ []
 cert_ends L i past = ap (λ M. text_of (map entry_line M ++ end_line ∷ [])) (drop_all i L past)

@@ -12,7 +12,7 @@ use Rattle.roman_model.proofs.Lists.{same_test, any_true, any_from, any_within, 
 use Rattle.roman_model.proofs.ArenaLemmas.{IsSame, among_in}
 use Rattle.roman_model.proofs.WorkLemmas.{order_middle}
 use Rattle.roman_model.proofs.ExplanationLemmas.{before_falls, before_is, answer_before, rests_is}
-use Rattle.roman_joint.specs.Numbered.{IsNumbered}
+use Rattle.roman_rules.specs.Numbered.{IsNumbered}
 use Rattle.roman_cert.proofs.Texts.{drop_at, some_at}
 use Rattle.roman_cert.proofs.Answering.{entries_at, unready_answer}
 

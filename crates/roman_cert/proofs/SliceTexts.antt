@@ -9,22 +9,19 @@ use Rattle.roman_model.specs.declared.reason.Reason.{Reason}
 use Rattle.roman_model.specs.declared.reason.Reason.TheVariants.{Final, Act}
 use Rattle.roman_model.proofs.NumberedLists.{numbered_is_arena}
 use Rattle.roman_joint.specs.NamedSys.{NamedSys, system_of, IsNamedSys}
-use Rattle.roman_order.specs.Board.{Board, has_entry, is_marked}
-use Rattle.roman_relation.specs.Masked.{IsShaped}
+use Rattle.roman_order.specs.Board.{Board, pairs_of, has_entry, is_marked}
 use Rattle.roman_relation.specs.Greatest.{arena_of}
-use Rattle.roman_relation.proofs.Closing.{entry_in}
-use Rattle.roman_relation.proofs.Relating.{listed_numbers}
 use Rattle.roman_cert.specs.Reasons.{IsReasonOf}
 use Rattle.roman_cert.specs.Slices.{lost_text, answers_text, entry_text, marked_entries, slice_text}
 use Rattle.roman_cert.proofs.Texts.{drop_at}
-use Rattle.roman_cert.proofs.Answering.{entry_allowed}
+use Rattle.roman_cert.proofs.Answering.{entry_in, listed_numbers, entry_allowed}
 
 -- An entry
 
 -- the entry at a place is of a pair of the system
-pub entry_pair : (n : NamedSys) (board : Board) (i : ℕ) (x : Entry ℕ) → IsShaped (arena_of n) board → ((p : ℕ) → has_entry board.list p ≡ true → p < board.pairs) → slice_get board.list i ≡ Some x →
+pub entry_pair : (n : NamedSys) (board : Board) (i : ℕ) (x : Entry ℕ) → pairs_of board ≡ length (arena_of n).nodes → ((p : ℕ) → has_entry board.list p ≡ true → p < pairs_of board) → slice_get board.list i ≡ Some x →
     x.node < count (sizes_of (system_of n))
-entry_pair n board i x shaped in_range e = listed_numbers (system_of n) board shaped.pairs in_range x (entry_in board.list i x e)
+entry_pair n board i x shaped in_range e = listed_numbers (system_of n) board shaped in_range x (entry_in board.list i x e)
 
 -- its reason names an action of the system
 pub entry_reason : (n : NamedSys) (L : List (Entry ℕ)) (i : ℕ) (x : Entry ℕ) → IsNamedSys n → IsOrder (arena_of n) L → slice_get L i ≡ Some x → IsReasonOf (system_of n).env.actions x.reason

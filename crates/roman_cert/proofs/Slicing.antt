@@ -1,5 +1,5 @@
 -- The explanation of a pair, as it is printed and as a refutation.
-use Rattle.std.proofs.Common.{◌≡◌, ℕ, ◌<◌, Bool, List, [], ◌∷◌, ◌++◌, map, filter, flat_map, length, codes, Option, Result, IsTrue, refl, sym, ap, ap₂, ◌∙◌, subst}
+use Rattle.std.proofs.Common.{◌≡◌, ℕ, ◌<◌, List, [], ◌∷◌, ◌++◌, map, filter, flat_map, length, codes, Option, Result, IsTrue, refl, sym, ap, ap₂, ◌∙◌, subst}
 use Rattle.roman_io.specs.Sink.{Puts}
 use Rattle.roman_model.specs.Lines.{text_of}
 use Rattle.roman_model.specs.Arena.{Entry, is_listed}
@@ -15,7 +15,7 @@ use Rattle.roman_model.proofs.ExplanationRenames.{explanation_at}
 use Rattle.roman_model.proofs.PlayLemmas.{order_won}
 use Rattle.roman_joint.specs.NamedSys.{NamedSys, system_of, IsNamedSys}
 use Rattle.roman_joint.specs.Names.{names_of}
-use Rattle.roman_order.specs.Board.{Board, is_marked, mask_at}
+use Rattle.roman_order.specs.Board.{Board, is_marked}
 use Rattle.roman_relation.specs.Greatest.{arena_of, IsRelation}
 use Rattle.roman_cert.specs.Slices.{lost_text, answers_text, entry_text, marked_entries, slice_text}
 use Rattle.roman_cert.proofs.Texts.{text_of-append}
@@ -86,10 +86,9 @@ unrelated_wins n L p known complete l unrelated =
 -- What stays
 
 -- a relation is one whatever its marks
-pub marks_keep : (n : NamedSys) (board : Board) (marks : List Bool) → IsRelation n board → IsRelation n (record board { marks = marks })
-unfolding mask_at
+pub marks_keep : (n : NamedSys) (board : Board) (marks : List ℕ) → IsRelation n board → IsRelation n (record board { marks = marks })
 marks_keep n board marks relation = record {
-  complete = record { list = relation.complete.list; masks = record { each = relation.complete.masks.each }; idle = relation.complete.idle };
-  shaped = record { pairs = relation.shaped.pairs; actions = relation.shaped.actions };
-  caps = record { pairs = relation.caps.pairs; cells = relation.caps.cells };
+  complete = record { list = relation.complete.list; idle = relation.complete.idle; levels = relation.complete.levels };
+  shaped = record { pairs = relation.shaped.pairs; lanes = relation.shaped.lanes };
+  caps = record { pairs = relation.caps.pairs };
 }

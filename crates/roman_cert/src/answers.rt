@@ -2,18 +2,17 @@
 ghost use Rattle.std.specs.Prelude.{◌≡◌, ◌<◌, length, take, slice_get, Some, IfSome};
 ghost use Rattle.roman_model.specs.Arena.{IsOrder};
 ghost use Rattle.roman_model.specs.Explanation.{answer as answer_of};
-ghost use Rattle.roman_order.specs.Board.{entry_of, has_entry};
-ghost use Rattle.roman_relation.specs.Masked.{IsShaped};
+ghost use Rattle.roman_order.specs.Board.{pairs_of, entry_of, has_entry};
 
 use roman_io::Steps;
-use roman_joint::{Finding, Rules};
 use roman_model::Reason;
 use roman_order::Order;
+use roman_rules::{Finding, Rules};
 use std::sync::ledger::Ledger;
 
 /// Whether the pair `q` stands in the list before place `i`.
 fn is_before(order: &Order, i: u32, q: u32) -> bool
-    requires { q < order.now.pairs }
+    requires { q < pairs_of order.now }
     ensures { result ≡ has_entry (take i order.now.list) q }
 {
     match order.stamp(q) {
@@ -34,7 +33,7 @@ pub(crate) fn answer<J: Rules, L: Ledger>(
     k: u8,
     steps: &mut Steps<L>,
 ) -> Option<u32>
-    requires shaped { IsShaped (J.arena joint.now) order.now }
+    requires shaped { pairs_of order.now ≡ length (J.arena joint.now).nodes }
     requires valid { IsOrder (J.arena joint.now) order.now.list }
     requires entry { slice_get order.now.list i ≡ Some (entry_of (p, Reason.Act a)) }
     requires seat { k < (J.arena joint.now).seats }

@@ -1,7 +1,8 @@
 //! The certificate of a relation.
-ghost use Rattle.std.specs.Prelude.{◌≡◌, ◌++◌, [], ◌∷◌, OnOk};
+ghost use Rattle.std.specs.Prelude.{◌≡◌, ◌++◌, [], ◌∷◌, OnOk, decimal};
 ghost use Rattle.roman_io.specs.Faults.{HasCause};
 ghost use Rattle.roman_io.specs.Sink.{Puts};
+ghost use Rattle.roman_text.specs.Pages.{Gathers};
 ghost use Rattle.roman_model.specs.Lines.{text_of};
 ghost use Rattle.roman_model.specs.Certificate.{head_line, count_line, entry_line, cert_text};
 ghost use Rattle.roman_model.specs.Numbers.{sizes_of, count, IsCompleteList};
@@ -10,10 +11,10 @@ ghost use Rattle.roman_order.specs.Board.{entry_of};
 ghost use Rattle.roman_cert.specs.Certified.{WroteGreatest};
 
 use roman_io::{Failed, Sink};
-use roman_joint::Rules;
 use roman_model::Reason;
 use roman_order::Order;
 use roman_relation::Relation;
+use roman_rules::Rules;
 use roman_text::{Page, Piece};
 
 /// Writes the certificate of a relation: its removal list. Where the list is complete, a checker
@@ -42,8 +43,7 @@ pub(crate) fn write_list<O: Sink>(pairs: u32, order: &Order, out: &mut O) -> Res
     page.push(head.bytes(), out)?;
     for i in 0..order.len() {
         let (pair, reason) = order.entry(i);
-        let line = entry_piece(pair, reason);
-        page.push(line.bytes(), out)?;
+        push_entry(pair, reason, &mut page, out)?;
     }
     page.push(b"end\n", out)?;
     page.flush(out)
@@ -57,13 +57,31 @@ fn head_piece(pairs: u32) -> Piece
     text.number(pairs).text(b"\n")
 }
 
-/// The line of an entry.
-fn entry_piece(pair: u32, reason: Reason) -> Piece
-    ensures { result ≡ text_of (entry_line (entry_of (pair, reason)) ∷ []) }
+/// Takes the line of an entry.
+fn push_entry<O: Sink>(
+    pair: u32,
+    reason: Reason,
+    page: &mut Page,
+    out: &mut O,
+) -> Result<(), Failed>
+    ensures gathers { Gathers (O.written out.old) (O.written out.new) page.new
+        (page.old ++ text_of (entry_line (entry_of (pair, reason)) ∷ [])) result }
+    ensures cause { HasCause (O.faults out.old) (O.faults out.new) result }
 {
-    let text = Piece::new().number(pair).text(b" ");
+    page.push_number(pair, out)?;
     match reason {
-        Reason::Final => text.text(b"f\n"),
-        Reason::Act(action) => text.number(u32::from(action)).text(b"\n"),
+        Reason::Final => page.push(b" f\n", out),
+        Reason::Act(action) => push_action(action, page, out),
     }
+}
+
+/// Takes the end of the line of an entry, whose reason is the action.
+fn push_action<O: Sink>(action: u8, page: &mut Page, out: &mut O) -> Result<(), Failed>
+    ensures gathers { Gathers (O.written out.old) (O.written out.new) page.new
+        (page.old ++ 32 ∷ (decimal action ++ 10 ∷ [])) result }
+    ensures cause { HasCause (O.faults out.old) (O.faults out.new) result }
+{
+    page.push(b" ", out)?;
+    page.push_number(u32::from(action), out)?;
+    page.push(b"\n", out)
 }

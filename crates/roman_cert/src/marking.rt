@@ -2,14 +2,13 @@
 ghost use Rattle.std.specs.Prelude.{◌≡◌, ℕ, ◌<◌, ◌&&◌, ◌||◌, length, slice_get, Some};
 ghost use Rattle.roman_model.specs.Arena.{Entry, is_among, IsOrder};
 ghost use Rattle.roman_model.specs.Explanation.{answers, rests_on};
-ghost use Rattle.roman_order.specs.Board.{entry_of, is_marked};
-ghost use Rattle.roman_relation.specs.Masked.{IsShaped};
+ghost use Rattle.roman_order.specs.Board.{pairs_of, entry_of, is_marked};
 
 use crate::answers::answer;
 use roman_io::Steps;
-use roman_joint::Rules;
 use roman_model::Reason;
 use roman_order::Order;
+use roman_rules::Rules;
 use std::sync::ledger::Ledger;
 
 /// Marks the entries on which that of the pair `p` rests, its own among them, and no others. Since
@@ -20,7 +19,7 @@ pub(crate) fn mark_slice<J: Rules, L: Ledger>(
     p: u32,
     steps: &mut Steps<L>,
 )
-    requires shaped { IsShaped (J.arena joint.now) order.old }
+    requires shaped { pairs_of order.old ≡ length (J.arena joint.now).nodes }
     requires valid { IsOrder (J.arena joint.now) order.old.list }
     requires pair { p < length (J.arena joint.now).nodes }
     ensures marked { let L = order.old.list in
@@ -37,7 +36,7 @@ pub(crate) fn mark_slice<J: Rules, L: Ledger>(
 
 /// Marks the defeating answers to the entry at place `i`, where that is marked.
 fn visit<J: Rules, L: Ledger>(joint: &J, order: &mut Order, i: u32, steps: &mut Steps<L>)
-    requires shaped { IsShaped (J.arena joint.now) order.old }
+    requires shaped { pairs_of order.old ≡ length (J.arena joint.now).nodes }
     requires valid { IsOrder (J.arena joint.now) order.old.list }
     requires place { i < length order.old.list }
     ensures marked { let A = J.arena joint.now in
@@ -67,7 +66,7 @@ fn mark_answers<J: Rules, L: Ledger>(
     a: u8,
     steps: &mut Steps<L>,
 )
-    requires shaped { IsShaped (J.arena joint.now) order.old }
+    requires shaped { pairs_of order.old ≡ length (J.arena joint.now).nodes }
     requires valid { IsOrder (J.arena joint.now) order.old.list }
     requires entry { slice_get order.old.list i ≡ Some (entry_of (p, Reason.Act a)) }
     ensures marked { let A = J.arena joint.now in

@@ -10,7 +10,7 @@ ghost use Rattle.roman_model.specs.Numbers.{sizes_of, count, pair_at, entry_at};
 ghost use Rattle.roman_model.specs.Play.{OpponentWins};
 ghost use Rattle.roman_joint.specs.NamedSys.{system_of};
 ghost use Rattle.roman_joint.specs.Names.{names_of};
-ghost use Rattle.roman_relation.specs.Masked.{IsShaped};
+ghost use Rattle.roman_order.specs.Board.{pairs_of};
 ghost use Rattle.roman_relation.specs.Greatest.{arena_of, IsRelation};
 ghost use Rattle.roman_cert.specs.Slices.{answers_text, entry_text, marked_entries, slice_text};
 
@@ -18,10 +18,11 @@ use crate::answers::answer;
 use crate::lines::{answer_piece, push_lost};
 use crate::marking::mark_slice;
 use roman_io::{Failed, Sink, Steps};
-use roman_joint::{Joint, Rules};
+use roman_joint::Joint;
 use roman_model::Reason;
 use roman_order::Order;
 use roman_relation::Relation;
+use roman_rules::Rules;
 use roman_text::Page;
 use std::sync::ledger::Ledger;
 
@@ -70,7 +71,7 @@ fn write_marked<O: Sink, L: Ledger>(
     out: &mut O,
     steps: &mut Steps<L>,
 ) -> Result<(), Failed>
-    requires shaped { IsShaped (arena_of joint.now) order.now }
+    requires shaped { pairs_of order.now ≡ length (arena_of joint.now).nodes }
     requires valid { IsOrder (arena_of joint.now) order.now.list }
     ensures text { Puts (O.written out.old) (O.written out.new)
         (slice_text joint.now order.now.list (marked_entries order.now)) result }
@@ -98,7 +99,7 @@ fn push_entry<O: Sink, L: Ledger>(
     out: &mut O,
     steps: &mut Steps<L>,
 ) -> Result<(), Failed>
-    requires shaped { IsShaped (arena_of joint.now) order.now }
+    requires shaped { pairs_of order.now ≡ length (arena_of joint.now).nodes }
     requires valid { IsOrder (arena_of joint.now) order.now.list }
     requires place { i < length order.now.list }
     ensures gathers { (x : Entry ℕ) → slice_get order.now.list i ≡ Some x →
@@ -122,7 +123,7 @@ fn push_answers<O: Sink, L: Ledger>(
     out: &mut O,
     steps: &mut Steps<L>,
 ) -> Result<(), Failed>
-    requires shaped { IsShaped (arena_of joint.now) order.now }
+    requires shaped { pairs_of order.now ≡ length (arena_of joint.now).nodes }
     requires valid { IsOrder (arena_of joint.now) order.now.list }
     requires place { i < length order.now.list }
     ensures gathers { (x : Entry ℕ) → slice_get order.now.list i ≡ Some x →

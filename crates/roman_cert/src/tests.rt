@@ -6,8 +6,8 @@ use std::test::Fail;
 
 #[test]
 fn a_list_is_written(rt: HostRuntime) -> Result<(), Fail> {
-    let mut order = Order::build(rt.alloc(), 6, 0)?;
-    order.shape_to(6, 0);
+    let mut order = Order::build(rt.alloc(), 6)?;
+    order.shape_to(2, 3);
     order.push(1, Reason::Final);
     order.push(2, Reason::Act(0));
     order.push(3, Reason::Act(1));

@@ -1,27 +1,32 @@
 -- Lines that are judged by those that were read.
-use Rattle.std.proofs.Common.{◌≡◌, ℕ, ◌<◌, ◌≤◌, Bool, true, false, not, ◌||◌, List, [], ◌∷◌, ◌++◌, length, drop, Option, Some, None, IsTrue, IsFalse, if◌then◌else◌, option_map, refl, sym, ap, ◌∙◌, subst, arith, append-nil}
+use Rattle.std.proofs.Common.{◌≡◌, ℕ, ◌+◌, ◌*◌, ◌<◌, ◌≤◌, ◌==◌, Bool, true, false, not, ◌||◌, List, [], ◌∷◌, ◌++◌, length, drop, Option, Some, None, IsTrue, IsFalse, if◌then◌else◌, option_map, find, refl, sym, ap, ◌∙◌, subst, arith, append-nil}
 use Rattle.std.specs.List.{list_any, cons_option}
-use Rattle.std.proofs.lemmas.Bool.{cond-true, cond-false}
+use Rattle.std.proofs.lemmas.Bool.{cond-true, cond-false, not-true, not-false}
 use Rattle.std.proofs.lemmas.List.Folds.{list_any-append}
 use Rattle.std.proofs.lemmas.List.Elements.{filter_map-append}
 use Rattle.roman_model.specs.Lists.{IsIn}
 use Rattle.roman_model.specs.System.{same_numbers}
 use Rattle.roman_model.specs.Arena.{Arena, Entry, is_listed, is_justified}
 use Rattle.roman_model.specs.Certificate as text
-use Rattle.roman_model.specs.Certificate.{head_line, count_line, end_line, reasons, possible_entries, entry_of, entries_on, unless_over, entry_fault, body_fault, line_fault}
+use Rattle.roman_model.specs.Certificate.{head_line, count_line, end_line, reasons, possible_entries, entry_of, entries_on, could_be_listed, unless_over, end_fault, entry_fault, body_fault, line_fault}
 use Rattle.roman_model.proofs.SystemLemmas.{same_numbers_is}
 use Rattle.roman_model.proofs.CertificateLemmas.{AreFew, from_possible, entry_of-is, entry_of_other}
 use Rattle.roman_model.proofs.VerdictLemmas.{fault_in_body, fault_after_end}
-use Rattle.roman_order.specs.Board.{has_entry}
-use Rattle.roman_joint.specs.Numbered.{IsNumbered}
+use Rattle.roman_model.specs.declared.reason.Reason.{Reason}
+use Rattle.roman_model.specs.declared.reason.Reason.TheVariants.{Final, Act}
+use Rattle.roman_lanes.specs.Rows.{AreRows}
+use Rattle.roman_rules.specs.Asked.{IsKnown, IsReasonOf}
+use Rattle.roman_rules.proofs.Asking.{known_more}
+use Rattle.roman_rules.specs.Numbered.{IsNumbered}
 use Rattle.roman_check.specs.declared.audit.Audit.{Audit}
 use Rattle.roman_check.specs.declared.audit.Due.{Due}
 use Rattle.roman_check.specs.declared.audit.Due.TheVariants.{Head, Count, Body, Nothing}
 use Rattle.roman_check.specs.declared.verdict.Why.{Why}
 use Rattle.roman_check.specs.declared.verdict.Why.TheVariants.{Form}
 use Rattle.roman_check.specs.Verdicts.{fault_of}
-use Rattle.roman_check.specs.Audits.{due_after, HasRead, Judges}
-use Rattle.roman_check.proofs.ReasonLemmas.{listed_from, unlisted_from}
+use Rattle.roman_check.specs.Remain.{Remain}
+use Rattle.roman_check.specs.Audits.{due_after, IsShaped, HasListed, HasRead, Judges}
+use Rattle.roman_check.proofs.ReasonLemmas.{given_action, row_within}
 
 -- Entries
 
@@ -35,21 +40,68 @@ few_numbered A ok =
 pub entry_given : (pairs actions : ℕ) (line : List ℕ) (x : Entry ℕ) → Some x ≡ entry_of pairs actions line → (x.node < pairs) × IsIn x.reason (reasons actions)
 entry_given pairs actions line x e = from_possible pairs actions x (entry_of-is pairs actions line x (sym e)).0
 
-module _ (A : Arena ℕ) (ok : IsNumbered A) (L : List (Entry ℕ)) (x : Entry ℕ) (o : Option (Entry ℕ)) (e : Some x ≡ o) where
+module _ (A : Arena ℕ) (L : List (Entry ℕ)) (x : Entry ℕ) (o : Option (Entry ℕ)) (e : Some x ≡ o) where
   abbrev rest : Option text.Why
   rest = if is_justified A (is_listed A L) x.node x.reason then None else Some text.Unjustified
 
-  pub repeated_entry : false ≡ not (has_entry L x.node) → Some text.Repeated ≡ entry_fault A L o
-  repeated_entry listed = sym (ap (entry_fault A L) (sym e) ∙ cond-true (is_listed A L x.node) (Some text.Repeated) rest (listed_from A ok L x.node listed))
+  pub repeated_entry : false ≡ not (is_listed A L x.node) → Some text.Repeated ≡ entry_fault A L o
+  repeated_entry listed = sym (ap (entry_fault A L) (sym e) ∙ cond-true (is_listed A L x.node) (Some text.Repeated) rest (not-false (is_listed A L x.node) (sym listed)))
 
-  new_entry : true ≡ not (has_entry L x.node) → entry_fault A L o ≡ rest
-  new_entry new = ap (entry_fault A L) (sym e) ∙ cond-false (is_listed A L x.node) (Some text.Repeated) rest (unlisted_from A ok L x.node new)
+  new_entry : true ≡ not (is_listed A L x.node) → entry_fault A L o ≡ rest
+  new_entry new = ap (entry_fault A L) (sym e) ∙ cond-false (is_listed A L x.node) (Some text.Repeated) rest (not-true (is_listed A L x.node) (sym new))
 
-  pub unjustified_entry : true ≡ not (has_entry L x.node) → IsFalse (is_justified A (is_listed A L) x.node x.reason) → Some text.Unjustified ≡ entry_fault A L o
+  pub unjustified_entry : true ≡ not (is_listed A L x.node) → IsFalse (is_justified A (is_listed A L) x.node x.reason) → Some text.Unjustified ≡ entry_fault A L o
   unjustified_entry new fails = sym (new_entry new ∙ cond-false (is_justified A (is_listed A L) x.node x.reason) None (Some text.Unjustified) fails)
 
-  pub clean_entry : true ≡ not (has_entry L x.node) → IsTrue (is_justified A (is_listed A L) x.node x.reason) → None ≡ entry_fault A L o
+  pub clean_entry : true ≡ not (is_listed A L x.node) → IsTrue (is_justified A (is_listed A L) x.node x.reason) → None ≡ entry_fault A L o
   clean_entry new holds = sym (new_entry new ∙ cond-true (is_justified A (is_listed A L) x.node x.reason) None (Some text.Unjustified) holds)
+
+-- the pairs of the entries, with one more
+listed_more : (A : Arena ℕ) → IsNumbered A → (L : List (Entry ℕ)) (x : Entry ℕ) (line : List ℕ) → Some x ≡ entry_of (length A.nodes) A.actions line → (q : ℕ) →
+    is_listed A (L ++ entries_on A (line ∷ [])) q ≡ (is_listed A L q || q == x.node)
+listed_more A ok L x line e q =
+    ap (λ o. is_listed A (L ++ cons_option o []) q) (sym e)
+    ∙ list_any-append (λ y. A.same q y.node) L (x ∷ []) ∙ ap (λ b. is_listed A L q || b) (alone (A.same q x.node) ∙ ok.same q x.node)
+  where
+    alone : (b : Bool) → (b || false) ≡ b
+    alone true = refl
+    alone false = refl
+
+-- an entry was read: its pair is taken out, and what was known of the row that was asked is known still
+pub entry_listed : (A : Arena ℕ) → IsNumbered A → (L : List (Entry ℕ)) (x : Entry ℕ) (line : List ℕ) (new : Audit) → Some x ≡ entry_of (length A.nodes) A.actions line →
+    (((q : ℕ) → is_listed A (L ++ entries_on A (line ∷ [])) q ≡ (is_listed A L q || q == x.node)) → Remain (length A.nodes) (is_listed A (L ++ entries_on A (line ∷ []))) new.left) →
+    IsKnown A new.left.lanes (is_listed A L) new.asked → HasListed A (L ++ entries_on A (line ∷ [])) new
+entry_listed A ok L x line new e left known = record {
+  left = left (listed_more A ok L x line e);
+  known = known_more A new.left.lanes (is_listed A L) (is_listed A (L ++ entries_on A (line ∷ []))) new.asked (λ q t. listed_more A ok L x line e q ∙ ap (λ b. b || q == x.node) t) known;
+}
+
+-- what an audit has, by the lanes of the system
+pub listed_rows : (A : Arena ℕ) (L : List (Entry ℕ)) (audit : Audit) (lanes : ℕ) → HasListed A L audit → audit.left.lanes ≡ lanes → (words : List ℕ) → words ≡ audit.left.words.items → AreRows lanes (λ q. not (is_listed A L q)) words
+listed_rows A L audit lanes has shaped words same = subst (AreRows lanes (λ q. not (is_listed A L q))) (sym same) (subst (λ m. AreRows m (λ q. not (is_listed A L q)) audit.left.words.items) shaped has.left.rows)
+
+pub listed_known : (A : Arena ℕ) (L : List (Entry ℕ)) (audit : Audit) (lanes : ℕ) → HasListed A L audit → audit.left.lanes ≡ lanes → IsKnown A lanes (is_listed A L) audit.asked
+listed_known A L audit lanes has shaped = subst (λ m. IsKnown A m (is_listed A L) audit.asked) shaped has.known
+
+-- the reason of an entry is one of the system
+pub reason_given : (A : Arena ℕ) (r : Reason) → IsIn r (reasons A.actions) → IsReasonOf A r
+reason_given A Final i = tt
+reason_given A (Act a) i = given_action A.actions a i
+
+-- the row of a pair is one of the table
+pub pair_within : (lanes pairs : ℕ) (audit : Audit) → IsShaped lanes pairs audit → (p row lane : ℕ) → row * audit.left.lanes + lane ≡ p → p < pairs → row < length audit.left.words.items
+pair_within lanes pairs audit shaped p row lane e l =
+    row_within row lane audit.left.lanes (length audit.left.words.items) p e
+    (subst (λ m. p < length audit.left.words.items * m) (sym shaped.in_rows) (subst (λ n. p < n) (sym shaped.room) l))
+
+-- the last line, where that pair is missing or none is
+pub end_judged : (A : Arena ℕ) (L : List (Entry ℕ)) (line : List ℕ) (found : Option ℕ) → found ≡ find (could_be_listed A L) A.nodes → IsTrue (same_numbers end_line line) → option_map text.Unlisted found ≡ body_fault A L (Some line)
+end_judged A L line found e is =
+    ap (option_map text.Unlisted) e ∙ sym (cond-true (same_numbers end_line line) (end_fault A L) (entry_fault A L (entry_of (length A.nodes) A.actions line)) is)
+
+-- any other line is an entry's
+pub entry_judged : (A : Arena ℕ) (L : List (Entry ℕ)) (line : List ℕ) (fault : Option text.Why) → fault ≡ entry_fault A L (entry_of (length A.nodes) A.actions line) → IsFalse (same_numbers end_line line) → fault ≡ body_fault A L (Some line)
+entry_judged A L line fault e other = e ∙ sym (cond-false (same_numbers end_line line) (end_fault A L) (entry_fault A L (entry_of (length A.nodes) A.actions line)) other)
 
 -- the last line is no entry's
 pub end_is_no_entry : (pairs actions : ℕ) (line : List ℕ) → AreFew pairs actions → IsTrue (same_numbers end_line line) → entry_of pairs actions line ≡ None
@@ -100,6 +152,13 @@ after_end (head ∷ size ∷ body) e = (head, size, body, refl, has_ended (list_
 
 -- The first two lines
 
+-- what line is due next says nothing of the list
+pub same_listed : (A : Arena ℕ) (L : List (Entry ℕ)) (old new : Audit) → new.left ≡ old.left → new.asked ≡ old.asked → HasListed A L old → HasListed A L new
+same_listed A L old new left asked has = record {
+  left = subst (Remain (length A.nodes) (is_listed A L)) (sym left) has.left;
+  known = subst (λ a. IsKnown A new.left.lanes (is_listed A L) a) (sym asked) (subst (λ t. IsKnown A t.lanes (is_listed A L) old.asked) (sym left) has.known);
+}
+
 opening_fault : (b c : Bool) (fault : Option Why) → b ≡ c → fault ≡ (if b then None else Some Form) → option_map fault_of fault ≡ (if c then None else Some text.Form)
 opening_fault b c fault same e = ap (option_map fault_of) e ∙ push b ∙ ap (λ d. if d then None else Some text.Form) same
   where
@@ -108,20 +167,19 @@ opening_fault b c fault same e = ap (option_map fault_of) e ∙ push b ∙ ap (�
     push false = refl
 
 pub judged_head : (A : Arena ℕ) (old new : Audit) (line : List ℕ) (b : Bool) (fault : Option Why) → old.due ≡ Head → b ≡ same_numbers head_line line → fault ≡ (if b then None else Some Form) →
-    (fault ≡ None → new.due ≡ Count) → new.order ≡ old.order → Judges A old new line fault
+    (fault ≡ None → new.due ≡ Count) → new ≡ record old { due = new.due } → Judges A old new line fault
 judged_head A old new line b fault due is named next same = record {
   named = λ lines read. subst (λ ls. option_map fault_of fault ≡ line_fault A ls (Some line)) (sym (after_head lines (sym due ∙ read.due))) (opening_fault b (same_numbers head_line line) fault is named);
   read = λ lines read none.
       let e : lines ≡ [] = after_head lines (sym due ∙ read.due) in
       subst (λ ls. HasRead A (ls ++ line ∷ []) new) (sym e) (record {
-        shaped = ap (λ b. b.pairs) same ∙ read.shaped;
         due = next none;
-        list = ap (λ b. b.list) same ∙ read.list ∙ ap (λ ls. entries_on A (drop 2 ls)) e;
+        list = same_listed A [] old new (ap (λ a. a.left) same) (ap (λ a. a.asked) same) (subst (λ ls. HasListed A (entries_on A (drop 2 ls)) old) e read.list);
       });
 }
 
 pub judged_count : (A : Arena ℕ) (old new : Audit) (line : List ℕ) (b : Bool) (fault : Option Why) → old.due ≡ Count → b ≡ same_numbers (count_line (length A.nodes)) line → fault ≡ (if b then None else Some Form) →
-    (fault ≡ None → new.due ≡ Body) → new.order ≡ old.order → Judges A old new line fault
+    (fault ≡ None → new.due ≡ Body) → new ≡ record old { due = new.due } → Judges A old new line fault
 judged_count A old new line b fault due is named next same = record {
   named = λ lines read.
       let (head, e) = after_count lines (sym due ∙ read.due) in
@@ -129,9 +187,8 @@ judged_count A old new line b fault due is named next same = record {
   read = λ lines read none.
       let (head, e) = after_count lines (sym due ∙ read.due) in
       subst (λ ls. HasRead A (ls ++ line ∷ []) new) (sym e) (record {
-        shaped = ap (λ b. b.pairs) same ∙ read.shaped;
         due = next none;
-        list = ap (λ b. b.list) same ∙ read.list ∙ ap (λ ls. entries_on A (drop 2 ls)) e;
+        list = same_listed A [] old new (ap (λ a. a.left) same) (ap (λ a. a.asked) same) (subst (λ ls. HasListed A (entries_on A (drop 2 ls)) old) e read.list);
       });
 }
 
@@ -147,20 +204,21 @@ due_more body line due none is =
     alone true = refl
     alone false = refl
 
-pub judged_body : (A : Arena ℕ) (old new : Audit) (line : List ℕ) (fault : Option Why) → old.due ≡ Body → option_map fault_of fault ≡ body_fault A old.order.list (Some line) →
-    (fault ≡ None → new.order.list ≡ old.order.list ++ entries_on A (line ∷ [])) → new.due ≡ (if same_numbers end_line line then Nothing else old.due) → new.order.pairs ≡ old.order.pairs → Judges A old new line fault
-judged_body A old new line fault due named list next shape = record {
+pub judged_body : (A : Arena ℕ) (old new : Audit) (line : List ℕ) (fault : Option Why) → old.due ≡ Body →
+    ((L : List (Entry ℕ)) → HasListed A L old → option_map fault_of fault ≡ body_fault A L (Some line)) →
+    ((L : List (Entry ℕ)) → HasListed A L old → fault ≡ None → HasListed A (L ++ entries_on A (line ∷ [])) new) →
+    new.due ≡ (if same_numbers end_line line then Nothing else old.due) → Judges A old new line fault
+judged_body A old new line fault due named list next = record {
   named = λ lines read.
       let (head, size, body, e, none) = after_body lines (sym due ∙ read.due) in
       subst (λ ls. option_map fault_of fault ≡ line_fault A ls (Some line)) (sym e)
-      (named ∙ ap (λ M. body_fault A M (Some line)) (read.list ∙ ap (λ ls. entries_on A (drop 2 ls)) e) ∙ sym (fault_in_body A head size body (Some line) none));
+      (named (entries_on A body) (subst (λ ls. HasListed A (entries_on A (drop 2 ls)) old) e read.list) ∙ sym (fault_in_body A head size body (Some line) none));
   read = λ lines read clean.
       let (head, size, body, e, none) = after_body lines (sym due ∙ read.due) in
       subst (λ ls. HasRead A (ls ++ line ∷ []) new) (sym e) (record {
-        shaped = shape ∙ read.shaped;
         due = next ∙ due_more body line old.due none due;
-        list = list clean ∙ ap (λ M. M ++ entries_on A (line ∷ [])) (read.list ∙ ap (λ ls. entries_on A (drop 2 ls)) e)
-            ∙ sym (filter_map-append (entry_of (length A.nodes) A.actions) body (line ∷ []));
+        list = subst (λ L. HasListed A L new) (sym (filter_map-append (entry_of (length A.nodes) A.actions) body (line ∷ [])))
+            (list (entries_on A body) (subst (λ ls. HasListed A (entries_on A (drop 2 ls)) old) e read.list) clean);
       });
 }
 

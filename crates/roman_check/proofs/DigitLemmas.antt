@@ -1,14 +1,14 @@
 -- Decimal texts.
-use Rattle.std.proofs.Common.{◌≡◌, ◌≢◌, ℕ, ◌+◌, ◌-◌, ◌*◌, ◌^◌, ◌<◌, ◌≤◌, List, length, take, get_or, decimal, Option, MatchOption, Result, Ok, Err, arith, subst, sym, ap, ◌∙◌, inl, inr, length-take-le}
+use Rattle.std.proofs.Common.{◌≡◌, ◌≢◌, ℕ, ◌+◌, ◌-◌, ◌*◌, ◌^◌, ◌<◌, ◌≤◌, List, length, take, get_or, decimal, arith, subst, sym, ap, ◌∙◌, inl, inr, length-take-le}
 use Rattle.std.specs.Int.{IsInRange, IsOutOfRange}
-use Rattle.std.specs.Result.{OkIff, result_ok}
 use Rattle.std.specs.Char.{digit_value}
 use Rattle.std.specs.Str.Parse.{AllDigits, digits_value}
-use Rattle.std.proofs.lemmas.Bool.{cases_lt}
+use Rattle.std.proofs.lemmas.Bool.{cases_lt, cases_order}
+use Rattle.std.proofs.lemmas.List.{get_or-take}
 use Rattle.std.proofs.lemmas.Str.{digit_value_digit}
 use Rattle.std.proofs.lemmas.Str.Parse.{IsNumeralModel, numerals_by_value, tells_digits, digit_at, digits_value_short}
 use Rattle.std.proofs.lemmas.Int.Digits.{digits_more, digits_value_more}
-use Rattle.roman_check.specs.Decimals.{IsTrim}
+use Rattle.roman_check.specs.Decimals.{IsTrim, IsNumberTo}
 use Rattle.std.proofs.lemmas.Fmt.{decimal_is_IsNumeral, length-decimal-le, first_decimal, decimal-digits_value, decimal_injective}
 
 own : IsNumeralModel (AllDigits 10) (digits_value 10)
@@ -35,6 +35,35 @@ digits_step ds i d l digit is all =
 pub digits_room : (ds : List ℕ) (i : ℕ) → i < length ds → length ds ≤ 10 → AllDigits 10 (take i ds) → digits_value 10 (take i ds) < 10 ^ 9
 digits_room ds i l few all = digits_value_short own (take i ds) 9 all (omega (arith, length-take-le i ds))
 
+-- at most ten digits are a number of eleven at most
+pub digits_below : (ds : List ℕ) (i : ℕ) → i ≤ length ds → i ≤ 10 → AllDigits 10 (take i ds) → digits_value 10 (take i ds) < 10 ^ 10
+digits_below ds i l few all = digits_value_short own (take i ds) 10 all (omega (arith, length-take-le i ds))
+
+-- the digits up to the first space, and no others, are those before a space
+
+-- a digit is no space
+pub no_space_digit : (line : List ℕ) (i k : ℕ) → i ≤ length line → AllDigits 10 (take i line) → k < i → get_or line k 0 ≢ 32
+no_space_digit line i k within all l space =
+    let short : length (take i line) ≡ i = length-take-le i line within in
+    let digit = digit_at (take i line) k all (omega arith) in
+    let low : 48 ≤ get_or (take i line) k 0 = digit.0 in
+    let same : get_or (take i line) k 0 ≡ get_or line k 0 = get_or-take i line k 0 l in
+    omega arith
+
+-- where a byte is no digit and no space, none of at most ten digits follow each other up to a space
+pub no_number_past : (line : List ℕ) (i j : ℕ) → i < length line → AllDigits 10 (take i line) → get_or line i 0 ≢ 32 → IsOutOfRange 48 57 (get_or line i 0) → IsNumberTo line j → ⊥
+no_number_past line i j within all other out number = elim (cases_order i j) [
+  | inl same ↦ other (ap (λ k. get_or line k 0) same ∙ number.space)
+  | inr (inl less) ↦
+      let l : i < length (take j line) = omega (arith, length-take-le j line (omega (arith, number.within))) in
+      no_digit (take j line) i l (subst (IsOutOfRange 48 57) (sym (get_or-take j line i 0 less)) out) number.digits
+  | inr (inr more) ↦ no_space_digit line i j (omega arith) all more number.space
+]
+
+-- nor where that many bytes are digits, and there is no eleventh
+pub no_number_within : (line : List ℕ) (i : ℕ) → i ≤ length line → AllDigits 10 (take i line) → ((j : ℕ) → j ≤ 10 → j < length line → j < i) → (j : ℕ) → IsNumberTo line j → ⊥
+no_number_within line i within all reach j number = no_space_digit line i j within all (reach j number.few number.within) number.space
+
 -- A whole number
 
 -- what a decimal text is made of
@@ -60,15 +89,11 @@ decimal_from_digits ds n all trim is =
     one : get_or ds 0 0 ≡ 48 → length ds ≡ 1
     one zero = elim (cases_lt 1 (length ds)) [ inl more ↦ absurd (trim.first more zero) | inr less ↦ (let some : 0 < length ds = trim.some in omega arith) ]
 
--- the value of trim digits, where it is small enough, is the number
-pub number_from_value : {E : Type 0} (ds : List ℕ) (v : ℕ) (r : Result ℕ E) (o : Option ℕ) → AllDigits 10 ds → IsTrim ds → v ≡ digits_value 10 ds → OkIff r (v < 2 ^ 32) v → o ≡ result_ok r →
-    MatchOption o ((n : ℕ) → n < 2 ^ 32 → decimal n ≢ ds) (λ n. (n < 2 ^ 32) × (decimal n ≡ ds))
-number_from_value ds v (Ok n) o all trim is (small, same) e =
-    subst (λ p. MatchOption p ((n : ℕ) → n < 2 ^ 32 → decimal n ≢ ds) (λ n. (n < 2 ^ 32) × (decimal n ≡ ds))) (sym e) (subst (λ m. m < 2 ^ 32) (sym same) small, decimal_from_digits ds n all trim (sym is ∙ sym same))
-number_from_value ds v (Err wrong) o all trim is large e =
-    subst (λ p. MatchOption p ((n : ℕ) → n < 2 ^ 32 → decimal n ≢ ds) (λ n. (n < 2 ^ 32) × (decimal n ≡ ds))) (sym e) (λ n small same.
-    let (digits, shape, value) = decimal_shape n ds small same in
-    large (subst (λ m. m < 2 ^ 32) (sym (is ∙ value)) small))
+-- the digits of a text whose value is too great, or that isn't trim, are no number's below the bound
+pub no_small_number : (ds : List ℕ) (value bound n : ℕ) → value ≡ digits_value 10 ds → bound < 2 ^ 32 → bound ≤ value → n < bound → decimal n ≢ ds
+no_small_number ds value bound n is small large l e =
+    let (all, trim, same) = decimal_shape n ds (omega arith) e in
+    omega arith
 
 -- a text is that of one number
 pub one_number : (ds : List ℕ) (m n : ℕ) → m < 2 ^ 32 → n < 2 ^ 32 → decimal m ≡ ds → decimal n ≡ ds → m ≡ n

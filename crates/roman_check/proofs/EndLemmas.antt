@@ -10,20 +10,18 @@ use Rattle.roman_model.specs.Arena.{Arena, Entry, is_listed}
 use Rattle.roman_model.specs.Certificate as text
 use Rattle.roman_model.specs.Certificate.{head_line, count_line, end_line, entry_of, entries_on, line_fault, IsClean, unlisted, cert_verdict}
 use Rattle.roman_model.specs.declared.limits.TheConstants.{MAX_CERTIFICATE_BYTES}
-use Rattle.roman_model.proofs.Lists.{by_test, filter_same}
+use Rattle.roman_model.proofs.Lists.{by_test}
 use Rattle.roman_model.proofs.CertificateLemmas.{AreFew, entry_of_other}
 use Rattle.roman_model.proofs.CertificateLaws.{due_is}
 use Rattle.roman_model.proofs.VerdictLemmas.{fault_in_body, fault_after_end, verdict_at, verdict_ended, verdict_accepted}
-use Rattle.roman_order.specs.Board.{has_entry}
-use Rattle.roman_joint.specs.Numbered.{IsNumbered}
+use Rattle.roman_rules.specs.Numbered.{IsNumbered}
 use Rattle.roman_check.specs.declared.audit.Audit.{Audit}
 use Rattle.roman_check.specs.declared.audit.Due.TheVariants.{Nothing, Body}
 use Rattle.roman_check.specs.declared.reader.Reader.{Reader}
 use Rattle.roman_check.specs.declared.verdict.Why.{Why}
 use Rattle.roman_check.specs.Verdicts.{fault_of}
-use Rattle.roman_check.specs.Audits.{HasRead}
+use Rattle.roman_check.specs.Audits.{HasListed, HasRead}
 use Rattle.roman_check.specs.Readers.{HasLines, EndsAtFault}
-use Rattle.roman_check.proofs.ReasonLemmas.{listed_is}
 use Rattle.roman_check.proofs.AuditLemmas.{few_numbered, after_end}
 
 -- Whether the text may end
@@ -67,24 +65,22 @@ opening_unread A ok ls head size body e clean =
     second = subst (λ l. entry_of (length A.nodes) A.actions l ≡ None) (sym (due_is (count_line (length A.nodes)) size (cleaned 1 (omega arith))))
         (entry_of_other (length A.nodes) A.actions 112 (codes "airs " ++ decimal (length A.nodes)) few (omega arith))
 
--- how many pairs aren't listed, as the order counts them
-counted_unlisted : (A : Arena ℕ) → IsNumbered A → (start : ℕ) (L : List (Entry ℕ)) (pairs related : ℕ) (alive : Bool) → pairs ≡ length A.nodes → related ≡ count_by (λ p. not (has_entry L p)) (below pairs) → alive ≡ not (has_entry L start) →
+-- how many pairs remain, as they are counted
+counted_unlisted : (A : Arena ℕ) → IsNumbered A → (start : ℕ) (L : List (Entry ℕ)) (related : ℕ) (alive : Bool) → related ≡ count_by (λ p. not (is_listed A L p)) (below (length A.nodes)) → alive ≡ not (is_listed A L start) →
     unlisted A start L ≡ text.Greatest related alive
-counted_unlisted A ok start L pairs related alive shaped count starts =
+counted_unlisted A ok start L related alive count starts =
     ap₂ text.Greatest
-    (ap (λ ps. length (filter (λ p. not (is_listed A L p)) ps)) (ok.nodes ∙ ap below (sym shaped))
-    ∙ ap length (filter_same (λ p. not (is_listed A L p)) (λ p. not (has_entry L p)) (below pairs) (λ p i. ap not (listed_is A ok L p)))
-    ∙ length-filter (λ p. not (has_entry L p)) (below pairs) ∙ sym count)
-    (ap not (listed_is A ok L start) ∙ sym starts)
+    (ap (λ ps. length (filter (λ p. not (is_listed A L p)) ps)) ok.nodes ∙ length-filter (λ p. not (is_listed A L p)) (below (length A.nodes)) ∙ sym count)
+    (sym starts)
 
-pub ended_greatest : (A : Arena ℕ) → IsNumbered A → (start : ℕ) (bytes : List ℕ) (reader : Reader) (related : ℕ) (alive : Bool) → HasLines A (lines bytes) reader → length bytes ≤ MAX_CERTIFICATE_BYTES → reader.audit.due ≡ Nothing →
-    related ≡ count_by (λ p. not (has_entry reader.audit.order.list p)) (below reader.audit.order.pairs) → alive ≡ not (has_entry reader.audit.order.list start) →
-    cert_verdict A start bytes ≡ text.Greatest related alive
-ended_greatest A ok start bytes reader related alive has short ended count starts =
+pub ended_greatest : (A : Arena ℕ) → IsNumbered A → (start : ℕ) (bytes : List ℕ) (reader : Reader) (alive : Bool) → HasLines A (lines bytes) reader → length bytes ≤ MAX_CERTIFICATE_BYTES → reader.audit.due ≡ Nothing →
+    ((L : List (Entry ℕ)) → HasListed A L reader.audit → alive ≡ not (is_listed A L start)) → cert_verdict A start bytes ≡ text.Greatest reader.audit.left.count alive
+ended_greatest A ok start bytes reader alive has short ended starts =
     let (head, size, body, e, some) = after_end (lines bytes) (sym ended ∙ has.read.due) in
+    let L = entries_on A (drop 2 (lines bytes)) in
     verdict_accepted A start bytes (lines bytes) short refl has.clean (may_end A (lines bytes) reader.audit has.read ended)
-    ∙ ap (unlisted A start) (opening_unread A ok (lines bytes) head size body e has.clean ∙ sym has.read.list)
-    ∙ counted_unlisted A ok start reader.audit.order.list reader.audit.order.pairs related alive has.read.shaped count starts
+    ∙ ap (unlisted A start) (opening_unread A ok (lines bytes) head size body e has.clean)
+    ∙ counted_unlisted A ok start L reader.audit.left.count alive has.read.list.left.counted (starts L has.read.list)
 
 -- A last line at fault
 

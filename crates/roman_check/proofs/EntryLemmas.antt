@@ -1,22 +1,21 @@
 -- Lines that are read as entries.
-use Rattle.std.proofs.Common.{◌≡◌, ◌≢◌, ℕ, zero, suc, ◌+◌, ◌-◌, ◌^◌, ◌<◌, ◌==◌, Bool, List, [], ◌∷◌, ◌++◌, length, take, drop, get_or, None, Some, IsTrue, IsFalse, nat_lt, decimal, codes, refl, sym, ap, ap₂, ◌∙◌, subst, inl, inr, arith, length-drop}
-use Rattle.std.specs.List.{position, position_or_len}
-use Rattle.std.proofs.lemmas.Bool.{both_ways, or_from, eqb-true, cases_lt, cond-true, lt-ltb}
-use Rattle.std.proofs.lemmas.List.{take-append-drop, drop_more, take_all}
-use Rattle.std.proofs.lemmas.List.Sums.{fails_before_first}
-use Rattle.std.proofs.lemmas.List.Quantifiers.{position-Some}
-use Rattle.std.proofs.lemmas.Option.{none-some}
+use Rattle.std.proofs.Common.{◌≡◌, ◌≢◌, ℕ, ◌+◌, ◌-◌, ◌^◌, ◌<◌, Bool, List, ◌∷◌, ◌++◌, length, take, drop, get_or, None, Some, IsTrue, IsFalse, decimal, codes, refl, sym, ap, ap₂, ◌∙◌, subst, inl, inr, arith, length-drop, length-append}
+use Rattle.std.specs.Str.Parse.{AllDigits}
+use Rattle.std.proofs.lemmas.Bool.{both_ways, ne_eqb}
+use Rattle.std.proofs.lemmas.List.{take-append-drop, drop_more, take_all, take_at, get_or_at}
 use Rattle.roman_model.specs.Lists.{IsIn, below}
 use Rattle.roman_model.specs.System.{has, same_numbers}
 use Rattle.roman_model.specs.Arena.{Entry}
 use Rattle.roman_model.specs.declared.reason.Reason.{Reason}
 use Rattle.roman_model.specs.declared.reason.Reason.TheVariants.{Final, Act}
 use Rattle.roman_model.specs.Certificate.{count_line, reason_text, entry_line, reasons, entry_of}
-use Rattle.roman_model.proofs.Lists.{any_from, in_append_right, from_map, from_below}
+use Rattle.roman_model.proofs.Lists.{from_map, from_below}
 use Rattle.roman_model.proofs.SystemLemmas.{same_numbers_itself}
 use Rattle.roman_model.proofs.CertificateLemmas.{IsSmall, AreFew, cut_at, decimal_without, act_reason, in_possible, from_possible, possible_small, entry_of-line, entry_of_none}
 use Rattle.roman_check.specs.Readings.{Reads}
-use Rattle.roman_check.proofs.Texts.{same_from}
+use Rattle.roman_check.specs.Decimals.{IsNumberTo}
+use Rattle.roman_check.proofs.DigitLemmas.{decimal_shape, no_space_digit}
+use Rattle.roman_check.proofs.Texts.{same_from, clear_before}
 
 -- The second line
 
@@ -55,43 +54,41 @@ pub record IsCut (line front back : List ℕ) : Type 0 where
   pub whole : line ≡ front ++ 32 ∷ back
   pub clear : IsFalse (has front 32)
 
-clear_before : (xs : List ℕ) (i : ℕ) → ((k : ℕ) → k < i → IsFalse (get_or xs k 0 == 32)) → IsFalse (has (take i xs) 32)
-clear_before xs zero none = refl
-clear_before [] (suc i) none = refl
-clear_before (x ∷ xs) (suc i) none = or_from (x == 32) (has (take i xs) 32) (none 0 (omega arith)) (clear_before xs i (λ k l. none (suc k) (omega arith)))
-
 -- what follows a place, as a slice of it is read
 abbrev pub after : List ℕ → ℕ → List ℕ
 after line i = take (length line - (i + 1)) (drop (i + 1) line)
 
--- the first space cuts a line
-pub cut_from : (line : List ℕ) (i : ℕ) → position (λ b. b == 32) line ≡ Some i → IsCut line (take i line) (after line i)
-cut_from line i e =
-    let (l, here, before) = position-Some (λ b. b == 32) line i 0 e in
-    let space : get_or line i 0 ≡ 32 = eqb-true (get_or line i 0) 32 here in
+-- a space behind digits cuts a line
+pub cut_from : (line : List ℕ) (i : ℕ) → IsNumberTo line i → IsCut line (take i line) (after line i)
+cut_from line i number =
+    let l : i < length line = number.within in
     let rest : after line i ≡ drop (i + 1) line = take_all (length line - (i + 1)) (drop (i + 1) line) (omega (arith, length-drop (i + 1) line)) in
     record {
-      whole = sym (take-append-drop i line) ∙ ap (λ bs. take i line ++ bs) (drop_more line i 0 l ∙ ap₂ (λ b bs. b ∷ bs) space (sym rest));
-      clear = clear_before line i before;
+      whole = sym (take-append-drop i line) ∙ ap (λ bs. take i line ++ bs) (drop_more line i 0 l ∙ ap₂ (λ b bs. b ∷ bs) number.space (sym rest));
+      clear = clear_before 32 line i (λ k m. ne_eqb (get_or line k 0) 32 (no_space_digit line i k (omega arith) number.digits m));
     }
-
-pub no_space_from : (line : List ℕ) → position (λ b. b == 32) line ≡ None → IsFalse (has line 32)
-no_space_from line e = elim (cases_lt (position_or_len (λ b. b == 32) line) (length line)) [
-  | inl less ↦ absurd (none-some (position_or_len (λ b. b == 32) line) (sym e ∙ cond-true (nat_lt (position_or_len (λ b. b == 32) line) (length line)) (Some (position_or_len (λ b. b == 32) line)) None (lt-ltb (position_or_len (λ b. b == 32) line) (length line) less)))
-  | inr more ↦ subst (λ bs. IsFalse (has bs 32)) (take_all (length line) line (omega arith)) (clear_before line (length line) (λ k l. fails_before_first (λ b. b == 32) line k 0 (omega arith)))
-]
 
 -- the parts of an entry's line
 entry_parts : (line front back : List ℕ) (x : Entry ℕ) → IsCut line front back → IsSmall x → entry_line x ≡ line → (decimal x.node ≡ front) × (reason_text x.reason ≡ back)
 entry_parts line front back x cut small e =
     cut_at 32 (decimal x.node) front (reason_text x.reason) back (decimal_without x.node 32 small.0 (inl (omega arith))) cut.clear (e ∙ cut.whole)
 
--- a line without a space is no entry's
-pub no_space : (pairs actions : ℕ) (line : List ℕ) → IsFalse (has line 32) → entry_of pairs actions line ≡ None
-no_space pairs actions line none = entry_of_none pairs actions line (λ x i e. spaced x (subst (λ bs. IsFalse (has bs 32)) (sym e) none))
+-- a line that doesn't begin with digits and a space is no entry's
+pub no_number : (pairs actions : ℕ) (line : List ℕ) → pairs < 2 ^ 32 → ((i : ℕ) → IsNumberTo line i → ⊥) → entry_of pairs actions line ≡ None
+no_number pairs actions line few none = entry_of_none pairs actions line (λ x i e.
+    let l : x.node < pairs = (from_possible pairs actions x i).0 in
+    none (length (decimal x.node)) (subst (λ bs. IsNumberTo bs (length (decimal x.node))) e (begins x (omega arith))))
   where
-    spaced : (x : Entry ℕ) → IsFalse (has (entry_line x) 32) → ⊥
-    spaced x h = both_ways (has (entry_line x) 32) h (any_from (λ b. b == 32) 32 (entry_line x) (in_append_right 32 (decimal x.node) (32 ∷ reason_text x.reason) (inl refl)) refl)
+    begins : (x : Entry ℕ) → x.node < 2 ^ 32 → IsNumberTo (entry_line x) (length (decimal x.node))
+    begins x small =
+        let ds = decimal x.node in
+        let (all, trim, value) = decimal_shape x.node ds small refl in
+        record {
+          few = trim.few;
+          within = omega (arith, length-append ds (32 ∷ reason_text x.reason));
+          digits = subst (AllDigits 10) (sym (take_at ds (32 ∷ reason_text x.reason) (length ds) refl)) all;
+          space = get_or_at ds 32 (reason_text x.reason) 0 (length ds) refl;
+        }
 
 -- nor is one whose first part is no pair's number
 pub no_pair : (pairs actions : ℕ) (line front back : List ℕ) → AreFew pairs actions → IsCut line front back → ((n : ℕ) → n < pairs → decimal n ≢ front) → entry_of pairs actions line ≡ None

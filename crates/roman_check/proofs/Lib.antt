@@ -2,6 +2,7 @@ pub mod Texts
 pub mod DigitLemmas
 pub mod EntryLemmas
 pub mod ReasonLemmas
+pub mod RemainLemmas
 pub mod AuditLemmas
 pub mod LongLines
 pub mod ReaderLemmas

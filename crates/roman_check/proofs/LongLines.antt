@@ -13,7 +13,7 @@ use Rattle.roman_model.proofs.Lists.{by_test}
 use Rattle.roman_model.proofs.SystemLemmas.{same_numbers_is}
 use Rattle.roman_model.proofs.CertificateLemmas.{from_possible, entry_of_none}
 use Rattle.roman_model.proofs.VerdictLemmas.{fault_in_body, fault_after_end}
-use Rattle.roman_joint.specs.Numbered.{IsNumbered}
+use Rattle.roman_rules.specs.Numbered.{IsNumbered}
 use Rattle.roman_check.proofs.ReasonLemmas.{given_action}
 
 -- a short line isn't a long one

@@ -1,7 +1,7 @@
 -- Texts that are read byte by byte.
-use Rattle.std.proofs.Common.{◌≡◌, ◌≢◌, ℕ, ◌+◌, ◌<◌, ◌==◌, false, List, [], ◌∷◌, ◌++◌, length, take, drop, get_or, Option, Some, None, option_map, refl, sym, ap, ◌∙◌, subst, inl, inr, append_assoc, append-nil, length-append}
-use Rattle.std.proofs.lemmas.Bool.{ne_eqb, or_from}
-use Rattle.std.proofs.lemmas.List.{take-append-drop, take_more}
+use Rattle.std.proofs.Common.{◌≡◌, ◌≢◌, ℕ, ◌+◌, ◌-◌, ◌<◌, ◌≤◌, ◌==◌, List, [], ◌∷◌, ◌++◌, length, take, drop, get_or, Option, Some, None, option_map, refl, sym, ap, ap₂, ◌∙◌, subst, inl, inr, arith, append_assoc, append-nil, length-append, length-drop}
+use Rattle.std.specs.List.{position}
+use Rattle.std.proofs.lemmas.List.{take-append-drop, take-take, drop-take, take_more, take_rest, get_or-drop}
 use Rattle.roman_model.specs.Lines.{lines, text_of, IsLine, AreLines}
 use Rattle.roman_model.specs.Arena.{Arena}
 use Rattle.roman_model.proofs.Lists.{from_push}
@@ -15,7 +15,8 @@ use Rattle.roman_check.specs.Verdicts.{fault_of}
 use Rattle.roman_check.specs.Lines.{Holds}
 use Rattle.roman_check.specs.Audits.{HasRead, Judges}
 use Rattle.roman_check.specs.Readers.{HasLines, IsReading, IsAtFault, Feeds, Closes}
-use Rattle.roman_joint.specs.Numbered.{IsNumbered}
+use Rattle.roman_rules.specs.Numbered.{IsNumbered}
+use Rattle.roman_check.proofs.Texts.{found_before, found_nowhere}
 use Rattle.roman_check.proofs.LongLines.{long_line}
 
 -- One line
@@ -42,62 +43,78 @@ has_more A old new text line fault has judged none count = record {
     length_one_more : (text : List (List ℕ)) (line : List ℕ) → length (text ++ line ∷ []) ≡ length text + 1
     length_one_more text line = length-append text (line ∷ [])
 
--- Bytes
+-- Pieces
 
--- a byte within a line
-pub read_byte : (A : Arena ℕ) (old new : Reader) (byte : ℕ) → byte ≢ 10 → new.audit ≡ old.audit → new.lines ≡ old.lines →
-    ((bytes : List ℕ) → Holds old.line bytes → Holds new.line (bytes ++ byte ∷ [])) → Feeds A old new (byte ∷ []) None
-read_byte A old new byte other same count pushed = record {
-  reads = λ taken r none. record {
-    text = r.text;
-    partial = r.partial ++ byte ∷ [];
-    split = ap (λ bs. bs ++ byte ∷ []) r.split ∙ append_assoc (text_of r.text) r.partial (byte ∷ []);
-    whole = r.whole;
-    unended = append_line r.partial (byte ∷ []) r.unended (or_from (byte == 10) false (ne_eqb byte 10 other) refl);
-    has = record {
-      clean = r.has.clean;
-      read = subst (λ audit. HasRead A r.text audit) (sym same) r.has.read;
-      counted = count ∙ r.has.counted;
-    };
-    held = pushed r.partial r.held;
+-- the first newline from a place on
+pub newline_at : (piece : List ℕ) (start found : ℕ) → start ≤ length piece → position (λ b. b == 10) (take (length piece - start) (drop start piece)) ≡ Some found →
+    (start ≤ start + found) × (start + found < length piece) × IsLine (take ((start + found) - start) (drop start piece)) × (get_or piece (start + found) 0 ≡ 10)
+newline_at piece start found low e =
+    let (within, line, here) = found_before 10 (drop start piece) found (ap (position (λ b. b == 10)) (sym (take_rest piece start)) ∙ e) in
+    let place : (start + found) - start ≡ found = omega arith in
+    let l : found < length (drop start piece) = within in
+    (omega arith, omega (arith, length-drop start piece), subst (λ n. IsLine (take n (drop start piece))) (sym place) line, sym (get_or-drop start piece found 0) ∙ here)
+
+-- there is none
+pub newline_nowhere : (piece : List ℕ) (start : ℕ) → position (λ b. b == 10) (take (length piece - start) (drop start piece)) ≡ None → IsLine (drop start piece)
+newline_nowhere piece start e = found_nowhere 10 (drop start piece) (ap (position (λ b. b == 10)) (sym (take_rest piece start)) ∙ e)
+
+-- the bytes of a line that isn't ended
+pub read_partial : (A : Arena ℕ) (old new : Reader) (more : List ℕ) → IsLine more → new.audit ≡ old.audit → new.lines ≡ old.lines → ((bytes : List ℕ) → Holds old.line bytes → Holds new.line (bytes ++ more)) →
+    (taken : List ℕ) → IsReading A taken old → IsReading A (taken ++ more) new
+read_partial A old new more line same count pushed taken r = record {
+  text = r.text;
+  partial = r.partial ++ more;
+  split = ap (λ bs. bs ++ more) r.split ∙ append_assoc (text_of r.text) r.partial more;
+  whole = r.whole;
+  unended = append_line r.partial more r.unended line;
+  has = record {
+    clean = r.has.clean;
+    read = subst (λ audit. HasRead A r.text audit) (sym same) r.has.read;
+    counted = count ∙ r.has.counted;
   };
-  stops = λ taken why r some. (let h : ⊥ = cc in absurd h);
+  held = pushed r.partial r.held;
 }
 
--- the newline of a line without a fault
-pub read_newline : (A : Arena ℕ) (old new : Reader) (fault : Option Why) → ((bytes : List ℕ) → Holds old.line bytes → Judges A old.audit new.audit bytes fault) → fault ≡ None → new.lines ≡ old.lines + 1 → Holds new.line [] →
-    Feeds A old new (10 ∷ []) None
-read_newline A old new fault judged clean count cleared = record {
+ended_split : (partial last : List ℕ) (text : List (List ℕ)) (taken : List ℕ) → taken ≡ text_of text ++ partial → taken ++ (last ++ 10 ∷ []) ≡ text_of (text ++ (partial ++ last) ∷ []) ++ []
+ended_split partial last text taken split =
+    ap (λ bs. bs ++ (last ++ 10 ∷ [])) split
+    ∙ append_assoc (text_of text) partial (last ++ 10 ∷ [])
+    ∙ ap (λ bs. text_of text ++ bs) (sym (append_assoc partial last (10 ∷ [])))
+    ∙ sym (append_assoc (text_of text) (partial ++ last) (10 ∷ []))
+    ∙ sym (text_of-push text (partial ++ last)) ∙ sym (append-nil (text_of (text ++ (partial ++ last) ∷ [])))
+
+-- the end of a line without a fault
+pub read_line : (A : Arena ℕ) (old new : Reader) (last : List ℕ) (fault : Option Why) → IsLine last → ((bytes : List ℕ) → Holds old.line bytes → Judges A old.audit new.audit (bytes ++ last) fault) → fault ≡ None → new.lines ≡ old.lines + 1 →
+    Holds new.line [] → Feeds A old new (last ++ 10 ∷ []) None
+read_line A old new last fault line judged clean count cleared = record {
   reads = λ taken r none. record {
-    text = r.text ++ r.partial ∷ [];
+    text = r.text ++ (r.partial ++ last) ∷ [];
     partial = [];
-    split = ap (λ bs. bs ++ 10 ∷ []) r.split ∙ sym (text_of-push r.text r.partial) ∙ sym (append-nil (text_of (r.text ++ r.partial ∷ [])));
-    whole = lines_push r.text r.partial r.whole r.unended;
+    split = ended_split r.partial last r.text taken r.split;
+    whole = lines_push r.text (r.partial ++ last) r.whole (append_line r.partial last r.unended line);
     unended = refl;
-    has = has_more A old new r.text r.partial fault r.has (judged r.partial r.held) clean count;
+    has = has_more A old new r.text (r.partial ++ last) fault r.has (judged r.partial r.held) clean count;
     held = cleared;
   };
   stops = λ taken why r some. (let h : ⊥ = cc in absurd h);
 }
 
--- the newline of a line at fault
-pub stop_newline : (A : Arena ℕ) (old new : Reader) (fault : Option Why) (first : Why) → ((bytes : List ℕ) → Holds old.line bytes → Judges A old.audit new.audit bytes fault) → fault ≡ Some first → new.lines ≡ old.lines →
-    Feeds A old new (10 ∷ []) (Some first)
-stop_newline A old new fault first judged faulty count = record {
+-- the end of a line at fault
+pub stop_line : (A : Arena ℕ) (old new : Reader) (last : List ℕ) (fault : Option Why) (first : Why) → IsLine last → ((bytes : List ℕ) → Holds old.line bytes → Judges A old.audit new.audit (bytes ++ last) fault) → fault ≡ Some first →
+    new.lines ≡ old.lines → Feeds A old new (last ++ 10 ∷ []) (Some first)
+stop_line A old new last fault first line judged faulty count = record {
   reads = λ taken r none. (let h : ⊥ = cc in absurd h);
   stops = λ taken why r some. record {
     text = r.text;
-    line = r.partial;
+    line = r.partial ++ last;
     more = [];
-    split = ap (λ bs. bs ++ 10 ∷ []) r.split ∙ sym (text_of-push r.text r.partial) ∙ sym (append-nil (text_of (r.text ++ r.partial ∷ [])));
-    whole = lines_push r.text r.partial r.whole r.unended;
+    split = ended_split r.partial last r.text taken r.split;
+    whole = lines_push r.text (r.partial ++ last) r.whole (append_line r.partial last r.unended line);
     clean = r.has.clean;
     fault = sym ((judged r.partial r.held).named r.text r.has.read) ∙ ap (option_map fault_of) (faulty ∙ some);
     counted = count ∙ r.has.counted;
   };
 }
-
--- Pieces
 
 fault_more : (A : Arena ℕ) (bytes more : List ℕ) (n : ℕ) (why : Why) → IsAtFault A bytes n why → IsAtFault A (bytes ++ more) n why
 fault_more A bytes more n why at = record {
@@ -111,27 +128,49 @@ fault_more A bytes more n why at = record {
   counted = at.counted;
 }
 
--- the bytes up to one are read, and then that one
-one_more : (taken piece : List ℕ) (i : ℕ) → i < length piece → (taken ++ take i piece) ++ get_or piece i 0 ∷ [] ≡ taken ++ take (i + 1) piece
-one_more taken piece i l = append_assoc taken (take i piece) (get_or piece i 0 ∷ []) ∙ ap (λ bs. taken ++ bs) (sym (take_more piece i 0 l))
+taken_more : (piece : List ℕ) (n m : ℕ) → take n piece ++ take m (drop n piece) ≡ take (n + m) piece
+taken_more piece n m = ap₂ (λ a b. a ++ b) (sym (take-take n (n + m) piece (omega arith))) (sym (drop-take n m piece)) ∙ take-append-drop n (take (n + m) piece)
 
-pub read_more : (A : Arena ℕ) (old mid new : Reader) (piece : List ℕ) (i : ℕ) (fault : Option Why) → i < length piece → ((taken : List ℕ) → IsReading A taken old → IsReading A (taken ++ take i piece) mid) →
-    Feeds A mid new (get_or piece i 0 ∷ []) fault → fault ≡ None → (taken : List ℕ) → IsReading A taken old → IsReading A (taken ++ take (i + 1) piece) new
-read_more A old mid new piece i fault l so_far fed none taken r =
-    subst (λ bs. IsReading A bs new) (one_more taken piece i l) (fed.reads (taken ++ take i piece) (so_far taken r) none)
+-- the bytes of a piece up to a place, those of the line that ends behind it, and its newline
+line_more : (piece : List ℕ) (start end : ℕ) → start ≤ end → end < length piece → get_or piece end 0 ≡ 10 → take start piece ++ (take (end - start) (drop start piece) ++ 10 ∷ []) ≡ take (end + 1) piece
+line_more piece start end low high newline =
+    sym (append_assoc (take start piece) (take (end - start) (drop start piece)) (10 ∷ []))
+    ∙ ap₂ (λ bs b. bs ++ b ∷ []) (taken_more piece start (end - start) ∙ ap (λ n. take n piece) (omega arith)) (sym newline)
+    ∙ sym (take_more piece end 0 high)
 
-pub stop_in_piece : (A : Arena ℕ) (old mid new : Reader) (piece : List ℕ) (i : ℕ) (why : Why) → i < length piece → ((taken : List ℕ) → IsReading A taken old → IsReading A (taken ++ take i piece) mid) →
-    Feeds A mid new (get_or piece i 0 ∷ []) (Some why) → Feeds A old new piece (Some why)
-stop_in_piece A old mid new piece i why l so_far fed = record {
+lines_more : (taken piece : List ℕ) (start end : ℕ) → start ≤ end → end < length piece → get_or piece end 0 ≡ 10 →
+    (taken ++ take start piece) ++ (take (end - start) (drop start piece) ++ 10 ∷ []) ≡ taken ++ take (end + 1) piece
+lines_more taken piece start end low high newline =
+    append_assoc taken (take start piece) (take (end - start) (drop start piece) ++ 10 ∷ []) ∙ ap (λ bs. taken ++ bs) (line_more piece start end low high newline)
+
+pub read_more : (A : Arena ℕ) (old mid new : Reader) (piece : List ℕ) (start end : ℕ) (fault : Option Why) → start ≤ end → end < length piece → get_or piece end 0 ≡ 10 →
+    ((taken : List ℕ) → IsReading A taken old → IsReading A (taken ++ take start piece) mid) → Feeds A mid new (take (end - start) (drop start piece) ++ 10 ∷ []) fault → fault ≡ None →
+    (taken : List ℕ) → IsReading A taken old → IsReading A (taken ++ take (end + 1) piece) new
+read_more A old mid new piece start end fault low high newline so_far fed none taken r =
+    subst (λ bs. IsReading A bs new) (lines_more taken piece start end low high newline) (fed.reads (taken ++ take start piece) (so_far taken r) none)
+
+pub stop_in_piece : (A : Arena ℕ) (old mid new : Reader) (piece : List ℕ) (start end : ℕ) (why : Why) → start ≤ end → end < length piece → get_or piece end 0 ≡ 10 →
+    ((taken : List ℕ) → IsReading A taken old → IsReading A (taken ++ take start piece) mid) → Feeds A mid new (take (end - start) (drop start piece) ++ 10 ∷ []) (Some why) → Feeds A old new piece (Some why)
+stop_in_piece A old mid new piece start end why low high newline so_far fed = record {
   reads = λ taken r none. (let h : ⊥ = cc in absurd h);
   stops = λ taken first r some.
       subst (λ bs. IsAtFault A bs new.lines first) (whole taken)
-      (fault_more A (taken ++ take (i + 1) piece) (drop (i + 1) piece) new.lines first
-      (subst (λ bs. IsAtFault A bs new.lines first) (one_more taken piece i l) (fed.stops (taken ++ take i piece) first (so_far taken r) some)));
+      (fault_more A (taken ++ take (end + 1) piece) (drop (end + 1) piece) new.lines first
+      (subst (λ bs. IsAtFault A bs new.lines first) (lines_more taken piece start end low high newline) (fed.stops (taken ++ take start piece) first (so_far taken r) some)));
 }
   where
-    whole : (taken : List ℕ) → (taken ++ take (i + 1) piece) ++ drop (i + 1) piece ≡ taken ++ piece
-    whole taken = append_assoc taken (take (i + 1) piece) (drop (i + 1) piece) ∙ ap (λ bs. taken ++ bs) (take-append-drop (i + 1) piece)
+    whole : (taken : List ℕ) → (taken ++ take (end + 1) piece) ++ drop (end + 1) piece ≡ taken ++ piece
+    whole taken = append_assoc taken (take (end + 1) piece) (drop (end + 1) piece) ∙ ap (λ bs. taken ++ bs) (take-append-drop (end + 1) piece)
+
+-- the bytes behind the last newline of a piece
+pub read_rest : (A : Arena ℕ) (old mid new : Reader) (piece rest : List ℕ) (start : ℕ) → rest ≡ drop start piece → IsLine (drop start piece) → ((taken : List ℕ) → IsReading A taken old → IsReading A (taken ++ take start piece) mid) →
+    new.audit ≡ mid.audit → new.lines ≡ mid.lines → ((bytes : List ℕ) → Holds mid.line bytes → Holds new.line (bytes ++ rest)) → Feeds A old new piece None
+read_rest A old mid new piece rest start is line so_far same count pushed = record {
+  reads = λ taken r none.
+      subst (λ bs. IsReading A bs new) (append_assoc taken (take start piece) (drop start piece) ∙ ap (λ bs. taken ++ bs) (take-append-drop start piece))
+      (read_partial A mid new (drop start piece) line same count (subst (λ bs. (bytes : List ℕ) → Holds mid.line bytes → Holds new.line (bytes ++ bs)) is pushed) (taken ++ take start piece) (so_far taken r));
+  stops = λ taken why r some. (let h : ⊥ = cc in absurd h);
+}
 
 -- The end
 

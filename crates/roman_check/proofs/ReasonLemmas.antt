@@ -1,61 +1,19 @@
 -- Reasons that hold, and pairs that are missing.
-use Rattle.std.proofs.Common.{◌≡◌, ◌≢◌, ℕ, ◌<◌, ◌==◌, Bool, true, false, not, ◌&&◌, List, [], ◌∷◌, length, Some, None, IsTrue, IsFalse, find, refl, sym, ap, ◌∙◌, subst, inl, inr}
+use Rattle.std.proofs.Common.{◌≡◌, ◌≢◌, ℕ, ◌+◌, ◌-◌, ◌*◌, ◌^◌, ◌/◌, ◌%◌, ◌<◌, ◌≤◌, Bool, true, false, not, ◌&&◌, ◌||◌, ◌⊎◌, [], ◌∷◌, map, length, Some, None, IsTrue, IsFalse, find, refl, sym, ap, ◌∙◌, subst, inl, inr, arith, add-one, eqb}
 use Rattle.std.specs.List.{list_any}
-use Rattle.std.proofs.lemmas.Bool.{true≢false, false≢true, not_from_false, not_from_true, not-false, and_from}
+use Rattle.std.specs.Int.{bit_at, trailing_zeros, w64}
+use Rattle.std.proofs.lemmas.Bool.{cases_lt, eq-eqb, false≢true}
+use Rattle.std.proofs.lemmas.Nat.{div-add-mod', div_below, row_fits, mul-le, same_from_place}
+use Rattle.std.proofs.lemmas.Nat.Bits.{bit_at-trailing_zeros}
+use Rattle.std.proofs.lemmas.List.Folds.{list_any-append}
 use Rattle.roman_model.specs.Lists.{IsIn, below}
-use Rattle.roman_model.specs.Arena.{Arena, Entry, is_listed, is_beaten, is_justified}
+use Rattle.roman_model.specs.Arena.{Arena}
 use Rattle.roman_model.specs.declared.reason.Reason.{Reason}
 use Rattle.roman_model.specs.declared.reason.Reason.TheVariants.{Final, Act}
-use Rattle.roman_model.specs.Numbers.{Sizes}
-use Rattle.roman_model.specs.Certificate.{reasons, could_be_listed}
-use Rattle.roman_model.proofs.Lists.{any_same, any_from, none_from, from_map, from_below, in_append_right, find_first, find_not_found, any_false, find_none, find_some, not_empty_ne}
-use Rattle.roman_model.proofs.ArenaLemmas.{beaten_none, beaten_by, unbeaten_from}
-use Rattle.roman_order.specs.Board.{has_entry}
-use Rattle.roman_joint.specs.Numbered.{IsNumbered}
-use Rattle.roman_joint.specs.Finding.{Finds}
-use Rattle.roman_joint.specs.declared.finding.Finding.{Finding}
-use Rattle.roman_joint.specs.declared.finding.Finding.TheVariants.{Good, NoOutcome, Leaves}
-
--- Listed pairs
-
-pub listed_is : (A : Arena ℕ) → IsNumbered A → (L : List (Entry ℕ)) (p : ℕ) → is_listed A L p ≡ has_entry L p
-listed_is A ok L p = any_same (λ x. A.same p x.node) (λ x. p == x.node) L (λ x i. ok.same p x.node)
-
--- an answer that the pair isn't listed, turned round
-pub listed_from : (A : Arena ℕ) → IsNumbered A → (L : List (Entry ℕ)) (p : ℕ) → false ≡ not (has_entry L p) → IsTrue (is_listed A L p)
-listed_from A ok L p e = listed_is A ok L p ∙ not-false (has_entry L p) (sym e)
-
-pub unlisted_from : (A : Arena ℕ) → IsNumbered A → (L : List (Entry ℕ)) (p : ℕ) → true ≡ not (has_entry L p) → IsFalse (is_listed A L p)
-unlisted_from A ok L p e = listed_is A ok L p ∙ not-true (has_entry L p) (sym e)
-  where
-    not-true : (b : Bool) → not b ≡ true → b ≡ false
-    not-true true e = absurd (false≢true e)
-    not-true false e = refl
-
--- Seats
-
-no_member : {X : Type 0} (xs : List X) → ((x : X) → IsIn x xs → ⊥) → xs ≡ []
-no_member [] none = refl
-no_member (x ∷ xs) none = absurd (none x (inl refl))
-
--- a seat that isn't ready is beaten
-pub not_ready : (A : Arena ℕ) → IsNumbered A → (gone : ℕ → Bool) (p a k : ℕ) → A.ready k ≡ false → true ≡ is_beaten A gone p a k
-not_ready A ok gone p a k frozen =
-    sym (beaten_none A gone p a k (no_member (A.outcomes p a k) (λ q i. true≢false (sym (ok.served p a k q i).2 ∙ frozen))))
-
--- outcomes of which none is listed
-pub found_good : (A : Arena ℕ) → IsNumbered A → (n : Sizes) (L : List (Entry ℕ)) (p a k : ℕ) → Finds n k (has_entry L) (A.outcomes p a k) Good → false ≡ is_beaten A (is_listed A L) p a k
-found_good A ok n L p a k found =
-    let (some, none) = found.is in
-    sym (unbeaten_from A (is_listed A L) p a k (not_empty_ne (A.outcomes p a k) some) (λ q i. listed_is A ok L q ∙ any_false (has_entry L) q (A.outcomes p a k) (find_none (has_entry L) (A.outcomes p a k) none) i))
-
--- no outcome, or one that is listed
-pub found_bad : (A : Arena ℕ) → IsNumbered A → (n : Sizes) (L : List (Entry ℕ)) (p a k : ℕ) (finding : Finding) → Finds n k (has_entry L) (A.outcomes p a k) finding → finding ≢ Good → true ≡ is_beaten A (is_listed A L) p a k
-found_bad A ok n L p a k Good found other = absurd (other refl)
-found_bad A ok n L p a k NoOutcome found other = sym (beaten_none A (is_listed A L) p a k found.is)
-found_bad A ok n L p a k (Leaves env state pair) found other =
-    let (i, gone) = find_some (has_entry L) (A.outcomes p a k) pair found.is.0 in
-    sym (beaten_by A (is_listed A L) p a k pair i (listed_is A ok L pair ∙ gone))
+use Rattle.roman_model.specs.Certificate.{reasons}
+use Rattle.roman_model.proofs.Lists.{none_from, from_map, from_below, find_first, find_not_found, list_any-map}
+use Rattle.roman_lanes.specs.Rows.{is_on}
+use Rattle.roman_rules.specs.Numbered.{IsNumbered}
 
 -- Reasons
 
@@ -66,31 +24,109 @@ given_action actions a (inr i) =
     let is : a ≡ b = cc in
     subst (λ n. n < actions) (sym is) (from_below actions b j)
 
--- Missing pairs
-
-pub listed_not_missing : (A : Arena ℕ) → IsNumbered A → (L : List (Entry ℕ)) (p : ℕ) → false ≡ not (has_entry L p) → false ≡ could_be_listed A L p
-listed_not_missing A ok L p e =
-    sym (ap (λ b. b && list_any (is_justified A (is_listed A L) p) (reasons A.actions)) (not_from_true (is_listed A L p) (listed_from A ok L p e)))
-
-pub missing_by : (A : Arena ℕ) → IsNumbered A → (L : List (Entry ℕ)) (p : ℕ) (r : Reason) → true ≡ not (has_entry L p) → IsIn r (reasons A.actions) → IsTrue (is_justified A (is_listed A L) p r) → true ≡ could_be_listed A L p
-missing_by A ok L p r e i holds =
-    sym (and_from (not (is_listed A L p)) (list_any (is_justified A (is_listed A L) p) (reasons A.actions)) (not_from_false (is_listed A L p) (unlisted_from A ok L p e))
-    (any_from (is_justified A (is_listed A L) p) r (reasons A.actions) i holds))
-
-pub not_missing : (A : Arena ℕ) → IsNumbered A → (L : List (Entry ℕ)) (p : ℕ) → true ≡ not (has_entry L p) → IsFalse (is_justified A (is_listed A L) p Final) →
-    ((a : ℕ) → a < A.actions → IsFalse (is_justified A (is_listed A L) p (Act a))) → false ≡ could_be_listed A L p
-not_missing A ok L p e final acts =
-    sym (ap (λ b. b && list_any (is_justified A (is_listed A L) p) (reasons A.actions)) (not_from_false (is_listed A L p) (unlisted_from A ok L p e))
-    ∙ none_from (is_justified A (is_listed A L) p) (reasons A.actions) (λ r i. no r i))
+any_below_more : (test : ℕ → Bool) (n : ℕ) → list_any test (below (n + 1)) ≡ (list_any test (below n) || test n)
+any_below_more test n =
+    ap (λ m. list_any test (below m)) (add-one n) ∙ list_any-append test (below n) (n ∷ []) ∙ ap (λ b. list_any test (below n) || b) (alone (test n))
   where
-    no : (r : Reason) → IsIn r (reasons A.actions) → IsFalse (is_justified A (is_listed A L) p r)
-    no Final i = final
-    no (Act a) i = acts a (given_action A.actions a i)
+    alone : (b : Bool) → (b || false) ≡ b
+    alone true = refl
+    alone false = refl
+
+-- one more action may be a reason
+pub reasons_more : (test : Reason → Bool) (a : ℕ) → list_any test (reasons (a + 1)) ≡ (list_any test (reasons a) || test (Act a))
+reasons_more test a =
+    ap (λ b. test Final || b) (list_any-map Act test (below (a + 1)) ∙ any_below_more (λ b. test (Act b)) a ∙ ap (λ b. b || test (Act a)) (sym (list_any-map Act test (below a))))
+    ∙ regroup (test Final) (list_any test (map Act (below a))) (test (Act a))
+  where
+    regroup : (x y z : Bool) → (x || (y || z)) ≡ ((x || y) || z)
+    regroup true y z = refl
+    regroup false y z = refl
+
+-- where clause 2 is the only reason that was asked about
+pub only_final : (unfine left fine : Bool) → unfine ≡ not fine → (unfine && left) ≡ (left && (not fine || false))
+only_final true true true e = e
+only_final true true false e = refl
+only_final true false fine e = refl
+only_final false true true e = refl
+only_final false true false e = e
+only_final false false fine e = refl
+
+-- one more action is asked about
+pub one_more : (left : Bool) (test : Reason → Bool) (a : ℕ) → ((left && list_any test (reasons a)) || (left && test (Act a))) ≡ (left && list_any test (reasons (a + 1)))
+one_more left test a = both left (list_any test (reasons a)) (test (Act a)) ∙ ap (λ b. left && b) (sym (reasons_more test a))
+  where
+    both : (l r j : Bool) → ((l && r) || (l && j)) ≡ (l && (r || j))
+    both true r j = refl
+    both false r j = refl
+
+pub and_none : (a b : Bool) → b ≡ false → (a && b) ≡ false
+and_none true b e = e
+and_none false b e = refl
+
+pub and_all : (a b : Bool) → b ≡ true → (a && b) ≡ a
+and_all true b e = e
+and_all false b e = refl
 
 -- The least one
+
+-- the lowest lane of a word
+pub record IsLowest (word lane : ℕ) : Type 0 where
+  pub on : is_on word lane ≡ true
+  pub before : (i : ℕ) → i < lane → is_on word i ≡ false
+
+pub lowest : (word : ℕ) → word ≢ 0 → word < 2 ^ 64 → IsLowest word (trailing_zeros w64 word)
+unfolding is_on
+lowest word some small =
+    let (within, one, none) = bit_at-trailing_zeros w64 word (omega arith) small in
+    record { on = eq-eqb (bit_at word (trailing_zeros w64 word)) 1 one; before = λ i l. ap (λ b. eqb b 1) (none i l) }
+
+-- it is a lane of the row, where no other is on
+pub lowest_within : (word lane lanes : ℕ) → IsLowest word lane → ((i : ℕ) → lanes ≤ i → is_on word i ≡ false) → lane < lanes
+lowest_within word lane lanes first off = elim (cases_lt lane lanes) [ inl less ↦ less | inr more ↦ absurd (false≢true (sym (off lane more) ∙ first.on)) ]
 
 pub least_found : (A : Arena ℕ) → IsNumbered A → (t : ℕ → Bool) (p : ℕ) → p < length A.nodes → IsTrue (t p) → ((q : ℕ) → q < p → IsFalse (t q)) → Some p ≡ find t A.nodes
 least_found A ok t p l here before = sym (ap (find t) ok.nodes ∙ find_first t (length A.nodes) p l here before)
 
 pub none_found : (A : Arena ℕ) → IsNumbered A → (t : ℕ → Bool) → ((q : ℕ) → q < length A.nodes → IsFalse (t q)) → None ≡ find t A.nodes
 none_found A ok t none = sym (ap (find t) ok.nodes ∙ find_not_found t (below (length A.nodes)) (none_from t (below (length A.nodes)) (λ q i. none q (from_below (length A.nodes) q i))))
+
+-- Rows
+
+-- a row begins at a pair, and ends at one
+pub row_starts : (x rows lanes n : ℕ) → x < rows → 0 < lanes → rows * lanes ≡ n → x * lanes < n
+row_starts x rows lanes n l some e = omega (arith, row_fits x lanes rows lanes l (le_itself lanes))
+  where
+    le_itself : (k : ℕ) → k ≤ k
+    le_itself k = omega arith
+
+pub row_ends : (x rows lanes n : ℕ) → x < rows → rows * lanes ≡ n → x * lanes + lanes ≤ n
+row_ends x rows lanes n l e = omega (arith, row_fits x lanes rows lanes l (le_itself lanes))
+  where
+    le_itself : (k : ℕ) → k ≤ k
+    le_itself k = omega arith
+
+-- as many rows as words
+pub row_among : (x rows words lanes : ℕ) → x < rows → 0 < lanes → rows * lanes ≡ words * lanes → x < words
+row_among x rows words lanes l some e =
+    let same : rows ≡ words = (same_from_place rows 0 words 0 lanes some some (ap (λ n. n + 0) e)).0 in
+    omega arith
+
+-- the row of a pair
+pub row_within : (row lane lanes rows p : ℕ) → row * lanes + lane ≡ p → p < rows * lanes → row < rows
+row_within row lane lanes rows p e l = elim (cases_lt row rows) [ inl less ↦ less | inr more ↦ (let past : rows * lanes ≤ row * lanes = mul-le rows lanes row lanes more (le_itself lanes) in absurd (omega arith)) ]
+  where
+    le_itself : (k : ℕ) → k ≤ k
+    le_itself k = omega arith
+
+-- what holds at each lane of the rows before one holds at each number before its first
+pub before_row : (lanes x : ℕ) (P : ℕ → Type 0) → 0 < lanes → ((y lane : ℕ) → y < x → lane < lanes → P (y * lanes + lane)) → (q : ℕ) → q < x * lanes → P q
+before_row lanes x P some each q l =
+    let whole : q / lanes * lanes + q % lanes ≡ q = div-add-mod' q lanes in
+    subst P whole (each (q / lanes) (q % lanes) (div_below q lanes x some l) (omega arith))
+
+-- and where it also holds at the first lanes of that row, at each number before the next lane
+pub before_lane : (lanes x first : ℕ) (P : ℕ → Type 0) → 0 < lanes → ((y lane : ℕ) → y < x → lane < lanes → P (y * lanes + lane)) → ((lane : ℕ) → lane < first → P (x * lanes + lane)) → (q : ℕ) → q < x * lanes + first → P q
+before_lane lanes x first P some rows here q l = elim (split q) [ inl less ↦ before_row lanes x P some rows q less | inr (d, e) ↦ subst P (sym e) (here d (omega arith)) ]
+  where
+    split : (q : ℕ) → (q < x * lanes) ⊎ ((d : ℕ) × (q ≡ x * lanes + d))
+    split q = elim (cases_lt q (x * lanes)) [ inl less ↦ inl less | inr more ↦ inr (q - x * lanes, omega arith) ]

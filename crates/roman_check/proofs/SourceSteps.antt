@@ -15,7 +15,7 @@ use Rattle.roman_check.specs.declared.reader.Reader.{Reader}
 use Rattle.roman_check.specs.declared.verdict.Why.{Why}
 use Rattle.roman_check.specs.Verdicts.{fault_of}
 use Rattle.roman_check.specs.Readers.{IsReading, IsAtFault}
-use Rattle.roman_check.specs.Checks.{Had, HaveVerdict, NoneAtFault, GaveAtMost}
+use Rattle.roman_check.specs.Checks.{Had, HaveVerdict, NoneAtFault, GaveAtMost, IsAtEnd}
 
 -- What the source had
 
@@ -32,6 +32,12 @@ had_all None None taken n gave ends none = tt
 had_all None (Some new) taken n gave ends none = absurd gave
 had_all (Some old) None taken n gave ends none = absurd gave
 had_all (Some old) (Some new) taken n gave ends none = gave ∙ ap (λ bs. taken ++ bs) (ends.0 none) ∙ append-nil taken
+
+-- it has none left then
+pub at_end : (mid now : Option (List ℕ)) (into : List ℕ) (n : ℕ) → Gave mid now (take n into) → EndsAt mid n → n ≡ 0 → IsAtEnd now
+at_end mid None into n gave ends none = tt
+at_end None (Some new) into n gave ends none = absurd gave
+at_end (Some old) (Some new) into n gave ends none = sym (gave ∙ ap (λ m. take m into ++ new) none) ∙ ends.0 none
 
 pub gave_at_most : (most : ℕ) (before mid now : Option (List ℕ)) (taken got : List ℕ) → Gave before mid taken → Gave mid now got → length taken + length got ≤ most → GaveAtMost most before now
 gave_at_most most before mid now taken got first second few = record {

@@ -1,9 +1,15 @@
--- Equal texts.
-use Rattle.std.proofs.Common.{◌≡◌, ℕ, ◌==◌, Bool, List, sym, ◌∙◌, subst, IsTrue}
+-- Equal texts, and texts that don't have a byte.
+use Rattle.std.proofs.Common.{◌≡◌, ℕ, zero, suc, ◌<◌, ◌==◌, Bool, List, [], ◌∷◌, length, take, get_or, None, Some, nat_lt, refl, sym, ◌∙◌, subst, inl, inr, arith, IsTrue, IsFalse}
+use Rattle.std.specs.List.{position, position_or_len}
 use Rattle.std.specs.Cmp.Lexicographic.{pointwise}
 use Rattle.std.proofs.lemmas.Bool.Decides.{Decides-eqb}
 use Rattle.std.proofs.lemmas.Slice.Eq.{slice_eq-Decides}
-use Rattle.roman_model.specs.System.{same_numbers}
+use Rattle.std.proofs.lemmas.Bool.{or_from, eqb-true, cases_lt, cond-true, lt-ltb}
+use Rattle.std.proofs.lemmas.List.{take_all}
+use Rattle.std.proofs.lemmas.List.Sums.{fails_before_first}
+use Rattle.std.proofs.lemmas.List.Quantifiers.{position-Some}
+use Rattle.std.proofs.lemmas.Option.{none-some}
+use Rattle.roman_model.specs.System.{has, same_numbers}
 use Rattle.roman_model.proofs.Lists.{same_test}
 use Rattle.roman_model.proofs.SystemLemmas.{same_numbers_is, same_numbers_itself}
 
@@ -19,3 +25,22 @@ pub same_as_eq : (xs ys zs : List ℕ) (r : Bool) → r ≡ pointwise (λ x y. x
 same_as_eq xs ys zs r e same =
     let (to, from) = slice_eq-Decides Decides-eqb xs ys r e in
     same_from r zs xs (λ t. sym (to t ∙ same)) (λ e. from (sym e ∙ sym same))
+
+-- a front of a text in which no byte is that one
+pub clear_before : (b : ℕ) (xs : List ℕ) (i : ℕ) → ((k : ℕ) → k < i → IsFalse (get_or xs k 0 == b)) → IsFalse (has (take i xs) b)
+clear_before b xs zero none = refl
+clear_before b [] (suc i) none = refl
+clear_before b (x ∷ xs) (suc i) none = or_from (x == b) (has (take i xs) b) (none 0 (omega arith)) (clear_before b xs i (λ k l. none (suc k) (omega arith)))
+
+-- the first place of a byte
+pub found_before : (b : ℕ) (xs : List ℕ) (i : ℕ) → position (λ x. x == b) xs ≡ Some i → (i < length xs) × IsFalse (has (take i xs) b) × (get_or xs i 0 ≡ b)
+found_before b xs i e =
+    let (l, here, before) = position-Some (λ x. x == b) xs i 0 e in
+    (l, clear_before b xs i before, eqb-true (get_or xs i 0) b here)
+
+-- it is nowhere
+pub found_nowhere : (b : ℕ) (xs : List ℕ) → position (λ x. x == b) xs ≡ None → IsFalse (has xs b)
+found_nowhere b xs e = elim (cases_lt (position_or_len (λ x. x == b) xs) (length xs)) [
+  | inl less ↦ absurd (none-some (position_or_len (λ x. x == b) xs) (sym e ∙ cond-true (nat_lt (position_or_len (λ x. x == b) xs) (length xs)) (Some (position_or_len (λ x. x == b) xs)) None (lt-ltb (position_or_len (λ x. x == b) xs) (length xs) less)))
+  | inr more ↦ subst (λ ys. IsFalse (has ys b)) (take_all (length xs) xs (omega arith)) (clear_before b xs (length xs) (λ k l. fails_before_first (λ x. x == b) xs k 0 (omega arith)))
+]

@@ -1,15 +1,17 @@
 -- What a checker knows of the lines that it has read.
-use Rattle.std.specs.Prelude.{◌≡◌, ℕ, List, [], ◌∷◌, ◌++◌, drop, length, Option, None, Some, if◌then◌else◌}
+use Rattle.std.specs.Prelude.{◌≡◌, ℕ, ◌*◌, List, [], ◌∷◌, ◌++◌, drop, length, Option, None, Some, if◌then◌else◌}
 use Rattle.std.specs.List.{list_any}
 use Rattle.std.specs.Option.{option_map}
 use Rattle.roman_model.specs.System.{same_numbers}
-use Rattle.roman_model.specs.Arena.{Arena}
+use Rattle.roman_model.specs.Arena.{Arena, Entry, is_listed}
 use Rattle.roman_model.specs.Certificate.{end_line, entries_on, line_fault}
+use Rattle.roman_rules.specs.Asked.{IsKnown}
 use Rattle.roman_check.specs.declared.audit.Audit.{Audit}
 use Rattle.roman_check.specs.declared.audit.Due.{Due}
 use Rattle.roman_check.specs.declared.audit.Due.TheVariants.{Head, Count, Body, Nothing}
 use Rattle.roman_check.specs.declared.verdict.Why.{Why}
 use Rattle.roman_check.specs.Verdicts.{fault_of}
+use Rattle.roman_check.specs.Remain.{Remain}
 
 -- the line that is due after those
 abbrev pub due_after : List (List ℕ) → Due
@@ -17,11 +19,20 @@ due_after [] = Head
 due_after (head ∷ []) = Count
 due_after (head ∷ size ∷ body) = if list_any (same_numbers end_line) body then Nothing else Body
 
+-- there is a bit for each of so many pairs, in rows of so many
+pub record IsShaped (lanes pairs : ℕ) (audit : Audit) : Type 0 where
+  pub in_rows : audit.left.lanes ≡ lanes
+  pub room : length audit.left.words.items * lanes ≡ pairs
+
+-- the entries that were read are those of the list
+pub record HasListed (A : Arena ℕ) (L : List (Entry ℕ)) (audit : Audit) : Type 0 where
+  pub left : Remain (length A.nodes) (is_listed A L) audit.left
+  pub known : IsKnown A audit.left.lanes (is_listed A L) audit.asked
+
 -- those are the lines that were read
 pub record HasRead (A : Arena ℕ) (text : List (List ℕ)) (audit : Audit) : Type 0 where
-  pub shaped : audit.order.pairs ≡ length A.nodes
   pub due : audit.due ≡ due_after text
-  pub list : audit.order.list ≡ entries_on A (drop 2 text)
+  pub list : HasListed A (entries_on A (drop 2 text)) audit
 
 -- the fault of the line that follows is named, and where it has none it was read
 pub record Judges (A : Arena ℕ) (old new : Audit) (line : List ℕ) (fault : Option Why) : Type 0 where

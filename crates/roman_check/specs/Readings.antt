@@ -1,6 +1,12 @@
 -- What a text is read as.
 use Rattle.std.specs.Prelude.{◌≡◌, ◌≢◌, ℕ, List, Option, None, Some}
 use Rattle.roman_model.specs.Lists.{IsIn}
+use Rattle.roman_model.specs.Arena.{Entry}
+use Rattle.roman_model.specs.declared.reason.Reason.{Reason}
+
+-- the entry of a pair and a reason
+abbrev pub entry_with : ℕ × Reason → Entry ℕ
+entry_with x = record { node = x.0; reason = x.1 }
 
 -- the answer is the thing among those whose text that is, or that there is none
 abbrev pub IsReading : {X : Type 0} → List X → (X → List ℕ) → List ℕ → Option X → Type 0

@@ -1,17 +1,18 @@
 // What was read of a certificate, and the next line judged by it.
-ghost use Rattle.std.specs.Prelude.{◌≡◌, ℕ, ◌<◌, ◌++◌, [], ◌∷◌, None, Some, length, IfOk, if◌then◌else◌};
+ghost use Rattle.std.specs.Prelude.{◌≡◌, ℕ, ◌*◌, ◌<◌, ◌++◌, not, List, [], ◌∷◌, None, Some, length, IfOk, if◌then◌else◌};
 ghost use Rattle.std.specs.Option.{option_map};
 ghost use Rattle.roman_model.specs.System.{same_numbers};
+ghost use Rattle.roman_model.specs.Arena.{Arena, Entry, is_listed};
 ghost use Rattle.roman_model.specs.Certificate.{end_line, entry_of, entries_on, entry_fault, body_fault};
 ghost use Rattle.roman_check.specs.Verdicts.{fault_of};
-ghost use Rattle.roman_check.specs.Audits.{HasRead, Judges};
+ghost use Rattle.roman_check.specs.Audits.{IsShaped, HasListed, HasRead, Judges};
 
 use crate::entries::{entry, is_count, is_end, is_head};
-use crate::justify::{first_missing, justifies};
+use crate::missing::first_missing;
+use crate::table::Remaining;
 use crate::verdict::Why;
 use roman_io::Steps;
-use roman_joint::Rules;
-use roman_order::Order;
+use roman_rules::{Asked, Rules};
 use std::alloc::{AllocError, Global};
 use std::sync::ledger::Ledger;
 
@@ -32,20 +33,23 @@ pub(crate) enum Due {
 #[derive(Drop)]
 pub(crate) struct Audit {
     pub(crate) due: Due,
-    // the entries
-    pub(crate) order: Order,
+    // the pairs that no entry names
+    pub(crate) left: Remaining,
+    // what a row answered about the reason of an entry
+    pub(crate) asked: Asked,
 }
 
 impl Audit {
     /// No line was read.
-    pub(crate) fn build(alloc: Global, pairs: u32) -> Result<Audit, AllocError>
-        ensures empty { IfOk result (λ audit. (audit.due ≡ Due.Head) × (audit.order.list ≡ []) × (audit.order.pairs ≡ pairs)) }
+    pub(crate) fn build<J: Rules>(alloc: Global, joint: &J) -> Result<Audit, AllocError>
+        ensures due { IfOk result (λ audit. audit.due ≡ Due.Head) }
+        ensures list { IfOk result (HasListed (J.arena joint.now) []) }
+        ensures shaped { IfOk result (IsShaped (J.lanes joint.now) (length (J.arena joint.now).nodes)) }
     {
-        let mut order = Order::build(alloc, pairs, 0)?;
-        order.shape_to(pairs, 0);
         Ok(Audit {
             due: Due::Head,
-            order,
+            left: Remaining::build(alloc, joint.rows(), joint.lanes(), joint.pairs())?,
+            asked: Asked::nothing(),
         })
     }
 
@@ -53,7 +57,7 @@ impl Audit {
     fn judge_opening(&mut self, is_due: bool, next: Due) -> Option<Why>
         ensures fault { result ≡ (if is_due then None else Some Why.Form) }
         ensures read { result ≡ None → self.new.due ≡ next }
-        ensures rest { self.new.order ≡ self.old.order }
+        ensures rest { self.new ≡ record self.old { due = self.new.due } }
     {
         if !is_due {
             return Some(Why::Form);
@@ -69,23 +73,30 @@ impl Audit {
         line: &[u8],
         steps: &mut Steps<L>,
     ) -> Option<Why>
-        requires shaped { self.old.order.pairs ≡ length (J.arena joint.now).nodes }
-        ensures fault { option_map fault_of result ≡ entry_fault (J.arena joint.now) self.old.order.list
-            (entry_of (length (J.arena joint.now).nodes) (J.arena joint.now).actions line.now) }
-        ensures list { result ≡ None → self.new.order.list ≡ self.old.order.list ++ entries_on (J.arena joint.now) (line.now ∷ []) }
-        ensures rest { self.new ≡ record self.old { order = record self.old.order { list = self.new.order.list } } }
+        requires shaped { IsShaped (J.lanes joint.now) (length (J.arena joint.now).nodes) self.old }
+        ensures fault { let A = J.arena joint.now in
+            (L : List (Entry ℕ)) → HasListed A L self.old →
+            option_map fault_of result ≡ entry_fault A L (entry_of (length A.nodes) A.actions line.now) }
+        ensures list { let A = J.arena joint.now in
+            (L : List (Entry ℕ)) → HasListed A L self.old → result ≡ None → HasListed A (L ++ entries_on A (line.now ∷ [])) self.new }
+        ensures shaped { IsShaped (J.lanes joint.now) (length (J.arena joint.now).nodes) self.new }
+        ensures due { self.new.due ≡ self.old.due }
     {
         joint.known();
         let Some((pair, reason)) = entry(line, joint.pairs(), joint.actions()) else {
             return Some(Why::Form);
         };
-        if !self.order.alive(pair) {
+        let (row, lane) = self.left.place(self.asked.row, pair);
+        if !self.left.has(row, lane) {
             return Some(Why::Repeated);
         }
-        if !justifies(joint, &self.order, pair, reason, steps) {
+        if !self
+            .asked
+            .holds(joint, self.left.words(), pair, reason, steps)
+        {
             return Some(Why::Unjustified);
         }
-        self.order.push(pair, reason);
+        self.left.remove(row, lane);
         None
     }
 
@@ -96,18 +107,20 @@ impl Audit {
         line: &[u8],
         steps: &mut Steps<L>,
     ) -> Option<Why>
-        requires shaped { self.old.order.pairs ≡ length (J.arena joint.now).nodes }
-        ensures fault { option_map fault_of result ≡ body_fault (J.arena joint.now) self.old.order.list (Some line.now) }
-        ensures list { result ≡ None → self.new.order.list ≡ self.old.order.list ++ entries_on (J.arena joint.now) (line.now ∷ []) }
+        requires shaped { IsShaped (J.lanes joint.now) (length (J.arena joint.now).nodes) self.old }
+        ensures fault { let A = J.arena joint.now in
+            (L : List (Entry ℕ)) → HasListed A L self.old → option_map fault_of result ≡ body_fault A L (Some line.now) }
+        ensures list { let A = J.arena joint.now in
+            (L : List (Entry ℕ)) → HasListed A L self.old → result ≡ None → HasListed A (L ++ entries_on A (line.now ∷ [])) self.new }
         ensures due { self.new.due ≡ (if same_numbers end_line line.now then Due.Nothing else self.old.due) }
-        ensures rest { self.new.order ≡ record self.old.order { list = self.new.order.list } }
+        ensures shaped { IsShaped (J.lanes joint.now) (length (J.arena joint.now).nodes) self.new }
     {
         joint.known();
         if !is_end(line) {
             return self.judge_entry(joint, line, steps);
         }
         self.due = Due::Nothing;
-        match first_missing(joint, &self.order, steps) {
+        match first_missing(joint, self.left.words()) {
             Some(pair) => Some(Why::Unlisted(pair)),
             None => None,
         }
@@ -120,9 +133,9 @@ impl Audit {
         line: &[u8],
         steps: &mut Steps<L>,
     ) -> Option<Why>
-        requires shaped { self.old.order.pairs ≡ length (J.arena joint.now).nodes }
+        requires shaped { IsShaped (J.lanes joint.now) (length (J.arena joint.now).nodes) self.old }
         ensures judged { Judges (J.arena joint.now) self.old self.new line.now result }
-        ensures shaped { self.new.order.pairs ≡ self.old.order.pairs }
+        ensures shaped { IsShaped (J.lanes joint.now) (length (J.arena joint.now).nodes) self.new }
     {
         match self.due {
             Due::Head => self.judge_opening(is_head(line), Due::Count),
@@ -130,5 +143,14 @@ impl Audit {
             Due::Body => self.judge_body(joint, line, steps),
             Due::Nothing => Some(Why::Form),
         }
+    }
+
+    /// Whether no entry names the pair `p`.
+    pub(crate) fn is_left(&self, p: u32) -> bool
+        requires { p < length self.now.left.words.items * self.now.left.lanes }
+        ensures { (A : Arena ℕ) (L : List (Entry ℕ)) → HasListed A L self.now → result ≡ not (is_listed A L p) }
+    {
+        let (row, lane) = self.left.place(self.asked.row, p);
+        self.left.has(row, lane)
     }
 }

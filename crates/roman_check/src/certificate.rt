@@ -3,6 +3,7 @@ ghost use Rattle.std.specs.Prelude.{◌≡◌, ◌≢◌, ℕ, ◌+◌, ◌<◌,
 ghost use Rattle.roman_io.specs.Faults.{Rose};
 ghost use Rattle.roman_model.specs.Certificate.{TooLong};
 ghost use Rattle.roman_check.specs.Verdicts.{verdict_of};
+ghost use Rattle.roman_check.specs.Audits.{IsShaped};
 ghost use Rattle.roman_check.specs.Readers.{IsReading};
 ghost use Rattle.roman_check.specs.Checks.{HaveVerdict, NoneAtFault, GaveAtMost, IsAtEnd, SaysGreatest, Comes};
 
@@ -10,8 +11,8 @@ use crate::error::CheckError;
 use crate::reader::Reader;
 use crate::verdict::Verdict;
 use roman_io::{Source, Steps};
-use roman_joint::Rules;
 use roman_model::MAX_CERTIFICATE_BYTES;
+use roman_rules::Rules;
 use std::alloc::Global;
 use std::sync::ledger::Ledger;
 
@@ -27,7 +28,7 @@ fn read<J: Rules, S: Source, L: Ledger>(
     steps: &mut Steps<L>,
 ) -> Result<Verdict, CheckError>
     requires start { start < length (J.arena joint.now).nodes }
-    requires shaped { reader.old.audit.order.pairs ≡ length (J.arena joint.now).nodes }
+    requires shaped { IsShaped (J.lanes joint.now) (length (J.arena joint.now).nodes) reader.old.audit }
     requires lines { reader.old.lines ≡ 0 }
     requires reading { IsReading (J.arena joint.now) [] reader.old }
     ensures comes { Comes (J.arena joint.now) start (S.rest source.old) (S.rest source.new) (S.faults source.old) (S.faults source.new) result }
@@ -86,6 +87,6 @@ pub fn check<J: Rules, S: Source, L: Ledger>(
     ensures borrowed { S.borrowed source.new ≡ S.borrowed source.old }
     ensures texts { S.texts source.new ≡ S.texts source.old }
 {
-    let mut reader = Reader::build(alloc, joint.pairs())?;
+    let mut reader = Reader::build(alloc, joint)?;
     read(&mut reader, joint, start, source, steps)
 }

@@ -1,12 +1,11 @@
 // The lines of a certificate.
-ghost use Rattle.std.specs.Prelude.{◌≡◌, ◌==◌, position};
+ghost use Rattle.std.specs.Prelude.{◌≡◌};
 ghost use Rattle.std.specs.Option.{option_map};
 ghost use Rattle.roman_model.specs.System.{same_numbers};
 ghost use Rattle.roman_model.specs.Certificate.{head_line, count_line, end_line, reason_text, reasons, entry_of};
-ghost use Rattle.roman_order.specs.Board.{entry_of as entry_with};
-ghost use Rattle.roman_check.specs.Readings.{Reads};
+ghost use Rattle.roman_check.specs.Readings.{entry_with, Reads};
 
-use crate::numbers::{is_number, number_below};
+use crate::numbers::{is_number, number_below, number_to_space, trim_below};
 use roman_model::Reason;
 
 /// Whether that is the first line of a certificate.
@@ -51,19 +50,12 @@ fn reason(text: &[u8], actions: u8) -> Option<Reason>
     Some(Reason::Act(action as u8))
 }
 
-/// Where the first space of a line stands.
-fn first_space(line: &[u8]) -> Option<usize>
-    ensures { result ≡ position (λ byte. byte == 32) line.now }
-{
-    line.iter().position(|byte| *byte == b' ')
-}
-
 /// The entry whose line that is, where there are so many pairs and actions.
 pub(crate) fn entry(line: &[u8], pairs: u32, actions: u8) -> Option<(u32, Reason)>
     ensures { option_map entry_with result ≡ entry_of pairs actions line.now }
 {
-    let space = first_space(line)?;
-    let pair = number_below(&line[..space], pairs)?;
+    let (value, space) = number_to_space(line)?;
+    let pair = trim_below(value, &line[..space], pairs)?;
     let reason = reason(&line[space + 1..], actions)?;
     Some((pair, reason))
 }

@@ -9,10 +9,12 @@ mod audit;
 mod certificate;
 mod entries;
 mod error;
-mod justify;
 mod line;
+mod missing;
 mod numbers;
 mod reader;
+mod remaining;
+mod table;
 mod verdict;
 
 pub use certificate::check;

@@ -24,16 +24,17 @@ impl Line {
         }
     }
 
-    /// Adds a byte.
-    pub(crate) fn push(&mut self, byte: u8)
-        ensures { (bytes : List ℕ) → Holds self.old bytes → Holds self.new (bytes ++ byte ∷ []) }
+    /// Adds bytes.
+    pub(crate) fn extend(&mut self, more: &[u8])
+        ensures { (bytes : List ℕ) → Holds self.old bytes → Holds self.new (bytes ++ more.now) }
     {
-        if self.len < ROOM {
-            self.bytes[self.len] = byte;
-            self.len += 1;
-        } else {
+        if self.len > ROOM || more.len() > ROOM - self.len {
             self.len = ROOM + 1;
+            return;
         }
+        let end = self.len + more.len();
+        self.bytes[self.len..end].copy_from_slice(more);
+        self.len = end;
     }
 
     /// Forgets all bytes.

@@ -1,7 +1,7 @@
 // Decimal numbers.
-ghost use Rattle.std.specs.Prelude.{◌≡◌, ◌≢◌, ℕ, ◌^◌, ◌<◌, ◌≤◌, length, decimal, MatchOption, IsTrue, ◌↔◌};
+ghost use Rattle.std.specs.Prelude.{◌≡◌, ◌≢◌, ℕ, ◌<◌, ◌≤◌, length, take, decimal, MatchOption, IsTrue, ◌↔◌};
 ghost use Rattle.std.specs.Str.Parse.{AllDigits, digits_value};
-ghost use Rattle.roman_check.specs.Decimals.{IsTrim};
+ghost use Rattle.roman_check.specs.Decimals.{IsTrim, IsNumberTo};
 
 /// The greatest number of digits that a `u32` has.
 const MOST_DIGITS: usize = 10;
@@ -23,6 +23,27 @@ fn digits(text: &[u8]) -> Option<u64>
     Some(value)
 }
 
+/// The number that the digits before the first space of a line are, also where zeros lead, and where
+/// that space stands; `None` exactly where no space follows at most ten digits.
+pub(crate) fn number_to_space(line: &[u8]) -> Option<(u64, usize)>
+    ensures { MatchOption result
+        ((i : ℕ) → IsNumberTo line.now i → ⊥)
+        (λ r. IsNumberTo line.now r.1 × (r.0 ≡ digits_value 10 (take r.1 line.now))) }
+{
+    let mut value = 0u64;
+    for i in 0..line.len().min(MOST_DIGITS + 1) {
+        let byte = line[i];
+        if byte == b' ' {
+            return Some((value, i));
+        }
+        if !byte.is_ascii_digit() {
+            return None;
+        }
+        value = value * 10 + u64::from(byte - b'0');
+    }
+    None
+}
+
 /// Whether the text is as long as that of a `u32`, and no zero leads.
 fn is_trim(text: &[u8]) -> bool
     ensures { IsTrue result ↔ IsTrim text.now }
@@ -30,29 +51,18 @@ fn is_trim(text: &[u8]) -> bool
     !text.is_empty() && text.len() <= MOST_DIGITS && (text.len() == 1 || text[0] != b'0')
 }
 
-/// The number below 2^32 whose decimal text that is.
-fn number(text: &[u8]) -> Option<u32>
+/// The value of the digits of a text, where it is below the bound and they are its decimal text.
+pub(crate) fn trim_below(value: u64, text: &[u8], bound: u32) -> Option<u32>
+    requires digits { AllDigits 10 text.now }
+    requires value { value ≡ digits_value 10 text.now }
     ensures { MatchOption result
-        ((n : ℕ) → n < 2 ^ 32 → decimal n ≢ text.now)
-        (λ n. (n < 2 ^ 32) × (decimal n ≡ text.now)) }
+        ((n : ℕ) → n < bound → decimal n ≢ text.now)
+        (λ n. (n < bound) × (decimal n ≡ text.now)) }
 {
-    if !is_trim(text) {
+    if !is_trim(text) || value >= u64::from(bound) {
         return None;
     }
-    match digits(text) {
-        Some(value) => u32::try_from(value).ok(),
-        None => None,
-    }
-}
-
-/// Whether that is the decimal text of the number.
-pub(crate) fn is_number(text: &[u8], n: u32) -> bool
-    ensures { IsTrue result ↔ (decimal n ≡ text.now) }
-{
-    match number(text) {
-        Some(m) => m == n,
-        None => false,
-    }
+    Some(value as u32)
 }
 
 /// The number below the bound whose decimal text that is.
@@ -61,6 +71,22 @@ pub(crate) fn number_below(text: &[u8], bound: u32) -> Option<u32>
         ((n : ℕ) → n < bound → decimal n ≢ text.now)
         (λ n. (n < bound) × (decimal n ≡ text.now)) }
 {
-    let n = number(text)?;
-    if n < bound { Some(n) } else { None }
+    if text.len() > MOST_DIGITS {
+        return None;
+    }
+    let value = digits(text)?;
+    trim_below(value, text, bound)
+}
+
+/// Whether that is the decimal text of the number.
+pub(crate) fn is_number(text: &[u8], n: u32) -> bool
+    ensures { IsTrue result ↔ (decimal n ≡ text.now) }
+{
+    if !is_trim(text) {
+        return false;
+    }
+    match digits(text) {
+        Some(value) => value == u64::from(n),
+        None => false,
+    }
 }

@@ -1,20 +1,20 @@
-// A certificate that is read byte by byte, in whatever pieces it comes.
-ghost use Rattle.std.specs.Prelude.{◌≡◌, ℕ, ◌+◌, ◌<◌, ◌≤◌, List, [], ◌∷◌, length, IfOk};
-ghost use Rattle.roman_model.specs.Lines.{lines};
+// A certificate that is read line by line, in whatever pieces it comes.
+ghost use Rattle.std.specs.Prelude.{◌≡◌, ℕ, ◌+◌, ◌-◌, ◌*◌, ◌<◌, ◌≤◌, ◌++◌, List, [], ◌∷◌, length, take, drop, slice_index, position, ◌==◌, IfOk, MatchOption};
+ghost use Rattle.roman_model.specs.Lines.{lines, IsLine};
 ghost use Rattle.roman_model.specs.Arena.{Arena};
 ghost use Rattle.roman_model.specs.Certificate.{cert_verdict};
-ghost use Rattle.roman_joint.specs.Numbered.{IsNumbered};
+ghost use Rattle.roman_rules.specs.Numbered.{IsNumbered};
 ghost use Rattle.roman_check.specs.Verdicts.{verdict_of};
 ghost use Rattle.roman_check.specs.Lines.{Holds};
-ghost use Rattle.roman_check.specs.Audits.{Judges};
+ghost use Rattle.roman_check.specs.Audits.{IsShaped, Judges};
 ghost use Rattle.roman_check.specs.Readers.{IsReading, HasLines, Feeds, Closes};
 
 use crate::audit::{Audit, Due};
 use crate::line::Line;
 use crate::verdict::{Verdict, Why};
 use roman_io::Steps;
-use roman_joint::Rules;
 use roman_model::MAX_CERTIFICATE_BYTES;
+use roman_rules::Rules;
 use std::alloc::{AllocError, Global};
 use std::sync::ledger::Ledger;
 
@@ -27,15 +27,34 @@ pub(crate) struct Reader {
     pub(crate) lines: u32,
 }
 
+/// Where the first newline stands.
+fn first_newline(bytes: &[u8]) -> Option<usize>
+    ensures { result ≡ position (λ byte. byte == 10) bytes.now }
+{
+    bytes.iter().position(|byte| *byte == b'\n')
+}
+
+/// Where the first newline stands, from a place on.
+fn next_newline(piece: &[u8], start: usize) -> Option<usize>
+    requires { start ≤ length piece.now }
+    ensures { MatchOption result (IsLine (drop start piece.now))
+        (λ end. (start ≤ end) × (end < length piece.now) × IsLine (take (end - start) (drop start piece.now)) × (slice_index piece.now end ≡ 10)) }
+{
+    match first_newline(&piece[start..]) {
+        Some(found) => Some(start + found),
+        None => None,
+    }
+}
+
 impl Reader {
     /// Nothing was read.
-    pub(crate) fn build(alloc: Global, pairs: u32) -> Result<Reader, AllocError>
-        ensures reading { IfOk result (λ reader. (A : Arena ℕ) → pairs ≡ length A.nodes → IsReading A [] reader) }
-        ensures shaped { IfOk result (λ reader. reader.audit.order.pairs ≡ pairs) }
+    pub(crate) fn build<J: Rules>(alloc: Global, joint: &J) -> Result<Reader, AllocError>
+        ensures reading { IfOk result (IsReading (J.arena joint.now) []) }
+        ensures shaped { IfOk result (λ reader. IsShaped (J.lanes joint.now) (length (J.arena joint.now).nodes) reader.audit) }
         ensures lines { IfOk result (λ reader. reader.lines ≡ 0) }
     {
         Ok(Reader {
-            audit: Audit::build(alloc, pairs)?,
+            audit: Audit::build(alloc, joint)?,
             line: Line::new(),
             lines: 0,
         })
@@ -43,10 +62,10 @@ impl Reader {
 
     /// Judges the line that was read so far.
     fn judge<J: Rules, L: Ledger>(&mut self, joint: &J, steps: &mut Steps<L>) -> Option<Why>
-        requires shaped { self.old.audit.order.pairs ≡ length (J.arena joint.now).nodes }
+        requires shaped { IsShaped (J.lanes joint.now) (length (J.arena joint.now).nodes) self.old.audit }
         ensures judged { (bytes : List ℕ) → Holds self.old.line bytes →
             Judges (J.arena joint.now) self.old.audit self.new.audit bytes result }
-        ensures shaped { self.new.audit.order.pairs ≡ self.old.audit.order.pairs }
+        ensures shaped { IsShaped (J.lanes joint.now) (length (J.arena joint.now).nodes) self.new.audit }
         ensures rest { self.new ≡ record self.old { audit = self.new.audit } }
     {
         joint.known();
@@ -56,24 +75,41 @@ impl Reader {
         }
     }
 
-    /// Reads a byte, and names the fault of the line that it ends.
-    fn step<J: Rules, L: Ledger>(
+    /// Judges the line that ends with those bytes.
+    fn judge_end<J: Rules, L: Ledger>(
         &mut self,
         joint: &J,
-        byte: u8,
+        last: &[u8],
         steps: &mut Steps<L>,
     ) -> Option<Why>
-        requires shaped { self.old.audit.order.pairs ≡ length (J.arena joint.now).nodes }
+        requires shaped { IsShaped (J.lanes joint.now) (length (J.arena joint.now).nodes) self.old.audit }
+        ensures judged { (bytes : List ℕ) → Holds self.old.line bytes →
+            Judges (J.arena joint.now) self.old.audit self.new.audit (bytes ++ last.now) result }
+        ensures shaped { IsShaped (J.lanes joint.now) (length (J.arena joint.now).nodes) self.new.audit }
+        ensures lines { self.new.lines ≡ self.old.lines }
+    {
+        if self.line.is_empty() {
+            return self.audit.judge(joint, last, steps);
+        }
+        self.line.extend(last);
+        self.judge(joint, steps)
+    }
+
+    /// Reads the bytes with which a line ends and its newline, and names its fault.
+    fn end_line<J: Rules, L: Ledger>(
+        &mut self,
+        joint: &J,
+        last: &[u8],
+        steps: &mut Steps<L>,
+    ) -> Option<Why>
+        requires shaped { IsShaped (J.lanes joint.now) (length (J.arena joint.now).nodes) self.old.audit }
+        requires line { IsLine last.now }
         requires room { self.old.lines < MAX_CERTIFICATE_BYTES }
-        ensures fed { Feeds (J.arena joint.now) self.old self.new (byte ∷ []) result }
-        ensures shaped { self.new.audit.order.pairs ≡ self.old.audit.order.pairs }
+        ensures fed { Feeds (J.arena joint.now) self.old self.new (last.now ++ 10 ∷ []) result }
+        ensures shaped { IsShaped (J.lanes joint.now) (length (J.arena joint.now).nodes) self.new.audit }
         ensures lines { self.new.lines ≤ self.old.lines + 1 }
     {
-        if byte != b'\n' {
-            self.line.push(byte);
-            return None;
-        }
-        if let Some(why) = self.judge(joint, steps) {
+        if let Some(why) = self.judge_end(joint, last, steps) {
             return Some(why);
         }
         self.line.clear();
@@ -88,26 +124,29 @@ impl Reader {
         piece: &[u8],
         steps: &mut Steps<L>,
     ) -> Option<Why>
-        requires shaped { self.old.audit.order.pairs ≡ length (J.arena joint.now).nodes }
+        requires shaped { IsShaped (J.lanes joint.now) (length (J.arena joint.now).nodes) self.old.audit }
         requires room { self.old.lines + length piece.now ≤ MAX_CERTIFICATE_BYTES }
         ensures fed { Feeds (J.arena joint.now) self.old self.new piece.now result }
-        ensures shaped { self.new.audit.order.pairs ≡ self.old.audit.order.pairs }
+        ensures shaped { IsShaped (J.lanes joint.now) (length (J.arena joint.now).nodes) self.new.audit }
         ensures lines { self.new.lines ≤ self.old.lines + length piece.now }
     {
-        for byte in piece {
-            if let Some(why) = self.step(joint, *byte, steps) {
+        let mut start = 0;
+        while let Some(end) = next_newline(piece, start) {
+            if let Some(why) = self.end_line(joint, &piece[start..end], steps) {
                 return Some(why);
             }
+            start = end + 1;
         }
+        self.line.extend(&piece[start..]);
         None
     }
 
     /// Reads the last line where its newline is missing, and names its fault.
     fn close<J: Rules, L: Ledger>(&mut self, joint: &J, steps: &mut Steps<L>) -> Option<Why>
-        requires shaped { self.old.audit.order.pairs ≡ length (J.arena joint.now).nodes }
+        requires shaped { IsShaped (J.lanes joint.now) (length (J.arena joint.now).nodes) self.old.audit }
         requires room { self.old.lines ≤ MAX_CERTIFICATE_BYTES }
         ensures closed { Closes (J.arena joint.now) self.old self.new result }
-        ensures shaped { self.new.audit.order.pairs ≡ self.old.audit.order.pairs }
+        ensures shaped { IsShaped (J.lanes joint.now) (length (J.arena joint.now).nodes) self.new.audit }
         ensures lines { self.new.lines ≤ self.old.lines + 1 }
     {
         if self.line.is_empty() {
@@ -122,15 +161,15 @@ impl Reader {
 
     /// The verdict where no line is at fault and none follows.
     fn conclude(&self, start: u32) -> Verdict
-        requires start { start < self.now.audit.order.pairs }
+        requires start { start < length self.now.audit.left.words.items * self.now.audit.left.lanes }
         requires room { self.now.lines ≤ MAX_CERTIFICATE_BYTES + 1 }
         ensures { (A : Arena ℕ) (bytes : List ℕ) → IsNumbered A → HasLines A (lines bytes) self.now →
             length bytes ≤ MAX_CERTIFICATE_BYTES → cert_verdict A start bytes ≡ verdict_of result }
     {
         match self.audit.due {
             Due::Nothing => Verdict::Greatest {
-                related: self.audit.order.unlisted(),
-                start: self.audit.order.alive(start),
+                related: self.audit.left.count,
+                start: self.audit.is_left(start),
             },
             _ => Verdict::Rejected {
                 line: self.lines + 1,
@@ -146,7 +185,7 @@ impl Reader {
         start: u32,
         steps: &mut Steps<L>,
     ) -> Verdict
-        requires shaped { self.old.audit.order.pairs ≡ length (J.arena joint.now).nodes }
+        requires shaped { IsShaped (J.lanes joint.now) (length (J.arena joint.now).nodes) self.old.audit }
         requires room { self.old.lines ≤ MAX_CERTIFICATE_BYTES }
         requires start { start < length (J.arena joint.now).nodes }
         ensures { (bytes : List ℕ) → IsReading (J.arena joint.now) bytes self.old →

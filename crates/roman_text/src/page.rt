@@ -1,5 +1,5 @@
 //! Output that is gathered in a buffer of fixed size.
-ghost use Rattle.std.specs.Prelude.{◌≡◌, ◌+◌, ◌≤◌, ◌++◌, [], length};
+ghost use Rattle.std.specs.Prelude.{◌≡◌, ◌+◌, ◌≤◌, ◌++◌, [], length, decimal};
 ghost use Rattle.roman_io.specs.Faults.{HasCause};
 ghost use Rattle.roman_io.specs.Sink.{Puts};
 ghost use Rattle.roman_text.specs.Pages.{Gathers};
@@ -8,6 +8,7 @@ ghost use Rattle.roman_text.specs.Report.{line_text};
 
 use crate::replies::{Reply, reply_piece};
 use crate::report::{ReportLine, report_piece};
+use itoa::Buffer;
 use roman_io::{Failed, Sink};
 use std::marker::Model;
 
@@ -69,6 +70,14 @@ impl Page {
         let result = out.put(&self.bytes[..self.len]);
         self.len = 0;
         result
+    }
+
+    /// Takes a number, in decimal digits, as [`Page::push`] takes bytes.
+    pub fn push_number<O: Sink>(&mut self, n: u32, out: &mut O) -> Result<(), Failed>
+        ensures gathers { Gathers (O.written out.old) (O.written out.new) self.new (self.old ++ decimal n) result }
+        ensures cause { HasCause (O.faults out.old) (O.faults out.new) result }
+    {
+        self.push(Buffer::new().format(n).as_bytes(), out)
     }
 
     /// Takes a reply, as [`Page::push`] takes bytes.

@@ -1,5 +1,7 @@
-use Rattle.std.proofs.Common.{◌+◌, [], codes, ◌∙◌, arith}
+use Rattle.std.proofs.Common.{◌+◌, [], ◌∷◌, codes, refl, ◌∙◌, arith}
 use Rattle.std.proofs.lemmas.Result.{err_from_is_err_and}
+use Rattle.roman_model.specs.Lines.{text_of}
+use Rattle.roman_model.specs.Certificate.{entry_line}
 use Rattle.roman_order.specs.Board.{entry_of}
 use Rattle.roman_text.proofs.Filling.{fill_whole, fill_same, fill_more, fill_failed, fill_put}
 use Rattle.roman_cert.proofs.Certificates.{rest_from, cert_begins, cert_next, cert_ends}
@@ -21,31 +23,31 @@ loop-i-init g c =
       cause = c.in_ok-push.ensures.cause.stays;
     }
 
-pub returns-in_err-push-2-clause-text : goal.returns-in_err-push-2-clause-text
-returns-in_err-push-2-clause-text g c =
+pub returns-in_err-push_entry-clause-text : goal.returns-in_err-push_entry-clause-text
+returns-in_err-push_entry-clause-text g c =
     let L = c.args.order.now.list in
-    let bytes = c.bytes-in-loop-i.result.now in
-    let next = cert_next L c.loop-i.i (entry_of c.entry-pair.result) bytes c.entry-pair.ensures (c.bytes-in-loop-i.ensures ∙ c.entry_piece-line.ensures) in
-    let p = err_from_is_err_and c.from_residual-in_err-push-2.result c.from_residual-in_err-push-2.ensures.1 in
-    rw p.1 (fill_failed _ _ _ _ bytes (rest_from L (c.loop-i.i + 1)) _ (fill_same _ _ _ _ _ _ next c.loop-i.invariant.filling) c.in_err-push-2.ensures.gathers.0)
+    let bytes = text_of (entry_line (entry_of c.entry-pair.result) ∷ []) in
+    let next = cert_next L c.loop-i.i (entry_of c.entry-pair.result) bytes c.entry-pair.ensures refl in
+    let p = err_from_is_err_and c.from_residual-in_err-push_entry.result c.from_residual-in_err-push_entry.ensures.1 in
+    rw p.1 (fill_failed _ _ _ _ bytes (rest_from L (c.loop-i.i + 1)) _ (fill_same _ _ _ _ _ _ next c.loop-i.invariant.filling) c.in_err-push_entry.ensures.gathers.0)
 
 pub loop-i-preserved : goal.loop-i-preserved
 loop-i-preserved g c =
     let L = c.args.order.now.list in
-    let bytes = c.bytes-in-loop-i.result.now in
-    let next = cert_next L c.loop-i.i (entry_of c.entry-pair.result) bytes c.entry-pair.ensures (c.bytes-in-loop-i.ensures ∙ c.entry_piece-line.ensures) in
+    let bytes = text_of (entry_line (entry_of c.entry-pair.result) ∷ []) in
+    let next = cert_next L c.loop-i.i (entry_of c.entry-pair.result) bytes c.entry-pair.ensures refl in
     record {
-      filling = fill_more _ _ _ _ _ bytes (rest_from L (c.loop-i.i + 1)) _ (fill_same _ _ _ _ _ _ next c.loop-i.invariant.filling) c.in_ok-push-2.ensures.gathers;
-      cause = c.in_ok-push-2.ensures.cause.stays ∙ c.loop-i.invariant.cause;
+      filling = fill_more _ _ _ _ _ bytes (rest_from L (c.loop-i.i + 1)) _ (fill_same _ _ _ _ _ _ next c.loop-i.invariant.filling) c.in_ok-push_entry.ensures.gathers;
+      cause = c.in_ok-push_entry.ensures.cause.stays ∙ c.loop-i.invariant.cause;
     }
 
-pub returns-in_err-push-3-clause-text : goal.returns-in_err-push-3-clause-text
-returns-in_err-push-3-clause-text g c =
+pub returns-in_err-push-2-clause-text : goal.returns-in_err-push-2-clause-text
+returns-in_err-push-2-clause-text g c =
     let ends = cert_ends c.args.order.now.list c.loop-i.i (omega (arith, c.len-i-end.ensures.value)) in
-    let p = err_from_is_err_and c.from_residual-in_err-push-3.result c.from_residual-in_err-push-3.ensures.1 in
-    rw p.1 (fill_failed _ _ _ _ (codes "end\n") [] _ (fill_same _ _ _ _ _ _ ends c.loop-i.invariant.filling) c.in_err-push-3.ensures.gathers.0)
+    let p = err_from_is_err_and c.from_residual-in_err-push-2.result c.from_residual-in_err-push-2.ensures.1 in
+    rw p.1 (fill_failed _ _ _ _ (codes "end\n") [] _ (fill_same _ _ _ _ _ _ ends c.loop-i.invariant.filling) c.in_err-push-2.ensures.gathers.0)
 
 pub returns-clause-text : goal.returns-clause-text
 returns-clause-text g c =
     let ends = cert_ends c.args.order.now.list c.loop-i.i (omega (arith, c.len-i-end.ensures.value)) in
-    fill_put _ _ _ _ _ _ (fill_more _ _ _ _ _ (codes "end\n") [] _ (fill_same _ _ _ _ _ _ ends c.loop-i.invariant.filling) c.in_ok-push-3.ensures.gathers) c.flush.ensures.puts
+    fill_put _ _ _ _ _ _ (fill_more _ _ _ _ _ (codes "end\n") [] _ (fill_same _ _ _ _ _ _ ends c.loop-i.invariant.filling) c.in_ok-push-2.ensures.gathers) c.flush.ensures.puts

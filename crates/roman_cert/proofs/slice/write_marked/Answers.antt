@@ -1,11 +1,10 @@
 use Rattle.std.proofs.Common.{◌+◌, [], codes, refl, sym, ◌∙◌, arith}
 use Rattle.std.proofs.lemmas.Result.{err_from_is_err_and}
 use Rattle.roman_order.specs.Board.{entry_of}
-use Rattle.roman_relation.proofs.Closing.{entry_node}
-use Rattle.roman_joint.proofs.ArenaFacts.{joint_numbered}
 use Rattle.roman_relation.specs.Greatest.{arena_of}
 use Rattle.roman_text.proofs.Filling.{fill_whole, fill_same, fill_more, fill_failed, fill_put}
 use Rattle.roman_cert.specs.Slices.{entry_text}
+use Rattle.roman_cert.proofs.Answering.{entry_node}
 use Rattle.roman_cert.proofs.SliceTexts.{slice_from, slice_begins, slice_next, slice_skip, slice_ends}
 use Rattle.roman_cert.proofs.slice.write_marked.Goals as goal
 
@@ -15,7 +14,7 @@ loop-i-init g c = record { filling = fill_whole _ _ _ _ c.new-page.ensures.empty
 pub marked-requires : goal.marked-requires
 marked-requires g c =
     let n = c.args.joint.now in
-    omega (arith, c.requires.shaped.pairs, entry_node (arena_of n) (joint_numbered n c.known.ensures) c.args.order.now c.loop-i.i (entry_of c.entry-p.result) c.requires.shaped c.len-i-end.ensures.in_range c.entry-p.ensures)
+    omega (arith, c.requires.shaped, entry_node (arena_of n) c.args.order.now c.loop-i.i (entry_of c.entry-p.result) c.requires.shaped c.len-i-end.ensures.in_range c.entry-p.ensures)
 
 pub loop-i-preserved-then-not-marked : goal.loop-i-preserved-then-not-marked
 loop-i-preserved-then-not-marked g c =

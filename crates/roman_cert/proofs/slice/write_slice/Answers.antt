@@ -1,12 +1,12 @@
-use Rattle.std.proofs.Common.{ap, sym, subst, arith}
+use Rattle.std.proofs.Common.{ap, sym, subst, ◌∙◌, arith}
 use Rattle.roman_model.specs.Arena.{IsOrder}
 use Rattle.roman_model.specs.Numbers.{sizes_of, count}
 use Rattle.roman_model.proofs.Lists.{length-below}
 use Rattle.roman_model.proofs.CertificateLaws.{complete_order}
 use Rattle.roman_joint.specs.NamedSys.{system_of}
-use Rattle.roman_order.specs.Board.{Board}
+use Rattle.roman_order.specs.Board.{Board, pairs_of}
 use Rattle.roman_relation.specs.Greatest.{arena_of, IsRelation}
-use Rattle.roman_relation.proofs.Relating.{listed_numbers}
+use Rattle.roman_cert.proofs.Answering.{listed_numbers}
 use Rattle.roman_cert.proofs.Slicing.{explanation_written, unrelated_explained, unrelated_wins, marks_keep}
 use Rattle.roman_cert.proofs.slice.write_slice.Goals as goal
 
@@ -18,6 +18,9 @@ mark_slice-requires-clause-valid g c =
 
 pub mark_slice-requires-clause-pair : goal.mark_slice-requires-clause-pair
 mark_slice-requires-clause-pair g c = omega (arith, c.requires.pair, length-below (count (sizes_of (system_of c.args.relation.now.joint))))
+
+pub write_marked-requires-clause-shaped : goal.write_marked-requires-clause-shaped
+write_marked-requires-clause-shaped g c = ap pairs_of c.mark_slice.ensures.rest ∙ c.requires.relation.shaped.pairs
 
 pub write_marked-requires-clause-valid : goal.write_marked-requires-clause-valid
 write_marked-requires-clause-valid g c =

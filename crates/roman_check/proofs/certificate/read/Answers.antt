@@ -4,7 +4,7 @@ use Rattle.std.proofs.lemmas.Result.{err_from_is_err_and}
 use Rattle.roman_io.proofs.SourceLemmas.{Gave-then}
 use Rattle.roman_io.specs.Faults.{Rose}
 use Rattle.roman_check.specs.Readers.{IsReading}
-use Rattle.roman_check.proofs.SourceSteps.{had_all, gave_at_most, failed_clean, cut_piece, rejected_at, passed_limit}
+use Rattle.roman_check.proofs.SourceSteps.{had_all, at_end, gave_at_most, failed_clean, cut_piece, rejected_at, passed_limit}
 use Rattle.roman_check.proofs.certificate.read.Goals as goal
 
 pub returns-in_err-count-clause-comes : goal.returns-in_err-count-clause-comes
@@ -35,6 +35,10 @@ pub returns-then-count-eq0-clause-taken : goal.returns-then-count-eq0-clause-tak
 returns-then-count-eq0-clause-taken g c =
     gave_at_most 268439552 (g.S.Source.rest c.args.source.now) (g.S.Source.rest c.takes.source) (g.S.Source.rest c.take.new.self) c.takes.invariant.taken (take c.in_ok-count.count c.take.new.into)
     c.takes.invariant.gave c.in_ok-count.ensures.moves (omega (arith, c.takes.invariant.room, c.takes.invariant.piece, c.take.auto.into, c.in_ok-count.ensures.bound, length-take-le c.in_ok-count.count c.take.new.into c.in_ok-count.ensures.bound))
+
+pub returns-then-count-eq0-clause-whole : goal.returns-then-count-eq0-clause-whole
+returns-then-count-eq0-clause-whole g c says =
+    at_end (g.S.Source.rest c.takes.source) (g.S.Source.rest c.take.new.self) c.take.new.into c.in_ok-count.count c.in_ok-count.ensures.moves (c.in_ok-count.ensures.ends (omega (arith, c.takes.invariant.piece, c.take.auto.into))) c.if-count-eq0.true
 
 pub returns-in-Some-clause-comes : goal.returns-in-Some-clause-comes
 returns-in-Some-clause-comes g c = record {
@@ -79,7 +83,7 @@ takes-preserved g c = record {
       (c.feed.ensures.fed.reads c.takes.invariant.taken c.takes.invariant.reading c.in_default.is);
   room = omega (arith, c.takes.invariant.room, c.min-due.ensures, c.if-due-count.false, length-append c.takes.invariant.taken (take c.in_ok-count.count c.take.new.into), length-take-le c.in_ok-count.count c.take.new.into c.in_ok-count.ensures.bound);
   lines = omega (arith, c.takes.invariant.lines, c.min-due.ensures, c.if-due-count.false, c.feed.ensures.lines, length-take c.min-due.result c.take.new.into);
-  shaped = c.feed.ensures.shaped ∙ c.takes.invariant.shaped;
+  shaped = c.feed.ensures.shaped;
   piece = c.take.auto.into ∙ c.takes.invariant.piece;
   faults = c.in_ok-count.ensures.cause.stays ∙ c.takes.invariant.faults;
   borrowed = c.in_ok-count.ensures.borrowed ∙ c.takes.invariant.borrowed;

@@ -1,10 +1,12 @@
-use Rattle.std.proofs.Common.{◌≡◌, ◌<◌, ◌^◌, arith}
-use Rattle.roman_check.proofs.DigitLemmas.{one_number}
+use Rattle.std.proofs.Common.{arith}
+use Rattle.roman_check.proofs.DigitLemmas.{decimal_shape}
 use Rattle.roman_check.proofs.numbers.number_below.Goals as goal
 
-pub returns-else-n-bound : goal.returns-else-n-bound
-returns-else-n-bound c n l e =
-    let (small, is) = c.in_ok-n.ensures in
-    let fits : n < 2 ^ 32 = omega (arith, c.ranges.bound.fits) in
-    let same : c.in_ok-n.n ≡ n = one_number c.args.text.now c.in_ok-n.n n small fits is e in
-    omega arith
+pub returns-then-text-gt-MOST_DIGITS : goal.returns-then-text-gt-MOST_DIGITS
+returns-then-text-gt-MOST_DIGITS c n l e =
+    let (all, trim, value) = decimal_shape n c.args.text.now (omega (arith, c.ranges.bound.fits)) e in
+    absurd (omega (arith, trim.few))
+
+pub returns-in_err-value : goal.returns-in_err-value
+returns-in_err-value c =
+    rw c.from_residual.ensures (λ n l e. c.in_err-value.ensures (decimal_shape n c.args.text.now (omega (arith, c.ranges.bound.fits)) e).0)

@@ -17,7 +17,7 @@ returns-in-Count-clause-judged g c =
 pub returns-in-Body-clause-judged : goal.returns-in-Body-clause-judged
 returns-in-Body-clause-judged g c =
     judged_body (g.J.Rules.arena c.args.joint.now) c.args.self.now c.judge_body.new.self c.args.line.now c.judge_body.result c.in-Body.is c.judge_body.ensures.fault
-    c.judge_body.ensures.list c.judge_body.ensures.due (ap (λ b. b.pairs) c.judge_body.ensures.rest)
+    c.judge_body.ensures.list c.judge_body.ensures.due
 
 pub returns-in-Nothing-clause-judged : goal.returns-in-Nothing-clause-judged
 returns-in-Nothing-clause-judged g c = judged_after_end (g.J.Rules.arena c.args.joint.now) c.args.self.now c.args.self.now c.args.line.now c.in-Nothing.is

@@ -1,10 +1,16 @@
-use Rattle.std.proofs.Common.{◌≡◌, ◌+◌, ◌≤◌, ◌++◌, List, ℕ, take}
+use Rattle.std.proofs.Common.{◌++◌, ◌+◌, ◌-◌, ◌≤◌, List, ℕ, length, take}
 use Rattle.roman_check.specs.Readers.{IsReading}
+use Rattle.roman_check.specs.Audits.{IsShaped}
 use Rattle.roman_check.proofs.reader.Reader.feed.Given as goal
 
-abbrev pub invariant-loop-byte : goal.invariant-loop-byte
-invariant-loop-byte g l = record {
-  reads : (taken : List ℕ) → IsReading (g.J.Rules.arena l.joint) taken l.initial.self → IsReading (g.J.Rules.arena l.joint) (taken ++ take l.byte-index l.piece) l.self;
-  shaped : l.self.audit.order.pairs ≡ l.initial.self.audit.order.pairs;
-  lines : l.self.lines ≤ l.initial.self.lines + l.byte-index;
+-- the lines that end so far are read
+abbrev pub invariant-loop-end : goal.invariant-loop-end
+invariant-loop-end g l = record {
+  place : l.start ≤ length l.piece;
+  reads : (taken : List ℕ) → IsReading (g.J.Rules.arena l.joint) taken l.initial.self → IsReading (g.J.Rules.arena l.joint) (taken ++ take l.start l.piece) l.self;
+  shaped : IsShaped (g.J.Rules.lanes l.joint) (length (g.J.Rules.arena l.joint).nodes) l.self.audit;
+  lines : l.self.lines ≤ l.initial.self.lines + l.start;
 }
+
+abbrev pub decreases-loop-end : goal.decreases-loop-end
+decreases-loop-end g l = length l.piece - l.start

@@ -1,0 +1,163 @@
+-- Tables of the pairs that remain.
+use Rattle.std.proofs.Common.{◌≡◌, ◌≢◌, ℕ, zero, suc, ◌+◌, ◌-◌, ◌*◌, ◌/◌, ◌%◌, ◌^◌, ◌<◌, ◌≤◌, ◌==◌, Bool, true, false, cond, not, ◌&&◌, ◌||◌, length, get_or, replicate, set, count_by, bit_and, IsFalse, refl, sym, ap, ap₂, ◌∙◌, subst, inl, inr, arith, add-one}
+use Rattle.std.specs.Int.{bit_not, w64}
+use Rattle.std.proofs.lemmas.Bool.{cases_eq, ne_eqb, eq-eqb}
+use Rattle.std.proofs.lemmas.List.{length-replicate, get_or-replicate, get_or-set_same, get_or-set_other}
+use Rattle.std.proofs.lemmas.Nat.{one_shl, same_from_place}
+use Rattle.std.proofs.lemmas.Nat.Bits.{ones_shr}
+use Rattle.roman_model.specs.Lists.{below}
+use Rattle.roman_lanes.specs.Rows.{is_on, HasLanes}
+use Rattle.roman_lanes.proofs.RowBits.{on_ones, on_ones_above, on_and, on_less, on_pow_same, on_pow_other}
+use Rattle.roman_rules.proofs.Asking.{count_below_more}
+use Rattle.roman_check.specs.declared.table.Remaining.{Remaining}
+use Rattle.roman_check.specs.Remain.{Remain}
+
+-- Words
+
+-- the word of that many lanes
+full_word : (lanes : ℕ) → lanes ≤ 64 → (2 ^ 64 - 1) / 2 ^ (64 - lanes) ≡ 2 ^ lanes - 1
+full_word lanes few =
+    let rest : 64 - (64 - lanes) ≡ lanes = omega arith in
+    ones_shr 64 (64 - lanes) (omega arith) ∙ ap (λ n. 2 ^ n - 1) rest
+
+pub full_on : (lanes lane : ℕ) → lanes ≤ 64 → lane < lanes → is_on ((2 ^ 64 - 1) / 2 ^ (64 - lanes)) lane ≡ true
+full_on lanes lane few within = ap (λ word. is_on word lane) (full_word lanes few) ∙ on_ones lanes lane within
+
+pub full_off : (lanes lane : ℕ) → lanes ≤ 64 → lanes ≤ lane → is_on ((2 ^ 64 - 1) / 2 ^ (64 - lanes)) lane ≡ false
+full_off lanes lane few past = ap (λ word. is_on word lane) (full_word lanes few) ∙ on_ones_above lanes lane past
+
+-- a word without one lane
+pub without_own : (word lane : ℕ) → lane < 64 → is_on (bit_and word (bit_not w64 (1 * 2 ^ lane % 2 ^ 64))) lane ≡ false
+without_own word lane l =
+    ap (λ one. is_on (bit_and word (bit_not w64 one)) lane) (one_shl lane 64 l)
+    ∙ on_less word (2 ^ lane) lane (small lane l) l
+    ∙ ap (λ b. is_on word lane && not b) (on_pow_same lane) ∙ none (is_on word lane)
+  where
+    none : (b : Bool) → (b && false) ≡ false
+    none true = refl
+    none false = refl
+
+    small : (lane : ℕ) → lane < 64 → 2 ^ lane < 2 ^ 64
+    small lane l = omega (arith, ap (λ n. n % 2 ^ 64) (one_shl lane 64 l), one_shl lane 64 l)
+
+pub without_others : (word lane j : ℕ) → lane < 64 → j < 64 → j ≢ lane → is_on (bit_and word (bit_not w64 (1 * 2 ^ lane % 2 ^ 64))) j ≡ is_on word j
+without_others word lane j l m other =
+    ap (λ one. is_on (bit_and word (bit_not w64 one)) j) (one_shl lane 64 l)
+    ∙ on_less word (2 ^ lane) j (small lane l) m
+    ∙ ap (λ b. is_on word j && not b) (on_pow_other lane j other) ∙ all (is_on word j)
+  where
+    all : (b : Bool) → (b && true) ≡ b
+    all true = refl
+    all false = refl
+
+    small : (lane : ℕ) → lane < 64 → 2 ^ lane < 2 ^ 64
+    small lane l = omega (arith, one_shl lane 64 l)
+
+pub without_within : (word other j : ℕ) → is_on word j ≡ false → is_on (bit_and word other) j ≡ false
+without_within word other j off = on_and word other j ∙ ap (λ b. b && is_on other j) off
+
+-- Counts
+
+count_suc : (f : ℕ → Bool) (n : ℕ) → count_by f (below (suc n)) ≡ count_by f (below n) + cond (f n) 1 0
+count_suc f n = ap (λ m. count_by f (below m)) (sym (add-one n)) ∙ count_below_more f n
+
+count_same : (f g : ℕ → Bool) (n : ℕ) → ((q : ℕ) → q < n → f q ≡ g q) → count_by f (below n) ≡ count_by g (below n)
+count_same f g zero same = refl
+count_same f g (suc n) same =
+    count_suc f n ∙ ap₂ (λ m b. m + cond b 1 0) (count_same f g n (λ q l. same q (omega arith))) (same n (omega arith)) ∙ sym (count_suc g n)
+
+pub count_all : (n : ℕ) → count_by (λ _. true) (below n) ≡ n
+count_all zero = refl
+count_all (suc n) = count_suc (λ _. true) n ∙ ap (λ m. m + 1) (count_all n) ∙ add-one n
+
+-- one fewer passes
+count_less : (f g : ℕ → Bool) (n p : ℕ) → p < n → f p ≡ true → g p ≡ false → ((q : ℕ) → q ≢ p → g q ≡ f q) → count_by g (below n) + 1 ≡ count_by f (below n)
+count_less f g zero p l here gone same = absurd (omega arith)
+count_less f g (suc n) p l here gone same = elim (cases_eq n p) [
+  | inl e ↦
+      let before : count_by g (below n) ≡ count_by f (below n) = count_same g f n (λ q m. same q (λ d. absurd (omega arith))) in
+      let own_g : count_by g (below (suc n)) ≡ count_by g (below n) + 0 = count_suc g n ∙ ap (λ b. count_by g (below n) + cond b 1 0) (ap g e ∙ gone) in
+      let own_f : count_by f (below (suc n)) ≡ count_by f (below n) + 1 = count_suc f n ∙ ap (λ b. count_by f (below n) + cond b 1 0) (ap f e ∙ here) in
+      omega arith
+  | inr ne ↦
+      let before : count_by g (below n) + 1 ≡ count_by f (below n) = count_less f g n p (omega arith) here gone same in
+      let own_g : count_by g (below (suc n)) ≡ count_by g (below n) + cond (f n) 1 0 = count_suc g n ∙ ap (λ b. count_by g (below n) + cond b 1 0) (same n ne) in
+      let own_f : count_by f (below (suc n)) ≡ count_by f (below n) + cond (f n) 1 0 = count_suc f n in
+      omega arith
+]
+
+-- Tables
+
+-- all pairs remain
+pub remain_all : (pairs rows lanes : ℕ) (table : Remaining) → lanes ≤ 64 → table.lanes ≡ lanes → table.words.items ≡ replicate rows ((2 ^ 64 - 1) / 2 ^ (64 - lanes)) → table.count ≡ pairs →
+    Remain pairs (λ _. false) table
+remain_all pairs rows lanes table few shaped words count = record {
+  rows = record {
+    each = λ row l. record {
+      each = λ lane m. ap (λ w. is_on w lane) (word row (omega (arith, long))) ∙ full_on lanes lane few (omega arith);
+      rest = λ lane m. ap (λ w. is_on w lane) (word row (omega (arith, long))) ∙ full_off lanes lane few (omega arith);
+    };
+  };
+  counted = count ∙ sym (count_all pairs);
+}
+  where
+    long : length table.words.items ≡ rows
+    long = ap length words ∙ length-replicate rows ((2 ^ 64 - 1) / 2 ^ (64 - lanes))
+
+    word : (row : ℕ) → row < rows → get_or table.words.items row 0 ≡ (2 ^ 64 - 1) / 2 ^ (64 - lanes)
+    word row l = ap (λ ws. get_or ws row 0) words ∙ get_or-replicate rows row ((2 ^ 64 - 1) / 2 ^ (64 - lanes)) 0 l
+
+-- one pair is taken out
+pub remain_less : (pairs : ℕ) (gone more : ℕ → Bool) (old new : Remaining) (row lane word : ℕ) → Remain pairs gone old → row < length old.words.items → lane < old.lanes → old.lanes ≤ 64 → row * old.lanes + lane < pairs →
+    IsFalse (gone (row * old.lanes + lane)) → ((q : ℕ) → more q ≡ (gone q || q == row * old.lanes + lane)) →
+    new.lanes ≡ old.lanes → new.words.items ≡ set old.words.items row word → length new.words.items ≡ length old.words.items → new.count ≡ old.count - 1 →
+    is_on word lane ≡ false → ((j : ℕ) → j < 64 → j ≢ lane → is_on word j ≡ is_on (get_or old.words.items row 0) j) → ((j : ℕ) → is_on (get_or old.words.items row 0) j ≡ false → is_on word j ≡ false) →
+    Remain pairs more new
+remain_less pairs gone more old new row lane word table in_rows in_lanes few within present more_is lanes words long count own others above = record {
+  rows = record {
+    each = λ r l. elim (cases_eq r row) as (λ _. HasLanes new.lanes r (λ q. not (more q)) (get_or new.words.items r 0)) [
+      | inl e ↦
+          let here : get_or new.words.items r 0 ≡ word = ap (λ ws. get_or ws r 0) words ∙ ap (λ k. get_or (set old.words.items row word) k 0) e ∙ get_or-set_same old.words.items row word 0 in_rows in
+          subst (λ w. HasLanes new.lanes r (λ q. not (more q)) w) (sym here) (subst (λ k. HasLanes new.lanes k (λ q. not (more q)) word) (sym e) (subst (λ m. HasLanes m row (λ q. not (more q)) word) (sym lanes) own_row))
+      | inr ne ↦
+          let there : get_or new.words.items r 0 ≡ get_or old.words.items r 0 = ap (λ ws. get_or ws r 0) words ∙ get_or-set_other old.words.items row r word 0 ne in
+          subst (λ w. HasLanes new.lanes r (λ q. not (more q)) w) (sym there) (subst (λ m. HasLanes m r (λ q. not (more q)) (get_or old.words.items r 0)) (sym lanes) (other_row r (omega arith) ne))
+    ];
+  };
+  counted =
+      let less : count_by (λ q. not (more q)) (below pairs) + 1 ≡ count_by (λ q. not (gone q)) (below pairs) =
+      count_less (λ q. not (gone q)) (λ q. not (more q)) pairs (row * old.lanes + lane) within (ap not present) (ap not taken) (λ q ne. ap not (elsewhere q ne)) in
+      omega (arith, table.counted, count);
+}
+  where
+    elsewhere : (q : ℕ) → q ≢ row * old.lanes + lane → more q ≡ gone q
+    elsewhere q ne = more_is q ∙ ap (λ b. gone q || b) (ne_eqb q (row * old.lanes + lane) ne) ∙ or_false (gone q)
+      where
+        or_false : (b : Bool) → (b || false) ≡ b
+        or_false true = refl
+        or_false false = refl
+
+    taken : more (row * old.lanes + lane) ≡ true
+    taken = more_is (row * old.lanes + lane) ∙ ap (λ b. gone (row * old.lanes + lane) || b) (eq-eqb (row * old.lanes + lane) (row * old.lanes + lane) refl) ∙ or_true (gone (row * old.lanes + lane))
+      where
+        or_true : (b : Bool) → (b || true) ≡ true
+        or_true true = refl
+        or_true false = refl
+
+    own_row : HasLanes old.lanes row (λ q. not (more q)) word
+    own_row = record {
+      each = λ j l. elim (cases_eq j lane) as (λ _. is_on word j ≡ not (more (row * old.lanes + j))) [
+        | inl e ↦ ap (is_on word) e ∙ own ∙ sym (ap (λ i. not (more (row * old.lanes + i))) e ∙ ap not taken)
+        | inr ne ↦
+            let far : row * old.lanes + j ≢ row * old.lanes + lane = λ d. ne (omega arith) in
+            others j (omega arith) ne ∙ (table.rows.each row in_rows).each j l ∙ sym (ap not (elsewhere (row * old.lanes + j) far))
+      ];
+      rest = λ j l. above j ((table.rows.each row in_rows).rest j l);
+    }
+
+    other_row : (r : ℕ) → r < length old.words.items → r ≢ row → HasLanes old.lanes r (λ q. not (more q)) (get_or old.words.items r 0)
+    other_row r l ne = record {
+      each = λ j m.
+          (table.rows.each r l).each j m ∙ sym (ap not (elsewhere (r * old.lanes + j) (λ e. ne (same_from_place r j row lane old.lanes m in_lanes e).0)));
+      rest = λ j m. (table.rows.each r l).rest j m;
+    }

@@ -1,0 +1,92 @@
+// The pairs that no entry names yet, row by row.
+ghost use Rattle.std.specs.Prelude.{◌≡◌, ◌≢◌, ℕ, ◌+◌, ◌*◌, ◌<◌, ◌≤◌, ◌==◌, Bool, false, not, ◌||◌, length, IfOk, IsFalse};
+ghost use Rattle.roman_lanes.specs.Rows.{is_on};
+ghost use Rattle.roman_check.specs.Remain.{Remain};
+
+use crate::table::Remaining;
+use std::alloc::{AllocError, Global};
+
+/// Whether the bit of a lane is set.
+fn has_lane(word: u64, lane: u32) -> bool
+    requires { lane < 64 }
+    ensures { result ≡ is_on word lane }
+{
+    (word >> lane) & 1 == 1
+}
+
+/// The word without the bit of a lane.
+fn without_lane(word: u64, lane: u32) -> u64
+    requires { lane < 64 }
+    ensures own { is_on result lane ≡ false }
+    ensures others { (j : ℕ) → j < 64 → j ≢ lane → is_on result j ≡ is_on word j }
+    ensures within { (j : ℕ) → is_on word j ≡ false → is_on result j ≡ false }
+{
+    word & !(1 << lane)
+}
+
+impl Remaining {
+    /// All pairs of so many rows.
+    pub(crate) fn build(
+        alloc: Global,
+        rows: u32,
+        lanes: u32,
+        pairs: u32,
+    ) -> Result<Remaining, AllocError>
+        requires some { 0 < lanes }
+        requires few { lanes ≤ 64 }
+        requires pairs { rows * lanes ≡ pairs }
+        ensures shaped { IfOk result (λ left. (left.lanes ≡ lanes) × (length left.words.items ≡ rows)) }
+        ensures all { IfOk result (Remain pairs (λ _. false)) }
+    {
+        let full = u64::MAX >> (64 - lanes);
+        Ok(Remaining {
+            lanes,
+            words: vec![in alloc; full; rows as usize]?,
+            count: pairs,
+        })
+    }
+
+    /// The row and the lane of the pair `p`, which may well be in the row `near`.
+    pub(crate) fn place(&self, near: u32, p: u32) -> (u32, u32)
+        ensures pair { result.0 * self.now.lanes + result.1 ≡ p }
+        ensures lane { result.1 < self.now.lanes }
+    {
+        let first = u64::from(near) * u64::from(self.lanes);
+        let pair = u64::from(p);
+        if first <= pair && pair - first < u64::from(self.lanes) {
+            return (near, (pair - first) as u32);
+        }
+        (p / self.lanes, p % self.lanes)
+    }
+
+    /// Whether no entry names the pair at that lane of that row.
+    pub(crate) fn has(&self, row: u32, lane: u32) -> bool
+        requires row { row < length self.now.words.items }
+        requires lane { lane < self.now.lanes }
+        ensures { (pairs : ℕ) (gone : ℕ → Bool) → Remain pairs gone self.now → result ≡ not (gone (row * self.now.lanes + lane)) }
+    {
+        has_lane(self.words[row as usize], lane)
+    }
+
+    /// Takes out the pair at that lane of that row.
+    pub(crate) fn remove(&mut self, row: u32, lane: u32)
+        requires row { row < length self.old.words.items }
+        requires lane { lane < self.old.lanes }
+        ensures removed { (pairs : ℕ) (gone more : ℕ → Bool) → Remain pairs gone self.old →
+            row * self.old.lanes + lane < pairs → IsFalse (gone (row * self.old.lanes + lane)) →
+            ((q : ℕ) → more q ≡ (gone q || q == row * self.old.lanes + lane)) → Remain pairs more self.new }
+        ensures lanes { self.new.lanes ≡ self.old.lanes }
+        ensures rows { length self.new.words.items ≡ length self.old.words.items }
+    {
+        let word = self.words[row as usize];
+        self.words[row as usize] = without_lane(word, lane);
+        self.count = self.count.saturating_sub(1);
+    }
+
+    /// A word for each row, with the bits of those pairs.
+    pub(crate) fn words(&self) -> &[u64]
+        ensures { result.now ≡ self.now.words.items }
+    {
+        &self.words
+    }
+}
