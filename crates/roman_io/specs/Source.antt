@@ -1,5 +1,5 @@
 -- What a source still has to give, where it tells.
-use Rattle.std.specs.Prelude.{◌≡◌, ℕ, ◌↔◌, List, [], ◌++◌, take, Option, None, Some, Result, Ok, Err}
+use Rattle.std.specs.Prelude.{◌≡◌, ℕ, ◌≤◌, ◌↔◌, List, [], ◌++◌, length, take, Option, None, Some, Result, Ok, Err}
 
 -- the source gave these bytes: they were the first of its rest, and are gone from it
 abbrev pub Gave : Option (List ℕ) → Option (List ℕ) → List ℕ → Type 0
@@ -17,3 +17,19 @@ EndsAt (Some rest) n = (n ≡ 0) ↔ (rest ≡ [])
 abbrev pub Takes : {E : Type 0} → Option (List ℕ) → Option (List ℕ) → List ℕ → Result ℕ E → Type 0
 Takes old new into (Ok n) = Gave old new (take n into)
 Takes old new into (Err e) = Gave old new []
+
+-- the source had those bytes, where it tells
+abbrev pub Had : Option (List ℕ) → List ℕ → Type 0
+Had None bytes = Unit {0}
+Had (Some rest) bytes = rest ≡ bytes
+
+-- the source has no byte left, where it tells
+abbrev pub IsAtEnd : Option (List ℕ) → Type 0
+IsAtEnd None = Unit {0}
+IsAtEnd (Some rest) = rest ≡ []
+
+-- the source gave at most so many bytes
+pub record GaveAtMost (most : ℕ) (before now : Option (List ℕ)) : Type 0 where
+  pub taken : List ℕ
+  pub gave : Gave before now taken
+  pub few : length taken ≤ most

@@ -2,7 +2,7 @@
 use Rattle.std.proofs.Common.{◌≡◌, ℕ, ◌+◌, ◌-◌, ◌<◌, ◌≤◌, Bool, true, false, ◌||◌, List, [], ◌∷◌, ◌++◌, length, take, drop, nat_le, ltb, Option, None, Some, Result, Ok, Err, OnOk, IsErrOf, IsTrue, inl, inr, refl, sym, ap, ◌∙◌, subst, arith, append_assoc, append-nil, length-append, length-take, take-append-drop, take_at, le-leb}
 use Rattle.std.proofs.Math.Seq.{take-append-add}
 use Rattle.std.proofs.lemmas.Bool.{cond-true, cond-false, or_from, lt-leb}
-use Rattle.roman_io.specs.Source.{Gave, EndsAt}
+use Rattle.roman_io.specs.Source.{Gave, EndsAt, Had, GaveAtMost}
 use Rattle.roman_io.proofs.SourceLemmas.{Gave-then}
 use Rattle.roman_io.proofs.SinkLemmas.{WroteFront-append}
 use Rattle.roman_model.specs.Lines.{lines, ended_lines, text_of}
@@ -12,7 +12,9 @@ use Rattle.roman_text.specs.Lines.{HasNoNewline, unfinished, kept}
 use Rattle.roman_text.proofs.LineLemmas.{unfinished-nil, unfinished-free, lines_are, lines_only, lines_none, kept-nil}
 use Rattle.roman_session.specs.Situations.{Situation}
 use Rattle.roman_session.specs.Steps.{Told}
-use Rattle.roman_session.specs.Hearing.{AreBehaviours, has_quit, front_of, is_heard_out, heard_lines, Had, GaveAtMost, GaveQuit, Tells, TellsFront, IsHeardOut, IsCutOff, StopsShort, TellsFrontOfAll, IsHearing, StopsAtQuit, Fails, FailsIn, HearsPiece, HearsRest}
+use Rattle.roman_session.specs.Known.{AreBehaviours}
+use Rattle.roman_session.specs.Hearing.{has_quit, front_of, is_heard_out, heard_lines, GaveQuit, spot, hall, Tells, TellsFront, IsHeardOut, IsCutOff, StopsShort, TellsFrontOfAll}
+use Rattle.roman_session.specs.HearingBytes.{ear, IsHearing, StopsAtQuit, Fails, FailsIn, HearsPiece, HearsRest}
 use Rattle.roman_session.specs.declared.hearing.HearError.{HearError}
 use Rattle.roman_session.specs.declared.hearing.HearError.TheVariants.{ReadFault, WriteFault, TooLong}
 use Rattle.roman_session.proofs.HearingLines.{ended_more, lines_more, quit_left, told_stops}
@@ -86,7 +88,7 @@ heard_more heard rest few = by_test (is_heard_out (heard ++ rest))
 module _ (old new : Situation) (start mid : Option (List ℕ)) (taken : List ℕ) (n : ℕ) (before now : Option (List ℕ)) (gave : Gave start mid taken) (ends : EndsAt mid n) (none : n ≡ 0)
     (few : length taken ≤ MAX_SESSION_BYTES) where
   -- all lines are answered
-  pub out_at_end : Tells old (lines taken) new before now → IsHeardOut old new start before now
+  pub out_at_end : Tells (spot old before) (lines taken) (spot new now) → IsHeardOut (hall old start before) (spot new now)
   out_at_end tells = record {
     session = taken;
     had = had_all start mid taken n gave ends none;
@@ -95,20 +97,20 @@ module _ (old new : Situation) (start mid : Option (List ℕ)) (taken : List ℕ
   }
 
   -- the answer to the last isn't written whole
-  fronts_rest : Fails old before (lines taken) new now → TellsFrontOfAll old start before now
+  fronts_rest : Fails (spot old before) (lines taken) (spot new now) → TellsFrontOfAll (hall old start before) now
   fronts_rest fails = record {
     session = taken;
     had = had_all start mid taken n gave ends none;
     last = new;
-    tells = subst (λ (ls : List (List ℕ)). TellsFront old ls new before now) (sym (cond-true (is_heard_out taken) (lines taken) (ended_lines (front_of taken)) (short_out taken few))) fails.tells;
+    tells = subst (λ (ls : List (List ℕ)). TellsFront (spot old before) ls (spot new now)) (sym (cond-true (is_heard_out taken) (lines taken) (ended_lines (front_of taken)) (short_out taken few))) fails.tells;
   }
 
   -- so by the answer of that call
-  pub rest_out : (r : Result (Unit {0}) HearError) → HearsRest old before taken new now r → OnOk r (IsHeardOut old new start before now)
+  pub rest_out : (r : Result (Unit {0}) HearError) → HearsRest (spot old before) taken (spot new now) r → OnOk r (IsHeardOut (hall old start before) (spot new now))
   rest_out (Ok x) tells = out_at_end tells
   rest_out (Err error) h = tt
 
-  pub rest_fronts : (r : Result (Unit {0}) HearError) → HearsRest old before taken new now r → IsErrOf r WriteFault → TellsFrontOfAll old start before now
+  pub rest_fronts : (r : Result (Unit {0}) HearError) → HearsRest (spot old before) taken (spot new now) r → IsErrOf r WriteFault → TellsFrontOfAll (hall old start before) now
   rest_fronts (Ok x) h is = absurd (let e : ⊥ = cc in e)
   rest_fronts (Err ReadFault) h is = absurd h
   rest_fronts (Err WriteFault) h is = fronts_rest h
@@ -116,7 +118,7 @@ module _ (old new : Situation) (start mid : Option (List ℕ)) (taken : List ℕ
 
 -- the last answer isn't written whole
 pub rest_stops_short : (old new : Situation) (start mid has : Option (List ℕ)) (taken into : List ℕ) (n : ℕ) (before now : Option (List ℕ)) (r : Result (Unit {0}) HearError) → Gave start mid taken →
-    Gave mid has (take n into) → EndsAt mid n → n ≡ 0 → length taken ≤ MAX_SESSION_BYTES → HearsRest old before taken new now r → IsErrOf r WriteFault → StopsShort old new start has before now
+    Gave mid has (take n into) → EndsAt mid n → n ≡ 0 → length taken ≤ MAX_SESSION_BYTES → HearsRest (spot old before) taken (spot new now) r → IsErrOf r WriteFault → StopsShort (hall old start before) (hall new has now)
 rest_stops_short old new start mid has taken into n before now (Ok x) first second ends none few h is = absurd (let e : ⊥ = cc in e)
 rest_stops_short old new start mid has taken into n before now (Err ReadFault) first second ends none few h is = absurd h
 rest_stops_short old new start mid has taken into n before now (Err TooLong) first second ends none few h is = absurd h
@@ -132,13 +134,13 @@ rest_stops_short old new start mid has taken into n before now (Err WriteFault) 
     }
 
 -- no other error comes of it
-pub rest_not_read : (old new : Situation) (taken : List ℕ) (before now : Option (List ℕ)) (r : Result (Unit {0}) HearError) → HearsRest old before taken new now r → IsErrOf r ReadFault → ⊥
+pub rest_not_read : (old new : Situation) (taken : List ℕ) (before now : Option (List ℕ)) (r : Result (Unit {0}) HearError) → HearsRest (spot old before) taken (spot new now) r → IsErrOf r ReadFault → ⊥
 rest_not_read old new taken before now (Ok x) h is = cc
 rest_not_read old new taken before now (Err ReadFault) h is = h
 rest_not_read old new taken before now (Err WriteFault) h is = cc
 rest_not_read old new taken before now (Err TooLong) h is = h
 
-pub rest_not_long : (old new : Situation) (taken : List ℕ) (before now : Option (List ℕ)) (r : Result (Unit {0}) HearError) → HearsRest old before taken new now r → IsErrOf r TooLong → ⊥
+pub rest_not_long : (old new : Situation) (taken : List ℕ) (before now : Option (List ℕ)) (r : Result (Unit {0}) HearError) → HearsRest (spot old before) taken (spot new now) r → IsErrOf r TooLong → ⊥
 rest_not_long old new taken before now (Ok x) h is = cc
 rest_not_long old new taken before now (Err ReadFault) h is = h
 rest_not_long old new taken before now (Err WriteFault) h is = cc
@@ -187,7 +189,7 @@ module _ (old new : Situation) (start mid has : Option (List ℕ)) (taken got : 
   had_after = had_more start has (taken ++ got) (Gave-then start mid has taken got first second)
 
   -- a line `quit` ends there
-  pub out_at_quit : StopsAtQuit old before taken (take room got) new now → IsHeardOut old new start before now
+  pub out_at_quit : StopsAtQuit (spot old before) taken (take room got) (spot new now) → IsHeardOut (hall old start before) (spot new now)
   out_at_quit stops =
       let (after, had) = had_after in
       let heard : List ℕ = taken ++ stops.heard ++ 10 ∷ [] in
@@ -207,7 +209,7 @@ module _ (old new : Situation) (start mid has : Option (List ℕ)) (taken got : 
       }
 
   -- not many bytes follow its newline
-  pub gave_quit : (most : ℕ) → length got ≤ most + 1 → StopsAtQuit old before taken (take room got) new now → GaveQuit most start has
+  pub gave_quit : (most : ℕ) → length got ≤ most + 1 → StopsAtQuit (spot old before) taken (take room got) (spot new now) → GaveQuit most start has
   gave_quit most l stops =
       let whole : taken ++ got ≡ (taken ++ stops.heard) ++ 10 ∷ (stops.past ++ drop room got) =
       ap (λ (piece : List ℕ). taken ++ piece) (sym (take-append-drop room got) ∙ ap (λ (part : List ℕ). part ++ drop room got) stops.split ∙ append_assoc stops.heard (10 ∷ stops.past) (drop room got))
@@ -222,7 +224,7 @@ module _ (old new : Situation) (start mid has : Option (List ℕ)) (taken got : 
       }
 
   -- there are more bytes than there is room for
-  pub cut_off : (held : List ℕ) → IsHearing old before (taken ++ take room got) new now held → room < length got → IsCutOff old new start before now
+  pub cut_off : (held : List ℕ) → IsHearing (spot old before) (taken ++ take room got) (ear new now held) → room < length got → IsCutOff (hall old start before) (spot new now)
   cut_off held hearing more =
       let (after, had) = had_after in
       let full : length (taken ++ take room got) ≡ MAX_SESSION_BYTES = omega (arith, length-append taken (take room got), length-take room got) in
@@ -234,11 +236,11 @@ module _ (old new : Situation) (start mid has : Option (List ℕ)) (taken got : 
         long = or_from (nat_le (length ((taken ++ got) ++ after)) MAX_SESSION_BYTES) (has_quit (ended_lines (front_of ((taken ++ got) ++ after))))
             (lt-leb (length ((taken ++ got) ++ after)) MAX_SESSION_BYTES (omega (arith, length-append (taken ++ got) after, length-append taken got)))
             (ap (λ (bytes : List ℕ). has_quit (ended_lines bytes)) front ∙ hearing.quitless);
-        tells = subst (λ (bytes : List ℕ). Tells old (ended_lines bytes) new before now) (sym front) hearing.tells;
+        tells = subst (λ (bytes : List ℕ). Tells (spot old before) (ended_lines bytes) (spot new now)) (sym front) hearing.tells;
       }
 
   -- the answer to a line isn't written whole
-  stops_short : FailsIn old before (taken ++ take room got) new now → StopsShort old new start has before now
+  stops_short : FailsIn (spot old before) (taken ++ take room got) (spot new now) → StopsShort (hall old start before) (hall new has now)
   stops_short fails =
       let rest : List ℕ = fails.past ++ (drop room got ++ []) in
       let given : taken ++ got ≡ fails.heard ++ rest = sym (append-nil (taken ++ got)) ∙ part_split [] fails.heard fails.past fails.split in
@@ -253,10 +255,10 @@ module _ (old new : Situation) (start mid has : Option (List ℕ)) (taken got : 
         gave = subst (Gave start has) parts (Gave-then start mid has taken got first second);
         few = omega (arith, part_fits, ap length fails.split, length-append fails.heard fails.past, ap length split, length-append whole (unfinished fails.heard));
         ends = inl (ap text_of (sym ended));
-        tells = subst (λ (ls : List (List ℕ)). TellsFront old ls new before now) (sym all) fails.fails.tells;
+        tells = subst (λ (ls : List (List ℕ)). TellsFront (spot old before) ls (spot new now)) (sym all) fails.fails.tells;
       }
 
-  fronts_all : AreBehaviours old.parts → FailsIn old before (taken ++ take room got) new now → TellsFrontOfAll old start before now
+  fronts_all : AreBehaviours old.parts → FailsIn (spot old before) (taken ++ take room got) (spot new now) → TellsFrontOfAll (hall old start before) now
   fronts_all behaviours fails =
       let (after, had) = had_after in
       let rest : List ℕ = fails.past ++ (drop room got ++ after) in
@@ -276,22 +278,22 @@ module _ (old new : Situation) (start mid has : Option (List ℕ)) (taken got : 
       }
 
   -- by the error of a piece
-  pub piece_cut_off : (held : List ℕ) (error : HearError) → HearsPiece room old before taken got new now held (Err error) → error ≡ TooLong → IsCutOff old new start before now
+  pub piece_cut_off : (held : List ℕ) (error : HearError) → HearsPiece room (spot old before) taken got (ear new now held) (Err error) → error ≡ TooLong → IsCutOff (hall old start before) (spot new now)
   piece_cut_off held ReadFault h is = absurd h
   piece_cut_off held WriteFault h is = absurd (let e : ⊥ = cc in e)
   piece_cut_off held TooLong (hearing, more) is = cut_off held hearing more
 
-  pub piece_stops_short : (held : List ℕ) (error : HearError) → HearsPiece room old before taken got new now held (Err error) → error ≡ WriteFault → StopsShort old new start has before now
+  pub piece_stops_short : (held : List ℕ) (error : HearError) → HearsPiece room (spot old before) taken got (ear new now held) (Err error) → error ≡ WriteFault → StopsShort (hall old start before) (hall new has now)
   piece_stops_short held ReadFault h is = absurd h
   piece_stops_short held WriteFault fails is = stops_short fails
   piece_stops_short held TooLong h is = absurd (let e : ⊥ = cc in e)
 
-  pub piece_fronts : (held : List ℕ) (error : HearError) → HearsPiece room old before taken got new now held (Err error) → error ≡ WriteFault → AreBehaviours old.parts → TellsFrontOfAll old start before now
+  pub piece_fronts : (held : List ℕ) (error : HearError) → HearsPiece room (spot old before) taken got (ear new now held) (Err error) → error ≡ WriteFault → AreBehaviours old.parts → TellsFrontOfAll (hall old start before) now
   piece_fronts held ReadFault h is behaviours = absurd h
   piece_fronts held WriteFault fails is behaviours = fronts_all behaviours fails
   piece_fronts held TooLong h is behaviours = absurd (let e : ⊥ = cc in e)
 
-  pub piece_not_read : (held : List ℕ) (error : HearError) → HearsPiece room old before taken got new now held (Err error) → error ≡ ReadFault → ⊥
+  pub piece_not_read : (held : List ℕ) (error : HearError) → HearsPiece room (spot old before) taken got (ear new now held) (Err error) → error ≡ ReadFault → ⊥
   piece_not_read held ReadFault h is = h
   piece_not_read held WriteFault h is = cc
   piece_not_read held TooLong h is = cc

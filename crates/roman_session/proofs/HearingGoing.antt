@@ -19,7 +19,7 @@ use Rattle.roman_model.proofs.SystemLemmas.{same_numbers_is, same_numbers_itself
 use Rattle.roman_model.proofs.OrderLemmas.{replay_sublist}
 use Rattle.roman_model.proofs.ChangeLaws.{renaming_keeps}
 use Rattle.roman_model.proofs.CompletionLemmas.{order_goes_on}
-use Rattle.roman_read.specs.Names.{is_name, place_of}
+use Rattle.roman_read.proofs.Given.{bind_ok}
 use Rattle.roman_text.specs.Shapes.{LineShape, nothing, ask, hand, saw, abort, freeze, thaw, die, join, jump, jump_env, report, explain, quit, shape_of}
 use Rattle.roman_text.specs.Replies.{reply_text}
 use Rattle.roman_text.specs.declared.errors.LineError.{LineError}
@@ -35,7 +35,7 @@ use Rattle.roman_session.specs.Situations.{Situation, system_of, is_idle, IsPhas
 use Rattle.roman_session.specs.Rulings.{named, service_named, seat_at, asked, handed, seen, aborted, jumped, env_jumped, frozen, thawed, died, joining, joined, unexplained}
 use Rattle.roman_session.specs.Reports.{report_text}
 use Rattle.roman_session.specs.Steps.{Asks, Hands, Sees, Aborts, Jumps, EnvJumps, Changing, Changes, Freezes, Thaws, Dies, Joins, freezing, thawing, dying, growing, Explains, Says, Does, StepOn, StepBy, Step, CanBe, pair_after, offer_text, service_at, parts_after}
-use Rattle.roman_session.specs.Hearing.{AreBehaviours}
+use Rattle.roman_session.specs.Known.{AreBehaviours}
 use Rattle.roman_session.specs.declared.events.Handing.{Handing}
 use Rattle.roman_session.specs.declared.events.Joining.{Joining}
 use Rattle.roman_session.specs.declared.events.Jump.{Jump}
@@ -43,9 +43,9 @@ use Rattle.roman_session.specs.declared.events.Sight.{Sight}
 use Rattle.roman_session.specs.declared.phase.Phase.{Phase}
 use Rattle.roman_session.specs.declared.phase.Phase.TheVariants.{Idle, Offered, Delegated}
 use Rattle.roman_session.proofs.ChangedLemmas.{seat_is}
-use Rattle.roman_session.proofs.NameLemmas.{name_is_new}
-use Rattle.roman_session.proofs.RulingLemmas.{bind_ok, checked, asked_is, handed_is, seen_is, jumped_idle, env_jumped_idle, frozen_is, thawed_is, died_idle, joining_idle, cells_with}
+use Rattle.roman_session.proofs.RulingLemmas.{checked, asked_is, handed_is, seen_is, jumped_idle, env_jumped_idle, frozen_is, thawed_is, died_idle, joining_idle, cells_with}
 use Rattle.roman_session.proofs.SituationLemmas.{there_is}
+use Rattle.roman_session.proofs.WithinLemmas.{frozen_within, thawed_within, died_within, joining_new, joining_beh}
 
 -- ---- what a session needs to go on
 
@@ -211,44 +211,6 @@ changes_there s x is idle can same known =
       going = record { parts = known; behaviours = is.behaviours; list = list; phase = subst (IsAllowed new) (sym idle) tt };
     }
 
--- what is named is one of the names
-named_within : (names : List (List ℕ)) (name : List ℕ) (i : ℕ) → named names name ≡ Ok i → i < length names
-named_within names name i h = (position-Some (bytes_eq name) names i [] (some_of (position (bytes_eq name) names) h)).0
-  where
-    some_of : (o : Option ℕ) → ok_or o reply.ErrorName ≡ Ok i → o ≡ Some i
-    some_of None e = cc
-    some_of (Some j) e = let same : j ≡ i = cc in ap Some same
-
--- a service that is named is present
-seat_within : (s : Situation) (service : List ℕ) (k : ℕ) → service_named s service ≡ Ok k → k < length s.parts.seats
-seat_within s service k h = omega (arith, named_within (map seat_name s.parts.seats) service k h, length-map s.parts.seats seat_name)
-
-frozen_within : (s : Situation) (service : List ℕ) (k : ℕ) → frozen s service ≡ Ok k → k < length s.parts.seats
-unfolding frozen
-frozen_within s service k h =
-    let (j, e, h1) = bind_ok (service_named s service) _ k h in
-    let (idle, h2) = checked (is_idle s.phase) reply.ErrorBusy _ k h1 in
-    let (ready, h3) = checked (not (seat_at s j).frozen) reply.ErrorFrozen _ k h2 in
-    let same : j ≡ k = cc in
-    subst (λ (k : ℕ). k < length s.parts.seats) same (seat_within s service j e)
-
-thawed_within : (s : Situation) (service : List ℕ) (k : ℕ) → thawed s service ≡ Ok k → k < length s.parts.seats
-unfolding thawed
-thawed_within s service k h =
-    let (j, e, h1) = bind_ok (service_named s service) _ k h in
-    let (idle, h2) = checked (is_idle s.phase) reply.ErrorBusy _ k h1 in
-    let (frozen, h3) = checked (seat_at s j).frozen reply.ErrorReady _ k h2 in
-    let same : j ≡ k = cc in
-    subst (λ (k : ℕ). k < length s.parts.seats) same (seat_within s service j e)
-
-died_within : (s : Situation) (service : List ℕ) (k : ℕ) → died s service ≡ Ok k → k < length s.parts.seats
-unfolding died
-died_within s service k h =
-    let (j, e, h1) = bind_ok (service_named s service) _ k h in
-    let (idle, h2) = checked (is_idle s.phase) reply.ErrorBusy _ k h1 in
-    let same : j ≡ k = cc in
-    subst (λ (k : ℕ). k < length s.parts.seats) same (seat_within s service j e)
-
 freezes_there : (s : Situation) (service : List ℕ) (k : ℕ) → IsGoing s → frozen s service ≡ Ok k → CanGo (Freezes s k)
 freezes_there s service k is h =
     let l = frozen_within s service k h in
@@ -265,49 +227,13 @@ dies_there s service k is h =
     let (x, there) = there_is s.parts.seats k l in
     changes_there s (dying s k) is (died_idle s service k h) (seat_is s k l) (gone_system s.parts k (seat_at s k)) (gone_known s.parts k x is.parts l (sym (get_or_from_slice_get s.parts.seats k x x there)))
 
--- a service that joins is new, and its behaviour is one of the catalogue
-record IsNew (s : Situation) (x : Joining) : Type 0 where
-  name : IsIn x.seat.name (map seat_name s.parts.seats) → ⊥
-  behaviour : x.seat.behaviour < length s.parts.catalogue
-
-same_ok : {X : Type 0} (x y : X) → ◌≡◌ {A = Result X Reply} (Ok x) (Ok y) → x ≡ y
-same_ok x y h = cc
-
-joining_new : (s : Situation) (service behaviour state : List ℕ) (loose : Bool) (x : Joining) → joining s service behaviour state loose ≡ Ok x → IsNew s x
-unfolding joining
-joining_new s service behaviour state loose x h =
-    let (good, h1) = checked (is_name service) reply.ErrorName _ x h in
-    let (i, named_i, h2) = bind_ok (named (map beh_name s.parts.catalogue) behaviour) _ x h1 in
-    let (b, named_b, h3) = bind_ok (named (states_at s.parts.catalogue i) state) _ x h2 in
-    let (idle, h4) = checked (is_idle s.phase) reply.ErrorBusy _ x h3 in
-    let (free, h5) = checked (is_none (place_of (map seat_name s.parts.seats) service)) reply.ErrorTaken _ x h4 in
-    let whole = same_ok _ x h5 in
-    let name : service ≡ x.seat.name = ap (λ (x : Joining). x.seat.name) whole in
-    let place : i ≡ x.seat.behaviour = ap (λ (x : Joining). x.seat.behaviour) whole in
-    let names = map seat_name s.parts.seats in
-    record {
-      name = subst (λ (name : List ℕ). IsIn name names → ⊥) name (name_is_new names service (named names service) refl (not_ok (place_of names service) free));
-      behaviour = subst (λ (i : ℕ). i < length s.parts.catalogue) place (omega (arith, named_within (map beh_name s.parts.catalogue) behaviour i named_i, length-map s.parts.catalogue beh_name));
-    }
-  where
-    not_ok : (o : Option ℕ) → IsTrue (is_none o) → is_ok (ok_or o reply.ErrorName) ≡ false
-    not_ok None h = refl
-    not_ok (Some k) h = absurd (let e : ⊥ = cc in e)
-
--- its behaviour is one over the environment
-joining_beh : (s : Situation) (i : ℕ) → AreBehaviours s.parts → i < length s.parts.catalogue → IsBeh s.parts.environment.env (beh_at s.parts.catalogue i)
-joining_beh s i behaviours l =
-    let (y, there) = there_is s.parts.catalogue i l in
-    let is : IsBehaviour s.parts.environment y = subst (IsBehaviour s.parts.environment) (get_or_from_slice_get s.parts.catalogue i y y there) (All-get_or (IsBehaviour s.parts.environment) s.parts.catalogue i y l behaviours) in
-    subst (IsBeh s.parts.environment.env) (sym (beh_read s.parts.catalogue i y there)) (is.known s.parts.environment.env (sym is.env_states) (sym is.actions))
-
 joins_there : (s : Situation) (service behaviour state : List ℕ) (loose : Bool) (x : Joining) → IsGoing s → joined s service behaviour state loose ≡ Ok x → CanGo (Joins s x)
 joins_there s service behaviour state loose x is h =
     let (y, e, h1) = bind_ok (joining s service behaviour state loose) _ x h in
     let (few, h2) = checked (nat_lt (length s.parts.seats) MAX_SERVICES) reply.ErrorFull _ x h1 in
     let (fits, h3) = checked (nat_le (cells_with s y) s.parts.limit) reply.ErrorLimit _ x h2 in
     let same : y ≡ x = cc in
-    let new = joining_new s service behaviour state loose y e in
+    let new = joining_new s service behaviour state loose y is.behaviours e in
     let beh = joining_beh s y.seat.behaviour is.behaviours new.behaviour in
     let room : length s.parts.seats < MAX_SERVICES = ltb-true (length s.parts.seats) MAX_SERVICES few in
     subst (λ (x : Joining). CanGo (Joins s x)) same

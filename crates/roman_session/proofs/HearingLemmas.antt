@@ -13,7 +13,8 @@ use Rattle.roman_text.proofs.LineLemmas.{ended_lines-newline, ended_lines-other,
 use Rattle.roman_session.specs.Situations.{Situation, IsSituation}
 use Rattle.roman_session.specs.Steps.{Step}
 use Rattle.roman_session.specs.Answering.{Answered, next_of}
-use Rattle.roman_session.specs.Hearing.{ends_session, has_quit, Tells, IsHearing, StopsAtQuit, Fails, FailsIn, HearsBytes}
+use Rattle.roman_session.specs.Hearing.{ends_session, has_quit, spot, Tells}
+use Rattle.roman_session.specs.HearingBytes.{ear, IsHearing, StopsAtQuit, Fails, FailsIn, HearsBytes}
 use Rattle.roman_session.specs.declared.next.Next.{Next}
 use Rattle.roman_session.specs.declared.next.Next.TheVariants.{More, Quit}
 use Rattle.roman_session.proofs.HearingLines.{quit_last, quitless_last, told_push}
@@ -48,7 +49,7 @@ next_quit line e = by_test (ends_session line)
 -- ---- what is told of one line more
 
 tells_more : (old mid new : Situation) (ls : List (List ℕ)) (line more : List ℕ) (before wrote now : Option (List ℕ)) → IsFalse (has_quit ls) →
-    Tells old ls mid before wrote → Step mid line more new → Wrote wrote now more → Tells old (ls ++ line ∷ []) new before now
+    Tells (spot old before) ls (spot mid wrote) → Step mid line more new → Wrote wrote now more → Tells (spot old before) (ls ++ line ∷ []) (spot new now)
 tells_more old mid new ls line more before wrote now quitless tells step wrote_more = record {
   text = tells.text ++ more;
   told = told_push old mid new ls line tells.text more quitless tells.told step;
@@ -56,7 +57,7 @@ tells_more old mid new ls line more before wrote now quitless tells step wrote_m
 }
 
 fails_more : (old mid new : Situation) (ls : List (List ℕ)) (line more : List ℕ) (before wrote now : Option (List ℕ)) → IsFalse (has_quit ls) →
-    Tells old ls mid before wrote → Step mid line more new → WroteFront wrote now more → IsSituation new → Fails old before (ls ++ line ∷ []) new now
+    Tells (spot old before) ls (spot mid wrote) → Step mid line more new → WroteFront wrote now more → IsSituation new → Fails (spot old before) (ls ++ line ∷ []) (spot new now)
 fails_more old mid new ls line more before wrote now quitless tells step wrote_more known = record {
   tells = record {
     text = tells.text ++ more;
@@ -69,16 +70,16 @@ fails_more old mid new ls line more before wrote now quitless tells step wrote_m
 -- ---- one byte
 
 -- before the first byte
-pub hearing_starts : (s : Situation) (told : Option (List ℕ)) (held : List ℕ) → held ≡ [] → IsHearing s told [] s told held
+pub hearing_starts : (s : Situation) (told : Option (List ℕ)) (held : List ℕ) → held ≡ [] → IsHearing (spot s told) [] (ear s told held)
 hearing_starts s told held empty = record {
   quitless = refl;
   tells = record { text = []; told = (refl, refl); wrote = Wrote-nil told };
   rest = empty ∙ sym (ap kept unfinished-nil ∙ kept-nil);
 }
 
-module _ (old : Situation) (before : Option (List ℕ)) (taken : List ℕ) (mid : Situation) (wrote : Option (List ℕ)) (held : List ℕ) (byte : ℕ) (is : IsHearing old before taken mid wrote held) where
+module _ (old : Situation) (before : Option (List ℕ)) (taken : List ℕ) (mid : Situation) (wrote : Option (List ℕ)) (held : List ℕ) (byte : ℕ) (is : IsHearing (spot old before) taken (ear mid wrote held)) where
   -- a byte within a line
-  pub hears_other : (after : List ℕ) → is_newline byte ≡ false → after ≡ kept (held ++ byte ∷ []) → IsHearing old before (taken ++ byte ∷ []) mid wrote after
+  pub hears_other : (after : List ℕ) → is_newline byte ≡ false → after ≡ kept (held ++ byte ∷ []) → IsHearing (spot old before) (taken ++ byte ∷ []) (ear mid wrote after)
   hears_other after other e = record {
     quitless = rw (ended_lines-other taken byte other) is.quitless;
     tells = rw (ended_lines-other taken byte other) is.tells;
@@ -87,7 +88,7 @@ module _ (old : Situation) (before : Option (List ℕ)) (taken : List ℕ) (mid 
 
   -- a newline
   pub hears_line : (new : Situation) (now : Option (List ℕ)) (after : List ℕ) (next : Next) → is_newline byte ≡ true → after ≡ [] → Answered {E = Failed} mid (unfinished taken) new wrote now (Ok next) →
-      next ≡ next_of (unfinished taken) → HearsBytes old before taken (byte ∷ []) new now after (Ok next)
+      next ≡ next_of (unfinished taken) → HearsBytes (spot old before) taken (byte ∷ []) (ear new now after) (Ok next)
   hears_line new now after More newline empty answered next = record {
     quitless = rw (ended_lines-newline taken byte newline) (quitless_last (ended_lines taken) (unfinished taken) is.quitless (next_more (unfinished taken) next));
     tells = rw (ended_lines-newline taken byte newline) (tells_more old mid new (ended_lines taken) (unfinished taken) answered.text before wrote now is.quitless is.tells answered.step answered.puts);
@@ -107,7 +108,7 @@ module _ (old : Situation) (before : Option (List ℕ)) (taken : List ℕ) (mid 
 
   -- a newline, where the answer to its line isn't written whole
   pub hears_failed : (new : Situation) (now : Option (List ℕ)) (failed : Failed) → is_newline byte ≡ true → Answered {T = Next} mid (unfinished taken) new wrote now (Err failed) → IsSituation new →
-      FailsIn old before (taken ++ byte ∷ []) new now
+      FailsIn (spot old before) (taken ++ byte ∷ []) (spot new now)
   hears_failed new now failed newline answered known = record {
     heard = taken ++ byte ∷ [];
     past = [];
@@ -119,7 +120,7 @@ module _ (old : Situation) (before : Option (List ℕ)) (taken : List ℕ) (mid 
 
 -- a line `quit` in a part of a piece
 pub stops_within : (old : Situation) (before : Option (List ℕ)) (taken front part back piece : List ℕ) (new : Situation) (now : Option (List ℕ)) → piece ≡ front ++ (part ++ back) →
-    StopsAtQuit old before (taken ++ front) part new now → StopsAtQuit old before taken piece new now
+    StopsAtQuit (spot old before) (taken ++ front) part (spot new now) → StopsAtQuit (spot old before) taken piece (spot new now)
 stops_within old before taken front part back piece new now split stops = record {
   heard = front ++ stops.heard;
   past = stops.past ++ back;
@@ -127,12 +128,12 @@ stops_within old before taken front part back piece new now split stops = record
       ∙ sym (append_assoc front stops.heard (10 ∷ (stops.past ++ back)));
   first = subst (λ (bytes : List ℕ). IsFalse (has_quit (ended_lines bytes))) (append_assoc taken front stops.heard) stops.first;
   quit = subst (λ (bytes : List ℕ). IsTrue (has_quit (ended_lines (bytes ++ 10 ∷ [])))) (append_assoc taken front stops.heard) stops.quit;
-  tells = subst (λ (bytes : List ℕ). Tells old (ended_lines (bytes ++ 10 ∷ [])) new before now) (append_assoc taken front stops.heard) stops.tells;
+  tells = subst (λ (bytes : List ℕ). Tells (spot old before) (ended_lines (bytes ++ 10 ∷ [])) (spot new now)) (append_assoc taken front stops.heard) stops.tells;
 }
 
 -- a fault in a part of them
 pub fails_within : (old : Situation) (before : Option (List ℕ)) (front back bytes : List ℕ) (new : Situation) (now : Option (List ℕ)) → bytes ≡ front ++ back →
-    FailsIn old before front new now → FailsIn old before bytes new now
+    FailsIn (spot old before) front (spot new now) → FailsIn (spot old before) bytes (spot new now)
 fails_within old before front back bytes new now split fails = record {
   heard = fails.heard;
   past = fails.past ++ back;
@@ -148,17 +149,17 @@ at_place bytes i l =
 
 module _ (old : Situation) (before : Option (List ℕ)) (taken bytes : List ℕ) (i : ℕ) (new : Situation) (now : Option (List ℕ)) (l : i < length bytes) where
   -- the byte at place i was heard after those before it
-  pub hears_at : (held : List ℕ) → IsHearing old before (taken ++ take i bytes ++ get_or bytes i 0 ∷ []) new now held → IsHearing old before (taken ++ take (i + 1) bytes) new now held
+  pub hears_at : (held : List ℕ) → IsHearing (spot old before) (taken ++ take i bytes ++ get_or bytes i 0 ∷ []) (ear new now held) → IsHearing (spot old before) (taken ++ take (i + 1) bytes) (ear new now held)
   hears_at held hearing =
-      subst (λ (xs : List ℕ). IsHearing old before xs new now held)
+      subst (λ (xs : List ℕ). IsHearing (spot old before) xs (ear new now held))
       (append_assoc taken (take i bytes) (get_or bytes i 0 ∷ []) ∙ ap (λ (xs : List ℕ). taken ++ xs) (sym (take_more bytes i 0 l))) hearing
 
   -- the byte at place i ends a line `quit`
-  pub stops_at : StopsAtQuit old before (taken ++ take i bytes) (get_or bytes i 0 ∷ []) new now → StopsAtQuit old before taken bytes new now
+  pub stops_at : StopsAtQuit (spot old before) (taken ++ take i bytes) (get_or bytes i 0 ∷ []) (spot new now) → StopsAtQuit (spot old before) taken bytes (spot new now)
   stops_at stops = stops_within old before taken (take i bytes) (get_or bytes i 0 ∷ []) (drop (i + 1) bytes) bytes new now (at_place bytes i l) stops
 
   -- it ends a line whose answer isn't written whole
-  pub fails_at : FailsIn old before (taken ++ take i bytes ++ get_or bytes i 0 ∷ []) new now → FailsIn old before (taken ++ bytes) new now
+  pub fails_at : FailsIn (spot old before) (taken ++ take i bytes ++ get_or bytes i 0 ∷ []) (spot new now) → FailsIn (spot old before) (taken ++ bytes) (spot new now)
   fails_at fails = fails_within old before (taken ++ take i bytes ++ get_or bytes i 0 ∷ []) (drop (i + 1) bytes) (taken ++ bytes) new now
       (ap (λ (xs : List ℕ). taken ++ xs) (at_place bytes i l) ∙ sym (append_assoc taken (take i bytes) (get_or bytes i 0 ∷ [] ++ drop (i + 1) bytes))
       ∙ sym (append_assoc (taken ++ take i bytes) (get_or bytes i 0 ∷ []) (drop (i + 1) bytes)))
@@ -166,9 +167,9 @@ module _ (old : Situation) (before : Option (List ℕ)) (taken bytes : List ℕ)
 
 -- ---- the last line
 
-module _ (old : Situation) (before : Option (List ℕ)) (taken : List ℕ) (mid : Situation) (wrote : Option (List ℕ)) (held : List ℕ) (is : IsHearing old before taken mid wrote held) where
+module _ (old : Situation) (before : Option (List ℕ)) (taken : List ℕ) (mid : Situation) (wrote : Option (List ℕ)) (held : List ℕ) (is : IsHearing (spot old before) taken (ear mid wrote held)) where
   -- no bytes of a last line are left
-  pub hears_no_rest : nat_lt 0 (length held) ≡ false → Tells old (lines taken) mid before wrote
+  pub hears_no_rest : nat_lt 0 (length held) ≡ false → Tells (spot old before) (lines taken) (spot mid wrote)
   hears_no_rest none = rw (lines_none taken (subst (λ (held : List ℕ). nat_lt 0 (length held) ≡ false) is.rest none)) is.tells
 
   -- they are its line
@@ -176,15 +177,15 @@ module _ (old : Situation) (before : Option (List ℕ)) (taken : List ℕ) (mid 
   rest_line some = sym (lines_rest taken (subst (λ (held : List ℕ). nat_lt 0 (length held) ≡ true) is.rest some))
 
   pub hears_rest : (new : Situation) (now : Option (List ℕ)) (next : Next) → nat_lt 0 (length held) ≡ true → Answered {E = Failed} mid (unfinished taken) new wrote now (Ok next) →
-      Tells old (lines taken) new before now
+      Tells (spot old before) (lines taken) (spot new now)
   hears_rest new now next some answered =
-      subst (λ (ls : List (List ℕ)). Tells old ls new before now) (rest_line some)
+      subst (λ (ls : List (List ℕ)). Tells (spot old before) ls (spot new now)) (rest_line some)
       (tells_more old mid new (ended_lines taken) (unfinished taken) answered.text before wrote now is.quitless is.tells answered.step answered.puts)
 
   pub fails_rest : (new : Situation) (now : Option (List ℕ)) (failed : Failed) → nat_lt 0 (length held) ≡ true → Answered {T = Next} mid (unfinished taken) new wrote now (Err failed) → IsSituation new →
-      Fails old before (lines taken) new now
+      Fails (spot old before) (lines taken) (spot new now)
   fails_rest new now failed some answered known =
-      subst (λ (ls : List (List ℕ)). Fails old before ls new now) (rest_line some)
+      subst (λ (ls : List (List ℕ)). Fails (spot old before) ls (spot new now)) (rest_line some)
       (fails_more old mid new (ended_lines taken) (unfinished taken) answered.text before wrote now is.quitless is.tells answered.step answered.puts known)
 
 -- ---- a piece, as far as there is room

@@ -11,6 +11,10 @@ pub mod AnswerLemmas
 pub mod ChangedLemmas
 pub mod HearingLines
 pub mod HearingLemmas
+pub mod WithinLemmas
+pub mod KeepLemmas
+pub mod KnownLemmas
+pub mod WordLemmas
 pub mod HearingGoing
 pub mod HearingSteps
 pub mod HearingEnds

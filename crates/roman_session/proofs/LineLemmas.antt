@@ -15,7 +15,7 @@ use Rattle.roman_text.specs.declared.replies.Reply.TheVariants as reply
 use Rattle.roman_text.specs.declared.report.ReportLine.{ReportLine}
 use Rattle.roman_text.specs.declared.report.ReportLine.TheVariants as line
 use Rattle.roman_parts.specs.Named.{NamedBeh}
-use Rattle.roman_joint.specs.Bits.{HasBits}
+use Rattle.roman_rules.specs.Bits.{HasBits}
 use Rattle.roman_joint.specs.NamedSys.{NamedSys, IsNamedSys, system_of, seat_of}
 use Rattle.roman_joint.specs.declared.seat.Seat.{Seat}
 use Rattle.roman_session.specs.Situations as situation

@@ -8,6 +8,7 @@ use Rattle.roman_model.specs.Change.{Join, after}
 use Rattle.roman_model.specs.declared.limits.TheConstants.{MAX_SERVICES}
 use Rattle.roman_read.specs.Items.{◌>>=◌}
 use Rattle.roman_read.specs.Names.{is_name}
+use Rattle.roman_read.proofs.Given.{bind_ok}
 use Rattle.roman_text.specs.declared.replies.Reply.{Reply}
 use Rattle.roman_text.specs.declared.replies.Reply.TheVariants as reply
 use Rattle.roman_joint.specs.NamedSys.{seat_of, cells}
@@ -20,11 +21,6 @@ use Rattle.roman_session.specs.declared.events.Jump.{Jump}
 use Rattle.roman_session.specs.declared.events.Sight.{Sight}
 use Rattle.roman_session.specs.declared.phase.Phase.{Phase}
 use Rattle.roman_session.specs.declared.phase.Phase.TheVariants.{Idle, Offered, Delegated}
-
--- where two readings give something, the first one does
-pub bind_ok : {X Y E : Type 0} (r : Result X E) (f : X → Result Y E) (y : Y) → (r >>= f) ≡ Ok y → (x : X) × (r ≡ Ok x) × (f x ≡ Ok y)
-bind_ok (Ok x) f y h = (x, refl, h)
-bind_ok (Err e) f y h = cc
 
 -- a test that isn't refused holds
 check_ok : (test : Bool) (refusal : Reply) (x : Unit {0}) → check test refusal ≡ Ok x → IsTrue test

@@ -12,7 +12,7 @@ use Rattle.roman_model.specs.Composition.{arena}
 use Rattle.roman_model.specs.Offers.{is_related, offers}
 use Rattle.roman_model.proofs.Lists.{get_or-below, length-below, from_below, filter_same}
 use Rattle.roman_model.proofs.ArenaLemmas.{mask_has}
-use Rattle.roman_joint.specs.Bits.{HasBits, bit_of}
+use Rattle.roman_rules.specs.Bits.{HasBits, bit_of}
 use Rattle.roman_joint.specs.NamedSys.{NamedSys}
 use Rattle.roman_joint.specs.declared.seat.Seat.{Seat}
 use Rattle.roman_joint.specs.Names.{seat_name}

@@ -9,4 +9,7 @@ pub mod Building
 pub mod Laws
 pub mod Layout
 pub mod Answering
+pub mod Known
+pub mod Words
 pub mod Hearing
+pub mod HearingBytes

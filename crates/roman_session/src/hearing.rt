@@ -1,10 +1,13 @@
 //! Sessions whose lines come from a stream.
 ghost use Rattle.std.specs.Prelude.{◌≡◌, ℕ, ◌+◌, ◌-◌, ◌⊎◌, ◌∷◌, List, [], Option, IfOk, IsErrOf, OnOk};
 ghost use Rattle.roman_io.specs.Faults.{HasCause};
+ghost use Rattle.roman_io.specs.Source.{IsAtEnd, GaveAtMost};
 ghost use Rattle.roman_text.specs.Lines.{kept};
 ghost use Rattle.roman_session.specs.Situations.{Situation, IsSituation};
 ghost use Rattle.roman_session.specs.Answering.{Answered, next_of};
-ghost use Rattle.roman_session.specs.Hearing.{AreBehaviours, IsAtEnd, GaveAtMost, GaveQuit, IsHeardOut, IsCutOff, GoesOn, StopsShort, TellsFrontOfAll, CausedBy, IsHearing, HearsBytes, HearsPiece, HearsRest};
+ghost use Rattle.roman_session.specs.Known.{AreBehaviours};
+ghost use Rattle.roman_session.specs.Hearing.{GaveQuit, spot, hall, IsHeardOut, IsCutOff, GoesOn, StopsShort, TellsFrontOfAll, CausedBy};
+ghost use Rattle.roman_session.specs.HearingBytes.{ear, IsHearing, HearsBytes, HearsPiece, HearsRest};
 
 use crate::next::Next;
 use crate::session::Session;
@@ -47,13 +50,13 @@ pub fn hear<S: Source, O: Sink, L: Ledger>(
 ) -> Result<(), HearError>
     // What is told of the whole session was written, and of a session that is too long what is
     // told of the lines that end within the limit.
-    ensures ok { OnOk result (IsHeardOut session.old session.new (S.rest source.old) (O.written out.old) (O.written out.new)) }
-    ensures too_long { IsErrOf result HearError.TooLong → IsCutOff session.old session.new (S.rest source.old) (O.written out.old) (O.written out.new) }
+    ensures ok { OnOk result (IsHeardOut (hall session.old (S.rest source.old) (O.written out.old)) (spot session.new (O.written out.new))) }
+    ensures too_long { IsErrOf result HearError.TooLong → IsCutOff (hall session.old (S.rest source.old) (O.written out.old)) (spot session.new (O.written out.new)) }
 
     // A fault has its cause, and each line of what was taken has its answer till then.
-    ensures read_fault { IsErrOf result HearError.ReadFault → GoesOn session.old session.new (S.rest source.old) (S.rest source.new) (O.written out.old) (O.written out.new) }
-    ensures write_fault { IsErrOf result HearError.WriteFault → StopsShort session.old session.new (S.rest source.old) (S.rest source.new) (O.written out.old) (O.written out.new) }
-    ensures front { IsErrOf result HearError.WriteFault → AreBehaviours session.old.parts → TellsFrontOfAll session.old (S.rest source.old) (O.written out.old) (O.written out.new) }
+    ensures read_fault { IsErrOf result HearError.ReadFault → GoesOn (hall session.old (S.rest source.old) (O.written out.old)) (hall session.new (S.rest source.new) (O.written out.new)) }
+    ensures write_fault { IsErrOf result HearError.WriteFault → StopsShort (hall session.old (S.rest source.old) (O.written out.old)) (hall session.new (S.rest source.new) (O.written out.new)) }
+    ensures front { IsErrOf result HearError.WriteFault → AreBehaviours session.old.parts → TellsFrontOfAll (hall session.old (S.rest source.old) (O.written out.old)) (O.written out.new) }
     ensures reads { CausedBy HearError.ReadFault (S.faults source.old) (S.faults source.new) result }
     ensures writes { CausedBy HearError.WriteFault (O.faults out.old) (O.faults out.new) result }
 
@@ -89,8 +92,8 @@ fn hear_piece<O: Sink, L: Ledger>(
     out: &mut O,
     steps: &mut Steps<L>,
 ) -> Result<Next, HearError>
-    ensures hears { (old : Situation) (before : Option (List ℕ)) (taken : List ℕ) → IsHearing old before taken session.old (O.written out.old) splitter.old →
-        HearsPiece room old before taken piece.now session.new (O.written out.new) splitter.new result }
+    ensures hears { (old : Situation) (before : Option (List ℕ)) (taken : List ℕ) → IsHearing (spot old before) taken (ear session.old (O.written out.old) splitter.old) →
+        HearsPiece room (spot old before) taken piece.now (ear session.new (O.written out.new) splitter.new) result }
     ensures cause { CausedBy HearError.WriteFault (O.faults out.old) (O.faults out.new) result }
 {
     let due = piece.len().min(room);
@@ -111,8 +114,8 @@ fn hear_bytes<O: Sink, L: Ledger>(
     out: &mut O,
     steps: &mut Steps<L>,
 ) -> Result<Next, Failed>
-    ensures hears { (old : Situation) (before : Option (List ℕ)) (taken : List ℕ) → IsHearing old before taken session.old (O.written out.old) splitter.old →
-        HearsBytes old before taken bytes.now session.new (O.written out.new) splitter.new result }
+    ensures hears { (old : Situation) (before : Option (List ℕ)) (taken : List ℕ) → IsHearing (spot old before) taken (ear session.old (O.written out.old) splitter.old) →
+        HearsBytes (spot old before) taken bytes.now (ear session.new (O.written out.new) splitter.new) result }
     ensures cause { HasCause (O.faults out.old) (O.faults out.new) result }
 {
     for byte in bytes {
@@ -131,8 +134,8 @@ fn hear_byte<O: Sink, L: Ledger>(
     out: &mut O,
     steps: &mut Steps<L>,
 ) -> Result<Next, Failed>
-    ensures hears { (old : Situation) (before : Option (List ℕ)) (taken : List ℕ) → IsHearing old before taken session.old (O.written out.old) splitter.old →
-        HearsBytes old before taken (byte ∷ []) session.new (O.written out.new) splitter.new result }
+    ensures hears { (old : Situation) (before : Option (List ℕ)) (taken : List ℕ) → IsHearing (spot old before) taken (ear session.old (O.written out.old) splitter.old) →
+        HearsBytes (spot old before) taken (byte ∷ []) (ear session.new (O.written out.new) splitter.new) result }
     ensures cause { HasCause (O.faults out.old) (O.faults out.new) result }
 {
     if !splitter.push(byte) {
@@ -150,8 +153,8 @@ fn hear_rest<O: Sink, L: Ledger>(
     out: &mut O,
     steps: &mut Steps<L>,
 ) -> Result<(), HearError>
-    ensures hears { (old : Situation) (before : Option (List ℕ)) (taken : List ℕ) → IsHearing old before taken session.old (O.written out.old) splitter.now →
-        HearsRest old before taken session.new (O.written out.new) result }
+    ensures hears { (old : Situation) (before : Option (List ℕ)) (taken : List ℕ) → IsHearing (spot old before) taken (ear session.old (O.written out.old) splitter.now) →
+        HearsRest (spot old before) taken (spot session.new (O.written out.new)) result }
     ensures cause { CausedBy HearError.WriteFault (O.faults out.old) (O.faults out.new) result }
 {
     if !splitter.rest() {

@@ -1,5 +1,7 @@
 //! Laws over the definitions of sessions, each the contract of a function with no body.
+ghost use Rattle.roman_session.specs.Known.{StepsStayKnown};
 ghost use Rattle.roman_session.specs.Laws.{RequestsAreOffered, OutcomesAreRelated, NotOfferedFails, ReportsAreAfresh};
+ghost use Rattle.roman_session.specs.Words.{AnswersAreGreat, OpenIsGreat};
 
 /// A request that isn't refused is offered to at least one service.
 pub fn requests_are_offered()
@@ -19,4 +21,19 @@ pub fn services_not_offered_fail()
 /// The report is that of a synthesis afresh, from the present services and the present states.
 pub fn reports_are_afresh()
     ensures afresh { ReportsAreAfresh }
+{}
+
+/// Each step leads from a well-formed situation to a well-formed one.
+pub fn steps_stay_known()
+    ensures known { StepsStayKnown }
+{}
+
+/// Requests, delegations and reports are answered by the greatest ND-simulation.
+pub fn answers_are_great()
+    ensures great { AnswersAreGreat }
+{}
+
+/// A request is open only where it can be served, and is delegated only to a service that serves it.
+pub fn open_is_great()
+    ensures great { OpenIsGreat }
 {}

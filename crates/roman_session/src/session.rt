@@ -7,7 +7,7 @@ ghost use Rattle.roman_model.specs.Numbers.{sizes_of, count, number, entry_at};
 ghost use Rattle.roman_model.specs.Explanation.{name_at};
 ghost use Rattle.roman_model.specs.Offers.{is_related, offers};
 ghost use Rattle.roman_radix.specs.Radix.{moved};
-ghost use Rattle.roman_joint.specs.Bits.{HasBits};
+ghost use Rattle.roman_rules.specs.Bits.{HasBits};
 ghost use Rattle.roman_relation.specs.Greatest.{IsRelation};
 ghost use Rattle.roman_session.specs.Situations.{Situation, system_of, is_idle, IsOpen, IsPhase, IsSituation};
 ghost use Rattle.roman_session.specs.Reports.{related_count};

@@ -6,7 +6,6 @@ use Rattle.roman_io.specs.Shelf.{Texts, text_of, rest_from}
 use Rattle.roman_model.specs.Arena.{Arena}
 use Rattle.roman_model.specs.Numbers.{sizes_of, number, numbered}
 use Rattle.roman_model.specs.Certificate.{TooLong, cert_verdict}
-use Rattle.roman_library.specs.Documents.{library_of}
 use Rattle.roman_joint.specs.NamedSys.{NamedSys, system_of}
 use Rattle.roman_session.specs.Starts.{start_of}
 use Rattle.roman_session.specs.Building.{IsSeated}
@@ -18,12 +17,18 @@ use Rattle.roman_check.specs.declared.verdict.Verdict.{Verdict}
 use Rattle.roman_check.specs.declared.verdict.Verdict.TheVariants as checked_as
 use Rattle.roman_check.specs.declared.error.CheckError.{CheckError}
 use Rattle.roman_check.specs.declared.error.CheckError.TheVariants as check
-use Rattle.roman_top.specs.Run.{OnDocument, Judges, Checks, library_system}
-use Rattle.roman_top.specs.Endings.{Finds, CheckCause, JudgesCheck, Accepts, Writes}
+use Rattle.roman_top.specs.Causes.{SinkCause}
+use Rattle.roman_top.specs.Command.{Check, On}
+use Rattle.roman_top.specs.Endings.{Finds, CheckCause, JudgesCheck, CausedByCheck, Accepts, Opens, Stops, Writes}
+use Rattle.roman_top.specs.Opening.{opened, OnOpening, library_system}
+use Rattle.roman_top.specs.Run.{Judges, Checks}
+use Rattle.roman_top.specs.Served.{ServedBeside}
+use Rattle.roman_top.specs.World.{desk}
 use Rattle.roman_top.specs.Verdicts.{greatest_text, rejected_text}
 use Rattle.roman_top.specs.declared.status.Status.{Status}
 use Rattle.roman_top.specs.declared.status.Status.TheVariants as status
-use Rattle.roman_top.proofs.EndingLemmas.{on_accepted, writes_weaker}
+use Rattle.roman_top.proofs.EndingLemmas.{told_both, on_accepted, writes_weaker}
+use Rattle.roman_top.proofs.ServedLemmas.{job_served}
 
 -- a source over a whole text had that text
 had_text : (A : Arena ℕ) (start : ℕ) (texts : Texts) (name : List ℕ) (verdict : _) → HaveVerdict A start (rest_from (Some texts) name 0) verdict → cert_verdict A start (text_of texts name) ≡ verdict
@@ -62,20 +67,38 @@ judged A start certificate (Err check.TooLong) finds text ends judges = subst (�
 judged A start certificate (Err check.Memory) finds text ends judges = absurd judges
 
 -- the check of a certificate against the system of an accepted document is a run
-pub checked_is_run : (told : Option Texts) (system certificate : List ℕ) (seated : Seated) (checked : Result Verdict CheckError) (old mid new : Option (List ℕ)) (result : Status) →
-    IfSome told (λ texts. Accepts (library_of texts system) (λ library. IsSeated library seated)) →
-    IfSome told (λ texts. Finds (numbered (system_of seated.joint)) seated.start (text_of texts certificate) checked) → mid ≡ old → Writes (JudgesCheck checked) mid new result →
-    IfSome told (λ texts. Writes (OnDocument (Checks (text_of texts certificate)) (library_of texts system)) old new result)
-checked_is_run None system certificate seated checked old mid new result accepts finds same writes = tt
-checked_is_run (Some texts) system certificate seated checked old mid new result accepts finds same writes =
+checked_is_run : (texts : Texts) (system certificate : List ℕ) (seated : Seated) (checked : Result Verdict CheckError) (old new : Option (List ℕ)) (result : Status) →
+    Accepts (opened texts system) (λ library. IsSeated library seated) → Finds (numbered (system_of seated.joint)) seated.start (text_of texts certificate) checked → Writes (JudgesCheck checked) old new result →
+    Writes (OnOpening (Checks (text_of texts certificate)) (opened texts system)) old new result
+checked_is_run texts system certificate seated checked old new result accepts finds writes =
     let library = accepts.library in
     let s = library_system library in
     let of_parts : Finds (numbered s) seated.start (text_of texts certificate) checked = subst (λ (n : NamedSys). Finds (numbered (system_of n)) seated.start (text_of texts certificate) checked) accepts.holds.parts finds in
     let found : Finds (numbered s) (number (sizes_of s) (start_of library)) (text_of texts certificate) checked = subst (λ (n : ℕ). Finds (numbered s) n (text_of texts certificate) checked) accepts.holds.start of_parts in
-    let run = λ (text : List ℕ) (ends : Status) (judges : JudgesCheck checked text ends).
-    on_accepted (Checks (text_of texts certificate)) (library_of texts system) library text ends accepts.means accepts.within (judged (numbered s) (number (sizes_of s) (start_of library)) (text_of texts certificate) checked found text ends judges) in
-    writes_weaker (JudgesCheck checked) (OnDocument (Checks (text_of texts certificate)) (library_of texts system)) old new result run
-    (subst (λ (o : Option (List ℕ)). Writes (JudgesCheck checked) o new result) same writes)
+    writes_weaker (JudgesCheck checked) (OnOpening (Checks (text_of texts certificate)) (opened texts system)) old new result
+    (λ (text : List ℕ) (ends : Status) (judges : JudgesCheck checked text ends).
+    on_accepted (Checks (text_of texts certificate)) (opened texts system) library text ends accepts.accepted
+    (judged (numbered s) (number (sizes_of s) (start_of library)) (text_of texts certificate) checked found text ends judges)) writes
+
+-- so a check of an opened document does its job
+pub check_served : (system certificate : List ℕ) (seated : Seated) (told told_mid told_now : Option Texts) (shelf shelf_mid shelf_now : ℕ) (old mid new : Option (List ℕ)) (out out_mid out_now : ℕ) (checked : Result Verdict CheckError) (result : Status) →
+    Opens IsSeated system (desk told shelf old out) (desk told_mid shelf_mid mid out_mid) (Ok seated) → IfSome told_mid (λ texts. Finds (numbered (system_of seated.joint)) seated.start (text_of texts certificate) checked) →
+    told_now ≡ told_mid → CheckCause shelf_mid shelf_now checked → Writes (JudgesCheck checked) mid new result → Stops mid new result → CausedByCheck checked result → SinkCause out_mid out_now result →
+    ServedBeside (Some (On system (Check certificate))) (desk told shelf old out) (desk told_now shelf_now new out_now) result
+check_served system certificate seated told told_mid told_now shelf shelf_mid shelf_now old mid new out out_mid out_now checked result opens finds texts cause writes stops caused wrote =
+    let S = system_of seated.joint in
+    let found : IfSome told (λ texts. Finds (numbered S) seated.start (text_of texts certificate) checked) =
+    subst (λ (t : Option Texts). IfSome t (λ texts. Finds (numbered S) seated.start (text_of texts certificate) checked)) opens.leaves.texts finds in
+    let mine : Writes (JudgesCheck checked) old new result = subst (λ (o : Option (List ℕ)). Writes (JudgesCheck checked) o new result) opens.leaves.stops writes in
+    job_served system (Check certificate) (desk told shelf old out) (desk told_now shelf_now new out_now) result tt (record {
+      writes = told_both told (λ texts. Accepts (opened texts system) (λ library. IsSeated library seated)) (λ texts. Finds (numbered S) seated.start (text_of texts certificate) checked)
+          (λ texts. Writes (OnOpening (Checks (text_of texts certificate)) (opened texts system)) old new result) opens.opens found
+          (λ texts accepts finds. checked_is_run texts system certificate seated checked old new result accepts finds mine);
+      stops = subst (λ (o : Option (List ℕ)). Stops o new result) opens.leaves.stops stops;
+      texts = texts ∙ opens.leaves.texts;
+      shelf = caused shelf shelf_now (subst (λ (n : ℕ). CheckCause n shelf_now checked) opens.leaves.shelf cause);
+      out = subst (λ (n : ℕ). SinkCause n out_now result) opens.leaves.out wrote;
+    })
 
 -- what is said of a verdict
 pub says_greatest : (verdict : Verdict) (related : ℕ) (start : Bool) → verdict ≡ checked_as.Greatest related start → Judges (verdict_of verdict) (greatest_text related start) status.Done

@@ -1,17 +1,30 @@
 -- How the parts of a run end.
-use Rattle.std.proofs.Common.{◌≡◌, ℕ, ◌<◌, Bool, true, false, IsTrue, IsFalse, MatchBool, List, Option, None, Some, IfSome, Result, Ok, Err, refl, sym, subst}
-use Rattle.std.proofs.lemmas.Bool.{false≢true, true≢false, lt-ltb}
+use Rattle.std.proofs.Common.{◌≡◌, ℕ, ◌<◌, cond, Bool, true, false, IsTrue, IsFalse, MatchBool, List, Option, None, Some, IfSome, Result, Ok, Err, refl, sym, ap, ◌∙◌, subst}
+use Rattle.std.proofs.lemmas.Bool.{false≢true, true≢false, cond-true, cond-false, lt-ltb}
 use Rattle.roman_io.specs.Shelf.{Texts}
 use Rattle.roman_io.specs.Sink.{Puts}
+use Rattle.roman_joint.specs.NamedSys.{cells}
 use Rattle.roman_library.specs.Documents.{library_of}
 use Rattle.roman_library.specs.Library.{PlainLibrary}
 use Rattle.roman_library.specs.declared.refusal.Refusal.{Refusal}
+use Rattle.roman_top.specs.Endings.{WritesText, Writes, TurnsAway, ReadsTo, OpensTo, Finishes}
+use Rattle.roman_top.specs.Opening.{Opening, Refused, Past, Accepted, opening_of, opened, OnOpening, library_system, is_past_limit, limit_line}
 use Rattle.roman_top.specs.RefusalLine.{refusal_line}
-use Rattle.roman_joint.specs.NamedSys.{cells}
-use Rattle.roman_top.specs.Run.{Says, OnDocument, library_system, is_past_limit, limit_line}
-use Rattle.roman_top.specs.Endings.{WritesText, Writes, Refuses, TurnsAway, Reads, Opens, Finishes}
 use Rattle.roman_top.specs.declared.status.Status.{Status}
 use Rattle.roman_top.specs.declared.status.Status.TheVariants as status
+
+-- what holds where something is told
+pub told_more : {X : Type 0} (o : Option X) (P Q : X → Type 0) → IfSome o P → ((x : X) → P x → Q x) → IfSome o Q
+told_more None P Q p more = tt
+told_more (Some x) P Q p more = more x p
+
+pub told_both : {X : Type 0} (o : Option X) (P Q R : X → Type 0) → IfSome o P → IfSome o Q → ((x : X) → P x → Q x → R x) → IfSome o R
+told_both None P Q R p q more = tt
+told_both (Some x) P Q R p q more = more x p q
+
+pub told_all : {X : Type 0} (o : Option X) (P : X → Type 0) → ((x : X) → P x) → IfSome o P
+told_all None P all = tt
+told_all (Some x) P all = all x
 
 -- a text that was put, or a front of it
 pub writes_put : {T E : Type 0} (IsRun : List ℕ → Status → Type 0) (old new : Option (List ℕ)) (text : List ℕ) (ends result : Status) (r : Result T E) → Puts old new text r → Finishes r ends result →
@@ -20,25 +33,49 @@ writes_put IsRun old new text ends result (Ok x) puts finishes run whole = subst
 writes_put IsRun old new text ends result (Err e) puts finishes run whole =
     subst (Writes IsRun old new) (sym finishes) (record { text = text; ends = ends; run = run; wrote = puts })
 
+-- what a document comes to
+
+pub opens_past : (meaning : Result PlainLibrary Refusal) (library : PlainLibrary) → meaning ≡ Ok library → IsTrue (is_past_limit library) → opening_of meaning ≡ Past library
+opens_past meaning library means past = ap opening_of means ∙ cond-true (is_past_limit library) (Past library) (Accepted library) past
+
+pub opens_accepted : (meaning : Result PlainLibrary Refusal) (library : PlainLibrary) → meaning ≡ Ok library → IsFalse (is_past_limit library) → opening_of meaning ≡ Accepted library
+opens_accepted meaning library means within = ap opening_of means ∙ cond-false (is_past_limit library) (Past library) (Accepted library) within
+
+-- an accepted document has that meaning, and is within its limit
+pub record IsAccepted (meaning : Result PlainLibrary Refusal) (library : PlainLibrary) : Type 0 where
+  pub means : meaning ≡ Ok library
+  pub within : IsFalse (is_past_limit library)
+
+pub accepted_is : (meaning : Result PlainLibrary Refusal) (library : PlainLibrary) → opening_of meaning ≡ Accepted library → IsAccepted meaning library
+accepted_is (Err refusal) library h = absurd (let e : ⊥ = cc in e)
+accepted_is (Ok other) library h = by (is_past_limit other) refl h
+  where
+    by : (b : Bool) → is_past_limit other ≡ b → cond b (Past other) (Accepted other) ≡ Accepted library → IsAccepted (Ok other) library
+    by true e g = absurd (let f : ⊥ = cc in f)
+    by false e g = let same : other ≡ library = cc in record { means = ap Ok same; within = subst (λ (l : PlainLibrary). IsFalse (is_past_limit l)) same e }
+
 -- the line of a refusal was put
 pub refused : {T E X : Type 0} (view : X → PlainLibrary) (told : Option Texts) (name : List ℕ) (refusal : Refusal) (old new : Option (List ℕ)) (result : Status) (r : Result T E) →
     IfSome told (λ texts. library_of texts name ≡ Err refusal) → Puts old new (refusal_line refusal) r → Finishes r status.Refused result →
-    IfSome told (λ texts. Reads {X = X} view (library_of texts name) old new (Err result))
-refused view None name refusal old new result r means puts finishes = tt
-refused view (Some texts) name refusal old new result r means puts finishes =
-    let there : Refuses (library_of texts name) (refusal_line refusal) status.Refused = rw means (refl, refl) in
-    writes_put (Refuses (library_of texts name)) old new (refusal_line refusal) status.Refused result r puts finishes there (λ w. w)
+    IfSome told (λ texts. ReadsTo {X = X} view texts name old new (Err result))
+refused view told name refusal old new result r means puts finishes = told_more told (λ texts. library_of texts name ≡ Err refusal) (λ texts. Writes (TurnsAway (opened texts name)) old new result) means
+    (λ texts is.
+    let there : TurnsAway (opened texts name) (refusal_line refusal) status.Refused =
+    subst (λ (opening : Opening). TurnsAway opening (refusal_line refusal) status.Refused) (sym (ap opening_of is)) (refl, refl) in
+    writes_put (TurnsAway (opened texts name)) old new (refusal_line refusal) status.Refused result r puts finishes there (λ w. w))
 
 -- the line of a limit was put
 pub exceeded : {T E X : Type 0} (Holds : PlainLibrary → X → Type 0) (told : Option Texts) (name : List ℕ) (library : PlainLibrary) (old mid new : Option (List ℕ)) (result : Status) (r : Result T E) →
     IfSome told (λ texts. library_of texts name ≡ Ok library) → library.limit < cells (library_system library) → mid ≡ old → Puts mid new (limit_line library.limit) r → Finishes r status.Limit result →
-    IfSome told (λ texts. Opens Holds (library_of texts name) old new (Err result))
-exceeded Holds None name library old mid new result r means past same puts finishes = tt
-exceeded Holds (Some texts) name library old mid new result r means past same puts finishes =
-    let there : TurnsAway (library_of texts name) (limit_line library.limit) status.Limit = rw means (lt-ltb library.limit (cells (library_system library)) past, (refl, refl)) in
-    writes_put (TurnsAway (library_of texts name)) old new (limit_line library.limit) status.Limit result r (subst (λ (o : Option (List ℕ)). Puts o new (limit_line library.limit) r) same puts) finishes there (λ w. w)
+    IfSome told (λ texts. OpensTo Holds (opened texts name) old new (Err result))
+exceeded Holds told name library old mid new result r means past same puts finishes = told_more told (λ texts. library_of texts name ≡ Ok library) (λ texts. Writes (TurnsAway (opened texts name)) old new result) means
+    (λ texts is.
+    let there : TurnsAway (opened texts name) (limit_line library.limit) status.Limit =
+    subst (λ (opening : Opening). TurnsAway opening (limit_line library.limit) status.Limit)
+    (sym (opens_past (library_of texts name) library is (lt-ltb library.limit (cells (library_system library)) past))) (refl, refl) in
+    writes_put (TurnsAway (opened texts name)) old new (limit_line library.limit) status.Limit result r (subst (λ (o : Option (List ℕ)). Puts o new (limit_line library.limit) r) same puts) finishes there (λ w. w))
 
--- ---- parts of a run
+-- parts of a run
 
 -- the text of a run is that of another
 pub writes_weaker : (One Other : List ℕ → Status → Type 0) (old new : Option (List ℕ)) (result : Status) → ((text : List ℕ) (ends : Status) → One text ends → Other text ends) → Writes One old new result → Writes Other old new result
@@ -61,20 +98,15 @@ pub match_false : (b : Bool) (P Q : Type 0) → IsFalse b → Q → MatchBool b 
 match_false true P Q e q = absurd (true≢false e)
 match_false false P Q e q = q
 
--- a document that isn't accepted within its limit ends each command that asks for it
-pub away_is_run : (Work : PlainLibrary → List ℕ → Status → Type 0) (meaning : Result PlainLibrary Refusal) (text : List ℕ) (ends : Status) → TurnsAway meaning text ends → OnDocument Work meaning text ends
-away_is_run Work (Err refusal) text ends away = away
-away_is_run Work (Ok library) text ends away = match_true (is_past_limit library) (Says (limit_line library.limit) status.Limit text ends) (Work library text ends) away.0 away.1
+-- the line of a document that is turned away ends each job on it
+pub away_is_run : (Work : PlainLibrary → List ℕ → Status → Type 0) (opening : Opening) (text : List ℕ) (ends : Status) → TurnsAway opening text ends → OnOpening Work opening text ends
+away_is_run Work (Refused refusal) text ends away = away
+away_is_run Work (Past library) text ends away = away
+away_is_run Work (Accepted library) text ends away = absurd away
 
--- what a command does with an accepted document within its limit
-pub on_accepted : (Work : PlainLibrary → List ℕ → Status → Type 0) (meaning : Result PlainLibrary Refusal) (library : PlainLibrary) (text : List ℕ) (ends : Status) → meaning ≡ Ok library → IsFalse (is_past_limit library) → Work library text ends →
-    OnDocument Work meaning text ends
-on_accepted Work meaning library text ends means within work =
-    subst (λ (m : Result PlainLibrary Refusal). OnDocument Work m text ends) (sym means)
-    (match_false (is_past_limit library) (Says (limit_line library.limit) status.Limit text ends) (Work library text ends) within work)
+-- the work on an accepted document
+pub on_accepted : (Work : PlainLibrary → List ℕ → Status → Type 0) (opening : Opening) (library : PlainLibrary) (text : List ℕ) (ends : Status) → opening ≡ Accepted library → Work library text ends → OnOpening Work opening text ends
+on_accepted Work opening library text ends accepted work = subst (λ (opening : Opening). OnOpening Work opening text ends) (sym accepted) work
 
-pub turned_away : {X : Type 0} (Work : Texts → PlainLibrary → List ℕ → Status → Type 0) (Holds : PlainLibrary → X → Type 0) (told : Option Texts) (name : List ℕ) (old new : Option (List ℕ)) (result : Status) →
-    IfSome told (λ texts. Opens Holds (library_of texts name) old new (Err result)) → IfSome told (λ texts. Writes (OnDocument (Work texts) (library_of texts name)) old new result)
-turned_away Work Holds None name old new result opens = tt
-turned_away Work Holds (Some texts) name old new result opens =
-    writes_weaker (TurnsAway (library_of texts name)) (OnDocument (Work texts) (library_of texts name)) old new result (away_is_run (Work texts) (library_of texts name)) opens
+pub work_of : (Work : PlainLibrary → List ℕ → Status → Type 0) (opening : Opening) (library : PlainLibrary) (text : List ℕ) (ends : Status) → opening ≡ Accepted library → OnOpening Work opening text ends → Work library text ends
+work_of Work opening library text ends accepted run = subst (λ (opening : Opening). OnOpening Work opening text ends) accepted run

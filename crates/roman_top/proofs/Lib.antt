@@ -1,10 +1,13 @@
 pub mod CheckLemmas
 pub mod EndingLemmas
+pub mod OpeningLemmas
+pub mod ServedLemmas
 pub mod SynthLemmas
-pub mod RunLemmas
 pub mod CompleteLemmas
 pub mod RefusalLemmas
 pub mod CertifyLemmas
 pub mod StageLemmas
 pub mod TalkLemmas
 pub mod MakeLemmas
+pub mod StartsKnown
+pub mod HeadlineLemmas

@@ -10,7 +10,8 @@ use Rattle.roman_joint.specs.NamedSys.{cells}
 use Rattle.roman_session.specs.Situations.{Situation}
 use Rattle.roman_session.specs.Starts.{IsStart}
 use Rattle.roman_top.specs.Made.{made_line, stages, Passes}
-use Rattle.roman_top.specs.Run.{Makes, library_system}
+use Rattle.roman_top.specs.Opening.{library_system}
+use Rattle.roman_top.specs.Run.{Makes}
 use Rattle.roman_top.specs.Endings.{Finishes, Writes}
 use Rattle.roman_top.specs.declared.status.Status.{Status}
 use Rattle.roman_top.specs.declared.status.Status.TheVariants as status

@@ -1,23 +1,27 @@
 -- Reports, as part of a run.
-use Rattle.std.proofs.Common.{◌≡◌, ℕ, Bool, true, false, List, Option, None, Some, IfSome, Result, refl, sym, subst}
+use Rattle.std.proofs.Common.{◌≡◌, ℕ, Bool, true, false, List, Option, Some, Result, Ok, refl, sym, subst}
 use Rattle.std.proofs.lemmas.Bool.{both_ways}
 use Rattle.roman_io.specs.Shelf.{Texts}
 use Rattle.roman_io.specs.Sink.{Puts}
 use Rattle.roman_model.specs.System.{Pair}
 use Rattle.roman_model.specs.Offers.{is_related}
 use Rattle.roman_model.proofs.CompositionLemmas.{related_great, great_related}
-use Rattle.roman_library.specs.Documents.{library_of}
 use Rattle.roman_joint.specs.NamedSys.{NamedSys}
 use Rattle.roman_joint.specs.NamedSys as joint
 use Rattle.roman_session.specs.Situations.{Situation, system_of, IsSituation}
 use Rattle.roman_session.specs.Reports.{report_text}
 use Rattle.roman_session.specs.Starts.{parts_of, IsStart}
-use Rattle.roman_top.specs.Run.{OnDocument, EndsBy, Synthesises}
-use Rattle.roman_top.specs.Causes.{ShelfCause}
-use Rattle.roman_top.specs.Endings.{Accepts, Finishes, IsTold, Reports, Stops, Writes, status_of}
+use Rattle.roman_top.specs.Causes.{ShelfCause, SinkCause}
+use Rattle.roman_top.specs.Command.{Synth, On}
+use Rattle.roman_top.specs.Endings.{Accepts, Opens, Finishes, IsTold, Reports, Stops, Writes, status_of}
+use Rattle.roman_top.specs.Opening.{opened, OnOpening}
+use Rattle.roman_top.specs.Run.{EndsBy, Synthesises}
+use Rattle.roman_top.specs.Served.{ServedBeside}
+use Rattle.roman_top.specs.World.{desk}
 use Rattle.roman_top.specs.declared.status.Status.{Status}
 use Rattle.roman_top.specs.declared.status.Status.TheVariants as status
-use Rattle.roman_top.proofs.EndingLemmas.{writes_put, writes_weaker, on_accepted}
+use Rattle.roman_top.proofs.EndingLemmas.{told_more, writes_put, writes_weaker, on_accepted}
+use Rattle.roman_top.proofs.ServedLemmas.{job_served}
 
 -- the status says whether the pair is related
 pub ends_by : (s : Situation) → IsSituation s → (related : Bool) → related ≡ is_related (system_of s) s.here → EndsBy (system_of s) s.here (status_of related)
@@ -36,21 +40,19 @@ reported s related wanted result old new r known e is puts finishes =
     report_put s related old new result r (ends_by s known related e) puts (subst (λ (ends : Status). Finishes r ends result) is finishes)
 
 -- a report on the start is a run
-pub reported_is_run : (told : Option Texts) (system : List ℕ) (s : Situation) (old mid new : Option (List ℕ)) (result : Status) → IfSome told (λ texts. Accepts (library_of texts system) (λ library. IsStart library s)) → mid ≡ old →
-    Writes (Reports s) mid new result → IfSome told (λ texts. Writes (OnDocument Synthesises (library_of texts system)) old new result)
-reported_is_run None system s old mid new result accepts same writes = tt
-reported_is_run (Some texts) system s old mid new result accepts same writes =
+reported_is_run : (texts : Texts) (system : List ℕ) (s : Situation) (old new : Option (List ℕ)) (result : Status) → Accepts (opened texts system) (λ library. IsStart library s) → Writes (Reports s) old new result →
+    Writes (OnOpening Synthesises (opened texts system)) old new result
+reported_is_run texts system s old new result accepts writes =
     let library = accepts.library in
-    let run = λ (text : List ℕ) (ends : Status) (reports : Reports s text ends).
+    writes_weaker (Reports s) (OnOpening Synthesises (opened texts system)) old new result
+    (λ (text : List ℕ) (ends : Status) (reports : Reports s text ends).
     let of_parts : (text ≡ report_text (parts_of library) s.here) × EndsBy (joint.system_of (parts_of library)) s.here ends =
     subst (λ (n : NamedSys). (text ≡ report_text n s.here) × EndsBy (joint.system_of n) s.here ends) accepts.holds.parts reports in
-    on_accepted Synthesises (library_of texts system) library text ends accepts.means accepts.within
-    (subst (λ (p : Pair). (text ≡ report_text (parts_of library) p) × EndsBy (joint.system_of (parts_of library)) p ends) accepts.holds.here of_parts) in
-    writes_weaker (Reports s) (OnDocument Synthesises (library_of texts system)) old new result run
-    (subst (λ (o : Option (List ℕ)). Writes (Reports s) o new result) same writes)
+    on_accepted Synthesises (opened texts system) library text ends accepts.accepted
+    (subst (λ (p : Pair). (text ≡ report_text (parts_of library) p) × EndsBy (joint.system_of (parts_of library)) p ends) accepts.holds.here of_parts)) writes
 
 -- where an answer was told, nothing else stopped the run
-pub told_stops : (old new : Option (List ℕ)) (result : Status) → IsTold result → Stops old new result
+told_stops : (old new : Option (List ℕ)) (result : Status) → IsTold result → Stops old new result
 told_stops old new status.Done told = tt
 told_stops old new status.No told = tt
 told_stops old new status.Usage told = absurd told
@@ -63,7 +65,7 @@ told_stops old new status.TooLong told = absurd told
 told_stops old new status.Memory told = absurd told
 
 -- nor did the shelf fail
-pub told_shelf : (old new : ℕ) (result : Status) → IsTold result → new ≡ old → ShelfCause old new result
+told_shelf : (old new : ℕ) (result : Status) → IsTold result → new ≡ old → ShelfCause old new result
 told_shelf old new status.Done told same = same
 told_shelf old new status.No told same = same
 told_shelf old new status.Usage told same = absurd told
@@ -74,3 +76,18 @@ told_shelf old new status.ReadFault told same = absurd told
 told_shelf old new status.WriteFault told same = same
 told_shelf old new status.TooLong told same = absurd told
 told_shelf old new status.Memory told same = absurd told
+
+-- the report on the start of an opened document
+pub synth_served : (system : List ℕ) (s : Situation) (told told_now : Option Texts) (shelf shelf_now : ℕ) (old mid new : Option (List ℕ)) (out out_mid out_now : ℕ) (result : Status) →
+    Opens IsStart system (desk told shelf old out) (desk told_now shelf_now mid out_mid) (Ok s) → Writes (Reports s) mid new result → IsTold result → SinkCause out_mid out_now result →
+    ServedBeside (Some (On system Synth)) (desk told shelf old out) (desk told_now shelf_now new out_now) result
+synth_served system s told told_now shelf shelf_now old mid new out out_mid out_now result opens writes is_told cause =
+    let mine : Writes (Reports s) old new result = subst (λ (o : Option (List ℕ)). Writes (Reports s) o new result) opens.leaves.stops writes in
+    job_served system Synth (desk told shelf old out) (desk told_now shelf_now new out_now) result tt (record {
+      writes = told_more told (λ texts. Accepts (opened texts system) (λ library. IsStart library s)) (λ texts. Writes (OnOpening Synthesises (opened texts system)) old new result) opens.opens
+          (λ texts accepts. reported_is_run texts system s old new result accepts mine);
+      stops = told_stops old new result is_told;
+      texts = opens.leaves.texts;
+      shelf = told_shelf shelf shelf_now result is_told opens.leaves.shelf;
+      out = subst (λ (n : ℕ). SinkCause n out_now result) opens.leaves.out cause;
+    })

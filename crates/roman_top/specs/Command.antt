@@ -6,28 +6,32 @@ use Rattle.roman_top.specs.Workers.{workers_of}
 use Rattle.roman_top.specs.declared.command.Command.{Command as Asked}
 use Rattle.roman_top.specs.declared.command.Command.TheVariants as asked
 
--- what a command asks for; a session without a name on the shelf comes from the input
+-- what is done with a system; a session without a name on the shelf comes from the input
+pub data Job : Type 0 where
+  Synth : Job
+  Run : (session : Option (List ℕ)) → Job
+  Certify : Job
+  Check : (certificate : List ℕ) → Job
+
+-- what a command asks for: a job on the system document of that name, or a made system of so many workers
 pub data Command : Type 0 where
-  Synth : (system : List ℕ) → Command
-  Run : (system : List ℕ) (session : Option (List ℕ)) → Command
-  Certify : (system : List ℕ) → Command
-  Check : (system certificate : List ℕ) → Command
+  On : (system : List ℕ) (job : Job) → Command
   Make : (n : ℕ) → Command
 
 -- the command of a word and one more
 abbrev pub with_one : List ℕ → List ℕ → Option Command
 with_one word name =
-    if bytes_eq word (codes "synth") then Some (Synth name)
-    else if bytes_eq word (codes "run") then Some (Run name None)
-    else if bytes_eq word (codes "certify") then Some (Certify name)
+    if bytes_eq word (codes "synth") then Some (On name Synth)
+    else if bytes_eq word (codes "run") then Some (On name (Run None))
+    else if bytes_eq word (codes "certify") then Some (On name Certify)
     else if bytes_eq word (codes "make") then option_map Make (workers_of name)
     else None
 
 -- the command of a word and two names
 abbrev pub with_two : List ℕ → List ℕ → List ℕ → Option Command
 with_two word name other =
-    if bytes_eq word (codes "run") then Some (Run name (Some other))
-    else if bytes_eq word (codes "check") then Some (Check name other)
+    if bytes_eq word (codes "run") then Some (On name (Run (Some other)))
+    else if bytes_eq word (codes "check") then Some (On name (Check other))
     else None
 
 -- the command that the words are, if they have the shape of one
@@ -44,9 +48,9 @@ usage_line = codes "usage: roman synth SYSTEM | run SYSTEM [SESSION] | certify S
 
 -- a command of the program, with its names as bytes
 abbrev pub command_as : Asked → Command
-command_as (asked.Synth system) = Synth system.now
-command_as (asked.Run system) = Run system.now None
-command_as (asked.RunOnShelf system session) = Run system.now (Some session.now)
-command_as (asked.Certify system) = Certify system.now
-command_as (asked.Check system certificate) = Check system.now certificate.now
+command_as (asked.Synth system) = On system.now Synth
+command_as (asked.Run system) = On system.now (Run None)
+command_as (asked.RunOnShelf system session) = On system.now (Run (Some session.now))
+command_as (asked.Certify system) = On system.now Certify
+command_as (asked.Check system certificate) = On system.now (Check certificate.now)
 command_as (asked.Make workers) = Make workers.count

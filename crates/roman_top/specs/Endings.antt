@@ -1,6 +1,7 @@
 -- How the parts of a run end: what was written by then, by the status that they answer.
-use Rattle.std.specs.Prelude.{◌≡◌, ℕ, Bool, true, false, List, [], Option, Result, Ok, Err, IsTrue, IsFalse}
+use Rattle.std.specs.Prelude.{◌≡◌, ℕ, Bool, true, false, List, [], Option, IfSome, IfErr, Result, Ok, Err, OnOk, IsErrOf}
 use Rattle.roman_io.specs.Faults.{Rose}
+use Rattle.roman_io.specs.Shelf.{Texts}
 use Rattle.roman_io.specs.Sink.{Wrote, WroteFront}
 use Rattle.roman_model.specs.Arena.{Arena}
 use Rattle.roman_model.specs.Certificate.{TooLong, cert_verdict}
@@ -8,16 +9,19 @@ use Rattle.roman_check.specs.Verdicts.{verdict_of}
 use Rattle.roman_check.specs.declared.verdict.Verdict.{Verdict}
 use Rattle.roman_check.specs.declared.error.CheckError.{CheckError}
 use Rattle.roman_check.specs.declared.error.CheckError.TheVariants as check
+use Rattle.roman_library.specs.Documents.{library_of}
 use Rattle.roman_library.specs.Library.{PlainLibrary}
-use Rattle.roman_library.specs.declared.refusal.Refusal.{Refusal}
 use Rattle.roman_session.specs.Situations.{Situation, system_of}
+use Rattle.roman_session.specs.Hearing.{Spot, Hall, IsHeardOut, IsCutOff, GoesOn, TellsFrontOfAll}
+use Rattle.roman_session.specs.Known.{AreBehaviours}
 use Rattle.roman_session.specs.Reports.{report_text}
-use Rattle.roman_session.specs.Hearing.{GoesOn}
 use Rattle.roman_session.specs.declared.hearing.HearError.{HearError}
 use Rattle.roman_session.specs.declared.hearing.HearError.TheVariants as hear
-use Rattle.roman_top.specs.Causes.{ShelfCause}
-use Rattle.roman_top.specs.RefusalLine.{refusal_line}
-use Rattle.roman_top.specs.Run.{Says, EndsBy, Judges, is_past_limit, limit_line}
+use Rattle.roman_top.specs.Causes.{ShelfCause, SinkCause, CauseIn}
+use Rattle.roman_top.specs.Command.{Job}
+use Rattle.roman_top.specs.Opening.{Accepted, Opening, opened, OnOpening}
+use Rattle.roman_top.specs.Run.{EndsBy, Judges, Does}
+use Rattle.roman_top.specs.World.{Desk}
 use Rattle.roman_top.specs.declared.status.Status.{Status}
 use Rattle.roman_top.specs.declared.status.Status.TheVariants as status
 
@@ -50,38 +54,35 @@ Stops old new status.ReadFault = ⊥
 Stops old new status.Memory = Wrote old new []
 Stops old new _ = Unit {0}
 
+-- a job on the document of that name, by a shelf and a sink alone
+pub record DoesJob (name : List ℕ) (job : Job) (old new : Desk) (result : Status) : Type 0 where
+  pub writes : IfSome old.texts (λ texts. Writes (OnOpening (Does job texts []) (opened texts name)) old.written new.written result)
+  pub stops : Stops old.written new.written result
+  pub texts : new.texts ≡ old.texts
+  pub shelf : ShelfCause old.shelf_faults new.shelf_faults result
+  pub out : SinkCause old.out_faults new.out_faults result
+
 -- ---- documents
 
--- a document that is refused
-abbrev pub Refuses : Result PlainLibrary Refusal → List ℕ → Status → Type 0
-Refuses (Err refusal) out result = Says (refusal_line refusal) status.Refused out result
-Refuses (Ok library) out result = ⊥
+-- no accepted library: the line of a refusal, or that of a limit
+abbrev pub TurnsAway : Opening → List ℕ → Status → Type 0
+TurnsAway opening out result = OnOpening (λ library out result. ⊥) opening out result
 
--- the cells of a library exceed its limit
-abbrev pub Exceeds : PlainLibrary → List ℕ → Status → Type 0
-Exceeds library out result = IsTrue (is_past_limit library) × Says (limit_line library.limit) status.Limit out result
-
--- a document that isn't accepted within its limit
-abbrev pub TurnsAway : Result PlainLibrary Refusal → List ℕ → Status → Type 0
-TurnsAway (Err refusal) out result = Says (refusal_line refusal) status.Refused out result
-TurnsAway (Ok library) out result = Exceeds library out result
-
--- a document is accepted within its limit, and this holds of its library
-pub record Accepts (meaning : Result PlainLibrary Refusal) (Holds : PlainLibrary → Type 0) : Type 0 where
+-- an accepted library, of which this holds
+pub record Accepts (opening : Opening) (Holds : PlainLibrary → Type 0) : Type 0 where
   pub library : PlainLibrary
-  pub means : meaning ≡ Ok library
-  pub within : IsFalse (is_past_limit library)
+  pub accepted : opening ≡ Accepted library
   pub holds : Holds library
 
 -- a document is opened, or turned away with its line
-abbrev pub Opens : {X : Type 0} → (PlainLibrary → X → Type 0) → Result PlainLibrary Refusal → Option (List ℕ) → Option (List ℕ) → Result X Status → Type 0
-Opens Holds meaning old new (Ok x) = Accepts meaning (λ library. Holds library x)
-Opens Holds meaning old new (Err result) = Writes (TurnsAway meaning) old new result
+abbrev pub OpensTo : {X : Type 0} → (PlainLibrary → X → Type 0) → Opening → Option (List ℕ) → Option (List ℕ) → Result X Status → Type 0
+OpensTo Holds opening old new (Ok x) = Accepts opening (λ library. Holds library x)
+OpensTo Holds opening old new (Err result) = Writes (TurnsAway opening) old new result
 
 -- the same before its cells are counted
-abbrev pub Reads : {X : Type 0} → (X → PlainLibrary) → Result PlainLibrary Refusal → Option (List ℕ) → Option (List ℕ) → Result X Status → Type 0
-Reads view meaning old new (Ok x) = meaning ≡ Ok (view x)
-Reads view meaning old new (Err result) = Writes (Refuses meaning) old new result
+abbrev pub ReadsTo : {X : Type 0} → (X → PlainLibrary) → Texts → List ℕ → Option (List ℕ) → Option (List ℕ) → Result X Status → Type 0
+ReadsTo view texts name old new (Ok x) = library_of texts name ≡ Ok (view x)
+ReadsTo view texts name old new (Err result) = Writes (TurnsAway (opened texts name)) old new result
 
 -- nothing was written by then; else it stops
 abbrev pub StopsIn : {X : Type 0} → Option (List ℕ) → Option (List ℕ) → Result X Status → Type 0
@@ -96,6 +97,24 @@ IsAway status.ShelfFault = Unit {0}
 IsAway status.WriteFault = Unit {0}
 IsAway status.Memory = Unit {0}
 IsAway _ = ⊥
+
+-- what opening a document leaves behind, whatever it gives
+pub record Leaves {X : Type 0} (old new : Desk) (result : Result X Status) : Type 0 where
+  pub away : IfErr result IsAway
+  pub stops : StopsIn old.written new.written result
+  pub texts : new.texts ≡ old.texts
+  pub shelf : CauseIn ShelfCause old.shelf_faults new.shelf_faults result
+  pub out : CauseIn SinkCause old.out_faults new.out_faults result
+
+-- the document of that name is opened or turned away
+pub record Opens {X : Type 0} (Holds : PlainLibrary → X → Type 0) (name : List ℕ) (old new : Desk) (result : Result X Status) : Type 0 where
+  pub opens : IfSome old.texts (λ texts. OpensTo Holds (opened texts name) old.written new.written result)
+  pub leaves : Leaves old new result
+
+-- it is read or refused
+pub record Reads {X : Type 0} (view : X → PlainLibrary) (name : List ℕ) (old new : Desk) (result : Result X Status) : Type 0 where
+  pub reads : IfSome old.texts (λ texts. ReadsTo view texts name old.written new.written result)
+  pub leaves : Leaves old new result
 
 -- ---- single steps
 
@@ -130,8 +149,15 @@ IsDone old new _ = ⊥
 -- ---- sessions
 
 -- a session would go on after some first bytes of what it comes from
-abbrev pub GoesOnFrom : Situation → Situation → Option (List ℕ) → Option (List ℕ) → Option (List ℕ) → Type 0
-GoesOnFrom old new had before now = (has : Option (List ℕ)) × GoesOn old new had has before now
+abbrev pub GoesOnFrom : Hall → Spot → Type 0
+GoesOnFrom old new = (has : Option (List ℕ)) × GoesOn old (record { spot = new; rest = has })
+
+-- a session that comes from a text of the shelf was heard
+pub record HearsText (old : Hall) (new : Spot) (result : Result (Unit {0}) HearError) : Type 0 where
+  pub ok : OnOk result (IsHeardOut old new)
+  pub too_long : IsErrOf result hear.TooLong → IsCutOff old new
+  pub read_fault : IsErrOf result hear.ReadFault → GoesOnFrom old new
+  pub front : IsErrOf result hear.WriteFault → AreBehaviours old.spot.situation.parts → TellsFrontOfAll old new.written
 
 -- the status after a session was heard, where that one stands for a fault of what it comes from
 abbrev pub heard_status : Status → Result (Unit {0}) HearError → Status

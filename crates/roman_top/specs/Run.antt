@@ -1,53 +1,28 @@
--- Runs: what a call of `serve` writes and how it ends, by its words, the texts of the shelf and the bytes of the session.
-use Rattle.std.specs.Prelude.{◌≡◌, ℕ, Bool, List, [], Option, None, Some, Result, Ok, Err, IfSome, MatchBool, nat_lt, codes, decimal, ◌++◌}
+-- Runs: what a call writes and how it ends, by its words, the texts of the shelf and the bytes of the session.
+use Rattle.std.specs.Prelude.{◌≡◌, ℕ, List, [], Option, None, Some, IfSome, MatchBool}
 use Rattle.roman_io.specs.Shelf.{Texts, text_of}
 use Rattle.roman_io.specs.Sink.{Wrote}
+use Rattle.roman_io.specs.Source.{Had}
 use Rattle.roman_model.specs.Lines.{lines, ended_lines}
 use Rattle.roman_model.specs.System.{Sys, Pair}
 use Rattle.roman_model.specs.Arena.{Entry}
 use Rattle.roman_model.specs.Composition.{Great}
 use Rattle.roman_model.specs.Numbers.{sizes_of, count, number, numbered, IsCompleteList}
 use Rattle.roman_model.specs.Certificate.{Verdict, Greatest, Rejected, TooLong, cert_text, cert_verdict}
-use Rattle.roman_library.specs.Documents.{library_of}
 use Rattle.roman_library.specs.Library.{PlainLibrary}
-use Rattle.roman_library.specs.declared.refusal.Refusal.{Refusal}
-use Rattle.roman_joint.specs.NamedSys.{system_of, cells}
 use Rattle.roman_session.specs.Reports.{report_text}
 use Rattle.roman_session.specs.Starts.{parts_of, start_of}
-use Rattle.roman_session.specs.Hearing.{front_of, is_heard_out, Had}
-use Rattle.roman_top.specs.Command.{Command, Synth, Run, Certify, Check, Make, usage_line}
+use Rattle.roman_session.specs.Hearing.{front_of, is_heard_out}
+use Rattle.roman_top.specs.Command.{Job, Synth, Run, Certify, Check, Command, On, Make, usage_line}
 use Rattle.roman_top.specs.Made.{Summarises}
-use Rattle.roman_top.specs.RefusalLine.{refusal_line}
+use Rattle.roman_top.specs.Opening.{Says, library_system, opened, OnOpening}
 use Rattle.roman_top.specs.Sessions.{Tells}
 use Rattle.roman_top.specs.Verdicts.{greatest_text, rejected_text}
+use Rattle.roman_top.specs.World.{World}
 use Rattle.roman_top.specs.declared.status.Status.{Status}
 use Rattle.roman_top.specs.declared.status.Status.TheVariants as status
 
--- that text is written, and that is the status
-abbrev pub Says : List ℕ → Status → List ℕ → Status → Type 0
-Says text ends out result = (out ≡ text) × (result ≡ ends)
-
--- ---- documents
-
--- the system of a library
-abbrev pub library_system : PlainLibrary → Sys
-library_system library = system_of (parts_of library)
-
--- the starting cells exceed the limit
-abbrev pub is_past_limit : PlainLibrary → Bool
-is_past_limit library = nat_lt library.limit (cells (library_system library))
-
--- the line of a limit
-abbrev pub limit_line : ℕ → List ℕ
-limit_line limit = codes "limit " ++ decimal limit ++ codes "\n"
-
--- what is done with an accepted document within its limit; else the line of its first refusal, or that of its limit
-abbrev pub OnDocument : (PlainLibrary → List ℕ → Status → Type 0) → Result PlainLibrary Refusal → List ℕ → Status → Type 0
-OnDocument Work (Err refusal) out result = Says (refusal_line refusal) status.Refused out result
-OnDocument Work (Ok library) out result =
-    MatchBool (is_past_limit library) (Says (limit_line library.limit) status.Limit out result) (Work library out result)
-
--- ---- what each command does with an accepted document within its limit
+-- ---- what each command does; a job has an accepted document within its limit
 
 -- Done where the pair is related, and else No
 abbrev pub EndsBy : Sys → Pair → Status → Type 0
@@ -89,39 +64,44 @@ Talks session library out result =
     (Tells library (lines session) out × (result ≡ status.Done))
     (Tells library (ended_lines (front_of session)) out × (result ≡ status.TooLong))
 
--- ---- made systems
-
 -- make: the summary of the system of n
 abbrev pub Makes : ℕ → List ℕ → Status → Type 0
 Makes n out result = Summarises n out × (result ≡ status.Done)
+
+-- what each job does
+abbrev pub Does : Job → Texts → List ℕ → PlainLibrary → List ℕ → Status → Type 0
+Does Synth texts session = Synthesises
+Does (Run name) texts session = Talks session
+Does Certify texts session = Certifies
+Does (Check certificate) texts session = Checks (text_of texts certificate)
 
 -- ---- runs
 
 -- a run of a command, or of words without a shape
 abbrev pub Runs : Option Command → Texts → List ℕ → List ℕ → Status → Type 0
 Runs None texts session out result = Says usage_line status.Usage out result
-Runs (Some (Synth system)) texts session out result = OnDocument Synthesises (library_of texts system) out result
-Runs (Some (Run system name)) texts session out result = OnDocument (Talks session) (library_of texts system) out result
-Runs (Some (Certify system)) texts session out result = OnDocument Certifies (library_of texts system) out result
-Runs (Some (Check system certificate)) texts session out result = OnDocument (Checks (text_of texts certificate)) (library_of texts system) out result
+Runs (Some (On system job)) texts session out result = OnOpening (Does job texts session) (opened texts system) out result
 Runs (Some (Make n)) texts session out result = Makes n out result
 
 -- the bytes of the session: a text of the shelf, or those that the input had, where it tells them
 abbrev pub IsSession : Option Command → Texts → Option (List ℕ) → List ℕ → Type 0
-IsSession (Some (Run system (Some name))) texts before session = session ≡ text_of texts name
-IsSession (Some (Run system None)) texts before session = Had before session
+IsSession (Some (On system (Run (Some name)))) texts before session = session ≡ text_of texts name
+IsSession (Some (On system (Run None))) texts before session = Had before session
 IsSession _ texts before session = Unit {0}
 
--- of the shelf's texts, where it tells them; `make` and words without a shape ask for none
+-- the shelf's texts that a call asks for, where it tells them; `make` and words without a shape ask for none
+abbrev pub texts_for : Option Command → Option Texts → Option Texts
+texts_for (Some (On system job)) told = told
+texts_for _ told = Some []
+
+-- this holds of these texts
 abbrev pub WithTexts : Option Command → Option Texts → (Texts → Type 0) → Type 0
-WithTexts None told Holds = Holds []
-WithTexts (Some (Make n)) told Holds = Holds []
-WithTexts (Some command) told Holds = IfSome told Holds
+WithTexts asked told Holds = IfSome (texts_for asked told) Holds
 
 -- what was written, and the status, are a run
-pub record HasRun (asked : Option Command) (texts : Texts) (before old new : Option (List ℕ)) (result : Status) : Type 0 where
+pub record HasRun (asked : Option Command) (texts : Texts) (old new : World) (result : Status) : Type 0 where
   pub session : List ℕ
-  pub given : IsSession asked texts before session
+  pub given : IsSession asked texts old.rest session
   pub text : List ℕ
   pub run : Runs asked texts session text result
-  pub wrote : Wrote old new text
+  pub wrote : Wrote old.written new.written text

@@ -1,10 +1,12 @@
 //! `certify SYSTEM`.
-ghost use Rattle.std.specs.Prelude.{◌≡◌, IfSome};
-ghost use Rattle.roman_library.specs.Documents.{library_of};
+ghost use Rattle.std.specs.Prelude.{Some};
 ghost use Rattle.roman_joint.specs.NamedSys.{system_of};
-ghost use Rattle.roman_top.specs.Run.{OnDocument, Certifies, CertifiesSystem};
-ghost use Rattle.roman_top.specs.Causes.{ShelfCause, SinkCause};
-ghost use Rattle.roman_top.specs.Endings.{IsDone, Stops, Writes};
+ghost use Rattle.roman_top.specs.Causes.{SinkCause};
+ghost use Rattle.roman_top.specs.Command.{Certify, On};
+ghost use Rattle.roman_top.specs.Endings.{IsDone, Writes};
+ghost use Rattle.roman_top.specs.Run.{CertifiesSystem};
+ghost use Rattle.roman_top.specs.Served.{ServedBeside};
+ghost use Rattle.roman_top.specs.World.{desk};
 
 use crate::opening::open_system;
 use crate::status::{Status, finish};
@@ -24,11 +26,9 @@ pub(crate) fn certify<F: Shelf, O: Sink, L: Ledger>(
     out: &mut O,
     steps: &mut Steps<L>,
 ) -> Status
-    ensures writes { IfSome (F.texts shelf.old) (λ texts. Writes (OnDocument Certifies (library_of texts system.now)) (O.written out.old) (O.written out.new) result) }
-    ensures stops { Stops (O.written out.old) (O.written out.new) result }
-    ensures texts { F.texts shelf.new ≡ F.texts shelf.old }
-    ensures shelf { ShelfCause (F.faults shelf.old) (F.faults shelf.new) result }
-    ensures out { SinkCause (O.faults out.old) (O.faults out.new) result }
+    ensures served { ServedBeside (Some (On system.now Certify))
+        (desk (F.texts shelf.old) (F.faults shelf.old) (O.written out.old) (O.faults out.old))
+        (desk (F.texts shelf.new) (F.faults shelf.new) (O.written out.new) (O.faults out.new)) result }
 {
     match open_system(alloc, system, shelf, out) {
         Ok(Seated { joint, .. }) => certify_joint(alloc, joint, out, steps),

@@ -1,13 +1,15 @@
 //! `check SYSTEM CERT`.
-ghost use Rattle.std.specs.Prelude.{◌≡◌, ◌<◌, IfSome};
+ghost use Rattle.std.specs.Prelude.{◌≡◌, ◌<◌, Some, IfSome};
 ghost use Rattle.roman_io.specs.Shelf.{text_of};
 ghost use Rattle.roman_model.specs.Numbers.{sizes_of, count, numbered};
-ghost use Rattle.roman_library.specs.Documents.{library_of};
 ghost use Rattle.roman_check.specs.Verdicts.{verdict_of};
 ghost use Rattle.roman_joint.specs.NamedSys.{system_of};
-ghost use Rattle.roman_top.specs.Run.{OnDocument, Judges, Checks};
-ghost use Rattle.roman_top.specs.Causes.{ShelfCause, SinkCause};
+ghost use Rattle.roman_top.specs.Causes.{SinkCause};
+ghost use Rattle.roman_top.specs.Command.{Check, On};
 ghost use Rattle.roman_top.specs.Endings.{Finds, CheckCause, JudgesCheck, CausedByCheck, IsTold, Stops, Writes};
+ghost use Rattle.roman_top.specs.Run.{Judges};
+ghost use Rattle.roman_top.specs.Served.{ServedBeside};
+ghost use Rattle.roman_top.specs.World.{desk};
 
 use crate::opening::open_system;
 use crate::status::{Status, finish};
@@ -27,11 +29,9 @@ pub(crate) fn check_certificate<F: Shelf, O: Sink, L: Ledger>(
     out: &mut O,
     steps: &mut Steps<L>,
 ) -> Status
-    ensures writes { IfSome (F.texts shelf.old) (λ texts. Writes (OnDocument (Checks (text_of texts certificate.now)) (library_of texts system.now)) (O.written out.old) (O.written out.new) result) }
-    ensures stops { Stops (O.written out.old) (O.written out.new) result }
-    ensures texts { F.texts shelf.new ≡ F.texts shelf.old }
-    ensures shelf { ShelfCause (F.faults shelf.old) (F.faults shelf.new) result }
-    ensures out { SinkCause (O.faults out.old) (O.faults out.new) result }
+    ensures served { ServedBeside (Some (On system.now (Check certificate.now)))
+        (desk (F.texts shelf.old) (F.faults shelf.old) (O.written out.old) (O.faults out.old))
+        (desk (F.texts shelf.new) (F.faults shelf.new) (O.written out.new) (O.faults out.new)) result }
 {
     let seated = match open_system(alloc, system, shelf, out) {
         Ok(seated) => seated,

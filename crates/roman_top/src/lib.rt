@@ -4,6 +4,7 @@
 mod certify;
 mod check;
 mod command;
+mod laws;
 mod limits;
 mod make;
 mod opening;
@@ -17,5 +18,6 @@ mod talking;
 mod verdicts;
 mod workers;
 
+pub use laws::starts_are_known;
 pub use run::serve;
 pub use status::Status;

@@ -1,7 +1,7 @@
 //! The line of a limit.
 ghost use Rattle.roman_io.specs.Faults.{HasCause};
 ghost use Rattle.roman_io.specs.Sink.{Puts};
-ghost use Rattle.roman_top.specs.Run.{limit_line};
+ghost use Rattle.roman_top.specs.Opening.{limit_line};
 
 use roman_io::{Failed, Sink};
 use roman_text::Piece;

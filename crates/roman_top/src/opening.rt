@@ -1,12 +1,11 @@
 //! Documents that are opened for a command.
-ghost use Rattle.std.specs.Prelude.{◌≡◌, IfErr, IfOk, IfSome};
-ghost use Rattle.roman_library.specs.Documents.{library_of};
+ghost use Rattle.std.specs.Prelude.{IfOk};
 ghost use Rattle.roman_library.specs.Library.{PlainLibrary, IsLibrary, plain};
 ghost use Rattle.roman_session.specs.Building.{IsSeated};
-ghost use Rattle.roman_session.specs.Hearing.{AreBehaviours};
+ghost use Rattle.roman_session.specs.Known.{AreBehaviours};
 ghost use Rattle.roman_session.specs.Starts.{IsStart};
-ghost use Rattle.roman_top.specs.Causes.{ShelfCause, SinkCause, CauseIn};
-ghost use Rattle.roman_top.specs.Endings.{IsAway, Reads, Opens, StopsIn};
+ghost use Rattle.roman_top.specs.Endings.{Opens, Reads};
+ghost use Rattle.roman_top.specs.World.{desk};
 
 use crate::limits::put_limit;
 use crate::refusals::put_refusal;
@@ -24,12 +23,10 @@ pub(crate) fn open_system<F: Shelf, O: Sink>(
     shelf: &mut F,
     out: &mut O,
 ) -> Result<Seated, Status>
-    ensures opens { IfSome (F.texts shelf.old) (λ texts. Opens IsSeated (library_of texts name.now) (O.written out.old) (O.written out.new) result) }
+    ensures opens { Opens IsSeated name.now
+        (desk (F.texts shelf.old) (F.faults shelf.old) (O.written out.old) (O.faults out.old))
+        (desk (F.texts shelf.new) (F.faults shelf.new) (O.written out.new) (O.faults out.new)) result }
     ensures seated { IfOk result (λ seated. (library : PlainLibrary) × IsSeated library seated) }
-    ensures stops { StopsIn (O.written out.old) (O.written out.new) result }
-    ensures texts { F.texts shelf.new ≡ F.texts shelf.old }
-    ensures shelf { CauseIn ShelfCause (F.faults shelf.old) (F.faults shelf.new) result }
-    ensures out { CauseIn SinkCause (O.faults out.old) (O.faults out.new) result }
 {
     let library = match read_library(alloc, name, shelf, out) {
         Ok(library) => library,
@@ -51,13 +48,10 @@ pub(crate) fn open_session<F: Shelf, O: Sink, L: Ledger>(
     out: &mut O,
     steps: &mut Steps<L>,
 ) -> Result<Session, Status>
-    ensures opens { IfSome (F.texts shelf.old) (λ texts. Opens IsStart (library_of texts name.now) (O.written out.old) (O.written out.new) result) }
+    ensures opens { Opens IsStart name.now
+        (desk (F.texts shelf.old) (F.faults shelf.old) (O.written out.old) (O.faults out.old))
+        (desk (F.texts shelf.new) (F.faults shelf.new) (O.written out.new) (O.faults out.new)) result }
     ensures behaviours { IfOk result (λ session. AreBehaviours session.parts) }
-    ensures away { IfErr result IsAway }
-    ensures stops { StopsIn (O.written out.old) (O.written out.new) result }
-    ensures texts { F.texts shelf.new ≡ F.texts shelf.old }
-    ensures shelf { CauseIn ShelfCause (F.faults shelf.old) (F.faults shelf.new) result }
-    ensures out { CauseIn SinkCause (O.faults out.old) (O.faults out.new) result }
 {
     let library = match read_library(alloc, name, shelf, out) {
         Ok(library) => library,
@@ -78,13 +72,10 @@ fn read_library<F: Shelf, O: Sink>(
     shelf: &mut F,
     out: &mut O,
 ) -> Result<Library, Status>
+    ensures reads { Reads plain name.now
+        (desk (F.texts shelf.old) (F.faults shelf.old) (O.written out.old) (O.faults out.old))
+        (desk (F.texts shelf.new) (F.faults shelf.new) (O.written out.new) (O.faults out.new)) result }
     ensures library { IfOk result (λ library. IsLibrary (plain library)) }
-    ensures reads { IfSome (F.texts shelf.old) (λ texts. Reads plain (library_of texts name.now) (O.written out.old) (O.written out.new) result) }
-    ensures away { IfErr result IsAway }
-    ensures stops { StopsIn (O.written out.old) (O.written out.new) result }
-    ensures texts { F.texts shelf.new ≡ F.texts shelf.old }
-    ensures shelf { CauseIn ShelfCause (F.faults shelf.old) (F.faults shelf.new) result }
-    ensures out { CauseIn SinkCause (O.faults out.old) (O.faults out.new) result }
 {
     match load(alloc, shelf, name) {
         Ok(library) => Ok(library),

@@ -1,20 +1,13 @@
 //! The top call.
-ghost use Rattle.std.specs.Prelude.{◌≡◌, ◌⊎◌, ◌<◌, Some};
+ghost use Rattle.std.specs.Prelude.{◌≡◌, ◌⊎◌, Some};
 ghost use Rattle.roman_io.specs.Faults.{HasCause};
 ghost use Rattle.roman_io.specs.Sink.{Puts};
 ghost use Rattle.roman_top.specs.Command.{command_as, command_of, usage_line};
-ghost use Rattle.roman_top.specs.Run.{WithTexts, HasRun};
-ghost use Rattle.roman_top.specs.Causes.{ShelfCause, InputCause, SinkCause};
-ghost use Rattle.roman_top.specs.Complete.{AreQuiet, IsComplete};
-ghost use Rattle.roman_top.specs.Faults.{
-  IsFree,
-  AtShelfFault,
-  AtReadFault,
-  AtWriteFault,
-  AtMemory,
-  TakesInput,
-  EndsInput,
-};
+ghost use Rattle.roman_top.specs.Complete.{IsComplete};
+ghost use Rattle.roman_top.specs.Faults.{TakesInput};
+ghost use Rattle.roman_top.specs.Headline.{HasHeadline};
+ghost use Rattle.roman_top.specs.Served.{Served};
+ghost use Rattle.roman_top.specs.World.{world};
 
 use crate::certify::certify;
 use crate::check::check_certificate;
@@ -46,35 +39,27 @@ pub fn serve<F: Shelf, I: Source, O: Sink, L: Ledger>(
     out: &mut O,
     steps: &mut Steps<L>,
 ) -> Status
-    // What was written and the status are a run, where no fault and no want of memory ended it.
-    ensures run { IsFree result
-        → WithTexts (command_of words.now) (F.texts shelf.old) (λ texts. HasRun (command_of words.now) texts (I.rest input.old) (O.written out.old) (O.written out.new) result) }
+    // What was written and the status are a run, where neither a fault nor want of memory ended it;
+    // else this stands in the sink, that count of faults rose, and that was taken from the input.
+    ensures served { Served (command_of words.now)
+        (world (F.texts shelf.old) (F.faults shelf.old) (I.rest input.old) (I.faults input.old) (O.written out.old) (O.faults out.old))
+        (world (F.texts shelf.new) (F.faults shelf.new) (I.rest input.new) (I.faults input.new) (O.written out.new) (O.faults out.new)) result }
 
-    // Where one did, this stands in the sink.
-    ensures shelf_fault { result ≡ Status.ShelfFault
-        → AtShelfFault (command_of words.now) (F.texts shelf.old) (O.written out.old) (O.written out.new) }
-    ensures read_fault { result ≡ Status.ReadFault
-        → AtReadFault (command_of words.now) (F.texts shelf.old) (I.rest input.old) (I.rest input.new) (O.written out.old) (O.written out.new) }
-    ensures write_fault { result ≡ Status.WriteFault
-        → AtWriteFault (command_of words.now) (F.texts shelf.old) (I.rest input.old) (I.rest input.new) (O.written out.old) (O.written out.new) }
-    ensures memory { result ≡ Status.Memory
-        → AtMemory (command_of words.now) (O.written out.old) (O.written out.new) }
+    // The same on its face: each answer of a session is a step that keeps its word.
+    ensures headline { HasHeadline (command_of words.now)
+        (world (F.texts shelf.old) (F.faults shelf.old) (I.rest input.old) (I.faults input.old) (O.written out.old) (O.faults out.old))
+        (world (F.texts shelf.new) (F.faults shelf.new) (I.rest input.new) (I.faults input.new) (O.written out.new) (O.faults out.new)) result }
 
-    // A fault comes only where its count rose, and no other count changes.
-    ensures shelf { ShelfCause (F.faults shelf.old) (F.faults shelf.new) result }
-    ensures input { InputCause (I.faults input.old) (I.faults input.new) result }
-    ensures out { SinkCause (O.faults out.old) (O.faults out.new) result }
+    // Where no count of faults rises, a command gets its answer, or there is no memory: with an
+    // accepted document within its limit, and a session or a certificate that isn't too long.
+    ensures complete { IsComplete (command_of words.now)
+        (world (F.texts shelf.old) (F.faults shelf.old) (I.rest input.old) (I.faults input.old) (O.written out.old) (O.faults out.old))
+        (world (F.texts shelf.new) (F.faults shelf.new) (I.rest input.new) (I.faults input.new) (O.written out.new) (O.faults out.new)) result }
 
-    // Where no count rises, a command gets its answer, or there is no memory: with an accepted
-    // document within its limit, and a session or a certificate that isn't too long.
-    ensures complete { AreQuiet (F.faults shelf.old) (F.faults shelf.new) (I.faults input.old) (I.faults input.new) (O.faults out.old) (O.faults out.new)
-        → IsComplete (command_of words.now) (F.texts shelf.old) (I.rest input.old) result }
-
-    // What is taken from the input, and what stays on the shelf.
-    ensures taken { (input.new ≡ input.old)
-        ⊎ TakesInput (command_of words.now) (F.texts shelf.old) (I.rest input.old) (I.rest input.new) result }
-    ensures ends { EndsInput (command_of words.now) (I.rest input.old) (I.rest input.new) result }
-    ensures texts { F.texts shelf.new ≡ F.texts shelf.old }
+    // The input stays as it is, but for a session that is read from it.
+    ensures input { (input.new ≡ input.old) ⊎ TakesInput (command_of words.now)
+        (world (F.texts shelf.old) (F.faults shelf.old) (I.rest input.old) (I.faults input.old) (O.written out.old) (O.faults out.old))
+        (world (F.texts shelf.new) (F.faults shelf.new) (I.rest input.new) (I.faults input.new) (O.written out.new) (O.faults out.new)) result }
 {
     match command_of(words) {
         Some(command) => obey(alloc, command, shelf, input, out, steps),
@@ -101,23 +86,12 @@ fn obey<F: Shelf, I: Source, O: Sink, L: Ledger>(
     out: &mut O,
     steps: &mut Steps<L>,
 ) -> Status
-    ensures run { IsFree result
-        → WithTexts (Some (command_as command.entry)) (F.texts shelf.old) (λ texts. HasRun (Some (command_as command.entry)) texts (I.rest input.old) (O.written out.old) (O.written out.new) result) }
-    ensures shelf_fault { result ≡ Status.ShelfFault
-        → AtShelfFault (Some (command_as command.entry)) (F.texts shelf.old) (O.written out.old) (O.written out.new) }
-    ensures read_fault { result ≡ Status.ReadFault
-        → AtReadFault (Some (command_as command.entry)) (F.texts shelf.old) (I.rest input.old) (I.rest input.new) (O.written out.old) (O.written out.new) }
-    ensures write_fault { result ≡ Status.WriteFault
-        → AtWriteFault (Some (command_as command.entry)) (F.texts shelf.old) (I.rest input.old) (I.rest input.new) (O.written out.old) (O.written out.new) }
-    ensures memory { result ≡ Status.Memory
-        → AtMemory (Some (command_as command.entry)) (O.written out.old) (O.written out.new) }
-    ensures shelf { ShelfCause (F.faults shelf.old) (F.faults shelf.new) result }
-    ensures input { InputCause (I.faults input.old) (I.faults input.new) result }
-    ensures out { SinkCause (O.faults out.old) (O.faults out.new) result }
-    ensures taken { (input.new ≡ input.old)
-        ⊎ TakesInput (Some (command_as command.entry)) (F.texts shelf.old) (I.rest input.old) (I.rest input.new) result }
-    ensures ends { EndsInput (Some (command_as command.entry)) (I.rest input.old) (I.rest input.new) result }
-    ensures texts { F.texts shelf.new ≡ F.texts shelf.old }
+    ensures served { Served (Some (command_as command.entry))
+        (world (F.texts shelf.old) (F.faults shelf.old) (I.rest input.old) (I.faults input.old) (O.written out.old) (O.faults out.old))
+        (world (F.texts shelf.new) (F.faults shelf.new) (I.rest input.new) (I.faults input.new) (O.written out.new) (O.faults out.new)) result }
+    ensures input { (input.new ≡ input.old) ⊎ TakesInput (Some (command_as command.entry))
+        (world (F.texts shelf.old) (F.faults shelf.old) (I.rest input.old) (I.faults input.old) (O.written out.old) (O.faults out.old))
+        (world (F.texts shelf.new) (F.faults shelf.new) (I.rest input.new) (I.faults input.new) (O.written out.new) (O.faults out.new)) result }
 {
     match command {
         Command::Synth(system) => synthesise(alloc, system, shelf, out, steps),

@@ -1,9 +1,10 @@
 //! `synth SYSTEM`.
-ghost use Rattle.std.specs.Prelude.{◌≡◌, IfSome};
-ghost use Rattle.roman_library.specs.Documents.{library_of};
-ghost use Rattle.roman_top.specs.Run.{OnDocument, Synthesises};
-ghost use Rattle.roman_top.specs.Causes.{ShelfCause, SinkCause};
-ghost use Rattle.roman_top.specs.Endings.{IsTold, Reports, Stops, Writes, status_of};
+ghost use Rattle.std.specs.Prelude.{◌≡◌, Some};
+ghost use Rattle.roman_top.specs.Causes.{SinkCause};
+ghost use Rattle.roman_top.specs.Command.{Synth, On};
+ghost use Rattle.roman_top.specs.Endings.{IsTold, Reports, Writes, status_of};
+ghost use Rattle.roman_top.specs.Served.{ServedBeside};
+ghost use Rattle.roman_top.specs.World.{desk};
 
 use crate::opening::open_session;
 use crate::status::{Status, finish};
@@ -20,11 +21,9 @@ pub(crate) fn synthesise<F: Shelf, O: Sink, L: Ledger>(
     out: &mut O,
     steps: &mut Steps<L>,
 ) -> Status
-    ensures writes { IfSome (F.texts shelf.old) (λ texts. Writes (OnDocument Synthesises (library_of texts system.now)) (O.written out.old) (O.written out.new) result) }
-    ensures stops { Stops (O.written out.old) (O.written out.new) result }
-    ensures texts { F.texts shelf.new ≡ F.texts shelf.old }
-    ensures shelf { ShelfCause (F.faults shelf.old) (F.faults shelf.new) result }
-    ensures out { SinkCause (O.faults out.old) (O.faults out.new) result }
+    ensures served { ServedBeside (Some (On system.now Synth))
+        (desk (F.texts shelf.old) (F.faults shelf.old) (O.written out.old) (O.faults out.old))
+        (desk (F.texts shelf.new) (F.faults shelf.new) (O.written out.new) (O.faults out.new)) result }
 {
     match open_session(alloc, system, shelf, out, steps) {
         Ok(session) => report(&session, out),

@@ -61,7 +61,7 @@ impl Session {
             state,
             env,
         } = sight;
-        match next_pair(&self.relation, self.here(), action, seat, state, env) {
+        match next_pair(&self.relation.joint, self.here(), action, seat, state, env) {
             Some(pair) => Some(self.relation.joint.shape().target_of(pair)),
             None => None,
         }

@@ -1,17 +1,18 @@
 use Rattle.std.proofs.Common.{Ok, ◌++◌, sym, subst, arith, List, ℕ}
-use Rattle.roman_session.specs.Hearing.{IsHearing, StopsAtQuit, FailsIn, HearsPiece}
+use Rattle.roman_session.specs.Hearing.{spot}
+use Rattle.roman_session.specs.HearingBytes.{ear, IsHearing, StopsAtQuit, FailsIn, HearsPiece}
 use Rattle.roman_session.specs.declared.next.Next.{Next}
 use Rattle.roman_session.proofs.HearingLemmas.{due_part, due_whole}
 use Rattle.roman_session.proofs.hearing.hear_piece.Goals as goal
 
 pub returns-in_default-clause-hears : goal.returns-in_default-clause-hears
 returns-in_default-clause-hears g c old before taken is =
-    subst (λ (piece : List ℕ). FailsIn old before (taken ++ piece) c.hear_bytes.new.session (g.O.Sink.written c.hear_bytes.new.out))
+    subst (λ (piece : List ℕ). FailsIn (spot old before) (taken ++ piece) (spot c.hear_bytes.new.session (g.O.Sink.written c.hear_bytes.new.out)))
     (due_part c.args.room c.min-due.result c.args.piece.now c.min-due.ensures) (c.in_default.ensures.hears old before taken is)
 
 pub returns-in-More-clause-hears : goal.returns-in-More-clause-hears
 returns-in-More-clause-hears g c old before taken is = (
-  subst (λ (piece : List ℕ). IsHearing old before (taken ++ piece) c.hear_bytes.new.session (g.O.Sink.written c.hear_bytes.new.out) c.hear_bytes.new.splitter)
+  subst (λ (piece : List ℕ). IsHearing (spot old before) (taken ++ piece) (ear c.hear_bytes.new.session (g.O.Sink.written c.hear_bytes.new.out) c.hear_bytes.new.splitter))
       (due_part c.args.room c.min-due.result c.args.piece.now c.min-due.ensures) (rw c.in-More.is at (c.in-Ok.ensures.hears old before taken is)),
   omega (arith, c.min-due.ensures, c.if-due-piece.true),
 )
@@ -19,14 +20,14 @@ returns-in-More-clause-hears g c old before taken is = (
 pub returns-in_default-next-clause-hears : goal.returns-in_default-next-clause-hears
 returns-in_default-next-clause-hears g c old before taken is =
     let (whole, fits) = due_whole c.args.room c.min-due.result c.args.piece.now c.min-due.ensures c.if-due-piece.false in
-    subst (λ (next : Next). HearsPiece c.args.room old before taken c.args.piece.now c.hear_bytes.new.session (g.O.Sink.written c.hear_bytes.new.out) c.hear_bytes.new.splitter (Ok next)) (sym c.in-More.is) (
-      subst (λ (piece : List ℕ). IsHearing old before (taken ++ piece) c.hear_bytes.new.session (g.O.Sink.written c.hear_bytes.new.out) c.hear_bytes.new.splitter) whole
+    subst (λ (next : Next). HearsPiece c.args.room (spot old before) taken c.args.piece.now (ear c.hear_bytes.new.session (g.O.Sink.written c.hear_bytes.new.out) c.hear_bytes.new.splitter) (Ok next)) (sym c.in-More.is) (
+      subst (λ (piece : List ℕ). IsHearing (spot old before) (taken ++ piece) (ear c.hear_bytes.new.session (g.O.Sink.written c.hear_bytes.new.out) c.hear_bytes.new.splitter)) whole
           (rw c.in-More.is at (c.in-Ok.ensures.hears old before taken is)),
       fits,
     )
 
 pub returns-in_default-next-2-clause-hears : goal.returns-in_default-next-2-clause-hears
 returns-in_default-next-2-clause-hears g c old before taken is =
-    subst (λ (next : Next). HearsPiece c.args.room old before taken c.args.piece.now c.hear_bytes.new.session (g.O.Sink.written c.hear_bytes.new.out) c.hear_bytes.new.splitter (Ok next)) (sym c.in_default-next.is)
-    (subst (λ (piece : List ℕ). StopsAtQuit old before taken piece c.hear_bytes.new.session (g.O.Sink.written c.hear_bytes.new.out)) (due_part c.args.room c.min-due.result c.args.piece.now c.min-due.ensures)
+    subst (λ (next : Next). HearsPiece c.args.room (spot old before) taken c.args.piece.now (ear c.hear_bytes.new.session (g.O.Sink.written c.hear_bytes.new.out) c.hear_bytes.new.splitter) (Ok next)) (sym c.in_default-next.is)
+    (subst (λ (piece : List ℕ). StopsAtQuit (spot old before) taken piece (spot c.hear_bytes.new.session (g.O.Sink.written c.hear_bytes.new.out))) (due_part c.args.room c.min-due.result c.args.piece.now c.min-due.ensures)
     (rw c.in_default-next.is at (c.in-Ok.ensures.hears old before taken is)))

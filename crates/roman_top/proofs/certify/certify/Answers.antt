@@ -1,6 +1,10 @@
-use Rattle.roman_top.proofs.CertifyLemmas.{certified_is_run}
+use Rattle.roman_session.specs.Building.{IsSeated}
+use Rattle.roman_top.specs.Command.{Certify}
+use Rattle.roman_top.proofs.CertifyLemmas.{certify_served}
+use Rattle.roman_top.proofs.ServedLemmas.{away_served}
 use Rattle.roman_top.proofs.certify.certify.Goals as goal
 
-pub returns-in-Ok-clause-writes : goal.returns-in-Ok-clause-writes
-returns-in-Ok-clause-writes g c =
-    certified_is_run (g.F.Shelf.texts c.args.shelf.now) c.args.system.now c.in-Ok.field-0 _ _ _ c.certify_joint.result c.in-Ok.ensures.opens c.in-Ok.ensures.stops c.certify_joint.ensures.writes
+pub returns-in-Ok : goal.returns-in-Ok
+returns-in-Ok g c = record {
+  served = certify_served c.args.system.now c.in-Ok.field-0 _ _ _ _ _ _ _ _ _ _ c.certify_joint.result c.in-Ok.ensures.opens c.certify_joint.ensures.writes c.certify_joint.ensures.stops c.certify_joint.ensures.out;
+}

@@ -1,9 +1,33 @@
-use Rattle.std.proofs.Common.{Some, ap}
-use Rattle.roman_top.specs.Command.{Run, command_as}
-use Rattle.roman_top.proofs.RunLemmas.{run_of_same}
+use Rattle.std.proofs.Common.{None, Some, ap}
+use Rattle.roman_top.specs.Command.{Synth, Run, Certify, Check, Command, On, Make, command_as}
+use Rattle.roman_top.proofs.ServedLemmas.{served_as, made_served}
 use Rattle.roman_top.proofs.run.obey.Goals as goal
 
-pub returns-in-RunOnShelf-clause-run : goal.returns-in-RunOnShelf-clause-run
-returns-in-RunOnShelf-clause-run g c =
-    λ free. run_of_same _ (Some (Run c.in-RunOnShelf.system.now (Some c.in-RunOnShelf.session.now))) (g.F.Shelf.texts c.args.shelf.now) (g.I.Source.rest c.args.input.now) (g.O.Sink.written c.args.out.now) (g.O.Sink.written c.talk_shelf.new.out) c.talk_shelf.result
-    (ap (λ command. Some (command_as command)) c.in-RunOnShelf.is) (c.talk_shelf.ensures.run (g.I.Source.rest c.args.input.now) free)
+pub returns-in-Synth-clause-served : goal.returns-in-Synth-clause-served
+returns-in-Synth-clause-served g c =
+    served_as _ (Some (On c.in-Synth.system.now Synth)) _ _ c.synthesise.result (ap (λ command. Some (command_as command)) c.in-Synth.is)
+    (c.synthesise.ensures.served (g.I.Source.rest c.args.input.now) (g.I.Source.faults c.args.input.now))
+
+pub returns-in-RunOnShelf-clause-served : goal.returns-in-RunOnShelf-clause-served
+returns-in-RunOnShelf-clause-served g c =
+    served_as _ (Some (On c.in-RunOnShelf.system.now (Run (Some c.in-RunOnShelf.session.now)))) _ _ c.talk_shelf.result (ap (λ command. Some (command_as command)) c.in-RunOnShelf.is)
+    (c.talk_shelf.ensures.served (g.I.Source.rest c.args.input.now) (g.I.Source.faults c.args.input.now))
+
+pub returns-in-Certify-clause-served : goal.returns-in-Certify-clause-served
+returns-in-Certify-clause-served g c =
+    served_as _ (Some (On c.in-Certify.system.now Certify)) _ _ c.certify.result (ap (λ command. Some (command_as command)) c.in-Certify.is)
+    (c.certify.ensures.served (g.I.Source.rest c.args.input.now) (g.I.Source.faults c.args.input.now))
+
+pub returns-in-Check-clause-served : goal.returns-in-Check-clause-served
+returns-in-Check-clause-served g c =
+    served_as _ (Some (On c.in-Check.system.now (Check c.in-Check.certificate.now))) _ _ c.check_certificate.result (ap (λ command. Some (command_as command)) c.in-Check.is)
+    (c.check_certificate.ensures.served (g.I.Source.rest c.args.input.now) (g.I.Source.faults c.args.input.now))
+
+pub returns-in-Run-clause-served : goal.returns-in-Run-clause-served
+returns-in-Run-clause-served g c =
+    served_as _ (Some (On c.in-Run.system.now (Run None))) _ _ c.talk_input.result (ap (λ command. Some (command_as command)) c.in-Run.is) c.talk_input.ensures.served
+
+pub returns-in-Make-clause-served : goal.returns-in-Make-clause-served
+returns-in-Make-clause-served g c =
+    served_as _ (Some (Make c.in-Make.workers.count)) _ _ c.summarise.result (ap (λ command. Some (command_as command)) c.in-Make.is)
+    (made_served c.in-Make.workers.count _ _ _ _ _ _ _ _ c.summarise.result c.summarise.ensures.writes c.summarise.ensures.done c.summarise.ensures.out)

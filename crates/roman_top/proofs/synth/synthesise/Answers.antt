@@ -1,12 +1,13 @@
-use Rattle.roman_top.proofs.SynthLemmas.{reported_is_run, told_stops, told_shelf}
+use Rattle.roman_session.specs.Starts.{IsStart}
+use Rattle.roman_top.specs.Command.{Synth}
+use Rattle.roman_top.proofs.ServedLemmas.{away_served}
+use Rattle.roman_top.proofs.SynthLemmas.{synth_served}
 use Rattle.roman_top.proofs.synth.synthesise.Goals as goal
 
-pub returns-in-Ok-clause-writes : goal.returns-in-Ok-clause-writes
-returns-in-Ok-clause-writes g c =
-    reported_is_run (g.F.Shelf.texts c.args.shelf.now) c.args.system.now c.in-Ok.session _ _ _ c.report.result c.in-Ok.ensures.opens c.in-Ok.ensures.stops c.report.ensures.writes
+pub returns-in-Ok : goal.returns-in-Ok
+returns-in-Ok g c = record {
+  served = synth_served c.args.system.now c.in-Ok.session _ _ _ _ _ _ _ _ _ _ c.report.result c.in-Ok.ensures.opens c.report.ensures.writes c.report.ensures.told c.report.ensures.out;
+}
 
-pub returns-in-Ok-clause-stops : goal.returns-in-Ok-clause-stops
-returns-in-Ok-clause-stops g c = told_stops _ _ c.report.result c.report.ensures.told
-
-pub returns-in-Ok-clause-shelf : goal.returns-in-Ok-clause-shelf
-returns-in-Ok-clause-shelf g c = told_shelf _ _ c.report.result c.report.ensures.told c.in-Ok.ensures.shelf
+pub returns-in-Err : goal.returns-in-Err
+returns-in-Err g c = record { served = away_served IsStart c.args.system.now Synth _ _ c.in-Err.status c.in-Err.ensures.opens }

@@ -1,7 +1,7 @@
 use Rattle.std.proofs.Common.{ℕ, List, ◌∙◌, subst}
 use Rattle.roman_model.specs.System.{has, is_allowed}
 use Rattle.roman_model.specs.Offers.{is_related, offers}
-use Rattle.roman_joint.specs.Bits.{HasBits}
+use Rattle.roman_rules.specs.Bits.{HasBits}
 use Rattle.roman_session.proofs.SituationLemmas.{situation_known, parts_shown, at_here}
 use Rattle.roman_session.proofs.session.Session.offered.Goals as goal
 

@@ -1,0 +1,24 @@
+-- What holds of each situation of a session that a document begins, and stays.
+use Rattle.std.specs.Prelude.{◌≡◌, List, ℕ, length, All}
+use Rattle.roman_joint.specs.NamedSys.{NamedSys}
+use Rattle.roman_library.specs.Library.{IsBehaviour}
+use Rattle.roman_session.specs.Situations.{Situation, IsSituation}
+use Rattle.roman_session.specs.Steps.{Step}
+
+-- the behaviours that services may have are over the environment, as those of every library are
+abbrev pub AreBehaviours : NamedSys → Type 0
+AreBehaviours parts = All (IsBehaviour parts.environment) parts.catalogue
+
+-- so they are, and each state of the environment has a name
+pub record AreNamed (parts : NamedSys) : Type 0 where
+  pub behaviours : AreBehaviours parts
+  pub environment : length parts.environment.states ≡ parts.environment.env.states
+
+-- the situation is well formed, and whatever its session comes to will be
+pub record IsKnown (s : Situation) : Type 0 where
+  pub situation : IsSituation s
+  pub named : AreNamed s.parts
+
+-- a step from such a situation leads to such a situation
+abbrev pub StepsStayKnown : Type 0
+StepsStayKnown = (old new : Situation) (line text : List ℕ) → IsKnown old → Step old line text new → IsKnown new

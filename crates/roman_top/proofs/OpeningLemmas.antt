@@ -1,0 +1,99 @@
+-- Documents that are opened, and what becomes of a run without one.
+use Rattle.std.proofs.Common.{◌≡◌, ℕ, ◌<◌, ◌≤◌, List, [], Option, IfSome, Result, Ok, Err, refl, sym, ◌∙◌, subst}
+use Rattle.std.proofs.lemmas.Bool.{le-ltb}
+use Rattle.roman_io.specs.Faults.{HasCause, Rose}
+use Rattle.roman_io.specs.Shelf.{Texts}
+use Rattle.roman_io.specs.Sink.{Wrote, Puts}
+use Rattle.roman_io.proofs.SinkLemmas.{Wrote-nil}
+use Rattle.roman_joint.specs.NamedSys.{cells}
+use Rattle.roman_library.specs.Documents.{library_of}
+use Rattle.roman_library.specs.Library.{PlainLibrary}
+use Rattle.roman_library.specs.declared.refusal.Refusal.{Refusal}
+use Rattle.roman_top.specs.Endings.{Writes, TurnsAway, Accepts, OpensTo, ReadsTo, Leaves, Opens, Reads, Finishes}
+use Rattle.roman_top.specs.Opening.{opened, library_system, limit_line}
+use Rattle.roman_top.specs.RefusalLine.{refusal_line}
+use Rattle.roman_top.specs.World.{Desk, desk}
+use Rattle.roman_top.specs.declared.status.Status.{Status}
+use Rattle.roman_top.specs.declared.status.Status.TheVariants as status
+use Rattle.roman_top.proofs.EndingLemmas.{told_more, told_all, opens_accepted, refused, exceeded}
+
+-- what a line leaves behind that ends a run
+module _ {X : Type 0} (told told_now : Option Texts) (shelf shelf_now : ℕ) (old new : Option (List ℕ)) (out out_mid out_now : ℕ) (result : Status) (texts : told_now ≡ told) (shelves : shelf_now ≡ shelf) (outs : out_mid ≡ out) where
+  failed_leaves : Rose out_mid out_now → result ≡ status.WriteFault → Leaves {X = X} (desk told shelf old out) (desk told_now shelf_now new out_now) (Err result)
+  failed_leaves rose is = subst (λ (result : Status). Leaves {X = X} (desk told shelf old out) (desk told_now shelf_now new out_now) (Err result)) (sym is)
+      (record { away = tt; stops = tt; texts = texts; shelf = shelves; out = subst (λ (n : ℕ). Rose n out_now) outs rose })
+
+  refused_leaves : {T E : Type 0} (r : Result T E) → HasCause out_mid out_now r → Finishes r status.Refused result → Leaves {X = X} (desk told shelf old out) (desk told_now shelf_now new out_now) (Err result)
+  refused_leaves (Ok x) cause is = subst (λ (result : Status). Leaves {X = X} (desk told shelf old out) (desk told_now shelf_now new out_now) (Err result)) (sym is)
+      (record { away = tt; stops = tt; texts = texts; shelf = shelves; out = cause.stays ∙ outs })
+  refused_leaves (Err e) cause is = failed_leaves cause.failed is
+
+  past_leaves : {T E : Type 0} (r : Result T E) → HasCause out_mid out_now r → Finishes r status.Limit result → Leaves {X = X} (desk told shelf old out) (desk told_now shelf_now new out_now) (Err result)
+  past_leaves (Ok x) cause is = subst (λ (result : Status). Leaves {X = X} (desk told shelf old out) (desk told_now shelf_now new out_now) (Err result)) (sym is)
+      (record { away = tt; stops = tt; texts = texts; shelf = shelves; out = cause.stays ∙ outs })
+  past_leaves (Err e) cause is = failed_leaves cause.failed is
+
+-- Reading a document
+
+module _ {X : Type 0} (view : X → PlainLibrary) (name : List ℕ) (told told_now : Option Texts) (shelf shelf_now : ℕ) (old : Option (List ℕ)) (out : ℕ) (texts : told_now ≡ told) where
+  pub read_ok : (x : X) → IfSome told (λ texts. library_of texts name ≡ Ok (view x)) → shelf_now ≡ shelf → Reads view name (desk told shelf old out) (desk told_now shelf_now old out) (Ok x)
+  read_ok x means shelves = record { reads = means; leaves = record { away = tt; stops = refl; texts = texts; shelf = shelves; out = refl } }
+
+  pub read_fault : Rose shelf shelf_now → Reads view name (desk told shelf old out) (desk told_now shelf_now old out) (Err status.ShelfFault)
+  read_fault rose = record {
+    reads = told_all told (λ texts. Unit {0}) (λ texts. tt);
+    leaves = record { away = tt; stops = Wrote-nil old; texts = texts; shelf = rose; out = refl };
+  }
+
+  pub read_none : shelf_now ≡ shelf → Reads view name (desk told shelf old out) (desk told_now shelf_now old out) (Err status.Memory)
+  read_none shelves = record {
+    reads = told_all told (λ texts. Unit {0}) (λ texts. tt);
+    leaves = record { away = tt; stops = Wrote-nil old; texts = texts; shelf = shelves; out = refl };
+  }
+
+  pub read_refused : {T E : Type 0} (refusal : Refusal) (new : Option (List ℕ)) (out_now : ℕ) (result : Status) (r : Result T E) → IfSome told (λ texts. library_of texts name ≡ Err refusal) → shelf_now ≡ shelf →
+      Puts old new (refusal_line refusal) r → HasCause out out_now r → Finishes r status.Refused result → Reads view name (desk told shelf old out) (desk told_now shelf_now new out_now) (Err result)
+  read_refused refusal new out_now result r means shelves puts cause finishes = record {
+    reads = refused view told name refusal old new result r means puts finishes;
+    leaves = refused_leaves told told_now shelf shelf_now old new out out out_now result texts shelves refl r cause finishes;
+  }
+
+-- Opening it
+
+module _ {X Y : Type 0} (view : Y → PlainLibrary) (Holds : PlainLibrary → X → Type 0) (name : List ℕ) (told told_now : Option Texts) (shelf shelf_now : ℕ) (old mid : Option (List ℕ)) (out out_mid : ℕ) where
+  -- it was refused
+  pub opens_away : (result : Status) → Reads view name (desk told shelf old out) (desk told_now shelf_now mid out_mid) (Err result) → Opens Holds name (desk told shelf old out) (desk told_now shelf_now mid out_mid) (Err result)
+  opens_away result r = record { opens = r.reads; leaves = record { away = r.leaves.away; stops = r.leaves.stops; texts = r.leaves.texts; shelf = r.leaves.shelf; out = r.leaves.out } }
+
+  module _ (y : Y) (read : Reads view name (desk told shelf old out) (desk told_now shelf_now mid out_mid) (Ok y)) where
+    -- it is within its limit
+    pub opens_ok : (x : X) → cells (library_system (view y)) ≤ (view y).limit → Holds (view y) x → Opens Holds name (desk told shelf old out) (desk told_now shelf_now mid out_mid) (Ok x)
+    opens_ok x within holds = record {
+      opens = told_more told (λ texts. library_of texts name ≡ Ok (view y)) (λ texts. Accepts (opened texts name) (λ library. Holds library x)) read.reads (λ texts is. record {
+        library = view y;
+        accepted = opens_accepted (library_of texts name) (view y) is (le-ltb (view y).limit (cells (library_system (view y))) within);
+        holds = holds;
+      });
+      leaves = record { away = tt; stops = read.leaves.stops; texts = read.leaves.texts; shelf = read.leaves.shelf; out = read.leaves.out };
+    }
+
+    -- there is no memory
+    pub opens_none : Opens Holds name (desk told shelf old out) (desk told_now shelf_now mid out_mid) (Err status.Memory)
+    opens_none = record {
+      opens = told_all told (λ texts. Unit {0}) (λ texts. tt);
+      leaves = record {
+        away = tt;
+        stops = subst (λ (o : Option (List ℕ)). Wrote o mid []) read.leaves.stops (Wrote-nil mid);
+        texts = read.leaves.texts;
+        shelf = read.leaves.shelf;
+        out = read.leaves.out;
+      };
+    }
+
+    -- it is past its limit
+    pub opens_past_limit : {T E : Type 0} (new : Option (List ℕ)) (out_now : ℕ) (result : Status) (r : Result T E) → (view y).limit < cells (library_system (view y)) → Puts mid new (limit_line (view y).limit) r → HasCause out_mid out_now r →
+        Finishes r status.Limit result → Opens Holds name (desk told shelf old out) (desk told_now shelf_now new out_now) (Err result)
+    opens_past_limit new out_now result r past puts cause finishes = record {
+      opens = exceeded Holds told name (view y) old mid new result r read.reads past read.leaves.stops puts finishes;
+      leaves = past_leaves told told_now shelf shelf_now old new out out_mid out_now result read.leaves.texts read.leaves.shelf read.leaves.out r cause finishes;
+    }

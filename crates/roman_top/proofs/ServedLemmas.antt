@@ -1,0 +1,259 @@
+-- What a call does, from what its parts do.
+use Rattle.std.proofs.Common.{◌≡◌, ℕ, List, [], Option, None, Some, IfSome, Result, Ok, Err, inl, inr, refl, sym, subst}
+use Rattle.roman_io.specs.Faults.{HasCause}
+use Rattle.roman_io.specs.Shelf.{Texts, text_of}
+use Rattle.roman_io.specs.Sink.{Wrote, Puts}
+use Rattle.roman_io.specs.Source.{Gave}
+use Rattle.roman_io.proofs.SinkLemmas.{WroteFront-from_Puts}
+use Rattle.roman_io.proofs.SourceLemmas.{Gave-nil}
+use Rattle.roman_library.specs.Library.{PlainLibrary}
+use Rattle.roman_top.specs.Causes.{ShelfCause, InputCause, SinkCause}
+use Rattle.roman_top.specs.Command.{Job, Synth, Run, Certify, Check, Command, On, Make, usage_line}
+use Rattle.roman_top.specs.Endings.{WritesText, WritesFront, Writes, Stops, DoesJob, TurnsAway, IsAway, Opens, Finishes, IsDone}
+use Rattle.roman_top.specs.Faults.{IsFree, AtShelfFault, HasRunFront, IsOfTaken, EndsInput}
+use Rattle.roman_top.specs.Opening.{opened, OnOpening}
+use Rattle.roman_top.specs.Run.{Does, Makes, IsSession, HasRun}
+use Rattle.roman_top.specs.Served.{Served, ServedBeside}
+use Rattle.roman_top.specs.World.{World, Desk, world, beside, IsUnwritten}
+use Rattle.roman_top.specs.declared.status.Status.{Status}
+use Rattle.roman_top.specs.declared.status.Status.TheVariants as status
+use Rattle.roman_top.proofs.EndingLemmas.{told_more, away_is_run}
+
+-- the same words ask for the same
+pub served_as : (asked other : Option Command) (old new : World) (result : Status) → asked ≡ other → Served other old new result → Served asked old new result
+served_as asked other old new result same served = subst (λ (a : Option Command). Served a old new result) (sym same) served
+
+-- By the status
+
+-- the whole text was written where no fault and no want of memory ended the run
+pub free_text : (IsRun : List ℕ → Status → Type 0) (old new : Option (List ℕ)) (result : Status) → IsFree result → Writes IsRun old new result → WritesText IsRun old new result
+free_text IsRun old new status.Done free w = w
+free_text IsRun old new status.No free w = w
+free_text IsRun old new status.Usage free w = w
+free_text IsRun old new status.Refused free w = w
+free_text IsRun old new status.Limit free w = w
+free_text IsRun old new status.ShelfFault free w = absurd free
+free_text IsRun old new status.ReadFault free w = absurd free
+free_text IsRun old new status.WriteFault free w = absurd free
+free_text IsRun old new status.TooLong free w = w
+free_text IsRun old new status.Memory free w = absurd free
+
+front_text : (IsRun : List ℕ → Status → Type 0) (old new : Option (List ℕ)) (result : Status) → result ≡ status.WriteFault → Writes IsRun old new result → WritesFront IsRun old new
+front_text IsRun old new result is w = subst (Writes IsRun old new) is w
+
+unwritten_at : (old new : Option (List ℕ)) (result ends : Status) → Stops old new result → result ≡ ends → Stops old new ends
+unwritten_at old new result ends stops is = subst (Stops old new) is stops
+
+-- the input isn't read
+input_stays : (old new : Option (List ℕ)) (n : ℕ) (result : Status) → Stops old new result → InputCause n n result
+input_stays old new n status.Done stops = refl
+input_stays old new n status.No stops = refl
+input_stays old new n status.Usage stops = refl
+input_stays old new n status.Refused stops = refl
+input_stays old new n status.Limit stops = refl
+input_stays old new n status.ShelfFault stops = refl
+input_stays old new n status.ReadFault stops = absurd stops
+input_stays old new n status.WriteFault stops = refl
+input_stays old new n status.TooLong stops = refl
+input_stays old new n status.Memory stops = refl
+
+-- By the job
+
+-- a session from the input isn't done where its document isn't opened
+ends_away : (system : List ℕ) (old new : World) (result : Status) → IsAway result → EndsInput (Some (On system (Run None))) old new result
+ends_away system old new status.Done away = absurd away
+ends_away system old new status.No away = tt
+ends_away system old new status.Usage away = tt
+ends_away system old new status.Refused away = tt
+ends_away system old new status.Limit away = tt
+ends_away system old new status.ShelfFault away = tt
+ends_away system old new status.ReadFault away = tt
+ends_away system old new status.WriteFault away = tt
+ends_away system old new status.TooLong away = tt
+ends_away system old new status.Memory away = tt
+
+-- what a job says where it takes nothing from the input
+record IsAside (job : Job) : Type 0 where
+  given : (texts : Texts) (system : List ℕ) (rest : Option (List ℕ)) → (session : List ℕ) × IsSession (Some (On system job)) texts rest session
+  shelf : (system : List ℕ) (old new : World) → IsUnwritten old new → AtShelfFault (Some (On system job)) old new
+  taken : (texts : Texts) (system : List ℕ) (old new : World) → Gave old.rest new.rest [] → HasRunFront (Some (On system (Run None))) texts (Some []) old new → IsOfTaken (Some (On system job)) texts old new
+  ends : (system : List ℕ) (old new : World) (result : Status) → IsAway result → EndsInput (Some (On system job)) old new result
+
+aside : (job : Job) → IsAside job
+aside Synth = record { given = λ texts system rest. ([], tt); shelf = λ system old new w. w; taken = λ texts system old new gave front. tt; ends = λ system old new result away. tt }
+aside (Run None) = record {
+  given = λ texts system rest. input_given system rest;
+  shelf = λ system old new w. w;
+  taken = λ texts system old new gave front. record { taken = []; more = []; gave = gave; ends = inl refl; run = front };
+  ends = ends_away;
+}
+  where
+    input_given : (system : List ℕ) (rest : Option (List ℕ)) → (session : List ℕ) × IsSession (Some (On system (Run None))) [] rest session
+    input_given system None = ([], tt)
+    input_given system (Some bytes) = (bytes, refl)
+aside (Run (Some name)) = record {
+  given = λ texts system rest. (text_of texts name, refl);
+  shelf = λ system old new w. inl w;
+  taken = λ texts system old new gave front. tt;
+  ends = λ system old new result away. tt;
+}
+aside Certify = record { given = λ texts system rest. ([], tt); shelf = λ system old new w. w; taken = λ texts system old new gave front. tt; ends = λ system old new result away. tt }
+aside (Check certificate) = record { given = λ texts system rest. ([], tt); shelf = λ system old new w. w; taken = λ texts system old new gave front. tt; ends = λ system old new result away. tt }
+
+-- Documents that aren't opened
+
+-- a front of the line of such a document is one of a run of any job
+away_front : (texts : Texts) (system : List ℕ) (job : Job) (rest : Option (List ℕ)) (old new : World) (result : Status) → Writes (TurnsAway (opened texts system)) old.written new.written result → result ≡ status.WriteFault →
+    HasRunFront (Some (On system job)) texts rest old new
+away_front texts system job rest old new result writes is =
+    let (session, given) = (aside job).given texts system rest in
+    let w = front_text (TurnsAway (opened texts system)) old.written new.written result is writes in
+    record { session = session; given = given; text = w.text; ends = w.ends; run = away_is_run (Does job texts session) (opened texts system) w.text w.ends w.run; wrote = w.wrote }
+
+pub away_served : {X : Type 0} (Holds : PlainLibrary → X → Type 0) (system : List ℕ) (job : Job) (old new : Desk) (result : Status) → Opens {X = X} Holds system old new (Err result) → ServedBeside (Some (On system job)) old new result
+away_served {X} Holds system job old new result opens rest faults =
+    let before = beside old rest faults in
+    let after = beside new rest faults in
+    let Away : Texts → Type 0 = λ texts. Writes (TurnsAway (opened texts system)) old.written new.written result in
+    record {
+      run = λ free. told_more old.texts Away (λ texts. HasRun (Some (On system job)) texts before after result) opens.opens (λ texts writes.
+          let (session, given) = (aside job).given texts system rest in
+          let w = free_text (TurnsAway (opened texts system)) old.written new.written result free writes in
+          record { session = session; given = given; text = w.text; run = away_is_run (Does job texts session) (opened texts system) w.text result w.run; wrote = w.wrote });
+      shelf_fault = λ is. (aside job).shelf system before after (unwritten_at old.written new.written result status.ShelfFault opens.leaves.stops is);
+      read_fault = λ is. absurd (unwritten_at old.written new.written result status.ReadFault opens.leaves.stops is);
+      write_fault = λ is. told_more old.texts Away (λ texts. HasRunFront (Some (On system job)) texts rest before after × IsOfTaken (Some (On system job)) texts before after) opens.opens (λ texts writes. (
+        away_front texts system job rest before after result writes is,
+        (aside job).taken texts system before after (Gave-nil rest) (away_front texts system (Run None) (Some []) before after result writes is),
+      ));
+      memory = λ is. (refl, unwritten_at old.written new.written result status.Memory opens.leaves.stops is);
+      shelf = opens.leaves.shelf;
+      input = input_stays old.written new.written faults result opens.leaves.stops;
+      out = opens.leaves.out;
+      taken = inl refl;
+      ends = (aside job).ends system before after result opens.leaves.away;
+      texts = opens.leaves.texts;
+    }
+
+-- Jobs by a shelf and a sink alone
+
+-- the job isn't a session
+abbrev pub IsPlain : Job → Type 0
+IsPlain (Run name) = ⊥
+IsPlain _ = Unit {0}
+
+record IsSilent (job : Job) : Type 0 where
+  given : (texts : Texts) (system : List ℕ) (rest : Option (List ℕ)) → IsSession (Some (On system job)) texts rest []
+  taken : (texts : Texts) (system : List ℕ) (old new : World) → IsOfTaken (Some (On system job)) texts old new
+  ends : (system : List ℕ) (old new : World) (result : Status) → EndsInput (Some (On system job)) old new result
+
+silent : (job : Job) → IsPlain job → IsSilent job
+silent Synth plain = record { given = λ texts system rest. tt; taken = λ texts system old new. tt; ends = λ system old new result. tt }
+silent (Run name) plain = absurd plain
+silent Certify plain = record { given = λ texts system rest. tt; taken = λ texts system old new. tt; ends = λ system old new result. tt }
+silent (Check certificate) plain = record { given = λ texts system rest. tt; taken = λ texts system old new. tt; ends = λ system old new result. tt }
+
+pub job_served : (system : List ℕ) (job : Job) (old new : Desk) (result : Status) → IsPlain job → DoesJob system job old new result → ServedBeside (Some (On system job)) old new result
+job_served system job old new result plain does rest faults =
+    let before = beside old rest faults in
+    let after = beside new rest faults in
+    let is = silent job plain in
+    let Done : Texts → Type 0 = λ texts. Writes (OnOpening (Does job texts []) (opened texts system)) old.written new.written result in
+    record {
+      run = λ free. told_more old.texts Done (λ texts. HasRun (Some (On system job)) texts before after result) does.writes (λ texts writes.
+          let w = free_text (OnOpening (Does job texts []) (opened texts system)) old.written new.written result free writes in
+          record { session = []; given = is.given texts system rest; text = w.text; run = w.run; wrote = w.wrote });
+      shelf_fault = λ stop. (aside job).shelf system before after (unwritten_at old.written new.written result status.ShelfFault does.stops stop);
+      read_fault = λ stop. absurd (unwritten_at old.written new.written result status.ReadFault does.stops stop);
+      write_fault = λ stop. told_more old.texts Done (λ texts. HasRunFront (Some (On system job)) texts rest before after × IsOfTaken (Some (On system job)) texts before after) does.writes (λ texts writes.
+          let w = front_text (OnOpening (Does job texts []) (opened texts system)) old.written new.written result stop writes in (
+            record { session = []; given = is.given texts system rest; text = w.text; ends = w.ends; run = w.run; wrote = w.wrote },
+            is.taken texts system before after,
+          ));
+      memory = λ stop. (refl, unwritten_at old.written new.written result status.Memory does.stops stop);
+      shelf = does.shelf;
+      input = input_stays old.written new.written faults result does.stops;
+      out = does.out;
+      taken = inl refl;
+      ends = is.ends system before after result;
+      texts = does.texts;
+    }
+
+-- Made systems
+
+-- no other fault comes
+never_of : (old new : Option (List ℕ)) (result ends : Status) → IsDone old new result → result ≡ ends → IsDone old new ends
+never_of old new result ends done is = subst (IsDone old new) is done
+
+shelf_unasked : (old new : Option (List ℕ)) (n : ℕ) (result : Status) → IsDone old new result → ShelfCause n n result
+shelf_unasked old new n status.Done done = refl
+shelf_unasked old new n status.No done = refl
+shelf_unasked old new n status.Usage done = refl
+shelf_unasked old new n status.Refused done = refl
+shelf_unasked old new n status.Limit done = refl
+shelf_unasked old new n status.ShelfFault done = absurd done
+shelf_unasked old new n status.ReadFault done = refl
+shelf_unasked old new n status.WriteFault done = refl
+shelf_unasked old new n status.TooLong done = refl
+shelf_unasked old new n status.Memory done = refl
+
+input_unasked : (old new : Option (List ℕ)) (n : ℕ) (result : Status) → IsDone old new result → InputCause n n result
+input_unasked old new n status.Done done = refl
+input_unasked old new n status.No done = refl
+input_unasked old new n status.Usage done = refl
+input_unasked old new n status.Refused done = refl
+input_unasked old new n status.Limit done = refl
+input_unasked old new n status.ShelfFault done = refl
+input_unasked old new n status.ReadFault done = absurd done
+input_unasked old new n status.WriteFault done = refl
+input_unasked old new n status.TooLong done = refl
+input_unasked old new n status.Memory done = refl
+
+pub made_served : (n : ℕ) (told : Option Texts) (shelf : ℕ) (rest : Option (List ℕ)) (input : ℕ) (old new : Option (List ℕ)) (out out_now : ℕ) (result : Status) →
+    Writes (Makes n) old new result → IsDone old new result → SinkCause out out_now result → Served (Some (Make n)) (world told shelf rest input old out) (world told shelf rest input new out_now) result
+made_served n told shelf rest input old new out out_now result writes done cause = record {
+  run = λ free. let w = free_text (Makes n) old new result free writes in record { session = []; given = tt; text = w.text; run = w.run; wrote = w.wrote };
+  shelf_fault = λ is. absurd (never_of old new result status.ShelfFault done is);
+  read_fault = λ is. absurd (never_of old new result status.ReadFault done is);
+  write_fault = λ is. let w = front_text (Makes n) old new result is writes in (record { session = []; given = tt; text = w.text; ends = w.ends; run = w.run; wrote = w.wrote }, tt);
+  memory = λ is. (refl, never_of old new result status.Memory done is);
+  shelf = shelf_unasked old new shelf result done;
+  input = input_unasked old new input result done;
+  out = cause;
+  taken = inl refl;
+  ends = tt;
+  texts = refl;
+}
+
+-- Words without a shape
+
+pub usage_served : {T E : Type 0} (told : Option Texts) (shelf : ℕ) (rest : Option (List ℕ)) (input : ℕ) (old new : Option (List ℕ)) (out out_now : ℕ) (result : Status) (r : Result T E) →
+    Puts old new usage_line r → Finishes r status.Usage result → HasCause out out_now r → Served None (world told shelf rest input old out) (world told shelf rest input new out_now) result
+usage_served told shelf rest input old new out out_now result (Ok x) puts finishes cause =
+    subst (λ (result : Status). Served None (world told shelf rest input old out) (world told shelf rest input new out_now) result) (sym finishes) (record {
+      run = λ free. record { session = []; given = tt; text = usage_line; run = (refl, refl); wrote = puts };
+      shelf_fault = λ is. absurd (let e : ⊥ = cc in e);
+      read_fault = λ is. absurd (let e : ⊥ = cc in e);
+      write_fault = λ is. absurd (let e : ⊥ = cc in e);
+      memory = λ is. absurd (let e : ⊥ = cc in e);
+      shelf = refl;
+      input = refl;
+      out = cause.stays;
+      taken = inl refl;
+      ends = tt;
+      texts = refl;
+    })
+usage_served told shelf rest input old new out out_now result (Err e) puts finishes cause =
+    subst (λ (result : Status). Served None (world told shelf rest input old out) (world told shelf rest input new out_now) result) (sym finishes) (record {
+      run = λ free. absurd free;
+      shelf_fault = λ is. absurd (let e : ⊥ = cc in e);
+      read_fault = λ is. absurd (let e : ⊥ = cc in e);
+      write_fault = λ is. (record { session = []; given = tt; text = usage_line; ends = status.Usage; run = (refl, refl); wrote = puts }, tt);
+      memory = λ is. absurd (let e : ⊥ = cc in e);
+      shelf = refl;
+      input = refl;
+      out = cause.failed;
+      taken = inl refl;
+      ends = tt;
+      texts = refl;
+    })

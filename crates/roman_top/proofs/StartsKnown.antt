@@ -1,0 +1,77 @@
+-- Sessions of accepted documents begin well formed.
+use Rattle.std.proofs.Common.{map, IsFalse, sym, ap, ◌∙◌, subst, arith}
+use Rattle.std.proofs.lemmas.Bool.{both_ways, lt-ltb}
+use Rattle.std.proofs.lemmas.List.{length-map}
+use Rattle.roman_model.specs.Lists.{IsIn}
+use Rattle.roman_model.specs.System.{Pair, IsPair, IsBeh, IsSys}
+use Rattle.roman_model.specs.System as model
+use Rattle.roman_model.proofs.Lists.{from_map, in_contains}
+use Rattle.roman_joint.specs.NamedSys.{NamedSys, IsNamedSys, beh_at, seat_of, system_of, cells}
+use Rattle.roman_joint.proofs.BehaviourLemmas.{beh_read}
+use Rattle.roman_library.specs.Documents.{library_of}
+use Rattle.roman_library.specs.Library.{PlainLibrary, IsService, IsLibrary}
+use Rattle.roman_library.specs.declared.library.Service.{Service}
+use Rattle.roman_session.specs.Situations.{Situation, IsPhase}
+use Rattle.roman_session.specs.Situations as situation
+use Rattle.roman_session.specs.Starts.{seat_of_service, parts_of, start_of, IsStart}
+use Rattle.roman_session.specs.Known.{AreNamed, IsKnown}
+use Rattle.roman_session.proofs.ChangedLemmas.{is_within}
+use Rattle.roman_session.proofs.SituationLemmas.{there_is}
+use Rattle.roman_session.proofs.StartLemmas.{behaviours_within, names_once, start_pair}
+use Rattle.roman_top.specs.Accepted.{StartsAreKnown}
+use Rattle.roman_top.specs.Opening.{is_past_limit}
+use Rattle.roman_top.proofs.EndingLemmas.{accepted_is}
+use Rattle.roman_library.specs.Known.{IsKnownLibrary}
+use Rattle.roman_library.proofs.KnownLemmas.{libraries_known, behaviour_there}
+
+-- the behaviour of a service is over the environment
+service_beh : (library : PlainLibrary) (x : Service) → IsLibrary library → IsIn x library.services → IsBeh library.environment.env (beh_at library.catalogue x.behaviour)
+service_beh library x is i =
+    let (k, l, e) = in_contains library.services x i in
+    let service : IsService library.catalogue x = subst (IsService library.catalogue) e (is.services.known k x l) in
+    let (b, there) = there_is library.catalogue x.behaviour service.behaviour in
+    let beh = behaviour_there library.environment library.catalogue x.behaviour b is.catalogue there in
+    subst (IsBeh library.environment.env) (sym (beh_read library.catalogue x.behaviour b there)) (beh.known library.environment.env (sym beh.env_states) (sym beh.actions))
+
+seat_beh : (library : PlainLibrary) (y : model.Seat) → IsLibrary library → IsIn y (system_of (parts_of library)).seats → IsBeh library.environment.env y.beh
+seat_beh library y is i =
+    let (seat, j, same) = from_map (seat_of library.catalogue) y (map seat_of_service library.services) i in
+    let (x, k, same') = from_map seat_of_service seat library.services j in
+    subst (λ (y : model.Seat). IsBeh library.environment.env y.beh) (sym (same ∙ ap (seat_of library.catalogue) same')) (service_beh library x is k)
+
+library_sys : (library : PlainLibrary) → IsLibrary library → IsSys (system_of (parts_of library))
+library_sys library is = record {
+  env = is.environment;
+  target = is.target.known library.environment.env (sym is.target.env_states) (sym is.target.actions);
+  single = is.target.single;
+  seats = λ y i. seat_beh library y is i;
+  few = omega (arith, is.few_services, length-map (map seat_of_service library.services) (seat_of library.catalogue), length-map library.services seat_of_service);
+}
+
+pub library_parts : (library : PlainLibrary) → IsLibrary library → IsFalse (is_past_limit library) → IsNamedSys (parts_of library)
+library_parts library is within = record {
+  system = library_sys library is;
+  fits = is_within (cells (system_of (parts_of library))) library.limit
+      (λ past. both_ways (is_past_limit library) within (lt-ltb library.limit (cells (system_of (parts_of library))) past));
+  limit = is.limit;
+  behaviours = behaviours_within library is;
+  names = names_once library is;
+  catalogue = λ k b l. ((is.catalogue.known k b l).env_states, (is.catalogue.known k b l).actions);
+  target = (is.target.env_states, is.target.actions);
+}
+
+start_known : (library : PlainLibrary) (s : Situation) → IsKnownLibrary library → IsFalse (is_past_limit library) → IsStart library s → IsKnown s
+start_known library s is within start = record {
+  situation = record {
+    parts = subst IsNamedSys (sym start.parts) (library_parts library is.known within);
+    here = subst (λ (p : Pair). IsPair (situation.system_of s) p) (sym start.here) (subst (λ (n : NamedSys). IsPair (system_of n) (start_of library)) (sym start.parts) (start_pair library is.known));
+    list = start.list;
+    phase = subst (IsPhase s) (sym start.phase) tt;
+  };
+  named = subst AreNamed (sym start.parts) (record { behaviours = is.known.catalogue.known; environment = is.states });
+}
+
+pub starts_known : StartsAreKnown
+starts_known texts system library s accepted start =
+    let is = accepted_is (library_of texts system) library accepted in
+    start_known library s (libraries_known texts system library is.means) is.within start

@@ -1,0 +1,12 @@
+-- Sessions of accepted documents begin well formed.
+use Rattle.std.specs.Prelude.{◌≡◌, ℕ, List}
+use Rattle.roman_io.specs.Shelf.{Texts}
+use Rattle.roman_library.specs.Library.{PlainLibrary}
+use Rattle.roman_session.specs.Situations.{Situation}
+use Rattle.roman_session.specs.Starts.{IsStart}
+use Rattle.roman_session.specs.Known.{IsKnown}
+use Rattle.roman_top.specs.Opening.{Accepted, opened}
+
+-- an accepted document within its limit starts a well-formed situation
+abbrev pub StartsAreKnown : Type 0
+StartsAreKnown = (texts : Texts) (system : List ℕ) (library : PlainLibrary) (s : Situation) → opened texts system ≡ Accepted library → IsStart library s → IsKnown s

@@ -1,0 +1,49 @@
+-- What a system document comes to, and what is written of it.
+use Rattle.std.specs.Prelude.{◌≡◌, ℕ, Bool, List, ◌++◌, Result, Ok, Err, nat_lt, codes, decimal, if◌then◌else◌}
+use Rattle.roman_io.specs.Shelf.{Texts}
+use Rattle.roman_model.specs.System.{Sys}
+use Rattle.roman_library.specs.Documents.{library_of}
+use Rattle.roman_library.specs.Library.{PlainLibrary}
+use Rattle.roman_library.specs.declared.refusal.Refusal.{Refusal}
+use Rattle.roman_joint.specs.NamedSys.{system_of, cells}
+use Rattle.roman_session.specs.Starts.{parts_of}
+use Rattle.roman_top.specs.RefusalLine.{refusal_line}
+use Rattle.roman_top.specs.declared.status.Status.{Status}
+use Rattle.roman_top.specs.declared.status.Status.TheVariants as status
+
+-- that text is written, and that is the status
+abbrev pub Says : List ℕ → Status → List ℕ → Status → Type 0
+Says text ends out result = (out ≡ text) × (result ≡ ends)
+
+-- the system of a library
+abbrev pub library_system : PlainLibrary → Sys
+library_system library = system_of (parts_of library)
+
+-- the starting cells exceed the limit
+abbrev pub is_past_limit : PlainLibrary → Bool
+is_past_limit library = nat_lt library.limit (cells (library_system library))
+
+-- the line of a limit
+abbrev pub limit_line : ℕ → List ℕ
+limit_line limit = codes "limit " ++ decimal limit ++ codes "\n"
+
+-- a document is refused, its library is past its limit, or it is accepted
+pub data Opening : Type 0 where
+  Refused : (refusal : Refusal) → Opening
+  Past : (library : PlainLibrary) → Opening
+  Accepted : (library : PlainLibrary) → Opening
+
+-- what a document with that meaning comes to
+abbrev pub opening_of : Result PlainLibrary Refusal → Opening
+opening_of (Err refusal) = Refused refusal
+opening_of (Ok library) = if is_past_limit library then Past library else Accepted library
+
+-- what the document of that name comes to
+abbrev pub opened : Texts → List ℕ → Opening
+opened texts name = opening_of (library_of texts name)
+
+-- an accepted library gets its work done; else there is the line of the first refusal, or that of the limit
+abbrev pub OnOpening : (PlainLibrary → List ℕ → Status → Type 0) → Opening → List ℕ → Status → Type 0
+OnOpening Work (Refused refusal) out result = Says (refusal_line refusal) status.Refused out result
+OnOpening Work (Past library) out result = Says (limit_line library.limit) status.Limit out result
+OnOpening Work (Accepted library) out result = Work library out result

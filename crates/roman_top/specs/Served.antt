@@ -1,0 +1,28 @@
+-- What a call of `serve` does, by its words and the outside before and after it.
+use Rattle.std.specs.Prelude.{◌≡◌, ◌⊎◌, ℕ, List, Option}
+use Rattle.roman_top.specs.Command.{Command}
+use Rattle.roman_top.specs.Run.{WithTexts, HasRun}
+use Rattle.roman_top.specs.Causes.{ShelfCause, InputCause, SinkCause}
+use Rattle.roman_top.specs.Faults.{IsFree, AtShelfFault, AtReadFault, AtWriteFault, AtMemory, TakesInput, EndsInput}
+use Rattle.roman_top.specs.World.{World, Desk, beside}
+use Rattle.roman_top.specs.declared.status.Status.{Status}
+use Rattle.roman_top.specs.declared.status.Status.TheVariants as status
+
+-- a run, where neither a fault nor want of memory ended it; else what stands in the sink then; which counts of faults rose;
+-- what was taken from the input; and the shelf's texts stay
+pub record Served (asked : Option Command) (old new : World) (result : Status) : Type 0 where
+  pub run : IsFree result → WithTexts asked old.texts (λ texts. HasRun asked texts old new result)
+  pub shelf_fault : result ≡ status.ShelfFault → AtShelfFault asked old new
+  pub read_fault : result ≡ status.ReadFault → AtReadFault asked old new
+  pub write_fault : result ≡ status.WriteFault → AtWriteFault asked old new
+  pub memory : result ≡ status.Memory → AtMemory asked old new
+  pub shelf : ShelfCause old.shelf_faults new.shelf_faults result
+  pub input : InputCause old.input_faults new.input_faults result
+  pub out : SinkCause old.out_faults new.out_faults result
+  pub taken : (new.rest ≡ old.rest) ⊎ TakesInput asked old new result
+  pub ends : EndsInput asked old new result
+  pub texts : new.texts ≡ old.texts
+
+-- the same of a call that leaves the input alone, whatever is told of it
+abbrev pub ServedBeside : Option Command → Desk → Desk → Status → Type 0
+ServedBeside asked old new result = (rest : Option (List ℕ)) (faults : ℕ) → Served asked (beside old rest faults) (beside new rest faults) result

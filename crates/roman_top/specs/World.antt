@@ -1,0 +1,41 @@
+-- The outside before and after a call, as far as it tells.
+use Rattle.std.specs.Prelude.{ℕ, List, [], Option}
+use Rattle.roman_io.specs.Shelf.{Texts}
+use Rattle.roman_io.specs.Sink.{Wrote}
+
+-- the shelf's texts, what the input has left to give, what was written, and how often each has failed
+pub record World : Type 0 where
+  pub texts : Option Texts
+  pub rest : Option (List ℕ)
+  pub written : Option (List ℕ)
+  pub shelf_faults : ℕ
+  pub input_faults : ℕ
+  pub out_faults : ℕ
+
+abbrev pub world : Option Texts → ℕ → Option (List ℕ) → ℕ → Option (List ℕ) → ℕ → World
+world texts shelf_faults rest input_faults written out_faults = record {
+  texts = texts;
+  rest = rest;
+  written = written;
+  shelf_faults = shelf_faults;
+  input_faults = input_faults;
+  out_faults = out_faults;
+}
+
+-- the shelf and the sink alone
+pub record Desk : Type 0 where
+  pub texts : Option Texts
+  pub written : Option (List ℕ)
+  pub shelf_faults : ℕ
+  pub out_faults : ℕ
+
+abbrev pub desk : Option Texts → ℕ → Option (List ℕ) → ℕ → Desk
+desk texts shelf_faults written out_faults = record { texts = texts; written = written; shelf_faults = shelf_faults; out_faults = out_faults }
+
+-- the outside with that shelf and that sink, and an input of which that is told
+abbrev pub beside : Desk → Option (List ℕ) → ℕ → World
+beside d rest faults = world d.texts d.shelf_faults rest faults d.written d.out_faults
+
+-- nothing was written
+abbrev pub IsUnwritten : World → World → Type 0
+IsUnwritten old new = Wrote old.written new.written []
