@@ -11,6 +11,10 @@ use std::sync::ledger::{Blank, Ledger};
 pub(crate) const USAGE: &str =
     "usage: roman synth SYSTEM | run SYSTEM [SESSION] | certify SYSTEM | check SYSTEM CERT | make N";
 
+/// The report on the lamp's starting states.
+pub(crate) const LAMP_REPORT: &[u8] =
+    b"pairs 4\nrelated 2\nenvironment e\ntarget off final\nservice l1 lamp off ready\nanswer composition\noffer on: l1\nend\n";
+
 /// A text with its name.
 pub(crate) type File = (&'static str, Text);
 
@@ -80,7 +84,7 @@ pub(crate) fn files_of(
     let mut all = Vec::new(alloc);
     for (name, text) in files {
         let name = String::from_str(alloc, name)?;
-        all.push((name, Vec::from_slice(alloc, text.bytes())?))?;
+        all.push((name, text.bytes(alloc)?))?;
     }
     Ok(all)
 }

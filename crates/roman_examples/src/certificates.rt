@@ -78,7 +78,7 @@ fn checked<L: Ledger>(alloc: Global, blank: Blank) -> Result<(Status, MemSink), 
     let mut input = QuietSource::new(Vec::new(alloc));
     let mut certificate = MemSink::new(alloc, Vec::new(alloc));
     let files = [("lamp.json", Text::Lamp)];
-    run(
+    let certified = run(
         alloc,
         &files,
         &["certify", "lamp.json"],
@@ -86,6 +86,9 @@ fn checked<L: Ledger>(alloc: Global, blank: Blank) -> Result<(Status, MemSink), 
         &mut certificate,
         &mut steps,
     )?;
+    if certified != Status::Done {
+        return Ok((certified, certificate));
+    }
     let mut files = files_of(alloc, &files)?;
     let name = String::from_str(alloc, "c.txt")?;
     files.push((name, Vec::from_slice(alloc, certificate.bytes())?))?;

@@ -1,7 +1,7 @@
 //! Faults of the shelf, of the input and of the sink.
 ghost use Rattle.std.specs.Prelude.{◌≡◌, ◌<◌, ◌≤◌};
 
-use crate::case::{files_of, run, text_of, words_of};
+use crate::case::{LAMP_REPORT, files_of, run, text_of, words_of};
 use crate::texts::Text;
 use roman_io::{MemShelf, MemSink, MemSource, QuietSource, Steps};
 use roman_top::{Status, serve};
@@ -10,7 +10,7 @@ use std::marker::Brand;
 use std::sync::ledger::{Blank, Ledger};
 use std::test::Fail;
 
-/// The session, and what it must write.
+/// The session.
 static LINES: [&str; 6] = [
     "do on",
     "use l1",
@@ -20,7 +20,20 @@ static LINES: [&str; 6] = [
     "saw off e",
 ];
 
+/// How many bytes of the session there are up to the end of each line.
+static LINE_ENDS: [u64; 6] = [6, 13, 22, 29, 36, 46];
+
+/// What is written.
 const REPLIES: &[u8] = b"offer l1\nusing l1\nnow on e\noffer l1\nusing l1\nnow off e\n";
+
+/// How many bytes of the replies there are before each line and up to the last one's end.
+static REPLY_ENDS: [usize; 7] = [0, 9, 18, 27, 36, 45, 55];
+
+/// How many there are up to the middle of each line: a put that fails appends the first half.
+static REPLY_MIDDLES: [usize; 6] = [4, 13, 22, 31, 40, 50];
+
+/// How many there are where each fetch fails: nothing before the session is read to its end.
+static FETCH_ENDS: [usize; 4] = [0, 0, 0, 55];
 
 /// A call that is to fail.
 #[derive(Clone, Copy, PartialEq, Eq)]
@@ -51,6 +64,31 @@ impl Fault {
         }
     }
 
+    /// How many calls of this kind the run makes, the session's bytes coming one by one.
+    fn count(self) -> u64 {
+        match self {
+            // Each byte, and the end.
+            Fault::Take => 47,
+            // Each reply.
+            Fault::Put => 6,
+            // The document and its end, the session and its end.
+            Fault::Fetch => 4,
+        }
+    }
+
+    /// Whether just those replies stand in the sink that must where call `i` of this kind fails.
+    fn writes(self, i: u64, text: &[u8]) -> bool {
+        let end = match self {
+            Fault::Take => REPLY_ENDS.get(LINE_ENDS.iter().filter(|end| **end <= i).count()),
+            Fault::Put => REPLY_MIDDLES.get(i as usize),
+            Fault::Fetch => FETCH_ENDS.get(i as usize),
+        };
+        match end {
+            Some(end) => has_first(text, *end),
+            None => false,
+        }
+    }
+
     /// How the run ends where such a call fails.
     fn status(self) -> Status {
         match self {
@@ -59,6 +97,12 @@ impl Fault {
             Fault::Fetch => Status::ShelfFault,
         }
     }
+}
+
+/// Whether a text is so many bytes of the replies.
+fn has_first(text: &[u8], len: usize) -> bool {
+    let replies = REPLIES;
+    len <= replies.len() && text == &replies[..len]
 }
 
 /// The status of the session in pieces of so many bytes, with call `i` of that kind failing, and what
@@ -86,9 +130,9 @@ fn run_with<L: Ledger>(
     Ok((status, out))
 }
 
-/// Lets call 0, 1, .. of that kind fail, up to the first number at which no call fails any more.
-/// Gives the first number at which the run doesn't end as it must: it ends with the kind's status and
-/// a part of the replies, and with all of them where no call fails.
+/// Lets each call of that kind fail in turn, and then none. Gives the number of the first call at which
+/// the run doesn't end as it must: with the kind's status, and with just those of the replies that are
+/// due before the call; and with all of them where no call fails.
 fn first_wrong<L: Ledger>(
     alloc: Global,
     fault: Fault,
@@ -99,16 +143,17 @@ fn first_wrong<L: Ledger>(
     requires some { 0 < L.parts }
 {
     let mut steps = Steps::<L>::new(blank);
-    for i in 0..1000 {
+    for i in 0..fault.count() {
         let (status, out) = run_with(alloc, fault, i, 1, &mut steps)?;
-        if status == Status::Done && out.bytes() == REPLIES {
-            return Ok(None);
-        }
-        if status != fault.status() || !REPLIES.starts_with(out.bytes()) {
+        if status != fault.status() || !fault.writes(i, out.bytes()) {
             return Ok(Some(i));
         }
     }
-    Ok(Some(1000))
+    let (status, out) = run_with(alloc, fault, fault.count(), 1, &mut steps)?;
+    if status != Status::Done || out.bytes() != REPLIES {
+        return Ok(Some(fault.count()));
+    }
+    Ok(None)
 }
 
 #[test]
@@ -173,10 +218,8 @@ fn first_put<L: Ledger>(alloc: Global, blank: Blank) -> Result<(Status, MemSink)
 
 #[test]
 fn a_report_breaks_off_at_a_fault(rt: HostRuntime) -> Result<(), Fail> {
-    let report =
-        b"pairs 4\nrelated 2\nenvironment e\ntarget off final\nservice l1 lamp off ready\nanswer composition\noffer on: l1\nend\n";
     let (status, out) = first_put::<Brand>(rt.alloc(), Blank::new(1))?;
     assert_eq!(rt; status, Status::WriteFault);
-    assert!(rt; report.starts_with(out.bytes()));
+    assert_eq!(rt; out.bytes(), &LAMP_REPORT[..LAMP_REPORT.len() / 2]);
     Ok(())
 }

@@ -1,4 +1,97 @@
-//! The texts of the examples.
+//! The texts of the examples, each as the pieces that it is made of: what a text changes stands on a line
+//! of its own.
+use std::alloc::{AllocError, Global};
+
+/// The beginning of a document of version 1.
+const VERSION_1: &[u8] = br#"{"roman":1"#;
+
+/// The beginning of a document of version 2.
+const VERSION_2: &[u8] = br#"{"roman":2"#;
+
+/// One state, in which both actions stay.
+const ENVIRONMENT: &[u8] =
+    br#","environment":{"states":["e"],"start":"e","actions":["on","off"],"steps":[["e","on","e"],["e","off","e"]]}"#;
+
+/// Three states, in each of which both actions stay.
+const THREE_STATES: &[u8] =
+    br#","environment":{"states":["e1","e2","e3"],"start":"e1","actions":["on","off"],"steps":[["e1","on","e1"],["e2","on","e2"],["e3","on","e3"],["e1","off","e1"],["e2","off","e2"],["e3","off","e3"]]}"#;
+
+/// Up to the first behaviour.
+const BEHAVIOURS: &[u8] = br#","behaviours":["#;
+
+/// A lamp, which may be left only when it is off.
+const LAMP: &[u8] =
+    br#"{"name":"lamp","states":["off","on"],"start":"off","final":["off"],"steps":[["off",true,"on","on"],["on",true,"off","off"]]}"#;
+
+/// A lamp that may get stuck when it is switched on.
+const FLAKY: &[u8] =
+    br#",{"name":"flaky","states":["off","on","stuck"],"start":"off","final":["off","stuck"],"steps":[["off",true,"on","on"],["off",true,"on","stuck"],["on",true,"off","off"]]}"#;
+
+/// What does nothing, but has a state that isn't final.
+const X: &[u8] = br#",{"name":"x","states":["ok","bad"],"start":"ok","final":["ok"],"steps":[]}"#;
+
+/// One state.
+const DOT: &[u8] = br#",{"name":"dot","states":["d"],"start":"d","final":["d"],"steps":[]}"#;
+
+/// Sixty-four states without steps.
+const WIDE: &[u8] =
+    br#",{"name":"wide","states":["s0","s1","s2","s3","s4","s5","s6","s7","s8","s9","s10","s11","s12","s13","s14","s15","s16","s17","s18","s19","s20","s21","s22","s23","s24","s25","s26","s27","s28","s29","s30","s31","s32","s33","s34","s35","s36","s37","s38","s39","s40","s41","s42","s43","s44","s45","s46","s47","s48","s49","s50","s51","s52","s53","s54","s55","s56","s57","s58","s59","s60","s61","s62","s63"],"start":"s0","final":[],"steps":[]}"#;
+
+/// Up to the first service.
+const SERVICES: &[u8] = br#"],"services":["#;
+
+/// A lamp.
+const FIRST_LAMP: &[u8] = br#"{"name":"l1","behaviour":"lamp"}"#;
+
+/// A second lamp.
+const SECOND_LAMP: &[u8] = br#",{"name":"l2","behaviour":"lamp"}"#;
+
+/// Sixteen more.
+const THIRD_TO_EIGHTEENTH: &[u8] =
+    br#",{"name":"l3","behaviour":"lamp"},{"name":"l4","behaviour":"lamp"},{"name":"l5","behaviour":"lamp"},{"name":"l6","behaviour":"lamp"},{"name":"l7","behaviour":"lamp"},{"name":"l8","behaviour":"lamp"},{"name":"l9","behaviour":"lamp"},{"name":"l10","behaviour":"lamp"},{"name":"l11","behaviour":"lamp"},{"name":"l12","behaviour":"lamp"},{"name":"l13","behaviour":"lamp"},{"name":"l14","behaviour":"lamp"},{"name":"l15","behaviour":"lamp"},{"name":"l16","behaviour":"lamp"},{"name":"l17","behaviour":"lamp"},{"name":"l18","behaviour":"lamp"}"#;
+
+/// And four.
+const NINETEENTH_TO_LAST: &[u8] =
+    br#",{"name":"l19","behaviour":"lamp"},{"name":"l20","behaviour":"lamp"},{"name":"l21","behaviour":"lamp"},{"name":"l22","behaviour":"lamp"}"#;
+
+/// Thirty-one dots.
+const D1_TO_D31: &[u8] =
+    br#",{"name":"d1","behaviour":"dot"},{"name":"d2","behaviour":"dot"},{"name":"d3","behaviour":"dot"},{"name":"d4","behaviour":"dot"},{"name":"d5","behaviour":"dot"},{"name":"d6","behaviour":"dot"},{"name":"d7","behaviour":"dot"},{"name":"d8","behaviour":"dot"},{"name":"d9","behaviour":"dot"},{"name":"d10","behaviour":"dot"},{"name":"d11","behaviour":"dot"},{"name":"d12","behaviour":"dot"},{"name":"d13","behaviour":"dot"},{"name":"d14","behaviour":"dot"},{"name":"d15","behaviour":"dot"},{"name":"d16","behaviour":"dot"},{"name":"d17","behaviour":"dot"},{"name":"d18","behaviour":"dot"},{"name":"d19","behaviour":"dot"},{"name":"d20","behaviour":"dot"},{"name":"d21","behaviour":"dot"},{"name":"d22","behaviour":"dot"},{"name":"d23","behaviour":"dot"},{"name":"d24","behaviour":"dot"},{"name":"d25","behaviour":"dot"},{"name":"d26","behaviour":"dot"},{"name":"d27","behaviour":"dot"},{"name":"d28","behaviour":"dot"},{"name":"d29","behaviour":"dot"},{"name":"d30","behaviour":"dot"},{"name":"d31","behaviour":"dot"}"#;
+
+/// Sixteen services of sixty-four states.
+const W1_TO_W16: &[u8] =
+    br#",{"name":"w1","behaviour":"wide"},{"name":"w2","behaviour":"wide"},{"name":"w3","behaviour":"wide"},{"name":"w4","behaviour":"wide"},{"name":"w5","behaviour":"wide"},{"name":"w6","behaviour":"wide"},{"name":"w7","behaviour":"wide"},{"name":"w8","behaviour":"wide"},{"name":"w9","behaviour":"wide"},{"name":"w10","behaviour":"wide"},{"name":"w11","behaviour":"wide"},{"name":"w12","behaviour":"wide"},{"name":"w13","behaviour":"wide"},{"name":"w14","behaviour":"wide"},{"name":"w15","behaviour":"wide"},{"name":"w16","behaviour":"wide"}"#;
+
+/// Fifteen more.
+const W17_TO_W31: &[u8] =
+    br#",{"name":"w17","behaviour":"wide"},{"name":"w18","behaviour":"wide"},{"name":"w19","behaviour":"wide"},{"name":"w20","behaviour":"wide"},{"name":"w21","behaviour":"wide"},{"name":"w22","behaviour":"wide"},{"name":"w23","behaviour":"wide"},{"name":"w24","behaviour":"wide"},{"name":"w25","behaviour":"wide"},{"name":"w26","behaviour":"wide"},{"name":"w27","behaviour":"wide"},{"name":"w28","behaviour":"wide"},{"name":"w29","behaviour":"wide"},{"name":"w30","behaviour":"wide"},{"name":"w31","behaviour":"wide"}"#;
+
+/// Up to the target.
+const TARGET: &[u8] = br#"],"target":"#;
+
+/// A target that is a lamp.
+const SWITCHED: &[u8] =
+    br#"{"states":["off","on"],"start":"off","final":["off"],"steps":[["off",true,"on","on"],["on",true,"off","off"]]}"#;
+
+/// The same, up to the guard of its first step.
+const SWITCHED_UP_TO_GUARD: &[u8] =
+    br#"{"states":["off","on"],"start":"off","final":["off"],"steps":[["off","#;
+
+/// And from behind that guard on.
+const SWITCHED_FROM_GUARD: &[u8] = br#","on","on"],["on",true,"off","off"]]}"#;
+
+/// Twenty guards that are turned.
+const NOT_20: &[u8] =
+    br#"{"not":{"not":{"not":{"not":{"not":{"not":{"not":{"not":{"not":{"not":{"not":{"not":{"not":{"not":{"not":{"not":{"not":{"not":{"not":{"not":"#;
+
+/// Their ends.
+const END_20: &[u8] = br#"}}}}}}}}}}}}}}}}}}}}"#;
+
+/// The end of a document.
+const END: &[u8] = br#"}"#;
+
+/// The beginning of a certificate for FLAKY.
+const ORDER: &[u8] = b"roman-order 1\npairs 6\n";
 
 /// A text.
 #[derive(Clone, Copy)]
@@ -85,6 +178,18 @@ pub(crate) enum Text {
     FinalTwice,
     /// LAMP with no behaviours.
     NoBehaviours,
+    /// LAMP with guards that mean all states in other words.
+    OtherGuards,
+    /// LAMP with a guard that means no state.
+    FalseGuard,
+    /// LAMP with its environment and its behaviour in files.
+    PartsByFile,
+    /// LAMP's environment.
+    Environment,
+    /// LAMP's behaviour.
+    Behaviour,
+    /// LAMP with a second service that is both frozen and loose.
+    FrozenAndLoose,
     /// A certificate for FLAKY: accepted.
     Order,
     /// A certificate for FLAKY: two entries exchanged.
@@ -101,95 +206,564 @@ pub(crate) enum Text {
 
 impl Text {
     /// Its bytes.
-    pub(crate) fn bytes(self) -> &'static [u8] {
+    pub(crate) fn bytes(self, alloc: Global) -> Result<Vec<u8>, AllocError> {
+        let mut bytes = Vec::new(alloc);
+        for piece in self.pieces() {
+            bytes.extend_from_slice(piece)?;
+        }
+        Ok(bytes)
+    }
+
+    /// The pieces that it is made of.
+    fn pieces(self) -> &'static [&'static [u8]] {
         match self {
-            Text::Lamp =>
-                br#"{"roman":1,"environment":{"states":["e"],"start":"e","actions":["on","off"],"steps":[["e","on","e"],["e","off","e"]]},"behaviours":[{"name":"lamp","states":["off","on"],"start":"off","final":["off"],"steps":[["off",true,"on","on"],["on",true,"off","off"]]}],"services":[{"name":"l1","behaviour":"lamp"}],"target":{"states":["off","on"],"start":"off","final":["off"],"steps":[["off",true,"on","on"],["on",true,"off","off"]]}}"#,
-            Text::Flaky =>
-                br#"{"roman":1,"environment":{"states":["e"],"start":"e","actions":["on","off"],"steps":[["e","on","e"],["e","off","e"]]},"behaviours":[{"name":"lamp","states":["off","on"],"start":"off","final":["off"],"steps":[["off",true,"on","on"],["on",true,"off","off"]]},{"name":"flaky","states":["off","on","stuck"],"start":"off","final":["off","stuck"],"steps":[["off",true,"on","on"],["off",true,"on","stuck"],["on",true,"off","off"]]}],"services":[{"name":"f1","behaviour":"flaky"}],"target":{"states":["off","on"],"start":"off","final":["off"],"steps":[["off",true,"on","on"],["on",true,"off","off"]]}}"#,
-            Text::Workshop =>
-                br#"{"roman":1,"environment":{"states":["full","half","low","spilt"],"start":"full","actions":["clean","dip","paint","recharge"],"steps":[["full","clean","full"],["half","clean","half"],["low","clean","low"],["spilt","clean","low"],["full","dip","half"],["half","dip","low"],["half","dip","spilt"],["full","paint","full"],["half","paint","half"],["low","paint","low"],["full","recharge","full"],["half","recharge","full"],["low","recharge","full"],["spilt","recharge","full"]]},"behaviours":[{"name":"cleaner","states":["fresh","worn"],"start":"fresh","final":["fresh","worn"],"steps":[["fresh",true,"clean","fresh"],["fresh",true,"clean","worn"],["fresh",true,"recharge","fresh"],["worn",true,"recharge","fresh"]]},{"name":"dipper","states":["free","loaded"],"start":"free","final":["free"],"steps":[["free",true,"dip","loaded"],["loaded",true,"paint","free"]]},{"name":"allround","states":["free","loaded"],"start":"free","final":["free"],"steps":[["free",true,"dip","loaded"],["loaded",true,"paint","free"],["free",true,"recharge","free"],["free",{"not":["spilt"]},"clean","free"]]}],"services":[{"name":"arm1","behaviour":"cleaner"},{"name":"arm2","behaviour":"dipper"},{"name":"arm3","behaviour":"allround"}],"target":{"states":["rest","cleaned","dipped","painted","tidied"],"start":"rest","final":["rest"],"steps":[["rest",true,"clean","cleaned"],["cleaned",true,"dip","dipped"],["cleaned",["low","spilt"],"recharge","cleaned"],["dipped",true,"paint","painted"],["dipped",["spilt"],"clean","dipped"],["painted",true,"clean","tidied"],["tidied",true,"recharge","rest"]]}}"#,
-            Text::Bare =>
-                br#"{"roman":1,"environment":{"states":["e"],"start":"e","actions":["on","off"],"steps":[["e","on","e"],["e","off","e"]]},"behaviours":[{"name":"lamp","states":["off","on"],"start":"off","final":["off"],"steps":[["off",true,"on","on"],["on",true,"off","off"]]}],"services":[],"target":{"states":["t"],"start":"t","final":["t"],"steps":[]}}"#,
-            Text::NoOn =>
-                br#"{"roman":1,"environment":{"states":["e"],"start":"e","actions":["on","off"],"steps":[["e","off","e"]]},"behaviours":[{"name":"lamp","states":["off","on"],"start":"off","final":["off"],"steps":[["off",true,"on","on"],["on",true,"off","off"]]}],"services":[{"name":"l1","behaviour":"lamp"}],"target":{"states":["off","on"],"start":"off","final":["off"],"steps":[["off",true,"on","on"],["on",true,"off","off"]]}}"#,
-            Text::LampOn =>
-                br#"{"roman":1,"environment":{"states":["e"],"start":"e","actions":["on","off"],"steps":[["e","on","e"],["e","off","e"]]},"behaviours":[{"name":"lamp","states":["off","on"],"start":"off","final":["off"],"steps":[["off",true,"on","on"],["on",true,"off","off"]]}],"services":[{"name":"l1","behaviour":"lamp","state":"on"}],"target":{"states":["off","on"],"start":"off","final":["off"],"steps":[["off",true,"on","on"],["on",true,"off","off"]]}}"#,
-            Text::LampFrozen =>
-                br#"{"roman":1,"environment":{"states":["e"],"start":"e","actions":["on","off"],"steps":[["e","on","e"],["e","off","e"]]},"behaviours":[{"name":"lamp","states":["off","on"],"start":"off","final":["off"],"steps":[["off",true,"on","on"],["on",true,"off","off"]]}],"services":[{"name":"l1","behaviour":"lamp","frozen":true}],"target":{"states":["off","on"],"start":"off","final":["off"],"steps":[["off",true,"on","on"],["on",true,"off","off"]]}}"#,
-            Text::Lamps18 =>
-                br#"{"roman":1,"limit":16777216,"environment":{"states":["e"],"start":"e","actions":["on","off"],"steps":[["e","on","e"],["e","off","e"]]},"behaviours":[{"name":"lamp","states":["off","on"],"start":"off","final":["off"],"steps":[["off",true,"on","on"],["on",true,"off","off"]]}],"services":[{"name":"l1","behaviour":"lamp"},{"name":"l2","behaviour":"lamp"},{"name":"l3","behaviour":"lamp"},{"name":"l4","behaviour":"lamp"},{"name":"l5","behaviour":"lamp"},{"name":"l6","behaviour":"lamp"},{"name":"l7","behaviour":"lamp"},{"name":"l8","behaviour":"lamp"},{"name":"l9","behaviour":"lamp"},{"name":"l10","behaviour":"lamp"},{"name":"l11","behaviour":"lamp"},{"name":"l12","behaviour":"lamp"},{"name":"l13","behaviour":"lamp"},{"name":"l14","behaviour":"lamp"},{"name":"l15","behaviour":"lamp"},{"name":"l16","behaviour":"lamp"},{"name":"l17","behaviour":"lamp"},{"name":"l18","behaviour":"lamp"}],"target":{"states":["off","on"],"start":"off","final":["off"],"steps":[["off",true,"on","on"],["on",true,"off","off"]]}}"#,
-            Text::Lamps22 =>
-                br#"{"roman":1,"limit":16777215,"environment":{"states":["e"],"start":"e","actions":["on","off"],"steps":[["e","on","e"],["e","off","e"]]},"behaviours":[{"name":"lamp","states":["off","on"],"start":"off","final":["off"],"steps":[["off",true,"on","on"],["on",true,"off","off"]]}],"services":[{"name":"l1","behaviour":"lamp"},{"name":"l2","behaviour":"lamp"},{"name":"l3","behaviour":"lamp"},{"name":"l4","behaviour":"lamp"},{"name":"l5","behaviour":"lamp"},{"name":"l6","behaviour":"lamp"},{"name":"l7","behaviour":"lamp"},{"name":"l8","behaviour":"lamp"},{"name":"l9","behaviour":"lamp"},{"name":"l10","behaviour":"lamp"},{"name":"l11","behaviour":"lamp"},{"name":"l12","behaviour":"lamp"},{"name":"l13","behaviour":"lamp"},{"name":"l14","behaviour":"lamp"},{"name":"l15","behaviour":"lamp"},{"name":"l16","behaviour":"lamp"},{"name":"l17","behaviour":"lamp"},{"name":"l18","behaviour":"lamp"},{"name":"l19","behaviour":"lamp"},{"name":"l20","behaviour":"lamp"},{"name":"l21","behaviour":"lamp"},{"name":"l22","behaviour":"lamp"}],"target":{"states":["off","on"],"start":"off","final":["off"],"steps":[["off",true,"on","on"],["on",true,"off","off"]]}}"#,
-            Text::Limit7 =>
-                br#"{"roman":1,"limit":7,"environment":{"states":["e"],"start":"e","actions":["on","off"],"steps":[["e","on","e"],["e","off","e"]]},"behaviours":[{"name":"lamp","states":["off","on"],"start":"off","final":["off"],"steps":[["off",true,"on","on"],["on",true,"off","off"]]}],"services":[{"name":"l1","behaviour":"lamp"}],"target":{"states":["off","on"],"start":"off","final":["off"],"steps":[["off",true,"on","on"],["on",true,"off","off"]]}}"#,
-            Text::Limit8 =>
-                br#"{"roman":1,"limit":8,"environment":{"states":["e"],"start":"e","actions":["on","off"],"steps":[["e","on","e"],["e","off","e"]]},"behaviours":[{"name":"lamp","states":["off","on"],"start":"off","final":["off"],"steps":[["off",true,"on","on"],["on",true,"off","off"]]}],"services":[{"name":"l1","behaviour":"lamp"}],"target":{"states":["off","on"],"start":"off","final":["off"],"steps":[["off",true,"on","on"],["on",true,"off","off"]]}}"#,
-            Text::Limit0 =>
-                br#"{"roman":1,"limit":0,"environment":{"states":["e"],"start":"e","actions":["on","off"],"steps":[["e","on","e"],["e","off","e"]]},"behaviours":[{"name":"lamp","states":["off","on"],"start":"off","final":["off"],"steps":[["off",true,"on","on"],["on",true,"off","off"]]}],"services":[{"name":"l1","behaviour":"lamp"}],"target":{"states":["off","on"],"start":"off","final":["off"],"steps":[["off",true,"on","on"],["on",true,"off","off"]]}}"#,
-            Text::LimitGreater =>
-                br#"{"roman":1,"limit":16777217,"environment":{"states":["e"],"start":"e","actions":["on","off"],"steps":[["e","on","e"],["e","off","e"]]},"behaviours":[{"name":"lamp","states":["off","on"],"start":"off","final":["off"],"steps":[["off",true,"on","on"],["on",true,"off","off"]]}],"services":[{"name":"l1","behaviour":"lamp"}],"target":{"states":["off","on"],"start":"off","final":["off"],"steps":[["off",true,"on","on"],["on",true,"off","off"]]}}"#,
-            Text::LimitHuge =>
-                br#"{"roman":1,"limit":18446744073709551616,"environment":{"states":["e"],"start":"e","actions":["on","off"],"steps":[["e","on","e"],["e","off","e"]]},"behaviours":[{"name":"lamp","states":["off","on"],"start":"off","final":["off"],"steps":[["off",true,"on","on"],["on",true,"off","off"]]}],"services":[{"name":"l1","behaviour":"lamp"}],"target":{"states":["off","on"],"start":"off","final":["off"],"steps":[["off",true,"on","on"],["on",true,"off","off"]]}}"#,
-            Text::Wide32 =>
-                br#"{"roman":1,"environment":{"states":["e"],"start":"e","actions":["on","off"],"steps":[["e","on","e"],["e","off","e"]]},"behaviours":[{"name":"lamp","states":["off","on"],"start":"off","final":["off"],"steps":[["off",true,"on","on"],["on",true,"off","off"]]},{"name":"wide","states":["s0","s1","s2","s3","s4","s5","s6","s7","s8","s9","s10","s11","s12","s13","s14","s15","s16","s17","s18","s19","s20","s21","s22","s23","s24","s25","s26","s27","s28","s29","s30","s31","s32","s33","s34","s35","s36","s37","s38","s39","s40","s41","s42","s43","s44","s45","s46","s47","s48","s49","s50","s51","s52","s53","s54","s55","s56","s57","s58","s59","s60","s61","s62","s63"],"start":"s0","final":[],"steps":[]}],"services":[{"name":"w1","behaviour":"wide"},{"name":"w2","behaviour":"wide"},{"name":"w3","behaviour":"wide"},{"name":"w4","behaviour":"wide"},{"name":"w5","behaviour":"wide"},{"name":"w6","behaviour":"wide"},{"name":"w7","behaviour":"wide"},{"name":"w8","behaviour":"wide"},{"name":"w9","behaviour":"wide"},{"name":"w10","behaviour":"wide"},{"name":"w11","behaviour":"wide"},{"name":"w12","behaviour":"wide"},{"name":"w13","behaviour":"wide"},{"name":"w14","behaviour":"wide"},{"name":"w15","behaviour":"wide"},{"name":"w16","behaviour":"wide"},{"name":"w17","behaviour":"wide"},{"name":"w18","behaviour":"wide"},{"name":"w19","behaviour":"wide"},{"name":"w20","behaviour":"wide"},{"name":"w21","behaviour":"wide"},{"name":"w22","behaviour":"wide"},{"name":"w23","behaviour":"wide"},{"name":"w24","behaviour":"wide"},{"name":"w25","behaviour":"wide"},{"name":"w26","behaviour":"wide"},{"name":"w27","behaviour":"wide"},{"name":"w28","behaviour":"wide"},{"name":"w29","behaviour":"wide"},{"name":"w30","behaviour":"wide"},{"name":"w31","behaviour":"wide"},{"name":"w32","behaviour":"wide"}],"target":{"states":["off","on"],"start":"off","final":["off"],"steps":[["off",true,"on","on"],["on",true,"off","off"]]}}"#,
-            Text::Wide16 =>
-                br#"{"roman":1,"environment":{"states":["e"],"start":"e","actions":["on","off"],"steps":[["e","on","e"],["e","off","e"]]},"behaviours":[{"name":"lamp","states":["off","on"],"start":"off","final":["off"],"steps":[["off",true,"on","on"],["on",true,"off","off"]]},{"name":"wide","states":["s0","s1","s2","s3","s4","s5","s6","s7","s8","s9","s10","s11","s12","s13","s14","s15","s16","s17","s18","s19","s20","s21","s22","s23","s24","s25","s26","s27","s28","s29","s30","s31","s32","s33","s34","s35","s36","s37","s38","s39","s40","s41","s42","s43","s44","s45","s46","s47","s48","s49","s50","s51","s52","s53","s54","s55","s56","s57","s58","s59","s60","s61","s62","s63"],"start":"s0","final":[],"steps":[]}],"services":[{"name":"l1","behaviour":"lamp"},{"name":"w1","behaviour":"wide"},{"name":"w2","behaviour":"wide"},{"name":"w3","behaviour":"wide"},{"name":"w4","behaviour":"wide"},{"name":"w5","behaviour":"wide"},{"name":"w6","behaviour":"wide"},{"name":"w7","behaviour":"wide"},{"name":"w8","behaviour":"wide"},{"name":"w9","behaviour":"wide"},{"name":"w10","behaviour":"wide"},{"name":"w11","behaviour":"wide"},{"name":"w12","behaviour":"wide"},{"name":"w13","behaviour":"wide"},{"name":"w14","behaviour":"wide"},{"name":"w15","behaviour":"wide"},{"name":"w16","behaviour":"wide"}],"target":{"states":["off","on"],"start":"off","final":["off"],"steps":[["off",true,"on","on"],["on",true,"off","off"]]}}"#,
-            Text::LampAndX =>
-                br#"{"roman":1,"environment":{"states":["e"],"start":"e","actions":["on","off"],"steps":[["e","on","e"],["e","off","e"]]},"behaviours":[{"name":"lamp","states":["off","on"],"start":"off","final":["off"],"steps":[["off",true,"on","on"],["on",true,"off","off"]]},{"name":"x","states":["ok","bad"],"start":"ok","final":["ok"],"steps":[]}],"services":[{"name":"l1","behaviour":"lamp"},{"name":"x","behaviour":"x"}],"target":{"states":["off","on"],"start":"off","final":["off"],"steps":[["off",true,"on","on"],["on",true,"off","off"]]}}"#,
-            Text::LampAndLooseX =>
-                br#"{"roman":2,"environment":{"states":["e"],"start":"e","actions":["on","off"],"steps":[["e","on","e"],["e","off","e"]]},"behaviours":[{"name":"lamp","states":["off","on"],"start":"off","final":["off"],"steps":[["off",true,"on","on"],["on",true,"off","off"]]},{"name":"x","states":["ok","bad"],"start":"ok","final":["ok"],"steps":[]}],"services":[{"name":"l1","behaviour":"lamp"},{"name":"x","behaviour":"x","state":"bad","rests":false}],"target":{"states":["off","on"],"start":"off","final":["off"],"steps":[["off",true,"on","on"],["on",true,"off","off"]]}}"#,
-            Text::Rests1 =>
-                br#"{"roman":2,"environment":{"states":["e"],"start":"e","actions":["on","off"],"steps":[["e","on","e"],["e","off","e"]]},"behaviours":[{"name":"lamp","states":["off","on"],"start":"off","final":["off"],"steps":[["off",true,"on","on"],["on",true,"off","off"]]},{"name":"x","states":["ok","bad"],"start":"ok","final":["ok"],"steps":[]}],"services":[{"name":"l1","behaviour":"lamp"},{"name":"x","behaviour":"x","state":"bad","rests":1}],"target":{"states":["off","on"],"start":"off","final":["off"],"steps":[["off",true,"on","on"],["on",true,"off","off"]]}}"#,
-            Text::RestsIgnored =>
-                br#"{"roman":1,"environment":{"states":["e"],"start":"e","actions":["on","off"],"steps":[["e","on","e"],["e","off","e"]]},"behaviours":[{"name":"lamp","states":["off","on"],"start":"off","final":["off"],"steps":[["off",true,"on","on"],["on",true,"off","off"]]},{"name":"x","states":["ok","bad"],"start":"ok","final":["ok"],"steps":[]}],"services":[{"name":"l1","behaviour":"lamp"},{"name":"x","behaviour":"x","state":"bad","rests":1}],"target":{"states":["off","on"],"start":"off","final":["off"],"steps":[["off",true,"on","on"],["on",true,"off","off"]]}}"#,
-            Text::Full =>
-                br#"{"roman":1,"environment":{"states":["e"],"start":"e","actions":["on","off"],"steps":[["e","on","e"],["e","off","e"]]},"behaviours":[{"name":"lamp","states":["off","on"],"start":"off","final":["off"],"steps":[["off",true,"on","on"],["on",true,"off","off"]]},{"name":"dot","states":["d"],"start":"d","final":["d"],"steps":[]}],"services":[{"name":"l1","behaviour":"lamp"},{"name":"d1","behaviour":"dot"},{"name":"d2","behaviour":"dot"},{"name":"d3","behaviour":"dot"},{"name":"d4","behaviour":"dot"},{"name":"d5","behaviour":"dot"},{"name":"d6","behaviour":"dot"},{"name":"d7","behaviour":"dot"},{"name":"d8","behaviour":"dot"},{"name":"d9","behaviour":"dot"},{"name":"d10","behaviour":"dot"},{"name":"d11","behaviour":"dot"},{"name":"d12","behaviour":"dot"},{"name":"d13","behaviour":"dot"},{"name":"d14","behaviour":"dot"},{"name":"d15","behaviour":"dot"},{"name":"d16","behaviour":"dot"},{"name":"d17","behaviour":"dot"},{"name":"d18","behaviour":"dot"},{"name":"d19","behaviour":"dot"},{"name":"d20","behaviour":"dot"},{"name":"d21","behaviour":"dot"},{"name":"d22","behaviour":"dot"},{"name":"d23","behaviour":"dot"},{"name":"d24","behaviour":"dot"},{"name":"d25","behaviour":"dot"},{"name":"d26","behaviour":"dot"},{"name":"d27","behaviour":"dot"},{"name":"d28","behaviour":"dot"},{"name":"d29","behaviour":"dot"},{"name":"d30","behaviour":"dot"},{"name":"d31","behaviour":"dot"}],"target":{"states":["off","on"],"start":"off","final":["off"],"steps":[["off",true,"on","on"],["on",true,"off","off"]]}}"#,
-            Text::Overfull =>
-                br#"{"roman":1,"environment":{"states":["e"],"start":"e","actions":["on","off"],"steps":[["e","on","e"],["e","off","e"]]},"behaviours":[{"name":"lamp","states":["off","on"],"start":"off","final":["off"],"steps":[["off",true,"on","on"],["on",true,"off","off"]]},{"name":"dot","states":["d"],"start":"d","final":["d"],"steps":[]}],"services":[{"name":"l1","behaviour":"lamp"},{"name":"d1","behaviour":"dot"},{"name":"d2","behaviour":"dot"},{"name":"d3","behaviour":"dot"},{"name":"d4","behaviour":"dot"},{"name":"d5","behaviour":"dot"},{"name":"d6","behaviour":"dot"},{"name":"d7","behaviour":"dot"},{"name":"d8","behaviour":"dot"},{"name":"d9","behaviour":"dot"},{"name":"d10","behaviour":"dot"},{"name":"d11","behaviour":"dot"},{"name":"d12","behaviour":"dot"},{"name":"d13","behaviour":"dot"},{"name":"d14","behaviour":"dot"},{"name":"d15","behaviour":"dot"},{"name":"d16","behaviour":"dot"},{"name":"d17","behaviour":"dot"},{"name":"d18","behaviour":"dot"},{"name":"d19","behaviour":"dot"},{"name":"d20","behaviour":"dot"},{"name":"d21","behaviour":"dot"},{"name":"d22","behaviour":"dot"},{"name":"d23","behaviour":"dot"},{"name":"d24","behaviour":"dot"},{"name":"d25","behaviour":"dot"},{"name":"d26","behaviour":"dot"},{"name":"d27","behaviour":"dot"},{"name":"d28","behaviour":"dot"},{"name":"d29","behaviour":"dot"},{"name":"d30","behaviour":"dot"},{"name":"d31","behaviour":"dot"},{"name":"d32","behaviour":"dot"}],"target":{"states":["off","on"],"start":"off","final":["off"],"steps":[["off",true,"on","on"],["on",true,"off","off"]]}}"#,
-            Text::TwoLamps =>
-                br#"{"roman":1,"environment":{"states":["e"],"start":"e","actions":["on","off"],"steps":[["e","on","e"],["e","off","e"]]},"behaviours":[{"name":"lamp","states":["off","on"],"start":"off","final":["off"],"steps":[["off",true,"on","on"],["on",true,"off","off"]]}],"services":[{"name":"l1","behaviour":"lamp"},{"name":"l2","behaviour":"lamp"}],"target":{"states":["off","on"],"start":"off","final":["off"],"steps":[["off",true,"on","on"],["on",true,"off","off"]]}}"#,
-            Text::Choice =>
-                br#"{"roman":1,"environment":{"states":["e1","e2","e3"],"start":"e1","actions":["on","off"],"steps":[["e1","on","e1"],["e2","on","e2"],["e3","on","e3"],["e1","off","e1"],["e2","off","e2"],["e3","off","e3"]]},"behaviours":[{"name":"lamp","states":["off","on"],"start":"off","final":["off"],"steps":[["off",true,"on","on"],["on",true,"off","off"]]}],"services":[{"name":"l1","behaviour":"lamp"}],"target":{"states":["off","on"],"start":"off","final":["off"],"steps":[["off",["e1","e2"],"on","on"],["off",["e2","e3"],"on","off"],["on",true,"off","off"]]}}"#,
-            Text::NoChoice =>
-                br#"{"roman":1,"environment":{"states":["e1","e2","e3"],"start":"e1","actions":["on","off"],"steps":[["e1","on","e1"],["e2","on","e2"],["e3","on","e3"],["e1","off","e1"],["e2","off","e2"],["e3","off","e3"]]},"behaviours":[{"name":"lamp","states":["off","on"],"start":"off","final":["off"],"steps":[["off",true,"on","on"],["on",true,"off","off"]]}],"services":[{"name":"l1","behaviour":"lamp"}],"target":{"states":["off","on"],"start":"off","final":["off"],"steps":[["off",["e1","e2"],"on","on"],["off",["e3"],"on","off"],["on",true,"off","off"]]}}"#,
-            Text::TargetByFile =>
-                br#"{"roman":1,"environment":{"states":["e"],"start":"e","actions":["on","off"],"steps":[["e","on","e"],["e","off","e"]]},"behaviours":[{"name":"lamp","states":["off","on"],"start":"off","final":["off"],"steps":[["off",true,"on","on"],["on",true,"off","off"]]}],"services":[{"name":"l1","behaviour":"lamp"}],"target":{"file":"t.json"}}"#,
-            Text::Target =>
-                br#"{"states":["off","on"],"start":"off","final":["off"],"steps":[["off",true,"on","on"],["on",true,"off","off"]]}"#,
-            Text::TargetDim =>
+            Text::Lamp => &[
+                VERSION_1,
+                ENVIRONMENT,
+                BEHAVIOURS,
+                LAMP,
+                SERVICES,
+                FIRST_LAMP,
+                TARGET,
+                SWITCHED,
+                END,
+            ],
+            Text::Flaky => &[
+                VERSION_1,
+                ENVIRONMENT,
+                BEHAVIOURS,
+                LAMP,
+                FLAKY,
+                SERVICES,
+                br#"{"name":"f1","behaviour":"flaky"}"#,
+                TARGET,
+                SWITCHED,
+                END,
+            ],
+            Text::Workshop => &[
+                br#"{"roman":1,"environment":{"states":["full","half","low","spilt"],"start":"full","actions":["clean","dip","paint","recharge"],"steps":[["full","clean","full"],["half","clean","half"],["low","clean","low"],["spilt","clean","low"],["full","dip","half"],["half","dip","low"],["half","dip","spilt"],["full","paint","full"],["half","paint","half"],["low","paint","low"],["full","recharge","full"],["half","recharge","full"],["low","recharge","full"],["spilt","recharge","full"]]}"#,
+                br#","behaviours":[{"name":"cleaner","states":["fresh","worn"],"start":"fresh","final":["fresh","worn"],"steps":[["fresh",true,"clean","fresh"],["fresh",true,"clean","worn"],["fresh",true,"recharge","fresh"],["worn",true,"recharge","fresh"]]}"#,
+                br#",{"name":"dipper","states":["free","loaded"],"start":"free","final":["free"],"steps":[["free",true,"dip","loaded"],["loaded",true,"paint","free"]]}"#,
+                br#",{"name":"allround","states":["free","loaded"],"start":"free","final":["free"],"steps":[["free",true,"dip","loaded"],["loaded",true,"paint","free"],["free",true,"recharge","free"],["free",{"not":["spilt"]},"clean","free"]]}"#,
+                br#"],"services":[{"name":"arm1","behaviour":"cleaner"},{"name":"arm2","behaviour":"dipper"},{"name":"arm3","behaviour":"allround"}"#,
+                br#"],"target":{"states":["rest","cleaned","dipped","painted","tidied"],"start":"rest","final":["rest"],"steps":[["rest",true,"clean","cleaned"],["cleaned",true,"dip","dipped"],["cleaned",["low","spilt"],"recharge","cleaned"],["dipped",true,"paint","painted"],["dipped",["spilt"],"clean","dipped"],["painted",true,"clean","tidied"],["tidied",true,"recharge","rest"]]}}"#,
+            ],
+            Text::Bare => &[
+                VERSION_1,
+                ENVIRONMENT,
+                BEHAVIOURS,
+                LAMP,
+                SERVICES,
+                TARGET,
+                br#"{"states":["t"],"start":"t","final":["t"],"steps":[]}"#,
+                END,
+            ],
+            Text::NoOn => &[
+                VERSION_1,
+                br#","environment":{"states":["e"],"start":"e","actions":["on","off"],"steps":[["e","off","e"]]}"#,
+                BEHAVIOURS,
+                LAMP,
+                SERVICES,
+                FIRST_LAMP,
+                TARGET,
+                SWITCHED,
+                END,
+            ],
+            Text::LampOn => &[
+                VERSION_1,
+                ENVIRONMENT,
+                BEHAVIOURS,
+                LAMP,
+                SERVICES,
+                br#"{"name":"l1","behaviour":"lamp","state":"on"}"#,
+                TARGET,
+                SWITCHED,
+                END,
+            ],
+            Text::LampFrozen => &[
+                VERSION_1,
+                ENVIRONMENT,
+                BEHAVIOURS,
+                LAMP,
+                SERVICES,
+                br#"{"name":"l1","behaviour":"lamp","frozen":true}"#,
+                TARGET,
+                SWITCHED,
+                END,
+            ],
+            Text::Lamps18 => &[
+                VERSION_1,
+                br#","limit":16777216"#,
+                ENVIRONMENT,
+                BEHAVIOURS,
+                LAMP,
+                SERVICES,
+                FIRST_LAMP,
+                SECOND_LAMP,
+                THIRD_TO_EIGHTEENTH,
+                TARGET,
+                SWITCHED,
+                END,
+            ],
+            Text::Lamps22 => &[
+                VERSION_1,
+                br#","limit":16777215"#,
+                ENVIRONMENT,
+                BEHAVIOURS,
+                LAMP,
+                SERVICES,
+                FIRST_LAMP,
+                SECOND_LAMP,
+                THIRD_TO_EIGHTEENTH,
+                NINETEENTH_TO_LAST,
+                TARGET,
+                SWITCHED,
+                END,
+            ],
+            Text::Limit7 => &[
+                VERSION_1,
+                br#","limit":7"#,
+                ENVIRONMENT,
+                BEHAVIOURS,
+                LAMP,
+                SERVICES,
+                FIRST_LAMP,
+                TARGET,
+                SWITCHED,
+                END,
+            ],
+            Text::Limit8 => &[
+                VERSION_1,
+                br#","limit":8"#,
+                ENVIRONMENT,
+                BEHAVIOURS,
+                LAMP,
+                SERVICES,
+                FIRST_LAMP,
+                TARGET,
+                SWITCHED,
+                END,
+            ],
+            Text::Limit0 => &[
+                VERSION_1,
+                br#","limit":0"#,
+                ENVIRONMENT,
+                BEHAVIOURS,
+                LAMP,
+                SERVICES,
+                FIRST_LAMP,
+                TARGET,
+                SWITCHED,
+                END,
+            ],
+            Text::LimitGreater => &[
+                VERSION_1,
+                br#","limit":16777217"#,
+                ENVIRONMENT,
+                BEHAVIOURS,
+                LAMP,
+                SERVICES,
+                FIRST_LAMP,
+                TARGET,
+                SWITCHED,
+                END,
+            ],
+            Text::LimitHuge => &[
+                VERSION_1,
+                br#","limit":18446744073709551616"#,
+                ENVIRONMENT,
+                BEHAVIOURS,
+                LAMP,
+                SERVICES,
+                FIRST_LAMP,
+                TARGET,
+                SWITCHED,
+                END,
+            ],
+            Text::Wide32 => &[
+                VERSION_1,
+                ENVIRONMENT,
+                BEHAVIOURS,
+                LAMP,
+                WIDE,
+                SERVICES,
+                br#"{"name":"w0","behaviour":"wide"}"#,
+                W1_TO_W16,
+                W17_TO_W31,
+                TARGET,
+                SWITCHED,
+                END,
+            ],
+            Text::Wide16 => &[
+                VERSION_1,
+                ENVIRONMENT,
+                BEHAVIOURS,
+                LAMP,
+                WIDE,
+                SERVICES,
+                FIRST_LAMP,
+                W1_TO_W16,
+                TARGET,
+                SWITCHED,
+                END,
+            ],
+            Text::LampAndX => &[
+                VERSION_1,
+                ENVIRONMENT,
+                BEHAVIOURS,
+                LAMP,
+                X,
+                SERVICES,
+                FIRST_LAMP,
+                br#",{"name":"x","behaviour":"x"}"#,
+                TARGET,
+                SWITCHED,
+                END,
+            ],
+            Text::LampAndLooseX => &[
+                VERSION_2,
+                ENVIRONMENT,
+                BEHAVIOURS,
+                LAMP,
+                X,
+                SERVICES,
+                FIRST_LAMP,
+                br#",{"name":"x","behaviour":"x","state":"bad","rests":false}"#,
+                TARGET,
+                SWITCHED,
+                END,
+            ],
+            Text::Rests1 => &[
+                VERSION_2,
+                ENVIRONMENT,
+                BEHAVIOURS,
+                LAMP,
+                X,
+                SERVICES,
+                FIRST_LAMP,
+                br#",{"name":"x","behaviour":"x","state":"bad","rests":1}"#,
+                TARGET,
+                SWITCHED,
+                END,
+            ],
+            Text::RestsIgnored => &[
+                VERSION_1,
+                ENVIRONMENT,
+                BEHAVIOURS,
+                LAMP,
+                X,
+                SERVICES,
+                FIRST_LAMP,
+                br#",{"name":"x","behaviour":"x","state":"bad","rests":1}"#,
+                TARGET,
+                SWITCHED,
+                END,
+            ],
+            Text::Full => &[
+                VERSION_1,
+                ENVIRONMENT,
+                BEHAVIOURS,
+                LAMP,
+                DOT,
+                SERVICES,
+                FIRST_LAMP,
+                D1_TO_D31,
+                TARGET,
+                SWITCHED,
+                END,
+            ],
+            Text::Overfull => &[
+                VERSION_1,
+                ENVIRONMENT,
+                BEHAVIOURS,
+                LAMP,
+                DOT,
+                SERVICES,
+                FIRST_LAMP,
+                D1_TO_D31,
+                br#",{"name":"d32","behaviour":"dot"}"#,
+                TARGET,
+                SWITCHED,
+                END,
+            ],
+            Text::TwoLamps => &[
+                VERSION_1,
+                ENVIRONMENT,
+                BEHAVIOURS,
+                LAMP,
+                SERVICES,
+                FIRST_LAMP,
+                SECOND_LAMP,
+                TARGET,
+                SWITCHED,
+                END,
+            ],
+            Text::Choice => &[
+                VERSION_1,
+                THREE_STATES,
+                BEHAVIOURS,
+                LAMP,
+                SERVICES,
+                FIRST_LAMP,
+                TARGET,
+                br#"{"states":["off","on"],"start":"off","final":["off"],"steps":[["off",["e1","e2"],"on","on"],["off",["e2","e3"],"on","off"],["on",true,"off","off"]]}"#,
+                END,
+            ],
+            Text::NoChoice => &[
+                VERSION_1,
+                THREE_STATES,
+                BEHAVIOURS,
+                LAMP,
+                SERVICES,
+                FIRST_LAMP,
+                TARGET,
+                br#"{"states":["off","on"],"start":"off","final":["off"],"steps":[["off",["e1","e2"],"on","on"],["off",["e3"],"on","off"],["on",true,"off","off"]]}"#,
+                END,
+            ],
+            Text::TargetByFile => &[
+                VERSION_1,
+                ENVIRONMENT,
+                BEHAVIOURS,
+                LAMP,
+                SERVICES,
+                FIRST_LAMP,
+                TARGET,
+                br#"{"file":"t.json"}"#,
+                END,
+            ],
+            Text::Target => &[SWITCHED],
+            Text::TargetDim => &[
                 br#"{"states":["off","on"],"start":"off","final":["off"],"steps":[["off",true,"on","on"],["on",true,"dim","off"]]}"#,
-            Text::FileAgain => br#"{"file":"u.json"}"#,
-            Text::TargetGone =>
-                br#"{"roman":1,"environment":{"states":["e"],"start":"e","actions":["on","off"],"steps":[["e","on","e"],["e","off","e"]]},"behaviours":[{"name":"lamp","states":["off","on"],"start":"off","final":["off"],"steps":[["off",true,"on","on"],["on",true,"off","off"]]}],"services":[{"name":"l1","behaviour":"lamp"}],"target":{"file":"gone.json"}}"#,
-            Text::TargetGoneLimit0 =>
-                br#"{"roman":1,"limit":0,"environment":{"states":["e"],"start":"e","actions":["on","off"],"steps":[["e","on","e"],["e","off","e"]]},"behaviours":[{"name":"lamp","states":["off","on"],"start":"off","final":["off"],"steps":[["off",true,"on","on"],["on",true,"off","off"]]}],"services":[{"name":"l1","behaviour":"lamp"}],"target":{"file":"gone.json"}}"#,
-            Text::Roman9 =>
-                br#"{"roman":9,"environment":{"states":["e"],"start":"e","actions":["on","off"],"steps":[["e","on","e"],["e","off","e"]]},"behaviours":[{"name":"lamp","states":["off","on"],"start":"off","final":["off"],"steps":[["off",true,"on","on"],["on",true,"off","off"]]}],"services":[{"name":"l1","behaviour":"lamp"}],"target":{"states":["off","on"],"start":"off","final":["off"],"steps":[["off",true,"on","on"],["on",true,"off","off"]]}}"#,
-            Text::Roman2 =>
-                br#"{"roman":2,"environment":{"states":["e"],"start":"e","actions":["on","off"],"steps":[["e","on","e"],["e","off","e"]]},"behaviours":[{"name":"lamp","states":["off","on"],"start":"off","final":["off"],"steps":[["off",true,"on","on"],["on",true,"off","off"]]}],"services":[{"name":"l1","behaviour":"lamp"}],"target":{"states":["off","on"],"start":"off","final":["off"],"steps":[["off",true,"on","on"],["on",true,"off","off"]]}}"#,
-            Text::OnTwice =>
-                br#"{"roman":1,"environment":{"states":["e"],"start":"e","actions":["on","on"],"steps":[["e","on","e"],["e","off","e"]]},"behaviours":[{"name":"lamp","states":["off","on"],"start":"off","final":["off"],"steps":[["off",true,"on","on"],["on",true,"off","off"]]}],"services":[{"name":"l1","behaviour":"lamp"}],"target":{"states":["off","on"],"start":"off","final":["off"],"steps":[["off",true,"on","on"],["on",true,"off","off"]]}}"#,
-            Text::NoTarget =>
-                br#"{"roman":1,"environment":{"states":["e"],"start":"e","actions":["on","off"],"steps":[["e","on","e"],["e","off","e"]]},"behaviours":[{"name":"lamp","states":["off","on"],"start":"off","final":["off"],"steps":[["off",true,"on","on"],["on",true,"off","off"]]}],"services":[{"name":"l1","behaviour":"lamp"}]}"#,
-            Text::NoGuard =>
-                br#"{"roman":1,"environment":{"states":["e"],"start":"e","actions":["on","off"],"steps":[["e","on","e"],["e","off","e"]]},"behaviours":[{"name":"lamp","states":["off","on"],"start":"off","final":["off"],"steps":[["off",true,"on","on"],["on",true,"off","off"]]}],"services":[{"name":"l1","behaviour":"lamp"}],"target":{"states":["off","on"],"start":"off","final":["off"],"steps":[["off",{"any":["e"]},"on","on"],["on",true,"off","off"]]}}"#,
-            Text::Not100 =>
-                br#"{"roman":1,"environment":{"states":["e"],"start":"e","actions":["on","off"],"steps":[["e","on","e"],["e","off","e"]]},"behaviours":[{"name":"lamp","states":["off","on"],"start":"off","final":["off"],"steps":[["off",true,"on","on"],["on",true,"off","off"]]}],"services":[{"name":"l1","behaviour":"lamp"}],"target":{"states":["off","on"],"start":"off","final":["off"],"steps":[["off",{"not":{"not":{"not":{"not":{"not":{"not":{"not":{"not":{"not":{"not":{"not":{"not":{"not":{"not":{"not":{"not":{"not":{"not":{"not":{"not":{"not":{"not":{"not":{"not":{"not":{"not":{"not":{"not":{"not":{"not":{"not":{"not":{"not":{"not":{"not":{"not":{"not":{"not":{"not":{"not":{"not":{"not":{"not":{"not":{"not":{"not":{"not":{"not":{"not":{"not":{"not":{"not":{"not":{"not":{"not":{"not":{"not":{"not":{"not":{"not":{"not":{"not":{"not":{"not":{"not":{"not":{"not":{"not":{"not":{"not":{"not":{"not":{"not":{"not":{"not":{"not":{"not":{"not":{"not":{"not":{"not":{"not":{"not":{"not":{"not":{"not":{"not":{"not":{"not":{"not":{"not":{"not":{"not":{"not":{"not":{"not":{"not":{"not":{"not":{"not":true}}}}}}}}}}}}}}}}}}}}}}}}}}}}}}}}}}}}}}}}}}}}}}}}}}}}}}}}}}}}}}}}}}}}}}}}}}}}}}}}}}}}}}}}}}}}}}}}}}}},"on","on"],["on",true,"off","off"]]}}"#,
-            Text::Not200 =>
-                br#"{"roman":1,"environment":{"states":["e"],"start":"e","actions":["on","off"],"steps":[["e","on","e"],["e","off","e"]]},"behaviours":[{"name":"lamp","states":["off","on"],"start":"off","final":["off"],"steps":[["off",true,"on","on"],["on",true,"off","off"]]}],"services":[{"name":"l1","behaviour":"lamp"}],"target":{"states":["off","on"],"start":"off","final":["off"],"steps":[["off",{"not":{"not":{"not":{"not":{"not":{"not":{"not":{"not":{"not":{"not":{"not":{"not":{"not":{"not":{"not":{"not":{"not":{"not":{"not":{"not":{"not":{"not":{"not":{"not":{"not":{"not":{"not":{"not":{"not":{"not":{"not":{"not":{"not":{"not":{"not":{"not":{"not":{"not":{"not":{"not":{"not":{"not":{"not":{"not":{"not":{"not":{"not":{"not":{"not":{"not":{"not":{"not":{"not":{"not":{"not":{"not":{"not":{"not":{"not":{"not":{"not":{"not":{"not":{"not":{"not":{"not":{"not":{"not":{"not":{"not":{"not":{"not":{"not":{"not":{"not":{"not":{"not":{"not":{"not":{"not":{"not":{"not":{"not":{"not":{"not":{"not":{"not":{"not":{"not":{"not":{"not":{"not":{"not":{"not":{"not":{"not":{"not":{"not":{"not":{"not":{"not":{"not":{"not":{"not":{"not":{"not":{"not":{"not":{"not":{"not":{"not":{"not":{"not":{"not":{"not":{"not":{"not":{"not":{"not":{"not":{"not":{"not":{"not":{"not":{"not":{"not":{"not":{"not":{"not":{"not":{"not":{"not":{"not":{"not":{"not":{"not":{"not":{"not":{"not":{"not":{"not":{"not":{"not":{"not":{"not":{"not":{"not":{"not":{"not":{"not":{"not":{"not":{"not":{"not":{"not":{"not":{"not":{"not":{"not":{"not":{"not":{"not":{"not":{"not":{"not":{"not":{"not":{"not":{"not":{"not":{"not":{"not":{"not":{"not":{"not":{"not":{"not":{"not":{"not":{"not":{"not":{"not":{"not":{"not":{"not":{"not":{"not":{"not":{"not":{"not":{"not":{"not":{"not":{"not":{"not":{"not":{"not":{"not":{"not":{"not":true}}}}}}}}}}}}}}}}}}}}}}}}}}}}}}}}}}}}}}}}}}}}}}}}}}}}}}}}}}}}}}}}}}}}}}}}}}}}}}}}}}}}}}}}}}}}}}}}}}}}}}}}}}}}}}}}}}}}}}}}}}}}}}}}}}}}}}}}}}}}}}}}}}}}}}}}}}}}}}}}}}}}}}}}}}}}}}}}}}}}}}}}}}}}}}}}}}}}}}}},"on","on"],["on",true,"off","off"]]}}"#,
-            Text::Lamp255 =>
-                b"{\"roman\":1,\"environment\":{\"states\":[\"e\"],\"start\":\"e\",\"actions\":[\"on\",\"off\"],\"steps\":[[\"e\",\"on\",\"e\"],[\"e\",\"off\",\"e\"]]},\"behaviours\":[{\"name\":\"lamp\",\"states\":[\"off\",\"on\"],\"start\":\"off\",\"final\":[\"off\"],\"steps\":[[\"off\",true,\"on\",\"on\"],[\"on\",true,\"off\",\"off\"]]}],\"services\":[{\"name\":\"l1\",\"behaviour\":\"lamp\"}],\"target\":{\"states\":[\"off\",\"on\"],\"start\":\"off\",\"final\":[\"off\"],\"steps\":[[\"off\",true,\"on\",\"on\"],[\"on\",true,\"off\",\"off\"]]}\xff",
-            Text::FinalTwice =>
-                br#"{"roman":1,"environment":{"states":["e"],"start":"e","actions":["on","off"],"steps":[["e","on","e"],["e","off","e"]]},"behaviours":[{"name":"lamp","states":["off","on"],"start":"off","final":["off"],"steps":[["off",true,"on","on"],["on",true,"off","off"]]}],"services":[{"name":"l1","behaviour":"lamp"}],"target":{"states":["off","on"],"start":"off","final":["off","off"],"steps":[["off",true,"on","on"],["on",true,"off","off"]]}}"#,
-            Text::NoBehaviours =>
-                br#"{"roman":1,"environment":{"states":["e"],"start":"e","actions":["on","off"],"steps":[["e","on","e"],["e","off","e"]]},"behaviours":[],"services":[{"name":"l1","behaviour":"lamp"}],"target":{"states":["off","on"],"start":"off","final":["off"],"steps":[["off",true,"on","on"],["on",true,"off","off"]]}}"#,
-            Text::Order => b"roman-order 1\npairs 6\n1 f\n2 0\n3 1\n5 1\n0 0\n4 1\nend\n",
-            Text::OrderExchanged => b"roman-order 1\npairs 6\n1 f\n2 0\n3 1\n0 0\n5 1\n4 1\nend\n",
-            Text::OrderShort => b"roman-order 1\npairs 6\n1 f\n2 0\n3 1\n5 1\n0 0\nend\n",
-            Text::OrderUnended => b"roman-order 1\npairs 6\n1 f\n2 0\n3 1\n5 1\n0 0\n4 1\n",
-            Text::OrderTwice => b"roman-order 1\npairs 6\n1 f\n1 f\n2 0\n3 1\n5 1\n0 0\n4 1\nend\n",
-            Text::Nothing => b"",
+            ],
+            Text::FileAgain => &[br#"{"file":"u.json"}"#],
+            Text::TargetGone => &[
+                VERSION_1,
+                ENVIRONMENT,
+                BEHAVIOURS,
+                LAMP,
+                SERVICES,
+                FIRST_LAMP,
+                TARGET,
+                br#"{"file":"gone.json"}"#,
+                END,
+            ],
+            Text::TargetGoneLimit0 => &[
+                VERSION_1,
+                br#","limit":0"#,
+                ENVIRONMENT,
+                BEHAVIOURS,
+                LAMP,
+                SERVICES,
+                FIRST_LAMP,
+                TARGET,
+                br#"{"file":"gone.json"}"#,
+                END,
+            ],
+            Text::Roman9 => &[
+                br#"{"roman":9"#,
+                ENVIRONMENT,
+                BEHAVIOURS,
+                LAMP,
+                SERVICES,
+                FIRST_LAMP,
+                TARGET,
+                SWITCHED,
+                END,
+            ],
+            Text::Roman2 => &[
+                VERSION_2,
+                ENVIRONMENT,
+                BEHAVIOURS,
+                LAMP,
+                SERVICES,
+                FIRST_LAMP,
+                TARGET,
+                SWITCHED,
+                END,
+            ],
+            Text::OnTwice => &[
+                VERSION_1,
+                br#","environment":{"states":["e"],"start":"e","actions":["on","on"],"steps":[["e","on","e"],["e","off","e"]]}"#,
+                BEHAVIOURS,
+                LAMP,
+                SERVICES,
+                FIRST_LAMP,
+                TARGET,
+                SWITCHED,
+                END,
+            ],
+            Text::NoTarget => &[
+                VERSION_1,
+                ENVIRONMENT,
+                BEHAVIOURS,
+                LAMP,
+                SERVICES,
+                FIRST_LAMP,
+                br#"]"#,
+                END,
+            ],
+            Text::NoGuard => &[
+                VERSION_1,
+                ENVIRONMENT,
+                BEHAVIOURS,
+                LAMP,
+                SERVICES,
+                FIRST_LAMP,
+                TARGET,
+                SWITCHED_UP_TO_GUARD,
+                br#"{"any":["e"]}"#,
+                SWITCHED_FROM_GUARD,
+                END,
+            ],
+            Text::Not100 => &[
+                VERSION_1,
+                ENVIRONMENT,
+                BEHAVIOURS,
+                LAMP,
+                SERVICES,
+                FIRST_LAMP,
+                TARGET,
+                SWITCHED_UP_TO_GUARD,
+                NOT_20,
+                NOT_20,
+                NOT_20,
+                NOT_20,
+                NOT_20,
+                br#"true"#,
+                END_20,
+                END_20,
+                END_20,
+                END_20,
+                END_20,
+                SWITCHED_FROM_GUARD,
+                END,
+            ],
+            Text::Not200 => &[
+                VERSION_1,
+                ENVIRONMENT,
+                BEHAVIOURS,
+                LAMP,
+                SERVICES,
+                FIRST_LAMP,
+                TARGET,
+                SWITCHED_UP_TO_GUARD,
+                NOT_20,
+                NOT_20,
+                NOT_20,
+                NOT_20,
+                NOT_20,
+                NOT_20,
+                NOT_20,
+                NOT_20,
+                NOT_20,
+                NOT_20,
+                br#"true"#,
+                END_20,
+                END_20,
+                END_20,
+                END_20,
+                END_20,
+                END_20,
+                END_20,
+                END_20,
+                END_20,
+                END_20,
+                SWITCHED_FROM_GUARD,
+                END,
+            ],
+            Text::Lamp255 => &[
+                VERSION_1,
+                ENVIRONMENT,
+                BEHAVIOURS,
+                LAMP,
+                SERVICES,
+                FIRST_LAMP,
+                TARGET,
+                SWITCHED,
+                b"\xff",
+            ],
+            Text::FinalTwice => &[
+                VERSION_1,
+                ENVIRONMENT,
+                BEHAVIOURS,
+                LAMP,
+                SERVICES,
+                FIRST_LAMP,
+                TARGET,
+                br#"{"states":["off","on"],"start":"off","final":["off","off"],"steps":[["off",true,"on","on"],["on",true,"off","off"]]}"#,
+                END,
+            ],
+            Text::NoBehaviours => &[
+                VERSION_1,
+                ENVIRONMENT,
+                BEHAVIOURS,
+                SERVICES,
+                FIRST_LAMP,
+                TARGET,
+                SWITCHED,
+                END,
+            ],
+            Text::OtherGuards => &[
+                VERSION_1,
+                ENVIRONMENT,
+                BEHAVIOURS,
+                LAMP,
+                SERVICES,
+                FIRST_LAMP,
+                TARGET,
+                br#"{"states":["off","on"],"start":"off","final":["off"],"steps":["#,
+                br#"["off",{"any":[false,["e"]]},"on","on"],"#,
+                br#"["on",{"all":[true,{"not":[]}]},"off","off"]]}"#,
+                END,
+            ],
+            Text::FalseGuard => &[
+                VERSION_1,
+                ENVIRONMENT,
+                BEHAVIOURS,
+                LAMP,
+                SERVICES,
+                FIRST_LAMP,
+                TARGET,
+                SWITCHED_UP_TO_GUARD,
+                b"false",
+                SWITCHED_FROM_GUARD,
+                END,
+            ],
+            Text::PartsByFile => &[
+                VERSION_1,
+                br#","environment":{"file":"e.json"}"#,
+                BEHAVIOURS,
+                br#"{"file":"b.json"}"#,
+                SERVICES,
+                FIRST_LAMP,
+                TARGET,
+                SWITCHED,
+                END,
+            ],
+            Text::Environment => &[
+                br#"{"states":["e"],"start":"e","actions":["on","off"],"#,
+                br#""steps":[["e","on","e"],["e","off","e"]]}"#,
+            ],
+            Text::Behaviour => &[LAMP],
+            Text::FrozenAndLoose => &[
+                VERSION_2,
+                ENVIRONMENT,
+                BEHAVIOURS,
+                LAMP,
+                X,
+                SERVICES,
+                FIRST_LAMP,
+                br#",{"name":"x","behaviour":"x","state":"bad","frozen":true,"rests":false}"#,
+                TARGET,
+                SWITCHED,
+                END,
+            ],
+            Text::Order => &[ORDER, b"1 f\n2 0\n3 1\n5 1\n0 0\n4 1\nend\n"],
+            Text::OrderExchanged => &[ORDER, b"1 f\n2 0\n3 1\n0 0\n5 1\n4 1\nend\n"],
+            Text::OrderShort => &[ORDER, b"1 f\n2 0\n3 1\n5 1\n0 0\nend\n"],
+            Text::OrderUnended => &[ORDER, b"1 f\n2 0\n3 1\n5 1\n0 0\n4 1\n"],
+            Text::OrderTwice => &[ORDER, b"1 f\n1 f\n2 0\n3 1\n5 1\n0 0\n4 1\nend\n"],
+            Text::Nothing => &[],
         }
     }
 }
