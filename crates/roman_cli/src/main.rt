@@ -20,17 +20,38 @@ use std::process::ExitCode;
 use std::sync::ledger::{Blank, Ledger};
 
 fn main(rt: HostRuntime) -> ExitCode {
-    let mut words = Words::new(rt.alloc());
-    let args = match env::args(&rt) {
-        Ok(args) => args,
-        Err(error) => return ExitCode::from(without_words(&error).number()),
+    let status = match words(&rt) {
+        Ok(words) => run::<Brand>(&rt, &words, Blank::new(1)),
+        Err(status) => status,
     };
-    for word in args.skip(1) {
-        if words.push(word.as_str()).is_err() {
-            return ExitCode::from(Status::Memory.number());
-        }
+    if let Some(text) = complaint(status) {
+        let _ = rt.eprintln(text);
     }
-    ExitCode::from(run::<Brand>(&rt, &words, Blank::new(1)).number())
+    ExitCode::from(status.number())
+}
+
+/// What standard error says of a run that the output doesn't explain.
+fn complaint(status: Status) -> Option<&'static str> {
+    match status {
+        Status::ShelfFault => Some("roman: a file couldn't be read"),
+        Status::ReadFault => Some("roman: the standard input couldn't be read"),
+        Status::WriteFault => Some("roman: the output couldn't be written"),
+        Status::TooLong => Some(
+            "roman: the session has more than 16,777,216 bytes, or the certificate more than 268,435,456",
+        ),
+        Status::Memory => Some("roman: there isn't enough memory"),
+        _ => None,
+    }
+}
+
+/// The words after the program's name, or how the program ends without them.
+fn words(rt: &HostRuntime) -> Result<Words, Status> {
+    let args = env::args(rt).map_err(|error| without_words(&error))?;
+    let mut words = Words::new(rt.alloc());
+    for word in args.skip(1) {
+        words.push(word.as_str()).map_err(|_| Status::Memory)?;
+    }
+    Ok(words)
 }
 
 /// How the program ends where its words can't be had: there is no memory for them, or one of them is no
