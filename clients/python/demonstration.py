@@ -1,0 +1,276 @@
+#!/usr/bin/env python3
+"""Runs simulated devices that fail at random, and checks that no offered request ends in a dead end.
+
+The devices are those of a document, by default the home of the samples. Each answers as one of its
+transitions says; now and then it fails, or reports an outcome that it can't have had, and is away for
+some requests; somebody moves a device by hand, and the environment changes by itself. Requests are drawn
+from those that the target allows, and offered services are drawn too.
+
+Checked is what `roman` promises: once a request was offered something, each request that the target allows
+is, until the next change; and where the target may be left, each service may be.
+"""
+
+from __future__ import annotations
+
+import argparse
+import json
+import os
+import random
+import sys
+from pathlib import Path
+from typing import Any, Dict, List, Optional, Tuple
+
+from roman_client import (
+    Choice,
+    DeviceFailed,
+    Dispatcher,
+    NoComposition,
+    ProgramEnded,
+    Session,
+)
+
+TOP = Path(__file__).resolve().parents[2]
+
+
+class DeadEnd(BaseException):
+    """A promise was broken. It is no Exception, so that it isn't taken for a device's failure."""
+
+
+def part(value: Any) -> Any:
+    """A part of a document, from its file where it is given by one."""
+    if isinstance(value, dict) and "file" in value:
+        return json.loads(Path(value["file"]).read_text(encoding="utf-8"))
+    return value
+
+
+def holds(guard: Any, state: str) -> bool:
+    """Whether a guard holds in that state of the environment."""
+    if isinstance(guard, bool):
+        return guard
+    if isinstance(guard, list):
+        return state in guard
+    if "not" in guard:
+        return not holds(guard["not"], state)
+    if "all" in guard:
+        return all(holds(each, state) for each in guard["all"])
+    return any(holds(each, state) for each in guard["any"])
+
+
+class World:
+    """The devices behind the services, and what they share."""
+
+    def __init__(self, document: Any, chance: random.Random, failing: float) -> None:
+        self.chance = chance
+        self.failing = failing
+        self.environment_part = part(document["environment"])
+        self.target_part = part(document["target"])
+        catalogue = {each["name"]: each for each in map(part, document["behaviours"])}
+        self.behaviours = {
+            each["name"]: catalogue[each["behaviour"]] for each in document["services"]
+        }
+        self.loose = {
+            each["name"]
+            for each in document["services"]
+            if document["roman"] != 1 and each.get("rests") is False
+        }
+        self.states: Dict[str, str] = {
+            each["name"]: each.get("state", catalogue[each["behaviour"]]["start"])
+            for each in document["services"]
+        }
+        self.environment: str = self.environment_part["start"]
+        self.target: str = self.target_part["start"]
+        self.away: Dict[str, int] = {}
+        self.outages = 0
+        self.lies = 0
+
+    def moves(self, action: str) -> List[str]:
+        """The states of the environment to which an action may lead."""
+        return [
+            to
+            for state, by, to in self.environment_part["steps"]
+            if state == self.environment and by == action
+        ]
+
+    def allowed(self) -> List[str]:
+        """The actions that the target allows."""
+        steps = self.target_part["steps"]
+        return [
+            action
+            for action in self.environment_part["actions"]
+            if self.moves(action)
+            and any(
+                state == self.target and by == action and holds(guard, self.environment)
+                for state, guard, by, _ in steps
+            )
+        ]
+
+    def answers(self, service: str, action: str) -> List[str]:
+        """The states in which a service may be after an action."""
+        return [
+            to
+            for state, guard, by, to in self.behaviours[service]["steps"]
+            if state == self.states[service] and by == action and holds(guard, self.environment)
+        ]
+
+    def device(self, service: str, action: str) -> Tuple[str, str]:
+        """Carries out an action, fails, or lies."""
+        states, moves = self.answers(service, action), self.moves(action)
+        if not states or not moves:
+            raise DeadEnd(f"{service} was asked for {action} in {self.states[service]}")
+        draw = self.chance.random()
+        if draw < self.failing:
+            self.outages += 1
+            self.away[service] = self.chance.randrange(1, 8)
+            raise DeviceFailed(f"{service} doesn't answer")
+        if draw < 1.3 * self.failing:
+            lies = [
+                (state, to)
+                for state in self.behaviours[service]["states"]
+                for to in self.environment_part["states"]
+                if state not in states or to not in moves
+            ]
+            if lies:
+                self.lies += 1
+                self.away[service] = self.chance.randrange(1, 8)
+                return self.chance.choice(lies)
+        self.states[service] = self.chance.choice(states)
+        self.environment = self.chance.choice(moves)
+        return self.states[service], self.environment
+
+    def back(self, service: str) -> bool:
+        """Whether a service that failed is back."""
+        self.away[service] -= 1
+        if self.away[service] > 0:
+            return False
+        del self.away[service]
+        return True
+
+    def rests(self) -> bool:
+        """Whether the target may not be left, or each service may be left too."""
+        return self.target not in self.target_part["final"] or all(
+            self.states[service] in behaviour["final"]
+            for service, behaviour in self.behaviours.items()
+            if service not in self.loose
+        )
+
+
+class Demonstration:
+    """Requests drawn at random, with what is checked of them."""
+
+    def __init__(self, session: Session, world: World) -> None:
+        self.session = session
+        self.world = world
+        self.served = 0
+        self.refused = 0
+        self.by_hand = 0
+        self.offered_at: Optional[int] = session.changes if session.opening.composition else None
+        self.dispatcher = Dispatcher(
+            session,
+            {service: self.device_of(service) for service in world.states},
+            policy=self.draw,
+            back=world.back,
+        )
+        self.remember()
+
+    def device_of(self, service: str) -> Any:
+        return lambda action: self.world.device(service, action)
+
+    def draw(self, choice: Choice) -> str:
+        """A policy: any of the offered ones. Each of them can take the request."""
+        self.offered_at = self.session.changes
+        for service in choice.offered:
+            if not self.world.answers(service, choice.action):
+                raise DeadEnd(f"{service} was offered for {choice.action}, and can't take it")
+        return self.world.chance.choice(choice.offered)
+
+    def remember(self) -> None:
+        """Keeps the states, to which a person may bring the devices back."""
+        self.good = (dict(self.world.states), self.world.environment)
+
+    def disturb(self) -> None:
+        """Somebody moves a device by hand, or the environment changes by itself."""
+        world = self.world
+        self.by_hand += 1
+        if world.chance.random() < 0.5:
+            world.environment = world.chance.choice(world.environment_part["states"])
+            self.session.jumpenv(world.environment)
+        else:
+            service = world.chance.choice(sorted(world.states))
+            world.states[service] = world.chance.choice(world.behaviours[service]["states"])
+            self.session.jump(service, world.states[service])
+
+    def put_right(self) -> None:
+        """A person brings the devices back to where they stood after the last request."""
+        self.by_hand += 1
+        states, environment = self.good
+        for service, state in states.items():
+            if self.world.states[service] != state:
+                self.session.jump(service, state)
+        if self.world.environment != environment:
+            self.session.jumpenv(environment)
+        self.world.states, self.world.environment = dict(states), environment
+
+    def turn(self) -> None:
+        """One request, and what is checked of it."""
+        world = self.world
+        if world.chance.random() < world.failing / 4:
+            self.disturb()
+        actions = world.allowed()
+        if not actions:
+            self.put_right()
+            return
+        action = world.chance.choice(actions)
+        try:
+            done = self.dispatcher.request(action)
+        except NoComposition as refusal:
+            self.explained(refusal)
+            return
+        if (done.state, done.environment) != (world.states[done.service], world.environment):
+            raise DeadEnd(f"{done.service} is elsewhere than the session says")
+        world.target = done.target
+        self.served += 1
+        self.remember()
+        if self.offered_at == self.session.changes and not world.rests():
+            raise DeadEnd("the target may be left, and a service may not")
+
+    def explained(self, refusal: NoComposition) -> None:
+        """No composition: that must come from a change, and has an explanation."""
+        self.refused += 1
+        if self.offered_at == self.session.changes:
+            raise DeadEnd(f"{refusal.line} has no composition, and nothing changed since an offer")
+        if refusal.explanation is None or refusal.explanation.present.target != self.world.target:
+            raise DeadEnd("the explanation isn't that of the present pair")
+        if not self.dispatcher.failed:
+            self.put_right()
+
+
+def main() -> int:
+    parse = argparse.ArgumentParser(description=(__doc__ or "").splitlines()[0])
+    parse.add_argument("system", nargs="?", default=str(TOP / "samples" / "home.json"))
+    parse.add_argument("--requests", type=int, default=5000)
+    parse.add_argument("--failing", type=float, default=0.05, help="how often a device fails")
+    parse.add_argument("--seed", type=int, default=1)
+    parse.add_argument("--program", default=os.environ.get("ROMAN", str(TOP / "roman")))
+    words = parse.parse_args()
+    with open(words.system, encoding="utf-8") as text:
+        world = World(json.load(text), random.Random(words.seed), words.failing)
+    try:
+        with Session(words.system, program=words.program, timeout=60) as session:
+            demonstration = Demonstration(session, world)
+            for _ in range(words.requests):
+                demonstration.turn()
+            print(
+                f"{demonstration.served} requests served, {demonstration.refused} without a"
+                f" composition; {world.outages} failures, {world.lies} impossible outcomes,"
+                f" {demonstration.by_hand} changes by hand; no dead end"
+            )
+            return 0
+    except DeadEnd as end:
+        print(f"demonstration: {end} (seed {words.seed})", file=sys.stderr)
+    except ProgramEnded as end:
+        print(f"demonstration: {end}", file=sys.stderr)
+    return 1
+
+
+if __name__ == "__main__":
+    sys.exit(main())

@@ -1,0 +1,80 @@
+"""A client of `roman`, which composes behaviours.
+
+`Session` talks to the program over pipes: a method for each event, replies as values, refusals as
+exceptions. `Dispatcher` stands on it and runs real devices.
+"""
+
+from .dispatcher import (
+    Choice,
+    Device,
+    DeviceFailed,
+    Dispatcher,
+    Done,
+    Failure,
+    LeastCost,
+    Policy,
+    first_offered,
+)
+from .errors import (
+    AlreadyFrozen,
+    BadLine,
+    Busy,
+    Full,
+    Idle,
+    Impossible,
+    NameTaken,
+    NoComposition,
+    NoReply,
+    NotAllowed,
+    NotFrozen,
+    NotOffered,
+    OverLimit,
+    ProgramEnded,
+    Refusal,
+    Related,
+    RomanError,
+    UnexpectedReply,
+    UnknownName,
+)
+from .replies import Answer, Explanation, Lost, Move, Offer, Repair, Report, Service
+from .session import Session
+
+__all__ = [
+    "AlreadyFrozen",
+    "Answer",
+    "BadLine",
+    "Busy",
+    "Choice",
+    "Device",
+    "DeviceFailed",
+    "Dispatcher",
+    "Done",
+    "Explanation",
+    "Failure",
+    "Full",
+    "Idle",
+    "Impossible",
+    "LeastCost",
+    "Lost",
+    "Move",
+    "NameTaken",
+    "NoComposition",
+    "NoReply",
+    "NotAllowed",
+    "NotFrozen",
+    "NotOffered",
+    "Offer",
+    "OverLimit",
+    "Policy",
+    "ProgramEnded",
+    "Refusal",
+    "Related",
+    "Repair",
+    "Report",
+    "RomanError",
+    "Service",
+    "Session",
+    "UnexpectedReply",
+    "UnknownName",
+    "first_offered",
+]

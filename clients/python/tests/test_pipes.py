@@ -1,0 +1,121 @@
+"""What a session makes of programs that die, hang, flood their output or talk nonsense."""
+
+import sys
+import time
+import unittest
+from typing import Optional
+
+import roman_client as roman
+from roman_client import Session
+
+OPENING = r"pairs 4\nrelated 2\nenvironment e\ntarget off final\nservice l1 lamp off ready\nanswer composition\noffer on: l1\nend\n"
+
+
+def session(code: str, timeout: Optional[float] = None) -> Session:
+    """A session with a program in Python that reads the first line and writes a first report."""
+    begin = f"""
+import os, sys, time
+def say(text):
+    sys.stdout.write(text)
+    sys.stdout.flush()
+sys.stdin.readline()
+say("{OPENING}")
+"""
+    return Session("system", program=[sys.executable, "-c", begin + code], timeout=timeout)
+
+
+class Pipes(unittest.TestCase):
+    def setUp(self) -> None:
+        self.begun = time.monotonic()
+
+    def tearDown(self) -> None:
+        self.assertLess(time.monotonic() - self.begun, 20)
+
+    def ended(self, code: str, status: int) -> roman.ProgramEnded:
+        with session(code) as talk, self.assertRaises(roman.ProgramEnded) as caught:
+            talk.do("on")
+        self.assertEqual(caught.exception.status, status)
+        return caught.exception
+
+    def test_a_program_that_ends_at_once(self) -> None:
+        with self.assertRaises(roman.ProgramEnded) as caught:
+            Session("system", program=[sys.executable, "-c", "raise SystemExit(9)"])
+        self.assertEqual(caught.exception.status, 9)
+
+    def test_a_program_that_is_not_there(self) -> None:
+        with self.assertRaises(FileNotFoundError):
+            Session("system", program="/nowhere/roman")
+
+    def test_a_program_that_ends_before_the_line(self) -> None:
+        self.ended("raise SystemExit(7)", 7)
+
+    def test_a_program_that_ends_in_place_of_a_reply(self) -> None:
+        end = self.ended("sys.stdin.readline(); sys.stderr.write('roman: oh\\n'); sys.exit(6)", 6)
+        self.assertEqual(end.errors, ("roman: oh",))
+        self.assertIn("roman: oh", str(end))
+
+    def test_a_program_that_ends_within_a_line(self) -> None:
+        end = self.ended("sys.stdin.readline(); say('offer l'); sys.exit(7)", 7)
+        self.assertEqual(end.output, ("offer l",))
+
+    def test_a_program_that_ends_within_a_report(self) -> None:
+        with session("sys.stdin.readline(); say('pairs 4\\nrelated 2\\n'); sys.exit(7)") as talk:
+            with self.assertRaises(roman.ProgramEnded):
+                talk.report()
+
+    def test_a_program_that_only_closes_its_output(self) -> None:
+        code = "sys.stdin.readline(); os.close(1); time.sleep(60)"
+        self.ended(code, -9)
+
+    def test_a_pipe_that_another_process_holds(self) -> None:
+        code = "sys.stdin.readline()\nif os.fork() == 0: time.sleep(30); os._exit(0)\nos._exit(5)"
+        self.ended(code, 5)
+
+    def test_a_program_that_hangs(self) -> None:
+        with session("time.sleep(60)", timeout=0.5) as talk:
+            with self.assertRaises(roman.NoReply):
+                talk.do("on")
+            with self.assertRaises(roman.ProgramEnded):
+                talk.do("on")
+
+    def test_a_reply_that_makes_no_sense(self) -> None:
+        for reply in ("offering l1", "now", "", "kept 1 added"):
+            with session(f"sys.stdin.readline(); say('{reply}\\n'); time.sleep(60)") as talk:
+                with self.subTest(reply), self.assertRaises(roman.UnexpectedReply):
+                    talk.saw("on", "e")
+
+    def test_a_long_report_and_a_flood_of_errors(self) -> None:
+        code = """
+sys.stdin.readline()
+sys.stderr.write("x" * 3_000_000)
+services = " ".join(f"s{i}" for i in range(200_000))
+say("pairs 4\\nrelated 2\\nenvironment e\\ntarget off final\\n")
+say("".join(f"service s{i} lamp off ready\\n" for i in range(200_000)))
+say("answer composition\\noffer on: " + services + "\\nend\\n")
+sys.stderr.write("x" * 3_000_000)
+say(sys.stdin.readline() and "aborted\\n")
+"""
+        with session(code) as talk:
+            report = talk.report()
+            self.assertEqual(len(report.services), 200_000)
+            self.assertEqual(report.offers["on"][-1], "s199999")
+            talk.abort()
+
+    def test_replies_in_pieces(self) -> None:
+        code = """
+sys.stdin.readline()
+for letter in "offer l1 l2\\n":
+    say(letter)
+    time.sleep(0.01)
+sys.stdin.readline()
+"""
+        with session(code) as talk:
+            self.assertEqual(talk.do("on").services, ("l1", "l2"))
+
+    def test_a_slow_last_reply(self) -> None:
+        with session("sys.stdin.readline(); time.sleep(0.5); say('bye\\n')") as talk:
+            self.assertEqual(talk.quit(), 0)
+
+
+if __name__ == "__main__":
+    unittest.main()

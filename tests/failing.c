@@ -1,0 +1,102 @@
+/* Preloaded into the program: one call of the C library fails, the one whose number the environment gives.
+ *
+ * FAIL_KIND is `memory`, `read` or `write`, FAIL_AT the call's number from 1 on. When the call has failed,
+ * the file that FAIL_TOLD names is made, so that a test can tell a run that met its fault from one that
+ * ended before. Standard error is left alone. */
+#define _GNU_SOURCE
+#include <dlfcn.h>
+#include <errno.h>
+#include <fcntl.h>
+#include <stdlib.h>
+#include <string.h>
+#include <sys/syscall.h>
+#include <sys/uio.h>
+#include <unistd.h>
+
+enum kind { NOTHING, MEMORY, READ, WRITE };
+
+static enum kind kind_of_fault(void)
+{
+    const char *kind = getenv("FAIL_KIND");
+    if (kind == NULL)
+        return NOTHING;
+    if (strcmp(kind, "memory") == 0)
+        return MEMORY;
+    if (strcmp(kind, "read") == 0)
+        return READ;
+    return strcmp(kind, "write") == 0 ? WRITE : NOTHING;
+}
+
+/* Whether this call is the one that fails. */
+static int is_due(enum kind kind)
+{
+    static long count[4];
+    if (kind_of_fault() != kind)
+        return 0;
+    const char *at = getenv("FAIL_AT");
+    if (at == NULL || ++count[kind] != atol(at))
+        return 0;
+    const char *told = getenv("FAIL_TOLD");
+    if (told != NULL) {
+        long file = syscall(SYS_openat, AT_FDCWD, told, O_CREAT | O_WRONLY, 0644);
+        if (file >= 0)
+            syscall(SYS_close, file);
+    }
+    return 1;
+}
+
+#define NEXT(name, type) ((type)dlsym(RTLD_NEXT, name))
+
+extern void *__libc_malloc(size_t);
+extern void *__libc_calloc(size_t, size_t);
+extern void *__libc_realloc(void *, size_t);
+extern void *__libc_memalign(size_t, size_t);
+
+static void *refused(void)
+{
+    errno = ENOMEM;
+    return NULL;
+}
+
+void *malloc(size_t size) { return is_due(MEMORY) ? refused() : __libc_malloc(size); }
+void *calloc(size_t count, size_t size) { return is_due(MEMORY) ? refused() : __libc_calloc(count, size); }
+void *realloc(void *old, size_t size) { return is_due(MEMORY) ? refused() : __libc_realloc(old, size); }
+void *aligned_alloc(size_t align, size_t size) { return is_due(MEMORY) ? refused() : __libc_memalign(align, size); }
+
+int posix_memalign(void **block, size_t align, size_t size)
+{
+    if (is_due(MEMORY))
+        return ENOMEM;
+    *block = __libc_memalign(align, size);
+    return *block == NULL ? ENOMEM : 0;
+}
+
+static ssize_t failed(void)
+{
+    errno = EIO;
+    return -1;
+}
+
+ssize_t read(int file, void *into, size_t size)
+{
+    return is_due(READ) ? failed() : syscall(SYS_read, file, into, size);
+}
+
+ssize_t pread64(int file, void *into, size_t size, off64_t at)
+{
+    return is_due(READ) ? failed() : syscall(SYS_pread64, file, into, size, at);
+}
+
+ssize_t pread(int file, void *into, size_t size, off_t at) { return pread64(file, into, size, at); }
+
+ssize_t write(int file, const void *from, size_t size)
+{
+    return file != 2 && is_due(WRITE) ? failed() : syscall(SYS_write, file, from, size);
+}
+
+ssize_t __write(int file, const void *from, size_t size) { return write(file, from, size); }
+
+ssize_t writev(int file, const struct iovec *from, int count)
+{
+    return file != 2 && is_due(WRITE) ? failed() : syscall(SYS_writev, file, from, count);
+}

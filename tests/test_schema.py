@@ -1,0 +1,335 @@
+"""The schemas, against the program's own refusals."""
+
+import copy
+import json
+import subprocess
+import tempfile
+import unittest
+from pathlib import Path
+from typing import Any, Callable, Iterator, List, Tuple
+
+from jsonschema import Draft202012Validator
+
+from . import PROGRAM, TOP
+
+Edit = Callable[[Any], Any]
+Case = Tuple[str, Edit]
+
+NO_TEXT: List[Any] = [None, 5, True, ["a"], {}]
+NO_LIST: List[Any] = [None, 5, "a", {}]
+NO_NAME = ["", "a b", "é", "x" * 33, "a\n", "a.b"]
+
+
+def schema(name: str) -> Draft202012Validator:
+    """A schema of the repository, which is one."""
+    value = json.loads((TOP / "schema" / name).read_text(encoding="utf-8"))
+    Draft202012Validator.check_schema(value)
+    return Draft202012Validator(value)
+
+
+SYSTEM = schema("system.schema.json")
+COSTS = schema("costs.schema.json")
+
+
+def load(sample: str) -> Any:
+    return json.loads((TOP / "samples" / f"{sample}.json").read_text(encoding="utf-8"))
+
+
+def set_at(*path: Any) -> Edit:
+    """An edit that puts the last word at the place that the others name."""
+    *way, last, value = path
+
+    def edit(document: Any) -> Any:
+        at = document
+        for step in way:
+            at = at[step]
+        if value is MISSING:
+            del at[last]
+        else:
+            at[last] = value
+        return document
+
+    return edit
+
+
+MISSING = object()
+
+
+def names(kind: str, part: str, way: Tuple[Any, ...], member: str, most: int) -> Iterator[Case]:
+    """The refusals of a list of names."""
+    place = f"{part} {member}"
+    yield f"missing {place} 0", set_at(*way, member, MISSING)
+    for value in NO_LIST:
+        yield f"form {place} 0", set_at(*way, member, value)
+    for value in ([], [f"n{i}" for i in range(most + 1)]):
+        yield f"count {place} 0", set_at(*way, member, value)
+    for value in NO_TEXT:
+        yield f"form {place} 1", set_at(*way, member, ["a", value])
+    for value in NO_NAME:
+        yield f"badname {place} 1", set_at(*way, member, ["a", value])
+
+
+def text(part: str, way: Tuple[Any, ...], member: str, bad: List[str]) -> Iterator[Case]:
+    """The refusals of a member that is a name."""
+    yield f"missing {part} {member} 0", set_at(*way, member, MISSING)
+    for value in NO_TEXT:
+        yield f"form {part} {member} 0", set_at(*way, member, value)
+    for value in bad:
+        yield f"badname {part} {member} 0", set_at(*way, member, value)
+
+
+def steps(part: str, way: Tuple[Any, ...], step: List[Any]) -> Iterator[Case]:
+    """The refusals of a list of steps, of which that one is right."""
+    place = f"{part} steps"
+    yield f"missing {place} 0", set_at(*way, "steps", MISSING)
+    for value in NO_LIST:
+        yield f"form {place} 0", set_at(*way, "steps", value)
+    yield f"count {place} 0", set_at(*way, "steps", [step] * 16385)
+    for item in (None, 5, "a", {}, [], step[:-1], step + ["a"]):
+        yield f"form {place} 1", set_at(*way, "steps", [step, item])
+    for index, value in enumerate(step):
+        if not isinstance(value, bool):
+            for wrong in NO_TEXT:
+                item = step[:index] + [wrong] + step[index + 1 :]
+                yield f"form {place} 1", set_at(*way, "steps", [step, item])
+    if len(step) == 4:
+        for guard in guards():
+            item = [step[0], guard, *step[2:]]
+            yield f"form {place} 1", set_at(*way, "steps", [step, item])
+
+
+def guards() -> Iterator[Any]:
+    """Values that are no guards."""
+    flat: List[Any] = [None, 5, "day", {}, {"day": True}, {"not": True, "all": []}]
+    flat += [[5], [["day"]], [None], {"all": True}, {"any": {"not": True}}, {"any": ["day"]}]
+    for guard in flat:
+        yield guard
+        yield {"not": guard}
+        yield {"all": [True, guard]}
+        yield {"any": [["day"], {"not": guard}]}
+
+
+def whole(part: str, way: Tuple[Any, ...], missing: bool) -> Iterator[Case]:
+    """The refusals of a part as a whole, and of one by file."""
+    *before, last = way
+    if missing:
+        yield f"missing {part} whole 0", set_at(*way, MISSING)
+    for value in (None, 5, "a", [], True):
+        yield f"form {part} whole 0", set_at(*before, last, value)
+    if not part.startswith("service"):
+        for value in NO_TEXT:
+            yield f"form {part} file 0", set_at(*way, "file", value)
+        for value in ("", "x" * 256):
+            yield f"badname {part} file 0", set_at(*way, "file", value)
+
+
+def system() -> Iterator[Case]:
+    """The refusals of the members of the document itself."""
+    for value in (None, 5, "a", []):
+        yield "form system 0 whole 0", lambda _, value=value: value
+    yield "missing system 0 roman 0", set_at("roman", MISSING)
+    for value in (None, "1", [], True, 1.5, -1):
+        yield "form system 0 roman 0", set_at("roman", value)
+    yield "version system 0 roman 0", set_at("roman", 9)
+    for value in (None, "8", [], False, 0.5, -1):
+        yield "form system 0 limit 0", set_at("limit", value)
+    for value in (0, 16777217):
+        yield "count system 0 limit 0", set_at("limit", value)
+    for member in ("behaviours", "services"):
+        yield f"missing system 0 {member} 0", set_at(member, MISSING)
+        for value in NO_LIST:
+            yield f"form system 0 {member} 0", set_at(member, value)
+        items = [{"name": f"n{i}", "behaviour": "blind"} for i in range(33)]
+        yield f"count system 0 {member} 0", set_at(member, items)
+
+
+def machine(part: str, way: Tuple[Any, ...], step: List[Any], missing: bool) -> Iterator[Case]:
+    """The refusals of a behaviour or a target."""
+    yield from whole(part, way, missing)
+    yield from names("states", part, way, "states", 64)
+    yield from text(part, way, "start", [])
+    yield f"missing {part} final 0", set_at(*way, "final", MISSING)
+    for value in NO_LIST:
+        yield f"form {part} final 0", set_at(*way, "final", value)
+    for value in NO_TEXT:
+        yield f"form {part} final 1", set_at(*way, "final", [step[0], value])
+    yield from steps(part, way, step)
+
+
+def refusals() -> Iterator[Case]:
+    """Each kind of refusal that the schema can tell, at each place, in the home."""
+    yield from system()
+    yield from whole("environment 0", ("environment",), True)
+    yield from names("states", "environment 0", ("environment",), "states", 64)
+    yield from text("environment 0", ("environment",), "start", [])
+    yield from names("actions", "environment 0", ("environment",), "actions", 32)
+    yield from steps("environment 0", ("environment",), ["day", "boil", "dusk"])
+    lamp = ["off", True, "brighten", "on"]
+    yield from text("behaviour 1", ("behaviours", 1), "name", NO_NAME)
+    yield from machine("behaviour 1", ("behaviours", 1), lamp, False)
+    yield from whole("service 2", ("services", 2), False)
+    yield from text("service 2", ("services", 2), "name", NO_NAME)
+    yield from text("service 2", ("services", 2), "behaviour", [])
+    for value in NO_TEXT:
+        yield "form service 2 state 0", set_at("services", 2, "state", value)
+    for member in ("frozen", "rests"):
+        for value in (None, 0, "true", []):
+            yield f"form service 2 {member} 0", set_at("services", 2, member, value)
+    quiet = ["quiet", True, "brighten", "bright"]
+    yield from machine("target 0", ("target",), quiet, True)
+
+
+def accepted() -> Iterator[Edit]:
+    """Documents at the edge of what is accepted."""
+    for place in ((), ("environment",), ("behaviours", 0), ("services", 0), ("target",)):
+        yield set_at(*place, "note", {"file": 5})
+    yield set_at("$schema", "../schema/system.schema.json")
+    yield set_at("target", "name", 5)
+    yield set_at("targets", 5)
+    yield set_at("services", 0, "file", 5)
+    yield set_at("services", 0, "state", "ajar")
+    yield set_at("services", 0, "frozen", True)
+    yield set_at("services", 0, "rests", False)
+    yield set_at("services", [])
+    yield lambda _: {**load("home"), "services": [], "behaviours": []}
+    yield set_at("limit", 1)
+    yield set_at("limit", 16777216)
+    yield set_at("target", "final", ["quiet", "quiet"])
+    yield set_at("behaviours", 0, "final", [])
+    yield set_at("behaviours", 0, "steps", [])
+    yield set_at("environment", "steps", [["day", "boil", "dusk"]] * 16384)
+    for guard in (False, [], ["day", "day"], {"all": []}, {"any": []}, {"not": {"any": [["day"]]}}):
+        yield set_at("target", "steps", [["quiet", guard, "brighten", "bright"]])
+
+
+class Schemas(unittest.TestCase):
+    def setUp(self) -> None:
+        folder = tempfile.TemporaryDirectory()
+        self.addCleanup(folder.cleanup)
+        self.folder = Path(folder.name)
+
+    def ask(self, document: Any) -> Tuple[int, str]:
+        """How the program takes a document: its status, and its line where it refuses."""
+        (self.folder / "s.json").write_text(json.dumps(document), encoding="utf-8")
+        done = subprocess.run(
+            [PROGRAM, "synth", "s.json"],
+            cwd=self.folder,
+            capture_output=True,
+            text=True,
+            timeout=60,
+            check=False,
+        )
+        return done.returncode, done.stdout if done.returncode == 3 else ""
+
+    def test_samples_are_valid(self) -> None:
+        files = sorted((TOP / "samples").glob("*.json"))
+        parts = {"environment", "behaviour", "target"}
+        for file in files:
+            with self.subTest(file.name):
+                value = json.loads(file.read_text(encoding="utf-8"))
+                kind = file.name.split(".")[1]
+                if "roman" in value:
+                    self.assertEqual(list(SYSTEM.iter_errors(value)), [])
+                elif kind in parts:
+                    self.assertTrue(part_of(kind).is_valid(value))
+                else:
+                    self.fail("it is no system, and its name says no part")
+        self.assertGreater(len(files), 5)
+
+    def test_what_the_program_refuses_the_schema_refuses(self) -> None:
+        home = load("home")
+        for expected, edit in refusals():
+            version = 2 if " rests " in expected else 1
+            document = edit({**copy.deepcopy(home), "roman": version})
+            with self.subTest(expected):
+                self.assertEqual(self.ask(document), (3, f"refused s.json {expected}\n"))
+                self.assertFalse(SYSTEM.is_valid(document), document)
+
+    def test_what_the_program_accepts_the_schema_accepts(self) -> None:
+        for number, edit in enumerate(accepted()):
+            document = edit(copy.deepcopy(load("home")))
+            with self.subTest(number):
+                self.assertNotEqual(self.ask(document)[0], 3)
+                self.assertEqual([each.message for each in SYSTEM.iter_errors(document)], [])
+        document = {**load("home"), "roman": 1}
+        document["services"][0]["rests"] = 1
+        self.assertNotEqual(self.ask(document)[0], 3)
+        self.assertTrue(SYSTEM.is_valid(document))
+
+    def test_what_only_the_program_tells(self) -> None:
+        again = {"name": "lamp", "states": ["x"], "start": "x", "final": [], "steps": []}
+        either = [["quiet", True, "boil", "quiet"], ["quiet", ["day"], "boil", "bright"]]
+        for line, edit in (
+            ("unknown environment 0 start 0", set_at("environment", "start", "night")),
+            ("unknown service 0 behaviour 0", set_at("services", 0, "behaviour", "blinds")),
+            ("unknown target 0 steps 0", set_at("target", "steps", 0, 1, ["night"])),
+            ("repeated behaviour 2 name 0", set_at("behaviours", 2, again)),
+            ("choice target 0 steps 1 0 day", set_at("target", "steps", either)),
+            ("form system 0 roman 0", set_at("roman", 1.0)),
+        ):
+            document = edit(copy.deepcopy(load("home")))
+            with self.subTest(line):
+                self.assertEqual(self.ask(document), (3, f"refused s.json {line}\n"))
+                self.assertTrue(SYSTEM.is_valid(document))
+
+    def test_repeated_names_in_one_list(self) -> None:
+        document = set_at("environment", "states", ["day", "dusk", "day"])(load("home"))
+        self.assertEqual(self.ask(document)[1], "refused s.json repeated environment 0 states 2\n")
+        self.assertFalse(SYSTEM.is_valid(document))
+
+    def test_parts_by_file(self) -> None:
+        document = load("home")
+        lamp, document["behaviours"][1] = document["behaviours"][1], {"file": "lamp.json"}
+        (self.folder / "lamp.json").write_text(json.dumps(lamp), encoding="utf-8")
+        self.assertEqual(self.ask(document)[0], 0)
+        self.assertTrue(SYSTEM.is_valid(document))
+        self.assertTrue(part_of("behaviour").is_valid(lamp))
+        self.assertFalse(part_of("behaviour").is_valid({"file": "lamp.json"}))
+
+    def test_each_member_is_described(self) -> None:
+        for name in ("system.schema.json", "costs.schema.json"):
+            value = json.loads((TOP / "schema" / name).read_text(encoding="utf-8"))
+            self.assertEqual(list(undescribed(value, name)), [])
+
+
+class Costs(unittest.TestCase):
+    def test_what_is_a_table_of_costs(self) -> None:
+        for value in ([], [["lamp", "on", 3]], [["a", "b", 0], ["a", "c", 1000000]]):
+            with self.subTest(value):
+                self.assertTrue(COSTS.is_valid(value))
+
+    def test_what_is_none(self) -> None:
+        for item in (None, 5, [], ["lamp", "on"], ["lamp", "on", 3, 3], ["lamp", 3, "on"]):
+            with self.subTest(item):
+                self.assertFalse(COSTS.is_valid([item]))
+        for cost in (None, "3", -1, 1.5, 1000001, True):
+            with self.subTest(cost):
+                self.assertFalse(COSTS.is_valid([["lamp", "on", cost]]))
+        self.assertFalse(COSTS.is_valid({}))
+        self.assertFalse(COSTS.is_valid([["lamp", f"a{i}", 1] for i in range(1025)]))
+        self.assertFalse(COSTS.is_valid([["lamp", "on", 3], ["lamp", "on", 3]]))
+
+
+def part_of(name: str) -> Draft202012Validator:
+    """The schema of a part that stands in a file of its own."""
+    return Draft202012Validator({**SYSTEM.schema, **{"$ref": f"#/$defs/{name}"}, **NO_DOCUMENT})
+
+
+NO_DOCUMENT = {"required": [], "properties": {}, "allOf": [], "type": "object"}
+
+
+def undescribed(value: Any, where: str) -> Iterator[str]:
+    """The members that have no description."""
+    for name, member in value.get("properties", {}).items():
+        if "description" not in member:
+            yield f"{where} {name}"
+        yield from undescribed(member, f"{where} {name}")
+    for word in ("items", "then", "else"):
+        if isinstance(value.get(word), dict):
+            yield from undescribed(value[word], where)
+    for name, member in value.get("$defs", {}).items():
+        yield from undescribed(member, f"{where} {name}")
+
+
+if __name__ == "__main__":
+    unittest.main()

@@ -1,0 +1,26 @@
+# Completion of roman's commands and file names for bash. It needs no other file.
+
+_roman_files() {
+    # Files whose names end so, and folders; all files where there is none.
+    local ending IFS=$'\n'
+    compopt -o filenames 2>/dev/null
+    COMPREPLY+=($(compgen -d -- "$word"))
+    for ending in "$@"; do
+        COMPREPLY+=($(compgen -f -X "!*$ending" -- "$word"))
+    done
+    ((${#COMPREPLY[@]})) || COMPREPLY=($(compgen -f -- "$word"))
+}
+
+_roman() {
+    local word=${COMP_WORDS[COMP_CWORD]}
+    COMPREPLY=()
+    case $COMP_CWORD:${COMP_WORDS[1]} in
+        1:*) COMPREPLY=($(compgen -W "synth run certify check make" -- "$word")) ;;
+        2:make) COMPREPLY=($(compgen -W "1 2 3 4 5 6 7 8 9 10" -- "$word")) ;;
+        2:synth | 2:run | 2:certify | 2:check) _roman_files .json ;;
+        3:run) _roman_files .session .txt ;;
+        3:check) _roman_files .cert .txt ;;
+    esac
+}
+
+complete -F _roman roman ./roman
