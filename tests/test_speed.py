@@ -15,9 +15,9 @@ LIMIT = 16_777_216
 
 # Millions of instructions of each command on each system, and megabytes of `synth`.
 INSTRUCTIONS = {
-    "workers": {"synth": 29.7, "certify": 71.7, "check": 77.4, "run": 420.8},
-    "lamps": {"synth": 32.9, "certify": 121.5, "check": 161.7, "run": 682.7},
-    "cycle": {"synth": 1119.1},
+    "workers": {"synth": 27.2, "certify": 70.0, "check": 77.4, "run": 377.0},
+    "lamps": {"synth": 28.6, "certify": 118.8, "check": 161.7, "run": 618.7},
+    "cycle": {"synth": 990.7},
 }
 MEGABYTES = {"workers": 4.1, "lamps": 7.5, "cycle": 4.5}
 ROOM = 1.1
