@@ -1,13 +1,13 @@
 -- Whether an action is allowed at the pairs of a row.
-use Rattle.std.proofs.Common.{◌≡◌, ℕ, ◌+◌, ◌*◌, ◌<◌, ◌≤◌, Bool, true, false, not, ◌&&◌, ◌||◌, List, [], ◌∷◌, length, IsTrue, IsFalse, refl, sym, ap, ap₂, ◌∙◌, subst, arith}
+use Rattle.std.proofs.Common.{◌≡◌, ℕ, ◌+◌, ◌*◌, ◌<◌, ◌≤◌, Bool, true, false, not, ◌&&◌, ◌||◌, length, refl, sym, ap, ap₂, ◌∙◌, arith}
 use Rattle.std.specs.List.{list_any}
 use Rattle.std.proofs.lemmas.Bool.{both_ways}
 use Rattle.roman_model.specs.Lists.{is_empty, all_below}
-use Rattle.roman_model.proofs.Lists.{by_test, all_below_at, all_below_from, not_empty_in, empty_is}
+use Rattle.roman_model.proofs.Lists.{by_test, all_below_at, all_below_from, not_empty_in}
 use Rattle.roman_model.specs.System.{Sys, is_allowed, env_next, beh_next}
-use Rattle.roman_model.specs.Arena.{Arena, is_beaten, is_justified}
+use Rattle.roman_model.specs.Arena.{is_beaten, is_justified}
 use Rattle.roman_model.specs.declared.reason.Reason.TheVariants.{Act}
-use Rattle.roman_model.specs.Numbers.{Sizes, sizes_of, pair_at, numbered}
+use Rattle.roman_model.specs.Numbers.{sizes_of, pair_at, numbered}
 use Rattle.roman_rules.specs.Numbered.{IsNumbered}
 use Rattle.roman_joint.specs.Rows.{lanes_in, IsRow, IsTurn, is_open}
 use Rattle.roman_joint.specs.declared.row.Row.{Row}

@@ -1,8 +1,8 @@
 -- Which pairs of a row meet clause 2.
-use Rattle.std.proofs.Common.{◌≡◌, ℕ, zero, suc, ◌+◌, ◌*◌, ◌<◌, ◌≤◌, eqb, inl, inr, Bool, true, false, not, ◌&&◌, ◌||◌, List, [], ◌∷◌, length, slice_get, slice_index, IsTrue, IsFalse, refl, sym, ap, ap₂, ◌∙◌, arith}
+use Rattle.std.proofs.Common.{◌≡◌, ℕ, zero, suc, ◌+◌, ◌*◌, ◌<◌, ◌≤◌, eqb, inl, inr, Bool, true, false, not, ◌&&◌, ◌||◌, List, [], ◌∷◌, length, slice_get, slice_index, refl, sym, ap, ap₂, ◌∙◌, arith}
 use Rattle.roman_model.specs.Lists.{all_below}
-use Rattle.roman_model.specs.System.{Sys, Seat, Pair, is_final, all_final, is_fine}
-use Rattle.roman_model.specs.Numbers.{Sizes, sizes_of, count, pair_at, numbered}
+use Rattle.roman_model.specs.System.{Sys, Seat, is_final, all_final}
+use Rattle.roman_model.specs.Numbers.{sizes_of, pair_at, numbered}
 use Rattle.roman_model.proofs.NumberLemmas.{AreBelow-length, IsPairOf-at}
 use Rattle.std.proofs.lemmas.Bool.{cases_eq, cases_lt, ne_eqb}
 use Rattle.std.proofs.lemmas.List.{length-map}

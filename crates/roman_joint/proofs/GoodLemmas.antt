@@ -1,18 +1,18 @@
 -- Where a seat serves an action at the pairs of a row.
-use Rattle.std.proofs.Common.{◌≡◌, ℕ, zero, suc, ◌+◌, ◌-◌, ◌*◌, ◌/◌, ◌%◌, ◌<◌, ◌≤◌, ◌^◌, Bool, true, false, not, ◌&&◌, ◌||◌, eqb, ltb, inl, inr, get_or, List, [], ◌∷◌, length, map, slice_get, slice_index, IsTrue, IsFalse, refl, sym, ap, ap₂, ◌∙◌, subst, arith}
+use Rattle.std.proofs.Common.{◌≡◌, ℕ, zero, suc, ◌+◌, ◌-◌, ◌*◌, ◌/◌, ◌%◌, ◌<◌, ◌≤◌, ◌^◌, Bool, true, false, not, ◌&&◌, ◌||◌, eqb, ltb, inl, inr, get_or, List, [], ◌∷◌, length, slice_get, slice_index, IsTrue, IsFalse, refl, sym, ap, ap₂, ◌∙◌, subst, arith}
 use Rattle.std.specs.List.{list_any}
 use Rattle.std.proofs.lemmas.List.{length-map}
 use Rattle.std.proofs.lemmas.Nat.{mul-add-lt, mul-le, mod_below, div_below, div-mul-add, mod-mul-add, div-add-mod'}
 use Rattle.std.proofs.lemmas.Bool.{cases_lt, cases_eq, eq-eqb, ne_eqb, eqb-true, lt-ltb, le-ltb}
 use Rattle.roman_model.specs.Lists.{IsIn, is_empty}
 use Rattle.roman_model.proofs.Lists.{length-below, by_test, any_same}
-use Rattle.roman_model.specs.System.{Sys, Seat, IsSys, beh_next, seat_next}
+use Rattle.roman_model.specs.System.{Sys, Seat, IsSys, seat_next}
 use Rattle.roman_model.proofs.SystemLemmas.{triple_in_range, from_env_next}
-use Rattle.roman_model.specs.Arena.{Arena, is_beaten}
-use Rattle.roman_model.specs.Numbers.{Sizes, sizes_of, count, pair_at, numbered}
+use Rattle.roman_model.specs.Arena.{is_beaten}
+use Rattle.roman_model.specs.Numbers.{Sizes, sizes_of, count, numbered}
 use Rattle.roman_radix.specs.Radix.{IsSizes, stride_of, env_stride_of}
 use Rattle.roman_radix.specs.Rows.{low_of, lanes_of, env_rows_of, target_rows_of}
-use Rattle.roman_radix.proofs.Strides.{AreSizes-index, product_positive}
+use Rattle.roman_radix.proofs.Strides.{product_positive}
 use Rattle.roman_radix.proofs.RowLemmas.{low_of-le, lanes_few, lanes_positive, row_least, row_below, env_rows_are}
 use Rattle.roman_lanes.specs.Rows.{is_on, HasLanes, AreRows}
 use Rattle.roman_rules.specs.Numbered.{IsNumbered}
@@ -22,10 +22,10 @@ use Rattle.roman_joint.specs.declared.layout.Rows.{Rows}
 use Rattle.roman_joint.specs.declared.row.Row.{Row}
 use Rattle.roman_joint.specs.declared.turn.Turn.{Turn}
 use Rattle.roman_joint.proofs.ArenaFacts.{joint_numbered}
-use Rattle.roman_joint.proofs.OutcomeLemmas.{StartsAt, target_in_range}
+use Rattle.roman_joint.proofs.OutcomeLemmas.{target_in_range}
 use Rattle.roman_joint.proofs.WordLemmas.{on_zero, on_shl, on_below, not_not}
 use Rattle.roman_joint.proofs.SplitLemmas.{joint_sizes, factor}
-use Rattle.roman_joint.proofs.LeadLemmas.{leads_within, leads_served, leads_nothing, any_turned, start_before, leads_before, LaneState, lanes_parts, stride_positive, lane_state, leads_lanes}
+use Rattle.roman_joint.proofs.LeadLemmas.{leads_within, leads_served, leads_nothing, any_turned, start_before, leads_before, lanes_parts, stride_positive, lane_state, leads_lanes}
 
 -- What is known of a row.
 pub record Known (s : Sys) (r : Rows) (x : ℕ) (row : Row) : Type 0 where

@@ -18,3 +18,4 @@ pub mod GoodLemmas
 pub mod AllowedLemmas
 pub mod MarkLemmas
 pub mod FineLemmas
+pub mod MoveLemmas

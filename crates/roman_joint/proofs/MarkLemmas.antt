@@ -1,7 +1,6 @@
 -- Marks on the rows before a row.
-use Rattle.std.proofs.Common.{◌≡◌, ◌≢◌, ℕ, zero, suc, ◌+◌, ◌-◌, ◌*◌, ◌/◌, ◌%◌, ◌^◌, ◌<◌, ◌≤◌, Bool, true, false, cond, List, [], ◌∷◌, ◌++◌, length, map, take, drop, get_or, Option, Some, slice_get, slice_index, IsTrue, IsFalse, inl, inr, refl, sym, ap, ap₂, ◌∙◌, subst, arith, add-one}
+use Rattle.std.proofs.Common.{◌≡◌, ℕ, zero, suc, ◌+◌, ◌-◌, ◌*◌, ◌/◌, ◌%◌, ◌^◌, ◌<◌, ◌≤◌, Bool, true, cond, List, [], ◌∷◌, ◌++◌, length, take, get_or, Option, Some, slice_get, slice_index, IsTrue, IsFalse, inl, inr, refl, sym, ap, ap₂, ◌∙◌, subst, arith, add-one}
 use Rattle.std.proofs.Math.ListN.{set}
-use Rattle.std.specs.Int.{bit_at}
 use Rattle.std.specs.Prelude.{bit_or}
 use Rattle.std.specs.List.{flat_map}
 use Rattle.std.proofs.lemmas.Bool.{cases_eq, cases_lt}
@@ -10,20 +9,20 @@ use Rattle.std.proofs.lemmas.List.{get_or-set_same, get_or-set_other, length-set
 use Rattle.std.proofs.lemmas.List.Concat.{flat_map-append}
 use Rattle.std.proofs.lemmas.Nat.{same_from_place, mul-le, div-add-mod', mod_below, div_below}
 use Rattle.roman_model.specs.Lists.{IsIn, below, product_of}
-use Rattle.roman_model.proofs.Lists.{in_below, from_below, length-below, no_longer}
+use Rattle.roman_model.proofs.Lists.{in_below, no_longer}
 use Rattle.roman_model.specs.System.{Env, Seat, Sys, Pair, IsSys, IsBeh, has_move, env_prev, beh_prev}
 use Rattle.roman_model.proofs.SystemLemmas.{triple_in_range, move_in_range, in_env_prev, in_beh_prev, seat_in}
-use Rattle.roman_model.specs.Arena.{Arena, Delegation, back}
+use Rattle.roman_model.specs.Arena.{Delegation, back}
 use Rattle.roman_model.proofs.ArenaLemmas.{in_back}
-use Rattle.roman_model.specs.Numbers.{Sizes, sizes_of, count, number, pair_at, numbered}
+use Rattle.roman_model.specs.Numbers.{sizes_of, count, number, pair_at, numbered}
 use Rattle.roman_model.proofs.NumberLemmas.{AreBelow-length, IsPairOf-at, number-moved, number-pair_at}
 use Rattle.roman_model.proofs.NumberedLists.{numbered_is_arena}
 use Rattle.roman_radix.specs.Radix.{IsSizes, stride_of}
 use Rattle.roman_radix.specs.Rows.{env_rows_of, target_rows_of}
-use Rattle.roman_radix.proofs.RowLemmas.{low_of-le, row_mod, env_rows_are}
+use Rattle.roman_radix.proofs.RowLemmas.{row_mod, env_rows_are}
 use Rattle.roman_lanes.specs.Rows.{is_on}
 use Rattle.roman_lanes.specs.Flags.{has_flag}
-use Rattle.roman_joint.specs.Backward.{seat_prev, from_states, from_seat, from_target, from_env, from_action, from_all}
+use Rattle.roman_joint.specs.Backward.{seat_prev, from_seat, from_all}
 use Rattle.roman_joint.specs.Rows.{lanes_in, low_in, IsRow}
 use Rattle.roman_joint.specs.Marks.{IsMarked, Grows, row_at, MarksSeat, MarksTurn, MarksEnv, MarksAction, IsAt}
 use Rattle.roman_joint.specs.declared.row.Row.{Row}
@@ -31,7 +30,7 @@ use Rattle.roman_joint.proofs.BackwardLemmas.{Steps, Found, origin, leads_found,
 use Rattle.roman_joint.proofs.Rows.{size_of_seat}
 use Rattle.roman_joint.proofs.WordLemmas.{on_set_same, on_set_other}
 use Rattle.roman_joint.proofs.SplitLemmas.{stride_rows}
-use Rattle.roman_joint.proofs.LeadLemmas.{target_rows_are, lane_state, lane_part}
+use Rattle.roman_joint.proofs.LeadLemmas.{lane_state, lane_part}
 
 -- Marks that are added
 

@@ -1,5 +1,5 @@
 -- What changes where a service is frozen, goes or comes.
-use Rattle.std.proofs.Common.{◌≡◌, ℕ, zero, suc, ◌*◌, ◌/◌, ◌<◌, ◌≤◌, ◌↔◌, Bool, true, false, if◌then◌else◌, List, [], ◌∷◌, ◌++◌, Some, slice_get, slice_index, get_or, map, length, take, drop, refl, sym, ap, ap₂, ◌∙◌, subst, inl, inr, arith}
+use Rattle.std.proofs.Common.{◌≡◌, ℕ, zero, suc, ◌*◌, ◌/◌, ◌<◌, ◌≤◌, ◌↔◌, Bool, true, false, if◌then◌else◌, List, [], ◌∷◌, ◌++◌, Option, None, Some, slice_get, slice_index, get_or, map, length, take, drop, refl, sym, ap, ap₂, ◌∙◌, subst, inl, inr, arith}
 use Rattle.std.specs.List.{AllByRecursion, remove}
 use Rattle.std.proofs.Math.ListN.{set}
 use Rattle.std.proofs.Math.Nat.{mul-le-mul_left, mul-le-mul_right, le-div_iff_mul-le}
@@ -21,6 +21,7 @@ use Rattle.roman_parts.specs.Named.{NamedBeh}
 use Rattle.roman_joint.specs.declared.seat.Seat.{Seat}
 use Rattle.roman_joint.specs.NamedSys.{NamedSys, beh_at, seat_of, system_of, cells, IsNamedSys}
 use Rattle.roman_joint.specs.Changes.{with_frozen}
+use Rattle.roman_joint.specs.Parts.{HasSameParts}
 use Rattle.roman_joint.proofs.Rows.{size_of_seat}
 use Rattle.roman_joint.proofs.SeatLemmas.{seat_there, recursion-push}
 
@@ -31,6 +32,11 @@ changed change s sys can = (renaming_keeps change s [] sys can (λ x i. absurd i
 -- the named system with these services
 abbrev pub with_seats : NamedSys → List Seat → NamedSys
 with_seats n seats = record { environment = n.environment; catalogue = n.catalogue; target = n.target; seats = seats; limit = n.limit }
+
+-- a system with the seats of one that differs in its seats alone
+pub with_the_seats : (m n : NamedSys) (seats : List Seat) → HasSameParts m n → seats ≡ n.seats → with_seats m seats ≡ n
+with_the_seats m n seats parts same =
+    λ i. record { environment = parts.environment i; catalogue = parts.catalogue i; target = parts.target i; seats = same i; limit = parts.limit i }
 
 -- Frozen, or ready.
 
@@ -198,3 +204,19 @@ joined_test n seat m size actions known is_m is_size is_actions = rw (is_m, is_s
 -- what isn't at most the limit is more
 pub more_than : (cells limit : ℕ) → (cells ≤ limit → ⊥) → limit < cells
 more_than cells limit h = elim (cases_lt limit cells) [ inl l ↦ l | inr l ↦ absurd (h l) ]
+
+-- a service that is frozen or made ready keeps its behaviour
+pub frozen_at : (catalogue : List NamedBeh) (seats : List Seat) (k : ℕ) (frozen : Bool) (j : ℕ) (x : model.Seat) → slice_get (map (seat_of catalogue) (with_frozen seats k frozen)) j ≡ Some x →
+    (y : model.Seat) × (slice_get (map (seat_of catalogue) seats) j ≡ Some y) × (y.beh ≡ x.beh)
+frozen_at catalogue [] k frozen j x e = (x, e, refl)
+frozen_at catalogue (seat ∷ seats) zero frozen zero x e = (seat_of catalogue seat, refl, same_beh e)
+  where
+    beh_in : Option model.Seat → model.Beh
+    beh_in None = beh_at catalogue seat.behaviour
+    beh_in (Some y) = y.beh
+
+    same_beh : Some (seat_of catalogue (record { name = seat.name; behaviour = seat.behaviour; frozen = frozen; rests = seat.rests })) ≡ Some x → beh_at catalogue seat.behaviour ≡ x.beh
+    same_beh is = ap beh_in is
+frozen_at catalogue (seat ∷ seats) zero frozen (suc j) x e = (x, e, refl)
+frozen_at catalogue (seat ∷ seats) (suc k) frozen zero x e = (x, e, refl)
+frozen_at catalogue (seat ∷ seats) (suc k) frozen (suc j) x e = frozen_at catalogue seats k frozen j x e

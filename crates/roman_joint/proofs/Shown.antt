@@ -8,6 +8,8 @@ use Rattle.roman_joint.specs.NamedSys.{NamedSys, system_of, seat_of, beh_at, IsO
 use Rattle.roman_joint.proofs.SeatLemmas.{beh_read, seat_there}
 use Rattle.roman_joint.specs.Layout.{named_sys_in, IsJoint}
 use Rattle.roman_joint.specs.Scenes.{AreScenes}
+use Rattle.roman_joint.specs.Rows.{AreRowsOf}
+use Rattle.roman_joint.specs.Moves.{HoldsMoves}
 use Rattle.roman_model.specs.System.{Env, Beh, Sys, env_next, env_prev, beh_next, beh_prev, is_allowed}
 use Rattle.roman_model.specs.Lists.{is_empty}
 use Rattle.roman_parts.specs.Named.{NamedEnv, NamedBeh, NamedTarget}
@@ -23,13 +25,15 @@ pub record Shows (a : Inside) (n : NamedSys) : Type 0 where
   pub seats : a.seats.items ≡ n.seats
   pub limit : a.limit ≡ n.limit
   pub shape : a.shape ≡ sizes_of (system_of n)
+  pub rows : AreRowsOf (sizes_of (system_of n)) a.rows
+  pub moves : HoldsMoves (system_of n) a.moves
   pub scenes : AreScenes (system_of n).env (system_of n).target a.scenes.items
   pub room : MAX_SERVICES ≤ vec_capacity a.seats
 
 pub shown : (a : Inside) (n : NamedSys) → IsJoint a → named_sys_in a ≡ n → Shows a n
 shown a n h e =
     subst (λ m. Shows a m) e
-    (record { known = h.known; environment = refl; catalogue = refl; target = refl; seats = refl; limit = refl; shape = h.shape; scenes = h.scenes; room = h.room })
+    (record { known = h.known; environment = refl; catalogue = refl; target = refl; seats = refl; limit = refl; shape = h.shape; rows = h.rows; moves = h.moves; scenes = h.scenes; room = h.room })
 
 -- the length of the seats' Vec is their number in the system
 pub seats_shown : (a : Inside) (n : NamedSys) → Shows a n → vec_len a.seats ≡ length (system_of n).seats

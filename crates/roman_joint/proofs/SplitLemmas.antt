@@ -1,17 +1,17 @@
 -- How rows and what is looked up of them are made.
-use Rattle.std.proofs.Common.{◌≡◌, ℕ, zero, suc, ◌+◌, ◌*◌, ◌/◌, ◌%◌, ◌<◌, ◌≤◌, ◌^◌, cond, true, List, [], ◌∷◌, length, map, take, drop, slice_index, get_or, inl, inr, refl, sym, ap, ap₂, ◌∙◌, subst, arith, ltb}
+use Rattle.std.proofs.Common.{◌≡◌, ℕ, zero, suc, ◌+◌, ◌*◌, ◌/◌, ◌%◌, ◌<◌, ◌≤◌, cond, List, [], ◌∷◌, length, map, drop, slice_index, inl, inr, refl, sym, ap, ap₂, ◌∙◌, subst, arith, ltb}
 use Rattle.std.proofs.lemmas.Bool.{cases_eq, lt-ltb, le-ltb}
 use Rattle.std.proofs.lemmas.Nat.{mul-add-lt}
-use Rattle.std.proofs.lemmas.List.{get_or-take, get_or-set_same, get_or-set_other, length-map}
+use Rattle.std.proofs.lemmas.List.{get_or-set_same, get_or-set_other, length-map}
 use Rattle.std.proofs.Math.ListN.{set}
 use Rattle.roman_model.specs.Lists.{IsIn, product_of}
-use Rattle.roman_model.specs.System.{Sys, Seat, IsSys, IsBeh}
+use Rattle.roman_model.specs.System.{Sys, Seat, IsBeh}
 use Rattle.roman_model.specs.Numbers.{Sizes, IsPairOf, sizes_of, count, pair_at}
-use Rattle.roman_model.proofs.NumberLemmas.{part_at, IsPairOf-at, AreBelow-index, AreBelow-length}
+use Rattle.roman_model.proofs.NumberLemmas.{part_at, IsPairOf-at, AreBelow-index}
 use Rattle.roman_radix.specs.Radix.{AreSizes, IsSizes, stride_of, env_stride_of, target_stride_of}
 use Rattle.roman_radix.specs.Rows.{low_of, lanes_of, env_rows_of, target_rows_of}
 use Rattle.roman_radix.proofs.Strides.{product_positive, AreSizes-drop}
-use Rattle.roman_radix.proofs.RowLemmas.{low_of-le, lanes_few, lanes_positive, tails_from, exact, row_div, row_least, row_below, env_rows_are}
+use Rattle.roman_radix.proofs.RowLemmas.{low_of-le, lanes_positive, tails_from, exact, row_div, row_least, row_below, env_rows_are}
 use Rattle.roman_lanes.specs.Rows.{is_on}
 use Rattle.roman_joint.specs.NamedSys.{NamedSys, system_of, IsNamedSys}
 use Rattle.roman_joint.specs.Rows.{lanes_in, low_in, has_state, AreRowsOf, IsRow}
@@ -114,6 +114,29 @@ firsts_more n firsts k word room is before j lane l m = elim (cases_eq j k) [
   | inr other ↦ ap (λ w. is_on w lane) (get_or-set_other firsts k j word 0 other) ∙ before j lane (omega arith) m
 ]
 
+-- what a seat before the lanes adds to a row's number
+pub row_stride : (n : Sizes) (r : Rows) (k : ℕ) → IsSizes n → AreRowsOf n r → k < low_of n.seats → slice_index r.strides k ≡ stride_of n k / lanes_of n.seats
+row_stride n r k h rows l = factor (slice_index r.strides k) (stride_of n k / lanes_of n.seats) (lanes_of n.seats) (lanes_positive n.seats h.seats) (rows.before k l ∙ sym (stride_rows n k h l))
+
+pub row_stride_positive : (n : Sizes) (r : Rows) (k : ℕ) → IsSizes n → AreRowsOf n r → k < low_of n.seats → 0 < slice_index r.strides k
+row_stride_positive n r k h rows l =
+    of_product (slice_index r.strides k) (lanes_of n.seats) (stride_of n k) (rows.before k l) (product_positive (drop (k + 1) n.seats) (AreSizes-drop (k + 1) n.seats h.seats))
+  where
+    of_product : (a w p : ℕ) → a * w ≡ p → 0 < p → 0 < a
+    of_product zero w p e pos = absurd (omega (arith, e, pos))
+    of_product (suc a) w p e pos = omega arith
+
+-- the state of one seat more
+pub row_states_more : (n : Sizes) (r : Rows) (states : List ℕ) (x k size : ℕ) → IsSizes n → AreRowsOf n r → k < low_of n.seats → k < length states → size ≡ slice_index r.sizes k →
+    ((j : ℕ) → j < k → slice_index states j ≡ x / (stride_of n j / lanes_of n.seats) % slice_index n.seats j) →
+    (j : ℕ) → j < k + 1 → slice_index (set states k (x / slice_index r.strides k % size)) j ≡ x / (stride_of n j / lanes_of n.seats) % slice_index n.seats j
+row_states_more n r states x k size h rows low room is before j l = elim (cases_eq j k) [
+  | inl e ↦ subst (λ i. slice_index (set states k (x / slice_index r.strides k % size)) i ≡ x / (stride_of n i / lanes_of n.seats) % slice_index n.seats i) (sym e)
+      (get_or-set_same states k (x / slice_index r.strides k % size) 0 room
+      ∙ ap₂ (λ a b. x / a % b) (row_stride n r k h rows low) (is ∙ rows.sizes k (omega (arith, low_of-le n.seats))))
+  | inr other ↦ get_or-set_other states k j (x / slice_index r.strides k % size) 0 other ∙ before j (omega arith)
+]
+
 turned : (a b : ℕ) → a * b ≡ b * a
 turned a b = omega arith
 
@@ -129,7 +152,7 @@ row_number x rows w c pos is l =
 -- what is looked up of a row
 pub row_made : (s : Sys) (x : ℕ) (row : Row) → IsSizes (sizes_of s) → x * lanes_in s < count (sizes_of s) → (rows : ℕ) → rows * lanes_in s ≡ count (sizes_of s) → row.part ≡ x % env_rows_of (sizes_of s) →
     row.target ≡ (pair_at (sizes_of s) (x * lanes_in s)).t → row.env ≡ (pair_at (sizes_of s) (x * lanes_in s)).e →
-    take (length (sizes_of s).seats) row.states ≡ (pair_at (sizes_of s) (x * lanes_in s)).bs →
+    ((k : ℕ) → k < low_in s → slice_index row.states k ≡ x / (stride_of (sizes_of s) k / lanes_in s) % slice_index (sizes_of s).seats k) →
     ArePermitted s.env s.target row.target row.env row.allowed → AreLeading s.env s.target row.target row.env row.leading → IsRow s x row
 row_made s x row sizes start rows is_rows part at_target at_env at_states allowed leading =
     let n = sizes_of s in
@@ -143,7 +166,9 @@ row_made s x row sizes start rows is_rows part at_target at_env at_states allowe
     ap (λ y. (x * w + lane) / y) (sym (env_rows_are n)) ∙ (row_div x w lane (env_rows_of n) l
     ∙ sym (ap₂ (λ y z. y / z) first (sym (env_rows_are n)) ∙ row_div x w 0 (env_rows_of n) pos)) in
     let state : (k : ℕ) → k < low_of n.seats → slice_index row.states k ≡ slice_index (pair_at n (x * w)).bs k = λ k l.
-    sym (get_or-take (length n.seats) row.states k 0 (omega (arith, low_of-le n.seats))) ∙ ap (λ bs. get_or bs k 0) at_states in
+    let is : stride_of n k / w * w ≡ stride_of n k = stride_rows n k sizes l in
+    at_states k l ∙ sym (part_at n (x * w) k start (omega (arith, low_of-le n.seats))
+    ∙ ap (λ y. y % slice_index n.seats k) (ap₂ (λ y z. y / z) first (sym is) ∙ row_div x w 0 (stride_of n k / w) pos)) in
     record {
       part = part;
       target_range = subst (λ y. y < n.target) (sym at_target) pair.t;

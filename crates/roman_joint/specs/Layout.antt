@@ -6,6 +6,7 @@ use Rattle.roman_joint.specs.declared.joint.Joint.TheInside.{Inside}
 use Rattle.roman_joint.specs.NamedSys.{NamedSys, system_of, IsNamedSys}
 use Rattle.roman_joint.specs.Scenes.{AreScenes}
 use Rattle.roman_joint.specs.Rows.{AreRowsOf}
+use Rattle.roman_joint.specs.Moves.{HoldsMoves, HasRoom}
 
 -- the system with its names that the fields show
 abbrev pub named_sys_in : Inside → NamedSys
@@ -17,10 +18,12 @@ named_sys_in a = record {
   limit = a.limit;
 }
 
--- the parts make a system, the shape numbers its pairs, the rows are the shape's, the scenes are those of its target and environment, and there is room for the greatest number of services
+-- the parts make a system, the shape numbers its pairs, the rows are the shape's, the moves are those of its services, the scenes are those of its target and environment, and there is room for the greatest number of services
 pub record IsJoint (a : Inside) : Type 0 where
   pub known : IsNamedSys (named_sys_in a)
   pub shape : a.shape ≡ sizes_of (system_of (named_sys_in a))
   pub rows : AreRowsOf (sizes_of (system_of (named_sys_in a))) a.rows
+  pub moves : HoldsMoves (system_of (named_sys_in a)) a.moves
+  pub moves_room : HasRoom a.moves
   pub scenes : AreScenes a.environment.env a.target.beh a.scenes.items
   pub room : MAX_SERVICES ≤ vec_capacity a.seats

@@ -1,5 +1,6 @@
 pub mod Errors
 pub mod NamedSys
+pub mod Parts
 pub mod Names
 pub mod Behaviours
 pub mod Layout
@@ -10,3 +11,4 @@ pub mod Changes
 pub mod Scenes
 pub mod Rows
 pub mod Marks
+pub mod Moves

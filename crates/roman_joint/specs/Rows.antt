@@ -1,5 +1,5 @@
 -- Rows of a system's pairs.
-use Rattle.std.specs.Prelude.{◌≡◌, ℕ, ◌+◌, ◌*◌, ◌/◌, ◌%◌, ◌<◌, ◌≤◌, ◌==◌, ◌&&◌, ◌||◌, ltb, Bool, true, not, Option, None, Some, List, [], ◌∷◌, length, slice_index, IsFalse}
+use Rattle.std.specs.Prelude.{◌≡◌, ℕ, ◌+◌, ◌*◌, ◌/◌, ◌%◌, ◌<◌, ◌≤◌, ◌==◌, ◌&&◌, ◌||◌, ltb, Bool, true, not, Option, None, Some, [], ◌∷◌, length, slice_index, IsFalse}
 use Rattle.std.specs.List.{list_any}
 use Rattle.roman_model.specs.Lists.{is_empty}
 use Rattle.roman_model.specs.System.{Sys, Seat, is_final, env_next, beh_next}

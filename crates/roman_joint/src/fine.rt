@@ -9,14 +9,7 @@ ghost use Rattle.roman_joint.specs.Rows.{lanes_in, low_in, IsRow, may_rest as ma
 use crate::joint::Joint;
 use crate::row::Row;
 use crate::states::{may_rest, state_lanes};
-use crate::words::less;
-
-/// The lanes of a word with those of another where `is_in` says so.
-fn with_lanes(word: u64, lanes: u64, is_in: bool) -> u64
-    ensures { (lane : ℕ) → is_on result lane ≡ (is_on word lane || (is_on lanes lane && is_in)) }
-{
-    if is_in { word | lanes } else { word }
-}
+use crate::words::{less, with_lanes};
 
 /// The lanes in which a seat within the lanes may rest.
 fn rests_within(joint: &Joint, k: u8) -> u64
@@ -25,10 +18,11 @@ fn rests_within(joint: &Joint, k: u8) -> u64
     ensures { (lane : ℕ) → lane < lanes_in (system_of joint.now) → is_on result lane
         ≡ may_rest_in (slice_get (system_of joint.now).seats k) (lane / stride_of (sizes_of (system_of joint.now)) k % slice_index (sizes_of (system_of joint.now)).seats k) }
 {
+    let shape = joint.shape();
     let rows = joint.layout();
     let mut lanes = 0;
     for b in 0..rows.sizes[k as usize] {
-        let in_state = state_lanes(joint, k, b);
+        let in_state = state_lanes(shape, rows, k, b);
         let rests = may_rest(joint, k, b);
         lanes = with_lanes(lanes, in_state, rests);
     }

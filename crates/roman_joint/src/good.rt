@@ -11,9 +11,9 @@ ghost use Rattle.roman_joint.specs.Rows.{lanes_in, low_in, has_state, IsRow, IsT
 
 use crate::joint::Joint;
 use crate::row::Row;
-use crate::states::{next_states, state_lanes};
+use crate::states::next_states;
 use crate::turn::{Turn, turn_of};
-use crate::words::{all_alive, lanes_alive, less, rows_alive};
+use crate::words::{all_alive, less, moves_alive, rows_alive};
 
 /// The lanes at which a seat before the lanes serves the action.
 fn good_before(joint: &Joint, words: &[u64], row: &Row, turn: &Turn<'_>, a: u8, k: u8) -> u64
@@ -45,31 +45,6 @@ fn good_before(joint: &Joint, words: &[u64], row: &Row, turn: &Turn<'_>, a: u8, 
     )
 }
 
-/// The lanes in which a seat within the lanes is in the state b and serves the action. Those that are
-/// alive in all rows of the turn are given.
-fn good_from(joint: &Joint, alive: u64, row: &Row, a: u8, k: u8, b: u8) -> u64
-    requires row { (x : ℕ) × IsRow (system_of joint.now) x row.now }
-    requires action { a < (system_of joint.now).env.actions }
-    requires within { low_in (system_of joint.now) ≤ k }
-    requires seat { k < length joint.now.seats }
-    requires state { b < slice_index (sizes_of (system_of joint.now)).seats k }
-    ensures lanes { (x : ℕ) (gone : ℕ → Bool) (turn : Turn) → IsRow (system_of joint.now) x row.now → IsTurn (system_of joint.now) row.now a turn →
-        AreAlive (system_of joint.now) gone turn alive → (lane : ℕ) → lane < lanes_in (system_of joint.now) →
-        is_on result lane ≡ (has_state (stride_of (sizes_of (system_of joint.now)) k) (slice_index (sizes_of (system_of joint.now)).seats k) b lane
-        && not (is_beaten (numbered (system_of joint.now)) gone (x * lanes_in (system_of joint.now) + lane) a k)) }
-    ensures rest { (lane : ℕ) → lanes_in (system_of joint.now) ≤ lane → is_on result lane ≡ false }
-{
-    let rows = joint.layout();
-    let states = next_states(joint, k, b, row.env, a);
-    if states.is_empty() {
-        return 0;
-    }
-    let stride = rows.strides[k as usize];
-    let from = u32::from(b) * stride;
-    let lanes = state_lanes(joint, k, b);
-    lanes_alive(alive, states, from, stride, lanes)
-}
-
 /// The lanes at which a seat within the lanes serves the action.
 fn good_within(joint: &Joint, words: &[u64], row: &Row, turn: &Turn<'_>, a: u8, k: u8) -> u64
     requires row { (x : ℕ) × IsRow (system_of joint.now) x row.now }
@@ -83,12 +58,12 @@ fn good_within(joint: &Joint, words: &[u64], row: &Row, turn: &Turn<'_>, a: u8, 
         HasLanes (lanes_in (system_of joint.now)) x (λ p. not (is_beaten (numbered (system_of joint.now)) gone p a k)) result }
 {
     let rows = joint.layout();
-    let alive = rows_alive(words, turn.base, turn.envs, rows.env_rows, rows.full);
-    let mut good = 0;
-    for b in 0..rows.sizes[k as usize] {
-        good |= good_from(joint, alive, row, a, k, b);
+    if joint.seat(k).frozen {
+        return 0;
     }
-    good
+    let alive = rows_alive(words, turn.base, turn.envs, rows.env_rows, rows.full);
+    let (some, moves) = joint.lane_moves(k, row.env, a);
+    moves_alive(alive, moves, some)
 }
 
 /// The lanes at which a seat serves the action.

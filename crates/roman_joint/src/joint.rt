@@ -5,18 +5,23 @@ ghost use Rattle.roman_model.specs.Numbers.{sizes_of};
 ghost use Rattle.roman_model.specs.declared.limits.TheConstants.{MAX_SERVICES, MAX_CELLS};
 ghost use Rattle.roman_joint.specs.Behaviours.{IsBehaviourOf};
 ghost use Rattle.roman_joint.specs.NamedSys.{NamedSys, system_of, cells, IsOverEnv, TargetIsOverEnv, IsNamedSys};
-ghost use Rattle.roman_joint.specs.Rows.{AreRowsOf};
+ghost use Rattle.roman_joint.specs.Rows.{AreRowsOf, low_in};
+ghost use Rattle.roman_joint.specs.Moves.{AreMovesOf};
+ghost use Rattle.roman_model.specs.System as model;
 
 mod changes;
+mod copies;
 mod looks;
 mod rows;
 mod walks;
 
 use crate::error::JointError;
-use crate::layout::{Rows, rows_of};
-use crate::scene::{Scene, all_scenes};
+use crate::layout::Rows;
+use crate::moves::{Move, Moves, part};
+use crate::scene::Scene;
 use crate::seat::Seat;
 use crate::seats::shape_of;
+use crate::tables::tables_of;
 use roman_model::MAX_SERVICES;
 use roman_parts::{Behaviour, Environment, Target};
 use roman_radix::Shape;
@@ -37,6 +42,7 @@ pub struct Joint {
     seats: Vec<Seat>,
     shape: Shape,
     rows: Rows,
+    moves: Moves,
     // By the target's state and then by the environment's.
     scenes: Vec<Scene>,
     limit: u32,
@@ -81,23 +87,19 @@ impl Joint {
         let Some(shape) = shape else {
             return Err(JointError::Limit);
         };
-        let Ok(mut places) = Vec::with_capacity(alloc, MAX_SERVICES as usize) else {
+        let tables = tables_of(alloc, &environment, &catalogue, &target, &seats, &shape);
+        let Ok(tables) = tables else {
             return Err(JointError::Memory);
         };
-        let Ok(scenes) = all_scenes(alloc, &environment, &target) else {
-            return Err(JointError::Memory);
-        };
-        for seat in &seats {
-            places.push_reserved(*seat);
-        }
         Ok(Joint {
             environment,
             catalogue,
             target,
-            seats: places,
-            rows: rows_of(&shape),
+            seats: tables.places,
             shape,
-            scenes,
+            rows: tables.rows,
+            moves: tables.moves,
+            scenes: tables.scenes,
             limit,
         })
     }
@@ -162,6 +164,23 @@ impl Joint {
         ensures rows { AreRowsOf (sizes_of (system_of self.now)) result.now }
     {
         &self.rows
+    }
+
+    // The moves of the service at place k, within the lanes, on an action while the environment is in a
+    // state: the lanes that have an outcome, and where lanes go.
+    pub(crate) fn lane_moves(&self, k: u8, e: u8, a: u8) -> (u64, &[Move])
+        requires within { low_in (system_of self.now) ≤ k }
+        requires seat { k < length self.now.seats }
+        requires env { e < (system_of self.now).env.states }
+        requires action { a < (system_of self.now).env.actions }
+        ensures { (seat : model.Seat) → slice_get (system_of self.now).seats k ≡ Some seat → AreMovesOf (sizes_of (system_of self.now)) k seat.beh e a result.0 result.1.now }
+    {
+        let table = &self.moves;
+        let turn = u32::from(e) * table.actions + u32::from(a);
+        let lows = self.seats.len() as u32 - u32::from(self.rows.low);
+        let at = turn * lows + u32::from(k - self.rows.low);
+        let span = table.spans[at as usize];
+        (span.some, part(&table.moves, span.first, span.end))
     }
 
     /// The greatest number of cells that the system may have.

@@ -7,12 +7,17 @@ ghost use Rattle.roman_model.specs.Lists.{IsIn};
 /// environment's state e and the service's state b has the number
 /// `base + e * env_stride + b * stride`.
 #[derive(Clone, Copy)]
-pub(crate) struct Outcomes<'a> {
-    pub(crate) base: u32,
-    pub(crate) envs: &'a [u8],
-    pub(crate) env_stride: u32,
-    pub(crate) states: &'a [u8],
-    pub(crate) stride: u32,
+pub struct Outcomes<'a> {
+    /// The number of the pair with both states 0, where there is one.
+    pub base: u32,
+    /// The environment's next states, rising.
+    pub envs: &'a [u8],
+    /// What one state of the environment adds.
+    pub env_stride: u32,
+    /// The service's next states, rising.
+    pub states: &'a [u8],
+    /// What one state of the service adds.
+    pub stride: u32,
 }
 
 /// The first of the states, by a service's state, whose pair isn't alive. The pair with state b has

@@ -1,14 +1,35 @@
-//! The states of services: where they go, where they come from and where they may rest.
-ghost use Rattle.std.specs.Prelude.{◌≡◌, ℕ, ◌<◌, ◌≤◌, false, length, slice_get, slice_index, All};
+//! The states of services: where they are, where they go, where they come from and where they may rest.
+ghost use Rattle.std.specs.Prelude.{◌≡◌, ℕ, ◌/◌, ◌%◌, ◌<◌, ◌≤◌, false, length, slice_get, slice_index, All};
 ghost use Rattle.roman_model.specs.System.{seat_next};
 ghost use Rattle.roman_model.specs.Numbers.{sizes_of};
 ghost use Rattle.roman_radix.specs.Radix.{stride_of};
+ghost use Rattle.roman_radix.specs.Rows.{low_of, lanes_of};
 ghost use Rattle.roman_lanes.specs.Rows.{is_on};
 ghost use Rattle.roman_joint.specs.NamedSys.{system_of};
 ghost use Rattle.roman_joint.specs.Backward.{seat_prev};
-ghost use Rattle.roman_joint.specs.Rows.{lanes_in, low_in, has_state, may_rest as may_rest_in};
+ghost use Rattle.roman_joint.specs.Rows.{lanes_in, low_in, has_state, AreRowsOf, may_rest as may_rest_in};
 
 use crate::joint::Joint;
+use crate::layout::Rows;
+use roman_model::MAX_SERVICES;
+use roman_radix::Shape;
+
+/// How many services' states a table has room for.
+const PLACES: usize = MAX_SERVICES as usize;
+
+/// The states of the services before the lanes at the pairs of a row, at the front of a table.
+pub(crate) fn row_states(joint: &Joint, x: u32) -> [u8; PLACES]
+    ensures { (k : ℕ) → k < low_in (system_of joint.now) → slice_index result k
+        ≡ x / (stride_of (sizes_of (system_of joint.now)) k / lanes_in (system_of joint.now)) % slice_index (sizes_of (system_of joint.now)).seats k }
+{
+    let rows = joint.layout();
+    let mut states = [0; PLACES];
+    for k in 0..rows.low {
+        let size = u32::from(rows.sizes[k as usize]);
+        states[k as usize] = (x / rows.strides[k as usize] % size) as u8;
+    }
+    states
+}
 
 /// The states to which a service goes: none where it is frozen.
 pub(crate) fn next_states<'a>(joint: &'a Joint, k: u8, b: u8, e: u8, a: u8) -> &'a [u8]
@@ -61,15 +82,15 @@ pub(crate) fn may_rest(joint: &Joint, k: u8, b: u8) -> bool
 }
 
 /// The lanes in which a service within the lanes is in a state.
-pub(crate) fn state_lanes(joint: &Joint, k: u8, b: u8) -> u64
-    requires within { low_in (system_of joint.now) ≤ k }
-    requires seat { k < length joint.now.seats }
-    requires state { b < slice_index (sizes_of (system_of joint.now)).seats k }
-    ensures each { (lane : ℕ) → lane < lanes_in (system_of joint.now) →
-        is_on result lane ≡ has_state (stride_of (sizes_of (system_of joint.now)) k) (slice_index (sizes_of (system_of joint.now)).seats k) b lane }
-    ensures rest { (lane : ℕ) → lanes_in (system_of joint.now) ≤ lane → is_on result lane ≡ false }
+pub(crate) fn state_lanes(shape: &Shape, rows: &Rows, k: u8, b: u8) -> u64
+    requires rows { AreRowsOf shape.now rows.now }
+    requires within { low_of shape.now.seats ≤ k }
+    requires seat { k < length shape.now.seats }
+    requires state { b < slice_index shape.now.seats k }
+    ensures each { (lane : ℕ) → lane < lanes_of shape.now.seats → is_on result lane ≡ has_state (stride_of shape.now k) (slice_index shape.now.seats k) b lane }
+    ensures rest { (lane : ℕ) → lanes_of shape.now.seats ≤ lane → is_on result lane ≡ false }
 {
-    let rows = joint.layout();
+    shape.known();
     let from = u32::from(b) * rows.strides[k as usize];
     (rows.firsts[k as usize] << from) & rows.full
 }

@@ -1,7 +1,11 @@
 //! Words of lanes: what several rows have in common.
-ghost use Rattle.std.specs.Prelude.{◌≡◌, ℕ, ◌+◌, ◌-◌, ◌*◌, ◌^◌, ◌<◌, ◌≤◌, Bool, false, not, ◌&&◌, All, length, slice_index};
+ghost use Rattle.std.specs.Prelude.{◌≡◌, ℕ, ◌+◌, ◌-◌, ◌*◌, ◌^◌, ◌<◌, ◌≤◌, Bool, false, not, true, ◌&&◌, ◌||◌, All, length, slice_index};
 ghost use Rattle.std.specs.List.{list_any};
+ghost use Rattle.roman_model.specs.Lists.{IsIn};
 ghost use Rattle.roman_lanes.specs.Rows.{is_on};
+ghost use Rattle.roman_joint.specs.declared.moves.Move.{Move};
+
+use crate::moves::Move;
 
 /// Those of the lanes `good` that are on in all of the rows `base + b * stride`, for each state b.
 pub(crate) fn rows_alive(words: &[u64], base: u32, states: &[u8], stride: u32, good: u64) -> u64
@@ -59,20 +63,32 @@ pub(crate) fn shifted(word: u64, from: u32, to: u32) -> u64
     }
 }
 
-/// Those of the lanes `good` from which lanes that are on are reached, where a lane in state `from`
-/// goes to each of the states.
-pub(crate) fn lanes_alive(word: u64, states: &[u8], from: u32, stride: u32, good: u64) -> u64
-    requires from { from < 64 }
-    requires states { All (λ b. b * stride < 64) states.now }
-    ensures alive { (lane : ℕ) → from ≤ lane → lane < 64 → All (λ b. lane + b * stride - from < 64) states.now → is_on result lane
-        ≡ (is_on good lane && not (list_any (λ b. not (is_on word (lane + b * stride - from))) states.now)) }
+/// The lanes that don't move, or to lanes that are on.
+fn unmoved(lanes: u64, moved: u64) -> u64
+    ensures { (lane : ℕ) → lane < 64 → is_on result lane ≡ not (is_on lanes lane && not (is_on moved lane)) }
+{
+    !lanes | moved
+}
+
+/// Those of the lanes `good` from which all moves go to lanes that are on.
+pub(crate) fn moves_alive(alive: u64, moves: &[Move], good: u64) -> u64
+    requires { (move : Move) → IsIn move moves.now → (move.from < 64) × (move.to < 64) }
+    ensures alive { (lane : ℕ) → lane < 64 → ((move : Move) → IsIn move moves.now → is_on move.lanes lane ≡ true → (move.from ≤ lane) × (lane + move.to - move.from < 64)) →
+        is_on result lane ≡ (is_on good lane && not (list_any (λ move. is_on move.lanes lane && not (is_on alive (lane + move.to - move.from))) moves.now)) }
     ensures within { (lane : ℕ) → is_on good lane ≡ false → is_on result lane ≡ false }
 {
-    let mut alive = good;
-    for state in states {
-        alive &= shifted(word, from, u32::from(*state) * stride);
+    let mut left = good;
+    for way in moves {
+        left &= unmoved(way.lanes, shifted(alive, way.from, way.to));
     }
-    alive
+    left
+}
+
+/// The lanes of a word with those of another where `is_in` says so.
+pub(crate) fn with_lanes(word: u64, lanes: u64, is_in: bool) -> u64
+    ensures { (lane : ℕ) → is_on result lane ≡ (is_on word lane || (is_on lanes lane && is_in)) }
+{
+    if is_in { word | lanes } else { word }
 }
 
 /// The lanes of a word that aren't those of another.

@@ -1,80 +1,43 @@
--- What the code computes of a mask is the mask with bit k cleared, or without the place k.
-use Rattle.std.proofs.Common.{◌≡◌, ℕ, ◌+◌, ◌-◌, ◌*◌, ◌/◌, ◌%◌, ◌^◌, ◌<◌, ◌≤◌, List, [], ◌∷◌, length, map, replicate, refl, sym, ap, ◌∙◌, arith, bit_and, bit_or, add_comm}
-use Rattle.std.specs.Int.{bit_at}
-use Rattle.std.proofs.lemmas.Nat.{pow_pos, pow_below, one_shl, and-not, and_comm, and_mask, or_comm, or_shifted, shr-shr, mod_below}
-use Rattle.std.proofs.lemmas.Nat.Bits.{and_pow, and_high_mask}
-use Rattle.std.proofs.Common.{Fits, w32}
-use Rattle.std.specs.Simd.Lanes.{zip2, Each1}
-use Rattle.std.proofs.lemmas.Simd.{zip2_splat, zip2_of_maps, splat_is_map, sum_bound, sum_fits, fold-sum}
-use Rattle.std.proofs.lemmas.List.{length-map}
-use Rattle.std.proofs.lemmas.List.Sums.{sum_by-cons}
-use Rattle.std.specs.Simd.Lanes.{fold_l, sum_l, Steps}
-use Rattle.std.proofs.Common.{count_ones, sum_by, zero-add}
-use Rattle.std.proofs.lemmas.Nat.{ones-le}
-use Rattle.roman_lanes.specs.Masks.{cleared, dropped}
+-- Lanes without a bit.
+use Rattle.std.proofs.Common.{◌≡◌, ℕ, ◌+◌, ◌-◌, ◌*◌, ◌<◌, ◌≤◌, zero, suc, Bool, true, false, not, cond, eqb, List, [], ◌∷◌, length, map, drop, get_or, bit_or, refl, sym, ap, ◌∙◌, arith, eqb-true}
+use Rattle.std.specs.Simd.Lanes.{zip2, chunk, mask_l}
+use Rattle.std.proofs.lemmas.Nat.{le_or_l, le_or_r}
+use Rattle.std.proofs.lemmas.List.{get_or-take, get_or-drop}
+use Rattle.roman_lanes.specs.Words.{AreClear}
 
--- `mask & !(1 << k)`
-pub and_not_bit : (k mask : ℕ) → k < 32 → mask < 2 ^ 32 → bit_and mask (2 ^ 32 - 1 - 1 * 2 ^ k % 2 ^ 32) ≡ cleared k mask
-unfolding cleared
-and_not_bit k mask within fits =
-    rw (one_shl k 32 within)
-    (let split = and-not 32 (2 ^ k) mask (pow_below k 32 within) fits in
-    let bit : bit_and (2 ^ k) mask ≡ bit_at mask k * 2 ^ k = and_comm (2 ^ k) mask ∙ and_pow mask k in
-    let turned = and_comm mask (2 ^ 32 - 1 - 2 ^ k) in
-    omega arith)
+-- where neither of two has a bit, none of both has
+none_of_either : (a b : ℕ) → bit_or a b ≡ 0 → (a ≡ 0) × (b ≡ 0)
+none_of_either a b e = (omega (arith, le_or_l a b), omega (arith, le_or_r a b))
 
--- `(mask & low) | ((mask >> 1) & !low)` with `low` the ones below k
-pub without_place : (k mask : ℕ) → k < 32 → mask < 2 ^ 32 → bit_or (bit_and mask (1 * 2 ^ k % 2 ^ 32 - 1)) (bit_and (mask / 2) (2 ^ 32 - 1 - (1 * 2 ^ k % 2 ^ 32 - 1))) ≡ dropped k mask
-unfolding dropped
-without_place k mask within fits =
-    let high : bit_and (mask / 2) (2 ^ 32 - 2 ^ k) ≡ mask / 2 / 2 ^ k * 2 ^ k = and_high_mask 32 k (omega arith) (mask / 2) (omega arith) in
-    let ones : 2 ^ 32 - 1 - (2 ^ k - 1) ≡ 2 ^ 32 - 2 ^ k = omega (arith, pow_pos k) in
-    let shifted : mask / 2 / 2 ^ k ≡ mask / 2 ^ (k + 1) = shr-shr mask 1 k ∙ ap (λ n. mask / 2 ^ n) (add_comm 1 k) in
-    rw (one_shl k 32 within)
-    (ap (λ n. bit_or (bit_and mask (2 ^ k - 1)) (bit_and (mask / 2) n)) ones
-    ∙ ap (bit_or (bit_and mask (2 ^ k - 1))) (high ∙ ap (λ n. n * 2 ^ k) shifted)
-    ∙ ap (λ n. bit_or n (mask / 2 ^ (k + 1) * 2 ^ k)) (and_mask mask k)
-    ∙ or_comm (mask % 2 ^ k) (mask / 2 ^ (k + 1) * 2 ^ k)
-    ∙ or_shifted (mask / 2 ^ (k + 1)) k (mask % 2 ^ k) (mod_below mask (2 ^ k) (pow_pos k)))
+pub either_clear : (xs ys : List ℕ) → length xs ≡ length ys → AreClear (zip2 bit_or xs ys) → AreClear xs × AreClear ys
+either_clear [] [] same clear = (λ i. refl, λ i. refl)
+either_clear [] (y ∷ ys) same clear = absurd (omega arith)
+either_clear (x ∷ xs) [] same clear = absurd (omega arith)
+either_clear (x ∷ xs) (y ∷ ys) same clear =
+    let rest = either_clear xs ys (omega arith) (λ i. clear (suc i)) in
+    let first = none_of_either x y (clear 0) in (
+      elim [ zero ↦ first.0 | suc i ↦ rest.0 i ],
+      elim [ zero ↦ first.1 | suc i ↦ rest.1 i ],
+    )
 
--- two functions that agree on each lane below 2 ^ 32
-pub same_lanes : (f g : ℕ → ℕ) (xs : List ℕ) → ((x : ℕ) → x < 2 ^ 32 → f x ≡ g x) → Each1 (Fits w32) xs → map f xs ≡ map g xs
-same_lanes f g [] same fit = refl
-same_lanes f g (x ∷ xs) same fit =
-    ap (λ y. y ∷ map f xs) (same x fit.0.fits) ∙ ap (λ ys. g x ∷ ys) (same_lanes f g xs same fit.1)
+-- no bit of a mask is set
+unset : (t : Bool) (n : ℕ) → cond (not t) 1 0 + 2 * n ≡ 0 → (t ≡ true) × (n ≡ 0)
+unset true n e = (refl, omega arith)
+unset false n e = absurd (omega arith)
 
--- `&` of the lanes with `!(1 << k)`
-pub clear_of_lanes : (k : ℕ) (xs : List ℕ) → k < 32 → length xs ≡ 16 → Each1 (Fits w32) xs → zip2 bit_and xs (replicate 16 (2 ^ 32 - 1 - 1 * 2 ^ k % 2 ^ 32)) ≡ map (cleared k) xs
-clear_of_lanes k xs within sized fit =
-    zip2_splat bit_and xs 16 (2 ^ 32 - 1 - 1 * 2 ^ k % 2 ^ 32) sized
-    ∙ same_lanes (λ x. bit_and x (2 ^ 32 - 1 - 1 * 2 ^ k % 2 ^ 32)) (cleared k) xs (λ x. and_not_bit k x within) fit
+pub clear_of_mask : (xs : List ℕ) → mask_l (map (λ x. not (eqb x 0)) xs) ≡ 0 → AreClear xs
+clear_of_mask [] e = λ i. refl
+clear_of_mask (x ∷ xs) e =
+    let here = unset (eqb x 0) (mask_l (map (λ y. not (eqb y 0)) xs)) e in
+    let rest = clear_of_mask xs here.1 in
+    elim [ zero ↦ eqb-true _ _ here.0 | suc i ↦ rest i ]
 
--- `(lanes & low) | ((lanes >> 1) & !low)`
-pub drop_of_lanes : (k : ℕ) (xs : List ℕ) → k < 32 → length xs ≡ 16 → Each1 (Fits w32) xs → zip2 bit_or (zip2 bit_and xs (replicate 16 (1 * 2 ^ k % 2 ^ 32 - 1))) (zip2 bit_and (zip2 (λ x s. x / 2 ^ s) xs (replicate 16 1)) (replicate 16 (2 ^ 32 - 1 - (1 * 2 ^ k % 2 ^ 32 - 1)))) ≡ map (dropped k) xs
-drop_of_lanes k xs within sized fit =
-    let low : ℕ = 1 * 2 ^ k % 2 ^ 32 - 1 in
-    let high : ℕ = 2 ^ 32 - 1 - low in
-    let halved : zip2 (λ x s. x / 2 ^ s) xs (replicate 16 1) ≡ map (λ x. x / 2) xs = zip2_splat (λ x s. x / 2 ^ s) xs 16 1 sized in
-    let above : zip2 bit_and (zip2 (λ x s. x / 2 ^ s) xs (replicate 16 1)) (replicate 16 high) ≡ map (λ x. bit_and (x / 2) high) xs =
-    zip2_of_maps bit_and (λ x. x / 2) (λ _. high) xs halved (splat_is_map xs 16 high sized) in
-    zip2_of_maps bit_or (λ x. bit_and x low) (λ x. bit_and (x / 2) high) xs (zip2_splat bit_and xs 16 low sized) above
-    ∙ same_lanes (λ x. bit_or (bit_and x low) (bit_and (x / 2) high)) (dropped k) xs (λ x. without_place k x within) fit
+-- an element of a block is one of the list
+in_chunk : (at n i : ℕ) (xs : List ℕ) → i < n → get_or (chunk at n xs) i 0 ≡ get_or xs (at + i) 0
+in_chunk at n i xs within = get_or-take n (drop at xs) i 0 within ∙ get_or-drop at xs i 0
 
--- the bits of the lanes, each of which has at most 32
-few_bits : (xs : List ℕ) → Each1 (Fits w32) xs → Each1 (λ n. n ≤ 32) (map count_ones xs)
-few_bits [] fit = tt
-few_bits (x ∷ xs) fit = (ones-le 32 x fit.0.fits, few_bits xs fit.1)
-
-bits_are_sum : (xs : List ℕ) → sum_l (map count_ones xs) ≡ sum_by count_ones xs
-bits_are_sum [] = refl
-bits_are_sum (x ∷ xs) = ap (λ n. count_ones x + n) (bits_are_sum xs) ∙ sym (sum_by-cons count_ones x xs)
-
-pub bits_bound : (xs : List ℕ) → Each1 (Fits w32) xs → sum_by count_ones xs ≤ length xs * 32
-bits_bound xs fit =
-    omega (arith, bits_are_sum xs, sum_bound 32 (map count_ones xs) (few_bits xs fit), length-map xs count_ones)
-
-pub bits_fit : (xs : List ℕ) → length xs ≡ 16 → Each1 (Fits w32) xs → Steps (λ s x. Fits w32 (s + x)) (λ s x. s + x) 0 (map count_ones xs)
-bits_fit xs sized fit = sum_fits w32 0 (map count_ones xs) (omega (arith, bits_are_sum xs, bits_bound xs fit))
-
-pub bits_counted : (xs : List ℕ) → fold_l (λ s x. s + x) 0 (map count_ones xs) ≡ sum_by count_ones xs
-bits_counted xs = fold-sum 0 (map count_ones xs) ∙ zero-add (sum_l (map count_ones xs)) ∙ bits_are_sum xs
+-- where a block has no bit, no word of it has one
+pub clear_in : (at n : ℕ) (xs block : List ℕ) → block ≡ chunk at n xs → AreClear block → (i : ℕ) → at ≤ i → i < at + n → get_or xs i 0 ≡ 0
+clear_in at n xs block is clear i low high =
+    let place : at + (i - at) ≡ i = omega arith in
+    ap (λ j. get_or xs j 0) (sym place) ∙ sym (in_chunk at n (i - at) xs (omega arith)) ∙ ap (λ ys. get_or ys (i - at) 0) (sym is) ∙ clear (i - at)

@@ -1,4 +1,3 @@
-pub mod MaskBits
 pub mod RowBits
 mod Lanes
 mod Blocks

@@ -1,3 +1,3 @@
-pub mod Masks
+pub mod Words
 pub mod Rows
 pub mod Flags

@@ -1,65 +1,17 @@
-// Blocks of sixteen neighbouring cells, each a vector.
-ghost use Rattle.std.specs.Prelude.{◌≡◌, ◌+◌, ◌<◌, ◌≤◌, length, map, replicate, bit_and, count_by, count_ones, sum_by, ◌==◌};
-ghost use Rattle.std.specs.Simd.Lanes.{chunk, put_chunk, zip2};
-ghost use Rattle.roman_lanes.specs.Masks.{cleared, dropped};
+// Blocks of neighbouring words or numbers, as vectors.
+ghost use Rattle.std.specs.Prelude.{◌≡◌, ℕ, ◌+◌, ◌<◌, ◌≤◌, length, slice_index, count_by, ◌==◌, IsTrue};
+ghost use Rattle.std.specs.Simd.Lanes.{chunk, zip2};
+ghost use Rattle.roman_lanes.specs.Words.{AreClear};
 
 use std::simd::prelude::*;
 
-/// How many cells a block has.
+/// How many numbers a block has.
 pub(crate) const LANES: usize = 16;
 
-pub(crate) fn and_block(to: &mut [u32], with: &[u32], at: usize)
-    requires room { at + 16 ≤ length to.old }
-    requires equal { length with.now ≡ length to.old }
-    ensures { to.new ≡ put_chunk at to.old (zip2 bit_and (chunk at 16 to.old) (chunk at 16 with.now)) }
-{
-    let lanes = u32x16::from_slice(&to[at..]) & u32x16::from_slice(&with[at..]);
-    lanes.copy_to_slice(&mut to[at..]);
-}
+/// How many words a block has.
+pub(crate) const WORDS: usize = 32;
 
-pub(crate) fn clear_block(masks: &mut [u32], at: usize, k: u8)
-    requires room { at + 16 ≤ length masks.old }
-    requires in_mask { k < 32 }
-    ensures { masks.new ≡ put_chunk at masks.old (map (cleared k) (chunk at 16 masks.old)) }
-{
-    let lanes = clear_lanes(u32x16::from_slice(&masks[at..]), k);
-    lanes.copy_to_slice(&mut masks[at..]);
-}
-
-#[inline(always)]
-fn clear_lanes(lanes: u32x16, k: u8) -> u32x16
-    requires { k < 32 }
-    ensures { result ≡ map (cleared k) lanes }
-{
-    lanes & u32x16::splat(!(1 << k))
-}
-
-pub(crate) fn drop_block(masks: &mut [u32], at: usize, k: u8)
-    requires room { at + 16 ≤ length masks.old }
-    requires in_mask { k < 32 }
-    ensures { masks.new ≡ put_chunk at masks.old (map (dropped k) (chunk at 16 masks.old)) }
-{
-    let lanes = drop_lanes(u32x16::from_slice(&masks[at..]), k);
-    lanes.copy_to_slice(&mut masks[at..]);
-}
-
-#[inline(always)]
-fn drop_lanes(lanes: u32x16, k: u8) -> u32x16
-    requires { k < 32 }
-    ensures { result ≡ map (dropped k) lanes }
-{
-    let low = (1 << k) - 1;
-    let above = (lanes >> u32x16::splat(1)) & u32x16::splat(!low);
-    (lanes & u32x16::splat(low)) | above
-}
-
-pub(crate) fn fill_block(to: &mut [u32], at: usize, value: u32)
-    requires { at + 16 ≤ length to.old }
-    ensures { to.new ≡ put_chunk at to.old (replicate 16 value) }
-{
-    u32x16::splat(value).copy_to_slice(&mut to[at..]);
-}
-
+/// How many numbers of the block at `at` are `value`.
 pub(crate) fn equal_in(values: &[u32], at: usize, value: u32) -> u32
     requires { at + 16 ≤ length values.now }
     ensures counted { result ≡ count_by (λ x. x == value) (chunk at 16 values.now) }
@@ -71,12 +23,37 @@ pub(crate) fn equal_in(values: &[u32], at: usize, value: u32) -> u32
         .count_ones()
 }
 
-pub(crate) fn bits_in(masks: &[u32], at: usize) -> u32
-    requires { at + 16 ≤ length masks.now }
-    ensures counted { result ≡ sum_by count_ones (chunk at 16 masks.now) }
-    ensures bound { result ≤ 512 }
+/// Whether no word of the block at `at` has a bit.
+pub(crate) fn is_clear(words: &[u64], at: usize) -> bool
+    requires { at + 32 ≤ length words.now }
+    ensures { IsTrue result → (i : ℕ) → at ≤ i → i < at + 32 → slice_index words.now i ≡ 0 }
 {
-    u32x16::from_slice(&masks[at..])
-        .count_ones()
-        .strict_reduce_sum()
+    let front = either(part(words, at), part(words, at + 8));
+    let back = either(part(words, at + 16), part(words, at + 24));
+    are_clear(either(front, back))
+}
+
+/// The eight words from `at` on.
+#[inline(always)]
+fn part(words: &[u64], at: usize) -> u64x8
+    requires { at + 8 ≤ length words.now }
+    ensures { result ≡ chunk at 8 words.now }
+{
+    u64x8::from_slice(&words[at..])
+}
+
+/// The bits of either.
+#[inline(always)]
+fn either(a: u64x8, b: u64x8) -> u64x8
+    ensures { AreClear result → AreClear a × AreClear b }
+{
+    a | b
+}
+
+/// Whether no lane has a bit.
+#[inline(always)]
+fn are_clear(lanes: u64x8) -> bool
+    ensures { IsTrue result → AreClear lanes }
+{
+    lanes.simd_ne(u64x8::splat(0)).to_bitmask() == 0
 }

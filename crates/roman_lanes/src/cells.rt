@@ -1,28 +1,16 @@
-// Cells as numbers: setting them all, and counting those of one value.
-ghost use Rattle.std.specs.Prelude.{◌≡◌, ◌-◌, ◌^◌, length, replicate, count_by, ◌==◌};
+// Numbers that are counted.
+ghost use Rattle.std.specs.Prelude.{◌≡◌, ◌-◌, ◌^◌, ◌≤◌, length, count_by, ◌==◌};
 
-use crate::block::{LANES, equal_in, fill_block};
-use crate::plain::{equal_cells, fill_cells};
+use crate::block::{LANES, equal_in};
 
-/// Sets each cell to `value`.
-pub fn fill_u32(to: &mut [u32], value: u32)
-    ensures filled { to.new ≡ replicate (length to.old) value }
+/// How many of the numbers are `u32::MAX`.
+pub fn count_max(values: &[u32]) -> usize
+    ensures counted { result ≡ count_by (λ x. x == 2 ^ 32 - 1) values.now }
 {
-    let blocks = to.len() / LANES;
-    for block in 0..blocks {
-        fill_block(to, block * LANES, value);
-    }
-    fill_cells(&mut to[blocks * LANES..], value);
+    count_equal(values, u32::MAX)
 }
 
-/// How many of the stamps are `u32::MAX`.
-pub fn count_max(stamps: &[u32]) -> usize
-    ensures counted { result ≡ count_by (λ stamp. stamp == 2 ^ 32 - 1) stamps.now }
-{
-    count_equal(stamps, u32::MAX)
-}
-
-/// How many of the values are `value`.
+/// How many of the numbers are `value`.
 pub fn count_equal(values: &[u32], value: u32) -> usize
     ensures counted { result ≡ count_by (λ x. x == value) values.now }
 {
@@ -32,4 +20,12 @@ pub fn count_equal(values: &[u32], value: u32) -> usize
         count += equal_in(values, block * LANES, value) as usize;
     }
     count + equal_cells(&values[blocks * LANES..], value)
+}
+
+/// The same by a plain loop, for the numbers that no whole block has.
+fn equal_cells(values: &[u32], value: u32) -> usize
+    ensures counted { result ≡ count_by (λ x. x == value) values.now }
+    ensures bound { result ≤ length values.now }
+{
+    values.iter().filter(|x| **x == value).count()
 }

@@ -1,15 +1,14 @@
-//! Kernels over slices of 32-bit cells: masks, of which each bit is a flag, and stamps, of which the greatest means none.
+//! Kernels over large slices of words and numbers, and what it means that words are rows of flags.
 //!
-//! Each goes over the whole slice in blocks of sixteen lanes, and then over the cells that are left one by one. The contracts
-//! say what a plain loop would do. Nothing allocates.
+//! Each goes over the slice in blocks, by `std::simd`, and then over what is left one by one. The
+//! contracts say what a plain loop would do. Nothing allocates.
 #![tactic(auto)]
 
 mod block;
 mod cells;
-mod masks;
-mod plain;
+mod search;
 #[cfg(test)]
 mod tests;
 
-pub use cells::{count_equal, count_max, fill_u32};
-pub use masks::{and_into, clear_bit, count_bits, drop_bit};
+pub use cells::{count_equal, count_max};
+pub use search::first_set;

@@ -56,3 +56,4 @@ pub record IsSound (a : Inside) : Type 0 where
   pub before_room : a.room ≤ vec_capacity a.before
   pub marks_room : a.room ≤ 64 * vec_capacity a.marks
   pub levels_room : a.room < vec_capacity a.levels
+  pub few_levels : length a.levels.items ≤ a.room + 1

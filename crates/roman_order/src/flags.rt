@@ -3,6 +3,8 @@ ghost use Rattle.std.specs.Prelude.{◌≡◌, ◌≢◌, ℕ, ◌+◌, ◌*◌,
 ghost use Rattle.roman_lanes.specs.Rows.{is_on};
 ghost use Rattle.roman_lanes.specs.Flags.{has_flag};
 
+use roman_lanes::first_set;
+
 /// How many words that many flags take.
 pub(crate) fn words_for(flags: u32) -> usize
     ensures { result ≡ (flags + 63) / 64 }
@@ -46,24 +48,10 @@ pub(crate) fn next_word(words: &[u64], from: usize) -> Option<usize>
     ensures some { IfSome result (λ i. (i < length words.now) × (slice_index words.now i ≢ 0)) }
 {
     let start = from.min(words.len());
-    if let Some(i) = first_word(words, start, words.len()) {
+    if let Some(i) = first_set(words, start) {
         return Some(i);
     }
-    first_word(words, 0, start)
-}
-
-/// The place of the first word with a flag, from `from` on to `end`.
-fn first_word(words: &[u64], from: usize, end: usize) -> Option<usize>
-    requires { end ≤ length words.now }
-    ensures none { IfNone result ((i : ℕ) → from ≤ i → i < end → slice_index words.now i ≡ 0) }
-    ensures some { IfSome result (λ i. (i < length words.now) × (slice_index words.now i ≢ 0)) }
-{
-    for i in from..end {
-        if words[i] != 0 {
-            return Some(i);
-        }
-    }
-    None
+    first_set(&words[..start], 0)
 }
 
 /// The lowest bit of a word that is set.

@@ -17,6 +17,9 @@ use std::alloc::{AllocError, Global};
 use std::marker::Model;
 use std::mem;
 
+// How many items of a table are copied at once.
+const PIECE: usize = 256;
+
 /// The removal list of a system's pairs, each pair's place in it, the pairs that aren't listed as words,
 /// and marks.
 ///
@@ -107,6 +110,26 @@ impl Order {
             marks: copied(alloc, &self.marks, flags::words_for(self.room))?,
             levels: copied(alloc, &self.levels, places + 1)?,
         })
+    }
+
+    /// Becomes equal to an order with the same room in which nothing waits. What is written is what that
+    /// order's tables hold, not what they have room for, and no memory is taken.
+    pub fn reset_to(&mut self, from: &Order)
+        requires room { self.old.cap_pairs ≡ from.now.cap_pairs }
+        requires idle { from.now.waiting ≡ [] }
+        ensures { self.new ≡ from.now }
+    {
+        rewrite(&mut self.entries, &from.entries);
+        rewrite(&mut self.stamps, &from.stamps);
+        rewrite(&mut self.words, &from.words);
+        rewrite(&mut self.before, &from.before);
+        rewrite(&mut self.marks, &from.marks);
+        rewrite(&mut self.levels, &from.levels);
+        self.waiting.clear();
+        self.next = 0;
+        self.cursor = from.cursor;
+        self.rows = from.rows;
+        self.lanes = from.lanes;
     }
 
     /// Empties the order, and shapes it for that many rows of so many pairs: no pair is listed, and
@@ -239,6 +262,21 @@ fn copied<T: Copy>(alloc: Global, items: &[T], room: usize) -> Result<Vec<T>, Al
     let mut table = Vec::with_capacity(alloc, room)?;
     table.extend_from_slice(items)?;
     Ok(table)
+}
+
+// Makes the items of a table those of a list, for which it has room. They are copied piece by piece,
+// since long copies are made byte by byte on some machines.
+fn rewrite<T: Copy + Drop>(table: &mut Vec<T>, items: &[T])
+    requires { length items.now ≤ vec_capacity table.old }
+    ensures items { table.new.items ≡ items.now }
+    ensures room { vec_capacity table.old ≤ vec_capacity table.new }
+{
+    table.clear();
+    for piece in items.chunks(PIECE) {
+        let Ok(()) = table.extend_from_slice(piece) else {
+            unreachable!()
+        };
+    }
 }
 
 // Makes all items of a table that value, and as many as said.

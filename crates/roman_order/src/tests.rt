@@ -31,3 +31,25 @@ fn a_list_is_kept_and_reopened(rt: HostRuntime) -> Result<(), Fail> {
     assert_eq!(rt; order.next_marked(), None);
     Ok(())
 }
+
+#[test]
+fn a_copy_becomes_equal_again(rt: HostRuntime) -> Result<(), Fail> {
+    let mut order = Order::build(rt.alloc(), 8)?;
+    order.shape_to(2, 3);
+    order.push(4, Reason::Act(1));
+    order.end_level();
+    let mut copy = order.copy(rt.alloc())?;
+    assert_eq!(rt;
+        (copy.len(), copy.alive(4), copy.levels()[0]),
+        (1, false, 1)
+    );
+    copy.push(0, Reason::Final);
+    copy.reopen(1, 8);
+    copy.push(7, Reason::Act(0));
+    copy.reset_to(&order);
+    assert_eq!(rt; (copy.len(), copy.entry(0)), (1, (4, Reason::Act(1))));
+    assert_eq!(rt; (copy.alive(0), copy.stamp(4)), (true, Some(0)));
+    assert_eq!(rt; (copy.words()[1], copy.levels()[0]), (5, 1));
+    assert_eq!(rt; copy.next_waiting(), None);
+    Ok(())
+}

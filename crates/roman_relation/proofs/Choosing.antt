@@ -1,5 +1,5 @@
 -- How many seats the masks have, row by row.
-use Rattle.std.proofs.Common.{◌≡◌, ℕ, zero, suc, ◌+◌, ◌-◌, ◌*◌, ◌%◌, ◌^◌, ◌<◌, ◌≤◌, Bool, true, false, cond, not, ◌&&◌, List, [], length, filter, sum_by, count_by, count_ones, IsTrue, IsFalse, inl, inr, refl, sym, ap, ap₂, ◌∙◌, subst, arith, eqb}
+use Rattle.std.proofs.Common.{◌≡◌, ℕ, zero, suc, ◌+◌, ◌-◌, ◌*◌, ◌%◌, ◌^◌, ◌<◌, ◌≤◌, Bool, true, false, cond, not, ◌&&◌, [], length, filter, sum_by, count_ones, IsTrue, IsFalse, inl, inr, refl, sym, ap, ap₂, ◌∙◌, subst, arith, eqb}
 use Rattle.std.specs.Int.{bit_at}
 use Rattle.std.proofs.Math.Pow.{pow_pos}
 use Rattle.std.proofs.lemmas.Bool.{cases_eq, cases_lt, cond-true, cond-false, both_ways, not_from_true, eq-eqb, ne_eqb}
@@ -140,6 +140,13 @@ action_counted A ok gone lanes row a =
     sum_turned (λ k lane. cond (not (is_beaten A gone (row * lanes + lane) a k)) 1 0) A.seats lanes
     ∙ sum_by_same (λ lane. sum_by (λ k. cond (not (is_beaten A gone (row * lanes + lane) a k)) 1 0) (below A.seats)) (λ lane. length (mask A gone (row * lanes + lane) a)) (below lanes)
     (λ lane i. sym (mask_counted A ok gone (row * lanes + lane) a))
+
+-- where an action is allowed at no pair of a row, its masks there have no seats
+pub none_chosen : (A : Arena ℕ) (gone : ℕ → Bool) (lanes row a : ℕ) → ((lane : ℕ) → lane < lanes → IsFalse (A.allows (row * lanes + lane) a)) →
+    0 ≡ sum_by (λ lane. length (mask A gone (row * lanes + lane) a)) (below lanes)
+none_chosen A gone lanes row a none =
+    sym (sum_by_same (λ lane. length (mask A gone (row * lanes + lane) a)) (λ lane. 0) (below lanes)
+    (λ lane i. ap length (mask_none A gone (row * lanes + lane) a (none lane (from_below lanes lane i)))) ∙ sum_none lanes)
 
 -- as many as pass are no more than all
 pub sum_few : (test : ℕ → Bool) (n : ℕ) → sum_by (λ i. cond (test i) 1 0) (below n) ≤ n

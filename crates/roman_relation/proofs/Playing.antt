@@ -1,24 +1,22 @@
 -- What a round as a whole does.
-use Rattle.std.proofs.Common.{◌≡◌, ◌≢◌, ℕ, zero, suc, ◌+◌, ◌*◌, ◌/◌, ◌%◌, ◌<◌, ◌≤◌, ◌⊎◌, Bool, true, false, not, ◌||◌, List, [], ◌++◌, length, take, slice_get, slice_index, Some, IsTrue, IsFalse, inl, inr, refl, sym, ap, ◌∙◌, subst, arith}
+use Rattle.std.proofs.Common.{◌≡◌, ℕ, suc, ◌+◌, ◌*◌, ◌/◌, ◌<◌, ◌≤◌, true, false, not, List, length, take, IsTrue, IsFalse, inl, inr, sym, ap, ◌∙◌, subst, arith}
 use Rattle.std.specs.List.{list_any}
 use Rattle.std.proofs.Math.Seq.{take-length}
-use Rattle.std.proofs.lemmas.Bool.{both_ways, or_cases, or_left, or_right, not_from_true, not_from_false, not-true, false_from_ne_true, cases_lt}
+use Rattle.std.proofs.lemmas.Bool.{both_ways, or_cases, or_left, or_right, not_from_true, not_from_false, not-true, false_from_ne_true}
 use Rattle.std.proofs.lemmas.Nat.{mul-add-lt}
 use Rattle.roman_model.specs.Lists.{IsIn, below}
-use Rattle.roman_model.specs.Arena.{Arena, Entry, is_listed, is_justified, loses, IsOrder}
+use Rattle.roman_model.specs.Arena.{Arena, is_listed, is_justified, loses, IsOrder}
 use Rattle.roman_model.specs.declared.reason.Reason.{Reason}
 use Rattle.roman_model.specs.declared.reason.Reason.TheVariants.{Final, Act}
 use Rattle.roman_model.proofs.Lists.{by_test, same_test, any_true, any_same}
 use Rattle.roman_model.proofs.ArenaLemmas.{in_listed, justified_same, unallowed_unjustified}
-use Rattle.roman_lanes.specs.Rows.{is_on, HasLanes, AreRows}
 use Rattle.roman_rules.specs.Numbered.{IsNumbered}
 use Rattle.roman_rules.proofs.NumberedFacts.{numbered_same}
-use Rattle.roman_order.specs.Board.{Board, pairs_of, has_entry, is_marked}
-use Rattle.roman_relation.specs.Shaped.{IsShaped}
-use Rattle.roman_relation.specs.Settled.{Begins, GoesOn, IsSettled, HoldsLost}
-use Rattle.roman_relation.specs.Rounds.{AreUnlisted, AwaitsRound, InRound, IsJudged, IsDone, IsMarking, on_at, falls}
+use Rattle.roman_order.specs.Board.{Board, has_entry, is_marked}
+use Rattle.roman_relation.specs.Settled.{Begins, IsSettled, HoldsLost}
+use Rattle.roman_relation.specs.Rounds.{AreUnlisted, AwaitsRound, InRound, IsJudged, IsDone, IsMarking, on_at}
 use Rattle.roman_relation.proofs.Beginnings.{listed_is, begins_listed, begins_unlisted, take_listed}
-use Rattle.roman_relation.proofs.Lanes.{at_pair, on_lane, each_pair}
+use Rattle.roman_relation.proofs.Lanes.{at_pair, on_lane}
 
 -- all actions are judged
 pub done_all : (A : Arena ℕ) → IsNumbered A → (start p n : ℕ) (c : Board) → A.actions ≤ n → ((a : ℕ) → a < n → IsJudged A start c p a) → IsDone A start c p

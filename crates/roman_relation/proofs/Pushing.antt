@@ -1,5 +1,5 @@
 -- Lists with entries for the lanes of a row.
-use Rattle.std.proofs.Common.{◌≡◌, ◌≢◌, ℕ, ◌+◌, ◌*◌, ◌<◌, ◌≤◌, ◌⊎◌, Bool, true, false, not, ◌&&◌, ◌||◌, List, [], ◌∷◌, ◌++◌, map, length, take, IsTrue, IsFalse, inl, inr, refl, sym, ap, ap₂, ◌∙◌, subst, arith, bit_and, append_assoc, length-append}
+use Rattle.std.proofs.Common.{◌≡◌, ℕ, ◌+◌, ◌*◌, ◌<◌, ◌≤◌, ◌⊎◌, Bool, true, false, not, ◌&&◌, ◌||◌, List, [], ◌∷◌, ◌++◌, map, length, take, IsTrue, IsFalse, inl, inr, refl, sym, ap, ap₂, ◌∙◌, subst, arith, bit_and, append_assoc, length-append}
 use Rattle.std.proofs.lemmas.Bool.{both_ways, cases_lt, or_cases, or_parts, or_left, or_from, and_parts, and_from, not_from_false, not-true, ne_eqb}
 use Rattle.std.proofs.lemmas.List.{append-nil}
 use Rattle.roman_model.specs.Lists.{IsIn, HasNoRepeats, below}
@@ -13,9 +13,9 @@ use Rattle.roman_lanes.specs.Rows.{is_on, HasLanes}
 use Rattle.roman_lanes.proofs.RowBits.{on_and}
 use Rattle.roman_rules.specs.Numbered.{IsNumbered}
 use Rattle.roman_rules.proofs.NumberedFacts.{numbered_same}
-use Rattle.roman_order.specs.Board.{Board, entry_of, lanes_in, entries_in, has_entry}
+use Rattle.roman_order.specs.Board.{Board, entry_of, lanes_in, entries_in}
 use Rattle.roman_order.proofs.Lanes.{in_lanes, lanes_once, has_entry-lane}
-use Rattle.roman_relation.specs.Settled.{Begins, GoesOn}
+use Rattle.roman_relation.specs.Settled.{Begins}
 use Rattle.roman_relation.specs.Rounds.{AreUnlisted, InRound, IsJudged, falls}
 use Rattle.roman_relation.proofs.Beginnings.{listed_is, begins_same, begins_unlisted, take_listed}
 use Rattle.roman_relation.proofs.Going.{front_kept}

@@ -1,10 +1,10 @@
 -- Lists whose entries rise by depth.
-use Rattle.std.proofs.Common.{◌≡◌, ℕ, suc, ◌+◌, ◌-◌, ◌<◌, ◌≤◌, true, List, [], ◌∷◌, ◌++◌, length, take, slice_get, get_or, Some, IsTrue, IsFalse, inl, inr, refl, sym, ap, ◌∙◌, subst, arith}
+use Rattle.std.proofs.Common.{◌≡◌, ℕ, suc, ◌+◌, ◌-◌, ◌<◌, ◌≤◌, true, List, [], ◌∷◌, ◌++◌, length, take, slice_get, get_or, Some, IsFalse, inl, inr, refl, sym, ap, ◌∙◌, subst, arith}
 use Rattle.std.proofs.lemmas.Bool.{cases_lt, both_ways, false_from_ne_true}
 use Rattle.std.proofs.lemmas.List.{take-take, get_or_append_left, get_or-append_right, length_push}
 use Rattle.std.proofs.Math.Seq.{take-length}
 use Rattle.std.proofs.lemmas.Option.{get_or_from_slice_get, slice_get_within, slice_get-get_or}
-use Rattle.roman_model.specs.Arena.{Arena, Entry, is_listed, loses, IsOrder}
+use Rattle.roman_model.specs.Arena.{Arena, Entry, is_listed, IsOrder}
 use Rattle.roman_model.proofs.DepthLemmas.{loses_up}
 use Rattle.roman_model.proofs.WorkLemmas.{order_entry}
 use Rattle.roman_rules.specs.Numbered.{IsNumbered}

@@ -1,5 +1,5 @@
 -- What a relation is made of: a joint and an order beside it.
-use Rattle.std.specs.Prelude.{◌≡◌, ℕ, ◌/◌, ◌≤◌, ◌⊎◌, []}
+use Rattle.std.specs.Prelude.{◌≡◌, ℕ, ◌/◌, ◌⊎◌, []}
 use Rattle.roman_model.specs.Arena.{Arena}
 use Rattle.roman_model.specs.Numbers.{numbered, IsCompleteList}
 use Rattle.roman_joint.specs.NamedSys.{NamedSys, system_of}
@@ -16,9 +16,9 @@ arena_of joint = numbered (system_of joint)
 abbrev pub lanes_of : NamedSys → ℕ
 lanes_of joint = lanes_in (system_of joint)
 
--- the order has room for every system within the joint's limit
+-- the order has room for just as many pairs as a system within the joint's limit may have
 pub record HasCaps (joint : NamedSys) (order : Board) : Type 0 where
-  pub pairs : joint.limit / (system_of joint).env.actions ≤ order.cap_pairs
+  pub pairs : joint.limit / (system_of joint).env.actions ≡ order.cap_pairs
 
 -- the list is complete, nothing waits, and the levels, where they weren't forgotten, are those of the list
 pub record HasCompleteList (joint : NamedSys) (order : Board) : Type 0 where

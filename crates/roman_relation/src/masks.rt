@@ -80,6 +80,9 @@ fn action_choices<J: Rules>(joint: &J, order: &Order, row: &J::Row, x: u32, a: u
     joint.known();
     joint.lanes();
     order.len();
+    if (joint.row_actions(row) >> a) & 1 == 0 {
+        return 0;
+    }
     let words = order.words();
     let mut count = 0;
     for k in 0..joint.seats() {

@@ -8,6 +8,7 @@ ghost use Rattle.roman_model.specs.Numbers.{sizes_of, count, pair_at};
 ghost use Rattle.roman_model.specs.Offers.{is_related, choice_count};
 ghost use Rattle.roman_rules.specs.Bits.{HasBits};
 ghost use Rattle.roman_joint.specs.NamedSys.{system_of};
+ghost use Rattle.roman_joint.specs.Parts.{HasSameParts};
 ghost use Rattle.roman_order.specs.Board.{has_entry};
 ghost use Rattle.roman_relation.specs.Shaped.{IsShaped};
 ghost use Rattle.roman_relation.specs.Settled.{Begins, RisesByDepth, AreLevels};
@@ -38,7 +39,8 @@ pub struct Relation {
 
 impl Relation {
     /// The greatest relation of a joint, with a complete removal list whose entries rise by depth,
-    /// level by level, and room for every system within the joint's limit. No other call takes memory.
+    /// level by level, and room for every system within the joint's limit. No other call but
+    /// [`scratch`](Relation::scratch) takes memory.
     pub fn build<L: Ledger>(
         alloc: Global,
         joint: Joint,
@@ -57,6 +59,30 @@ impl Relation {
         let mut relation = Relation { joint, order };
         relation.afresh(steps);
         Ok(relation)
+    }
+
+    /// An equal relation with tables of its own and the same room: changes can be tried on it.
+    pub fn scratch(&self, alloc: Global) -> Result<Relation, AllocError>
+        ensures { IfOk result (λ scratch. scratch ≡ self.now) }
+    {
+        Ok(Relation {
+            joint: self.joint.copy(alloc)?,
+            order: self.order.copy(alloc)?,
+        })
+    }
+
+    /// Becomes equal to `from`, in which nothing waits, and which differs in its services and its list
+    /// alone. What is written is what the tables of `from` hold, not what they have room for, and no
+    /// memory is taken.
+    pub fn reset_to(&mut self, from: &Relation)
+        requires parts { HasSameParts self.old.joint from.now.joint }
+        requires caps { HasCaps self.old.joint self.old.order }
+        requires caps_from { HasCaps from.now.joint from.now.order }
+        requires idle { from.now.order.waiting ≡ [] }
+        ensures { self.new ≡ from.now }
+    {
+        self.joint.reset_seats_to(&from.joint);
+        self.order.reset_to(&from.order);
     }
 
     /// Whether the pair `p` is related.

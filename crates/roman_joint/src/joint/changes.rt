@@ -33,6 +33,8 @@ impl Joint {
         let _seat = self.seats.remove(k as usize);
         self.shape = self.shape.shrink(k);
         self.rows = rows_of(&self.shape);
+        self.moves
+            .fill(&self.catalogue, &self.seats, &self.shape, &self.rows);
     }
 
     /// Adds a service, whose name is new, at the last place.
@@ -61,6 +63,8 @@ impl Joint {
         self.rows = rows_of(&shape);
         self.shape = shape;
         self.seats.push_reserved(seat);
+        self.moves
+            .fill(&self.catalogue, &self.seats, &self.shape, &self.rows);
         Ok(())
     }
 }

@@ -100,8 +100,9 @@ impl Joint {
         }
     }
 
-    // The pairs to which an action may lead from a pair, delegated to a service.
-    fn outcomes(&self, p: u32, a: u8, k: u8) -> Outcomes<'_>
+    /// The pairs to which an action may lead from a pair, delegated to a service. The action must be
+    /// allowed there, and the service ready.
+    pub fn outcomes(&self, p: u32, a: u8, k: u8) -> Outcomes<'_>
         requires pair { p < count (sizes_of (system_of self.now)) }
         requires seat { k < length self.now.seats }
         requires allowed { IsTrue ((numbered (system_of self.now)).allows p a) }

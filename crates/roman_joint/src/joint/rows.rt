@@ -8,6 +8,7 @@ ghost use Rattle.roman_joint.specs.Rows.{lanes_in, IsRow};
 
 use super::Joint;
 use crate::row::Row;
+use crate::states::row_states;
 
 impl Joint {
     /// How many pairs a row has, from 1 to 64: pair p is lane `p % lanes` of row `p / lanes`.
@@ -40,7 +41,7 @@ impl Joint {
             leading: scene.leading,
             target: shape.target_of(p),
             env: shape.env_of(p),
-            states: shape.parts_of(p),
+            states: row_states(self, x),
         }
     }
 

@@ -1,7 +1,7 @@
-use Rattle.std.proofs.Common.{◌≡◌, ℕ, ◌+◌, ◌*◌, ◌<◌, ◌≤◌, Bool, ◌&&◌, ◌||◌, slice_get, slice_index, sym, ap, ap₂, subst, ◌∙◌, arith}
-use Rattle.roman_model.specs.Numbers.{sizes_of, pair_at}
+use Rattle.std.proofs.Common.{◌<◌, ◌≤◌, ◌&&◌, ◌||◌, slice_get, sym, ap, ap₂, subst, ◌∙◌}
+use Rattle.roman_model.specs.Numbers.{sizes_of}
 use Rattle.roman_joint.specs.NamedSys.{system_of}
-use Rattle.roman_joint.specs.Rows.{lanes_in, low_in, may_rest}
+use Rattle.roman_joint.specs.Rows.{low_in, may_rest}
 use Rattle.roman_joint.proofs.WordLemmas.{on_zero}
 use Rattle.roman_joint.proofs.SplitLemmas.{joint_sizes}
 use Rattle.roman_joint.proofs.LeadLemmas.{lane_part}

@@ -1,15 +1,10 @@
-use Rattle.std.proofs.Common.{◌≡◌, ℕ, ◌+◌, ◌-◌, ◌*◌, ◌<◌, ◌^◌, Bool, not, get_or, length, map, slice_index, IsFalse, sym, ap, ◌∙◌, subst, arith}
-use Rattle.std.proofs.lemmas.List.{length-map}
-use Rattle.roman_model.specs.Lists.{is_empty, IsIn}
+use Rattle.std.proofs.Common.{get_or, length, IsFalse, sym, ◌∙◌, arith}
+use Rattle.roman_model.specs.Lists.{is_empty}
 use Rattle.roman_model.proofs.Lists.{not_empty_in, empty_is}
-use Rattle.roman_model.specs.System.{Seat}
-use Rattle.roman_model.specs.Numbers.{sizes_of}
-use Rattle.roman_radix.proofs.RowLemmas.{low_of-le}
-use Rattle.roman_joint.specs.NamedSys.{NamedSys, system_of, seat_of, IsNamedSys}
-use Rattle.roman_joint.specs.Rows.{low_in}
+use Rattle.roman_joint.specs.NamedSys.{system_of}
 use Rattle.roman_joint.proofs.Finds.{in_at}
 use Rattle.roman_joint.proofs.SeatRead.{len_empty}
-use Rattle.roman_joint.proofs.GoodLemmas.{low_few, Known, known, RowsThere, rows_there, RowsBefore, rows_before, serves_before, beaten_before}
+use Rattle.roman_joint.proofs.GoodLemmas.{low_few, Known, known, rows_there, rows_before, serves_before, beaten_before}
 use Rattle.roman_joint.proofs.good.good_before.Goals as goal
 
 pub bounds-row-k : goal.bounds-row-k

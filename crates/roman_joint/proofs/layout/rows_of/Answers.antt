@@ -1,4 +1,4 @@
-use Rattle.std.proofs.Common.{◌≡◌, ◌/◌, ◌<◌, ◌≤◌, length, slice_index, sym, ap, ap₂, ◌∙◌, subst, arith}
+use Rattle.std.proofs.Common.{◌/◌, ◌<◌, ◌≤◌, length, sym, ap, subst, arith}
 use Rattle.roman_radix.proofs.Strides.{AreSizes-index}
 use Rattle.roman_joint.proofs.SplitLemmas.{rows_made}
 use Rattle.roman_joint.proofs.LeadLemmas.{stride_positive}

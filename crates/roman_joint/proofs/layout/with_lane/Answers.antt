@@ -1,4 +1,4 @@
-use Rattle.std.proofs.Common.{◌≡◌, true, cond, sym, ap, ◌∙◌}
+use Rattle.std.proofs.Common.{true, cond, sym, ap, ◌∙◌}
 use Rattle.roman_lanes.specs.Rows.{is_on}
 use Rattle.roman_joint.proofs.WordLemmas.{on_set_same, on_set_other}
 use Rattle.roman_joint.proofs.layout.with_lane.Goals as goal

@@ -1,4 +1,4 @@
-use Rattle.std.proofs.Common.{◌≡◌, ℕ, ◌+◌, ◌<◌, ◌≤◌, length, take, get_or}
+use Rattle.std.proofs.Common.{ℕ, ◌+◌, ◌<◌, ◌≤◌, length, take, get_or}
 use Rattle.std.specs.List.{flat_map}
 use Rattle.roman_model.specs.System.{Pair}
 use Rattle.roman_joint.specs.NamedSys.{system_of}

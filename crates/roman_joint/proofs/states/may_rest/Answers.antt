@@ -1,9 +1,9 @@
-use Rattle.std.proofs.Common.{◌≡◌, ℕ, ◌<◌, ◌||◌, not, ◌∙◌, List, get_or, sym, ap, ap₂, arith}
+use Rattle.std.proofs.Common.{◌||◌, not, ◌∙◌, List, get_or, sym, ap, arith}
 use Rattle.roman_parts.specs.Named.{NamedBeh}
 use Rattle.roman_model.specs.System.{is_final}
-use Rattle.roman_joint.specs.NamedSys.{system_of, seat_of}
+use Rattle.roman_joint.specs.NamedSys.{seat_of}
 use Rattle.roman_joint.specs.Rows.{may_rest}
-use Rattle.roman_joint.proofs.SeatRead.{SeatRead, seat_read, seat_placed}
+use Rattle.roman_joint.proofs.SeatRead.{seat_read, seat_placed}
 use Rattle.roman_joint.proofs.states.may_rest.Goals as goal
 
 pub returns-then-not-seat : goal.returns-then-not-seat

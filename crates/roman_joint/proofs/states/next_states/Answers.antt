@@ -1,10 +1,9 @@
-use Rattle.std.proofs.Common.{◌≡◌, ℕ, ◌<◌, ◌∙◌, List, get_or, sym, ap, subst, arith}
+use Rattle.std.proofs.Common.{◌∙◌, List, get_or, sym, ap, arith}
 use Rattle.roman_parts.specs.Named.{NamedBeh}
 use Rattle.roman_model.specs.System.{beh_next}
-use Rattle.roman_model.specs.Numbers.{sizes_of}
-use Rattle.roman_joint.specs.NamedSys.{system_of, seat_of}
+use Rattle.roman_joint.specs.NamedSys.{seat_of}
 use Rattle.roman_joint.proofs.OutcomeLemmas.{ready_next}
-use Rattle.roman_joint.proofs.SeatRead.{SeatRead, seat_read}
+use Rattle.roman_joint.proofs.SeatRead.{seat_read}
 use Rattle.roman_joint.proofs.states.next_states.Goals as goal
 
 pub out-requires-clause-state : goal.out-requires-clause-state

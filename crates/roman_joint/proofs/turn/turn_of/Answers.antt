@@ -1,4 +1,4 @@
-use Rattle.std.proofs.Common.{◌≡◌, ◌*◌, ◌<◌, ap, arith}
+use Rattle.std.proofs.Common.{◌*◌, ap, arith}
 use Rattle.roman_parts.specs.Named.{NamedTarget}
 use Rattle.roman_joint.proofs.GoodLemmas.{turn_fits}
 use Rattle.roman_joint.proofs.turn.turn_of.Goals as goal

@@ -1,4 +1,4 @@
-use Rattle.std.proofs.Common.{◌≡◌, ℕ, ◌+◌, ◌*◌, Bool, not, ◌&&◌, take, slice_index}
+use Rattle.std.proofs.Common.{◌≡◌, ℕ, ◌+◌, ◌*◌, not, ◌&&◌, take, slice_index}
 use Rattle.std.specs.List.{list_any}
 use Rattle.roman_lanes.specs.Rows.{is_on}
 use Rattle.roman_joint.proofs.words.all_alive.Given as goal

@@ -1,4 +1,3 @@
-use Rattle.std.proofs.Common.{◌≡◌}
 use Rattle.roman_joint.proofs.WordLemmas.{on_less}
 use Rattle.roman_joint.proofs.words.less.Goals as goal
 

@@ -1,4 +1,4 @@
-use Rattle.std.proofs.Common.{◌≡◌, ◌+◌, ◌-◌, ◌≤◌, ◌<◌, sym, ap, arith}
+use Rattle.std.proofs.Common.{◌+◌, ◌-◌, arith}
 use Rattle.roman_joint.proofs.WordLemmas.{on_shr, on_shl}
 use Rattle.roman_joint.proofs.words.shifted.Goals as goal
 

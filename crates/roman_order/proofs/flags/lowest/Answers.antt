@@ -1,4 +1,4 @@
-use Rattle.std.proofs.Common.{◌<◌, ap, eqb, arith}
+use Rattle.std.proofs.Common.{ap, eqb, arith}
 use Rattle.std.specs.Int.{w64}
 use Rattle.std.proofs.lemmas.Bool.{eq-eqb}
 use Rattle.std.proofs.lemmas.Nat.Bits.{bit_at-trailing_zeros}

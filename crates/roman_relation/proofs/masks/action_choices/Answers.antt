@@ -1,10 +1,14 @@
-use Rattle.std.proofs.Common.{◌≡◌, ℕ, ◌+◌, ◌*◌, ◌<◌, ◌≤◌, not, cond, sum_by, count_ones, sym, ap, ◌∙◌, subst, arith}
+use Rattle.std.proofs.Common.{◌≡◌, ◌+◌, ◌*◌, ◌≤◌, not, cond, sum_by, sym, ap, ◌∙◌, subst, arith}
+use Rattle.std.specs.Int.{bit_at}
+use Rattle.std.proofs.lemmas.Nat.Bits.{shr_and_one}
 use Rattle.roman_model.specs.Lists.{below}
 use Rattle.roman_model.specs.Arena.{is_listed, is_beaten}
 use Rattle.roman_lanes.specs.Rows.{AreRows}
 use Rattle.roman_order.specs.Board.{has_entry}
 use Rattle.roman_relation.proofs.Lanes.{unlisted_rows}
-use Rattle.roman_relation.proofs.Choosing.{sum_below_more, sum_few, ones_counted, action_counted}
+use Rattle.roman_rules.specs.Bits.{bit_of}
+use Rattle.roman_rules.proofs.Asking.{bit_off}
+use Rattle.roman_relation.proofs.Choosing.{sum_below_more, sum_few, ones_counted, action_counted, none_chosen}
 use Rattle.roman_relation.proofs.masks.action_choices.Goals as goal
 
 pub loop-k-preserved : goal.loop-k-preserved
@@ -33,3 +37,13 @@ returns-clause-counted g c =
     let end : c.loop-k.k ≡ A.seats = omega (arith, c.loop-k-test.false, c.seats-k-end.ensures) in
     c.loop-k.invariant.counted ∙ (ap (λ m. sum_by (λ k. sum_by (λ lane. cond (not (is_beaten A gone (c.args.x * n + lane) c.args.a k)) 1 0) (below n)) (below m)) end
     ∙ action_counted A c.known.ensures gone n c.args.x c.args.a)
+
+-- an action that isn't allowed at the row's pairs
+pub returns-then-row_actions-a-eq0-clause-counted : goal.returns-then-row_actions-a-eq0-clause-counted
+returns-then-row_actions-a-eq0-clause-counted g c =
+    let A = g.J.Rules.arena c.args.joint.now in
+    let n = g.J.Rules.lanes c.args.joint.now in
+    let few = c.known.ensures.few_actions in
+    none_chosen A (is_listed A c.args.order.now.list) n c.args.x c.args.a (λ lane within.
+    let bit : bit_at c.row_actions.result c.args.a ≡ bit_of (A.allows (c.args.x * n + lane) c.args.a) = (c.row_actions.ensures c.args.x lane c.requires.row within).each c.args.a (omega arith) in
+    bit_off (A.allows (c.args.x * n + lane) c.args.a) (sym bit ∙ sym (shr_and_one c.row_actions.result c.args.a) ∙ c.if-row_actions-a-eq0.true))

@@ -1,4 +1,4 @@
-use Rattle.std.proofs.Common.{◌≡◌, ℕ, ◌+◌, ◌*◌, ◌≤◌, not, cond, sum_by}
+use Rattle.std.proofs.Common.{◌≡◌, ◌+◌, ◌*◌, ◌≤◌, not, cond, sum_by}
 use Rattle.roman_model.specs.Lists.{below}
 use Rattle.roman_model.specs.Arena.{is_listed, is_beaten}
 use Rattle.roman_relation.proofs.masks.action_choices.Given as goal

@@ -1,7 +1,7 @@
-use Rattle.std.proofs.Common.{◌≡◌, ℕ, ◌+◌, ◌*◌, ◌/◌, ◌<◌, ◌≤◌, suc, List, length, take, IsFalse, sym, ap, ◌∙◌, subst, arith}
+use Rattle.std.proofs.Common.{◌≡◌, ℕ, ◌*◌, ◌<◌, suc, List, length, take, IsFalse, sym, ap, ◌∙◌, subst, arith}
 use Rattle.roman_model.specs.Arena.{Entry, IsOrder, is_listed, is_justified}
 use Rattle.roman_model.specs.declared.reason.Reason.TheVariants.{Act}
-use Rattle.roman_order.specs.Board.{Board, pairs_of, has_entry}
+use Rattle.roman_order.specs.Board.{Board, has_entry}
 use Rattle.roman_relation.specs.Settled.{Begins, IsSettled, HoldsLost}
 use Rattle.roman_relation.specs.Rounds.{InRound, IsDone}
 use Rattle.roman_relation.proofs.Beginnings.{begins_unlisted}

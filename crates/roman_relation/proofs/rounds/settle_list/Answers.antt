@@ -1,9 +1,9 @@
-use Rattle.std.proofs.Common.{◌≡◌, ℕ, suc, ◌+◌, ◌<◌, ◌≤◌, Bool, true, false, cond, List, [], ◌∷◌, ◌++◌, length, sym, ap, ◌∙◌, subst, arith}
+use Rattle.std.proofs.Common.{◌≡◌, ℕ, suc, ◌+◌, ◌<◌, ◌≤◌, Bool, true, false, cond, [], ◌∷◌, ◌++◌, length, sym, ap, ◌∙◌, subst, arith}
 use Rattle.std.proofs.lemmas.Bool.{cond-true, cond-false, eqb-true}
 use Rattle.std.proofs.lemmas.List.{length_push}
-use Rattle.roman_model.specs.Arena.{Entry, fall}
+use Rattle.roman_model.specs.Arena.{fall}
 use Rattle.roman_model.proofs.Lists.{by_test}
-use Rattle.roman_order.specs.Board.{Board, pairs_of, has_entry}
+use Rattle.roman_order.specs.Board.{Board, has_entry}
 use Rattle.roman_relation.specs.Settled.{Begins, HoldsLost, RisesByDepth, AreLevels}
 use Rattle.roman_relation.proofs.Beginnings.{begins_on, begins_length}
 use Rattle.roman_relation.proofs.Going.{fall_added, rest_from, no_entries}

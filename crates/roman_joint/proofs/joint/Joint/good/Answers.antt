@@ -1,6 +1,5 @@
-use Rattle.std.proofs.Common.{◌≡◌, ℕ, ◌+◌, ◌*◌, ◌∙◌, sym, ap, not}
+use Rattle.std.proofs.Common.{◌∙◌, sym, ap, not}
 use Rattle.roman_joint.specs.NamedSys.{system_of}
-use Rattle.roman_joint.specs.Rows.{lanes_in}
 use Rattle.roman_joint.proofs.ArenaFacts.{joint_numbered}
 use Rattle.roman_joint.proofs.AllowedLemmas.{unopened}
 use Rattle.roman_joint.proofs.WordLemmas.{on_zero}

@@ -1,4 +1,4 @@
-use Rattle.std.proofs.Common.{◌≡◌, ℕ, ◌+◌, ◌*◌, ◌<◌, ◌≤◌, List, length, sym, ap, ◌∙◌, subst, arith}
+use Rattle.std.proofs.Common.{◌≡◌, ℕ, ◌+◌, ◌*◌, ◌≤◌, length, sym, ap, subst, arith}
 use Rattle.std.specs.List.{flat_map}
 use Rattle.roman_model.specs.Lists.{below}
 use Rattle.roman_model.specs.Numbers.{sizes_of, count, pair_at}

@@ -7,9 +7,20 @@ use Rattle.roman_joint.proofs.Shown.{Shows, shown, targets_shown}
 use Rattle.roman_model.specs.declared.limits.TheConstants.{MAX_CELLS}
 use Rattle.roman_parts.specs.Named.{NamedTarget}
 use Rattle.roman_radix.specs.Radix.{target_stride_of}
+use Rattle.roman_model.proofs.NumberLemmas.{numbers_are_pairs}
 use Rattle.roman_joint.proofs.Rows.{RowMoves, count_fits, target_moves}
 use Rattle.roman_joint.proofs.WalkLemmas.{goes_target, no_targets, more_targets, few_beh_prev}
 use Rattle.roman_joint.proofs.joint.Joint.next_target.Goals as goal
+
+pub into-targets-requires-clause-state : goal.into-targets-requires-clause-state
+into-targets-requires-clause-state c =
+    let a = c.self.inside in
+    let n = c.args.self.now in
+    let w = c.args.walk.now in
+    let s = system_of n in
+    let fields : Shows a n = shown a n c.self.invariant c.self.view_is in
+    let there : w.to_target < s.target.states = subst (λ t. t < s.target.states) (sym c.requires.walk.to_target) ((numbers_are_pairs s).pair w.pair c.requires.walk.pair).t in
+    subst (λ (t : NamedTarget). w.to_target < t.beh.states) (sym fields.target) there
 
 pub overflow_mul-walk : goal.overflow_mul-walk
 overflow_mul-walk c =

@@ -1,6 +1,5 @@
-use Rattle.std.proofs.Common.{◌≡◌, ℕ, ◌+◌, ◌*◌, ◌%◌, ◌<◌, List, length, take, sym, ap, ap₂, ◌∙◌, subst, arith}
-use Rattle.roman_model.specs.Numbers.{Sizes, sizes_of, count, pair_at}
-use Rattle.roman_radix.specs.Radix.{IsSizes}
+use Rattle.std.proofs.Common.{◌≡◌, ◌*◌, ◌%◌, ◌<◌, sym, ap, ap₂, ◌∙◌, subst, arith}
+use Rattle.roman_model.specs.Numbers.{sizes_of, count, pair_at}
 use Rattle.roman_radix.specs.Rows.{env_rows_of}
 use Rattle.roman_joint.specs.NamedSys.{system_of}
 use Rattle.roman_joint.specs.Scenes.{ArePermitted, AreLeading}
@@ -25,10 +24,6 @@ pub env_of-requires : goal.env_of-requires
 env_of-requires c = subst (λ n. c.args.x * c.layout-rows.result.now.lanes < count n) (sym c.shape-shape.ensures)
     (subst (λ m. c.args.x * m < count (sizes_of (system_of c.args.self.now))) (sym c.layout-rows.ensures.rows.lanes) c.requires)
 
-pub parts_of-requires : goal.parts_of-requires
-parts_of-requires c = subst (λ n. c.args.x * c.layout-rows.result.now.lanes < count n) (sym c.shape-shape.ensures)
-    (subst (λ m. c.args.x * m < count (sizes_of (system_of c.args.self.now))) (sym c.layout-rows.ensures.rows.lanes) c.requires)
-
 pub nonzero_rem-result : goal.nonzero_rem-result
 nonzero_rem-result c =
     let s = system_of c.args.self.now in
@@ -46,9 +41,8 @@ returns c =
     let env = c.env_of.ensures.value ∙ ap₂ (λ m q. (pair_at m q).e) c.shape-shape.ensures here in
     let target_there = c.target_of.ensures.value ∙ ap (λ m. (pair_at m (x * r.lanes)).t) c.shape-shape.ensures in
     let env_there = c.env_of.ensures.value ∙ ap (λ m. (pair_at m (x * r.lanes)).e) c.shape-shape.ensures in
-    let states = ap (λ (m : Sizes). take (length m.seats) c.parts_of.result) (sym c.shape-shape.ensures) ∙ (c.parts_of.ensures ∙ ap₂ (λ m q. (pair_at m q).bs) c.shape-shape.ensures here) in
     row_made s x _ (joint_sizes n c.layout-rows.ensures.known) c.requires r.rows c.layout-rows.ensures.rows.rows
-    (ap (λ m. x % m) c.layout-rows.ensures.rows.env) target env states
+    (ap (λ m. x % m) c.layout-rows.ensures.rows.env) target env c.row_states.ensures
     (subst (λ t. ArePermitted s.env s.target t c.env_of.result c.scene_at-scene.result.allowed) (sym target_there)
     (subst (λ e. ArePermitted s.env s.target (pair_at (sizes_of s) (x * r.lanes)).t e c.scene_at-scene.result.allowed) (sym env_there) c.scene_at-scene.ensures.allowed))
     (subst (λ t. AreLeading s.env s.target t c.env_of.result c.scene_at-scene.result.leading) (sym target_there)

@@ -4,6 +4,8 @@ use Rattle.roman_model.specs.Numbers.{sizes_of}
 use Rattle.roman_joint.specs.NamedSys.{system_of, IsNamedSys}
 use Rattle.roman_joint.specs.Layout.{named_sys_in}
 use Rattle.roman_joint.specs.Rows.{AreRowsOf}
+use Rattle.roman_joint.specs.Moves.{HoldsMoves}
+use Rattle.roman_joint.proofs.MoveLemmas.{moves_frozen}
 use Rattle.roman_joint.specs.Changes.{with_frozen}
 use Rattle.roman_joint.proofs.SeatChanges.{with_seats, frozen_set, frozen_known, frozen_sizes, frozen_system}
 use Rattle.roman_joint.proofs.joint.Joint.set_frozen.Goals as goal
@@ -19,6 +21,8 @@ invariant_of-self c =
       known = subst (λ xs. IsNamedSys (with_seats n xs)) (sym seats) (frozen_known n k frozen c.self.invariant.known within);
       shape = c.self.invariant.shape ∙ (sym (frozen_sizes n k frozen) ∙ ap (λ xs. sizes_of (system_of (with_seats n xs))) (sym seats));
       rows = subst (λ m. AreRowsOf m c.self.inside.rows) (sym (frozen_sizes n k frozen) ∙ ap (λ xs. sizes_of (system_of (with_seats n xs))) (sym seats)) c.self.invariant.rows;
+      moves = subst (λ xs. HoldsMoves (system_of (with_seats n xs)) c.self.inside.moves) (sym seats) (moves_frozen n k frozen c.self.inside.moves c.self.invariant.moves);
+      moves_room = c.self.invariant.moves_room;
       scenes = c.self.invariant.scenes;
       room = c.self.invariant.room;
     }

@@ -11,6 +11,7 @@ invariant_of-result c =
     let words : c.in_ok-with_capacity-4.field-0.items ≡ [] = search rules in
     let before : c.in_ok-with_capacity-5.field-0.items ≡ [] = search rules in
     let marks : c.in_ok-with_capacity-6.field-0.items ≡ [] = search rules in
+    let levels : c.in_ok-with_capacity-7.field-0.items ≡ [] = search rules in
     record {
       placed = rw (entries, stamps) (IsPlaced-nil 0 [] (λ p. get_or_past [] p _ (omega arith)));
       alive = rw words (record { each = λ x h. absurd (omega arith) });
@@ -29,4 +30,5 @@ invariant_of-result c =
       before_room = omega (arith, c.in_ok-with_capacity-5.ensures.capacity);
       marks_room = omega (arith, c.in_ok-with_capacity-6.ensures.capacity, c.words_for.ensures);
       levels_room = omega (arith, c.in_ok-with_capacity-7.ensures.capacity);
+      few_levels = rw levels (omega arith);
     }

@@ -1,4 +1,4 @@
-use Rattle.std.proofs.Common.{◌≡◌, ◌≤◌, ◌*◌, length, arith}
+use Rattle.std.proofs.Common.{◌*◌, arith}
 use Rattle.std.proofs.lemmas.List.{length-map}
 use Rattle.roman_order.specs.Sound.{list_of}
 use Rattle.roman_order.proofs.Places.{length-le_from_apart}

@@ -1,8 +1,5 @@
-use Rattle.std.proofs.Common.{◌≡◌, ◌≢◌, ℕ, ◌+◌, ◌*◌, ◌%◌, ◌^◌, ◌<◌, true, false, inl, inr, List, [], ◌∷◌, ◌++◌, map, sym, ap, ◌∙◌, subst, arith}
-use Rattle.std.proofs.lemmas.Bool.{cases_eq, both_ways}
+use Rattle.std.proofs.Common.{◌≡◌, ℕ, ◌+◌, ◌*◌, ◌<◌, false, ◌++◌, map, sym, ap, ◌∙◌, subst, arith}
 use Rattle.roman_model.specs.Arena.{Entry}
-use Rattle.roman_lanes.specs.Rows.{is_on}
-use Rattle.roman_lanes.proofs.RowBits.{on_pow_other}
 use Rattle.roman_order.specs.Board.{Board, lanes_in, entry_of, has_entry}
 use Rattle.roman_order.proofs.Lanes.{lanes_in-one, one_pow, one_lane}
 use Rattle.roman_order.proofs.order.Order.push_at.Goals as goal

@@ -1,9 +1,8 @@
-use Rattle.std.proofs.Common.{◌≡◌, ℕ, ◌+◌, ◌*◌, ◌^◌, ◌<◌, ◌≤◌, true, List, ◌++◌, length, get_or, sym, ap, ◌∙◌, subst, arith}
-use Rattle.std.proofs.Math.ListN.{set}
+use Rattle.std.proofs.Common.{◌≡◌, ℕ, ◌*◌, ◌<◌, true, List, ◌++◌, length, get_or, ap, ◌∙◌, subst, arith}
 use Rattle.std.proofs.lemmas.List.{length-set, get_or_read, with_items_is}
 use Rattle.roman_model.specs.Arena.{Entry}
 use Rattle.roman_lanes.specs.Rows.{is_on}
-use Rattle.roman_order.specs.Board.{Board, pairs_of, entries_in, has_entry}
+use Rattle.roman_order.specs.Board.{Board, entries_in}
 use Rattle.roman_order.specs.Sound.{IsPlaced, board_of, list_of, entries_of}
 use Rattle.roman_order.proofs.Lanes.{AreRows-pushed}
 use Rattle.roman_order.proofs.order.Order.push_lanes.Goals as goal
@@ -37,6 +36,7 @@ invariant_of-self c =
       before_room = invariant.before_room;
       marks_room = invariant.marks_room;
       levels_room = invariant.levels_room;
+      few_levels = invariant.few_levels;
     }
 
 pub returns : goal.returns

@@ -1,4 +1,4 @@
-use Rattle.std.proofs.Common.{◌≡◌, ℕ, zero, ◌+◌, ◌-◌, ◌*◌, ◌/◌, ◌^◌, ◌<◌, ◌≤◌, [], length, replicate, vec_capacity, ap, ◌∙◌, arith}
+use Rattle.std.proofs.Common.{◌≡◌, ℕ, zero, ◌-◌, ◌*◌, ◌/◌, ◌^◌, ◌≤◌, replicate, ap, ◌∙◌, arith}
 use Rattle.std.proofs.lemmas.List.{length-replicate, get_or-replicate}
 use Rattle.std.proofs.lemmas.Nat.Bits.{ones_shr}
 use Rattle.roman_order.specs.Board.{Board}
@@ -37,6 +37,7 @@ invariant_of-self c =
       before_room = omega (arith, invariant.before_room, c.refill-3.ensures.room);
       marks_room = omega (arith, invariant.marks_room, c.refill-4.ensures.room);
       levels_room = omega (arith, invariant.levels_room, c.clear-2.ensures.capacity);
+      few_levels = rw c.clear-2.ensures.items (omega arith);
     }
 
 pub returns-clause-unmarked : goal.returns-clause-unmarked

@@ -1,7 +1,5 @@
-use Rattle.std.proofs.Common.{◌*◌, ◌≡◌, not, ap, arith}
-use Rattle.std.specs.Prelude.{count_by}
-use Rattle.roman_model.specs.Lists.{below}
-use Rattle.roman_order.specs.Board.{Board, pairs_of, has_entry}
+use Rattle.std.proofs.Common.{ap, arith}
+use Rattle.roman_order.specs.Board.{Board, pairs_of}
 use Rattle.roman_order.proofs.Counts.{count_by-unlisted}
 use Rattle.roman_order.proofs.order.Order.unlisted.Goals as goal
 

@@ -1,4 +1,4 @@
-use Rattle.std.proofs.Common.{◌≡◌, ◌≢◌, ℕ, ◌+◌, ◌*◌, ◌%◌, ◌^◌, ◌<◌, true, List, [], ◌∷◌, ◌++◌, map, length, sym, ap, ◌∙◌, subst, arith, append_assoc}
+use Rattle.std.proofs.Common.{◌≡◌, ℕ, ◌+◌, ◌*◌, ◌%◌, ◌^◌, true, List, [], ◌∷◌, ◌++◌, map, length, sym, ap, ◌∙◌, subst, arith, append_assoc}
 use Rattle.std.proofs.lemmas.Bool.{and_parts, both_ways}
 use Rattle.std.proofs.lemmas.List.{append-nil, length-set, length-map}
 use Rattle.std.proofs.lemmas.Nat.{and_le_l}
@@ -7,7 +7,7 @@ use Rattle.roman_model.specs.Arena.{Entry}
 use Rattle.roman_lanes.specs.Rows.{is_on}
 use Rattle.roman_lanes.proofs.RowBits.{on_and}
 use Rattle.roman_order.specs.Board.{entry_of, lanes_in}
-use Rattle.roman_order.specs.Sound.{IsPlaced, entries_of}
+use Rattle.roman_order.specs.Sound.{entries_of}
 use Rattle.roman_order.proofs.Lanes.{without_lane, without_first, without_first-less, lanes_in-first, lanes_in-zero}
 use Rattle.roman_order.proofs.Places.{length-le_from_apart, has_entry-push_other}
 use Rattle.roman_order.proofs.Pushes.{entry_in, entries_of-push, room-push, IsPlaced-push}

@@ -1,4 +1,4 @@
-use Rattle.std.proofs.Common.{◌≡◌, ◌*◌, ◌≤◌, [], inr, sym, ap, ◌∙◌, arith}
+use Rattle.std.proofs.Common.{◌≡◌, ◌*◌, [], inr, sym, ap, ◌∙◌, arith}
 use Rattle.roman_model.specs.Numbers.{sizes_of, count}
 use Rattle.roman_model.proofs.Lists.{length-below}
 use Rattle.roman_joint.specs.NamedSys.{system_of}

@@ -1,4 +1,4 @@
-use Rattle.std.proofs.Common.{◌≡◌, ◌≢◌, ℕ, ◌+◌, ◌*◌, ◌/◌, ◌%◌, ◌<◌, ◌≤◌, true, nat_lt, length, inl, inr, refl, sym, ap, ◌∙◌, subst, arith}
+use Rattle.std.proofs.Common.{◌≡◌, ◌+◌, ◌*◌, ◌/◌, ◌%◌, ◌<◌, nat_lt, length, inl, inr, refl, sym, ap, ◌∙◌, subst, arith}
 use Rattle.std.proofs.lemmas.Bool.{cases_eq, both_ways}
 use Rattle.std.proofs.lemmas.Nat.{mod_below, div-add-mod'}
 use Rattle.std.specs.Prelude.{count_by}
@@ -6,7 +6,7 @@ use Rattle.roman_model.specs.Lists.{below}
 use Rattle.roman_lanes.specs.Flags.{has_flag}
 use Rattle.roman_relation.specs.Settled.{Begins}
 use Rattle.roman_relation.proofs.Playing.{round_marks}
-use Rattle.roman_order.specs.Board.{Board, pairs_of, is_marked}
+use Rattle.roman_order.specs.Board.{Board, is_marked}
 use Rattle.roman_relation.specs.Rounds.{IsDone}
 use Rattle.roman_relation.proofs.Beginnings.{begins_itself, begins_on}
 use Rattle.roman_relation.proofs.Going.{shaped_same}

@@ -1,7 +1,7 @@
-use Rattle.std.proofs.Common.{◌≡◌, ℕ, ◌+◌, ◌*◌, ◌<◌, ◌≤◌, ◌++◌, length, take, slice_index, sym, ap, ◌∙◌, subst, arith}
+use Rattle.std.proofs.Common.{◌≤◌, ◌++◌, take, slice_index, sym, ap, ◌∙◌, subst, arith}
 use Rattle.roman_model.specs.Arena.{is_listed}
 use Rattle.roman_model.specs.declared.reason.Reason.TheVariants.{Act}
-use Rattle.roman_order.specs.Board.{Board, entries_in}
+use Rattle.roman_order.specs.Board.{entries_in}
 use Rattle.roman_relation.specs.Rounds.{AreUnlisted}
 use Rattle.roman_relation.proofs.Lanes.{words_row}
 use Rattle.roman_relation.proofs.Pushing.{IsLost, lost_word, lost_round, lost_judged}

@@ -1,4 +1,4 @@
-use Rattle.std.proofs.Common.{◌≡◌, ℕ, ◌+◌, ◌-◌, ◌*◌, ◌/◌, ◌%◌, ◌<◌, ◌≤◌, true, false, not, ◌&&◌, List, length, slice_index, IsTrue, sym, ap, ◌∙◌, subst, arith}
+use Rattle.std.proofs.Common.{◌≡◌, ℕ, ◌+◌, ◌-◌, ◌*◌, ◌/◌, ◌%◌, ◌<◌, ◌≤◌, true, false, not, length, slice_index, IsTrue, sym, ap, ◌∙◌, subst, arith}
 use Rattle.std.proofs.lemmas.Bool.{and_from, not_from_true, not_from_false}
 use Rattle.std.proofs.lemmas.Nat.{mod_below, div-add-mod'}
 use Rattle.roman_model.specs.Lists.{IsIn}
@@ -6,7 +6,7 @@ use Rattle.roman_model.specs.Arena.{is_listed, back as predecessors}
 use Rattle.roman_lanes.specs.Rows.{is_on, HasLanes}
 use Rattle.roman_lanes.specs.Flags.{has_flag}
 use Rattle.roman_lanes.proofs.RowBits.{on_tested, off_tested}
-use Rattle.roman_order.specs.Board.{Board, pairs_of, has_entry, is_marked}
+use Rattle.roman_order.specs.Board.{Board, has_entry}
 use Rattle.roman_order.proofs.Lent.{rewritten_whole}
 use Rattle.roman_relation.specs.Rounds.{on_at}
 use Rattle.roman_relation.proofs.Beginnings.{listed_is}

@@ -1,8 +1,8 @@
-use Rattle.std.proofs.Common.{◌≡◌, ℕ, ◌+◌, ◌<◌, ◌≤◌, take, drop, length, slice_get, Some, IsTrue, sym, ap, ◌∙◌, arith, take-append-drop}
+use Rattle.std.proofs.Common.{◌≡◌, ℕ, ◌+◌, ◌<◌, take, drop, length, slice_get, Some, sym, ap, ◌∙◌, arith, take-append-drop}
 use Rattle.std.proofs.lemmas.List.{take_all}
-use Rattle.roman_model.specs.Arena.{Entry, is_listed, fall}
+use Rattle.roman_model.specs.Arena.{Entry, fall}
 use Rattle.roman_model.proofs.WorkLemmas.{fall_append}
-use Rattle.roman_order.specs.Board.{Board, pairs_of, entry_of, has_entry}
+use Rattle.roman_order.specs.Board.{Board, entry_of, has_entry}
 use Rattle.roman_relation.proofs.Beginnings.{listed_is}
 use Rattle.roman_relation.proofs.Marks.{noted_more, entry_listed, fall_more}
 use Rattle.roman_relation.proofs.rounds.losses.mark_losses.Goals as goal

@@ -1,4 +1,4 @@
-use Rattle.std.proofs.Common.{◌≡◌, ℕ, ◌*◌, ◌<◌, ◌⊎◌, IsTrue, IsFalse}
+use Rattle.std.proofs.Common.{ℕ, ◌*◌, ◌<◌, ◌⊎◌, IsTrue, IsFalse}
 use Rattle.roman_model.specs.Arena.{is_listed}
 use Rattle.roman_relation.specs.Settled.{GoesOn}
 use Rattle.roman_relation.proofs.rounds.unfine.list_unfine.Given as goal

@@ -1,4 +1,4 @@
-use Rattle.std.proofs.Common.{◌≡◌, ℕ, ◌+◌, ◌*◌, ◌<◌, ◌≤◌, not, ◌++◌, length, slice_index, sym, ap, ◌∙◌, subst, arith, bit_and, IsTrue, IsFalse}
+use Rattle.std.proofs.Common.{◌≡◌, ◌+◌, ◌*◌, ◌≤◌, not, ◌++◌, slice_index, sym, ap, ◌∙◌, subst, arith, bit_and, IsTrue, IsFalse}
 use Rattle.std.proofs.lemmas.Bool.{and_parts, not-true}
 use Rattle.roman_model.specs.Arena.{is_listed}
 use Rattle.roman_model.specs.declared.reason.Reason.TheVariants.{Final}

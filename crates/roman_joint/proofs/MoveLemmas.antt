@@ -1,0 +1,505 @@
+-- Moves of services within the lanes.
+use Rattle.std.proofs.Common.{◌≡◌, ◌≢◌, ℕ, zero, suc, ◌+◌, ◌-◌, ◌*◌, ◌/◌, ◌%◌, ◌<◌, ◌≤◌, ◌==◌, Bool, true, false, not, ◌&&◌, cond, eqb, List, [], ◌∷◌, ◌++◌, length, map, take, drop, get_or, Some, slice_get, slice_index, slice_index_or, slice_range, IsTrue, IsFalse, inl, inr, refl, sym, ap, ap₂, ◌∙◌, subst, arith, add-one}
+use Rattle.std.proofs.Math.Seq.{get_or-append_seam}
+use Rattle.std.proofs.Math.Nat.{mul-le-mul_right}
+use Rattle.std.specs.List.{list_any, filter}
+use Rattle.std.proofs.lemmas.Bool.{cases_eq, cases_lt, eq-eqb, ne_eqb, eqb-true, false≢true, and_parts, not_from_false}
+use Rattle.std.proofs.lemmas.Nat.{div-mul-add, mod-mul-add, mod_below, mul-add-lt}
+use Rattle.std.proofs.lemmas.List.{length-map, length-append, length-drop, map-append, take-append-le, drop-append-le, get_or_append_left, drop_more, drop_all, take_all}
+use Rattle.std.proofs.lemmas.Option.{slice_get_within}
+use Rattle.roman_model.specs.Lists.{IsIn, is_empty, below, product_of}
+use Rattle.roman_model.proofs.Lists.{in_map, from_map, in_filter, filter_in, in_below, from_below, any_true, any_from, any_same, same_test, filter_below_more, by_test, empty_is}
+use Rattle.roman_model.specs.System.{Sys, Seat, Beh, beh_next, seat_next}
+use Rattle.roman_model.specs.Arena.{is_beaten}
+use Rattle.roman_model.specs.Numbers.{Sizes, sizes_of, numbered}
+use Rattle.roman_radix.specs.Radix.{AreSizes, IsSizes, stride_of}
+use Rattle.roman_radix.specs.Rows.{low_of, lanes_of, env_rows_of}
+use Rattle.roman_radix.proofs.Strides.{AreSizes-index, AreSizes-drop, product_positive}
+use Rattle.roman_radix.proofs.RowLemmas.{lanes_few}
+use Rattle.roman_lanes.specs.Rows.{is_on, HasLanes}
+use Rattle.roman_parts.specs.Named.{NamedBeh}
+use Rattle.roman_joint.specs.NamedSys.{NamedSys, system_of, seat_of}
+use Rattle.roman_joint.specs.declared.seat.Seat as declared
+use Rattle.roman_joint.specs.Rows.{lanes_in, low_in, IsTurn, AreAlive}
+use Rattle.roman_joint.specs.Moves.{lane_state_of, GoesTo, AreMovesOf, AreWays, move_of, moves_from, ways_room, within_in, IsSpan, HoldsSpans, HoldsMoves, HasRoom, IsAdded, IsKept, AreSeatsOf}
+use Rattle.roman_joint.specs.declared.layout.Rows.{Rows}
+use Rattle.roman_joint.specs.declared.row.Row.{Row}
+use Rattle.roman_joint.specs.declared.turn.Turn.{Turn}
+use Rattle.roman_joint.specs.declared.moves.Move.{Move}
+use Rattle.roman_joint.specs.declared.moves.Span.{Span}
+use Rattle.roman_joint.specs.declared.moves.Moves.{Moves}
+use Rattle.roman_joint.specs.declared.ways.Ways.{Ways}
+use Rattle.roman_joint.proofs.Rows.{size_of_seat}
+use Rattle.roman_model.proofs.SystemLemmas.{seat_in}
+use Rattle.roman_joint.specs.Changes.{with_frozen}
+use Rattle.roman_joint.proofs.SeatChanges.{with_seats, frozen_sizes, frozen_at}
+use Rattle.roman_joint.proofs.SeatRead.{SeatRead, seat_read}
+use Rattle.roman_joint.proofs.OutcomeLemmas.{ready_next}
+use Rattle.roman_joint.proofs.WordLemmas.{on_zero, not_not}
+use Rattle.roman_joint.proofs.LeadLemmas.{Leads, leads_served, leads_nothing, any_turned, lane_state, leads_lanes}
+use Rattle.roman_joint.proofs.GoodLemmas.{Known, state_below}
+
+-- next states are states
+pub next_below : (beh : Beh) (b e a c : ℕ) → IsIn c (beh_next beh b e a) → c < beh.states
+next_below beh b e a c i = from_below beh.states c (filter_in _ c (below beh.states) i).0
+
+-- as many ways as there may be
+pub room_fits : (ns : List ℕ) → AreSizes ns → ways_room ns ≤ 2 * product_of ns + length ns
+room_fits [] h = omega arith
+room_fits (n ∷ ns) h =
+    let rest : ways_room ns ≤ 2 * product_of ns + length ns = room_fits ns h.2 in
+    let both : n + product_of ns ≤ n * product_of ns + 1 = more n (product_of ns) h.0 (product_positive ns h.2) in
+    omega arith
+  where
+    more : (a b : ℕ) → 0 < a → 0 < b → a + b ≤ a * b + 1
+    more zero b x y = absurd (omega arith)
+    more (suc a) zero x y = absurd (omega arith)
+    more (suc a) (suc b) x y = omega arith
+
+pub lanes_room : (n : Sizes) → IsSizes n → ways_room (drop (low_of n.seats) n.seats) ≤ 160
+lanes_room n h =
+    let fits : ways_room (drop (low_of n.seats) n.seats) ≤ 2 * lanes_of n.seats + length (drop (low_of n.seats) n.seats) = room_fits (drop (low_of n.seats) n.seats) (AreSizes-drop (low_of n.seats) n.seats h.seats) in
+    let few : lanes_of n.seats ≤ 64 = lanes_few n.seats in
+    let long : length (drop (low_of n.seats) n.seats) ≤ length n.seats = shorter (low_of n.seats) n.seats in
+    omega (arith, fits, few, long, h.few)
+  where
+    shorter : (k : ℕ) (ns : List ℕ) → length (drop k ns) ≤ length ns
+    shorter zero ns = omega arith
+    shorter (suc k) [] = omega arith
+    shorter (suc k) (n ∷ ns) = let less : length (drop k ns) ≤ length ns = shorter k ns in omega arith
+
+-- one way more
+pub way_more : (lanes : List ℕ) (last stride j : ℕ) → moves_from lanes last stride (j + 1) ≡ moves_from lanes last stride j ++ cond (eqb (slice_index lanes j) 0) [] (move_of lanes last stride j ∷ [])
+way_more lanes last stride j =
+    ap (λ m. map (move_of lanes last stride) (filter (λ i. not (slice_index lanes i == 0)) (below m))) (add-one j)
+    ∙ (ap (map (move_of lanes last stride)) (filter_below_more (λ i. not (slice_index lanes i == 0)) j)
+    ∙ (map-append (move_of lanes last stride) (filter (λ i. not (slice_index lanes i == 0)) (below j)) (cond (not (slice_index lanes j == 0)) (j ∷ []) [])
+    ∙ ap (λ ms. moves_from lanes last stride j ++ ms) (by_cases (slice_index lanes j == 0))))
+  where
+    by_cases : (b : Bool) → map (move_of lanes last stride) (cond (not b) (j ∷ []) []) ≡ cond b [] (move_of lanes last stride j ∷ [])
+    by_cases true = refl
+    by_cases false = refl
+
+pub ways_few : (lanes : List ℕ) (last stride count : ℕ) → length (moves_from lanes last stride count) ≤ count
+ways_few lanes last stride zero = omega arith
+ways_few lanes last stride (suc j) =
+    let before : length (moves_from lanes last stride j) ≤ j = ways_few lanes last stride j in
+    let more : length (moves_from lanes last stride (suc j)) ≡ length (moves_from lanes last stride j) + length (cond (eqb (slice_index lanes j) 0) [] (move_of lanes last stride j ∷ [])) =
+    ap (λ m. length (moves_from lanes last stride m)) (sym (add-one j)) ∙ (ap length (way_more lanes last stride j) ∙ length-append (moves_from lanes last stride j) (cond (eqb (slice_index lanes j) 0) [] (move_of lanes last stride j ∷ []))) in
+    let one : length (cond (eqb (slice_index lanes j) 0) [] (move_of lanes last stride j ∷ [])) ≤ 1 = at_most (eqb (slice_index lanes j) 0) in
+    omega arith
+  where
+    at_most : (b : Bool) → length (cond b [] (move_of lanes last stride j ∷ [])) ≤ 1
+    at_most true = omega arith
+    at_most false = omega arith
+
+-- where a way leads
+way_goes : (lane st last j digit b : ℕ) → b + (last + 1) ≡ j + 1 + digit → digit * st ≤ lane → ((last - j) * st ≤ lane) × (lane + (j - last) * st - (last - j) * st ≡ lane + b * st - digit * st)
+way_goes lane st last j digit b e taken = elim (cases_lt j last) [
+  | inl down ↦
+      let none : (j - last) * st ≡ 0 = ap (λ m. m * st) (omega_none j last (omega arith)) ∙ nothing st in
+      let same : digit * st ≡ (b + (last - j)) * st = ap (λ m. m * st) (omega arith) in
+      let spread : (b + (last - j)) * st ≡ b * st + (last - j) * st = omega arith in
+      (omega arith, omega arith)
+  | inr up ↦
+      let none : (last - j) * st ≡ 0 = ap (λ m. m * st) (omega_none last j up) ∙ nothing st in
+      let same : b * st ≡ (digit + (j - last)) * st = ap (λ m. m * st) (omega arith) in
+      let spread : (digit + (j - last)) * st ≡ digit * st + (j - last) * st = omega arith in
+      (omega arith, omega arith)
+]
+  where
+    omega_none : (x y : ℕ) → x ≤ y → x - y ≡ 0
+    omega_none x y l = omega arith
+
+    nothing : (m : ℕ) → 0 * m ≡ 0
+    nothing m = omega arith
+
+-- the moves of the ways are those of the service
+pub moves_made : (n : Sizes) (k last e a : ℕ) (beh : Beh) (ways : Ways) → IsSizes n → low_of n.seats ≤ k → k < length n.seats → beh.states ≡ slice_index n.seats k → last + 1 ≡ slice_index n.seats k →
+    AreWays n k beh e a ways → AreMovesOf n k beh e a ways.some (moves_from ways.lanes last (stride_of n k) (last + last + 1))
+moves_made n k last e a beh ways h within seat states size ok = record {
+  each = ok.each;
+  rest = ok.rest;
+  small = λ move i. small_move move i;
+  sound = λ move lane i l on. sound_move move lane i l on;
+  whole = λ b lane l i. whole_move b lane l i;
+}
+  where
+    st : ℕ
+    st = stride_of n k
+
+    all : ℕ → Bool
+    all j = not (slice_index ways.lanes j == 0)
+
+    most : last * st < 64
+    most = state_below n k last h within seat (omega arith)
+
+    less : (x : ℕ) → x ≤ last → x * st < 64
+    less x l = let product : x * st ≤ last * st = mul-le-mul_right st l in omega (arith, product, most)
+
+    small_move : (move : Move) → IsIn move (moves_from ways.lanes last st (last + last + 1)) → (move.from < 64) × (move.to < 64)
+    small_move move i =
+        let (j, in_all, is) = from_map (move_of ways.lanes last st) move (filter all (below (last + last + 1))) i in
+        let l : j < last + last + 1 = from_below (last + last + 1) j (filter_in all j (below (last + last + 1)) in_all).0 in
+        (subst (λ (m : Move). m.from < 64) (sym is) (less (last - j) (omega arith)), subst (λ (m : Move). m.to < 64) (sym is) (less (j - last) (omega arith)))
+
+    sound_move : (move : Move) (lane : ℕ) → IsIn move (moves_from ways.lanes last st (last + last + 1)) → lane < lanes_of n.seats → is_on move.lanes lane ≡ true →
+        (b : ℕ) × IsIn b (beh_next beh (lane_state_of n k lane) e a) × GoesTo n k lane b move
+    sound_move move lane i l on =
+        let (j, in_all, is) = from_map (move_of ways.lanes last st) move (filter all (below (last + last + 1))) i in
+        let digit = lane_state_of n k lane in
+        let nexts = beh_next beh digit e a in
+        let test = λ (b : ℕ). b + slice_index n.seats k == j + 1 + digit in
+        let goes : list_any test nexts ≡ true = sym (ok.goes j lane l) ∙ (ap (λ (m : Move). is_on m.lanes lane) (sym is) ∙ on) in
+        let (b, in_states, t) = any_true test nexts goes in
+        let sum : b + slice_index n.seats k ≡ j + 1 + digit = eqb-true (b + slice_index n.seats k) (j + 1 + digit) t in
+        let sum_last : b + (last + 1) ≡ j + 1 + digit = ap (λ m. b + m) size ∙ sum in
+        let to = way_goes lane st last j digit b sum_last (lane_state n k lane h within seat l).taken in
+        (b, in_states, subst (GoesTo n k lane b) (sym is) (record { taken = to.0; there = to.1 }))
+
+    whole_move : (b lane : ℕ) → lane < lanes_of n.seats → IsIn b (beh_next beh (lane_state_of n k lane) e a) →
+        (move : Move) × IsIn move (moves_from ways.lanes last st (last + last + 1)) × (is_on move.lanes lane ≡ true) × GoesTo n k lane b move
+    whole_move b lane l i =
+        let digit = lane_state_of n k lane in
+        let nexts = beh_next beh digit e a in
+        let j : ℕ = b + last - digit in
+        let in_size : b < slice_index n.seats k = subst (λ m. b < m) states (next_below beh digit e a b i) in
+        let digit_below : digit < slice_index n.seats k = mod_below (lane / st) (slice_index n.seats k) (AreSizes-index n.seats k h.seats seat).0 in
+        let sum : b + slice_index n.seats k ≡ j + 1 + digit = omega (arith, size, digit_below) in
+        let sum_last : b + (last + 1) ≡ j + 1 + digit = ap (λ m. b + m) size ∙ sum in
+        let on : is_on (slice_index ways.lanes j) lane ≡ true = ok.goes j lane l ∙ any_from (λ c. c + slice_index n.seats k == j + 1 + digit) b nexts i (eq-eqb (b + slice_index n.seats k) (j + 1 + digit) sum) in
+        let some : slice_index ways.lanes j ≢ 0 = λ none. false≢true (sym (on_zero lane) ∙ (ap (λ w. is_on w lane) (sym none) ∙ on)) in
+        let there : j < last + last + 1 = omega (arith, size, in_size) in
+        let to = way_goes lane st last j digit b sum_last (lane_state n k lane h within seat l).taken in (
+          move_of ways.lanes last st j,
+          in_map (move_of ways.lanes last st) j (filter all (below (last + last + 1))) (in_filter all j (below (last + last + 1)) (in_below (last + last + 1) j there) (not_from_false (eqb (slice_index ways.lanes j) 0) (ne_eqb (slice_index ways.lanes j) 0 some))),
+          on,
+          record { taken = to.0; there = to.1 },
+        )
+
+-- where a service within the lanes serves, by its moves
+pub serves_within : (s : Sys) (r : Rows) (x a k some good alive : ℕ) (row : Row) (turn : Turn) (seat : Seat) (moves : List Move) (gone : ℕ → Bool) → Known s r x row → IsTurn s row a turn → low_in s ≤ k →
+    slice_get s.seats k ≡ Some seat → IsFalse seat.frozen → AreMovesOf (sizes_of s) k seat.beh row.env a some moves → AreAlive s gone turn alive →
+    ((lane : ℕ) → lane < 64 → ((move : Move) → IsIn move moves → is_on move.lanes lane ≡ true → (move.from ≤ lane) × (lane + move.to - move.from < 64)) →
+    is_on good lane ≡ (is_on some lane && not (list_any (λ move. is_on move.lanes lane && not (is_on alive (lane + move.to - move.from))) moves))) →
+    ((lane : ℕ) → is_on some lane ≡ false → is_on good lane ≡ false) → HasLanes (lanes_in s) x (λ p. not (is_beaten (numbered s) gone p a k)) good
+serves_within s r x a k some good alive row turn seat moves gone h ok within seated ready are living told off = record {
+  each = λ lane l. each lane l;
+  rest = λ lane l. off lane (are.rest lane l);
+}
+  where
+    n : Sizes
+    n = sizes_of s
+
+    st : ℕ
+    st = stride_of n k
+
+    digit : ℕ → ℕ
+    digit lane = lane_state_of n k lane
+
+    states : ℕ → List ℕ
+    states lane = beh_next seat.beh (digit lane) row.env a
+
+    in_seats : k < length s.seats
+    in_seats = slice_get_within s.seats k seat seated
+
+    in_sizes : k < length n.seats
+    in_sizes = omega (arith, in_seats, length-map s.seats (λ (y : Seat). y.beh.states))
+
+    states_are : k < length n.seats → seat.beh.states ≡ slice_index n.seats k
+    states_are l = sym (size_of_seat s.seats k seat seated)
+
+    there : (lane b : ℕ) → lane < lanes_in s → IsIn b (states lane) → lane + b * st - digit lane * st < lanes_in s
+    there lane b l i = (lane_state n k lane h.sizes within in_sizes l).moves b (subst (λ m. b < m) (states_are in_sizes) (next_below seat.beh (digit lane) row.env a b i))
+
+    ranges : (lane : ℕ) → lane < lanes_in s → (move : Move) → IsIn move moves → is_on move.lanes lane ≡ true → (move.from ≤ lane) × (lane + move.to - move.from < 64)
+    ranges lane l move i on =
+        let (b, j, to) = are.sound move lane i l on in
+        let few : lanes_in s ≤ 64 = lanes_few n.seats in
+        (to.taken, omega (arith, to.there, there lane b l j, few))
+
+    dead : ℕ → ℕ → Bool
+    dead lane b = not (is_on alive (lane + b * st - digit lane * st))
+
+    same_any : (lane : ℕ) → lane < lanes_in s → list_any (λ move. is_on move.lanes lane && not (is_on alive (lane + move.to - move.from))) moves ≡ list_any (dead lane) (states lane)
+    same_any lane l = same_test (list_any (λ move. is_on move.lanes lane && not (is_on alive (lane + move.to - move.from))) moves) (list_any (dead lane) (states lane))
+        (λ t.
+        let (move, i, u) = any_true (λ move. is_on move.lanes lane && not (is_on alive (lane + move.to - move.from))) moves t in
+        let (on, gone_there) = and_parts (is_on move.lanes lane) (not (is_on alive (lane + move.to - move.from))) u in
+        let (b, j, to) = are.sound move lane i l on in
+        any_from (dead lane) b (states lane) j (ap (λ y. not (is_on alive y)) (sym to.there) ∙ gone_there))
+        (λ t.
+        let (b, j, u) = any_true (dead lane) (states lane) t in
+        let (move, i, on, to) = are.whole b lane l j in
+        any_from (λ m. is_on m.lanes lane && not (is_on alive (lane + m.to - m.from))) move moves i
+        (ap₂ (λ y z. y && z) on (ap (λ y. not (is_on alive y)) to.there ∙ u)))
+
+    leads : (lane : ℕ) → (l : lane < lanes_in s) → Leads (numbered s) (x * lanes_in s + lane) a k turn.envs.now (states lane) (λ e b. (turn.base + e * env_rows_of n) * lanes_in s + (lane + b * st - digit lane * st))
+    leads lane l = leads_lanes s row x lane a k ok.to turn.base (digit lane) turn.envs.now (states lane) h.sys h.sizes h.looked l within in_seats refl ok.target ok.worlds (sym (ready_next (slice_get s.seats k) seat (digit lane) row.env a seated ready)) ok.base
+
+    lives : (lane b : ℕ) → lane < lanes_in s → IsIn b (states lane) → dead lane b ≡ list_any (λ e. gone ((turn.base + e * env_rows_of n) * lanes_in s + (lane + b * st - digit lane * st))) turn.envs.now
+    lives lane b l i =
+        ap not (living.each (lane + b * st - digit lane * st) (there lane b l i))
+        ∙ sym (not_not (list_any (λ e. gone ((turn.base + e * env_rows_of n) * lanes_in s + (lane + b * st - digit lane * st))) turn.envs.now))
+
+    all_alive : (lane : ℕ) → lane < lanes_in s → IsFalse (is_empty (states lane)) → not (list_any (dead lane) (states lane)) ≡ not (is_beaten (numbered s) gone (x * lanes_in s + lane) a k)
+    all_alive lane l full =
+        ap not (any_same (dead lane) (λ b. list_any (λ e. gone ((turn.base + e * env_rows_of n) * lanes_in s + (lane + b * st - digit lane * st))) turn.envs.now) (states lane) (λ b i. lives lane b l i)
+        ∙ any_turned (λ b e. gone ((turn.base + e * env_rows_of n) * lanes_in s + (lane + b * st - digit lane * st))) (states lane) turn.envs.now)
+        ∙ leads_served (numbered s) gone (x * lanes_in s + lane) a k turn.envs.now (states lane) (λ e b. (turn.base + e * env_rows_of n) * lanes_in s + (lane + b * st - digit lane * st))
+        (λ e b. gone ((turn.base + e * env_rows_of n) * lanes_in s + (lane + b * st - digit lane * st))) (leads lane l) ok.some full (λ e b i j. refl)
+
+    each : (lane : ℕ) → lane < lanes_in s → is_on good lane ≡ not (is_beaten (numbered s) gone (x * lanes_in s + lane) a k)
+    each lane l = by_test (is_empty (states lane))
+        (λ none. off lane (are.each lane l ∙ ap not none)
+        ∙ sym (ap not (leads_nothing (numbered s) gone (x * lanes_in s + lane) a k turn.envs.now (states lane) (λ e b. (turn.base + e * env_rows_of n) * lanes_in s + (lane + b * st - digit lane * st)) (leads lane l) (empty_is (states lane) none))))
+        (λ full. told lane (omega (arith, lanes_few n.seats)) (ranges lane l)
+        ∙ (ap₂ (λ y z. y && not z) (are.each lane l ∙ ap not full) (same_any lane l) ∙ all_alive lane l full))
+
+-- a frozen service serves nowhere
+pub beaten_frozen : (s : Sys) (r : Rows) (x a k : ℕ) (row : Row) (turn : Turn) (seat : Seat) (gone : ℕ → Bool) → Known s r x row → IsTurn s row a turn → low_in s ≤ k →
+    slice_get s.seats k ≡ Some seat → IsTrue seat.frozen → HasLanes (lanes_in s) x (λ p. not (is_beaten (numbered s) gone p a k)) 0
+beaten_frozen s r x a k row turn seat gone h ok within seated frozen = record {
+  each = λ lane l.
+      let n = sizes_of s in
+      let digit = lane_state_of n k lane in
+      let none : seat_next (slice_get s.seats k) digit row.env a ≡ [] = ap (λ o. seat_next o digit row.env a) seated ∙ ap (λ f. cond f [] (beh_next seat.beh digit row.env a)) frozen in
+      on_zero lane ∙ sym (ap not (leads_nothing (numbered s) gone (x * lanes_in s + lane) a k turn.envs.now (seat_next (slice_get s.seats k) digit row.env a) (λ e b. (turn.base + e * env_rows_of n) * lanes_in s + (lane + b * stride_of n k - digit * stride_of n k))
+      (leads_lanes s row x lane a k ok.to turn.base digit turn.envs.now (seat_next (slice_get s.seats k) digit row.env a) h.sys h.sizes h.looked l within (slice_get_within s.seats k seat seated) refl ok.target ok.worlds refl ok.base) none));
+  rest = λ lane l. on_zero lane;
+}
+
+-- The table of moves.
+
+range_more : {X : Type 0} (xs ys : List X) (a b : ℕ) → b ≤ length xs → slice_range (xs ++ ys) a b ≡ slice_range xs a b
+range_more xs ys a b l = elim (cases_lt a b) [
+  | inl less ↦
+      ap (take (b - a)) (drop-append-le a xs ys (omega arith)) ∙ take-append-le (b - a) (drop a xs) ys (omega (arith, length-drop a xs))
+  | inr none ↦ let no : b - a ≡ 0 = omega arith in ap (λ m. take m (drop a (xs ++ ys))) no ∙ sym (ap (λ m. take m (drop a xs)) no)
+]
+
+range_new : {X : Type 0} (xs ys : List X) (a b : ℕ) → a ≡ length xs → b ≡ length (xs ++ ys) → slice_range (xs ++ ys) a b ≡ ys
+range_new xs ys a b first end =
+    let long : b - a ≡ length ys = omega (arith, first, end, length-append xs ys) in
+    ap₂ (λ m d. take m (drop d (xs ++ ys))) long first ∙ (ap (take (length ys)) (drop-append-le (length xs) xs ys (omega arith) ∙ ap (λ zs. zs ++ ys) (drop_all (length xs) xs (omega arith))) ∙ take_all (length ys) ys (omega arith))
+
+-- one span more
+pub spans_more : (s : Sys) (k e a : ℕ) (beh : Beh) (old new : Moves) (seat : Seat) → slice_get s.seats k ≡ Some seat → beh ≡ seat.beh → low_in s ≤ k → a < s.env.actions →
+    length old.spans.items ≡ (e * s.env.actions + a) * within_in s + (k - low_in s) → HoldsSpans s old.spans.items old.moves.items → IsAdded (sizes_of s) k beh e a old new → HoldsSpans s new.spans.items new.moves.items
+spans_more s k e a beh old new seat seated is_beh within action long held added = record { each = λ i span l at. each i span l at }
+  where
+    W : ℕ
+    W = within_in s
+
+    in_seats : k < length s.seats
+    in_seats = slice_get_within s.seats k seat seated
+
+    less : k - low_in s < W
+    less = omega (arith, in_seats, within)
+
+    moves_long : length new.moves.items ≡ length old.moves.items + length added.more
+    moves_long = ap length added.moves ∙ length-append old.moves.items added.more
+
+    here : IsSpan s (length old.spans.items) added.span new.moves.items
+    here =
+        let turn : length old.spans.items / W ≡ e * s.env.actions + a = ap (λ m. m / W) long ∙ div-mul-add (e * s.env.actions + a) W (k - low_in s) less in
+        let place : length old.spans.items % W ≡ k - low_in s = ap (λ m. m % W) long ∙ mod-mul-add (e * s.env.actions + a) W (k - low_in s) less in
+        let at : low_in s + length old.spans.items % W ≡ k = ap (λ m. low_in s + m) place ∙ omega arith in
+        let env : length old.spans.items / W / s.env.actions ≡ e = ap (λ m. m / s.env.actions) turn ∙ div-mul-add e s.env.actions a action in
+        let act : length old.spans.items / W % s.env.actions ≡ a = ap (λ m. m % s.env.actions) turn ∙ mod-mul-add e s.env.actions a action in
+        record {
+          first = omega (arith, added.first, added.end, moves_long);
+          last = omega (arith, added.end);
+          moves_of = λ other seated_there.
+              let same : seat ≡ other = some_same seat other (sym seated ∙ (ap (slice_get s.seats) (sym at) ∙ seated_there)) in
+              subst (λ (y : Seat). AreMovesOf (sizes_of s) (low_in s + length old.spans.items % W) y.beh (length old.spans.items / W / s.env.actions) (length old.spans.items / W % s.env.actions) added.span.some (slice_range new.moves.items added.span.first added.span.end)) same
+              (subst (λ m. AreMovesOf (sizes_of s) m seat.beh (length old.spans.items / W / s.env.actions) (length old.spans.items / W % s.env.actions) added.span.some (slice_range new.moves.items added.span.first added.span.end)) (sym at)
+              (subst (λ m. AreMovesOf (sizes_of s) k seat.beh m (length old.spans.items / W % s.env.actions) added.span.some (slice_range new.moves.items added.span.first added.span.end)) (sym env)
+              (subst (λ m. AreMovesOf (sizes_of s) k seat.beh e m added.span.some (slice_range new.moves.items added.span.first added.span.end)) (sym act)
+              (subst (λ ms. AreMovesOf (sizes_of s) k seat.beh e a added.span.some ms) (sym (ap (λ ms. slice_range ms added.span.first added.span.end) added.moves ∙ range_new old.moves.items added.more added.span.first added.span.end added.first (added.end ∙ ap length added.moves)))
+              (subst (λ b. AreMovesOf (sizes_of s) k b e a added.span.some added.more) is_beh added.moves_of)))));
+        }
+      where
+        some_same : (x y : Seat) → Some x ≡ Some y → x ≡ y
+        some_same x y e = cc
+
+    each : (i : ℕ) (span : Span) → i < length new.spans.items → span ≡ slice_index_or new.spans.items i span → IsSpan s i span new.moves.items
+    each i span l at = elim (cases_eq i (length old.spans.items)) [
+      | inl same ↦
+          let is : added.span ≡ span = sym (at ∙ ap (λ xs. get_or xs i span) added.spans ∙ ap (λ j. get_or (old.spans.items ++ added.span ∷ []) j span) same ∙ get_or-append_seam old.spans.items added.span [] span) in
+          subst (λ j. IsSpan s j span new.moves.items) (sym same) (subst (λ x. IsSpan s (length old.spans.items) x new.moves.items) is here)
+      | inr other ↦
+          let before : i < length old.spans.items = omega (arith, l, other, ap length added.spans, length-append old.spans.items (added.span ∷ [])) in
+          let span_there : IsSpan s i span old.moves.items = held.each i span before (at ∙ ap (λ xs. get_or xs i span) added.spans ∙ get_or_append_left old.spans.items (added.span ∷ []) span i before) in
+          record {
+            first = span_there.first;
+            last = omega (arith, span_there.last, moves_long);
+            moves_of = λ other_seat seated_there.
+                subst (λ ms. AreMovesOf (sizes_of s) (low_in s + i % W) other_seat.beh (i / W / s.env.actions) (i / W % s.env.actions) span.some ms)
+                (sym (ap (λ ms. slice_range ms span.first span.end) added.moves ∙ range_more old.moves.items added.more span.first span.end span_there.last))
+                (span_there.moves_of other_seat seated_there);
+          }
+    ]
+
+-- the moves of a seat, at its place in the table
+pub span_at : (s : Sys) (k e a i : ℕ) (span : Span) (moves : List Move) (seat : Seat) → slice_get s.seats k ≡ Some seat → low_in s ≤ k → a < s.env.actions → i ≡ (e * s.env.actions + a) * within_in s + (k - low_in s) →
+    IsSpan s i span moves → AreMovesOf (sizes_of s) k seat.beh e a span.some (slice_range moves span.first span.end)
+span_at s k e a i span moves seat seated within action is ok =
+    let W = within_in s in
+    let in_seats : k < length s.seats = slice_get_within s.seats k seat seated in
+    let less : k - low_in s < W = omega (arith, in_seats, within) in
+    let turn : i / W ≡ e * s.env.actions + a = ap (λ m. m / W) is ∙ div-mul-add (e * s.env.actions + a) W (k - low_in s) less in
+    let place : i % W ≡ k - low_in s = ap (λ m. m % W) is ∙ mod-mul-add (e * s.env.actions + a) W (k - low_in s) less in
+    let at : low_in s + i % W ≡ k = ap (λ m. low_in s + m) place ∙ omega arith in
+    let env : i / W / s.env.actions ≡ e = ap (λ m. m / s.env.actions) turn ∙ div-mul-add e s.env.actions a action in
+    let act : i / W % s.env.actions ≡ a = ap (λ m. m % s.env.actions) turn ∙ mod-mul-add e s.env.actions a action in
+    subst (λ m. AreMovesOf (sizes_of s) k seat.beh e m span.some (slice_range moves span.first span.end)) act
+    (subst (λ m. AreMovesOf (sizes_of s) k seat.beh m (i / W % s.env.actions) span.some (slice_range moves span.first span.end)) env
+    (subst (λ m. AreMovesOf (sizes_of s) m seat.beh (i / W / s.env.actions) (i / W % s.env.actions) span.some (slice_range moves span.first span.end)) at
+    (ok.moves_of seat (ap (slice_get s.seats) at ∙ seated))))
+
+pub place_is : (x y z l j e acts a lows m : ℕ) → x ≡ e → y ≡ acts → z ≡ a → l ≡ lows → j ≡ m → (x * y + z) * l + j ≡ (e * acts + a) * lows + m
+place_is x y z l j e acts a lows m p q r t u = rw (p, q, r, t, u) refl
+
+-- and its place is in the table
+pub place_below : (envs actions e a lows j : ℕ) → e < envs → a < actions → j < lows → (e * actions + a) * lows + j < envs * actions * lows
+place_below envs actions e a lows j in_envs in_actions l =
+    let turn : e * actions + a < actions * envs = mul-add-lt e actions a envs in_envs in_actions in
+    let place : (e * actions + a) * lows + j < lows * (actions * envs) = mul-add-lt (e * actions + a) lows j (actions * envs) turn l in
+    let same : lows * (actions * envs) ≡ envs * actions * lows = omega arith in
+    omega arith
+
+-- What is kept.
+
+pub kept_itself : (table : Moves) → IsKept table table
+kept_itself table = record { same_envs = refl; same_actions = refl; spans_room = refl; moves_room = refl }
+
+pub kept_on : (a b c : Moves) → IsKept a b → IsKept b c → IsKept a c
+kept_on a b c x y = record {
+  same_envs = y.same_envs ∙ x.same_envs;
+  same_actions = y.same_actions ∙ x.same_actions;
+  spans_room = y.spans_room ∙ x.spans_room;
+  moves_room = y.moves_room ∙ x.moves_room;
+}
+
+pub room_kept : (old new : Moves) → IsKept old new → HasRoom old → HasRoom new
+room_kept old new kept room = record {
+  few_envs = omega (arith, kept.same_envs, room.few_envs);
+  few_actions = omega (arith, kept.same_actions, room.few_actions);
+  for_spans = kept.spans_room ∙ (room.for_spans ∙ ap₂ (λ e a. e * a * 32) (sym kept.same_envs) (sym kept.same_actions));
+  for_moves = kept.moves_room ∙ (room.for_moves ∙ ap₂ (λ e a. e * a * 160) (sym kept.same_envs) (sym kept.same_actions));
+}
+
+-- the services are those of the system for the table that is kept
+pub seats_kept : (n : NamedSys) (catalogue : List NamedBeh) (seats : List declared.Seat) (sizes : Sizes) (old new : Moves) → IsKept old new →
+    AreSeatsOf n catalogue seats sizes old.envs old.actions → AreSeatsOf n catalogue seats sizes new.envs new.actions
+seats_kept n catalogue seats sizes old new kept of = record {
+  known = of.known;
+  catalogue_of = of.catalogue_of;
+  seats_of = of.seats_of;
+  sizes_are = of.sizes_are;
+  envs_are = kept.same_envs ∙ of.envs_are;
+  actions_are = kept.same_actions ∙ of.actions_are;
+}
+
+pub seats_back : (n : NamedSys) (catalogue : List NamedBeh) (seats : List declared.Seat) (sizes : Sizes) (old new : Moves) → IsKept old new →
+    AreSeatsOf n catalogue seats sizes new.envs new.actions → AreSeatsOf n catalogue seats sizes old.envs old.actions
+seats_back n catalogue seats sizes old new kept of = record {
+  known = of.known;
+  catalogue_of = of.catalogue_of;
+  seats_of = of.seats_of;
+  sizes_are = of.sizes_are;
+  envs_are = sym kept.same_envs ∙ of.envs_are;
+  actions_are = sym kept.same_actions ∙ of.actions_are;
+}
+
+-- what is known of a service that is read
+pub record SeatHere (n : NamedSys) (sizes : Sizes) (k : ℕ) (beh : Beh) : Type 0 where
+  pub seat : Seat
+  pub seated : slice_get (system_of n).seats k ≡ Some seat
+  pub beh_of : beh ≡ seat.beh
+  pub size : beh.states ≡ slice_index sizes.seats k
+  pub few : beh.states ≤ 64
+
+seat_some : {X : Type 0} (xs : List X) (k : ℕ) (x : X) → k < length xs → x ≡ get_or xs k x → slice_get xs k ≡ Some x
+seat_some [] k x l e = absurd (omega arith)
+seat_some (y ∷ xs) zero x l e = ap Some (sym e)
+seat_some (y ∷ xs) (suc k) x l e = seat_some xs k x (omega arith) e
+
+pub seat_here : (n : NamedSys) (catalogue : List NamedBeh) (seats : List declared.Seat) (sizes : Sizes) (envs actions k : ℕ) (x : declared.Seat) (y : NamedBeh) → AreSeatsOf n catalogue seats sizes envs actions →
+    k < length seats → x ≡ get_or seats k x → y ≡ get_or catalogue x.behaviour y → SeatHere n sizes k y.beh
+seat_here n catalogue seats sizes envs actions k x y of l at_seat at_beh =
+    let placed : slice_get n.seats k ≡ Some x = ap (λ xs. slice_get xs k) (sym of.seats_of) ∙ seat_some seats k x l at_seat in
+    let read : SeatRead n k x y = seat_read n k x y of.known placed (at_beh ∙ ap (λ ys. get_or ys x.behaviour y) of.catalogue_of) in
+    let ok = of.known.system.seats (seat_of n.catalogue x) (seat_in (system_of n).seats k (seat_of n.catalogue x) read.seated) in
+    record {
+      seat = seat_of n.catalogue x;
+      seated = read.seated;
+      beh_of = read.beh;
+      size = sym read.size ∙ ap (λ (m : Sizes). slice_index m.seats k) (sym of.sizes_are);
+      few = subst (λ (b : Beh). b.states ≤ 64) (sym read.beh) ok.states.1;
+    }
+
+-- as many sizes as services
+pub sizes_long : (n : NamedSys) (catalogue : List NamedBeh) (seats : List declared.Seat) (sizes : Sizes) (envs actions : ℕ) → AreSeatsOf n catalogue seats sizes envs actions → length sizes.seats ≡ length seats
+sizes_long n catalogue seats sizes envs actions of =
+    ap (λ (m : Sizes). length m.seats) of.sizes_are ∙ (length-map (system_of n).seats (λ (y : Seat). y.beh.states) ∙ (length-map n.seats (seat_of n.catalogue) ∙ ap length (sym of.seats_of)))
+
+pub room_more : (ns : List ℕ) (k : ℕ) → k < length ns → ways_room (drop k ns) ≡ 2 * get_or ns k 0 - 1 + ways_room (drop (k + 1) ns)
+room_more ns k l = ap ways_room (drop_more ns k 0 l)
+
+-- one service more, whatever the system
+pub turn_more : (n : NamedSys) (catalogue : List NamedBeh) (seats : List declared.Seat) (sizes : Sizes) (k e a : ℕ) (beh : Beh) (first old new : Moves) → IsKept first old → IsAdded sizes k beh e a old new →
+    AreSeatsOf n catalogue seats sizes new.envs new.actions → SeatHere n sizes k beh → low_of sizes.seats ≤ k → a < first.actions →
+    length first.spans.items ≡ (e * first.actions + a) * (length seats - low_of sizes.seats) → length old.spans.items ≡ length first.spans.items + (k - low_of sizes.seats) →
+    HoldsSpans (system_of n) old.spans.items old.moves.items → HoldsSpans (system_of n) new.spans.items new.moves.items
+turn_more n catalogue seats sizes k e a beh first old new kept added of here low action start long held =
+    let s = system_of n in
+    let acts : first.actions ≡ s.env.actions = sym kept.same_actions ∙ (sym added.kept.same_actions ∙ of.actions_are) in
+    let is_low : low_of sizes.seats ≡ low_in s = ap (λ (m : Sizes). low_of m.seats) of.sizes_are in
+    let lows : length seats - low_of sizes.seats ≡ within_in s = ap₂ (λ x y. x - y) (ap length of.seats_of ∙ sym (length-map n.seats (seat_of n.catalogue))) is_low in
+    let place : length old.spans.items ≡ (e * s.env.actions + a) * within_in s + (k - low_in s) =
+    long ∙ ap₂ (λ x y. x + (k - y)) (start ∙ ap₂ (λ x y. (e * x + a) * y) acts lows) is_low in
+    spans_more s k e a beh old new here.seat here.seated here.beh_of (subst (λ m. m ≤ k) is_low low) (subst (λ m. a < m) acts action) place held
+    (subst (λ m. IsAdded m k beh e a old new) of.sizes_are added)
+
+-- A service that is frozen or made ready has the moves that it had.
+
+span_same : (s t : Sys) (i : ℕ) (span : Span) (moves : List Move) → sizes_of t ≡ sizes_of s → t.env.actions ≡ s.env.actions →
+    ((j : ℕ) (x : Seat) → slice_get t.seats j ≡ Some x → (y : Seat) × (slice_get s.seats j ≡ Some y) × (y.beh ≡ x.beh)) → IsSpan s i span moves → IsSpan t i span moves
+span_same s t i span moves sizes acts there ok = record {
+  first = ok.first;
+  last = ok.last;
+  moves_of = λ x seated.
+      let low : low_in t ≡ low_in s = ap (λ (m : Sizes). low_of m.seats) sizes in
+      let lows : within_in t ≡ within_in s = seats_within s t sizes in
+      let at : low_in t + i % within_in t ≡ low_in s + i % within_in s = ap₂ (λ m w. m + i % w) low lows in
+      let (y, seated_y, same) = there (low_in t + i % within_in t) x seated in
+      let held = ok.moves_of y (ap (slice_get s.seats) (sym at) ∙ seated_y) in
+      subst (λ m. AreMovesOf m (low_in t + i % within_in t) x.beh (i / within_in t / t.env.actions) (i / within_in t % t.env.actions) span.some (slice_range moves span.first span.end)) (sym sizes)
+      (subst (λ m. AreMovesOf (sizes_of s) (low_in t + i % within_in t) x.beh (i / within_in t / m) (i / within_in t % m) span.some (slice_range moves span.first span.end)) (sym acts)
+      (subst (λ w. AreMovesOf (sizes_of s) (low_in t + i % within_in t) x.beh (i / w / s.env.actions) (i / w % s.env.actions) span.some (slice_range moves span.first span.end)) (sym lows)
+      (subst (λ m. AreMovesOf (sizes_of s) m x.beh (i / within_in s / s.env.actions) (i / within_in s % s.env.actions) span.some (slice_range moves span.first span.end)) (sym at)
+      (subst (λ b. AreMovesOf (sizes_of s) (low_in s + i % within_in s) b (i / within_in s / s.env.actions) (i / within_in s % s.env.actions) span.some (slice_range moves span.first span.end)) same held))));
+}
+  where
+    seats_within : (s t : Sys) → sizes_of t ≡ sizes_of s → within_in t ≡ within_in s
+    seats_within s t sizes =
+        let long : length t.seats ≡ length s.seats =
+        sym (length-map t.seats (λ (y : Seat). y.beh.states)) ∙ (ap (λ (m : Sizes). length m.seats) sizes ∙ length-map s.seats (λ (y : Seat). y.beh.states)) in
+        ap₂ (λ x y. x - y) long (ap (λ (m : Sizes). low_of m.seats) sizes)
+
+pub moves_frozen : (n : NamedSys) (k : ℕ) (frozen : Bool) (table : Moves) → HoldsMoves (system_of n) table → HoldsMoves (system_of (with_seats n (with_frozen n.seats k frozen))) table
+moves_frozen n k frozen table held =
+    let s = system_of n in
+    let t = system_of (with_seats n (with_frozen n.seats k frozen)) in
+    let sizes : sizes_of t ≡ sizes_of s = frozen_sizes n k frozen in
+    let long : length t.seats ≡ length s.seats =
+    sym (length-map t.seats (λ (y : Seat). y.beh.states)) ∙ (ap (λ (m : Sizes). length m.seats) sizes ∙ length-map s.seats (λ (y : Seat). y.beh.states)) in
+    let lows : within_in t ≡ within_in s = ap₂ (λ x y. x - y) long (ap (λ (m : Sizes). low_of m.seats) sizes) in
+    record {
+      envs = held.envs;
+      actions = held.actions;
+      long = held.long ∙ ap (λ w. s.env.states * s.env.actions * w) (sym lows);
+      spans_at = record { each = λ i span l at. span_same s t i span table.moves.items sizes refl (λ j x seated. frozen_at n.catalogue n.seats k frozen j x seated) (held.spans_at.each i span l at) };
+    }

@@ -1,0 +1,19 @@
+use Rattle.std.proofs.Common.{◌≡◌, ℕ, ◌+◌, ◌-◌, ◌*◌, ◌≤◌, length, ap, arith}
+use Rattle.std.proofs.Math.Nat.{mul-le-mul_left, mul-le-mul_right}
+use Rattle.std.proofs.lemmas.List.{length-map}
+use Rattle.roman_radix.specs.Rows.{low_of}
+use Rattle.roman_joint.specs.NamedSys.{seat_of}
+use Rattle.roman_joint.proofs.moves.Moves.fill.Goals as goal
+
+pub fill_turn-requires-clause-place : goal.fill_turn-requires-clause-place
+fill_turn-requires-clause-place c =
+    let n = c.requires.seats.0 in
+    let of = c.requires.seats.1 in
+    let turn = c.loop-turn.turn in
+    let lows : ℕ = length c.args.seats.now - low_of c.args.shape.now.seats in
+    let few : lows ≤ 32 = omega (arith, ap length of.seats_of, length-map n.seats (seat_of n.catalogue), of.known.system.few) in
+    let spans : turn * lows ≤ turn * 32 = mul-le-mul_left turn few in
+    let turns : turn + 1 ≤ c.args.self.now.envs * c.args.self.now.actions = omega (arith, c.loop-turn-test.true) in
+    let all : (turn + 1) * 32 ≤ c.args.self.now.envs * c.args.self.now.actions * 32 = mul-le-mul_right 32 turns in
+    let split : (turn + 1) * 32 ≡ turn * 32 + 32 = omega arith in
+    omega (arith, spans, all, split, c.loop-turn.invariant.long, c.loop-turn.invariant.kept.spans_room, c.requires.room.for_spans)

@@ -1,0 +1,60 @@
+use Rattle.std.proofs.Common.{◌∷◌, [], length, get_or, sym, ap, ◌∙◌, arith}
+use Rattle.std.proofs.lemmas.List.{length-append}
+use Rattle.roman_radix.proofs.RowLemmas.{low_of-le}
+use Rattle.roman_joint.specs.declared.seat.Seat as declared
+use Rattle.roman_joint.proofs.MoveLemmas.{lanes_room, room_more, seat_here, sizes_long, turn_more, kept_on, seats_kept, seats_back}
+use Rattle.roman_joint.proofs.moves.Moves.fill_turn.Goals as goal
+
+pub add-requires-clause-states : goal.add-requires-clause-states
+add-requires-clause-states c =
+    let n = c.requires.seats.0 in
+    (seat_here n c.args.catalogue.now c.args.seats.now c.args.shape.now c.args.self.now.envs c.args.self.now.actions c.loop-k.k c.index-seats-k.result c.index-catalogue-seats.result c.requires.seats.1 (omega arith) c.index-seats-k.is
+    (c.index-catalogue-seats.is ∙ ap (λ (x : declared.Seat). get_or c.args.catalogue.now x.behaviour c.index-catalogue-seats.result) (sym c.index-seats-k.is))).size
+
+pub add-requires-clause-few : goal.add-requires-clause-few
+add-requires-clause-few c =
+    let n = c.requires.seats.0 in
+    (seat_here n c.args.catalogue.now c.args.seats.now c.args.shape.now c.args.self.now.envs c.args.self.now.actions c.loop-k.k c.index-seats-k.result c.index-catalogue-seats.result c.requires.seats.1 (omega arith) c.index-seats-k.is
+    (c.index-catalogue-seats.is ∙ ap (λ (x : declared.Seat). get_or c.args.catalogue.now x.behaviour c.index-catalogue-seats.result) (sym c.index-seats-k.is))).few
+
+pub add-requires-clause-room : goal.add-requires-clause-room
+add-requires-clause-room c =
+    let n = c.requires.seats.0 in
+    let sizes = c.args.shape.now in
+    let long = sizes_long n c.args.catalogue.now c.args.seats.now sizes c.args.self.now.envs c.args.self.now.actions c.requires.seats.1 in
+    let more = room_more sizes.seats c.loop-k.k (omega (arith, long)) in
+    omega (arith, more, lanes_room sizes c.known.ensures, c.loop-k.invariant.few, c.loop-k.invariant.kept.moves_room, c.requires.few, c.loop-k.self.moves.ok.0)
+
+pub loop-k-preserved : goal.loop-k-preserved
+loop-k-preserved c =
+    let n = c.requires.seats.0 in
+    let sizes = c.args.shape.now in
+    let i = c.loop-k.invariant in
+    let added = c.add.ensures.added in
+    let long = sizes_long n c.args.catalogue.now c.args.seats.now sizes c.args.self.now.envs c.args.self.now.actions c.requires.seats.1 in
+    let more = room_more sizes.seats c.loop-k.k (omega (arith, long)) in
+    record {
+      from = omega (arith, i.from);
+      long = omega (arith, i.from, i.long, ap length added.spans, length-append c.loop-k.self.spans.items (added.span ∷ []));
+      few = omega (arith, more, added.few, i.few, ap length added.moves, length-append c.loop-k.self.moves.items added.more);
+      spans = λ m of.
+          let old = seats_back m c.args.catalogue.now c.args.seats.now sizes c.loop-k.self c.add.new.self added.kept of in
+          turn_more m c.args.catalogue.now c.args.seats.now sizes c.loop-k.k c.args.e c.args.a c.index-catalogue-seats.result.beh c.args.self.now c.loop-k.self c.add.new.self i.kept added of
+          (seat_here m c.args.catalogue.now c.args.seats.now sizes c.loop-k.self.envs c.loop-k.self.actions c.loop-k.k c.index-seats-k.result c.index-catalogue-seats.result old (omega arith) c.index-seats-k.is
+          (c.index-catalogue-seats.is ∙ ap (λ (x : declared.Seat). get_or c.args.catalogue.now x.behaviour c.index-catalogue-seats.result) (sym c.index-seats-k.is)))
+          i.from c.requires.action c.requires.long i.long (i.spans m old);
+      kept = kept_on c.args.self.now c.loop-k.self c.add.new.self i.kept added.kept;
+    }
+
+pub returns-clause-long : goal.returns-clause-long
+returns-clause-long c =
+    let n = c.requires.seats.0 in
+    let sizes = c.args.shape.now in
+    let long = sizes_long n c.args.catalogue.now c.args.seats.now sizes c.args.self.now.envs c.args.self.now.actions c.requires.seats.1 in
+    omega (arith, long, low_of-le sizes.seats, c.loop-k.invariant.long, c.requires.rows.low)
+
+pub returns-clause-few : goal.returns-clause-few
+returns-clause-few c = omega (arith, c.loop-k.invariant.few, lanes_room c.args.shape.now c.known.ensures)
+
+pub returns-clause-spans : goal.returns-clause-spans
+returns-clause-spans c m of = c.loop-k.invariant.spans m (seats_kept m c.args.catalogue.now c.args.seats.now c.args.shape.now c.args.self.now c.loop-k.self c.loop-k.invariant.kept of)

@@ -1,0 +1,11 @@
+use Rattle.std.proofs.Common.{◌≡◌, ℕ, ◌+◌, ◌==◌, ◌&&◌, ◌||◌, length, take, slice_index}
+use Rattle.std.specs.List.{list_any}
+use Rattle.roman_lanes.specs.Rows.{is_on}
+use Rattle.roman_joint.proofs.ways.add_ways.Given as goal
+
+-- the ways to the states so far
+abbrev pub invariant-loop-b : goal.invariant-loop-b
+invariant-loop-b l = record {
+  long : length l.lanes ≡ length l.fn.lanes;
+  ways : (j lane : ℕ) → is_on (slice_index l.lanes j) lane ≡ (is_on (slice_index l.fn.lanes j) lane || (is_on l.here lane && list_any (λ b. b + l.up == j) (take l.b-index l.states)));
+}

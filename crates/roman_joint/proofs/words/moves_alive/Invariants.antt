@@ -1,0 +1,14 @@
+use Rattle.std.proofs.Common.{◌≡◌, ℕ, ◌+◌, ◌-◌, ◌<◌, ◌≤◌, true, false, not, ◌&&◌, take}
+use Rattle.std.specs.List.{list_any}
+use Rattle.roman_model.specs.Lists.{IsIn}
+use Rattle.roman_lanes.specs.Rows.{is_on}
+use Rattle.roman_joint.specs.declared.moves.Move.{Move}
+use Rattle.roman_joint.proofs.words.moves_alive.Given as goal
+
+-- those of the moves so far
+abbrev pub invariant-loop-way : goal.invariant-loop-way
+invariant-loop-way l = record {
+  alive : (lane : ℕ) → lane < 64 → ((move : Move) → IsIn move l.moves → is_on move.lanes lane ≡ true → (move.from ≤ lane) × (lane + move.to - move.from < 64)) →
+      is_on l.left lane ≡ (is_on l.good lane && not (list_any (λ move. is_on move.lanes lane && not (is_on l.alive (lane + move.to - move.from))) (take l.way-index l.moves)));
+  within : (lane : ℕ) → is_on l.good lane ≡ false → is_on l.left lane ≡ false;
+}

@@ -1,0 +1,112 @@
+-- Moves of services within the lanes.
+use Rattle.std.specs.Prelude.{◌≡◌, ℕ, ◌+◌, ◌-◌, ◌*◌, ◌/◌, ◌%◌, ◌<◌, ◌≤◌, ◌==◌, true, false, not, List, [], ◌∷◌, Some, map, length, slice_get, slice_index, slice_index_or, slice_range, ◌++◌, vec_capacity}
+use Rattle.std.specs.List.{list_any, filter}
+use Rattle.roman_model.specs.Lists.{IsIn, is_empty, below}
+use Rattle.roman_model.specs.System.{Sys, Beh, Seat, beh_next}
+use Rattle.roman_model.specs.Numbers.{Sizes, sizes_of}
+use Rattle.roman_radix.specs.Radix.{stride_of}
+use Rattle.roman_radix.specs.Rows.{lanes_of}
+use Rattle.roman_lanes.specs.Rows.{is_on}
+use Rattle.roman_parts.specs.Named.{NamedBeh}
+use Rattle.roman_joint.specs.NamedSys.{NamedSys, system_of, IsNamedSys}
+use Rattle.roman_joint.specs.Rows.{low_in}
+use Rattle.roman_joint.specs.declared.seat.Seat as declared
+use Rattle.roman_joint.specs.declared.moves.Move.{Move}
+use Rattle.roman_joint.specs.declared.moves.Span.{Span}
+use Rattle.roman_joint.specs.declared.moves.Moves.{Moves}
+use Rattle.roman_joint.specs.declared.ways.Ways.{Ways}
+
+-- the state of seat k at a lane
+abbrev pub lane_state_of : Sizes → ℕ → ℕ → ℕ
+lane_state_of n k lane = lane / stride_of n k % slice_index n.seats k
+
+-- by that move the lane goes to that of state b
+pub record GoesTo (n : Sizes) (k lane b : ℕ) (move : Move) : Type 0 where
+  pub taken : move.from ≤ lane
+  pub there : lane + move.to - move.from ≡ lane + b * stride_of n k - lane_state_of n k lane * stride_of n k
+
+-- those are the moves of seat k with that behaviour on a while the environment is in e: each lane goes to those of the states that are next, and `some` are the lanes that have one
+pub record AreMovesOf (n : Sizes) (k : ℕ) (beh : Beh) (e a some : ℕ) (moves : List Move) : Type 0 where
+  pub each : (lane : ℕ) → lane < lanes_of n.seats → is_on some lane ≡ not (is_empty (beh_next beh (lane_state_of n k lane) e a))
+  pub rest : (lane : ℕ) → lanes_of n.seats ≤ lane → is_on some lane ≡ false
+  pub small : (move : Move) → IsIn move moves → (move.from < 64) × (move.to < 64)
+  pub sound : (move : Move) (lane : ℕ) → IsIn move moves → lane < lanes_of n.seats → is_on move.lanes lane ≡ true →
+      (b : ℕ) × IsIn b (beh_next beh (lane_state_of n k lane) e a) × GoesTo n k lane b move
+  pub whole : (b lane : ℕ) → lane < lanes_of n.seats → IsIn b (beh_next beh (lane_state_of n k lane) e a) →
+      (move : Move) × IsIn move moves × (is_on move.lanes lane ≡ true) × GoesTo n k lane b move
+
+-- the lanes that go each way are those of seat k with that behaviour on a while the environment is in e: way j leads up by j + 1 states less their number
+pub record AreWays (n : Sizes) (k : ℕ) (beh : Beh) (e a : ℕ) (ways : Ways) : Type 0 where
+  pub each : (lane : ℕ) → lane < lanes_of n.seats → is_on ways.some lane ≡ not (is_empty (beh_next beh (lane_state_of n k lane) e a))
+  pub rest : (lane : ℕ) → lanes_of n.seats ≤ lane → is_on ways.some lane ≡ false
+  pub goes : (j lane : ℕ) → lane < lanes_of n.seats → is_on (slice_index ways.lanes j) lane ≡ list_any (λ b. b + slice_index n.seats k == j + 1 + lane_state_of n k lane) (beh_next beh (lane_state_of n k lane) e a)
+
+-- the move of a way
+abbrev pub move_of : List ℕ → ℕ → ℕ → ℕ → Move
+move_of lanes last stride j = record { lanes = slice_index lanes j; from = (last - j) * stride; to = (j - last) * stride }
+
+-- the moves of the first ways, less those that no lane goes
+abbrev pub moves_from : List ℕ → ℕ → ℕ → ℕ → List Move
+moves_from lanes last stride count = map (move_of lanes last stride) (filter (λ j. not (slice_index lanes j == 0)) (below count))
+
+-- how many ways seats of those sizes have at most
+abbrev pub ways_room : List ℕ → ℕ
+ways_room [] = 0
+ways_room (size ∷ sizes) = 2 * size - 1 + ways_room sizes
+
+-- how many seats stand within the lanes
+abbrev pub within_in : Sys → ℕ
+within_in s = length s.seats - low_in s
+
+-- the span at place i of a table stands for a seat within the lanes, an action and a state of the environment, the seat's place changing fastest
+pub record IsSpan (s : Sys) (i : ℕ) (span : Span) (moves : List Move) : Type 0 where
+  pub first : span.first ≤ span.end
+  pub last : span.end ≤ length moves
+  pub moves_of : (seat : Seat) → slice_get s.seats (low_in s + i % within_in s) ≡ Some seat →
+      AreMovesOf (sizes_of s) (low_in s + i % within_in s) seat.beh (i / within_in s / s.env.actions) (i / within_in s % s.env.actions) span.some (slice_range moves span.first span.end)
+
+-- each span of the table is that of its place
+pub record HoldsSpans (s : Sys) (spans : List Span) (moves : List Move) : Type 0 where
+  pub each : (i : ℕ) (span : Span) → i < length spans → span ≡ slice_index_or spans i span → IsSpan s i span moves
+
+-- the table has the moves of all seats within the lanes
+pub record HoldsMoves (s : Sys) (table : Moves) : Type 0 where
+  pub envs : table.envs ≡ s.env.states
+  pub actions : table.actions ≡ s.env.actions
+  pub long : length table.spans.items ≡ s.env.states * s.env.actions * within_in s
+  pub spans_at : HoldsSpans s table.spans.items table.moves.items
+
+-- there are places for the moves of all services that there may be
+pub record HasRoom (table : Moves) : Type 0 where
+  pub few_envs : table.envs ≤ 64
+  pub few_actions : table.actions ≤ 32
+  pub for_spans : vec_capacity table.spans ≡ table.envs * table.actions * 32
+  pub for_moves : vec_capacity table.moves ≡ table.envs * table.actions * 160
+
+-- the table is for as many states of the environment and actions as before, with as many places
+pub record IsKept (old new : Moves) : Type 0 where
+  pub same_envs : new.envs ≡ old.envs
+  pub same_actions : new.actions ≡ old.actions
+  pub spans_room : vec_capacity new.spans ≡ vec_capacity old.spans
+  pub moves_room : vec_capacity new.moves ≡ vec_capacity old.moves
+
+-- the services, their behaviours and their sizes are those of a system with so many states of the environment and actions
+pub record AreSeatsOf (n : NamedSys) (catalogue : List NamedBeh) (seats : List declared.Seat) (sizes : Sizes) (envs actions : ℕ) : Type 0 where
+  pub known : IsNamedSys n
+  pub catalogue_of : catalogue ≡ n.catalogue
+  pub seats_of : seats ≡ n.seats
+  pub sizes_are : sizes ≡ sizes_of (system_of n)
+  pub envs_are : envs ≡ n.environment.env.states
+  pub actions_are : actions ≡ n.environment.env.actions
+
+-- one span more, with its moves; nothing before changes
+pub record IsAdded (n : Sizes) (k : ℕ) (beh : Beh) (e a : ℕ) (old new : Moves) : Type 0 where
+  pub span : Span
+  pub more : List Move
+  pub spans : new.spans.items ≡ old.spans.items ++ span ∷ []
+  pub moves : new.moves.items ≡ old.moves.items ++ more
+  pub few : length more ≤ 2 * slice_index n.seats k - 1
+  pub first : span.first ≡ length old.moves.items
+  pub end : span.end ≡ length new.moves.items
+  pub moves_of : AreMovesOf n k beh e a span.some more
+  pub kept : IsKept old new

@@ -1,0 +1,82 @@
+//! Equal joints.
+ghost use Rattle.std.specs.Prelude.{◌≡◌, ◌≤◌, IfOk, length, vec_capacity};
+ghost use Rattle.roman_model.specs.declared.limits.TheConstants.{MAX_SERVICES};
+ghost use Rattle.roman_joint.specs.Parts.{HasSameParts};
+
+use super::Joint;
+use crate::moves::moves_of;
+use crate::seat::Seat;
+use roman_model::MAX_SERVICES;
+use roman_parts::Behaviour;
+use std::alloc::{AllocError, Global};
+
+impl Joint {
+    /// An equal joint, with room for as many services.
+    pub fn copy(&self, alloc: Global) -> Result<Joint, AllocError>
+        ensures same { IfOk result (λ copy. copy ≡ self.now) }
+    {
+        Ok(Joint {
+            environment: self.environment.copy(alloc)?,
+            catalogue: copy_catalogue(alloc, &self.catalogue)?,
+            target: self.target.copy(alloc)?,
+            seats: copy_seats(alloc, &self.seats)?,
+            shape: self.shape,
+            rows: self.rows,
+            scenes: Vec::from_slice(alloc, &self.scenes)?,
+            moves: moves_of(
+                alloc,
+                &self.environment,
+                &self.catalogue,
+                &self.seats,
+                &self.shape,
+                &self.rows,
+            )?,
+            limit: self.limit,
+        })
+    }
+
+    /// Becomes equal to a joint that differs in its services alone. No memory is taken.
+    pub fn reset_seats_to(&mut self, from: &Joint)
+        requires { HasSameParts self.old from.now }
+        ensures { self.new ≡ from.now }
+    {
+        put_seats(&mut self.seats, &from.seats);
+        self.shape = from.shape;
+        self.rows = from.rows;
+        self.moves
+            .fill(&self.catalogue, &self.seats, &self.shape, &self.rows);
+    }
+}
+
+/// The same behaviours again.
+fn copy_catalogue(alloc: Global, catalogue: &[Behaviour]) -> Result<Vec<Behaviour>, AllocError>
+    ensures { IfOk result (λ copies. copies.items ≡ catalogue.now) }
+{
+    let mut copies = Vec::with_capacity(alloc, catalogue.len())?;
+    for behaviour in catalogue {
+        copies.push(behaviour.copy(alloc)?)?;
+    }
+    Ok(copies)
+}
+
+/// The same services again, with room for as many as there may be.
+fn copy_seats(alloc: Global, seats: &[Seat]) -> Result<Vec<Seat>, AllocError>
+    ensures items { IfOk result (λ copy. copy.items ≡ seats.now) }
+    ensures room { IfOk result (λ copy. MAX_SERVICES ≤ vec_capacity copy) }
+{
+    let mut copy = Vec::with_capacity(alloc, MAX_SERVICES as usize)?;
+    copy.extend_from_slice(seats)?;
+    Ok(copy)
+}
+
+/// Puts these services in place of those that are there. There is room for them.
+fn put_seats(places: &mut Vec<Seat>, seats: &[Seat])
+    requires { length seats.now ≤ vec_capacity places.old }
+    ensures items { places.new.items ≡ seats.now }
+    ensures room { vec_capacity places.old ≤ vec_capacity places.new }
+{
+    places.clear();
+    let Ok(()) = places.extend_from_slice(seats) else {
+        unreachable!()
+    };
+}

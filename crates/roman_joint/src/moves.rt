@@ -1,0 +1,219 @@
+//! Moves of services within the lanes: for each of them, each action and each state of the environment
+//! the lanes that have an outcome, and together those that go the same way.
+ghost use Rattle.std.specs.Prelude.{◌≡◌, ℕ, ◌+◌, ◌-◌, ◌*◌, ◌<◌, ◌≤◌, ◌++◌, ◌∷◌, [], ◌==◌, ◌^◌, if◌then◌else◌, length, slice_index, slice_range, vec_len, vec_capacity, IfOk};
+ghost use Rattle.roman_radix.specs.Rows.{low_of};
+ghost use Rattle.roman_joint.specs.NamedSys.{NamedSys, system_of};
+ghost use Rattle.roman_joint.specs.Rows.{AreRowsOf};
+ghost use Rattle.roman_joint.specs.Moves.{moves_from, AreSeatsOf, HoldsSpans, HoldsMoves, HasRoom, IsAdded, IsKept};
+
+use crate::layout::Rows;
+use crate::seat::Seat;
+use crate::ways::{Ways, ways_of};
+use roman_parts::{Behaviour, Environment};
+use roman_radix::Shape;
+use std::alloc::{AllocError, Global};
+
+/// The greatest number of ways that services within the lanes may go on one action while the
+/// environment is in one state.
+const MAX_MOVES: u32 = 160;
+
+/// The greatest number of services within the lanes.
+const MAX_SPANS: u32 = 32;
+
+/// Lanes from which a service goes the same way: lane l goes to lane `l + to - from`.
+#[derive(Clone, Copy, Debug)]
+pub(crate) struct Move {
+    pub(crate) lanes: u64,
+    pub(crate) from: u32,
+    pub(crate) to: u32,
+}
+
+/// Where the moves stand of a service on one action while the environment is in one state.
+#[derive(Clone, Copy, Debug)]
+pub(crate) struct Span {
+    /// The lanes that have an outcome.
+    pub(crate) some: u64,
+    pub(crate) first: u32,
+    pub(crate) end: u32,
+}
+
+/// The moves of all services within the lanes.
+#[derive(Drop)]
+pub(crate) struct Moves {
+    /// How many states the environment has, and how many actions there are.
+    pub(crate) envs: u32,
+    pub(crate) actions: u32,
+    /// By the environment's state, then by the action and then by the service.
+    pub(crate) spans: Vec<Span>,
+    pub(crate) moves: Vec<Move>,
+}
+
+/// The moves from one place of a table to another.
+pub(crate) fn part(moves: &[Move], first: u32, end: u32) -> &[Move]
+    requires order { first ≤ end }
+    requires within { end ≤ length moves.now }
+    ensures { result.now ≡ slice_range moves.now first end }
+{
+    &moves[first as usize..end as usize]
+}
+
+/// How much a number is more than another: 0 where it isn't.
+fn beyond(a: u8, b: u8) -> u32
+    ensures { result ≡ a - b }
+{
+    if a > b { u32::from(a - b) } else { 0 }
+}
+
+/// Adds the move of a way, where some lane goes it.
+fn push_way(moves: &mut Vec<Move>, lanes: u64, j: u8, last: u8, stride: u32)
+    requires room { vec_len moves.old < vec_capacity moves.old }
+    requires small { last * stride < 64 }
+    requires way { j ≤ last + last }
+    ensures moves { moves.new.items ≡ moves.old.items ++ (if lanes == 0 then [] else record { lanes = lanes; from = (last - j) * stride; to = (j - last) * stride } ∷ []) }
+    ensures capacity { vec_capacity moves.new ≡ vec_capacity moves.old }
+{
+    if lanes == 0 {
+        return;
+    }
+    moves.push_reserved(Move {
+        lanes,
+        from: beyond(last, j) * stride,
+        to: beyond(j, last) * stride,
+    });
+}
+
+/// Adds the moves of all ways.
+fn push_ways(moves: &mut Vec<Move>, lanes: &[u64], last: u8, stride: u32)
+    requires room { vec_len moves.old + last + last < vec_capacity moves.old }
+    requires small { last * stride < 64 }
+    requires few { last < 64 }
+    requires long { last + last < length lanes.now }
+    ensures moves { moves.new.items ≡ moves.old.items ++ moves_from lanes.now last stride (last + last + 1) }
+    ensures capacity { vec_capacity moves.new ≡ vec_capacity moves.old }
+{
+    for j in 0..last + last + 1 {
+        push_way(moves, lanes[j as usize], j, last, stride);
+    }
+}
+
+impl Moves {
+    /// No moves yet, with places for those of all services that there may be.
+    pub(crate) fn reserve(alloc: Global, envs: u32, actions: u32) -> Result<Moves, AllocError>
+        requires few { (envs ≤ 64) × (actions ≤ 32) }
+        ensures envs { IfOk result (λ moves. moves.envs ≡ envs) }
+        ensures actions { IfOk result (λ moves. moves.actions ≡ actions) }
+        ensures room { IfOk result HasRoom }
+    {
+        let turns = envs * actions;
+        let spans = Vec::with_capacity(alloc, (turns * MAX_SPANS) as usize)?;
+        let moves = Vec::with_capacity(alloc, (turns * MAX_MOVES) as usize)?;
+        Ok(Moves {
+            envs,
+            actions,
+            spans,
+            moves,
+        })
+    }
+
+    /// Adds the moves of a service on an action while the environment is in a state.
+    fn add(&mut self, shape: &Shape, rows: &Rows, behaviour: &Behaviour, k: u8, e: u8, a: u8)
+        requires rows { AreRowsOf shape.now rows.now }
+        requires within { low_of shape.now.seats ≤ k }
+        requires seat { k < length shape.now.seats }
+        requires states { behaviour.now.beh.states ≡ slice_index shape.now.seats k }
+        requires few { behaviour.now.beh.states ≤ 64 }
+        requires env { e < behaviour.now.env_states }
+        requires action { a < behaviour.now.actions }
+        requires room { vec_len self.old.moves + (2 * slice_index shape.now.seats k - 1) ≤ vec_capacity self.old.moves }
+        requires small { vec_capacity self.old.moves < 2 ^ 31 }
+        requires place { vec_len self.old.spans < vec_capacity self.old.spans }
+        ensures added { IsAdded shape.now k behaviour.now.beh e a self.old self.new }
+    {
+        shape.known();
+        let ways = ways_of(shape, rows, behaviour, k, e, a);
+        let first = self.moves.len() as u32;
+        let last = rows.sizes[k as usize] - 1;
+        push_ways(&mut self.moves, &ways.lanes, last, rows.strides[k as usize]);
+        let end = self.moves.len() as u32;
+        self.spans.push_reserved(Span {
+            some: ways.some,
+            first,
+            end,
+        });
+    }
+
+    /// Adds the moves of all services within the lanes on an action while the environment is in a state.
+    fn fill_turn(
+        &mut self,
+        catalogue: &[Behaviour],
+        seats: &[Seat],
+        shape: &Shape,
+        rows: &Rows,
+        e: u8,
+        a: u8,
+    )
+        requires seats { (n : NamedSys) × AreSeatsOf n catalogue.now seats.now shape.now self.old.envs self.old.actions }
+        requires rows { AreRowsOf shape.now rows.now }
+        requires env { e < self.old.envs }
+        requires action { a < self.old.actions }
+        requires long { length self.old.spans.items ≡ (e * self.old.actions + a) * (length seats.now - low_of shape.now.seats) }
+        requires few { length self.old.moves.items + 160 ≤ vec_capacity self.old.moves }
+        requires place { length self.old.spans.items + 32 ≤ vec_capacity self.old.spans }
+        requires small { vec_capacity self.old.moves < 2 ^ 31 }
+        requires spans { (n : NamedSys) → AreSeatsOf n catalogue.now seats.now shape.now self.old.envs self.old.actions → HoldsSpans (system_of n) self.old.spans.items self.old.moves.items }
+        ensures long { length self.new.spans.items ≡ length self.old.spans.items + (length seats.now - low_of shape.now.seats) }
+        ensures few { length self.new.moves.items ≤ length self.old.moves.items + 160 }
+        ensures spans { (n : NamedSys) → AreSeatsOf n catalogue.now seats.now shape.now self.old.envs self.old.actions → HoldsSpans (system_of n) self.new.spans.items self.new.moves.items }
+        ensures kept { IsKept self.old self.new }
+    {
+        shape.known();
+        for k in rows.low..seats.len() as u8 {
+            let behaviour = &catalogue[seats[k as usize].behaviour as usize];
+            self.add(shape, rows, behaviour, k, e, a);
+        }
+    }
+
+    /// Writes the moves of all services within the lanes.
+    pub(crate) fn fill(
+        &mut self,
+        catalogue: &[Behaviour],
+        seats: &[Seat],
+        shape: &Shape,
+        rows: &Rows,
+    )
+        requires seats { (n : NamedSys) × AreSeatsOf n catalogue.now seats.now shape.now self.old.envs self.old.actions }
+        requires rows { AreRowsOf shape.now rows.now }
+        requires room { HasRoom self.old }
+        ensures moves { (n : NamedSys) → AreSeatsOf n catalogue.now seats.now shape.now self.old.envs self.old.actions → HoldsMoves (system_of n) self.new }
+        ensures kept { IsKept self.old self.new }
+    {
+        self.spans.clear();
+        self.moves.clear();
+        for turn in 0..self.envs * self.actions {
+            let e = (turn / self.actions) as u8;
+            let a = (turn % self.actions) as u8;
+            self.fill_turn(catalogue, seats, shape, rows, e, a);
+        }
+    }
+}
+
+/// The moves of these services, with places for those of all services that there may be.
+pub(crate) fn moves_of(
+    alloc: Global,
+    environment: &Environment,
+    catalogue: &[Behaviour],
+    seats: &[Seat],
+    shape: &Shape,
+    rows: &Rows,
+) -> Result<Moves, AllocError>
+    requires seats { (n : NamedSys) × AreSeatsOf n catalogue.now seats.now shape.now environment.now.env.states environment.now.env.actions }
+    requires rows { AreRowsOf shape.now rows.now }
+    ensures moves { IfOk result (λ moves. (n : NamedSys) → AreSeatsOf n catalogue.now seats.now shape.now environment.now.env.states environment.now.env.actions → HoldsMoves (system_of n) moves) }
+    ensures room { IfOk result HasRoom }
+{
+    let envs = environment.states().len();
+    let actions = environment.actions().len();
+    let mut moves = Moves::reserve(alloc, envs, actions)?;
+    moves.fill(catalogue, seats, shape, rows);
+    Ok(moves)
+}

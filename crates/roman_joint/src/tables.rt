@@ -1,0 +1,60 @@
+//! The tables of a joint, taken once.
+ghost use Rattle.std.specs.Prelude.{◌≡◌, ◌≤◌, length, vec_capacity, IfOk};
+ghost use Rattle.roman_model.specs.declared.limits.TheConstants.{MAX_SERVICES};
+ghost use Rattle.roman_joint.specs.NamedSys.{NamedSys, system_of, TargetIsOverEnv};
+ghost use Rattle.roman_joint.specs.Scenes.{AreScenes};
+ghost use Rattle.roman_joint.specs.Rows.{AreRowsOf};
+ghost use Rattle.roman_joint.specs.Moves.{AreSeatsOf, HoldsMoves, HasRoom};
+
+use crate::layout::{Rows, rows_of};
+use crate::moves::{Moves, moves_of};
+use crate::scene::{Scene, all_scenes};
+use crate::seat::Seat;
+use roman_model::MAX_SERVICES;
+use roman_parts::{Behaviour, Environment, Target};
+use roman_radix::Shape;
+use std::alloc::{AllocError, Global};
+
+/// The tables of a joint.
+#[derive(Drop)]
+pub(crate) struct Tables {
+    /// The services, with room for the greatest number of them.
+    pub(crate) places: Vec<Seat>,
+    pub(crate) scenes: Vec<Scene>,
+    pub(crate) rows: Rows,
+    pub(crate) moves: Moves,
+}
+
+/// The tables of these parts, whose pairs have that shape.
+pub(crate) fn tables_of(
+    alloc: Global,
+    environment: &Environment,
+    catalogue: &[Behaviour],
+    target: &Target,
+    seats: &[Seat],
+    shape: &Shape,
+) -> Result<Tables, AllocError>
+    requires few { length seats.now ≤ MAX_SERVICES }
+    requires target { TargetIsOverEnv environment.now target.now }
+    requires seats { (n : NamedSys) × AreSeatsOf n catalogue.now seats.now shape.now environment.now.env.states environment.now.env.actions }
+    ensures places { IfOk result (λ tables. tables.places.items ≡ seats.now) }
+    ensures room { IfOk result (λ tables. MAX_SERVICES ≤ vec_capacity tables.places) }
+    ensures scenes { IfOk result (λ tables. AreScenes environment.now.env target.now.beh tables.scenes.items) }
+    ensures rows { IfOk result (λ tables. AreRowsOf shape.now tables.rows) }
+    ensures moves { IfOk result (λ tables. (n : NamedSys) → AreSeatsOf n catalogue.now seats.now shape.now environment.now.env.states environment.now.env.actions → HoldsMoves (system_of n) tables.moves) }
+    ensures moves_room { IfOk result (λ tables. HasRoom tables.moves) }
+{
+    let rows = rows_of(shape);
+    let scenes = all_scenes(alloc, environment, target)?;
+    let moves = moves_of(alloc, environment, catalogue, seats, shape, &rows)?;
+    let mut places = Vec::with_capacity(alloc, MAX_SERVICES as usize)?;
+    for seat in seats {
+        places.push_reserved(*seat);
+    }
+    Ok(Tables {
+        places,
+        scenes,
+        rows,
+        moves,
+    })
+}

@@ -1,0 +1,67 @@
+//! The ways that a service within the lanes goes on one action while the environment is in one state.
+ghost use Rattle.std.specs.Prelude.{◌≡◌, ℕ, ◌+◌, ◌<◌, ◌≤◌, ◌==◌, Bool, ◌&&◌, ◌||◌, All, length, slice_index};
+ghost use Rattle.std.specs.List.{list_any};
+ghost use Rattle.roman_radix.specs.Rows.{low_of};
+ghost use Rattle.roman_lanes.specs.Rows.{is_on};
+ghost use Rattle.roman_joint.specs.Rows.{AreRowsOf};
+ghost use Rattle.roman_joint.specs.Moves.{AreWays};
+
+use crate::layout::Rows;
+use crate::states::state_lanes;
+use crate::words::with_lanes;
+use roman_parts::Behaviour;
+use roman_radix::Shape;
+
+/// How many ways there are: from each state to each.
+const WAYS: usize = 128;
+
+/// The lanes that go each way: way j goes up by j + 1 states, less the number of states.
+#[derive(Drop)]
+pub(crate) struct Ways {
+    /// The lanes that have an outcome.
+    pub(crate) some: u64,
+    pub(crate) lanes: [u64; WAYS],
+}
+
+/// Adds the lanes to each way that leads to one of the states, where way `up` leads to the first state.
+fn add_ways(lanes: &mut [u64], here: u64, up: u8, states: &[u8])
+    requires { All (λ b. b + up < length lanes.old) states.now }
+    ensures long { length lanes.new ≡ length lanes.old }
+    ensures ways { (j lane : ℕ) → is_on (slice_index lanes.new j) lane
+        ≡ (is_on (slice_index lanes.old j) lane || (is_on here lane && list_any (λ b. b + up == j) states.now)) }
+{
+    for b in states {
+        lanes[*b as usize + up as usize] |= here;
+    }
+}
+
+/// The ways that a service within the lanes goes, whose behaviour is given.
+pub(crate) fn ways_of(
+    shape: &Shape,
+    rows: &Rows,
+    behaviour: &Behaviour,
+    k: u8,
+    e: u8,
+    a: u8,
+) -> Ways
+    requires rows { AreRowsOf shape.now rows.now }
+    requires within { low_of shape.now.seats ≤ k }
+    requires seat { k < length shape.now.seats }
+    requires states { behaviour.now.beh.states ≡ slice_index shape.now.seats k }
+    requires few { behaviour.now.beh.states ≤ 64 }
+    requires env { e < behaviour.now.env_states }
+    requires action { a < behaviour.now.actions }
+    ensures { AreWays shape.now k behaviour.now.beh e a result }
+{
+    shape.known();
+    let size = rows.sizes[k as usize];
+    let mut some = 0;
+    let mut lanes = [0; WAYS];
+    for d in 0..size {
+        let here = state_lanes(shape, rows, k, d);
+        let states = behaviour.out(d, e, a);
+        some = with_lanes(some, here, !states.is_empty());
+        add_ways(&mut lanes, here, size - 1 - d, states);
+    }
+    Ways { some, lanes }
+}

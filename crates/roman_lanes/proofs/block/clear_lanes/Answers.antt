@@ -1,5 +1,0 @@
-use Rattle.roman_lanes.proofs.Lanes.{clear_of_lanes}
-use Rattle.roman_lanes.proofs.block.clear_lanes.Goals as goal
-
-pub returns : goal.returns
-returns c = clear_of_lanes c.args.k c.args.lanes c.requires c.fits-lanes.0 c.fits-lanes.1

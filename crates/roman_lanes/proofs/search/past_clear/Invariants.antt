@@ -1,0 +1,13 @@
+use Rattle.std.proofs.Common.{◌≡◌, ℕ, ◌<◌, ◌≤◌, ◌-◌, length, slice_index}
+use Rattle.roman_lanes.proofs.search.past_clear.Given as goal
+
+-- no word so far has a bit
+abbrev pub invariant-loop-at : goal.invariant-loop-at
+invariant-loop-at l = record {
+  place : l.from ≤ l.at;
+  within : l.at ≤ length l.words;
+  clear : (i : ℕ) → l.from ≤ i → i < l.at → slice_index l.words i ≡ 0;
+}
+
+abbrev pub decreases-loop-at : goal.decreases-loop-at
+decreases-loop-at l = length l.words - l.at

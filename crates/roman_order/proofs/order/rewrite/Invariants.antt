@@ -1,0 +1,12 @@
+use Rattle.std.proofs.Common.{◌≡◌, ◌≤◌, ◌++◌, vec_capacity}
+use Rattle.std.specs.Slice.Iter.{chunks_rest, chunks_size}
+use Rattle.roman_order.proofs.order.rewrite.Given as goal
+
+-- the items that are there and the pieces that are left are those of the list
+abbrev pub invariant-loop-piece : goal.invariant-loop-piece
+invariant-loop-piece g l =
+    (goal.iterator-loop-piece g).can_next l.piece-iterator
+    × (goal.iterator-loop-piece g).is_finite l.piece-iterator
+    × (chunks_size l.piece-iterator ≡ 256)
+    × (l.table.items ++ chunks_rest l.piece-iterator ≡ l.items)
+    × (vec_capacity l.fn.table ≤ vec_capacity l.table)
