@@ -1,0 +1,4 @@
+pub mod Giving
+pub mod Tallies
+pub mod Telling
+pub mod Systems

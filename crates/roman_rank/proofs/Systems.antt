@@ -1,0 +1,60 @@
+-- What a complete relation gives to those who rank its pairs.
+use Rattle.std.proofs.Common.{◌≡◌, ◌≢◌, ℕ, ◌-◌, ◌^◌, ◌<◌, ◌≤◌, ◌⊎◌, true, [], length, IsFalse, inl, inr, sym, ◌∙◌, subst, arith}
+use Rattle.std.proofs.Math.Nat.{mul-le-mul_left}
+use Rattle.std.proofs.lemmas.Bool.{not_from_false}
+use Rattle.roman_model.specs.Arena.{Arena}
+use Rattle.roman_model.specs.Numbers.{sizes_of, count, pair_at}
+use Rattle.roman_model.specs.Offers.{is_related}
+use Rattle.roman_model.proofs.Lists.{by_test, length-below}
+use Rattle.roman_model.proofs.CompositionLemmas.{lost_unrelated, related_great}
+use Rattle.roman_model.proofs.NumberLemmas.{numbers_are_pairs}
+use Rattle.roman_model.proofs.NumberedLists.{numbered_listed, numbered_loses}
+use Rattle.roman_joint.specs.NamedSys.{NamedSys, system_of, IsNamedSys}
+use Rattle.roman_order.specs.Board.{Board, pairs_of, has_entry}
+use Rattle.roman_relation.specs.Shaped.{IsShaped}
+use Rattle.roman_relation.specs.Settled.{IsSettled, AreLevels}
+use Rattle.roman_relation.specs.Greatest.{arena_of, lanes_of, HasCompleteList}
+use Rattle.roman_relation.proofs.Relating.{listed_numbers}
+use Rattle.roman_rules.specs.Numbered.{IsNumbered}
+use Rattle.roman_rules.proofs.NumberedFacts.{numbered_arena, in_nodes, from_nodes}
+use Rattle.roman_model.proofs.DepthLemmas.{settled_exact, loses_up, last_is_steady}
+use Rattle.std.proofs.lemmas.Bool.{cases_lt}
+use Rattle.roman_rank.specs.Ranking.{HoldsAllLost}
+
+-- a joint has far fewer pairs than numbers have values
+pub few_pairs : (n : NamedSys) → IsNamedSys n → length (arena_of n).nodes < 2 ^ 32 - 1
+few_pairs n known =
+    let m = count (sizes_of (system_of n)) in
+    let one : 1 ≤ (system_of n).env.actions = omega (arith, known.system.env.actions.0) in
+    omega (arith, length-below m, mul-le-mul_left m one, known.fits, known.limit.1)
+
+-- a complete list has every pair that is lost
+pub complete_all : (n : NamedSys) (board : Board) → IsNamedSys n → HasCompleteList n board → IsShaped (arena_of n) (lanes_of n) board → ((p : ℕ) → has_entry board.list p ≡ true → p < pairs_of board) →
+    HoldsAllLost (arena_of n) board.list
+complete_all n board known complete shaped in_range = record {
+  each = λ p l m t.
+      let s = system_of n in
+      let inside : p < count (sizes_of s) = subst (λ k. p < k) (length-below (count (sizes_of s))) l in
+      let q = pair_at (sizes_of s) p in
+      let unrelated : IsFalse (is_related s q) = by_test (is_related s q)
+      (λ r. absurd (lost_unrelated s m q known.system (sym (numbered_loses s m p known.system inside) ∙ t) (related_great s q known.system ((numbers_are_pairs s).pair p inside) r)))
+      (λ f. f) in
+      numbered_listed s board.list p known.system (listed_numbers s board shaped.pairs in_range) complete.list inside ∙ not_from_false (is_related s q) unrelated;
+}
+
+-- so has a settled one
+pub settled_all : (A : Arena ℕ) (board : Board) → IsNumbered A → IsSettled A board.list → HoldsAllLost A board.list
+settled_all A board ok settled = record {
+  each = λ p l n t.
+      let exact = settled_exact A (numbered_arena A ok) board.list settled.order
+      (λ q i f reason. settled.no_more q (from_nodes A ok q i) f reason) p (in_nodes A ok p l) in
+      exact ∙ elim (cases_lt n (length A.nodes)) [
+        | inl less ↦ loses_up A n (length A.nodes) p (omega arith) t
+        | inr more ↦ sym (last_is_steady A (numbered_arena A ok) n more p (in_nodes A ok p l)) ∙ t
+      ];
+}
+
+-- the levels of an order that has some
+pub some_levels : (A : Arena ℕ) (board : Board) → board.levels ≢ [] → (board.levels ≡ []) ⊎ AreLevels A board.levels board.list → AreLevels A board.levels board.list
+some_levels A board some (inl none) = absurd (some none)
+some_levels A board some (inr are) = are

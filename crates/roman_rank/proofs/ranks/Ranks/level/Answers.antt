@@ -1,0 +1,7 @@
+use Rattle.std.proofs.Common.{◌==◌, List, ℕ, ap, ◌∙◌}
+use Rattle.std.specs.Prelude.{count_by}
+use Rattle.roman_rank.proofs.Telling.{depth_counted}
+use Rattle.roman_rank.proofs.ranks.Ranks.level.Goals as goal
+
+pub returns : goal.returns
+returns c = λ s are. c.count_equal.ensures.counted ∙ (ap (λ (xs : List ℕ). count_by (λ d. d == c.args.n) xs) (c.deref.ensures.value ∙ c.self.view_is) ∙ depth_counted s c.args.self.now c.args.n are c.requires)

@@ -1,0 +1,23 @@
+use Rattle.std.proofs.Common.{◌∙◌, arith}
+use Rattle.std.proofs.lemmas.Result.{err_from_is_err_and}
+use Rattle.roman_text.proofs.Filling.{fill_same, fill_more, fill_failed, fill_end}
+use Rattle.roman_rank.proofs.Telling.{next_line, end_lines}
+use Rattle.roman_rank.proofs.text.push_levels.Goals as goal
+
+pub returns-in_err-push-clause-gathers : goal.returns-in_err-push-clause-gathers
+returns-in_err-push-clause-gathers g c =
+    let next = next_line c.args.counts.now c.loop-n.n c.bytes.result.now (omega (arith, c.loop-n-test.true)) (c.bytes.ensures ∙ c.level_piece.ensures) in
+    let p = err_from_is_err_and c.from_residual.result c.from_residual.ensures.1 in
+    rw p.1 (fill_failed _ _ _ _ _ _ _ (fill_same _ _ _ _ _ _ next c.loop-n.invariant.filling) c.in_err-push.ensures.gathers.0, c.in_err-push.ensures.gathers.1)
+
+pub loop-n-preserved : goal.loop-n-preserved
+loop-n-preserved g c =
+    let next = next_line c.args.counts.now c.loop-n.n c.bytes.result.now (omega (arith, c.loop-n-test.true)) (c.bytes.ensures ∙ c.level_piece.ensures) in
+    record {
+      filling = fill_more _ _ _ _ _ _ _ _ (fill_same _ _ _ _ _ _ next c.loop-n.invariant.filling) c.in_ok-push.ensures.gathers;
+      cause = c.in_ok-push.ensures.cause.stays ∙ c.loop-n.invariant.cause;
+    }
+
+pub returns-clause-gathers : goal.returns-clause-gathers
+returns-clause-gathers g c =
+    fill_end _ _ _ _ (fill_same _ _ _ _ _ _ (end_lines c.args.counts.now c.loop-n.n (omega (arith, c.loop-n-test.false))) c.loop-n.invariant.filling)

@@ -1,0 +1,11 @@
+use Rattle.std.proofs.Common.{◌≡◌, ◌++◌, drop}
+use Rattle.roman_text.proofs.Filling.{IsFilling}
+use Rattle.roman_rank.specs.DepthText.{level_lines}
+use Rattle.roman_rank.proofs.text.push_levels.Given as goal
+
+-- the lines so far are taken
+abbrev pub invariant-loop-n : goal.invariant-loop-n
+invariant-loop-n g l = record {
+  filling : IsFilling (g.O.Sink.written l.fn.out) (g.O.Sink.written l.out) l.page (level_lines l.n (drop l.n l.counts)) (l.fn.page ++ level_lines 0 l.counts);
+  cause : g.O.Sink.faults l.out ≡ g.O.Sink.faults l.fn.out;
+}

@@ -1,0 +1,70 @@
+// The levels of a removal list, given to its pairs.
+ghost use Rattle.std.specs.Prelude.{◌≡◌, ◌-◌, ◌^◌, ◌<◌, ◌≤◌, length, IfOk};
+ghost use Rattle.roman_relation.specs.Shaped.{IsShaped};
+ghost use Rattle.roman_relation.specs.Settled.{AreLevels};
+ghost use Rattle.roman_order.specs.Board.{pairs_of};
+ghost use Rattle.roman_rank.specs.Ranking.{AreRanks, GivesLevel, HoldsAllLost};
+
+use roman_io::Steps;
+use roman_order::Order;
+use roman_relation::settle_list;
+use roman_rules::Rules;
+use std::alloc::{AllocError, Global};
+use std::sync::ledger::Ledger;
+
+/// The depth of each pair, or `u32::MAX`, by an order whose list has levels and every pair that is lost.
+pub(crate) fn depths_by<J: Rules>(
+    alloc: Global,
+    joint: &J,
+    order: &Order,
+) -> Result<Vec<u32>, AllocError>
+    requires few { length (J.arena joint.now).nodes < 2 ^ 32 - 1 }
+    requires shaped { IsShaped (J.arena joint.now) (J.lanes joint.now) order.now }
+    requires levels { AreLevels (J.arena joint.now) order.now.levels order.now.list }
+    requires all { HoldsAllLost (J.arena joint.now) order.now.list }
+    ensures { IfOk result (λ depths. AreRanks (J.arena joint.now) depths.items) }
+{
+    joint.known();
+    order.len();
+    let pairs = joint.pairs();
+    let mut depths = vec![in alloc; u32::MAX; pairs as usize]?;
+    // no pair is deeper than there are pairs
+    let deepest = order.levels().len().min(pairs as usize + 1);
+    let mut start = 0;
+    for n in 0..deepest {
+        let end = order.levels()[n];
+        give_depth(order, &mut depths, start, end, n as u32);
+        start = end;
+    }
+    Ok(depths)
+}
+
+/// Gives the pairs of the entries from `start` on to `end` the depth `n`.
+fn give_depth(order: &Order, depths: &mut [u32], start: u32, end: u32, n: u32)
+    requires pairs { length depths.old ≡ pairs_of order.now }
+    requires within { end ≤ length order.now.list }
+    ensures { GivesLevel order.now.list start end n depths.old depths.new }
+{
+    order.len();
+    for i in start..end {
+        let (pair, _) = order.entry(i);
+        depths[pair as usize] = n;
+    }
+}
+
+/// The depth of each pair, or `u32::MAX`, by rounds on a list of its own.
+pub(crate) fn depths_anew<J: Rules, L: Ledger>(
+    alloc: Global,
+    joint: &J,
+    steps: &mut Steps<L>,
+) -> Result<Vec<u32>, AllocError>
+    requires { length (J.arena joint.now).nodes < 2 ^ 32 - 1 }
+    ensures { IfOk result (λ depths. AreRanks (J.arena joint.now) depths.items) }
+{
+    joint.known();
+    let lanes = joint.lanes();
+    let mut order = Order::build(alloc, joint.pairs())?;
+    order.shape_to(joint.rows(), lanes);
+    settle_list(joint, &mut order, steps);
+    depths_by(alloc, joint, &order)
+}

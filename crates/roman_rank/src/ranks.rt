@@ -1,0 +1,132 @@
+//! The depths of the pairs of a system.
+ghost use Rattle.std.specs.Prelude.{◌≡◌, ℕ, ◌<◌, ◌↔◌, None, length, IfOk, IfSome};
+ghost use Rattle.roman_model.specs.System.{Sys, Pair, IsPair};
+ghost use Rattle.roman_model.specs.Composition.{Great};
+ghost use Rattle.roman_model.specs.Numbers.{sizes_of, pair_at};
+ghost use Rattle.roman_model.specs.Offers.{related_count};
+ghost use Rattle.roman_joint.specs.NamedSys.{system_of};
+ghost use Rattle.roman_relation.specs.Shaped.{IsShaped};
+ghost use Rattle.roman_relation.specs.Greatest.{arena_of, lanes_of, HasCompleteList};
+ghost use Rattle.roman_rank.specs.Depths.{IsLeast, IsGreatest, depth_count};
+ghost use Rattle.roman_rank.specs.Ranking.{depth_in, AreDepths, AreRanks, IsRanking};
+
+use crate::counting::counts_of;
+use crate::levels::{depths_anew, depths_by};
+use roman_io::Steps;
+use roman_lanes::{count_equal, count_max};
+use roman_relation::Relation;
+use std::alloc::{AllocError, Global};
+use std::marker::Model;
+use std::sync::ledger::Ledger;
+
+/// For each pair of a system the least number of requests within which the opponent wins from it.
+///
+/// Contracts see a table of these numbers, in the order of the pairs' numbers; `u32::MAX` stands for
+/// none. What they say of a system they say of each whose [depths](Ranks::build) the table has.
+#[derive(Drop)]
+pub struct Ranks {
+    depths: Vec<u32>,
+    // how many pairs have each depth, up to the greatest one
+    counts: Vec<u32>,
+}
+
+impl Model for Ranks {
+    ghost use Rattle.std.specs.Prelude.{List, ℕ};
+    ghost use Rattle.roman_rank.specs.Ranking.{IsRanking};
+
+    ghost Value = { List ℕ };
+
+    ghost view = { λ a. a.depths.items };
+
+    ghost invariant = { λ a. IsRanking a.depths.items a.counts.items };
+}
+
+impl Ranks {
+    /// The depths of a relation's system. Where the removal list rises by depth, level by level, one
+    /// pass over it gives them; else the rounds are run anew, on a list that is given up at the end.
+    /// No other call takes memory.
+    pub fn build<L: Ledger>(
+        alloc: Global,
+        relation: &Relation,
+        steps: &mut Steps<L>,
+    ) -> Result<Ranks, AllocError>
+        requires complete { HasCompleteList relation.now.joint relation.now.order }
+        requires shaped { IsShaped (arena_of relation.now.joint) (lanes_of relation.now.joint) relation.now.order }
+        ensures depths { IfOk result (AreDepths (system_of relation.now.joint)) }
+    {
+        relation.joint.known();
+        let depths = depths_of(alloc, relation, steps)?;
+        let counts = counts_of(alloc, &depths)?;
+        Ok(Ranks { depths, counts })
+    }
+
+    /// How many pairs there are.
+    pub fn pairs(&self) -> u32
+        ensures { result ≡ length self.now }
+    {
+        self.depths.len() as u32
+    }
+
+    /// The least number of requests within which the opponent wins from the pair `p`. `None` comes
+    /// exactly where the pair is related.
+    pub fn depth(&self, p: u32) -> Option<u32>
+        requires { p < length self.now }
+        ensures value { result ≡ depth_in self.now p }
+        ensures least { (s : Sys) → AreDepths s self.now → IfSome result (IsLeast s (pair_at (sizes_of s) p)) }
+        ensures related { (s : Sys) → AreDepths s self.now → (result ≡ None) ↔ Great s (pair_at (sizes_of s) p) }
+    {
+        let depth = self.depths[p as usize];
+        if depth == u32::MAX { None } else { Some(depth) }
+    }
+
+    /// The greatest depth. `None` comes exactly where every pair is related.
+    pub fn deepest(&self) -> Option<u32>
+        ensures greatest { (s : Sys) → AreDepths s self.now → IfSome result (IsGreatest s) }
+        ensures related { (s : Sys) → AreDepths s self.now →
+            (result ≡ None) ↔ ((p : Pair) → IsPair s p → Great s p) }
+    {
+        let levels = self.counts.len() as u32;
+        if levels == 0 { None } else { Some(levels - 1) }
+    }
+
+    /// How many pairs have the depth `n`.
+    pub fn level(&self, n: u32) -> u32
+        requires { n < u32.MAX }
+        ensures { (s : Sys) → AreDepths s self.now → result ≡ depth_count s n }
+    {
+        count_equal(&self.depths, n) as u32
+    }
+
+    /// How many pairs are related.
+    pub fn related(&self) -> u32
+        ensures { (s : Sys) → AreDepths s self.now → result ≡ related_count s }
+    {
+        count_max(&self.depths) as u32
+    }
+
+    /// How many pairs have each depth, up to the greatest one.
+    pub(crate) fn levels(&self) -> &[u32]
+        ensures { IsRanking self.now result.now }
+    {
+        &self.counts
+    }
+}
+
+/// The depth of each pair, or `u32::MAX`.
+fn depths_of<L: Ledger>(
+    alloc: Global,
+    relation: &Relation,
+    steps: &mut Steps<L>,
+) -> Result<Vec<u32>, AllocError>
+    requires complete { HasCompleteList relation.now.joint relation.now.order }
+    requires shaped { IsShaped (arena_of relation.now.joint) (lanes_of relation.now.joint) relation.now.order }
+    ensures { IfOk result (λ depths. AreRanks (arena_of relation.now.joint) depths.items) }
+{
+    relation.joint.known();
+    relation.order.len();
+    if relation.order.levels().is_empty() {
+        depths_anew(alloc, &relation.joint, steps)
+    } else {
+        depths_by(alloc, &relation.joint, &relation.order)
+    }
+}

@@ -1,0 +1,185 @@
+-- What is left after a change, and after two.
+use Rattle.std.proofs.Common.{◌≡◌, ℕ, ◌<◌, ◌↔◌, Bool, true, false, not, List, [], ◌∷◌, length, remove, Some, IsTrue, slice_get, refl, sym, ap, ap₂, ◌∙◌, subst, arith}
+use Rattle.std.proofs.lemmas.List.{length-map}
+use Rattle.roman_model.specs.System.{Seat, Sys, Pair, is_ready}
+use Rattle.roman_model.specs.Composition.{Great}
+use Rattle.roman_model.specs.Change.{Freeze, Die, after, without}
+use Rattle.roman_model.specs.Numbers.{Sizes, sizes_of, sizes_without, count, number, pair_at}
+use Rattle.roman_model.specs.Offers.{is_related, related_count, choice_count}
+use Rattle.roman_model.specs.Without.{Outlook, outlook, system_without, pair_without}
+use Rattle.roman_model.specs.declared.way.Way.{Way}
+use Rattle.roman_model.specs.declared.way.Way.TheVariants as way
+use Rattle.roman_model.proofs.Lists.{same_test}
+use Rattle.roman_model.proofs.NumberLemmas.{number_without-is, pair_at-without, numbers_are_pairs}
+use Rattle.roman_model.proofs.CompositionLemmas.{related_great, great_related}
+use Rattle.roman_model.proofs.NumberedChanges.{sizes-turned, sizes-left}
+use Rattle.roman_model.proofs.ChangeLemmas.{length-remove, length-set_frozen}
+use Rattle.roman_model.proofs.Places.{get_map}
+use Rattle.roman_model.proofs.WithoutLemmas.{leave_one, freeze_one, without_changes}
+use Rattle.roman_joint.specs.NamedSys.{NamedSys, seat_of, system_of, IsNamedSys}
+use Rattle.roman_joint.specs.Parts.{HasSameParts}
+use Rattle.roman_joint.specs.declared.seat.Seat as joint
+use Rattle.roman_order.specs.Board.{Board}
+use Rattle.roman_relation.specs.Greatest.{HasCaps, IsRelation}
+use Rattle.roman_relation.specs.declared.relation.Relation.{Relation}
+use Rattle.roman_whatif.specs.Left.{IsLeft, IsScratchOf}
+use Rattle.roman_whatif.specs.Losses.{left_of}
+use Rattle.roman_whatif.proofs.LaterFirst.{system_later, pair_later}
+
+-- Outlooks.
+
+pub outlook_is : (n : NamedSys) (p : ℕ) (composes : Bool) (related choices : ℕ) → IsNamedSys n → p < count (sizes_of (system_of n)) →
+    IsTrue composes ↔ Great (system_of n) (pair_at (sizes_of (system_of n)) p) → related ≡ related_count (system_of n) → choices ≡ choice_count (system_of n) →
+    ◌≡◌ {A = Outlook} (record { composes = composes; related = related; choices = choices }) (outlook (system_of n) (pair_at (sizes_of (system_of n)) p))
+outlook_is n p composes related choices known l great counted chosen =
+    let s = system_of n in
+    let q = pair_at (sizes_of s) p in
+    let test : composes ≡ is_related s q =
+    same_test composes (is_related s q) (λ t. great_related s q known.system (great.0 t)) (λ t. great.1 (related_great s q known.system ((numbers_are_pairs s).pair p l) t)) in
+    λ i. record { composes = test i; related = counted i; choices = chosen i }
+
+-- Parts that stay.
+
+pub parts_themselves : (n : NamedSys) → HasSameParts n n
+parts_themselves n = record { environment = refl; catalogue = refl; target = refl; limit = refl }
+
+pub parts_with_seats : (m n : NamedSys) (seats : List joint.Seat) → m ≡ record n { seats = seats } → HasSameParts m n
+parts_with_seats m n seats e = record {
+  environment = ap (λ (x : NamedSys). x.environment) e;
+  catalogue = ap (λ (x : NamedSys). x.catalogue) e;
+  target = ap (λ (x : NamedSys). x.target) e;
+  limit = ap (λ (x : NamedSys). x.limit) e;
+}
+
+pub parts_on : (m n o : NamedSys) → HasSameParts m n → HasSameParts n o → HasSameParts m o
+parts_on m n o one two = record {
+  environment = one.environment ∙ two.environment;
+  catalogue = one.catalogue ∙ two.catalogue;
+  target = one.target ∙ two.target;
+  limit = one.limit ∙ two.limit;
+}
+
+pub parts_back : (m n : NamedSys) → HasSameParts m n → HasSameParts n m
+parts_back m n same = record { environment = sym same.environment; catalogue = sym same.catalogue; target = sym same.target; limit = sym same.limit }
+
+-- One seat.
+
+-- the seat at a place of the system is the service there
+pub seat_at_place : (n : NamedSys) (k : ℕ) (seat : joint.Seat) → slice_get n.seats k ≡ Some seat → slice_get (system_of n).seats k ≡ Some (seat_of n.catalogue seat)
+seat_at_place n k seat there = get_map (seat_of n.catalogue) n.seats k seat there
+
+pub is_ready_there : (n : NamedSys) (k : ℕ) (seat : joint.Seat) → slice_get n.seats k ≡ Some seat → seat.frozen ≡ false → IsTrue (is_ready (slice_get (system_of n).seats k))
+is_ready_there n k seat there ready = ap is_ready (seat_at_place n k seat there) ∙ ap not ready
+
+-- a seat that is frozen stays so
+pub left_frozen : (n : NamedSys) (order : Board) (p k : ℕ) (seat : Seat) → IsRelation n order → p < count (sizes_of (system_of n)) →
+    slice_get (system_of n).seats k ≡ Some seat → IsTrue seat.frozen → IsLeft way.Freeze (k ∷ []) n p n order p
+left_frozen n order p k seat relation l there frozen = record {
+  relation = relation;
+  parts = parts_themselves n;
+  system = sym ((without_changes (system_of n) (pair_at (sizes_of (system_of n)) p)).already k seat there frozen) ∙ (without_changes (system_of n) (pair_at (sizes_of (system_of n)) p)).one_frozen k;
+  within = l;
+  pair = refl;
+}
+
+pub left_freezing : (old new : NamedSys) (order : Board) (p k : ℕ) → IsRelation new order → HasSameParts new old → system_of new ≡ after (Freeze k) (system_of old) →
+    p < count (sizes_of (system_of old)) → IsLeft way.Freeze (k ∷ []) old p new order p
+left_freezing old new order p k relation parts system l =
+    let s = system_of old in
+    let sizes : sizes_of (system_of new) ≡ sizes_of s = ap sizes_of system ∙ sizes-turned s k true in
+    record {
+      relation = relation;
+      parts = parts;
+      system = system ∙ (without_changes s (pair_at (sizes_of s) p)).one_frozen k;
+      within = subst (λ m. p < count m) (sym sizes) l;
+      pair = ap (λ m. pair_at m p) sizes;
+    }
+
+left_dying_so : (old new : NamedSys) (order : Board) (p k q : ℕ) (seat : Seat) → IsRelation new order → HasSameParts new old → system_of new ≡ after (Die k seat) (system_of old) →
+    p < count (sizes_of (system_of old)) → k < length (sizes_of (system_of old)).seats →
+    q ≡ number (sizes_without k (sizes_of (system_of old))) (without k (pair_at (sizes_of (system_of old)) p)) → q < count (sizes_without k (sizes_of (system_of old))) →
+    IsLeft way.Die (k ∷ []) old p new order q
+left_dying_so old new order p k q seat relation parts system l within is below =
+    let s = system_of old in
+    let n = sizes_of s in
+    let sizes : sizes_of (system_of new) ≡ sizes_without k n = ap sizes_of system ∙ sizes-left s k in
+    let changes = without_changes s (pair_at n p) in
+    record {
+      relation = relation;
+      parts = parts;
+      system = system ∙ (changes.one_gone k seat).0;
+      within = subst (λ m. q < count m) (sym sizes) below;
+      pair = ap (λ m. pair_at m q) sizes ∙ (ap (pair_at (sizes_without k n)) (is ∙ number_without-is n p k l within) ∙ (pair_at-without n p k l within ∙ (changes.one_gone k seat).1));
+    }
+
+pub left_dying : (old new : NamedSys) (order : Board) (p k q : ℕ) (seat : Seat) (n : Sizes) → IsRelation new order → HasSameParts new old → system_of new ≡ after (Die k seat) (system_of old) →
+    n ≡ sizes_of (system_of old) → p < count n → k < length n.seats → q ≡ number (sizes_without k n) (without k (pair_at n p)) → q < count (sizes_without k n) →
+    IsLeft way.Die (k ∷ []) old p new order q
+left_dying old new order p k q seat shape relation parts system same l within is below =
+    left_dying_so old new order p k q seat relation parts system
+    (subst (λ m. p < count m) same l) (subst (λ m. k < length m.seats) same within) (subst (λ m. q ≡ number (sizes_without k m) (without k (pair_at m p))) same is) (subst (λ m. q < count (sizes_without k m)) same below)
+
+-- Two seats, the later one first.
+
+pub left_again : (way : Way) (k j : ℕ) (old mid new : NamedSys) (board order : Board) (p q r : ℕ) → k < j → IsLeft way (j ∷ []) old p mid board q → IsLeft way (k ∷ []) mid q new order r →
+    IsLeft way (k ∷ j ∷ []) old p new order r
+left_again way k j old mid new board order p q r l one two = record {
+  relation = two.relation;
+  parts = parts_on new mid old two.parts one.parts;
+  system = two.system ∙ ap (system_without way (k ∷ [])) one.system ∙ system_later way k j (system_of old) l;
+  within = two.within;
+  pair = two.pair ∙ ap (pair_without way (k ∷ [])) one.pair ∙ pair_later way k j (pair_at (sizes_of (system_of old)) p) l;
+}
+
+-- the earlier seat is there still
+pub still_there : (way : Way) (k j : ℕ) (old mid : NamedSys) (order : Board) (p q : ℕ) → k < j → j < length old.seats → IsLeft way (j ∷ []) old p mid order q → k < length mid.seats
+still_there way.Freeze k j old mid order p q l within left =
+    let e : length mid.seats ≡ length old.seats =
+    sym (length-map mid.seats (seat_of mid.catalogue)) ∙ ap (λ (s : Sys). length s.seats) left.system ∙ ap length (freeze_one j (system_of old).seats) ∙ length-set_frozen (system_of old).seats j true ∙ length-map old.seats (seat_of old.catalogue) in
+    omega (arith, e)
+still_there way.Die k j old mid order p q l within left =
+    let here : j < length (system_of old).seats = subst (λ n. j < n) (sym (length-map old.seats (seat_of old.catalogue))) within in
+    let e : length mid.seats ≡ length (remove (system_of old).seats j) =
+    sym (length-map mid.seats (seat_of mid.catalogue)) ∙ ap (λ (s : Sys). length s.seats) left.system ∙ ap length (leave_one j (system_of old).seats) in
+    let shorter = length-remove (system_of old).seats j here in
+    let all = length-map old.seats (seat_of old.catalogue) in
+    omega (arith, e, shorter, all)
+
+-- What can be told, and tried again, of what is left.
+
+-- what was told of the system in which they failed is what is left
+pub told_left : (way : Way) (K L : List ℕ) (base old new : NamedSys) (order : Board) (p q : ℕ) (o : Outlook) → old ≡ base → K ≡ L → IsLeft way K old p new order q →
+    o ≡ outlook (system_of new) (pair_at (sizes_of (system_of new)) q) → o ≡ left_of base p way L
+told_left way K L base old new order p q o same these left is =
+    is ∙ ap₂ outlook left.system left.pair ∙ ap (λ n. left_of n p way K) same ∙ ap (left_of base p way) these
+
+pub great_left : (way : Way) (K : List ℕ) (old new : NamedSys) (order : Board) (p q : ℕ) (composes : Bool) → IsLeft way K old p new order q →
+    IsTrue composes ↔ Great (system_of new) (pair_at (sizes_of (system_of new)) q) → IsTrue composes ↔ Great (system_without way K (system_of old)) (pair_without way K (pair_at (sizes_of (system_of old)) p))
+great_left way K old new order p q composes left great =
+    subst (λ (t : Sys). IsTrue composes ↔ Great t (pair_without way K (pair_at (sizes_of (system_of old)) p))) left.system (subst (λ (x : Pair). IsTrue composes ↔ Great (system_of new) x) left.pair great)
+
+pub great_told : (way : Way) (K L : List ℕ) (base old new : NamedSys) (order : Board) (p q : ℕ) (composes : Bool) → old ≡ base → K ≡ L → IsLeft way K old p new order q →
+    IsTrue composes ↔ Great (system_of new) (pair_at (sizes_of (system_of new)) q) →
+    IsTrue composes ↔ Great (system_without way L (system_of base)) (pair_without way L (pair_at (sizes_of (system_of base)) p))
+great_told way K L base old new order p q composes same these left great =
+    subst (λ M. IsTrue composes ↔ Great (system_without way M (system_of base)) (pair_without way M (pair_at (sizes_of (system_of base)) p))) these
+    (subst (λ n. IsTrue composes ↔ Great (system_without way K (system_of n)) (pair_without way K (pair_at (sizes_of (system_of n)) p))) same (great_left way K old new order p q composes left great))
+
+-- a scratch of what is left, in which another seat failed, is one still
+pub scratch_again : (way : Way) (K : List ℕ) (base old new : NamedSys) (order : Board) (p q : ℕ) → old ≡ base → IsLeft way K old p new order q → IsScratchOf base new order
+scratch_again way K base old new order p q same left = record { parts = subst (HasSameParts new) same left.parts; caps = left.relation.caps }
+
+-- a relation that equals another is a scratch of it
+pub same_scratch : (base scratch : Relation) → scratch ≡ base → HasCaps base.joint base.order → IsScratchOf base.joint scratch.joint scratch.order
+same_scratch base scratch same caps = record {
+  parts = subst (λ (r : Relation). HasSameParts r.joint base.joint) (sym same) (parts_themselves base.joint);
+  caps = subst (λ (r : Relation). HasCaps r.joint r.order) (sym same) caps;
+}
+
+-- two seats failed, the later one in the relation in the middle
+pub left_both : (way : Way) (k j : ℕ) (base first mid again new : Relation) (p q r : ℕ) → k < j → first ≡ base → again ≡ mid → IsLeft way (j ∷ []) first.joint p mid.joint mid.order q →
+    IsLeft way (k ∷ []) again.joint q new.joint new.order r → IsLeft way (k ∷ j ∷ []) base.joint p new.joint new.order r
+left_both way k j base first mid again new p q r l same reset one two =
+    left_again way k j base.joint mid.joint new.joint mid.order new.order p q r l
+    (subst (λ (x : Relation). IsLeft way (j ∷ []) x.joint p mid.joint mid.order q) same one)
+    (subst (λ (x : Relation). IsLeft way (k ∷ []) x.joint q new.joint new.order r) reset two)

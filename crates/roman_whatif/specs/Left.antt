@@ -1,0 +1,27 @@
+-- What is left where services fail.
+use Rattle.std.specs.Prelude.{◌≡◌, ℕ, ◌<◌, List, [], ◌∷◌, Option, None, Some}
+use Rattle.roman_model.specs.Numbers.{sizes_of, count, pair_at}
+use Rattle.roman_model.specs.Without.{system_without, pair_without}
+use Rattle.roman_model.specs.declared.way.Way.{Way}
+use Rattle.roman_joint.specs.NamedSys.{NamedSys, system_of}
+use Rattle.roman_joint.specs.Parts.{HasSameParts}
+use Rattle.roman_order.specs.Board.{Board}
+use Rattle.roman_relation.specs.Greatest.{HasCaps, IsRelation}
+
+-- the places of the seats that fail
+abbrev pub places : ℕ → Option ℕ → List ℕ
+places first None = first ∷ []
+places first (Some second) = first ∷ second ∷ []
+
+-- changes of the base can be tried there: it differs in its services and its list alone, and has the room
+pub record IsScratchOf (base joint : NamedSys) (order : Board) : Type 0 where
+  pub parts : HasSameParts joint base
+  pub caps : HasCaps joint order
+
+-- the relation is that of the system without the seats at the places K of the old one, and q is what is left of the pair p
+pub record IsLeft (way : Way) (K : List ℕ) (old : NamedSys) (p : ℕ) (joint : NamedSys) (order : Board) (q : ℕ) : Type 0 where
+  pub relation : IsRelation joint order
+  pub parts : HasSameParts joint old
+  pub system : system_of joint ≡ system_without way K (system_of old)
+  pub within : q < count (sizes_of (system_of joint))
+  pub pair : pair_at (sizes_of (system_of joint)) q ≡ pair_without way K (pair_at (sizes_of (system_of old)) p)

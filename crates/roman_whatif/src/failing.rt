@@ -1,0 +1,101 @@
+//! Services that fail.
+ghost use Rattle.std.specs.Prelude.{◌≡◌, ◌<◌, ◌↔◌, [], ◌∷◌, length, IfSome, IsTrue};
+ghost use Rattle.roman_model.specs.Composition.{Great};
+ghost use Rattle.roman_model.specs.Numbers.{sizes_of, count, pair_at};
+ghost use Rattle.roman_model.specs.Without.{system_without, pair_without, outlook};
+ghost use Rattle.roman_joint.specs.NamedSys.{system_of};
+ghost use Rattle.roman_relation.specs.Greatest.{IsRelation};
+ghost use Rattle.roman_whatif.specs.Left.{places, IsScratchOf, IsLeft};
+ghost use Rattle.roman_whatif.specs.Told.{told};
+
+use crate::outlook::{Outlook, now};
+use roman_io::Steps;
+use roman_model::Way;
+use roman_relation::Relation;
+use roman_repair::{die, freeze};
+use std::sync::ledger::Ledger;
+
+/// What is left where the service at one place of `base`, or those at two, fail: what the pair that is
+/// then left of `p` can look forward to. A service that is frozen already stays so where it freezes.
+///
+/// It is tried on `scratch`, which was made from `base`. No memory is taken.
+pub fn without<L: Ledger>(
+    scratch: &mut Relation,
+    base: &Relation,
+    p: u32,
+    first: u8,
+    second: Option<u8>,
+    way: Way,
+    steps: &mut Steps<L>,
+) -> Outlook
+    requires base { IsRelation base.now.joint base.now.order }
+    requires scratch { IsScratchOf base.now.joint scratch.old.joint scratch.old.order }
+    requires pair { p < count (sizes_of (system_of base.now.joint)) }
+    requires first { first < length base.now.joint.seats }
+    requires second { IfSome second (λ j. (first < j) × (j < length base.now.joint.seats)) }
+    ensures outlook { let s = system_of base.now.joint in let K = places first second in
+        told result ≡ outlook (system_without way K s) (pair_without way K (pair_at (sizes_of s) p)) }
+    ensures great { let s = system_of base.now.joint in let K = places first second in
+        IsTrue result.composes ↔ Great (system_without way K s) (pair_without way K (pair_at (sizes_of s) p)) }
+    ensures scratch { IsScratchOf base.now.joint scratch.new.joint scratch.new.order }
+{
+    scratch.reset_to(base);
+    match second {
+        None => {
+            let left = fail(scratch, p, first, way, steps);
+            now(scratch, left)
+        }
+        // The later service fails first, so that the earlier one keeps its place.
+        Some(second) => {
+            let between = fail(scratch, p, second, way, steps);
+            let left = fail(scratch, between, first, way, steps);
+            now(scratch, left)
+        }
+    }
+}
+
+/// The service at place k fails. Answers the pair that is left of `p`.
+pub(crate) fn fail<L: Ledger>(
+    relation: &mut Relation,
+    p: u32,
+    k: u8,
+    way: Way,
+    steps: &mut Steps<L>,
+) -> u32
+    requires relation { IsRelation relation.old.joint relation.old.order }
+    requires pair { p < count (sizes_of (system_of relation.old.joint)) }
+    requires place { k < length relation.old.joint.seats }
+    ensures { IsLeft way (k ∷ []) relation.old.joint p relation.new.joint relation.new.order result }
+{
+    match way {
+        Way::Freeze => freeze_seat(relation, p, k, steps),
+        Way::Die => lose_seat(relation, p, k, steps),
+    }
+}
+
+/// The service at place k freezes, unless it is frozen.
+fn freeze_seat<L: Ledger>(relation: &mut Relation, p: u32, k: u8, steps: &mut Steps<L>) -> u32
+    requires relation { IsRelation relation.old.joint relation.old.order }
+    requires pair { p < count (sizes_of (system_of relation.old.joint)) }
+    requires place { k < length relation.old.joint.seats }
+    ensures { IsLeft Way.Freeze (k ∷ []) relation.old.joint p relation.new.joint relation.new.order result }
+{
+    let seat = *relation.joint.seat(k);
+    if seat.frozen {
+        return p;
+    }
+    freeze(relation, k, steps);
+    p
+}
+
+/// The service at place k dies.
+fn lose_seat<L: Ledger>(relation: &mut Relation, p: u32, k: u8, steps: &mut Steps<L>) -> u32
+    requires relation { IsRelation relation.old.joint relation.old.order }
+    requires pair { p < count (sizes_of (system_of relation.old.joint)) }
+    requires place { k < length relation.old.joint.seats }
+    ensures { IsLeft Way.Die (k ∷ []) relation.old.joint p relation.new.joint relation.new.order result }
+{
+    let left = relation.joint.shape().without(p, k);
+    die(relation, k, steps);
+    left
+}

@@ -1,0 +1,139 @@
+//! What is left where services fail: each of them alone, and each two.
+ghost use Rattle.std.specs.Prelude.{◌≡◌, ℕ, ◌+◌, ◌*◌, ◌<◌, ◌≤◌, length, IfOk, IfSome};
+ghost use Rattle.roman_model.specs.Numbers.{sizes_of, count};
+ghost use Rattle.roman_joint.specs.NamedSys.{NamedSys, system_of};
+ghost use Rattle.roman_relation.specs.Greatest.{IsRelation};
+ghost use Rattle.roman_whatif.specs.Left.{places};
+ghost use Rattle.roman_whatif.specs.Told.{told};
+ghost use Rattle.roman_whatif.specs.Losses.{told_at, left_of, MayFail, IsToldOf, AreTold, AreLosses};
+
+use crate::failing::fail;
+use crate::outlook::{Outlook, now};
+use roman_io::Steps;
+use roman_model::{MAX_SERVICES, Way};
+use roman_relation::Relation;
+use std::alloc::{AllocError, Global};
+use std::sync::ledger::Ledger;
+
+/// How many outlooks a service has room for in a table.
+const PLACES: usize = MAX_SERVICES as usize;
+
+/// What stands in a table where nothing is told.
+const NOTHING: Outlook = Outlook {
+    composes: false,
+    related: 0,
+    choices: 0,
+};
+
+/// What is left of a pair of a relation where one service fails, or two, in either way.
+#[derive(Drop)]
+pub struct Losses {
+    /// The pair.
+    pub pair: u32,
+    /// What is left where services freeze, `32 * j + k` for those at the places k and j, k being less than
+    /// j, and `32 * j + j` for the one at place j.
+    pub frozen: Vec<Outlook>,
+    /// What is left where they die.
+    pub gone: Vec<Outlook>,
+}
+
+impl Losses {
+    /// Tries all failures on copies of `base`, and keeps what is left after each.
+    pub fn build<L: Ledger>(
+        alloc: Global,
+        base: &Relation,
+        p: u32,
+        steps: &mut Steps<L>,
+    ) -> Result<Losses, AllocError>
+        requires base { IsRelation base.now.joint base.now.order }
+        requires pair { p < count (sizes_of (system_of base.now.joint)) }
+        ensures pair { IfOk result (λ losses. losses.pair ≡ p) }
+        ensures losses { IfOk result (λ losses. AreLosses base.now.joint losses) }
+    {
+        let frozen = try_all(alloc, base, p, Way::Freeze, steps)?;
+        let gone = try_all(alloc, base, p, Way::Die, steps)?;
+        Ok(Losses {
+            pair: p,
+            frozen,
+            gone,
+        })
+    }
+
+    /// What is left where the service at one place fails so, or those at two.
+    pub fn left(&self, first: u8, second: Option<u8>, way: Way) -> Outlook
+        requires { (parts : NamedSys) × AreLosses parts self.now × MayFail parts first second }
+        ensures { (parts : NamedSys) → AreLosses parts self.now → MayFail parts first second →
+            told result ≡ left_of parts self.now.pair way (places first second) }
+    {
+        match way {
+            Way::Freeze => entry(&self.frozen, first, second),
+            Way::Die => entry(&self.gone, first, second),
+        }
+    }
+}
+
+/// What a table tells of the services at these places.
+fn entry(table: &[Outlook], first: u8, second: Option<u8>) -> Outlook
+    requires { (parts : NamedSys) × (p : ℕ) × (way : Way) × AreTold parts p way table.now × MayFail parts first second }
+    ensures { (parts : NamedSys) (p : ℕ) (way : Way) → AreTold parts p way table.now → MayFail parts first second →
+        told result ≡ left_of parts p way (places first second) }
+{
+    let k = first as usize;
+    match second {
+        None => table[PLACES * k + k],
+        Some(second) => table[PLACES * second as usize + k],
+    }
+}
+
+/// Tries the failures of each service, and of each two, in one way.
+fn try_all<L: Ledger>(
+    alloc: Global,
+    base: &Relation,
+    p: u32,
+    way: Way,
+    steps: &mut Steps<L>,
+) -> Result<Vec<Outlook>, AllocError>
+    requires base { IsRelation base.now.joint base.now.order }
+    requires pair { p < count (sizes_of (system_of base.now.joint)) }
+    ensures { IfOk result (λ table. AreTold base.now.joint p way table.items) }
+{
+    base.joint.known();
+    let seats = base.joint.seats();
+    let mut table = vec![in alloc; NOTHING; PLACES * seats as usize]?;
+    for j in 0..seats {
+        try_with(alloc, base, p, j, way, &mut table, steps)?;
+    }
+    Ok(table)
+}
+
+/// Tries the failure of the service at place j, and then those of each before it on top of it: `middle` is
+/// the relation without the one, and `scratch` that without both.
+fn try_with<L: Ledger>(
+    alloc: Global,
+    base: &Relation,
+    p: u32,
+    j: u8,
+    way: Way,
+    table: &mut [Outlook],
+    steps: &mut Steps<L>,
+) -> Result<(), AllocError>
+    requires base { IsRelation base.now.joint base.now.order }
+    requires pair { p < count (sizes_of (system_of base.now.joint)) }
+    requires place { (j < length base.now.joint.seats) × (j < 32) }
+    requires room { length table.old ≡ 32 * length base.now.joint.seats }
+    ensures told { IfOk result (λ done. IsToldOf base.now.joint p way j table.new) }
+    ensures before { (i : ℕ) → i < 32 * j → told_at table.new i ≡ told_at table.old i }
+    ensures room { length table.new ≡ length table.old }
+{
+    let mut middle = base.scratch(alloc)?;
+    let left = fail(&mut middle, p, j, way, steps);
+    let row = PLACES * j as usize;
+    table[row + j as usize] = now(&middle, left);
+    let mut scratch = middle.scratch(alloc)?;
+    for k in 0..j {
+        scratch.reset_to(&middle);
+        let last = fail(&mut scratch, left, k, way, steps);
+        table[row + k as usize] = now(&scratch, last);
+    }
+    Ok(())
+}
