@@ -1,5 +1,5 @@
 -- What an accepted document means is a library.
-use Rattle.std.proofs.Common.{◌≡◌, ℕ, ◌+◌, ◌<◌, ◌≤◌, ◌&&◌, List, [], ◌∷◌, ◌++◌, map, length, Option, Some, None, is_some, is_none, IfSome, slice_get, nat_le, codes, Result, Ok, Err, refl, sym, ap, ◌∙◌, subst, arith, leb-true, length-append}
+use Rattle.std.proofs.Common.{◌≡◌, ◌==◌, Bool, true, false, cond, All, ℕ, ◌+◌, ◌<◌, ◌≤◌, ◌&&◌, List, [], ◌∷◌, ◌++◌, map, length, Option, Some, None, is_some, is_none, IfSome, slice_get, nat_le, codes, Result, Ok, Err, refl, sym, ap, ◌∙◌, subst, arith, leb-true, length-append}
 use Rattle.std.proofs.lemmas.Bool.{and_parts}
 use Rattle.std.proofs.lemmas.List.Elements.{All-get_or}
 use Rattle.std.proofs.lemmas.Option.{get_or_from_slice_get, slice_get_within}
@@ -8,7 +8,7 @@ use Rattle.serde_json.specs.Find.{as_object}
 use Rattle.serde_json.specs.Events.{items_len}
 use Rattle.roman_io.specs.Shelf.{Texts}
 use Rattle.roman_model.specs.declared.limits.TheConstants.{MAX_BEHAVIOURS, MAX_SERVICES, MAX_CELLS, DEFAULT_CELLS}
-use Rattle.roman_read.specs.Items.{each_item}
+use Rattle.roman_read.specs.Items.{◌>>=◌, each_item}
 use Rattle.roman_read.specs.Json.{member_of, number_of}
 use Rattle.roman_read.specs.Names.{place_of}
 use Rattle.roman_read.specs.declared.rules.Miss.{Miss}
@@ -22,9 +22,14 @@ use Rattle.roman_parts.specs.declared.error.List.TheVariants as list
 use Rattle.roman_parts.specs.declared.error.PartError.{PartError}
 use Rattle.roman_parts.proofs.NormalLemmas.{IsOver-start}
 use Rattle.roman_parts.proofs.PartLemmas.{check_is, found_is, none_is, counted_are, place_below, IsEnvironment, environment_known, behaviour_known, target_known}
-use Rattle.roman_library.specs.Documents.{value_at, part_of, limit_in, limit_of, version_of, optional, new_name_of, environment_in, new_behaviour_of, behaviour_in, behaviour_step, catalogue_in, target_in, behaviour_place, state_of, frozen_of, rests_of, service_of, service_step, services_of, library_in, library_of}
+use Rattle.roman_library.specs.Documents.{value_at, part_of, limit_in, limit_of, version_of, optional, new_name_of, environment_in, new_behaviour_of, behaviour_in, behaviour_step, catalogue_in, target_in, named_target_of, named_target_in, target_step, targets_in, unless_broken, combined_of, parts_in, behaviour_place, state_of, frozen_of, rests_of, service_of, service_step, services_of, library_in, library_of}
 use Rattle.roman_library.specs.Known.{IsKnownLibrary, LibrariesAreKnown}
-use Rattle.roman_library.specs.Library.{PlainLibrary, IsBehaviour, IsTarget, IsService, IsCatalogue, AreServices, behaviour_name, service_name}
+use Rattle.roman_multi.specs.Combining.{PlainCombined, target_name, forbidding, combined_parts}
+use Rattle.roman_multi.specs.declared.parts.Named.{Named}
+use Rattle.roman_multi.specs.declared.error.CombineError.{CombineError}
+use Rattle.roman_multi.proofs.CombineLemmas.{request_count}
+use Rattle.roman_library.proofs.TargetLemmas.{all_known_push, combined_parts_known}
+use Rattle.roman_library.specs.Library.{PlainLibrary, ArePartsOf, IsBehaviour, IsTarget, IsService, IsCatalogue, AreServices, behaviour_name, service_name}
 use Rattle.roman_library.specs.Refusals.{placed}
 use Rattle.roman_library.specs.declared.library.Service.{Service}
 use Rattle.roman_library.specs.declared.refusal.Part.{Part}
@@ -32,7 +37,7 @@ use Rattle.roman_library.specs.declared.refusal.Part.TheVariants as part
 use Rattle.roman_library.proofs.LibraryLemmas.{IsCatalogue-push, AreServices-push}
 
 -- a reading that isn't refused gives the same in its place
-placed_is : {X : Type 0} (document : List ℕ) (part : Part) (r : Result X PartError) (x : X) → placed document part r ≡ Ok x → r ≡ Ok x
+pub placed_is : {X : Type 0} (document : List ℕ) (part : Part) (r : Result X PartError) (x : X) → placed document part r ≡ Ok x → r ≡ Ok x
 placed_is document part (Ok y) x h = ap Ok (same_ok y x h)
 placed_is document part (Err e) x h = cc
 
@@ -88,7 +93,7 @@ behaviours_grow texts document env i before (item d ds) out are h =
 no_behaviours : (env : NamedEnv) → IsCatalogue env []
 no_behaviours env = record { known = λ d i l. absurd (omega (arith, l)); names = tt }
 
-catalogue_known : (texts : Texts) (document : List ℕ) (env : NamedEnv) (d : Data) (out : List NamedBeh) → catalogue_in texts document env d ≡ Ok out → IsCatalogue env out × (length out ≤ MAX_BEHAVIOURS)
+pub catalogue_known : (texts : Texts) (document : List ℕ) (env : NamedEnv) (d : Data) (out : List NamedBeh) → catalogue_in texts document env d ≡ Ok out → IsCatalogue env out × (length out ≤ MAX_BEHAVIOURS)
 unfolding catalogue_in
 catalogue_known texts document env d out h =
     let (items, e, h1) = bind_ok (placed document part.System (counted_items list.Behaviours (codes "behaviours") 0 MAX_BEHAVIOURS d)) _ out h in
@@ -106,7 +111,7 @@ target_in_known texts document env d t h =
     record { env_states = is.env_states; actions = is.actions; names = is.names; known = is.known; single = is.single }
 
 -- its environment
-environment_in_known : (texts : Texts) (document : List ℕ) (d : Data) (env : NamedEnv) → environment_in texts document d ≡ Ok env → IsEnvironment env
+pub environment_in_known : (texts : Texts) (document : List ℕ) (d : Data) (env : NamedEnv) → environment_in texts document d ≡ Ok env → IsEnvironment env
 unfolding environment_in
 environment_in_known texts document d env h =
     let (member, e, h1) = bind_ok (placed document part.Environment (looked list.Whole 0 (member_of d (codes "environment")))) _ env h in
@@ -173,7 +178,7 @@ services_grow document version env catalogue i before (item d ds) out behaviours
 no_services : (catalogue : List NamedBeh) → AreServices catalogue []
 no_services catalogue = record { known = λ d i l. absurd (omega (arith, l)); names = tt }
 
-services_known : (document : List ℕ) (version : ℕ) (env : NamedEnv) (catalogue : List NamedBeh) (d : Data) (out : List Service) → IsCatalogue env catalogue → services_of document version catalogue d ≡ Ok out →
+pub services_known : (document : List ℕ) (version : ℕ) (env : NamedEnv) (catalogue : List NamedBeh) (d : Data) (out : List Service) → IsCatalogue env catalogue → services_of document version catalogue d ≡ Ok out →
     AreServices catalogue out × (length out ≤ MAX_SERVICES)
 unfolding services_of
 services_known document version env catalogue d out behaviours h =
@@ -200,6 +205,99 @@ limit_known d limit h = by (member_of d (codes "limit")) h
     by (Ok member) g = limit_in_known member limit g
     by (Err miss) g = subst (λ (limit : ℕ). (0 < limit) × (limit ≤ MAX_CELLS)) (same_ok DEFAULT_CELLS limit g) (leb-true 1 DEFAULT_CELLS refl, leb-true DEFAULT_CELLS MAX_CELLS refl)
 
+-- Several targets
+
+named_target_known : (env : NamedEnv) (before : List Named) (d : Data) (named : Named) → named_target_of env before d ≡ Ok named → IsTarget env named.target
+unfolding named_target_of
+named_target_known env before d named h =
+    let (name, e, h1) = bind_ok (new_name_of (map target_name before) d) _ named h in
+    let (target, e1, h2) = bind_ok (target_of env d) _ named h1 in
+    let is = target_known env d target e1 in
+    subst (λ (n : Named). IsTarget env n.target) (same_ok _ named h2)
+    (record { env_states = is.env_states; actions = is.actions; names = is.names; known = is.known; single = is.single })
+
+named_target_in_known : (texts : Texts) (document : List ℕ) (env : NamedEnv) (before : List Named) (i : ℕ) (d : Data) (named : Named) → named_target_in texts document env before i d ≡ Ok named →
+    IsTarget env named.target
+unfolding named_target_in
+named_target_in_known texts document env before i d named h =
+    let (p, e, h1) = bind_ok (part_of texts document (part.Target i) d) _ named h in
+    named_target_known env before p.1 named (placed_is p.0 (part.Target i) (named_target_of env before p.1) named h1)
+
+record AreTargetsOf (env : NamedEnv) (out : List Named) (n : ℕ) : Type 0 where
+  known : All (λ named. IsTarget env named.target) out
+  count : length out ≡ n
+
+targets_grow : (texts : Texts) (document : List ℕ) (env : NamedEnv) (i : ℕ) (before : List Named) (items : Items) (out : List Named) → All (λ named. IsTarget env named.target) before →
+    each_item (target_step texts document env) i before items ≡ Ok out → AreTargetsOf env out (length before + items_len items)
+unfolding each_item target_step
+targets_grow texts document env i before no_items out are h =
+    let same = same_ok before out h in
+    record {
+      known = subst (λ (xs : List Named). All (λ named. IsTarget env named.target) xs) same are;
+      count = let e : length before ≡ length out = ap length same in omega arith;
+    }
+targets_grow texts document env i before (item d ds) out are h =
+    let (more, e, h1) = bind_ok (target_step texts document env i before d) _ out h in
+    let (named, e1, h2) = bind_ok (named_target_in texts document env before i d) _ more e in
+    let next : before ++ named ∷ [] ≡ more = same_ok (before ++ named ∷ []) more h2 in
+    let rest = targets_grow texts document env (i + 1) more ds out
+    (all_known_push (λ (n : Named). IsTarget env n.target) before more named are (named_target_in_known texts document env before i d named e1) (sym next)) h1 in
+    let long : length more ≡ length before + 1 = sym (ap length next) ∙ length-append before (named ∷ []) in
+    record { known = rest.known; count = omega (arith, rest.count, long) }
+
+pub targets_in_known : (texts : Texts) (document : List ℕ) (env : NamedEnv) (d : Data) (out : List Named) → targets_in texts document env d ≡ Ok out →
+    All (λ named. IsTarget env named.target) out × (2 ≤ length out) × (length out ≤ 4)
+unfolding targets_in
+targets_in_known texts document env d out h =
+    let (items, e, h1) = bind_ok (placed document part.System (counted_items list.Targets (codes "targets") 2 4 d)) _ out h in
+    let few = counted_are list.Targets (codes "targets") 2 4 d items (placed_is document part.System (counted_items list.Targets (codes "targets") 2 4 d) items e) in
+    let all = targets_grow texts document env 0 [] items out (λ k x l. absurd (omega (arith, l))) h1 in
+    (all.known, omega (arith, all.count, few.some), omega (arith, all.count, few.few))
+
+-- The parts
+
+-- the parts are a library's, and the environment has a name for each state and action
+record AreNamedParts (catalogue : List NamedBeh) (made : PlainCombined) : Type 0 where
+  parts : ArePartsOf catalogue made
+  states : length made.environment.states ≡ made.environment.env.states
+  actions : length made.environment.actions ≡ made.environment.env.actions
+
+combined_named : (env : NamedEnv) (catalogue : List NamedBeh) (targets : List Named) → IsEnvironment env → IsCatalogue env catalogue → All (λ named. IsTarget env named.target) targets →
+    forbidding env targets ≡ None → AreNamedParts catalogue (combined_parts env catalogue targets)
+unfolding combined_parts
+combined_named env catalogue targets world are all allowed = record {
+  parts = combined_parts_known env catalogue targets world.known are all allowed;
+  states = world.states;
+  actions = request_count env targets;
+}
+
+combined_of_known : (env : NamedEnv) (catalogue : List NamedBeh) (targets : List Named) (made : PlainCombined) → IsEnvironment env → IsCatalogue env catalogue → All (λ named. IsTarget env named.target) targets →
+    combined_of env catalogue targets ≡ Ok made → AreNamedParts catalogue made
+unfolding combined_of
+combined_of_known env catalogue targets made world are all h = by (forbidding env targets) refl h
+  where
+    by : (o : Option CombineError) → forbidding env targets ≡ o → unless_broken o (combined_parts env catalogue targets) ≡ Ok made → AreNamedParts catalogue made
+    by None allowed g = subst (AreNamedParts catalogue) (same_ok (combined_parts env catalogue targets) made g) (combined_named env catalogue targets world are all allowed)
+    by (Some rule) broken g = absurd (let f : ⊥ = cc in f)
+
+parts_known : (texts : Texts) (document : List ℕ) (version : ℕ) (env : NamedEnv) (catalogue : List NamedBeh) (d : Data) (made : PlainCombined) → IsEnvironment env → IsCatalogue env catalogue →
+    parts_in texts document version env catalogue d ≡ Ok made → AreNamedParts catalogue made
+unfolding parts_in
+parts_known texts document version env catalogue d made world are h = by (version == 3) h
+  where
+    by : (several : Bool) → cond several (targets_in texts document env d >>= (λ targets. placed document part.System (combined_of env catalogue targets)))
+        (target_in texts document env d >>= (λ target. Ok (record { environment = env; catalogue = catalogue; target = target }))) ≡ Ok made → AreNamedParts catalogue made
+    by true g =
+        let (targets, e, g1) = bind_ok (targets_in texts document env d) _ made g in
+        combined_of_known env catalogue targets made world are (targets_in_known texts document env d targets e).0 (placed_is document part.System (combined_of env catalogue targets) made g1)
+    by false g =
+        let (target, e, g1) = bind_ok (target_in texts document env d) _ made g in
+        subst (AreNamedParts catalogue) (same_ok _ made g1) (record {
+          parts = record { environment = world.known; catalogue = are; count = refl; services = λ services all. all; target = target_in_known texts document env d target e };
+          states = world.states;
+          actions = world.actions;
+        })
+
 -- The document
 
 library_in_known : (texts : Texts) (document : List ℕ) (d : Data) (library : PlainLibrary) → library_in texts document d ≡ Ok library → IsKnownLibrary library
@@ -210,22 +308,23 @@ library_in_known texts document d library h =
     let (env, e2, h3) = bind_ok (environment_in texts document d) _ library h2 in
     let (catalogue, e3, h4) = bind_ok (catalogue_in texts document env d) _ library h3 in
     let (services, e4, h5) = bind_ok (services_of document version catalogue d) _ library h4 in
-    let (target, e5, h6) = bind_ok (target_in texts document env d) _ library h5 in
+    let (made, e5, h6) = bind_ok (parts_in texts document version env catalogue d) _ library h5 in
     let environment = environment_in_known texts document d env e2 in
     let behaviours = catalogue_known texts document env d catalogue e3 in
     let all = services_known document version env catalogue d services behaviours.0 e4 in
+    let is = parts_known texts document version env catalogue d made environment behaviours.0 e5 in
     subst IsKnownLibrary (same_ok _ library h6) (record {
       known = record {
-        environment = environment.known;
-        catalogue = behaviours.0;
-        few_behaviours = behaviours.1;
-        services = all.0;
+        environment = is.parts.environment;
+        catalogue = is.parts.catalogue;
+        few_behaviours = subst (λ n. n ≤ MAX_BEHAVIOURS) (sym is.parts.count) behaviours.1;
+        services = is.parts.services services all.0;
         few_services = all.1;
-        target = target_in_known texts document env d target e5;
+        target = is.parts.target;
         limit = limit_known d limit (placed_is document part.System (limit_of d) limit e1);
       };
-      states = environment.states;
-      actions = environment.actions;
+      states = is.states;
+      actions = is.actions;
     })
 
 pub libraries_known : LibrariesAreKnown

@@ -4,6 +4,8 @@ pub mod PlaceLemmas
 mod LibraryLemmas
 mod StepLemmas
 mod PlacedLemmas
+pub mod TargetLemmas
 pub mod KnownLemmas
+pub mod CombinedLemmas
 mod ReadLemmas
 mod WrittenLemmas

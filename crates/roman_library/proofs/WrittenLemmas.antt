@@ -19,7 +19,7 @@ use Rattle.roman_parts.specs.Written.{list_value, place_value, environment_value
 use Rattle.roman_parts.specs.declared.error.List.TheVariants as list
 use Rattle.roman_parts.proofs.ReadLemmas.{ok_place, absent_none}
 use Rattle.roman_parts.proofs.WrittenLemmas.{is_place, name_said, parts_said, get_in}
-use Rattle.roman_library.specs.Documents.{version_of, limit_in, limit_of, file_of, part_of, new_name_of, environment_in, new_behaviour_of, behaviour_in, catalogue_in, target_in, behaviour_place, state_of, frozen_of, rests_of, service_of, services_of, library_in}
+use Rattle.roman_library.specs.Documents.{version_of, limit_in, limit_of, file_of, part_of, new_name_of, environment_in, new_behaviour_of, behaviour_in, catalogue_in, target_in, parts_in, behaviour_place, state_of, frozen_of, rests_of, service_of, services_of, library_in}
 use Rattle.roman_library.specs.Library.{PlainLibrary, IsService, behaviour_name, service_name}
 use Rattle.roman_library.specs.Refusals.{placed}
 use Rattle.roman_library.specs.Written.{states_at, service_value, library_value, IsSayable, LibrariesAreSaid}
@@ -38,6 +38,13 @@ target_said : (texts : Texts) (document : List ℕ) (library : PlainLibrary) →
     target_in texts document library.environment (library_value library) ≡ Ok library.target
 unfolding target_in part_of file_of
 target_said texts document library env is = ap (placed document (part.Target 0)) (parts_said.target library.environment library.target env is)
+
+-- in version 2 the parts are those that are written
+said_as_they_stand : (texts : Texts) (document : List ℕ) (library : PlainLibrary) → IsSayableEnv library.environment → IsSayableTarget library.environment library.target →
+    parts_in texts document 2 library.environment library.catalogue (library_value library)
+    ≡ Ok (record { environment = library.environment; catalogue = library.catalogue; target = library.target })
+unfolding parts_in
+said_as_they_stand texts document library env is = rw (target_said texts document library env is) refl
 
 -- Behaviours
 
@@ -149,5 +156,5 @@ libraries_said texts document library is = rw (
   environment_said texts document library is.environment,
   catalogue_said texts document library is,
   services_said document library is,
-  target_said texts document library is.environment is.target,
+  said_as_they_stand texts document library is.environment is.target,
 ) refl

@@ -17,6 +17,11 @@ use Rattle.roman_parts.specs.Reading.{looked, found, check, counted_items}
 use Rattle.roman_parts.specs.declared.error.List.{List as Place}
 use Rattle.roman_parts.specs.declared.error.List.TheVariants as list
 use Rattle.roman_parts.specs.declared.error.PartError.{PartError}
+use Rattle.roman_parts.specs.declared.error.PartError.TheVariants.{Refused, Memory}
+use Rattle.roman_multi.specs.Combining.{PlainCombined, target_name, forbidding, combined_parts}
+use Rattle.roman_multi.specs.declared.parts.Named.{Named}
+use Rattle.roman_multi.specs.declared.error.CombineError.{CombineError}
+use Rattle.roman_multi.specs.declared.error.CombineError.TheVariants as combine
 use Rattle.roman_library.specs.Library.{PlainLibrary, behaviour_name, service_name}
 use Rattle.roman_library.specs.Refusals.{placed}
 use Rattle.roman_library.specs.declared.library.Service.{Service}
@@ -37,7 +42,7 @@ version_of d = do
   whole ← check (is_some (as_object d)) kind.Form list.Whole 0 d
   roman ← looked list.Roman 0 (member_of whole (codes "roman"))
   number ← looked list.Roman 0 (number_of roman)
-  check (nat_le 1 number && nat_le number 2) kind.Version list.Roman 0 number
+  check (nat_le 1 number && nat_le number 3) kind.Version list.Roman 0 number
 
 -- a limit on cells
 unfoldable pub limit_in : Data → Result ℕ PartError
@@ -119,6 +124,55 @@ target_in texts document env d = do
   (file, value) ← part_of texts document (part.Target 0) member
   placed file (part.Target 0) (target_of env value)
 
+-- ---- several targets
+
+-- a target whose name is new among those before it
+unfoldable pub named_target_of : NamedEnv → List Named → Data → Result Named PartError
+named_target_of env before d = do
+  name ← new_name_of (map target_name before) d
+  target ← target_of env d
+  Ok (record { name = name; target = target })
+
+-- target i, after those before it
+unfoldable pub named_target_in : Texts → List ℕ → NamedEnv → List Named → ℕ → Data → Result Named Refusal
+named_target_in texts document env before i d = do
+  (file, value) ← part_of texts document (part.Target i) d
+  placed file (part.Target i) (named_target_of env before value)
+
+-- the same, put behind those before it
+unfoldable pub target_step : Texts → List ℕ → NamedEnv → ℕ → List Named → Data → Result (List Named) Refusal
+target_step texts document env i before d = named_target_in texts document env before i d >>= (λ named. Ok (before ++ named ∷ []))
+
+-- the targets of a document: two to four of them
+unfoldable pub targets_in : Texts → List ℕ → NamedEnv → Data → Result (List Named) Refusal
+targets_in texts document env d = do
+  items ← placed document part.System (counted_items list.Targets (codes "targets") 2 4 d)
+  each_item (target_step texts document env) 0 [] items
+
+-- a rule on the combined states and actions that is broken, by its number
+abbrev pub broken_rule : CombineError → PartError
+broken_rule combine.States = Refused kind.Count list.Targets 1
+broken_rule combine.Actions = Refused kind.Count list.Targets 2
+broken_rule combine.LongName = Refused kind.BadName list.Targets 3
+broken_rule combine.Repeated = Refused kind.Repeated list.Targets 4
+broken_rule combine.Memory = Memory
+
+-- the value, where no rule forbids it
+abbrev pub unless_broken : {X : Type 0} → Option CombineError → X → Result X PartError
+unless_broken None x = Ok x
+unless_broken (Some rule) x = Err (broken_rule rule)
+
+-- the targets as one, with the environment and the catalogue over its actions
+unfoldable pub combined_of : NamedEnv → List NamedBeh → List Named → Result PlainCombined PartError
+combined_of env catalogue targets = unless_broken (forbidding env targets) (combined_parts env catalogue targets)
+
+-- the environment, the catalogue and the target of a document: as they stand, and in version 3 those that combine its targets
+unfoldable pub parts_in : Texts → List ℕ → ℕ → NamedEnv → List NamedBeh → Data → Result PlainCombined Refusal
+parts_in texts document version env catalogue d =
+    if version == 3
+    then (targets_in texts document env d >>= (λ targets. placed document part.System (combined_of env catalogue targets)))
+    else (target_in texts document env d >>= (λ target. Ok (record { environment = env; catalogue = catalogue; target = target })))
+
 -- ---- services
 
 -- the place of a service's behaviour in the catalogue
@@ -175,8 +229,8 @@ library_in texts document d = do
   env ← environment_in texts document d
   catalogue ← catalogue_in texts document env d
   services ← services_of document version catalogue d
-  target ← target_in texts document env d
-  Ok (record { environment = env; catalogue = catalogue; services = services; target = target; limit = limit })
+  made ← parts_in texts document version env catalogue d
+  Ok (record { environment = made.environment; catalogue = made.catalogue; services = services; target = made.target; limit = limit })
 
 -- the library that the document of this name is, or the first rule that it breaks
 unfoldable pub library_of : Texts → List ℕ → Result PlainLibrary Refusal

@@ -3,5 +3,6 @@ pub mod Refusals
 pub mod Library
 pub mod Documents
 pub mod Known
+pub mod Targets
 pub mod Reads
 pub mod Written

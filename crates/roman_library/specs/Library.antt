@@ -4,6 +4,7 @@ use Rattle.roman_model.specs.Lists.{HasNoRepeats}
 use Rattle.roman_model.specs.System.{IsEnv, IsDeterministic}
 use Rattle.roman_model.specs.declared.limits.TheConstants.{MAX_BEHAVIOURS, MAX_SERVICES, MAX_CELLS}
 use Rattle.roman_parts.specs.Named.{NamedEnv, NamedBeh, NamedTarget, IsOver}
+use Rattle.roman_multi.specs.Combining.{PlainCombined}
 use Rattle.roman_library.specs.declared.library.Library.{Library}
 use Rattle.roman_library.specs.declared.library.Service.{Service}
 
@@ -62,6 +63,14 @@ pub record IsCatalogue (environment : NamedEnv) (catalogue : List NamedBeh) : Ty
 pub record AreServices (catalogue : List NamedBeh) (services : List Service) : Type 0 where
   pub known : All (IsService catalogue) services
   pub names : HasNoRepeats (map service_name services)
+
+-- the parts that are made with a catalogue: they are a library's, and services of the catalogue stay services
+pub record ArePartsOf (behaviours : List NamedBeh) (made : PlainCombined) : Type 0 where
+  pub environment : IsEnv made.environment.env
+  pub catalogue : IsCatalogue made.environment made.catalogue
+  pub count : length made.catalogue ≡ length behaviours
+  pub services : (services : List Service) → AreServices behaviours services → AreServices made.catalogue services
+  pub target : IsTarget made.environment made.target
 
 -- all parts are over one environment, all numbers are in range, and the limits hold
 pub record IsLibrary (library : PlainLibrary) : Type 0 where

@@ -11,7 +11,7 @@ use roman_read::{Kind, member};
 use serde_json::Value;
 
 /// The newest version.
-const NEWEST: u64 = 2;
+const NEWEST: u64 = 3;
 
 #[tactic(auto, unfolding(crate::specs::Documents::version_of))]
 /// The version.

@@ -2,6 +2,7 @@
 
 ghost use Rattle.roman_library.specs.Known.{LibrariesAreKnown};
 ghost use Rattle.roman_library.specs.Reads.{DocumentListsAreRead};
+ghost use Rattle.roman_library.specs.Targets.{TargetsAreCombined, AcceptedNameTargets};
 ghost use Rattle.roman_library.specs.Written.{LibrariesAreSaid};
 
 /// What an accepted document means is a library: its parts are over one environment, its numbers are
@@ -20,4 +21,11 @@ pub fn document_lists_are_read()
 /// is a definition alone.
 pub fn libraries_are_said()
     ensures said { LibrariesAreSaid }
+{}
+
+/// An accepted document of version 3 names an environment, behaviours and targets, and its library
+/// has what combines them.
+pub fn targets_are_combined()
+    ensures named { AcceptedNameTargets }
+    ensures combined { TargetsAreCombined }
 {}

@@ -19,10 +19,13 @@ mod parts;
 mod placing;
 mod refusal;
 mod services;
+mod targets;
 mod text;
 
 pub use file_name::FileName;
-pub use laws::{document_lists_are_read, libraries_are_known, libraries_are_said};
+pub use laws::{
+    document_lists_are_read, libraries_are_known, libraries_are_said, targets_are_combined,
+};
 pub use library::{Library, Service};
 pub use loading::load;
 pub use refusal::{LoadError, Part, Refusal};

@@ -9,10 +9,11 @@ use crate::catalogue::load_catalogue;
 use crate::header::{read_limit, read_version};
 use crate::library::Library;
 use crate::part_file::value_at;
-use crate::parts::{load_environment, load_target};
+use crate::parts::load_environment;
 use crate::placing::placed;
 use crate::refusal::{LoadError, Part};
 use crate::services::read_services;
+use crate::targets::load_parts;
 use roman_io::Shelf;
 use serde_json::Value;
 use std::alloc::Global;
@@ -49,12 +50,12 @@ fn load_library<F: Shelf>(
     let _states = environment.states();
     let catalogue = load_catalogue(alloc, shelf, document, v, &environment)?;
     let services = read_services(alloc, document, v, version, &catalogue)?;
-    let target = load_target(alloc, shelf, document, v, &environment)?;
+    let parts = load_parts(alloc, shelf, document, v, version, environment, catalogue)?;
     Ok(Library {
-        environment,
-        catalogue,
+        environment: parts.environment,
+        catalogue: parts.catalogue,
         services,
-        target,
+        target: parts.target,
         limit,
     })
 }

@@ -68,7 +68,6 @@ pub(crate) fn truth_at(v: &Value, place: List) -> Result<bool, PartError>
     }
 }
 
-#[tactic(auto, using(crate::proofs::ReadingLemmas::counts), unfolding(roman_parts::specs::Reading::items_at, roman_parts::specs::Reading::counted_items))]
 /// The items of a member that is a list of at most so many items.
 pub(crate) fn few_items<'a>(
     v: &'a Value,
@@ -79,10 +78,29 @@ pub(crate) fn few_items<'a>(
     ensures items { Gives (λ x. items_view x.now) result (counted_items place name.now 0 most (view v.now)) }
     ensures few { IfOk result (λ x. length x.now ≤ most) }
 {
+    counted_items(v, name, place, 0, most)
+}
+
+#[tactic(auto, using(crate::proofs::ReadingLemmas::counts), unfolding(roman_parts::specs::Reading::items_at, roman_parts::specs::Reading::counted_items))]
+/// The items of a member that is a list of so many items at least and at most.
+pub(crate) fn counted_items<'a>(
+    v: &'a Value,
+    name: &str,
+    place: List,
+    least: u8,
+    most: u8,
+) -> Result<&'a [Value], PartError>
+    ensures items { Gives (λ x. items_view x.now) result (counted_items place name.now least most (view v.now)) }
+    ensures some { IfOk result (λ x. least ≤ length x.now) }
+    ensures few { IfOk result (λ x. length x.now ≤ most) }
+{
     let items = match list(member_at(v, name, place)?) {
         Ok(items) => items,
         Err(miss) => return Err(missed(miss, place)),
     };
+    if items.len() < least as usize {
+        return Err(refused(Kind::Count, place));
+    }
     if items.len() > most as usize {
         return Err(refused(Kind::Count, place));
     }

@@ -5,15 +5,17 @@ ghost use Rattle.roman_parts.specs.Parts.{name_of};
 ghost use Rattle.roman_parts.specs.Reading.{Gives};
 ghost use Rattle.roman_read.specs.Names.{place_of};
 ghost use Rattle.roman_library.specs.Library.{behaviour_name, service_name};
+ghost use Rattle.roman_multi.specs.Combining.{target_name};
 
 use crate::library::Service;
 use crate::looks::{member_at, refused, text_at};
+use roman_multi::Named;
 use roman_parts::{Behaviour, List, PartError};
 use roman_read::{Kind, Name};
 use serde_json::Value;
 
 #[tactic(auto, unfolding(roman_parts::specs::Parts::name_of))]
-/// The name of a behaviour or a service.
+/// The name of a behaviour, a service or one of several targets.
 pub(crate) fn read_name(v: &Value) -> Result<Name, PartError>
     ensures { Gives (λ x. x) result (name_of (view v.now)) }
 {
@@ -37,4 +39,11 @@ pub(crate) fn place_of_service(services: &[Service], name: &[u8]) -> Option<usiz
     ensures place { result ≡ place_of (map service_name services.now) name.now }
 {
     services.iter().position(|s| name == s.name.bytes())
+}
+
+/// The place of the target with this name.
+pub(crate) fn place_of_target(targets: &[Named], name: &[u8]) -> Option<usize>
+    ensures place { result ≡ place_of (map target_name targets.now) name.now }
+{
+    targets.iter().position(|t| name == t.name.bytes())
 }

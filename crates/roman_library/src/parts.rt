@@ -73,7 +73,11 @@ pub(crate) fn load_target<F: Shelf>(
 }
 
 /// A target over that environment.
-fn target_over(alloc: Global, v: &Value, environment: &Environment) -> Result<Target, PartError>
+pub(crate) fn target_over(
+    alloc: Global,
+    v: &Value,
+    environment: &Environment,
+) -> Result<Target, PartError>
     ensures target { Gives (λ x. x) result (target_of environment.now (view v.now)) }
     ensures known { IfOk result (λ target. IsTarget environment.now target) }
 {

@@ -21,6 +21,8 @@ pub enum Part {
     Service(u32),
     /// The target with this number; 0 where there is only one.
     Target(u32),
+    /// The costs of a request for advice, which stand in a document of their own.
+    Costs,
 }
 
 /// The first rule that a document breaks.

@@ -8,3 +8,4 @@ pub mod WordLemmas
 pub mod PartLemmas
 pub mod TableLemmas
 pub mod CombineLemmas
+pub mod MadeKnown

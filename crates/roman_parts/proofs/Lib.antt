@@ -5,7 +5,7 @@ pub mod NormalLemmas
 mod TableLemmas
 mod ReadingLemmas
 mod GuardLemmas
-mod StepLemmas
+pub mod StepLemmas
 mod ChoiceLemmas
 mod SingleLemmas
 mod Rising

@@ -71,6 +71,15 @@ impl Piece {
         self.text(Buffer::new().format(n).as_bytes())
     }
 
+    /// Adds a number of up to twenty decimal digits.
+    pub fn long_number(self, n: u64) -> Piece
+        requires { length self ≤ 108 }
+        ensures text { result ≡ self ++ decimal n }
+        ensures len { length result ≤ length self + 20 }
+    {
+        self.text(Buffer::new().format(n).as_bytes())
+    }
+
     // Adds bytes at the end.
     fn add(&mut self, bytes: &[u8])
         requires { length self.old + length bytes.now ≤ 128 }

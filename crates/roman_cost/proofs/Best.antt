@@ -1,0 +1,68 @@
+-- Loops that keep the best seat so far.
+use Rattle.std.proofs.Common.{◌≡◌, ◌≢◌, ℕ, ◌+◌, Bool, true, false, cond, List, [], ◌∷◌, ◌++◌, Option, Some, None, filter, nat_le, refl, sym, ap, ◌∙◌, inl, inr, add-one}
+use Rattle.roman_model.specs.Lists.{IsIn, below}
+use Rattle.roman_model.specs.System.{has}
+use Rattle.roman_model.specs.Plans.{least_from, first_least}
+use Rattle.roman_model.proofs.Lists.{same_test, filter_same, filter_in, in_filter, filter_below_more}
+use Rattle.roman_model.proofs.AdviceLemmas.{least_from_push}
+use Rattle.roman_generator.proofs.OfferLemmas.{in_has, has_in}
+use Rattle.roman_cost.specs.Filling.{better_of}
+
+-- the first of the least of a list, with its value
+abbrev pub best_of : (ℕ → ℕ) → List ℕ → Option (ℕ × ℕ)
+best_of f [] = None
+best_of f (x ∷ xs) = Some (least_from f x xs, f (least_from f x xs))
+
+pub best_of-push : (f : ℕ → ℕ) (xs : List ℕ) (k cost : ℕ) → cost ≡ f k → better_of (best_of f xs) k cost ≡ best_of f (xs ++ k ∷ [])
+best_of-push f [] k cost e = ap (λ c. Some (k, c)) e
+best_of-push f (x ∷ xs) k cost e =
+    ap (better_of (Some (least_from f x xs, f (least_from f x xs))) k) e ∙ by (nat_le (f (least_from f x xs)) (f k)) ∙ ap (λ r. Some (r, f r)) (sym (least_from_push f x xs k))
+  where
+    by : (b : Bool) → cond {A = Option (ℕ × ℕ)} b (Some (least_from f x xs, f (least_from f x xs))) (Some (k, f k)) ≡ Some (cond b (least_from f x xs) k, f (cond b (least_from f x xs) k))
+    by true = refl
+    by false = refl
+
+pub best_of-first : (f : ℕ → ℕ) (xs : List ℕ) → xs ≢ [] → best_of f xs ≡ Some (first_least f xs, f (first_least f xs))
+best_of-first f [] some = absurd (some refl)
+best_of-first f (x ∷ xs) some = refl
+
+-- a number more, which passes or not
+pub best_of-taken : (f : ℕ → ℕ) (p : ℕ → Bool) (k cost : ℕ) (best new : Option (ℕ × ℕ)) → p k ≡ true → best ≡ best_of f (filter p (below k)) → cost ≡ f k →
+    new ≡ better_of best k cost → new ≡ best_of f (filter p (below (k + 1)))
+best_of-taken f p k cost best new passes before e is =
+    is ∙ ap (λ o. better_of o k cost) before ∙ best_of-push f (filter p (below k)) k cost e
+    ∙ ap (λ ys. best_of f (filter p (below k) ++ ys)) (sym (ap (λ b. cond b (k ∷ []) []) passes)) ∙ ap (best_of f) (sym (filter_below_more p k))
+    ∙ ap (λ n. best_of f (filter p (below n))) (sym (add-one k))
+
+pub best_of-passed : (f : ℕ → ℕ) (p : ℕ → Bool) (k : ℕ) (best : Option (ℕ × ℕ)) → p k ≡ false → best ≡ best_of f (filter p (below k)) →
+    best ≡ best_of f (filter p (below (k + 1)))
+best_of-passed f p k best fails before =
+    before ∙ ap (best_of f) (sym (ap (λ b. filter p (below k) ++ cond b (k ∷ []) []) fails ∙ none (filter p (below k)))) ∙ ap (best_of f) (sym (filter_below_more p k))
+    ∙ ap (λ n. best_of f (filter p (below n))) (sym (add-one k))
+  where
+    none : (xs : List ℕ) → xs ++ [] ≡ xs
+    none [] = refl
+    none (x ∷ xs) = ap (λ ys. x ∷ ys) (none xs)
+
+-- the numbers below a bound that a list of such numbers has are that list
+pub filter_has : (q : ℕ → Bool) (n : ℕ) → filter (has (filter q (below n))) (below n) ≡ filter q (below n)
+filter_has q n = filter_same (has (filter q (below n))) q (below n) (λ x i.
+    same_test (has (filter q (below n)) x) (q x)
+    (λ t. (filter_in q x (below n) (has_in (filter q (below n)) x t)).1)
+    (λ t. in_has (filter q (below n)) x (in_filter q x (below n) i t)))
+
+-- where the values agree on the list
+least_from_same : (f g : ℕ → ℕ) (x : ℕ) (xs : List ℕ) → f x ≡ g x → ((y : ℕ) → IsIn y xs → f y ≡ g y) → least_from f x xs ≡ least_from g x xs
+least_from_same f g x [] here same = refl
+least_from_same f g x (y ∷ ys) here same =
+    ap (λ v. cond (nat_le v (f y)) (least_from f x ys) (least_from f y ys)) here ∙ ap (λ v. cond (nat_le (g x) v) (least_from f x ys) (least_from f y ys)) (same y (inl refl))
+    ∙ by (nat_le (g x) (g y)) (least_from_same f g x ys here (λ z i. same z (inr i))) (least_from_same f g y ys (same y (inl refl)) (λ z i. same z (inr i)))
+  where
+    by : (b : Bool) → least_from f x ys ≡ least_from g x ys → least_from f y ys ≡ least_from g y ys →
+        cond b (least_from f x ys) (least_from f y ys) ≡ cond b (least_from g x ys) (least_from g y ys)
+    by true here there = here
+    by false here there = there
+
+pub first_least_same : (f g : ℕ → ℕ) (xs : List ℕ) → ((y : ℕ) → IsIn y xs → f y ≡ g y) → first_least f xs ≡ first_least g xs
+first_least_same f g [] same = refl
+first_least_same f g (x ∷ xs) same = least_from_same f g x xs (same x (inl refl)) (λ y i. same y (inr i))

@@ -1,0 +1,115 @@
+-- Listed costs, and the cells that tell them.
+use Rattle.std.proofs.Common.{◌≡◌, ◌≢◌, ℕ, zero, suc, ◌+◌, ◌-◌, ◌*◌, ◌<◌, ◌≤◌, ◌==◌, ◌&&◌, Bool, true, false, cond, not, List, [], ◌∷◌, ◌++◌, length, get_or, set, Option, Some, None, unwrap_or, is_some, slice_get, slice_index, All, IsTrue, IsFalse, inl, inr, refl, sym, ap, ◌∙◌, subst, arith}
+use Rattle.std.specs.Option.{option_or}
+use Rattle.std.proofs.lemmas.Bool.{cases_order, eq-eqb, eqb-true, and_parts, and_from, cond-false, cond-true}
+use Rattle.std.proofs.lemmas.Nat.{mul-add-lt}
+use Rattle.std.proofs.lemmas.List.{get_or-set_same, get_or-set_other, length-set}
+use Rattle.roman_model.proofs.Lists.{by_test}
+use Rattle.roman_joint.specs.NamedSys.{NamedSys}
+use Rattle.roman_joint.specs.declared.seat.Seat.{Seat}
+use Rattle.roman_cost.specs.Tables.{CostTable, HasCells, listed_cost, cost_of, cost_at, seat_costs, cell_of}
+use Rattle.roman_cost.specs.declared.costs.Listed.{Listed}
+use Rattle.roman_cost.specs.declared.limits.TheConstants.{MAX_COST}
+
+-- One item more.
+
+pub listed_cost-push : (listed : List Listed) (item : Listed) (b a : ℕ) →
+    listed_cost (listed ++ item ∷ []) b a ≡ option_or (listed_cost listed b a) (listed_cost (item ∷ []) b a)
+listed_cost-push [] item b a = refl
+listed_cost-push (x ∷ listed) item b a = by (x.behaviour == b && x.action == a) (listed_cost-push listed item b a)
+  where
+    by : (t : Bool) → listed_cost (listed ++ item ∷ []) b a ≡ option_or (listed_cost listed b a) (listed_cost (item ∷ []) b a) →
+        cond t (Some x.cost) (listed_cost (listed ++ item ∷ []) b a) ≡ option_or (cond t (Some x.cost) (listed_cost listed b a)) (listed_cost (item ∷ []) b a)
+    by true e = refl
+    by false e = e
+
+option_or_none : {X : Type 0} (o : Option X) → option_or o None ≡ o
+option_or_none None = refl
+option_or_none (Some x) = refl
+
+-- two cells at one place are the same
+same_place : (n b a c d : ℕ) → a < n → d < n → b * n + a ≡ c * n + d → (b ≡ c) × (a ≡ d)
+same_place n b a c d la ld e = elim (cases_order b c) [
+  | inl same ↦ (same, let here : b * n ≡ c * n = ap (λ k. k * n) same in omega arith)
+  | inr other ↦ elim other [
+    | inl less ↦ (let l : b * n + a < n * c = mul-add-lt b n a c less la in absurd (omega arith))
+    | inr more ↦ (let l : c * n + d < n * b = mul-add-lt c n d b more ld in absurd (omega arith))
+  ]
+]
+
+cell-put : (n : ℕ) (listed : List Listed) (item : Listed) (cells : List ℕ) (b a : ℕ) → a < n → item.action < n → item.behaviour * n + item.action < length cells →
+    listed_cost listed item.behaviour item.action ≡ None → slice_index cells (b * n + a) ≡ cell_of (listed_cost listed b a) →
+    slice_index (set cells (item.behaviour * n + item.action) (item.cost + 1)) (b * n + a) ≡ cell_of (listed_cost (listed ++ item ∷ []) b a)
+cell-put n listed item cells b a la li within new before = by_test (item.behaviour == b && item.action == a)
+    (λ t.
+    let (same_b, same_a) = and_parts (item.behaviour == b) (item.action == a) t in
+    let eb : item.behaviour ≡ b = eqb-true item.behaviour b same_b in
+    let ea : item.action ≡ a = eqb-true item.action a same_a in
+    let one : listed_cost (item ∷ []) b a ≡ Some item.cost = cond-true (item.behaviour == b && item.action == a) (Some item.cost) None t in
+    let none : listed_cost listed b a ≡ None = subst (λ k. listed_cost listed k a ≡ None) eb (subst (λ k. listed_cost listed item.behaviour k ≡ None) ea new) in
+    ap (λ k. get_or (set cells (item.behaviour * n + item.action) (item.cost + 1)) k 0) (sym (ap (λ k. k * n + a) eb) ∙ ap (λ k. item.behaviour * n + k) (sym ea))
+    ∙ get_or-set_same cells (item.behaviour * n + item.action) (item.cost + 1) 0 within
+    ∙ ap cell_of (sym (listed_cost-push listed item b a ∙ ap (λ o. option_or o (listed_cost (item ∷ []) b a)) none ∙ one)))
+    (λ f.
+    let one : listed_cost (item ∷ []) b a ≡ None = cond-false (item.behaviour == b && item.action == a) (Some item.cost) None f in
+    let apart : b * n + a ≢ item.behaviour * n + item.action = λ e.
+    let (eb, ea) = same_place n b a item.behaviour item.action la li e in
+    absurd (other (item.behaviour == b && item.action == a) f (and_from (item.behaviour == b) (item.action == a) (eq-eqb item.behaviour b (sym eb)) (eq-eqb item.action a (sym ea)))) in
+    get_or-set_other cells (item.behaviour * n + item.action) (b * n + a) (item.cost + 1) 0 apart ∙ before
+    ∙ ap cell_of (sym (listed_cost-push listed item b a ∙ ap (option_or (listed_cost listed b a)) one ∙ option_or_none (listed_cost listed b a))))
+  where
+    other : (t : Bool) → IsFalse t → IsTrue t → ⊥
+    other t f g = absurd (cc)
+
+pub HasCells-put : (table : CostTable) (cells after : List ℕ) (item : Listed) → HasCells table cells → item.behaviour < table.behaviours → item.action < table.actions →
+    item.cost ≤ MAX_COST → listed_cost table.listed item.behaviour item.action ≡ None →
+    after ≡ set cells (item.behaviour * table.actions + item.action) (item.cost + 1) →
+    HasCells (record { behaviours = table.behaviours; actions = table.actions; listed = table.listed ++ item ∷ [] }) after
+HasCells-put table cells after item has lb la small new is =
+    let within : item.behaviour * table.actions + item.action < length cells =
+    omega (arith, mul-add-lt item.behaviour table.actions item.action table.behaviours lb la, has.len) in
+    record {
+      few_behaviours = has.few_behaviours;
+      few_actions = has.few_actions;
+      small = small_push table.listed has.small;
+      len = ap length is ∙ length-set cells (item.behaviour * table.actions + item.action) (item.cost + 1) ∙ has.len;
+      cells = λ b a mb ma. ap (λ (xs : List ℕ). slice_index xs (b * table.actions + a)) is
+          ∙ cell-put table.actions table.listed item cells b a ma la within new (has.cells b a mb ma);
+    }
+  where
+    small_push : (listed : List Listed) → All (λ x. x.cost ≤ MAX_COST) listed → All (λ x. x.cost ≤ MAX_COST) (listed ++ item ∷ [])
+    small_push [] each zero d l = small
+    small_push [] each (suc k) d l = absurd (omega arith)
+    small_push (x ∷ listed) each zero d l = each zero d (omega arith)
+    small_push (x ∷ listed) each (suc k) d l = small_push listed (λ j e m. each (suc j) e (omega arith)) k d (omega arith)
+
+-- How great costs are.
+
+pub cost_of_small : (listed : List Listed) → All (λ x. x.cost ≤ MAX_COST) listed → (b a : ℕ) → cost_of listed b a ≤ MAX_COST
+cost_of_small [] each b a = omega arith
+cost_of_small (x ∷ listed) each b a =
+    by (x.behaviour == b && x.action == a) (each zero x (omega arith)) (cost_of_small listed (λ k d l. each (suc k) d (omega arith)) b a)
+  where
+    by : (t : Bool) → x.cost ≤ MAX_COST → cost_of listed b a ≤ MAX_COST → unwrap_or (cond t (Some x.cost) (listed_cost listed b a)) 0 ≤ MAX_COST
+    by true here rest = here
+    by false here rest = rest
+
+pub seat_costs_small : (n : NamedSys) (listed : List Listed) → All (λ x. x.cost ≤ MAX_COST) listed → (k a : ℕ) → seat_costs n listed k a ≤ MAX_COST
+seat_costs_small n listed each k a = by (slice_get n.seats k)
+  where
+    by : (o : Option Seat) → cost_at listed o a ≤ MAX_COST
+    by None = omega arith
+    by (Some seat) = cost_of_small listed each seat.behaviour a
+
+-- What a cell tells.
+
+pub cell_told : (o : Option ℕ) (cell : ℕ) → cell ≡ cell_of o → not (cell == 0) ≡ is_some o
+cell_told None cell e = ap (λ n. not (n == 0)) e
+cell_told (Some c) cell e = ap (λ n. not (n == 0)) e ∙ ap not (other c)
+  where
+    other : (c : ℕ) → (c + 1 == 0) ≡ false
+    other c = by_test (c + 1 == 0) (λ t. let z : c + 1 ≡ 0 = eqb-true (c + 1) 0 t in absurd (omega arith)) (λ f. f)
+
+pub cell_less : (o : Option ℕ) (cell : ℕ) → cell ≡ cell_of o → cell - 1 ≡ unwrap_or o 0
+cell_less None cell e = omega arith
+cell_less (Some c) cell e = omega arith

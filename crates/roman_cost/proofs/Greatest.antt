@@ -1,0 +1,25 @@
+-- Loops that keep the greatest value so far.
+use Rattle.std.proofs.Common.{◌≡◌, ℕ, ◌+◌, ◌<◌, List, [], ◌∷◌, map, length, get_or, take, flat_map, refl, sym, ap, ap₂, ◌∙◌}
+use Rattle.std.specs.Prelude.{max}
+use Rattle.std.proofs.lemmas.List.{take_more}
+use Rattle.roman_model.specs.Plans.{max_over}
+use Rattle.roman_model.proofs.AdviceLemmas.{max_over_push, max_over-map, max_over-append}
+
+-- the next element is seen
+pub max_stepped : {X : Type 0} (f : X → ℕ) (xs : List X) (i : ℕ) (d : X) (best value new : ℕ) → best ≡ max_over f (take i xs) → i < length xs →
+    value ≡ f (get_or xs i d) → new ≡ max best value → new ≡ max_over f (take (i + 1) xs)
+max_stepped f xs i d best value new before l is step =
+    step ∙ ap₂ max before is ∙ sym (max_over_push f (take i xs) (get_or xs i d)) ∙ ap (max_over f) (sym (take_more xs i d l))
+
+max_over-flat_map : {X Y : Type 0} (f : Y → ℕ) (g : X → List Y) (xs : List X) → max_over f (flat_map g xs) ≡ max_over (λ x. max_over f (g x)) xs
+max_over-flat_map f g [] = refl
+max_over-flat_map f g (x ∷ xs) = max_over-append f (g x) (flat_map g xs) ∙ ap (max (max_over f (g x))) (max_over-flat_map f g xs)
+
+-- by rows is over all
+pub max_all : {Y : Type 0} (f : Y → ℕ) (g : ℕ → ℕ → Y) (envs states : List ℕ) (best : ℕ) → best ≡ max_over (λ e. max_over (λ b. f (g e b)) states) envs →
+    best ≡ max_over f (flat_map (λ e. map (g e) states) envs)
+max_all f g envs states best is = is ∙ each envs ∙ sym (max_over-flat_map f (λ e. map (g e) states) envs)
+  where
+    each : (es : List ℕ) → max_over (λ e. max_over (λ b. f (g e b)) states) es ≡ max_over (λ e. max_over f (map (g e) states)) es
+    each [] = refl
+    each (e ∷ es) = ap₂ max (sym (max_over-map f (g e) states)) (each es)

@@ -1,0 +1,10 @@
+mod ReadingLemmas
+mod CostLemmas
+mod Greatest
+mod Best
+mod Rows
+mod Ranks
+mod OfferedSeats
+mod OfferTables
+mod Lines
+mod LawLemmas

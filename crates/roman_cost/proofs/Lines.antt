@@ -1,0 +1,150 @@
+-- The text of advice, one line after the other.
+use Rattle.std.proofs.Common.{◌≡◌, ℕ, suc, ◌+◌, ◌-◌, ◌<◌, ◌≤◌, List, [], ◌∷◌, ◌++◌, IsTrue, IsFalse, codes, length, drop, map, get_or, slice_get, Some, refl, sym, ap, ap₂, ◌∙◌, subst, arith, add-one, append_assoc}
+use Rattle.std.specs.List.{filter, flat_map}
+use Rattle.std.specs.Option.{option_map}
+use Rattle.std.proofs.Math.Seq.{drop-cons}
+use Rattle.std.proofs.lemmas.Bool.{cond-true, cond-false}
+use Rattle.std.proofs.lemmas.List.{append-nil, drop_all, length-map}
+use Rattle.std.proofs.lemmas.Option.{slice_get-map, get_or_from_slice_get}
+use Rattle.roman_model.specs.Lists.{IsIn, below}
+use Rattle.roman_model.specs.System.{Sys, Pair, IsSys, is_allowed}
+use Rattle.roman_model.specs.Explanation.{name_at}
+use Rattle.roman_model.specs.Numbers.{sizes_of, count, pair_at}
+use Rattle.roman_model.specs.Offers.{is_related, offers}
+use Rattle.roman_model.specs.Plans.{Costs, allowed_actions, least, least_at, choice, through}
+use Rattle.roman_model.specs.System as model
+use Rattle.roman_model.proofs.CompositionLemmas.{related_great}
+use Rattle.roman_model.proofs.Lists.{length-below, get_or-below}
+use Rattle.roman_model.proofs.NumberLemmas.{numbers_are_pairs}
+use Rattle.roman_model.proofs.PlanLemmas.{choice_is}
+use Rattle.roman_joint.specs.NamedSys.{NamedSys, system_of, seat_of}
+use Rattle.roman_joint.specs.Names.{seat_name}
+use Rattle.roman_joint.specs.declared.seat.Seat.{Seat}
+use Rattle.roman_cost.specs.AdviceText.{worst_line, choice_line, value_line, value_lines, certificate_text, advice_text, service_text}
+use Rattle.roman_cost.specs.Advised.{related_pairs}
+use Rattle.roman_cost.specs.Tables.{seat_costs}
+use Rattle.roman_cost.specs.declared.costs.Listed.{Listed}
+use Rattle.roman_cost.proofs.OfferedSeats.{offered}
+use Rattle.roman_cost.proofs.Ranks.{in_related}
+
+-- the places from k on
+from_place : (n k : ℕ) → k < n → drop k (below n) ≡ k ∷ drop (k + 1) (below n)
+from_place n k l =
+    let within : k < length (below n) = omega (arith, length-below n) in
+    drop-cons (below n) k 0 within
+    ∙ ap₂ (λ (x j : ℕ). x ∷ drop j (below n)) (get_or-below n k 0 l) (sym (add-one k))
+
+from_end : (n k : ℕ) → n ≤ k → drop k (below n) ≡ []
+from_end n k l = drop_all k (below n) (omega (arith, length-below n))
+
+-- the name of the seat at a place
+named : (seats : List Seat) (k : ℕ) (seat : Seat) → slice_get seats k ≡ Some seat → name_at (map seat_name seats) k ≡ seat.name
+named seats k seat h = get_or_from_slice_get (map seat_name seats) k seat.name [] (slice_get-map seat_name seats k ∙ ap (option_map seat_name) h)
+
+-- ---- texts of a list's items
+
+-- a text that comes next, as it is taken
+pub as_taken : (whole text rest piece : List ℕ) → whole ≡ text ++ rest → piece ≡ text → whole ≡ piece ++ rest
+as_taken whole text rest piece next is = next ∙ ap (λ (t : List ℕ). t ++ rest) (sym is)
+
+-- the text of the item at a place comes next
+next_text : (f : ℕ → List ℕ) (xs : List ℕ) (i : ℕ) → i < length xs → flat_map f (drop i xs) ≡ f (get_or xs i 0) ++ flat_map f (drop (i + 1) xs)
+next_text f xs i l = ap (flat_map f) (drop-cons xs i 0 l) ∙ ap (λ (j : ℕ). f (get_or xs i 0) ++ flat_map f (drop j xs)) (sym (add-one i))
+
+-- the value of the pair at a place
+pub next_value : (s : Sys) (C : Costs) (h : ℕ) (items pairs : List ℕ) (i value : ℕ) (piece : List ℕ) → items ≡ pairs → i < length items → value ≡ least_at s C h (get_or items i 0) →
+    piece ≡ value_line h (get_or items i 0) value →
+    flat_map (λ p. value_line h p (least_at s C h p)) (drop i pairs) ≡ piece ++ flat_map (λ p. value_line h p (least_at s C h p)) (drop (i + 1) pairs)
+next_value s C h items pairs i value piece same l is line =
+    let F : ℕ → List ℕ = λ p. value_line h p (least_at s C h p) in
+    subst (λ (ps : List ℕ). flat_map F (drop i ps) ≡ piece ++ flat_map F (drop (i + 1) ps)) same
+    (as_taken (flat_map F (drop i items)) (F (get_or items i 0)) (flat_map F (drop (i + 1) items)) piece (next_text F items i l)
+    (line ∙ ap (value_line h (get_or items i 0)) is))
+
+-- the values of the next number of requests
+pub next_row : (s : Sys) (C : Costs) (n h : ℕ) → h < n →
+    flat_map (λ h. value_lines s C (suc h)) (drop h (below n)) ≡ value_lines s C (h + 1) ++ flat_map (λ h. value_lines s C (suc h)) (drop (h + 1) (below n))
+next_row s C n h l =
+    ap (flat_map (λ h. value_lines s C (suc h))) (from_place n h l)
+    ∙ ap (λ (i : ℕ). value_lines s C i ++ flat_map (λ h. value_lines s C (suc h)) (drop (h + 1) (below n))) (sym (add-one h))
+
+-- none is left at the end
+pub no_row : (s : Sys) (C : Costs) (n h : ℕ) → n ≤ h → flat_map (λ h. value_lines s C (suc h)) (drop h (below n)) ≡ []
+no_row s C n h l = ap (flat_map (λ h. value_lines s C (suc h))) (from_end n h l)
+
+-- ---- actions
+
+-- the lines of the actions from a on
+pub choices_from : NamedSys → Costs → ℕ → Pair → ℕ → List ℕ
+choices_from n C h p a = flat_map (choice_line n C h p) (filter (is_allowed (system_of n) p) (drop a (below (system_of n).env.actions)))
+
+-- an action that is allowed comes next
+pub next_choice : (n : NamedSys) (C : Costs) (h : ℕ) (p : Pair) (a : ℕ) → a < (system_of n).env.actions → IsTrue (is_allowed (system_of n) p a) →
+    choices_from n C h p a ≡ choice_line n C h p a ++ choices_from n C h p (a + 1)
+unfolding choices_from
+next_choice n C h p a l allowed =
+    let m = (system_of n).env.actions in
+    let test = is_allowed (system_of n) p in
+    let rest = filter test (drop (a + 1) (below m)) in
+    ap (λ (xs : List ℕ). flat_map (choice_line n C h p) (filter test xs)) (from_place m a l)
+    ∙ ap (flat_map (choice_line n C h p)) (cond-true (test a) (a ∷ rest) rest allowed)
+
+-- another one is passed over
+pub next_unallowed : (n : NamedSys) (C : Costs) (h : ℕ) (p : Pair) (a : ℕ) → a < (system_of n).env.actions → IsFalse (is_allowed (system_of n) p a) → choices_from n C h p a ≡ choices_from n C h p (a + 1)
+unfolding choices_from
+next_unallowed n C h p a l unallowed =
+    let m = (system_of n).env.actions in
+    let test = is_allowed (system_of n) p in
+    let rest = filter test (drop (a + 1) (below m)) in
+    ap (λ (xs : List ℕ). flat_map (choice_line n C h p) (filter test xs)) (from_place m a l)
+    ∙ ap (flat_map (choice_line n C h p)) (cond-false (test a) (a ∷ rest) rest unallowed)
+
+-- none is left at the end
+pub no_choice : (n : NamedSys) (C : Costs) (h : ℕ) (p : Pair) (a : ℕ) → (system_of n).env.actions ≤ a → choices_from n C h p a ≡ []
+unfolding choices_from
+no_choice n C h p a l = ap (λ (xs : List ℕ). flat_map (choice_line n C h p) (filter (is_allowed (system_of n) p) xs)) (from_end (system_of n).env.actions a l)
+
+-- all are gone through
+pub choices_begin : (n : NamedSys) (C : Costs) (h : ℕ) (p : Pair) → choices_from n C h p 0 ≡ flat_map (choice_line n C h p) (allowed_actions (system_of n) p)
+unfolding choices_from
+choices_begin n C h p = refl
+
+-- the seat that is chosen is one of the system
+pub chosen_seat : (n : NamedSys) (C : Costs) (h p a k : ℕ) → IsSys (system_of n) → p < count (sizes_of (system_of n)) → IsTrue (is_related (system_of n) (pair_at (sizes_of (system_of n)) p)) →
+    IsTrue (is_allowed (system_of n) (pair_at (sizes_of (system_of n)) p) a) → k ≡ choice (system_of n) C h (pair_at (sizes_of (system_of n)) p) a → k < length n.seats
+chosen_seat n C h p a k ok l related allowed is =
+    let s = system_of n in
+    let P = pair_at (sizes_of s) p in
+    let great = related_great s P ok ((numbers_are_pairs s).pair p l) related in
+    let best = choice_is s C h P a ok great allowed in
+    let known = offered s p a (choice s C h P a) ok l best.offered in
+    omega (arith, known.seat, is, length-map n.seats (seat_of n.catalogue))
+
+-- its line
+pub choice_line_is : (n : NamedSys) (C : Costs) (h : ℕ) (p : Pair) (a k cost : ℕ) (action : List ℕ) (seat : Seat) → k ≡ choice (system_of n) C h p a → cost ≡ through (system_of n) C (least (system_of n) C h) p a k →
+    slice_get n.environment.actions a ≡ Some action → slice_get n.seats k ≡ Some seat → service_text action seat.name cost ≡ choice_line n C h p a
+choice_line_is n C h p a k cost action seat is costs action_named seated =
+    let j = choice (system_of n) C h p a in
+    let action_is : action ≡ name_at n.environment.actions a = sym (get_or_from_slice_get n.environment.actions a action [] action_named) in
+    let seat_is : seat.name ≡ name_at (map seat_name n.seats) j = sym (named n.seats k seat seated) ∙ ap (name_at (map seat_name n.seats)) is in
+    let cost_is : cost ≡ through (system_of n) C (least (system_of n) C h) p a j = costs ∙ ap (through (system_of n) C (least (system_of n) C h) p a) is in
+    rw (action_is, seat_is, cost_is) refl
+
+-- ---- the whole
+
+regroup : (a b c d : List ℕ) → a ++ (b ++ (c ++ (d ++ []))) ≡ a ++ b ++ c ++ d
+regroup a b c d = simp (append_assoc, append-nil)
+
+-- the text in pieces, of which the first has what so many requests cost at worst
+pub advice_pieces : (n : NamedSys) (listed : List Listed) (requests h start value : ℕ) (first : List ℕ) → value ≡ least_at (system_of n) (seat_costs n listed) h start → h ≡ requests → first ≡ worst_line value →
+    first ++ (flat_map (choice_line n (seat_costs n listed) (requests - 1) (pair_at (sizes_of (system_of n)) start)) (allowed_actions (system_of n) (pair_at (sizes_of (system_of n)) start))
+    ++ (certificate_text (system_of n) (seat_costs n listed) requests ++ (codes "end\n" ++ []))) ≡ advice_text n listed requests (pair_at (sizes_of (system_of n)) start)
+unfolding advice_text
+advice_pieces n listed requests h start value first least_is same is =
+    let s = system_of n in
+    let C = seat_costs n listed in
+    let p = pair_at (sizes_of s) start in
+    let choices = flat_map (choice_line n C (requests - 1) p) (allowed_actions s p) in
+    let values = certificate_text s C requests in
+    ap (λ (first : List ℕ). first ++ (choices ++ (values ++ (codes "end\n" ++ [])))) (is ∙ ap worst_line (least_is ∙ ap (λ (h : ℕ). least_at s C h start) same))
+    ∙ regroup (worst_line (least_at s C requests start)) choices values (codes "end\n")

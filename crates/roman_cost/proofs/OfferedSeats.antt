@@ -1,0 +1,106 @@
+-- The offered seats of a related pair: each has outcomes, all of them related, and what it costs is as the definition says.
+use Rattle.std.proofs.Common.{◌≡◌, ◌≢◌, ℕ, suc, ◌+◌, ◌*◌, ◌<◌, ◌≤◌, Bool, not, List, [], ◌∷◌, map, flat_map, length, filter, slice_index, inl, inr, IsTrue, All, refl, sym, ap, ◌∙◌, subst, arith}
+use Rattle.roman_model.specs.Lists.{IsIn, below}
+use Rattle.roman_model.specs.System.{Sys, Pair, IsSys, IsPair, has, outcomes, is_allowed}
+use Rattle.roman_model.specs.Arena.{is_beaten}
+use Rattle.roman_model.specs.Composition.{arena}
+use Rattle.roman_model.specs.Numbers.{sizes_of, count, pair_at, number, numbered}
+use Rattle.roman_model.specs.Offers.{is_related, offers}
+use Rattle.roman_model.specs.Plans.{Costs, max_over, first_least, least, least_at, choice, through}
+use Rattle.roman_model.proofs.Lists.{from_map, in_map, not_empty_in, ne_not_empty, not_empty_ne, in_not_empty}
+use Rattle.roman_model.proofs.SystemLemmas.{outcome_pair, outcome_seat}
+use Rattle.roman_model.proofs.CompositionLemmas.{great_related}
+use Rattle.roman_model.proofs.OfferLemmas.{offer_is}
+use Rattle.roman_model.proofs.NumberLemmas.{numbers_are_pairs}
+use Rattle.roman_model.proofs.AdviceLemmas.{through_numbered}
+use Rattle.roman_model.proofs.PlanLemmas.{max_over_same, max_over_le}
+use Rattle.std.proofs.lemmas.Bool.{cond-true}
+use Rattle.roman_cost.specs.Advised.{related_pairs, AreRanks}
+use Rattle.roman_cost.specs.Filling.{ranked, IsRanked, AreSmall}
+use Rattle.roman_cost.specs.declared.limits.TheConstants.{MAX_COST, MAX_REQUESTS}
+use Rattle.roman_cost.proofs.Best.{filter_has, first_least_same}
+use Rattle.roman_cost.proofs.Rows.{all_from}
+use Rattle.roman_cost.proofs.Ranks.{in_related, ranked_value}
+
+-- what is known of a seat that is offered for a at the pair of number p
+pub record IsOffered (s : Sys) (p a k : ℕ) : Type 0 where
+  pub seat : k < length s.seats
+  pub ready : IsTrue ((numbered s).ready k)
+  pub some : (numbered s).outcomes p a k ≢ []
+  pub related : (q : ℕ) → IsIn q ((numbered s).outcomes p a k) → IsIn q (related_pairs s)
+
+pub offered : (s : Sys) (p a k : ℕ) → IsSys s → p < count (sizes_of s) → IsIn k (offers s (pair_at (sizes_of s) p) a) → IsOffered s p a k
+offered s p a k ok l i =
+    let n = sizes_of s in
+    let P : Pair = pair_at n p in
+    let pair : IsPair s P = (numbers_are_pairs s).pair p l in
+    let (allowed, below, some, all) = offer_is s P a k ok pair i in
+    let (Q, j) = not_empty_in (outcomes s P a k) (ne_not_empty (outcomes s P a k) some) in
+    record {
+      seat = below;
+      ready = (outcome_seat s P a k Q j).1;
+      some = not_empty_ne (map (number n) (outcomes s P a k)) (in_not_empty (number n Q) (map (number n) (outcomes s P a k)) (in_map (number n) Q (outcomes s P a k) j));
+      related = λ q m.
+          let (R, o, e) = from_map (number n) q (outcomes s P a k) m in
+          let there : IsPair s R = outcome_pair s P a k R ok pair o in
+          let back : pair_at n q ≡ R = ap (pair_at n) e ∙ (numbers_are_pairs s).back R there in
+          in_related s q (subst (λ m. m < count n) (sym e) ((numbers_are_pairs s).below R there))
+          (subst (λ X. IsTrue (is_related s X)) (sym back) (great_related s R ok (all R o)));
+    }
+
+pub offered_ranked : (s : Sys) (p a k : ℕ) (ranks row : List ℕ) → IsOffered s p a k → AreRanks (related_pairs s) ranks → length row ≡ length (related_pairs s) →
+    All (IsRanked ranks row) ((numbered s).outcomes p a k)
+offered_ranked s p a k ranks row is are long =
+    all_from (IsRanked ranks row) ((numbered s).outcomes p a k) (λ q i.
+    (are.within q (is.related q i), subst (λ m. m) refl (let l = are.below q (is.related q i) in omega arith)))
+
+-- what a seat costs, by a row for the requests that follow
+abbrev pub cost_by : Sys → Costs → List ℕ → List ℕ → ℕ → ℕ → ℕ → ℕ
+cost_by s C ranks row p a k = C k a + max_over (ranked ranks row) ((numbered s).outcomes p a k)
+
+pub cost_is : (s : Sys) (C : Costs) (ranks row : List ℕ) (p a k h : ℕ) → IsSys s → p < count (sizes_of s) → AreRanks (related_pairs s) ranks →
+    row ≡ map (least_at s C h) (related_pairs s) → IsIn k (offers s (pair_at (sizes_of s) p) a) →
+    cost_by s C ranks row p a k ≡ through s C (least s C h) (pair_at (sizes_of s) p) a k
+cost_is s C ranks row p a k h ok l are is i =
+    let known : IsOffered s p a k = offered s p a k ok l i in
+    ap (λ m. C k a + m) (max_over_same (ranked ranks row) (least_at s C h) ((numbered s).outcomes p a k)
+    (λ q j. ranked_value s C h (related_pairs s) ranks row q are (known.related q j) is))
+    ∙ through_numbered s C h p a k ok l
+
+-- the best of the offered seats by that row is the choice
+pub best_is_choice : (s : Sys) (C : Costs) (ranks row : List ℕ) (p a h : ℕ) → IsSys s → p < count (sizes_of s) → AreRanks (related_pairs s) ranks →
+    row ≡ map (least_at s C h) (related_pairs s) →
+    first_least (cost_by s C ranks row p a) (offers s (pair_at (sizes_of s) p) a) ≡ choice s C h (pair_at (sizes_of s) p) a
+best_is_choice s C ranks row p a h ok l are is =
+    first_least_same (cost_by s C ranks row p a) (through s C (least s C h) (pair_at (sizes_of s) p) a) (offers s (pair_at (sizes_of s) p) a)
+    (λ k i. cost_is s C ranks row p a k h ok l are is i)
+
+-- the offers are the seats that they have
+pub offers_among : (s : Sys) (P : Pair) (a : ℕ) → IsTrue (is_allowed s P a) → filter (has (offers s P a)) (below (length s.seats)) ≡ offers s P a
+offers_among s P a allowed =
+    let rule : ℕ → Bool = λ k. not_beaten k in
+    let is : offers s P a ≡ filter rule (below (length s.seats)) = cond-true (is_allowed s P a) (filter rule (below (length s.seats))) [] allowed in
+    ap (λ ks. filter (has ks) (below (length s.seats))) is ∙ filter_has rule (length s.seats) ∙ sym is
+  where
+    not_beaten : ℕ → Bool
+    not_beaten k = not (is_beaten (arena s) (λ q. not (is_related s q)) P a k)
+
+-- where a delegation has outcomes, the seat goes to some state
+pub states_some : (g : ℕ → ℕ → ℕ) (envs states : List ℕ) → flat_map (λ e. map (g e) states) envs ≢ [] → 0 < length states
+states_some g envs [] some = absurd (some (none envs))
+  where
+    none : (es : List ℕ) → flat_map (λ e. map (g e) []) es ≡ []
+    none [] = refl
+    none (e ∷ es) = none es
+states_some g envs (b ∷ states) some = omega arith
+
+-- what holds of all elements holds of each
+pub all_in : {X : Type 0} (P : X → Type 0) (xs : List X) (x : X) → All P xs → IsIn x xs → P x
+all_in P [] x each i = absurd i
+all_in P (y ∷ xs) x each (inl e) = subst P (sym e) (each 0 y (omega arith))
+all_in P (y ∷ xs) x each (inr i) = all_in P xs x (λ k d l. each (suc k) d (omega arith)) i
+
+-- the greatest value isn't too great
+pub greatest_small : (ranks row qs : List ℕ) → All (IsRanked ranks row) qs → AreSmall row → max_over (ranked ranks row) qs ≤ MAX_REQUESTS * MAX_COST
+greatest_small ranks row qs each small =
+    max_over_le (ranked ranks row) (MAX_REQUESTS * MAX_COST) qs (λ q i. small (slice_index ranks q) 0 (all_in (IsRanked ranks row) qs q each i).1)

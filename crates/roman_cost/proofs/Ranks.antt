@@ -1,0 +1,93 @@
+-- The related pairs, and their ranks.
+use Rattle.std.proofs.Common.{◌≡◌, ◌↔◌, ℕ, zero, suc, ◌+◌, ◌*◌, ◌<◌, ◌≤◌, Bool, true, false, cond, List, [], ◌∷◌, ◌++◌, map, length, get_or, filter, slice_index, IsTrue, sym, ap, ◌∙◌, subst, arith, add-one, append-nil, length-append}
+use Rattle.std.proofs.lemmas.List.{length-map, get_or-map, map_push}
+use Rattle.roman_model.specs.Lists.{IsIn, below}
+use Rattle.roman_model.specs.System.{Sys}
+use Rattle.roman_model.specs.Numbers.{sizes_of, count, pair_at}
+use Rattle.roman_model.specs.Offers.{is_related}
+use Rattle.roman_model.specs.Plans.{Costs, least_at}
+use Rattle.roman_model.specs.System.{IsSys, IsPair}
+use Rattle.roman_model.specs.Composition.{Great}
+use Rattle.roman_model.proofs.NumberLemmas.{numbers_are_pairs}
+use Rattle.roman_model.proofs.CompositionLemmas.{great_related, related_great}
+use Rattle.roman_model.proofs.Lists.{same_test, filter_in, in_filter, in_below, from_below, length-below, get_or-below, filter_below_more}
+use Rattle.roman_model.proofs.TableLemmas.{rank, rank_at, table_at}
+use Rattle.roman_cost.specs.Advised.{related_pairs, AreRanks, AdviceTable, Advises}
+use Rattle.roman_cost.specs.Filling.{ranked}
+
+-- whether the pair of that number is related
+abbrev pub related_at : Sys → ℕ → Bool
+related_at s p = is_related s (pair_at (sizes_of s) p)
+
+pub in_related : (s : Sys) (p : ℕ) → p < count (sizes_of s) → IsTrue (related_at s p) → IsIn p (related_pairs s)
+in_related s p l t = in_filter (related_at s) p (below (count (sizes_of s))) (in_below (count (sizes_of s)) p l) t
+
+pub from_related : (s : Sys) (p : ℕ) → IsIn p (related_pairs s) → (p < count (sizes_of s)) × IsTrue (related_at s p)
+from_related s p i =
+    let (j, t) = filter_in (related_at s) p (below (count (sizes_of s))) i in
+    (from_below (count (sizes_of s)) p j, t)
+
+-- the answer of a relation to whether a pair is related is the test
+pub told_related : (s : Sys) (p : ℕ) (told : Bool) → IsSys s → p < count (sizes_of s) → (IsTrue told ↔ Great s (pair_at (sizes_of s) p)) → told ≡ related_at s p
+told_related s p told ok l says =
+    let pair : IsPair s (pair_at (sizes_of s) p) = (numbers_are_pairs s).pair p l in
+    same_test told (related_at s p) (λ t. great_related s (pair_at (sizes_of s) p) ok (says.0 t)) (λ t. says.1 (related_great s (pair_at (sizes_of s) p) ok pair t))
+
+-- Ranks in the making.
+
+pub rank-le : (q : ℕ → Bool) (n : ℕ) → rank q n ≤ n
+rank-le q zero = omega arith
+rank-le q (suc n) =
+    let before : rank q n ≤ n = rank-le q n in
+    let more : rank q (suc n) ≡ length (filter q (below n) ++ cond (q n) (n ∷ []) []) = ap length (filter_below_more q n) in
+    let one : length (cond (q n) (n ∷ []) []) ≤ 1 = by (q n) in
+    omega (arith, length-append (filter q (below n)) (cond (q n) (n ∷ []) []))
+  where
+    by : (b : Bool) → length (cond b (n ∷ []) []) ≤ 1
+    by true = omega arith
+    by false = omega arith
+
+pub ranks_more : (q : ℕ → Bool) (n : ℕ) (ranks new : List ℕ) (r : ℕ) → ranks ≡ map (rank q) (below n) → r ≡ rank q n → new ≡ ranks ++ r ∷ [] →
+    new ≡ map (rank q) (below (n + 1))
+ranks_more q n ranks new r before is next =
+    next ∙ ap (λ xs. xs ++ r ∷ []) before ∙ ap (λ k. map (rank q) (below n) ++ k ∷ []) is ∙ sym (map_push (rank q) (below n) n) ∙ ap (λ m. map (rank q) (below m)) (sym (add-one n))
+
+pub pairs_taken : (q : ℕ → Bool) (n : ℕ) (pairs new : List ℕ) → q n ≡ true → pairs ≡ filter q (below n) → new ≡ pairs ++ n ∷ [] → new ≡ filter q (below (n + 1))
+pairs_taken q n pairs new passes before next =
+    next ∙ ap (λ xs. xs ++ n ∷ []) before ∙ ap (λ b. filter q (below n) ++ cond b (n ∷ []) []) (sym passes) ∙ sym (filter_below_more q n) ∙ ap (λ m. filter q (below m)) (sym (add-one n))
+
+pub pairs_passed : (q : ℕ → Bool) (n : ℕ) (pairs : List ℕ) → q n ≡ false → pairs ≡ filter q (below n) → pairs ≡ filter q (below (n + 1))
+pairs_passed q n pairs fails before =
+    before ∙ sym (append-nil (filter q (below n))) ∙ ap (λ b. filter q (below n) ++ cond b (n ∷ []) []) (sym fails) ∙ sym (filter_below_more q n) ∙ ap (λ m. filter q (below m)) (sym (add-one n))
+
+-- where all numbers below n are seen
+pub ranks_done : (q : ℕ → Bool) (n : ℕ) (pairs ranks : List ℕ) → pairs ≡ filter q (below n) → ranks ≡ map (rank q) (below n) → AreRanks pairs ranks
+ranks_done q n pairs ranks ps rs = subst (λ xs. AreRanks xs ranks) (sym ps) (subst (λ xs. AreRanks (filter q (below n)) xs) (sym rs) (record {
+  within = λ p i. let l : p < n = small p i in subst (λ m. p < m) (sym long) l;
+  below = λ p i. subst (λ r. r < length (filter q (below n))) (sym (is p (small p i))) (rank_at q n p 0 (small p i) (passes p i)).0;
+  at = λ p i. ap (λ r. get_or (filter q (below n)) r 0) (is p (small p i)) ∙ (rank_at q n p 0 (small p i) (passes p i)).1;
+}))
+  where
+    long : length (map (rank q) (below n)) ≡ n
+    long = length-map (below n) (rank q) ∙ length-below n
+
+    small : (p : ℕ) → IsIn p (filter q (below n)) → p < n
+    small p i = from_below n p (filter_in q p (below n) i).0
+
+    passes : (p : ℕ) → IsIn p (filter q (below n)) → IsTrue (q p)
+    passes p i = (filter_in q p (below n) i).1
+
+    is : (p : ℕ) → p < n → slice_index (map (rank q) (below n)) p ≡ rank q p
+    is p l = get_or-map (rank q) (below n) p 0 0 (subst (λ m. p < m) (sym (length-below n)) l) ∙ ap (rank q) (get_or-below n p 0 l)
+
+-- the value that a table has for so many requests at a pair of rank r
+pub value_at : (s : Sys) (C : Costs) (table : AdviceTable) (h p r v : ℕ) → Advises s C table → h ≤ table.requests → r < length table.pairs → slice_index table.pairs r ≡ p →
+    v ≡ slice_index table.values (h * length table.pairs + r) → v ≡ least_at s C h p
+value_at s C table h p r v says few l at is =
+    is ∙ ap (λ xs. get_or xs (h * length table.pairs + r) 0) says.values ∙ table_at (least_at s C) table.pairs (suc table.requests) h r 0 0 (omega arith) l ∙ ap (least_at s C h) at
+
+-- the value of a pair that is related, in a row for all of them
+pub ranked_value : (s : Sys) (C : Costs) (h : ℕ) (pairs ranks row : List ℕ) (p : ℕ) → AreRanks pairs ranks → IsIn p pairs → row ≡ map (least_at s C h) pairs →
+    ranked ranks row p ≡ least_at s C h p
+ranked_value s C h pairs ranks row p are i is =
+    ap (λ xs. get_or xs (slice_index ranks p) 0) is ∙ get_or-map (least_at s C h) pairs (slice_index ranks p) 0 0 (are.below p i) ∙ ap (least_at s C h) (are.at p i)

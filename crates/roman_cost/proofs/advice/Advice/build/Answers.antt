@@ -1,0 +1,32 @@
+use Rattle.std.proofs.Common.{◌≡◌, suc, length, ap, sym, ◌∙◌, subst, arith}
+use Rattle.roman_model.specs.Plans.{least_at}
+use Rattle.roman_model.proofs.TableLemmas.{length_rows}
+use Rattle.roman_joint.specs.NamedSys.{system_of}
+use Rattle.roman_cost.specs.Advised.{value_rows}
+use Rattle.roman_cost.specs.Filling.{AreSmall}
+use Rattle.roman_cost.specs.Tables.{seat_costs}
+use Rattle.roman_cost.proofs.CostLemmas.{seat_costs_small}
+use Rattle.roman_cost.proofs.Rows.{resized_row, rows_small}
+use Rattle.roman_cost.proofs.advice.Advice.build.Goals as goal
+
+pub loop-done-init : goal.loop-done-init
+loop-done-init c =
+    let s = system_of c.args.relation.now.joint in
+    let C = seat_costs c.args.relation.now.joint c.args.costs.now.listed in
+    let long : c.len.result ≡ length c.in_ok-pairs.pairs.items = omega (arith, c.len.ensures, c.in_ok-pairs.pairs.ok.0) in
+    resized_row s C c.in_ok-pairs.pairs.items c.in_ok-values.values.items c.resize.new.self.items c.len.result _ c.in_ok-values.ensures.items c.in_ok-values.ensures.len long c.in_ok-resize.ensures.items
+
+pub invariant_of-result : goal.invariant_of-result
+invariant_of-result c =
+    let s = system_of c.args.relation.now.joint in
+    let C = seat_costs c.args.relation.now.joint c.args.costs.now.listed in
+    let end : c.loop-done.done ≡ c.args.h = omega arith in
+    let values : c.loop-done.values.items ≡ value_rows s C c.in_ok-pairs.pairs.items (suc c.args.h) =
+    c.loop-done.invariant ∙ ap (λ n. value_rows s C c.in_ok-pairs.pairs.items (suc n)) end in
+    record {
+      few = c.requires.requests.1;
+      ranks = c.in_ok-pairs.ensures.ranks;
+      len = ap length values ∙ length_rows (least_at s C) c.in_ok-pairs.pairs.items (suc c.args.h);
+      small = subst AreSmall (sym values)
+          (rows_small s C c.in_ok-pairs.pairs.items (suc c.args.h) (seat_costs_small c.args.relation.now.joint c.args.costs.now.listed c.known.ensures) (omega (arith, c.requires.requests.1)));
+    }

@@ -1,0 +1,9 @@
+use Rattle.std.proofs.Common.{◌≡◌, suc}
+use Rattle.roman_joint.specs.NamedSys.{system_of}
+use Rattle.roman_cost.specs.Advised.{value_rows}
+use Rattle.roman_cost.specs.Tables.{seat_costs}
+use Rattle.roman_cost.proofs.advice.Advice.build.Given as goal
+
+-- the rows so far
+abbrev pub invariant-loop-done : goal.invariant-loop-done
+invariant-loop-done l = l.values.items ≡ value_rows (system_of l.relation.joint) (seat_costs l.relation.joint l.costs.listed) l.pairs.items (suc l.done)

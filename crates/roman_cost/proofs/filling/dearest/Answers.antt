@@ -1,0 +1,46 @@
+use Rattle.std.proofs.Common.{◌≡◌, ◌<◌, ◌+◌, ℕ, length, Bool, true, false, filter, cond, ap, ap₂, sym, ◌∙◌, arith}
+use Rattle.std.specs.Prelude.{max}
+use Rattle.roman_model.specs.Lists.{below}
+use Rattle.roman_model.specs.Numbers.{sizes_of, pair_at}
+use Rattle.roman_model.specs.Plans.{max_over, least, choice, through}
+use Rattle.roman_model.specs.System.{is_allowed}
+use Rattle.roman_model.proofs.AdviceLemmas.{max_over_below}
+use Rattle.roman_parts.specs.Named.{NamedEnv}
+use Rattle.roman_joint.specs.NamedSys.{system_of}
+use Rattle.roman_cost.specs.Tables.{seat_costs}
+use Rattle.roman_cost.proofs.OfferTables.{set_allowed, unset_allowed}
+use Rattle.roman_cost.proofs.filling.dearest.Goals as goal
+use Rattle.roman_cost.proofs.filling.dearest.Goals.{then-seats-ne0, else-seats-ne0}
+
+-- one action more
+taken : (f : ℕ → ℕ) (p : ℕ → Bool) (a worst cost new : ℕ) → p a ≡ true → worst ≡ max_over f (filter p (below a)) → cost ≡ f a → new ≡ max worst cost →
+    new ≡ max_over f (filter p (below (a + 1)))
+taken f p a worst cost new passes before e is =
+    is ∙ ap₂ max before e ∙ ap (λ b. cond b (max (max_over f (filter p (below a))) (f a)) (max_over f (filter p (below a)))) (sym passes) ∙ sym (max_over_below f p a)
+
+passed : (f : ℕ → ℕ) (p : ℕ → Bool) (a worst : ℕ) → p a ≡ false → worst ≡ max_over f (filter p (below a)) → worst ≡ max_over f (filter p (below (a + 1)))
+passed f p a worst fails before =
+    before ∙ ap (λ b. cond b (max (max_over f (filter p (below a))) (f a)) (max_over f (filter p (below a)))) (sym fails) ∙ sym (max_over_below f p a)
+
+pub loop-a-preserved : goal.loop-a-preserved
+loop-a-preserved c = λ h is.
+    let s = system_of c.args.joint.now in
+    let C = seat_costs c.args.joint.now c.args.costs.now.listed in
+    let P = pair_at (sizes_of s) c.args.p in
+    let f : ℕ → ℕ = λ a. through s C (least s C h) P a (choice s C h P a) in
+    let l : c.loop-a.a < s.env.actions = omega (arith, c.loop-a-test.true, c.len-a-end.ensures.len, c.actions.ensures.count, ap length c.actions.ensures.names, ap (λ (e : NamedEnv). length e.actions) c.environment.ensures, ap (λ (e : NamedEnv). e.env.actions) c.environment.ensures) in
+    let are = c.requires.offered.each c.loop-a.a l in
+    elim c.if-seats-ne0.branch [
+      | then-seats-ne0 w ↦
+          w.worst-is ∙ taken f (is_allowed s P) c.loop-a.a c.loop-a.worst _ w.greater-worst.result (set_allowed s c.args.p c.loop-a.a _ are w.if-seats-ne0.true) (c.loop-a.invariant h is)
+          (w.cheapest-cost.ensures.sum h is ∙ ap (through s C (least s C h) P c.loop-a.a) (w.cheapest-cost.ensures.seat h is)) w.greater-worst.ensures
+      | else-seats-ne0 w ↦ w.worst-is ∙ passed f (is_allowed s P) c.loop-a.a c.loop-a.worst (unset_allowed s c.args.p c.loop-a.a _ are w.if-seats-ne0.false) (c.loop-a.invariant h is)
+    ]
+
+pub returns : goal.returns
+returns c = λ h is.
+    let s = system_of c.args.joint.now in
+    let C = seat_costs c.args.joint.now c.args.costs.now.listed in
+    let P = pair_at (sizes_of s) c.args.p in
+    let end : c.loop-a.a ≡ s.env.actions = omega (arith, c.loop-a-test.false, c.loop-a.auto.a-end, c.len-a-end.ensures.len, c.actions.ensures.count, ap length c.actions.ensures.names, ap (λ (e : NamedEnv). length e.actions) c.environment.ensures, ap (λ (e : NamedEnv). e.env.actions) c.environment.ensures) in
+    c.loop-a.invariant h is ∙ ap (λ n. max_over (λ a. through s C (least s C h) P a (choice s C h P a)) (filter (is_allowed s P) (below n))) end

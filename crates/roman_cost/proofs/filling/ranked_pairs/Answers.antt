@@ -1,0 +1,34 @@
+use Rattle.std.proofs.Common.{◌≡◌, ◌<◌, ◌≤◌, ℕ, Bool, Vec, Global, length, ap, sym, ◌∙◌, arith}
+use Rattle.roman_model.proofs.TableLemmas.{rank}
+use Rattle.roman_model.specs.Numbers.{sizes_of, count}
+use Rattle.roman_joint.specs.NamedSys.{system_of}
+use Rattle.roman_cost.proofs.Ranks.{related_at, told_related, rank-le, ranks_more, pairs_taken, pairs_passed, ranks_done}
+use Rattle.roman_cost.proofs.filling.ranked_pairs.Goals as goal
+use Rattle.roman_cost.proofs.filling.ranked_pairs.Goals.{then-related+in_ok-push-2, else-related}
+
+pub overflow_cast-len : goal.overflow_cast-len
+overflow_cast-len c =
+    let q : ℕ → Bool = related_at (system_of c.args.relation.now.joint) in
+    let few : rank q c.loop-p.p ≤ c.loop-p.p = rank-le q c.loop-p.p in
+    let long : length c.loop-p.pairs.items ≡ rank q c.loop-p.p = ap length c.loop-p.invariant.pairs in
+    omega (arith, c.len.ensures, c.loop-p.pairs.ok.0, c.loop-p-test.true, c.pairs-count.type_inv)
+
+pub loop-p-preserved : goal.loop-p-preserved
+loop-p-preserved c =
+    let s = system_of c.args.relation.now.joint in
+    let q : ℕ → Bool = related_at s in
+    let p : ℕ = c.loop-p.p in
+    let l : p < count (sizes_of s) = omega (arith, c.loop-p-test.true, c.pairs-count.ensures, ap count c.shape.ensures) in
+    let told : c.related.result ≡ q p = told_related s p c.related.result c.known.ensures.system l (c.related.ensures.great c.requires.complete) in
+    let r : c.len.result ≡ rank q p = let own : c.len.result ≡ length c.loop-p.pairs.items = omega (arith, c.len.ensures, c.loop-p.pairs.ok.0) in own ∙ ap length c.loop-p.invariant.pairs in
+    record {
+      pairs = elim c.if-related.branch [
+        | then-related+in_ok-push-2 w ↦ ap (λ (v : Vec ℕ Global). v.items) w.pairs-is ∙ pairs_taken q p c.loop-p.pairs.items _ (sym told ∙ w.if-related.true) c.loop-p.invariant.pairs w.in_ok-push-2.ensures.items
+        | else-related w ↦ ap (λ (v : Vec ℕ Global). v.items) w.pairs-is ∙ pairs_passed q p c.loop-p.pairs.items (sym told ∙ w.if-related.false) c.loop-p.invariant.pairs
+      ];
+      ranks = ranks_more q p c.loop-p.ranks.items c.push.new.self.items c.len.result c.loop-p.invariant.ranks r c.in_ok-push.ensures.items;
+    }
+
+pub returns-clause-ranks : goal.returns-clause-ranks
+returns-clause-ranks c =
+    ranks_done (related_at (system_of c.args.relation.now.joint)) c.loop-p.p c.loop-p.pairs.items c.loop-p.ranks.items c.loop-p.invariant.pairs c.loop-p.invariant.ranks

@@ -1,0 +1,13 @@
+-- The place among the behaviours is that among their names.
+use Rattle.std.proofs.Common.{rules, tests, sym, ◌∙◌}
+use Rattle.std.specs.Str.{bytes_eq}
+use Rattle.std.proofs.lemmas.Iterator.{YieldsList-from_slice}
+use Rattle.std.proofs.lemmas.Iterator.Search.{position_from_yields_List}
+use Rattle.roman_joint.specs.Names.{beh_name}
+use Rattle.roman_library.proofs.PlaceLemmas.{place_of-map}
+use Rattle.roman_cost.proofs.looks.place_of_behaviour.Goals as goal
+
+pub returns-clause-place : goal.returns-clause-place
+returns-clause-place c =
+    position_from_yields_List (λ b. bytes_eq c.args.name.now (beh_name b)) _ _ _ c.position.ensures.ran (YieldsList-from_slice c.args.catalogue.now cc) (λ x b q k. search (rules, tests))
+    ∙ sym (place_of-map beh_name c.args.catalogue.now c.args.name.now)

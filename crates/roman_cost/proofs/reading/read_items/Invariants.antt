@@ -1,0 +1,16 @@
+use Rattle.std.proofs.Common.{[], map}
+use Rattle.serde_json.specs.View.{items_view}
+use Rattle.roman_read.specs.Items.{each_item}
+use Rattle.roman_read.proofs.Each.{IsLeft}
+use Rattle.roman_joint.specs.Names.{beh_name}
+use Rattle.roman_cost.specs.Costs.{cost_step}
+use Rattle.roman_cost.specs.Tables.{AreOf}
+use Rattle.roman_cost.proofs.reading.read_items.Given as goal
+
+-- the costs so far are of the system, and what is left gives what all items give
+abbrev pub invariant-loop-i : goal.invariant-loop-i
+invariant-loop-i l = record {
+  of : AreOf l.joint l.costs;
+  left : IsLeft (cost_step (map beh_name l.joint.catalogue) l.joint.environment.actions) l.items l.i l.costs.listed
+      (each_item (cost_step (map beh_name l.joint.catalogue) l.joint.environment.actions) 0 [] (items_view l.items));
+}

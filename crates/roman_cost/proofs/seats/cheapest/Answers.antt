@@ -1,0 +1,111 @@
+use Rattle.std.proofs.Common.{◌≡◌, ℕ, Bool, List, Option, Some, ◌<◌, ◌≤◌, length, filter, IsTrue, IsSome, refl, sym, ap, ◌∙◌, subst, arith}
+use Rattle.std.proofs.lemmas.List.{length-map}
+use Rattle.std.proofs.lemmas.Option.{same_Some}
+use Rattle.roman_model.specs.Lists.{IsIn, below}
+use Rattle.roman_model.specs.Numbers.{sizes_of, count, pair_at}
+use Rattle.roman_model.specs.Offers.{is_related, offers}
+use Rattle.roman_model.specs.Plans.{first_least, least, choice, through}
+use Rattle.roman_model.proofs.PlanLemmas.{choice_is}
+use Rattle.roman_model.specs.System.{has, Sys, Pair, is_allowed}
+use Rattle.roman_model.proofs.CompositionLemmas.{related_great}
+use Rattle.roman_model.proofs.NumberLemmas.{numbers_are_pairs}
+use Rattle.roman_model.proofs.OfferLemmas.{related_offers}
+use Rattle.roman_joint.specs.NamedSys.{NamedSys, IsNamedSys, system_of, seat_of}
+use Rattle.roman_generator.proofs.OfferLemmas.{has_in}
+use Rattle.roman_cost.specs.Tables.{seat_costs}
+use Rattle.roman_cost.specs.declared.costs.Listed.{Listed}
+use Rattle.roman_cost.proofs.Best.{best_of, best_of-taken, best_of-passed, best_of-first}
+use Rattle.roman_cost.proofs.OfferedSeats.{offered, offered_ranked, offers_among, cost_by, cost_is, best_is_choice}
+use Rattle.roman_cost.proofs.seats.cheapest.Goals as goal
+use Rattle.roman_cost.proofs.seats.cheapest.Goals.{then-is_set, else-is_set}
+
+-- how many pairs there are, and the pair of a number
+abbrev pairs_of : NamedSys → ℕ
+pairs_of n = count (sizes_of (system_of n))
+
+abbrev at : NamedSys → ℕ → Pair
+at n p = pair_at (sizes_of (system_of n)) p
+
+pub cost_through-cost-requires-clause-ready : goal.cost_through-cost-requires-clause-ready
+cost_through-cost-requires-clause-ready c =
+    let s = system_of c.args.joint.now in
+    let P = pair_at (sizes_of s) c.args.p in
+    let i : IsIn c.loop-k.k (offers s P c.args.a) = has_in (offers s P c.args.a) c.loop-k.k (sym (c.is_set.ensures (has (offers s P c.args.a)) c.requires.offered) ∙ c.if-is_set.true) in
+    (offered s c.args.p c.args.a c.loop-k.k c.known.ensures.system c.requires.pair i).ready
+
+pub cost_through-cost-requires-clause-some : goal.cost_through-cost-requires-clause-some
+cost_through-cost-requires-clause-some c =
+    let s = system_of c.args.joint.now in
+    let P = pair_at (sizes_of s) c.args.p in
+    let i : IsIn c.loop-k.k (offers s P c.args.a) = has_in (offers s P c.args.a) c.loop-k.k (sym (c.is_set.ensures (has (offers s P c.args.a)) c.requires.offered) ∙ c.if-is_set.true) in
+    (offered s c.args.p c.args.a c.loop-k.k c.known.ensures.system c.requires.pair i).some
+
+pub cost_through-cost-requires-clause-ranked : goal.cost_through-cost-requires-clause-ranked
+cost_through-cost-requires-clause-ranked c =
+    let s = system_of c.args.joint.now in
+    let P = pair_at (sizes_of s) c.args.p in
+    let i : IsIn c.loop-k.k (offers s P c.args.a) = has_in (offers s P c.args.a) c.loop-k.k (sym (c.is_set.ensures (has (offers s P c.args.a)) c.requires.offered) ∙ c.if-is_set.true) in
+    offered_ranked s c.args.p c.args.a c.loop-k.k c.args.ranks.now c.args.row.now (offered s c.args.p c.args.a c.loop-k.k c.known.ensures.system c.requires.pair i) c.requires.ranks c.requires.row
+
+pub loop-k-preserved : goal.loop-k-preserved
+loop-k-preserved c =
+    let s = system_of c.args.joint.now in
+    let C = seat_costs c.args.joint.now c.args.costs.now.listed in
+    let test : ℕ → Bool = has (offers s (pair_at (sizes_of s) c.args.p) c.args.a) in
+    let cost : ℕ → ℕ = cost_by s C c.args.ranks.now c.args.row.now c.args.p c.args.a in
+    let told : c.is_set.result ≡ test c.loop-k.k = c.is_set.ensures test c.requires.offered in
+    elim c.if-is_set.branch [
+      | then-is_set w ↦
+          w.best-is ∙ best_of-taken cost test c.loop-k.k w.cost_through-cost.result c.loop-k.best w.better-best.result (sym told ∙ w.if-is_set.true) c.loop-k.invariant
+          w.cost_through-cost.ensures w.better-best.ensures
+      | else-is_set w ↦ w.best-is ∙ best_of-passed cost test c.loop-k.k c.loop-k.best (sym told ∙ w.if-is_set.false) c.loop-k.invariant
+    ]
+
+-- the best of all offered seats
+whole : (n : NamedSys) (listed : List Listed) (ranks row : List ℕ) (p a k count : ℕ) (best : Option (ℕ × ℕ)) → IsNamedSys n → p < pairs_of n → IsTrue (is_related (system_of n) (at n p)) →
+    IsTrue (is_allowed (system_of n) (at n p) a) → count ≡ length n.seats → k ≤ count → count ≤ k →
+    best ≡ best_of (cost_by (system_of n) (seat_costs n listed) ranks row p a) (filter (has (offers (system_of n) (at n p) a)) (below k)) →
+    best ≡ Some (
+      first_least (cost_by (system_of n) (seat_costs n listed) ranks row p a) (offers (system_of n) (at n p) a),
+      cost_by (system_of n) (seat_costs n listed) ranks row p a (first_least (cost_by (system_of n) (seat_costs n listed) ranks row p a) (offers (system_of n) (at n p) a)),
+    )
+whole n listed ranks row p a k count best known l related allowed long up down is =
+    let s : Sys = system_of n in
+    let pair = (numbers_are_pairs s).pair p l in
+    let end : k ≡ length s.seats = let here : k ≡ count = omega arith in here ∙ long ∙ sym (length-map n.seats (seat_of n.catalogue)) in
+    is ∙ ap (λ m. best_of (cost_by s (seat_costs n listed) ranks row p a) (filter (has (offers s (at n p) a)) (below m))) end
+    ∙ ap (best_of (cost_by s (seat_costs n listed) ranks row p a)) (offers_among s (at n p) a allowed)
+    ∙ best_of-first (cost_by s (seat_costs n listed) ranks row p a) (offers s (at n p) a) (related_offers s (at n p) a known.system (related_great s (at n p) known.system pair related) allowed)
+
+pub unwrap-requires : goal.unwrap-requires
+unwrap-requires c =
+    subst IsSome (sym (whole c.args.joint.now c.args.costs.now.listed c.args.ranks.now c.args.row.now c.args.p c.args.a c.loop-k.k c.seats-k-end.result c.loop-k.best
+    c.known.ensures c.requires.pair c.requires.related c.requires.allowed c.seats-k-end.ensures.count c.loop-k.auto.k-end c.loop-k-test.false c.loop-k.invariant)) refl
+
+pub returns-clause-seat : goal.returns-clause-seat
+returns-clause-seat c = λ h is.
+    let n = c.args.joint.now in
+    let s = system_of n in
+    let C = seat_costs n c.args.costs.now.listed in
+    let best = whole n c.args.costs.now.listed c.args.ranks.now c.args.row.now c.args.p c.args.a c.loop-k.k c.seats-k-end.result c.loop-k.best
+    c.known.ensures c.requires.pair c.requires.related c.requires.allowed c.seats-k-end.ensures.count c.loop-k.auto.k-end c.loop-k-test.false c.loop-k.invariant in
+    ap (λ (x : ℕ × ℕ). x.0) (same_Some c.unwrap.result _ (sym c.unwrap.ensures ∙ best))
+    ∙ best_is_choice s C c.args.ranks.now c.args.row.now c.args.p c.args.a h c.known.ensures.system c.requires.pair c.requires.ranks is
+
+pub returns-clause-sum : goal.returns-clause-sum
+returns-clause-sum c = λ h is.
+    let n = c.args.joint.now in
+    let s = system_of n in
+    let C = seat_costs n c.args.costs.now.listed in
+    let P = at n c.args.p in
+    let cost : ℕ → ℕ = cost_by s C c.args.ranks.now c.args.row.now c.args.p c.args.a in
+    let best = whole n c.args.costs.now.listed c.args.ranks.now c.args.row.now c.args.p c.args.a c.loop-k.k c.seats-k-end.result c.loop-k.best
+    c.known.ensures c.requires.pair c.requires.related c.requires.allowed c.seats-k-end.ensures.count c.loop-k.auto.k-end c.loop-k-test.false c.loop-k.invariant in
+    let is_best = same_Some c.unwrap.result _ (sym c.unwrap.ensures ∙ best) in
+    let first : first_least cost (offers s P c.args.a) ≡ choice s C h P c.args.a =
+    best_is_choice s C c.args.ranks.now c.args.row.now c.args.p c.args.a h c.known.ensures.system c.requires.pair c.requires.ranks is in
+    let pair = (numbers_are_pairs s).pair c.args.p c.requires.pair in
+    let chosen = choice_is s C h P c.args.a c.known.ensures.system (related_great s P c.known.ensures.system pair c.requires.related) c.requires.allowed in
+    ap (λ (x : ℕ × ℕ). x.1) is_best ∙ ap cost first
+    ∙ cost_is s C c.args.ranks.now c.args.row.now c.args.p c.args.a (choice s C h P c.args.a) h c.known.ensures.system c.requires.pair c.requires.ranks is chosen.offered
+    ∙ ap (through s C (least s C h) P c.args.a) (sym first ∙ sym (ap (λ (x : ℕ × ℕ). x.0) is_best))

@@ -1,0 +1,26 @@
+use Rattle.std.proofs.Common.{◌+◌, ◌++◌, suc, refl, sym, ap, ◌∙◌, subst, arith, add-one}
+use Rattle.std.specs.List.{flat_map}
+use Rattle.roman_cost.specs.AdviceText.{value_lines, certificate_text}
+use Rattle.roman_text.proofs.Filling.{fill_behind, fill_same, fill_more, fill_failed, fill_end}
+use Rattle.roman_cost.proofs.Lines.{next_row, no_row}
+use Rattle.roman_cost.proofs.writing.push_values.Goals as goal
+
+pub loop-h-init : goal.loop-h-init
+loop-h-init g c = record { filling = λ s C says. fill_behind _ _ _ _ refl; cause = refl }
+
+pub returns-in-Err-clause-gathers : goal.returns-in-Err-clause-gathers
+returns-in-Err-clause-gathers g c = λ s C says.
+    let next = next_row s C c.args.advice.now.requests c.loop-h.h (omega arith) in
+    (fill_failed _ _ _ _ _ _ _ (fill_same _ _ _ _ _ _ next (c.loop-h.invariant.filling s C says)) (c.in-Err.ensures.gathers s C says).0, (c.in-Err.ensures.gathers s C says).1)
+
+pub loop-h-preserved : goal.loop-h-preserved
+loop-h-preserved g c = record {
+  filling = λ s C says.
+      let next = next_row s C c.args.advice.now.requests c.loop-h.h (omega arith) in
+      fill_more _ _ _ _ _ _ _ _ (fill_same _ _ _ _ _ _ next (c.loop-h.invariant.filling s C says)) (c.in_default.ensures.gathers s C says);
+  cause = c.in_default.ensures.cause.stays ∙ c.loop-h.invariant.cause;
+}
+
+pub returns-clause-gathers : goal.returns-clause-gathers
+returns-clause-gathers g c = λ s C says.
+    fill_end _ _ _ _ (fill_same _ _ _ _ _ _ (no_row s C c.args.advice.now.requests c.loop-h.h (omega arith)) (c.loop-h.invariant.filling s C says))

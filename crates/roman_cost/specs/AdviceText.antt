@@ -1,0 +1,60 @@
+-- The text of advice: what requests cost at worst at a pair, the service to take for each of them, and all values.
+use Rattle.std.specs.Prelude.{ℕ, suc, ◌-◌, ◌*◌, List, ◌++◌, map, nat_lt, codes, decimal, if◌then◌else◌}
+use Rattle.std.specs.List.{flat_map}
+use Rattle.roman_model.specs.Explanation.{name_at}
+use Rattle.roman_model.specs.Lists.{below}
+use Rattle.roman_model.specs.Offers.{is_related, related_count}
+use Rattle.roman_model.specs.Plans.{Costs, allowed_actions, least, least_at, choice, through}
+use Rattle.roman_model.specs.System.{Sys, Pair}
+use Rattle.roman_joint.specs.NamedSys.{NamedSys, system_of}
+use Rattle.roman_joint.specs.Names.{seat_name}
+use Rattle.roman_cost.specs.Advised.{related_pairs}
+use Rattle.roman_cost.specs.Tables.{seat_costs}
+use Rattle.roman_cost.specs.declared.costs.Listed.{Listed}
+use Rattle.roman_cost.specs.declared.limits.TheConstants.{MAX_VALUES}
+
+-- `worst W`
+abbrev pub worst_line : ℕ → List ℕ
+worst_line value = codes "worst " ++ decimal value ++ codes "\n"
+
+-- `for A: S W`
+abbrev pub service_text : List ℕ → List ℕ → ℕ → List ℕ
+service_text action service cost = codes "for " ++ action ++ codes ": " ++ service ++ codes " " ++ decimal cost ++ codes "\n"
+
+-- the line of an action at a pair: the service to take, and what that costs, where h requests follow
+abbrev pub choice_line : NamedSys → Costs → ℕ → Pair → ℕ → List ℕ
+choice_line n C h p a =
+    let k = choice (system_of n) C h p a in
+    service_text (name_at n.environment.actions a) (name_at (map seat_name n.seats) k) (through (system_of n) C (least (system_of n) C h) p a k)
+
+-- `value H P W`
+abbrev pub value_line : ℕ → ℕ → ℕ → List ℕ
+value_line h p value = codes "value " ++ decimal h ++ codes " " ++ decimal p ++ codes " " ++ decimal value ++ codes "\n"
+
+-- the values of so many requests, at each related pair
+abbrev pub value_lines : Sys → Costs → ℕ → List ℕ
+value_lines s C h = flat_map (λ p. value_line h p (least_at s C h p)) (related_pairs s)
+
+-- the certificate: the values of 1 to so many requests
+abbrev pub certificate_text : Sys → Costs → ℕ → List ℕ
+certificate_text s C requests = flat_map (λ h. value_lines s C (suc h)) (below requests)
+
+-- advice for so many requests, from a related pair on
+unfoldable pub advice_text : NamedSys → List Listed → ℕ → Pair → List ℕ
+advice_text n listed requests p =
+    let s = system_of n in
+    let C = seat_costs n listed in
+    worst_line (least s C requests p) ++ flat_map (choice_line n C (requests - 1) p) (allowed_actions s p) ++ certificate_text s C requests ++ codes "end\n"
+
+-- what a request for advice comes to: the pair isn't related, there are too many values, or the text
+pub data Advising : Type 0 where
+  Unrelated : Advising
+  TooMany : Advising
+  Told : (text : List ℕ) → Advising
+
+-- by costs that were read
+abbrev pub advised_by : NamedSys → List Listed → ℕ → Pair → Advising
+advised_by n listed requests p =
+    if is_related (system_of n) p
+    then (if nat_lt MAX_VALUES (related_count (system_of n) * requests) then TooMany else Told (advice_text n listed requests p))
+    else Unrelated

@@ -1,0 +1,42 @@
+-- What advice says of a system: the least that so many requests cost at worst at each related pair.
+use Rattle.std.specs.Prelude.{◌≡◌, ℕ, suc, ◌<◌, ◌≤◌, ◌*◌, List, map, length, slice_index}
+use Rattle.std.specs.List.{filter, flat_map}
+use Rattle.roman_model.specs.Lists.{IsIn, below}
+use Rattle.roman_model.specs.System.{Sys}
+use Rattle.roman_model.specs.Numbers.{sizes_of, count, pair_at}
+use Rattle.roman_model.specs.Offers.{is_related}
+use Rattle.roman_model.specs.Plans.{Costs, least_at}
+use Rattle.roman_cost.specs.declared.limits.TheConstants.{MAX_REQUESTS}
+use Rattle.roman_cost.specs.Filling.{AreSmall}
+
+-- the numbers of the related pairs, rising
+abbrev pub related_pairs : Sys → List ℕ
+related_pairs s = filter (λ p. is_related s (pair_at (sizes_of s) p)) (below (count (sizes_of s)))
+
+-- for each number of requests below n a row of what they cost at worst, at each of the pairs
+abbrev pub value_rows : Sys → Costs → List ℕ → ℕ → List ℕ
+value_rows s C pairs n = flat_map (λ h. map (least_at s C h) pairs) (below n)
+
+-- advice: the greatest number of requests, the pairs, and a row of values for each number of requests from 0 on
+pub record AdviceTable : Type 0 where
+  pub requests : ℕ
+  pub pairs : List ℕ
+  pub values : List ℕ
+
+-- the pairs are those that are related, and the values are what requests cost there at worst
+pub record Advises (s : Sys) (C : Costs) (table : AdviceTable) : Type 0 where
+  pub pairs : table.pairs ≡ related_pairs s
+  pub values : table.values ≡ value_rows s C table.pairs (suc table.requests)
+
+-- each of the pairs stands among them at its rank
+pub record AreRanks (pairs ranks : List ℕ) : Type 0 where
+  pub within : (p : ℕ) → IsIn p pairs → p < length ranks
+  pub below : (p : ℕ) → IsIn p pairs → slice_index ranks p < length pairs
+  pub at : (p : ℕ) → IsIn p pairs → slice_index pairs (slice_index ranks p) ≡ p
+
+-- the pairs have ranks, and each row a value for each of them
+pub record HasRanks (requests : ℕ) (pairs places values : List ℕ) : Type 0 where
+  pub few : requests ≤ MAX_REQUESTS
+  pub ranks : AreRanks pairs places
+  pub len : length values ≡ suc requests * length pairs
+  pub small : AreSmall values

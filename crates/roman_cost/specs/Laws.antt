@@ -1,0 +1,42 @@
+-- What the text of advice says, by the greatest ND-simulation and by plans alone.
+use Rattle.std.specs.Prelude.{◌≡◌, ℕ, suc, ◌-◌, ◌<◌, ◌≤◌, ◌↔◌, List, ◌++◌, map, codes, IsTrue}
+use Rattle.std.specs.List.{flat_map}
+use Rattle.roman_model.specs.Composition.{Great}
+use Rattle.roman_model.specs.Explanation.{name_at}
+use Rattle.roman_model.specs.Lists.{IsIn, below}
+use Rattle.roman_model.specs.Numbers.{sizes_of, count, number, pair_at}
+use Rattle.roman_model.specs.Plans.{Costs, Plan, IsPlan, IsChoice, worst, allowed_actions}
+use Rattle.roman_model.specs.System.{Sys, Pair, IsSys, IsPair, is_allowed}
+use Rattle.roman_joint.specs.NamedSys.{NamedSys, system_of}
+use Rattle.roman_joint.specs.Names.{seat_name}
+use Rattle.roman_cost.specs.AdviceText.{worst_line, service_text, value_line, advice_text}
+use Rattle.roman_cost.specs.Tables.{seat_costs}
+use Rattle.roman_cost.specs.declared.costs.Listed.{Listed}
+
+-- so many requests cost that at worst: some plan has that worst cost, and no plan has less
+pub record IsLeastCost (s : Sys) (C : Costs) (h : ℕ) (p : Pair) (value : ℕ) : Type 0 where
+  pub plan : Plan
+  pub is : IsPlan s h p plan
+  pub cost : worst s C p plan ≡ value
+  pub none_less : (other : Plan) → IsPlan s h p other → value ≤ worst s C p other
+
+-- a text names the value of the pair itself, a seat and its cost for each action that is allowed, and all values at the
+-- related pairs; the values are least costs, the seats are choices, and what a seat costs is what it costs with them
+pub record TellsLeast (n : NamedSys) (C : Costs) (requests : ℕ) (p : Pair) (text : List ℕ) : Type 0 where
+  pub value : ℕ → ℕ → ℕ
+  pub seat : ℕ → ℕ
+  pub cost : ℕ → ℕ
+  pub pairs : List ℕ
+  pub related : (q : ℕ) → IsIn q pairs ↔ (q < count (sizes_of (system_of n))) × Great (system_of n) (pair_at (sizes_of (system_of n)) q)
+  pub least : (h q : ℕ) → IsIn q pairs → IsLeastCost (system_of n) C h (pair_at (sizes_of (system_of n)) q) (value h q)
+  pub choice : (a : ℕ) → IsTrue (is_allowed (system_of n) p a) → IsChoice (system_of n) C (requests - 1) p a (seat a)
+  pub says : text
+      ≡ worst_line (value requests (number (sizes_of (system_of n)) p))
+      ++ flat_map (λ a. service_text (name_at n.environment.actions a) (name_at (map seat_name n.seats) (seat a)) (cost a)) (allowed_actions (system_of n) p)
+      ++ flat_map (λ h. flat_map (λ q. value_line (suc h) q (value (suc h) q)) pairs) (below requests)
+      ++ codes "end\n"
+
+-- advice at a related pair tells least costs
+abbrev pub AdviceIsLeast : Type 0
+AdviceIsLeast = (n : NamedSys) (listed : List Listed) (requests : ℕ) (p : Pair) → IsSys (system_of n) → IsPair (system_of n) p → Great (system_of n) p →
+    TellsLeast n (seat_costs n listed) requests p (advice_text n listed requests p)

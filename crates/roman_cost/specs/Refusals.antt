@@ -1,0 +1,43 @@
+-- The answers that name the first broken rule of a text of costs.
+use Rattle.std.specs.Prelude.{◌≡◌, ℕ, Bool, true, false, Result, Ok, Err}
+use Rattle.roman_io.specs.Faults.{Rose}
+use Rattle.roman_parts.specs.declared.error.List.{List as Place}
+use Rattle.roman_parts.specs.declared.error.List.TheVariants as list
+use Rattle.roman_parts.specs.declared.error.PartError.{PartError}
+use Rattle.roman_parts.specs.declared.error.PartError.TheVariants as part_error
+use Rattle.roman_cost.specs.declared.error.CostError.{CostError}
+use Rattle.roman_cost.specs.declared.error.CostError.TheVariants as error
+
+-- where a rule is broken: by the text as a whole, or by an item
+abbrev pub place_of_rule : Bool → Place
+place_of_rule true = list.Whole
+place_of_rule false = list.Steps
+
+-- a refusal is the one that the definition gives; a fault and want of memory say nothing of it
+abbrev pub Stops : {Y : Type 0} → CostError → Result Y PartError → Type 0
+Stops error.Fault reading = Unit {0}
+Stops (error.Refused kind whole index) reading = reading ≡ Err (part_error.Refused kind (place_of_rule whole) index)
+Stops error.Memory reading = Unit {0}
+
+-- what the code reads, seen through a view, is what the definition gives, and so is what it refuses
+abbrev pub Reads : {X Y : Type 0} → (X → Y) → Result X CostError → Result Y PartError → Type 0
+Reads view (Ok x) reading = reading ≡ Ok (view x)
+Reads view (Err e) reading = Stops e reading
+
+-- a count of faults rose where the error is a fault, and stayed elsewhere
+abbrev pub IsCause : ℕ → ℕ → CostError → Type 0
+IsCause old new error.Fault = Rose old new
+IsCause old new (error.Refused kind whole index) = new ≡ old
+IsCause old new error.Memory = new ≡ old
+
+-- so it did where the answer is an error, and it stayed where it is none
+abbrev pub Caused : {T : Type 0} → ℕ → ℕ → Result T CostError → Type 0
+Caused old new (Ok x) = new ≡ old
+Caused old new (Err e) = IsCause old new e
+
+-- no fault is answered
+abbrev pub IsQuiet : {T : Type 0} → Result T CostError → Type 0
+IsQuiet (Ok x) = Unit {0}
+IsQuiet (Err error.Fault) = ⊥
+IsQuiet (Err (error.Refused kind whole index)) = Unit {0}
+IsQuiet (Err error.Memory) = Unit {0}

@@ -1,0 +1,149 @@
+//! Advice: the least that requests cost at worst.
+ghost use Rattle.std.specs.Prelude.{◌≡◌, ℕ, suc, ◌+◌, ◌-◌, ◌*◌, ◌<◌, ◌≤◌, ◌↔◌, length, Err, IfOk, IsTrue};
+ghost use Rattle.roman_model.specs.Lists.{IsIn};
+ghost use Rattle.roman_model.specs.System.{Sys, is_allowed};
+ghost use Rattle.roman_model.specs.Numbers.{sizes_of, count, pair_at};
+ghost use Rattle.roman_model.specs.Offers.{is_related, related_count};
+ghost use Rattle.roman_model.specs.Plans.{Costs, least, least_at, choice, through};
+ghost use Rattle.roman_model.specs.Plans as plans;
+ghost use Rattle.roman_joint.specs.NamedSys.{system_of};
+ghost use Rattle.roman_relation.specs.Greatest.{IsRelation};
+ghost use Rattle.roman_cost.specs.Advised.{Advises};
+ghost use Rattle.roman_cost.specs.Tables.{seat_costs, AreOf};
+ghost use Rattle.roman_cost.specs.declared.error.AdviceError.TheVariants as error;
+
+use crate::costs::Costs;
+use crate::error::AdviceError;
+use crate::filling::{push_row, ranked_pairs, row_of};
+use crate::limits::{MAX_REQUESTS, MAX_VALUES};
+use crate::offering::offered_seats;
+use crate::seats::cheapest;
+use roman_generator::offers;
+use roman_relation::Relation;
+use std::alloc::Global;
+use std::marker::Model;
+
+/// For each number of requests up to a greatest, and for each related pair, the least that they cost
+/// there at worst. Contracts see the greatest number, the pairs, and the rows of values one behind
+/// another, the first for no request.
+#[derive(Drop)]
+pub struct Advice {
+    requests: u8,
+    pairs: Vec<u32>,
+    // For each pair of the system how many related pairs come before it.
+    ranks: Vec<u32>,
+    values: Vec<u32>,
+}
+
+impl Model for Advice {
+    ghost use Rattle.std.specs.Prelude.{◌≡◌, ◌+◌, ◌*◌, ◌≤◌, length};
+    ghost use Rattle.roman_cost.specs.Advised.{AdviceTable, HasRanks};
+
+    ghost Value = { AdviceTable };
+
+    ghost view = { λ a. record {
+      requests = a.requests;
+      pairs = a.pairs.items;
+      values = a.values.items;
+    } };
+
+    ghost invariant = { λ a. HasRanks a.requests a.pairs.items a.ranks.items a.values.items };
+}
+
+impl Advice {
+    /// Advice for up to `h` requests, from 1 to [`MAX_REQUESTS`], by costs that were read for the
+    /// relation's system.
+    ///
+    /// `Limit` comes exactly where the related pairs times `h` are more than [`MAX_VALUES`], before
+    /// any memory is taken.
+    pub fn build(
+        alloc: Global,
+        relation: &Relation,
+        costs: &Costs,
+        h: u8,
+    ) -> Result<Advice, AdviceError>
+        requires relation { IsRelation relation.now.joint relation.now.order }
+        requires costs { AreOf relation.now.joint costs.now }
+        requires requests { (0 < h) × (h ≤ MAX_REQUESTS) }
+        ensures limit { (result ≡ Err error.Limit) ↔ (MAX_VALUES < related_count (system_of relation.now.joint) * h) }
+        ensures requests { IfOk result (λ advice. advice.requests ≡ h) }
+        ensures advises { IfOk result
+            (Advises (system_of relation.now.joint) (seat_costs relation.now.joint costs.now.listed)) }
+    {
+        costs.known();
+        let count = relation.count();
+        if u64::from(count) * u64::from(h) > u64::from(MAX_VALUES) {
+            return Err(AdviceError::Limit);
+        }
+        let (pairs, ranks) = ranked_pairs(alloc, relation, count as usize)?;
+        let mut values = Vec::with_capacity(alloc, count as usize * (h as usize + 1))?;
+        values.resize(pairs.len(), 0)?;
+        let offered = offered_seats(alloc, relation, &pairs)?;
+        for done in 0..h {
+            push_row(
+                &mut values,
+                &relation.joint,
+                costs,
+                &pairs,
+                &ranks,
+                &offered,
+                done,
+            )?;
+        }
+        Ok(Advice {
+            requests: h,
+            pairs,
+            ranks,
+            values,
+        })
+    }
+
+    /// The greatest number of requests: the one for which it was built.
+    pub fn requests(&self) -> u8
+        ensures { result ≡ self.now.requests }
+    {
+        self.requests
+    }
+
+    /// The related pairs, rising.
+    pub fn pairs(&self) -> &[u32]
+        ensures { result.now ≡ self.now.pairs }
+    {
+        &self.pairs
+    }
+
+    /// The least that `h` requests cost at worst at a related pair `p`, for `h` up to the number that
+    /// was built.
+    pub fn value(&self, h: u8, p: u32) -> u32
+        requires requests { h ≤ self.now.requests }
+        requires related { IsIn p self.now.pairs }
+        ensures { (s : Sys) (C : plans.Costs) → Advises s C self.now → result ≡ least_at s C h p }
+    {
+        let rank = self.ranks[p as usize];
+        self.values[h as usize * self.pairs.len() + rank as usize]
+    }
+
+    /// The least of the services that may be offered for action `a` at a related pair `p` through
+    /// which it costs least, with `h - 1` requests after it, and that cost. The relation and the
+    /// costs are those of [`build`](Advice::build).
+    pub fn choice(&self, relation: &Relation, costs: &Costs, h: u8, p: u32, a: u8) -> (u8, u32)
+        requires relation { IsRelation relation.now.joint relation.now.order }
+        requires costs { AreOf relation.now.joint costs.now }
+        requires advises { Advises (system_of relation.now.joint) (seat_costs relation.now.joint costs.now.listed) self.now }
+        requires requests { (0 < h) × (h ≤ self.now.requests) }
+        requires pair { p < count (sizes_of (system_of relation.now.joint)) }
+        requires related { IsTrue (is_related (system_of relation.now.joint) (pair_at (sizes_of (system_of relation.now.joint)) p)) }
+        requires allowed { IsTrue (is_allowed (system_of relation.now.joint) (pair_at (sizes_of (system_of relation.now.joint)) p) a) }
+        ensures seat { let s = system_of relation.now.joint in
+            let C = seat_costs relation.now.joint costs.now.listed in
+            result.0 ≡ choice s C (h - 1) (pair_at (sizes_of s) p) a }
+        ensures sum { let s = system_of relation.now.joint in
+            let C = seat_costs relation.now.joint costs.now.listed in
+            result.1 ≡ through s C (least s C (h - 1)) (pair_at (sizes_of s) p) a result.0 }
+    {
+        costs.known();
+        let row = row_of(&self.values, (h - 1) as usize, self.pairs.len());
+        let offered = offers(relation, p, a);
+        cheapest(&relation.joint, costs, &self.ranks, row, p, a, offered)
+    }
+}

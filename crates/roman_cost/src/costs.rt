@@ -1,0 +1,111 @@
+//! What behaviours cost for actions.
+ghost use Rattle.std.specs.Prelude.{◌≡◌, ◌<◌, ◌≤◌, [], ◌∷◌, ◌++◌, is_some, All, IfOk, OnOk, None};
+ghost use Rattle.roman_model.specs.declared.limits.TheConstants.{MAX_BEHAVIOURS, MAX_ACTIONS};
+ghost use Rattle.roman_cost.specs.Tables.{CostTable, listed_cost, cost_of};
+
+use crate::limits::MAX_COST;
+use std::alloc::{AllocError, Global};
+use std::marker::Model;
+
+/// An item of a text of costs: what a behaviour costs for an action.
+#[derive(Clone, Copy, Debug, PartialEq, Eq)]
+pub struct Listed {
+    /// The place of the behaviour in the catalogue.
+    pub behaviour: u8,
+    /// The number of the action.
+    pub action: u8,
+    /// The cost, at most [`MAX_COST`].
+    pub cost: u32,
+}
+
+/// What the behaviours of a catalogue cost for actions. Contracts see what is listed, in its order,
+/// and of how many behaviours and actions.
+#[derive(Drop)]
+pub struct Costs {
+    behaviours: usize,
+    actions: usize,
+    listed: Vec<Listed>,
+    // By behaviour and then by action: one more than the cost, 0 where none is listed.
+    cells: Vec<u32>,
+}
+
+impl Model for Costs {
+    ghost use Rattle.roman_cost.specs.Tables.{CostTable, HasCells};
+
+    ghost Value = { CostTable };
+
+    ghost view = { λ c. record {
+      behaviours = c.behaviours;
+      actions = c.actions;
+      listed = c.listed.items;
+    } };
+
+    ghost invariant = { λ c. HasCells (record {
+      behaviours = c.behaviours;
+      actions = c.actions;
+      listed = c.listed.items;
+    }) c.cells.items };
+}
+
+impl Costs {
+    /// Costs of so many behaviours and actions, with room for some that are listed: none is yet.
+    pub(crate) fn none(
+        alloc: Global,
+        behaviours: usize,
+        actions: usize,
+        room: usize,
+    ) -> Result<Costs, AllocError>
+        requires behaviours { behaviours ≤ MAX_BEHAVIOURS }
+        requires actions { actions ≤ MAX_ACTIONS }
+        ensures none { IfOk result
+            (λ costs. costs ≡ record { behaviours = behaviours; actions = actions; listed = [] }) }
+    {
+        let listed = Vec::with_capacity(alloc, room)?;
+        let cells = Vec::from_elem(alloc, 0, behaviours * actions)?;
+        Ok(Costs {
+            behaviours,
+            actions,
+            listed,
+            cells,
+        })
+    }
+
+    /// Whether a cost is listed for a behaviour and an action.
+    pub(crate) fn has(&self, behaviour: u8, a: u8) -> bool
+        requires behaviour { behaviour < self.now.behaviours }
+        requires action { a < self.now.actions }
+        ensures { result ≡ is_some (listed_cost self.now.listed behaviour a) }
+    {
+        self.cells[behaviour as usize * self.actions + a as usize] != 0
+    }
+
+    /// Lists a cost behind the others, none of which is for the same behaviour and action.
+    pub(crate) fn put(&mut self, item: Listed) -> Result<(), AllocError>
+        requires behaviour { item.behaviour < self.old.behaviours }
+        requires action { item.action < self.old.actions }
+        requires small { item.cost ≤ MAX_COST }
+        requires new { listed_cost self.old.listed item.behaviour item.action ≡ None }
+        ensures put { OnOk result (self.new ≡ record self.old { listed = self.old.listed ++ item ∷ [] }) }
+    {
+        self.listed.push(item)?;
+        self.cells[item.behaviour as usize * self.actions + item.action as usize] = item.cost + 1;
+        Ok(())
+    }
+
+    /// Says what holds of all costs: none is greater than [`MAX_COST`].
+    pub fn known(&self)
+        ensures { All (λ x. x.cost ≤ MAX_COST) self.now.listed }
+    {
+        let _listed = &self.listed;
+    }
+
+    /// What a behaviour costs for an action: what is listed for both, else 0.
+    pub fn cost(&self, behaviour: u8, a: u8) -> u32
+        requires behaviour { behaviour < self.now.behaviours }
+        requires action { a < self.now.actions }
+        ensures cost { result ≡ cost_of self.now.listed behaviour a }
+        ensures small { result ≤ MAX_COST }
+    {
+        self.cells[behaviour as usize * self.actions + a as usize].saturating_sub(1)
+    }
+}

@@ -1,0 +1,98 @@
+//! Why costs aren't read, and why no advice is built.
+ghost use Rattle.std.specs.Prelude.{◌≡◌};
+ghost use Rattle.roman_cost.specs.Errors.{cost_error_number, advice_error_number};
+ghost use Rattle.roman_cost.specs.declared.error.CostError.TheVariants as cost;
+ghost use Rattle.roman_cost.specs.declared.error.AdviceError.TheVariants as advice;
+
+use roman_read::Kind;
+use std::alloc::{AllocError, AllocFailed};
+use thiserror::Error;
+
+/// Why a text gives no costs.
+#[derive(Clone, Copy, Debug, PartialEq, Eq, Error)]
+pub enum CostError {
+    /// The shelf failed.
+    #[error("the shelf failed")]
+    Fault,
+    /// The text breaks a rule, and none before it in the order in which it is read.
+    #[error("a rule of costs is broken at item {index}")]
+    Refused {
+        /// The rule.
+        kind: Kind,
+        /// Whether the text as a whole breaks it. Else one of its items does.
+        whole: bool,
+        /// The number of that item, from 0; 0 for the whole.
+        index: u32,
+    },
+    /// There is no memory.
+    #[error("there is no memory")]
+    Memory,
+}
+
+impl CostError {
+    /// The error's number, from 1 to 3 in the order of the variants.
+    pub fn number(&self) -> u8
+        ensures number { result ≡ cost_error_number self.now }
+    {
+        match self {
+            CostError::Fault => 1,
+            CostError::Refused { .. } => 2,
+            CostError::Memory => 3,
+        }
+    }
+}
+
+impl From<AllocError> for CostError {
+    ghost from_gives = { λ _ error. error ≡ cost.Memory };
+
+    fn from(_error: AllocError) -> CostError {
+        CostError::Memory
+    }
+}
+
+impl<T: Drop> From<AllocFailed<T>> for CostError {
+    ghost from_gives = { λ _ error. error ≡ cost.Memory };
+
+    fn from(_error: AllocFailed<T>) -> CostError {
+        CostError::Memory
+    }
+}
+
+/// Why there is no advice.
+#[derive(Clone, Copy, Debug, PartialEq, Eq, Error)]
+pub enum AdviceError {
+    /// There are more related pairs times requests than [`MAX_VALUES`](crate::MAX_VALUES).
+    #[error("there are too many values")]
+    Limit,
+    /// There is no memory.
+    #[error("there is no memory")]
+    Memory,
+}
+
+impl AdviceError {
+    /// The error's number: 1 for `Limit` and 2 for `Memory`.
+    pub fn number(&self) -> u8
+        ensures number { result ≡ advice_error_number self.now }
+    {
+        match self {
+            AdviceError::Limit => 1,
+            AdviceError::Memory => 2,
+        }
+    }
+}
+
+impl From<AllocError> for AdviceError {
+    ghost from_gives = { λ _ error. error ≡ advice.Memory };
+
+    fn from(_error: AllocError) -> AdviceError {
+        AdviceError::Memory
+    }
+}
+
+impl<T: Drop> From<AllocFailed<T>> for AdviceError {
+    ghost from_gives = { λ _ error. error ≡ advice.Memory };
+
+    fn from(_error: AllocFailed<T>) -> AdviceError {
+        AdviceError::Memory
+    }
+}

@@ -1,0 +1,120 @@
+//! Looks into a text of costs, with the refusal of what is missed.
+ghost use Rattle.std.specs.Prelude.{◌≡◌, ◌<◌, true, false, map, length, IfOk, IfSome};
+ghost use Rattle.serde_json.specs.View.{view, items_view};
+ghost use Rattle.roman_read.specs.Json.{list_of, text_of, number_of};
+ghost use Rattle.roman_read.specs.Names.{place_of};
+ghost use Rattle.roman_read.specs.declared.rules.Kind.TheVariants.{Form};
+ghost use Rattle.roman_parts.specs.Lists.{place_in};
+ghost use Rattle.roman_parts.specs.Reading.{looked};
+ghost use Rattle.roman_parts.specs.declared.error.List.TheVariants as list;
+ghost use Rattle.roman_joint.specs.Names.{beh_name};
+ghost use Rattle.roman_cost.specs.Refusals.{Reads, IsQuiet, place_of_rule};
+ghost use Rattle.roman_cost.specs.declared.error.CostError.TheVariants.{Refused};
+
+use crate::error::CostError;
+use roman_parts::Behaviour;
+use roman_read::{Kind, NameTable, list, number, text};
+use serde_json::Value;
+
+/// The refusal of the text as a whole.
+pub(crate) fn refused(kind: Kind) -> CostError
+    ensures { result ≡ Refused kind true 0 }
+{
+    CostError::Refused {
+        kind,
+        whole: true,
+        index: 0,
+    }
+}
+
+/// The refusal of an item.
+pub(crate) fn refused_at(kind: Kind, index: u32) -> CostError
+    ensures { result ≡ Refused kind false index }
+{
+    CostError::Refused {
+        kind,
+        whole: false,
+        index,
+    }
+}
+
+/// The items of a list that the text is.
+pub(crate) fn items_of(v: &Value) -> Result<&[Value], CostError>
+    ensures items { Reads (λ x. items_view x.now) result (looked list.Whole 0 (list_of (view v.now))) }
+    ensures quiet { IsQuiet result }
+{
+    match list(v) {
+        Ok(items) => Ok(items),
+        Err(_) => Err(refused(Kind::Form)),
+    }
+}
+
+/// The parts of an item.
+pub(crate) fn parts_of(v: &Value, index: u32) -> Result<&[Value], CostError>
+    ensures parts { Reads (λ x. items_view x.now) result (looked list.Steps index (list_of (view v.now))) }
+    ensures quiet { IsQuiet result }
+{
+    match list(v) {
+        Ok(items) => Ok(items),
+        Err(_) => Err(refused_at(Kind::Form, index)),
+    }
+}
+
+/// A number of an item.
+pub(crate) fn number_at(v: &Value, index: u32) -> Result<u64, CostError>
+    ensures number { Reads (λ x. x) result (looked list.Steps index (number_of (view v.now))) }
+    ensures quiet { IsQuiet result }
+{
+    match number(v) {
+        Ok(found) => Ok(found),
+        Err(_) => Err(refused_at(Kind::Form, index)),
+    }
+}
+
+#[tactic(auto, unfolding(roman_parts::specs::Lists::place_in))]
+/// The place of the behaviour that an item names.
+pub(crate) fn behaviour_at(
+    catalogue: &[Behaviour],
+    v: &Value,
+    index: u32,
+) -> Result<usize, CostError>
+    ensures place { Reads (λ x. x) result (place_in (map beh_name catalogue.now) list.Steps index (view v.now)) }
+    ensures within { IfOk result (λ place. place < length catalogue.now) }
+    ensures quiet { IsQuiet result }
+{
+    let text = match text(v) {
+        Ok(text) => text,
+        Err(_) => return Err(refused_at(Kind::Form, index)),
+    };
+    match place_of_behaviour(catalogue, text.as_bytes()) {
+        Some(place) => Ok(place),
+        None => Err(refused_at(Kind::Unknown, index)),
+    }
+}
+
+#[tactic(auto, unfolding(roman_parts::specs::Lists::place_in))]
+/// The number of the action that an item names.
+pub(crate) fn action_at(actions: &NameTable, v: &Value, index: u32) -> Result<u32, CostError>
+    ensures place { Reads (λ x. x) result (place_in actions.now list.Steps index (view v.now)) }
+    ensures within { IfOk result (λ place. place < length actions.now) }
+    ensures quiet { IsQuiet result }
+{
+    let text = match text(v) {
+        Ok(text) => text,
+        Err(_) => return Err(refused_at(Kind::Form, index)),
+    };
+    match actions.find(text.as_bytes()) {
+        Some(place) => Ok(place),
+        None => Err(refused_at(Kind::Unknown, index)),
+    }
+}
+
+// The place of the behaviour with this name.
+fn place_of_behaviour(catalogue: &[Behaviour], name: &[u8]) -> Option<usize>
+    ensures place { result ≡ place_of (map beh_name catalogue.now) name.now }
+    ensures within { IfSome result (λ place. place < length catalogue.now) }
+{
+    catalogue
+        .iter()
+        .position(|behaviour| name == behaviour.name().bytes())
+}

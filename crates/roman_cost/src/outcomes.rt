@@ -1,0 +1,53 @@
+//! What is worst of the outcomes of a delegation.
+ghost use Rattle.std.specs.Prelude.{◌≡◌, ◌+◌, ◌*◌, ◌^◌, ◌<◌, All, map, max};
+ghost use Rattle.std.specs.List.{flat_map};
+ghost use Rattle.roman_model.specs.Plans.{max_over};
+ghost use Rattle.roman_joint.specs.Outcomes.{outcome_number, outcome_numbers};
+ghost use Rattle.roman_cost.specs.Filling.{ranked, IsRanked};
+
+use roman_joint::Outcomes;
+
+/// The greater of two numbers.
+pub(crate) fn greater(a: u32, b: u32) -> u32
+    ensures { result ≡ max a b }
+{
+    if a < b { b } else { a }
+}
+
+/// The greatest value of the outcomes; 0 where there are none.
+pub(crate) fn greatest_outcome(ranks: &[u32], row: &[u32], outcomes: Outcomes<'_>) -> u32
+    requires envs { All (λ e. outcomes.base + e * outcomes.env_stride < 2 ^ 32) outcomes.envs.now }
+    requires ranked { All (λ e. All (λ b. IsRanked ranks.now row.now (outcome_number outcomes e b)) outcomes.states.now) outcomes.envs.now }
+    requires fits { All (λ e. All (λ b. outcome_number outcomes e b < 2 ^ 32) outcomes.states.now) outcomes.envs.now }
+    ensures { result ≡ max_over (ranked ranks.now row.now) (outcome_numbers outcomes.entry) }
+{
+    let Outcomes {
+        base,
+        envs,
+        env_stride,
+        states,
+        stride,
+    } = outcomes;
+    let mut greatest = 0;
+    for env in envs {
+        let from = base + u32::from(*env) * env_stride;
+        let value = greatest_state(ranks, row, from, states, stride);
+        greatest = greater(greatest, value);
+    }
+    greatest
+}
+
+// The greatest value of the pairs with one environment state, by the service's.
+fn greatest_state(ranks: &[u32], row: &[u32], from: u32, states: &[u8], stride: u32) -> u32
+    requires ranked { All (λ b. IsRanked ranks.now row.now (from + b * stride)) states.now }
+    requires fits { All (λ b. from + b * stride < 2 ^ 32) states.now }
+    ensures { result ≡ max_over (λ b. ranked ranks.now row.now (from + b * stride)) states.now }
+{
+    let mut greatest = 0;
+    for state in states {
+        let pair = from + u32::from(*state) * stride;
+        let value = row[ranks[pair as usize] as usize];
+        greatest = greater(greatest, value);
+    }
+    greatest
+}

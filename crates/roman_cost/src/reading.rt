@@ -1,0 +1,137 @@
+//! Costs from a text on a shelf.
+ghost use Rattle.std.specs.Prelude.{◌≡◌, ◌<◌, ◌≤◌, [], map, length, IfOk, IfSome};
+ghost use Rattle.serde_json.specs.View.{view, items_view};
+ghost use Rattle.roman_model.specs.declared.limits.TheConstants.{MAX_BEHAVIOURS};
+ghost use Rattle.roman_read.specs.Items.{each_item};
+ghost use Rattle.roman_joint.specs.Names.{beh_name};
+ghost use Rattle.roman_cost.specs.Costs.{cost_item, cost_step, costs_in, value_of, costs_of};
+ghost use Rattle.roman_cost.specs.Refusals.{Reads, Caused, IsQuiet};
+ghost use Rattle.roman_cost.specs.Tables.{AreOf};
+
+use crate::costs::{Costs, Listed};
+use crate::error::CostError;
+use crate::limits::{MAX_COST, MAX_COSTS};
+use crate::looks::{action_at, behaviour_at, items_of, number_at, parts_of, refused, refused_at};
+use roman_io::Shelf;
+use roman_joint::Joint;
+use roman_library::{DocError, document};
+use roman_read::Kind;
+use serde_json::Value;
+use std::alloc::Global;
+
+#[tactic(auto, unfolding(crate::specs::Costs::costs_of))]
+/// The costs that the text of this name lists, by the names of the behaviours and actions of a
+/// system; or the first rule that it breaks.
+pub fn read_costs<F: Shelf>(
+    alloc: Global,
+    shelf: &mut F,
+    name: &str,
+    joint: &Joint,
+) -> Result<Costs, CostError>
+    requires few { length joint.now.catalogue ≤ MAX_BEHAVIOURS }
+    ensures costs { IfSome (F.texts shelf.old)
+        (λ texts. Reads (λ costs. costs.listed) result (costs_of texts name.now joint.now)) }
+    ensures of { IfOk result (AreOf joint.now) }
+    ensures texts { F.texts shelf.new ≡ F.texts shelf.old }
+    ensures cause { Caused (F.faults shelf.old) (F.faults shelf.new) result }
+{
+    let value = read_value(alloc, shelf, name)?;
+    costs_in(alloc, joint, &value)
+}
+
+#[tactic(auto, unfolding(crate::specs::Costs::value_of))]
+// The value of a text of costs.
+fn read_value<F: Shelf>(alloc: Global, shelf: &mut F, name: &str) -> Result<Value, CostError>
+    ensures value { IfSome (F.texts shelf.old) (λ texts. Reads view result (value_of texts name.now)) }
+    ensures texts { F.texts shelf.new ≡ F.texts shelf.old }
+    ensures cause { Caused (F.faults shelf.old) (F.faults shelf.new) result }
+{
+    match document(alloc, shelf, name) {
+        Ok(value) => Ok(value),
+        Err(DocError::Fault) => Err(CostError::Fault),
+        Err(DocError::Memory) => Err(CostError::Memory),
+        Err(DocError::TooLong) => Err(refused(Kind::TooLong)),
+        Err(DocError::NotJson) => Err(refused(Kind::NotJson)),
+    }
+}
+
+#[tactic(auto, using(crate::proofs::ReadingLemmas::counts), unfolding(crate::specs::Costs::costs_in))]
+// The costs that a value lists.
+fn costs_in(alloc: Global, joint: &Joint, v: &Value) -> Result<Costs, CostError>
+    requires few { length joint.now.catalogue ≤ MAX_BEHAVIOURS }
+    ensures costs { Reads (λ costs. costs.listed) result
+        (costs_in (map beh_name joint.now.catalogue) joint.now.environment.actions (view v.now)) }
+    ensures of { IfOk result (AreOf joint.now) }
+    ensures quiet { IsQuiet result }
+{
+    let items = items_of(v)?;
+    if items.len() > MAX_COSTS as usize {
+        return Err(refused(Kind::Count));
+    }
+    read_items(alloc, joint, items)
+}
+
+#[tactic(auto, using(roman_read::proofs::Each::each))]
+// The costs that the items of a list are.
+fn read_items(alloc: Global, joint: &Joint, items: &[Value]) -> Result<Costs, CostError>
+    requires few { length joint.now.catalogue ≤ MAX_BEHAVIOURS }
+    requires items { length items.now ≤ MAX_COSTS }
+    ensures costs { Reads (λ costs. costs.listed) result
+        (each_item (cost_step (map beh_name joint.now.catalogue) joint.now.environment.actions) 0 [] (items_view items.now)) }
+    ensures of { IfOk result (AreOf joint.now) }
+    ensures quiet { IsQuiet result }
+{
+    let behaviours = joint.catalogue().len();
+    let actions = joint.environment().actions().len() as usize;
+    let mut costs = Costs::none(alloc, behaviours, actions, items.len())?;
+    for (i, item) in items.iter().enumerate() {
+        add_item(&mut costs, joint, item, i as u32)?;
+    }
+    Ok(costs)
+}
+
+#[tactic(auto, unfolding(crate::specs::Costs::cost_step))]
+// Adds the next item of a list.
+fn add_item(costs: &mut Costs, joint: &Joint, v: &Value, index: u32) -> Result<(), CostError>
+    requires few { length joint.now.catalogue ≤ MAX_BEHAVIOURS }
+    requires of { AreOf joint.now costs.old }
+    ensures step { Reads (λ _. costs.new.listed) result
+        (cost_step (map beh_name joint.now.catalogue) joint.now.environment.actions index costs.old.listed (view v.now)) }
+    ensures of { IfOk result (λ _. AreOf joint.now costs.new) }
+    ensures quiet { IsQuiet result }
+{
+    let item = read_item(joint, v, index)?;
+    if costs.has(item.behaviour, item.action) {
+        return Err(refused_at(Kind::Repeated, index));
+    }
+    costs.put(item)?;
+    Ok(())
+}
+
+#[tactic(auto, using(roman_parts::proofs::StepLemmas::items), unfolding(crate::specs::Costs::cost_item))]
+// One item, by the names of a system.
+fn read_item(joint: &Joint, v: &Value, index: u32) -> Result<Listed, CostError>
+    requires { length joint.now.catalogue ≤ MAX_BEHAVIOURS }
+    ensures item { Reads (λ x. x) result
+        (cost_item (map beh_name joint.now.catalogue) joint.now.environment.actions index (view v.now)) }
+    ensures behaviour { IfOk result (λ x. x.behaviour < length joint.now.catalogue) }
+    ensures action { IfOk result (λ x. x.action < length joint.now.environment.actions) }
+    ensures small { IfOk result (λ x. x.cost ≤ MAX_COST) }
+    ensures quiet { IsQuiet result }
+{
+    let items = parts_of(v, index)?;
+    let [behaviour, action, cost] = items else {
+        return Err(refused_at(Kind::Form, index));
+    };
+    let behaviour = behaviour_at(joint.catalogue(), behaviour, index)?;
+    let action = action_at(joint.environment().actions(), action, index)?;
+    let cost = number_at(cost, index)?;
+    if cost > u64::from(MAX_COST) {
+        return Err(refused_at(Kind::Count, index));
+    }
+    Ok(Listed {
+        behaviour: behaviour as u8,
+        action: action as u8,
+        cost: cost as u32,
+    })
+}

@@ -1,0 +1,168 @@
+//! The text of advice.
+ghost use Rattle.std.specs.Prelude.{◌≡◌, ◌-◌, ◌<◌, ◌≤◌, ◌++◌, IsTrue};
+ghost use Rattle.std.specs.List.{flat_map};
+ghost use Rattle.roman_io.specs.Faults.{HasCause};
+ghost use Rattle.roman_io.specs.Sink.{Puts};
+ghost use Rattle.roman_model.specs.Numbers.{sizes_of, count, pair_at};
+ghost use Rattle.roman_model.specs.Offers.{is_related};
+ghost use Rattle.roman_model.specs.Plans.{allowed_actions};
+ghost use Rattle.roman_model.specs.Plans as plans;
+ghost use Rattle.roman_model.specs.System.{Sys, is_allowed};
+ghost use Rattle.roman_text.specs.Pages.{Gathers};
+ghost use Rattle.roman_joint.specs.NamedSys.{system_of};
+ghost use Rattle.roman_relation.specs.Greatest.{IsRelation};
+ghost use Rattle.roman_cost.specs.AdviceText.{advice_text, worst_line, choice_line, value_line, value_lines, certificate_text, service_text};
+ghost use Rattle.roman_cost.specs.Advised.{Advises};
+ghost use Rattle.roman_cost.specs.Tables.{seat_costs, AreOf};
+
+use crate::advice::Advice;
+use crate::costs::Costs;
+use roman_io::{Failed, Sink};
+use roman_read::Name;
+use roman_relation::Relation;
+use roman_text::{Page, Piece};
+
+/// Puts the text of advice from a related pair on: what the requests for which it was built cost at
+/// worst, the service to take for each of them, and all values. The relation and the costs are those
+/// of [`build`](Advice::build). A failed call wrote a prefix of the text.
+pub fn put_advice<O: Sink>(
+    advice: &Advice,
+    relation: &Relation,
+    costs: &Costs,
+    start: u32,
+    out: &mut O,
+) -> Result<(), Failed>
+    requires relation { IsRelation relation.now.joint relation.now.order }
+    requires costs { AreOf relation.now.joint costs.now }
+    requires advises { Advises (system_of relation.now.joint) (seat_costs relation.now.joint costs.now.listed) advice.now }
+    requires some { 0 < advice.now.requests }
+    requires pair { start < count (sizes_of (system_of relation.now.joint)) }
+    requires related { IsTrue (is_related (system_of relation.now.joint) (pair_at (sizes_of (system_of relation.now.joint)) start)) }
+    ensures puts { Puts (O.written out.old) (O.written out.new)
+        (advice_text relation.now.joint costs.now.listed advice.now.requests (pair_at (sizes_of (system_of relation.now.joint)) start)) result }
+    ensures cause { HasCause (O.faults out.old) (O.faults out.new) result }
+{
+    let worst = advice.value(advice.requests(), start);
+    let mut page = Page::new();
+    if let Err(failed) = page.push(worst_piece(worst).bytes(), out) {
+        return Err(failed);
+    }
+    if let Err(failed) = push_choices(advice, relation, costs, start, &mut page, out) {
+        return Err(failed);
+    }
+    if let Err(failed) = push_values(advice, &mut page, out) {
+        return Err(failed);
+    }
+    if let Err(failed) = page.push(b"end\n", out) {
+        return Err(failed);
+    }
+    page.flush(out)
+}
+
+/// `worst W`.
+fn worst_piece(value: u32) -> Piece
+    ensures { result ≡ worst_line value }
+{
+    Piece::new().text(b"worst ").number(value).text(b"\n")
+}
+
+/// Takes the line of each action that the target allows at the pair.
+fn push_choices<O: Sink>(
+    advice: &Advice,
+    relation: &Relation,
+    costs: &Costs,
+    start: u32,
+    page: &mut Page,
+    out: &mut O,
+) -> Result<(), Failed>
+    requires relation { IsRelation relation.now.joint relation.now.order }
+    requires costs { AreOf relation.now.joint costs.now }
+    requires advises { Advises (system_of relation.now.joint) (seat_costs relation.now.joint costs.now.listed) advice.now }
+    requires some { 0 < advice.now.requests }
+    requires pair { start < count (sizes_of (system_of relation.now.joint)) }
+    requires related { IsTrue (is_related (system_of relation.now.joint) (pair_at (sizes_of (system_of relation.now.joint)) start)) }
+    ensures gathers { let n = relation.now.joint in
+        let p = pair_at (sizes_of (system_of n)) start in
+        Gathers (O.written out.old) (O.written out.new) page.new
+        (page.old ++ flat_map (choice_line n (seat_costs n costs.now.listed) (advice.now.requests - 1) p) (allowed_actions (system_of n) p)) result }
+    ensures cause { HasCause (O.faults out.old) (O.faults out.new) result }
+{
+    relation.joint.known();
+    for a in 0..relation.joint.environment().actions().len() as u8 {
+        if !relation.joint.allowed(start, a) {
+            continue;
+        }
+        let line = choice_piece(advice, relation, costs, start, a);
+        if let Err(failed) = page.push(line.bytes(), out) {
+            return Err(failed);
+        }
+    }
+    Ok(())
+}
+
+/// The line of an action that the target allows at a related pair.
+fn choice_piece(advice: &Advice, relation: &Relation, costs: &Costs, start: u32, a: u8) -> Piece
+    requires relation { IsRelation relation.now.joint relation.now.order }
+    requires costs { AreOf relation.now.joint costs.now }
+    requires advises { Advises (system_of relation.now.joint) (seat_costs relation.now.joint costs.now.listed) advice.now }
+    requires some { 0 < advice.now.requests }
+    requires pair { start < count (sizes_of (system_of relation.now.joint)) }
+    requires related { IsTrue (is_related (system_of relation.now.joint) (pair_at (sizes_of (system_of relation.now.joint)) start)) }
+    requires action { a < (system_of relation.now.joint).env.actions }
+    requires allowed { IsTrue (is_allowed (system_of relation.now.joint) (pair_at (sizes_of (system_of relation.now.joint)) start) a) }
+    ensures { let n = relation.now.joint in
+        result ≡ choice_line n (seat_costs n costs.now.listed) (advice.now.requests - 1) (pair_at (sizes_of (system_of n)) start) a }
+{
+    relation.joint.known();
+    let (seat, cost) = advice.choice(relation, costs, advice.requests(), start, a);
+    let action = relation.joint.environment().actions().at(u32::from(a));
+    let service = &relation.joint.seat(seat).name;
+    service_piece(action, service, cost)
+}
+
+/// `for A: S W`.
+fn service_piece(action: &Name, service: &Name, cost: u32) -> Piece
+    ensures { result ≡ service_text action.now service.now cost }
+{
+    let action = Piece::new().text(b"for ").name(action).text(b": ");
+    let service = action.name(service).text(b" ");
+    service.number(cost).text(b"\n")
+}
+
+/// Takes the lines of all values.
+fn push_values<O: Sink>(advice: &Advice, page: &mut Page, out: &mut O) -> Result<(), Failed>
+    ensures gathers { (s : Sys) (C : plans.Costs) → Advises s C advice.now
+        → Gathers (O.written out.old) (O.written out.new) page.new (page.old ++ certificate_text s C advice.now.requests) result }
+    ensures cause { HasCause (O.faults out.old) (O.faults out.new) result }
+{
+    for h in 0..advice.requests() {
+        if let Err(failed) = push_row(advice, h + 1, page, out) {
+            return Err(failed);
+        }
+    }
+    Ok(())
+}
+
+/// Takes the lines of the values of so many requests.
+fn push_row<O: Sink>(advice: &Advice, h: u8, page: &mut Page, out: &mut O) -> Result<(), Failed>
+    requires { h ≤ advice.now.requests }
+    ensures gathers { (s : Sys) (C : plans.Costs) → Advises s C advice.now
+        → Gathers (O.written out.old) (O.written out.new) page.new (page.old ++ value_lines s C h) result }
+    ensures cause { HasCause (O.faults out.old) (O.faults out.new) result }
+{
+    for p in advice.pairs() {
+        let line = value_piece(h, *p, advice.value(h, *p));
+        if let Err(failed) = page.push(line.bytes(), out) {
+            return Err(failed);
+        }
+    }
+    Ok(())
+}
+
+/// `value H P W`.
+fn value_piece(h: u8, p: u32, value: u32) -> Piece
+    ensures { result ≡ value_line h p value }
+{
+    let place = Piece::new().text(b"value ").number(u32::from(h)).text(b" ");
+    place.number(p).text(b" ").number(value).text(b"\n")
+}

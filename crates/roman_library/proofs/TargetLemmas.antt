@@ -1,0 +1,98 @@
+-- Several targets of a document, and what is made of them.
+use Rattle.std.proofs.Common.{◌≡◌, ℕ, ◌<◌, List, [], ◌∷◌, ◌++◌, map, length, get_or, All, IfSome, Option, Some, None, Result, Ok, Err, slice_get, refl, sym, ap, ◌∙◌, subst}
+use Rattle.std.proofs.lemmas.List.{length-map, get_or-map}
+use Rattle.std.proofs.lemmas.List.Elements.{All-push}
+use Rattle.std.proofs.lemmas.Option.{slice_get-map}
+use Rattle.std.specs.Option.{option_map}
+use Rattle.roman_model.specs.Lists.{HasNoRepeats}
+use Rattle.roman_model.specs.System.{IsEnv}
+use Rattle.roman_model.specs.declared.request.Request.{Request}
+use Rattle.roman_parts.specs.Named.{NamedEnv, NamedBeh}
+use Rattle.roman_parts.specs.Reading.{Gives}
+use Rattle.roman_parts.specs.declared.error.PartError.{PartError}
+use Rattle.roman_multi.specs.Combining as combining
+use Rattle.roman_multi.specs.Combining.{PlainCombined, IsKnown, IsOf, Keeps, combined_behaviour, combined_parts, forbidding, machines, requests_in}
+use Rattle.roman_multi.specs.declared.parts.Named.{Named}
+use Rattle.roman_multi.specs.declared.parts.Combined.{Combined}
+use Rattle.roman_multi.specs.declared.error.CombineError.{CombineError}
+use Rattle.roman_multi.specs.declared.error.CombineError.TheVariants as error
+use Rattle.roman_multi.proofs.CombineLemmas.{state_count}
+use Rattle.roman_multi.proofs.MadeKnown.{combined_behaviour_over, combined_is_system, combined_target_over}
+use Rattle.roman_library.specs.Documents.{combined_of, broken_rule, unless_broken}
+use Rattle.roman_library.specs.Library.{ArePartsOf, IsBehaviour, IsCatalogue, IsService, IsTarget, AreServices, behaviour_name}
+use Rattle.roman_library.specs.declared.library.Service.{Service}
+
+pub all_known_push : {X : Type 0} (P : X → Type 0) (before after : List X) (x : X) → All P before → P x → after ≡ before ++ x ∷ [] → All P after
+all_known_push P before after x all here is = subst (All P) (sym is) (All-push P before x all here)
+
+-- a target of a document is known over its environment
+pub target_known : (env : NamedEnv) (named : Named) → IsTarget env named.target → IsKnown env named.target
+target_known env named is = record { over = record { env_states = is.env_states; actions = is.actions }; names = is.names; known = is.known; single = is.single }
+
+pub targets_known : (env : NamedEnv) (targets : List Named) → All (λ named. IsTarget env named.target) targets → All (λ named. IsKnown env named.target) targets
+targets_known env targets all k d l = target_known env (get_or targets k d) (all k d l)
+
+-- what is made, or why it isn't
+pub made_gives : (env : NamedEnv) (catalogue : List NamedBeh) (targets : List Named) (made : Combined) → combining.plain made ≡ combined_parts env catalogue targets → forbidding env targets ≡ None →
+    combined_of env catalogue targets ≡ Ok (combining.plain made)
+unfolding combined_of
+made_gives env catalogue targets made is allowed = rw allowed (ap Ok (sym is))
+
+pub broken_gives : (env : NamedEnv) (catalogue : List NamedBeh) (targets : List Named) (why : CombineError) → Keeps (Err why) (forbidding env targets) →
+    Gives combining.plain (Err (broken_rule why)) (combined_of env catalogue targets)
+unfolding combined_of
+broken_gives env catalogue targets error.States h = rw h refl
+broken_gives env catalogue targets error.Actions h = rw h refl
+broken_gives env catalogue targets error.LongName h = rw h refl
+broken_gives env catalogue targets error.Repeated h = rw h refl
+broken_gives env catalogue targets error.Memory h = tt
+
+module _ (env : NamedEnv) (catalogue : List NamedBeh) (requests : List Request) where
+  names_stay : (catalogue : List NamedBeh) → map behaviour_name (map (combined_behaviour env requests) catalogue) ≡ map behaviour_name catalogue
+  names_stay [] = refl
+  names_stay (b ∷ catalogue) = ap (λ xs. b.name ∷ xs) (names_stay catalogue)
+
+  -- a service of the catalogue is one of the combined catalogue
+  service_stays : (service : Service) → IsService catalogue service → IsService (map (combined_behaviour env requests) catalogue) service
+  service_stays service is = record {
+    behaviour = subst (λ n. service.behaviour < n) (sym (length-map catalogue (combined_behaviour env requests))) is.behaviour;
+    state =
+        subst (λ (o : Option NamedBeh). IfSome o (λ behaviour. service.state < behaviour.beh.states)) (sym (slice_get-map (combined_behaviour env requests) catalogue service.behaviour))
+        (by (slice_get catalogue service.behaviour) is.state);
+  }
+    where
+      by : (o : Option NamedBeh) → IfSome o (λ behaviour. service.state < behaviour.beh.states) →
+          IfSome (option_map (combined_behaviour env requests) o) (λ behaviour. service.state < behaviour.beh.states)
+      by None h = tt
+      by (Some b) h = h
+
+  services_stay : (services : List Service) → AreServices catalogue services → AreServices (map (combined_behaviour env requests) catalogue) services
+  services_stay services are = record { known = λ k d l. service_stays (get_or services k d) (are.known k d l); names = are.names }
+
+-- combined parts that no rule forbids are a library's
+pub combined_parts_known : (env : NamedEnv) (catalogue : List NamedBeh) (targets : List Named) → IsEnv env.env → IsCatalogue env catalogue → All (λ named. IsTarget env named.target) targets →
+    forbidding env targets ≡ None → ArePartsOf catalogue (combined_parts env catalogue targets)
+unfolding combined_parts
+combined_parts_known env catalogue targets world are all allowed =
+    let known = targets_known env targets all in
+    let one = combined_is_system env targets world known allowed in
+    record {
+      environment = one.env;
+      catalogue = record {
+        known = λ k d l.
+            let within : k < length catalogue = subst (λ n. k < n) (length-map catalogue (combined_behaviour env (requests_in env targets))) l in
+            let old = are.known k d within in
+            subst (IsBehaviour (combined_parts env catalogue targets).environment) (sym (get_or-map (combined_behaviour env (requests_in env targets)) catalogue k d d within))
+            (record { env_states = refl; actions = refl; names = old.names; known = combined_behaviour_over env (requests_in env targets) (get_or catalogue k d) old.known });
+        names = subst HasNoRepeats (sym (names_stay env catalogue (requests_in env targets) catalogue)) are.names;
+      };
+      count = length-map catalogue (combined_behaviour env (requests_in env targets));
+      services = services_stay env catalogue (requests_in env targets);
+      target = record {
+        env_states = refl;
+        actions = refl;
+        names = state_count targets;
+        known = combined_target_over env targets world known allowed;
+        single = one.single;
+      };
+    }

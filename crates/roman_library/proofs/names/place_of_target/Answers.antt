@@ -1,0 +1,15 @@
+-- The place among the targets is that among their names.
+use Rattle.std.proofs.Common.{rules, tests, sym, ◌∙◌}
+use Rattle.std.specs.Str.{bytes_eq}
+use Rattle.std.proofs.lemmas.Iterator.{YieldsList-from_slice}
+use Rattle.std.proofs.lemmas.Iterator.Search.{position_from_yields_List}
+use Rattle.roman_multi.specs.Combining.{target_name}
+use Rattle.roman_library.proofs.PlaceLemmas.{place_of-map}
+use Rattle.roman_library.proofs.names.place_of_target.Goals as goal
+
+pub returns : goal.returns
+returns c = record {
+  place =
+      position_from_yields_List (λ s. bytes_eq c.args.name.now (target_name s)) _ _ _ c.position.ensures.ran (YieldsList-from_slice c.args.targets.now cc) (λ x b q k. search (rules, tests))
+      ∙ sym (place_of-map target_name c.args.targets.now c.args.name.now);
+}

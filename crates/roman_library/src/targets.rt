@@ -1,0 +1,209 @@
+//! The parts of a document with one target, or with several.
+ghost use Rattle.std.specs.Prelude.{◌≡◌, ◌≤◌, [], length, map, vec_len, None, All, IfOk, IfSome};
+ghost use Rattle.serde_json.specs.View.{view, items_view};
+ghost use Rattle.roman_model.specs.System.{IsEnv};
+ghost use Rattle.roman_read.specs.Items.{each_item};
+ghost use Rattle.roman_read.specs.Names.{place_of};
+ghost use Rattle.roman_parts.specs.Reading.{Gives};
+ghost use Rattle.roman_multi.specs.Combining as combining;
+ghost use Rattle.roman_library.specs.Documents.{broken_rule, combined_of, named_target_in, named_target_of, parts_in, target_step, targets_in};
+ghost use Rattle.roman_library.specs.Library.{ArePartsOf, IsCatalogue, IsTarget};
+ghost use Rattle.roman_library.specs.Refusals.{Loads, CausesLoad};
+
+use crate::looks::{counted_items, refused};
+use crate::names::{place_of_target, read_name};
+use crate::part_file::{file_of, value_at};
+use crate::parts::{load_target, target_over};
+use crate::placing::placed;
+use crate::refusal::{LoadError, Part};
+use roman_io::Shelf;
+use roman_multi::{CombineError, Combined, Named, combine};
+use roman_parts::{Behaviour, Environment, List, PartError};
+use roman_read::Kind;
+use serde_json::Value;
+use std::alloc::Global;
+
+/// The fewest and the most targets.
+const FEWEST: u8 = 2;
+
+const MOST: u8 = 4;
+
+/// The version whose documents have several targets.
+const SEVERAL: u64 = 3;
+
+#[tactic(auto, unfolding(crate::specs::Documents::parts_in))]
+/// The environment, the catalogue and the target of a document: as they stand, or in the version of
+/// several targets those that combine them.
+pub(crate) fn load_parts<F: Shelf>(
+    alloc: Global,
+    shelf: &mut F,
+    document: &str,
+    v: &Value,
+    version: u64,
+    environment: Environment,
+    catalogue: Vec<Behaviour>,
+) -> Result<Combined, LoadError>
+    requires environment { IsEnv environment.env }
+    requires catalogue { IsCatalogue environment catalogue.items }
+    ensures parts { IfSome (F.texts shelf.old)
+        (λ texts. Loads combining.plain result (parts_in texts document.now version environment catalogue.items (view v.now))) }
+    ensures known { IfOk result (λ made. ArePartsOf catalogue.items (combining.plain made)) }
+    ensures texts { F.texts shelf.new ≡ F.texts shelf.old }
+    ensures cause { CausesLoad (F.faults shelf.old) (F.faults shelf.new) result }
+{
+    if version == SEVERAL {
+        let targets = load_targets(alloc, shelf, document, v, &environment)?;
+        let made = combine_targets(alloc, &environment, &catalogue, &targets);
+        return placed(alloc, document, Part::System, made);
+    }
+    let target = load_target(alloc, shelf, document, v, &environment)?;
+    Ok(Combined {
+        environment,
+        catalogue,
+        target,
+    })
+}
+
+#[tactic(auto, unfolding(crate::specs::Documents::targets_in))]
+/// The targets of a document.
+fn load_targets<F: Shelf>(
+    alloc: Global,
+    shelf: &mut F,
+    document: &str,
+    v: &Value,
+    environment: &Environment,
+) -> Result<Vec<Named>, LoadError>
+    ensures targets { IfSome (F.texts shelf.old)
+        (λ texts. Loads (λ x. x.items) result (targets_in texts document.now environment.now (view v.now))) }
+    ensures known { IfOk result (λ targets. All (λ named. IsTarget environment.now named.target) targets.items) }
+    ensures count { IfOk result (λ targets. (2 ≤ vec_len targets) × (vec_len targets ≤ 4)) }
+    ensures texts { F.texts shelf.new ≡ F.texts shelf.old }
+    ensures cause { CausesLoad (F.faults shelf.old) (F.faults shelf.new) result }
+{
+    let items = counted_items(v, "targets", List::Targets, FEWEST, MOST);
+    let items = placed(alloc, document, Part::System, items)?;
+    load_items(alloc, shelf, document, items, environment)
+}
+
+/// The targets that the items of a list are.
+fn load_items<F: Shelf>(
+    alloc: Global,
+    shelf: &mut F,
+    document: &str,
+    items: &[Value],
+    environment: &Environment,
+) -> Result<Vec<Named>, LoadError>
+    requires { (2 ≤ length items.now) × (length items.now ≤ 4) }
+    ensures targets { IfSome (F.texts shelf.old)
+        (λ texts. Loads (λ x. x.items) result (each_item (target_step texts document.now environment.now) 0 [] (items_view items.now))) }
+    ensures known { IfOk result (λ targets. All (λ named. IsTarget environment.now named.target) targets.items) }
+    ensures count { IfOk result (λ targets. (2 ≤ vec_len targets) × (vec_len targets ≤ 4)) }
+    ensures texts { F.texts shelf.new ≡ F.texts shelf.old }
+    ensures cause { CausesLoad (F.faults shelf.old) (F.faults shelf.new) result }
+{
+    let mut targets = Vec::with_capacity(alloc, items.len())?;
+    for (i, item) in items.iter().enumerate() {
+        let named = load_named(
+            alloc,
+            shelf,
+            document,
+            i as u32,
+            item,
+            environment,
+            &targets,
+        )?;
+        targets.push(named)?;
+    }
+    Ok(targets)
+}
+
+#[tactic(auto, unfolding(crate::specs::Documents::named_target_in, crate::specs::Documents::part_of))]
+/// A target of a document, after those before it.
+fn load_named<F: Shelf>(
+    alloc: Global,
+    shelf: &mut F,
+    document: &str,
+    number: u32,
+    v: &Value,
+    environment: &Environment,
+    before: &[Named],
+) -> Result<Named, LoadError>
+    ensures target { IfSome (F.texts shelf.old)
+        (λ texts. Loads (λ x. x) result (named_target_in texts document.now environment.now before.now number (view v.now))) }
+    ensures known { IfOk result (λ named. IsTarget environment.now named.target) }
+    ensures texts { F.texts shelf.new ≡ F.texts shelf.old }
+    ensures cause { CausesLoad (F.faults shelf.old) (F.faults shelf.new) result }
+{
+    let part = Part::Target(number);
+    match placed(alloc, document, part, file_of(v))? {
+        None => {
+            let named = read_named(alloc, v, environment, before);
+            placed(alloc, document, part, named)
+        }
+        Some(file) => {
+            let value = value_at(alloc, shelf, file, part)?;
+            let named = read_named(alloc, &value, environment, before);
+            placed(alloc, file, part, named)
+        }
+    }
+}
+
+#[tactic(auto, unfolding(crate::specs::Documents::new_name_of, crate::specs::Documents::named_target_of))]
+/// A target, whose name is tried against those before it and then the rest.
+fn read_named(
+    alloc: Global,
+    v: &Value,
+    environment: &Environment,
+    before: &[Named],
+) -> Result<Named, PartError>
+    ensures target { Gives (λ x. x) result (named_target_of environment.now before.now (view v.now)) }
+    ensures known { IfOk result (λ named. IsTarget environment.now named.target) }
+{
+    if !v.is_object() {
+        return Err(refused(Kind::Form, List::Whole));
+    }
+    let name = read_name(v)?;
+    if place_of_target(before, name.bytes()).is_some() {
+        return Err(refused(Kind::Repeated, List::Name));
+    }
+    let target = target_over(alloc, v, environment)?;
+    Ok(Named { name, target })
+}
+
+/// The targets as one, with the environment and the catalogue over its actions.
+fn combine_targets(
+    alloc: Global,
+    environment: &Environment,
+    catalogue: &[Behaviour],
+    targets: &[Named],
+) -> Result<Combined, PartError>
+    requires environment { IsEnv environment.now.env }
+    requires catalogue { IsCatalogue environment.now catalogue.now }
+    requires targets { All (λ named. IsTarget environment.now named.target) targets.now }
+    requires count { (2 ≤ length targets.now) × (length targets.now ≤ 4) }
+    ensures parts { Gives combining.plain result (combined_of environment.now catalogue.now targets.now) }
+    ensures known { IfOk result (λ made. ArePartsOf catalogue.now (combining.plain made)) }
+{
+    match combine(alloc, environment, catalogue, targets) {
+        Ok(made) => Ok(made),
+        Err(error) => Err(broken_rule(error)),
+    }
+}
+
+/// The rule on combined states and actions that is broken.
+fn broken_rule(error: CombineError) -> PartError
+    ensures { result ≡ broken_rule error }
+{
+    let (kind, index) = match error {
+        CombineError::States => (Kind::Count, 1),
+        CombineError::Actions => (Kind::Count, 2),
+        CombineError::LongName => (Kind::BadName, 3),
+        CombineError::Repeated => (Kind::Repeated, 4),
+        CombineError::Memory => return PartError::Memory,
+    };
+    PartError::Refused {
+        kind,
+        list: List::Targets,
+        index,
+    }
+}
