@@ -9,7 +9,7 @@ use std::sync::ledger::{Blank, Ledger};
 
 /// The line that is written where the words have no shape.
 pub(crate) const USAGE: &str =
-    "usage: roman synth SYSTEM | run SYSTEM [SESSION] | certify SYSTEM | check SYSTEM CERT | make N";
+    "usage: roman synth SYSTEM | run SYSTEM [SESSION] | certify SYSTEM | check SYSTEM CERT | make N | resilience SYSTEM | shortest SYSTEM | advise SYSTEM COSTS H";
 
 /// The report on the lamp's starting states.
 pub(crate) const LAMP_REPORT: &[u8] =
@@ -109,7 +109,7 @@ pub(crate) fn text_of(alloc: Global, lines: &[&str]) -> Result<Vec<u8>, AllocErr
 }
 
 /// Whether the text has just the lines that are wanted.
-fn has_lines(text: &str, wanted: &[&str]) -> bool {
+pub(crate) fn has_lines(text: &str, wanted: &[&str]) -> bool {
     let mut lines = text.split('\n');
     for wanted in wanted {
         match lines.next() {

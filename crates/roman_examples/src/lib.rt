@@ -3,9 +3,13 @@
 #![tactic(auto)]
 
 #[cfg(test)]
+mod advise;
+#[cfg(test)]
 mod case;
 #[cfg(test)]
 mod certificates;
+#[cfg(test)]
+mod depths;
 #[cfg(test)]
 mod documents;
 #[cfg(test)]
@@ -13,7 +17,11 @@ mod faults;
 #[cfg(test)]
 mod making;
 #[cfg(test)]
+mod resilience;
+#[cfg(test)]
 mod sessions;
+#[cfg(test)]
+mod several;
 #[cfg(test)]
 mod synthesis;
 #[cfg(test)]

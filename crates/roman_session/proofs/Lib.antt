@@ -14,6 +14,7 @@ pub mod HearingLemmas
 pub mod WithinLemmas
 pub mod KeepLemmas
 pub mod KnownLemmas
+pub mod SeveralLemmas
 pub mod WordLemmas
 pub mod HearingGoing
 pub mod HearingSteps

@@ -11,5 +11,6 @@ pub mod Layout
 pub mod Answering
 pub mod Known
 pub mod Words
+pub mod Several
 pub mod Hearing
 pub mod HearingBytes

@@ -1,6 +1,7 @@
 //! Laws over the definitions of sessions, each the contract of a function with no body.
 ghost use Rattle.roman_session.specs.Known.{StepsStayKnown};
 ghost use Rattle.roman_session.specs.Laws.{RequestsAreOffered, OutcomesAreRelated, NotOfferedFails, ReportsAreAfresh};
+ghost use Rattle.roman_session.specs.Several.{SeveralAreServed};
 ghost use Rattle.roman_session.specs.Words.{AnswersAreGreat, OpenIsGreat};
 
 /// A request that isn't refused is offered to at least one service.
@@ -36,4 +37,10 @@ pub fn answers_are_great()
 /// A request is open only where it can be served, and is delegated only to a service that serves it.
 pub fn open_is_great()
     ensures great { OpenIsGreat }
+{}
+
+/// In a session of a document with several targets a pair is related exactly where some
+/// ND-simulation of all the targets, by the services now present, holds it.
+pub fn several_are_served()
+    ensures served { SeveralAreServed }
 {}

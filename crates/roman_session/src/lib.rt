@@ -23,7 +23,7 @@ pub use error::BuildError;
 pub use hearing::{HearError, hear};
 pub use laws::{
     answers_are_great, open_is_great, outcomes_are_related, reports_are_afresh,
-    requests_are_offered, services_not_offered_fail, steps_stay_known,
+    requests_are_offered, services_not_offered_fail, several_are_served, steps_stay_known,
 };
 pub use next::Next;
 pub use phase::Phase;

@@ -50,7 +50,7 @@ finished_cause old new result (Ok x) finishes cause = subst (SinkCause old new) 
 finished_cause old new result (Err e) finishes cause = subst (SinkCause old new) (sym finishes) cause.failed
 
 -- nothing else stopped it
-done_stops : (old new : Option (List ℕ)) (result : Status) → IsDone old new result → Stops old new result
+pub done_stops : (old new : Option (List ℕ)) (result : Status) → IsDone old new result → Stops old new result
 done_stops old new status.Done done = tt
 done_stops old new status.No done = absurd done
 done_stops old new status.Usage done = absurd done
@@ -62,7 +62,7 @@ done_stops old new status.WriteFault done = tt
 done_stops old new status.TooLong done = absurd done
 done_stops old new status.Memory done = done
 
-done_shelf : (old new : Option (List ℕ)) (n n_now : ℕ) (result : Status) → IsDone old new result → n_now ≡ n → ShelfCause n n_now result
+pub done_shelf : (old new : Option (List ℕ)) (n n_now : ℕ) (result : Status) → IsDone old new result → n_now ≡ n → ShelfCause n n_now result
 done_shelf old new n n_now status.Done done same = same
 done_shelf old new n n_now status.No done same = same
 done_shelf old new n n_now status.Usage done same = same

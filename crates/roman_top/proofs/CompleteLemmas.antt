@@ -9,7 +9,7 @@ use Rattle.roman_model.specs.Certificate.{Verdict, Greatest, Rejected, TooLong, 
 use Rattle.roman_library.specs.Library.{PlainLibrary}
 use Rattle.roman_session.specs.Starts.{start_of}
 use Rattle.roman_session.specs.Hearing.{front_of, is_heard_out}
-use Rattle.roman_top.specs.Command.{Job, Synth, Run, Certify, Check, Command, On, Make}
+use Rattle.roman_top.specs.Command.{Job, Synth, Run, Certify, Check, Shortest, Advise, Resilience, Command, On, Make}
 use Rattle.roman_top.specs.Complete.{Suffices, CanAnswer, IsAnswered, IsQuiet, IsComplete}
 use Rattle.roman_top.specs.Opening.{library_system, opened}
 use Rattle.roman_top.specs.Run.{EndsBy, Judges, Talks, Does, IsSession, HasRun, texts_for}
@@ -18,6 +18,7 @@ use Rattle.roman_top.specs.Sessions.{Tells}
 use Rattle.roman_top.specs.World.{World}
 use Rattle.roman_top.specs.declared.status.Status.{Status}
 use Rattle.roman_top.specs.declared.status.Status.TheVariants as status
+use Rattle.roman_top.proofs.AdviseLemmas.{advice_answered}
 use Rattle.roman_top.proofs.EndingLemmas.{told_all, told_more, work_of}
 
 matched_true : (b : Bool) (P Q : Type 0) → IsTrue b → MatchBool b P Q → P
@@ -58,8 +59,11 @@ job_answered (Run None) texts system None session text library result given enou
 job_answered (Run None) texts system (Some bytes) session text library result given enough does = talked_answered session library text result (subst (λ (b : List ℕ). IsTrue (is_heard_out b)) given enough) does
 job_answered (Run (Some name)) texts system rest session text library result given enough does = talked_answered session library text result (subst (λ (b : List ℕ). IsTrue (is_heard_out b)) (sym given) enough) does
 job_answered Certify texts system rest session text library result given enough does = is_done result does.says.1
+job_answered Resilience texts system rest session text library result given enough does = is_done result does.1
 job_answered (Check certificate) texts system rest session text library result given enough does =
     judged_answered (cert_verdict (numbered (library_system library)) (number (sizes_of (library_system library)) (start_of library)) (text_of texts certificate)) text result enough does
+job_answered Shortest texts system rest session text library result given enough does = is_done result does.1
+job_answered (Advise costs requests) texts system rest session text library result given enough does = advice_answered costs requests texts library text result enough does
 
 answered : (asked : Option Command) (texts : Texts) (old new : World) (result : Status) → HasRun asked texts old new result → CanAnswer asked texts old.rest → IsAnswered result
 answered None texts old new result run can = absurd can

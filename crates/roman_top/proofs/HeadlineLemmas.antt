@@ -15,7 +15,7 @@ use Rattle.roman_session.specs.Hearing.{front_of, is_heard_out, heard_lines}
 use Rattle.roman_session.specs.Known.{IsKnown}
 use Rattle.roman_session.proofs.KnownLemmas.{steps_known}
 use Rattle.roman_session.proofs.WordLemmas.{answers_great, open_great, reports_great}
-use Rattle.roman_top.specs.Command.{Job, Synth, Run, Certify, Check, Command, On, Make}
+use Rattle.roman_top.specs.Command.{Job, Synth, Run, Certify, Check, Shortest, Advise, Resilience, Command, On, Make}
 use Rattle.roman_top.specs.Headline.{Turn, line_of, text_of, AreTurns, AnswersLines, KeepsPromise, HasHeadline}
 use Rattle.roman_top.specs.Opening.{Accepted, opened}
 use Rattle.roman_top.specs.Run.{Talks, Synthesises, HasRun, texts_for}
@@ -85,6 +85,9 @@ keeps_promise (Some (On system (Run name))) texts old new result run = λ librar
 }
 keeps_promise (Some (On system Certify)) texts old new result run = tt
 keeps_promise (Some (On system (Check certificate))) texts old new result run = tt
+keeps_promise (Some (On system Shortest)) texts old new result run = tt
+keeps_promise (Some (On system (Advise costs requests))) texts old new result run = tt
+keeps_promise (Some (On system Resilience)) texts old new result run = tt
 keeps_promise (Some (Make n)) texts old new result run = tt
 
 pub has_headline : (asked : Option Command) (old new : World) (result : Status) → Served asked old new result → HasHeadline asked old new result

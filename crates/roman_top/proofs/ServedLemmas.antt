@@ -8,7 +8,7 @@ use Rattle.roman_io.proofs.SinkLemmas.{WroteFront-from_Puts}
 use Rattle.roman_io.proofs.SourceLemmas.{Gave-nil}
 use Rattle.roman_library.specs.Library.{PlainLibrary}
 use Rattle.roman_top.specs.Causes.{ShelfCause, InputCause, SinkCause}
-use Rattle.roman_top.specs.Command.{Job, Synth, Run, Certify, Check, Command, On, Make, usage_line}
+use Rattle.roman_top.specs.Command.{Job, Synth, Run, Certify, Check, Shortest, Advise, Resilience, Command, On, Make, usage_line}
 use Rattle.roman_top.specs.Endings.{WritesText, WritesFront, Writes, Stops, DoesJob, TurnsAway, IsAway, Opens, Finishes, IsDone}
 use Rattle.roman_top.specs.Faults.{IsFree, AtShelfFault, HasRunFront, IsOfTaken, EndsInput}
 use Rattle.roman_top.specs.Opening.{opened, OnOpening}
@@ -99,6 +99,9 @@ aside (Run (Some name)) = record {
 }
 aside Certify = record { given = λ texts system rest. ([], tt); shelf = λ system old new w. w; taken = λ texts system old new gave front. tt; ends = λ system old new result away. tt }
 aside (Check certificate) = record { given = λ texts system rest. ([], tt); shelf = λ system old new w. w; taken = λ texts system old new gave front. tt; ends = λ system old new result away. tt }
+aside Shortest = record { given = λ texts system rest. ([], tt); shelf = λ system old new w. w; taken = λ texts system old new gave front. tt; ends = λ system old new result away. tt }
+aside (Advise costs requests) = record { given = λ texts system rest. ([], tt); shelf = λ system old new w. w; taken = λ texts system old new gave front. tt; ends = λ system old new result away. tt }
+aside Resilience = record { given = λ texts system rest. ([], tt); shelf = λ system old new w. w; taken = λ texts system old new gave front. tt; ends = λ system old new result away. tt }
 
 -- Documents that aren't opened
 
@@ -152,6 +155,9 @@ silent Synth plain = record { given = λ texts system rest. tt; taken = λ texts
 silent (Run name) plain = absurd plain
 silent Certify plain = record { given = λ texts system rest. tt; taken = λ texts system old new. tt; ends = λ system old new result. tt }
 silent (Check certificate) plain = record { given = λ texts system rest. tt; taken = λ texts system old new. tt; ends = λ system old new result. tt }
+silent Shortest plain = record { given = λ texts system rest. tt; taken = λ texts system old new. tt; ends = λ system old new result. tt }
+silent (Advise costs requests) plain = record { given = λ texts system rest. tt; taken = λ texts system old new. tt; ends = λ system old new result. tt }
+silent Resilience plain = record { given = λ texts system rest. tt; taken = λ texts system old new. tt; ends = λ system old new result. tt }
 
 pub job_served : (system : List ℕ) (job : Job) (old new : Desk) (result : Status) → IsPlain job → DoesJob system job old new result → ServedBeside (Some (On system job)) old new result
 job_served system job old new result plain does rest faults =

@@ -7,7 +7,8 @@ use Rattle.roman_model.specs.Certificate.{TooLong, cert_verdict}
 use Rattle.roman_library.specs.Library.{PlainLibrary}
 use Rattle.roman_session.specs.Starts.{start_of}
 use Rattle.roman_session.specs.Hearing.{is_heard_out}
-use Rattle.roman_top.specs.Command.{Job, Synth, Run, Certify, Check, Command, On, Make}
+use Rattle.roman_top.specs.Command.{Job, Synth, Run, Certify, Check, Shortest, Advise, Resilience, Command, On, Make}
+use Rattle.roman_top.specs.Advice.{Affords}
 use Rattle.roman_top.specs.Opening.{Accepted, opened, library_system}
 use Rattle.roman_top.specs.Run.{WithTexts}
 use Rattle.roman_top.specs.World.{World}
@@ -32,6 +33,9 @@ Suffices (Run None) texts rest library = IsShort rest
 Suffices (Run (Some name)) texts rest library = IsTrue (is_heard_out (text_of texts name))
 Suffices Certify texts rest library = Unit {0}
 Suffices (Check certificate) texts rest library = IsShortFor library (text_of texts certificate)
+Suffices Shortest texts rest library = Unit {0}
+Suffices (Advise costs requests) texts rest library = Affords costs requests texts library
+Suffices Resilience texts rest library = Unit {0}
 
 -- nothing but a fault or want of memory keeps the command from its answer
 abbrev pub CanAnswer : Option Command → Texts → Option (List ℕ) → Type 0

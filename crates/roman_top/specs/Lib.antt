@@ -1,4 +1,5 @@
 pub mod Accepted
+pub mod Advice
 pub mod Causes
 pub mod Command
 pub mod Complete
@@ -8,7 +9,9 @@ pub mod Headline
 pub mod Made
 pub mod Numbers
 pub mod Opening
+pub mod Outlooks
 pub mod RefusalLine
+pub mod Requests
 pub mod Run
 pub mod Served
 pub mod Sessions

@@ -28,6 +28,7 @@ part_word part.Environment = codes "environment"
 part_word (part.Behaviour i) = codes "behaviour"
 part_word (part.Service i) = codes "service"
 part_word (part.Target i) = codes "target"
+part_word part.Costs = codes "costs"
 
 -- the number of a part, 0 where there is only one
 abbrev pub part_number : Part → ℕ
@@ -36,6 +37,7 @@ part_number part.Environment = 0
 part_number (part.Behaviour i) = i
 part_number (part.Service i) = i
 part_number (part.Target i) = i
+part_number part.Costs = 0
 
 -- the word of a member or a list
 abbrev pub list_word : Place → List ℕ

@@ -13,9 +13,12 @@ use Rattle.roman_library.specs.Library.{PlainLibrary}
 use Rattle.roman_session.specs.Reports.{report_text}
 use Rattle.roman_session.specs.Starts.{parts_of, start_of}
 use Rattle.roman_session.specs.Hearing.{front_of, is_heard_out}
-use Rattle.roman_top.specs.Command.{Job, Synth, Run, Certify, Check, Command, On, Make, usage_line}
+use Rattle.roman_rank.specs.DepthText.{TellsDepths}
+use Rattle.roman_top.specs.Command.{Job, Synth, Run, Certify, Check, Shortest, Advise, Resilience, Command, On, Make, usage_line}
+use Rattle.roman_top.specs.Advice.{GivesAdvice}
 use Rattle.roman_top.specs.Made.{Summarises}
 use Rattle.roman_top.specs.Opening.{Says, library_system, opened, OnOpening}
+use Rattle.roman_top.specs.Outlooks.{outlook_text}
 use Rattle.roman_top.specs.Sessions.{Tells}
 use Rattle.roman_top.specs.Verdicts.{greatest_text, rejected_text}
 use Rattle.roman_top.specs.World.{World}
@@ -57,6 +60,19 @@ Checks certificate library out result =
     let s = library_system library in
     Judges (cert_verdict (numbered s) (number (sizes_of s) (start_of library)) certificate) out result
 
+-- the depths of the system's pairs; what is told of the start pair is the least number of requests within which the
+-- opponent wins against every delegation
+abbrev pub ShortensSystem : Sys → Pair → List ℕ → Status → Type 0
+ShortensSystem s p out result = TellsDepths s p out × (result ≡ status.Done)
+
+-- shortest: the depths, from the starting states
+abbrev pub Shortens : PlainLibrary → List ℕ → Status → Type 0
+Shortens library out result = ShortensSystem (library_system library) (start_of library) out result
+
+-- resilience: what the starting states can look forward to, and what is left of it where services fail
+abbrev pub Foresees : PlainLibrary → List ℕ → Status → Type 0
+Foresees library out result = Says (outlook_text (parts_of library) (start_of library)) status.Done out result
+
 -- run: what is told of the lines, or of those that end within as much as is ever read
 abbrev pub Talks : List ℕ → PlainLibrary → List ℕ → Status → Type 0
 Talks session library out result =
@@ -74,6 +90,9 @@ Does Synth texts session = Synthesises
 Does (Run name) texts session = Talks session
 Does Certify texts session = Certifies
 Does (Check certificate) texts session = Checks (text_of texts certificate)
+Does Shortest texts session = Shortens
+Does (Advise costs requests) texts session = GivesAdvice costs requests texts
+Does Resilience texts session = Foresees
 
 -- ---- runs
 

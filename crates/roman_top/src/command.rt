@@ -2,6 +2,7 @@
 ghost use Rattle.std.specs.Prelude.{◌≡◌};
 ghost use Rattle.std.specs.Option.{option_map};
 
+use crate::requests::{Requests, requests_of};
 use crate::workers::{Workers, workers_of};
 use roman_io::Words;
 
@@ -28,11 +29,24 @@ pub(crate) enum Command<'a> {
         /// The certificate's name.
         certificate: &'a str,
     },
+    /// `shortest SYSTEM`: within how many requests the opponent wins.
+    Shortest(&'a str),
+    /// `advise SYSTEM COSTS H`: the least that H requests cost at worst, and how to come by it.
+    Advise {
+        /// The system's name.
+        system: &'a str,
+        /// The name of the costs.
+        costs: &'a str,
+        /// For how many requests.
+        requests: Requests,
+    },
+    /// `resilience SYSTEM`: what is left where services fail.
+    Resilience(&'a str),
     /// `make N`: how a system of N workers stands while its script is run.
     Make(Workers),
 }
 
-ghost use Rattle.roman_top.specs.Command.{command_as, command_of, with_one, with_two};
+ghost use Rattle.roman_top.specs.Command.{command_as, command_of, with_one, with_two, with_three};
 
 /// The command that the words are, where they have the shape of one.
 pub(crate) fn command_of(words: &Words) -> Option<Command<'_>>
@@ -41,6 +55,7 @@ pub(crate) fn command_of(words: &Words) -> Option<Command<'_>>
     match words.len() {
         2 => with_one(words.at(0), words.at(1)),
         3 => with_two(words.at(0), words.at(1), words.at(2)),
+        4 => with_three(words.at(0), words.at(1), words.at(2), words.at(3)),
         _ => None,
     }
 }
@@ -53,6 +68,8 @@ fn with_one<'a>(word: &str, name: &'a str) -> Option<Command<'a>>
         "synth" => Some(Command::Synth(name)),
         "run" => Some(Command::Run(name)),
         "certify" => Some(Command::Certify(name)),
+        "shortest" => Some(Command::Shortest(name)),
+        "resilience" => Some(Command::Resilience(name)),
         "make" => Some(Command::Make(workers_of(name)?)),
         _ => None,
     }
@@ -70,6 +87,20 @@ fn with_two<'a>(word: &str, name: &'a str, other: &'a str) -> Option<Command<'a>
         "check" => Some(Command::Check {
             system: name,
             certificate: other,
+        }),
+        _ => None,
+    }
+}
+
+/// The command of a word, two names and one more word.
+fn with_three<'a>(word: &str, name: &'a str, other: &'a str, third: &str) -> Option<Command<'a>>
+    ensures { option_map command_as result ≡ with_three word.now name.now other.now third.now }
+{
+    match word {
+        "advise" => Some(Command::Advise {
+            system: name,
+            costs: other,
+            requests: requests_of(third)?,
         }),
         _ => None,
     }

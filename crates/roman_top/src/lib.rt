@@ -1,6 +1,7 @@
 //! The program as one call.
 #![tactic(auto)]
 
+mod advise;
 mod certify;
 mod check;
 mod command;
@@ -8,8 +9,12 @@ mod laws;
 mod limits;
 mod make;
 mod opening;
+mod outlooks;
 mod refusals;
+mod requests;
+mod resilience;
 mod run;
+mod shortest;
 mod stage;
 mod status;
 mod summary;

@@ -1,5 +1,6 @@
 //! Documents that are opened for a command.
-ghost use Rattle.std.specs.Prelude.{IfOk};
+ghost use Rattle.std.specs.Prelude.{◌≤◌, length, IfOk};
+ghost use Rattle.roman_model.specs.declared.limits.TheConstants.{MAX_BEHAVIOURS};
 ghost use Rattle.roman_library.specs.Library.{PlainLibrary, IsLibrary, plain};
 ghost use Rattle.roman_session.specs.Building.{IsSeated};
 ghost use Rattle.roman_session.specs.Known.{AreBehaviours};
@@ -27,6 +28,7 @@ pub(crate) fn open_system<F: Shelf, O: Sink>(
         (desk (F.texts shelf.old) (F.faults shelf.old) (O.written out.old) (O.faults out.old))
         (desk (F.texts shelf.new) (F.faults shelf.new) (O.written out.new) (O.faults out.new)) result }
     ensures seated { IfOk result (λ seated. (library : PlainLibrary) × IsSeated library seated) }
+    ensures few { IfOk result (λ seated. length seated.joint.catalogue ≤ MAX_BEHAVIOURS) }
 {
     let library = match read_library(alloc, name, shelf, out) {
         Ok(library) => library,

@@ -81,6 +81,7 @@ fn word_of_part(part: &Part) -> &'static [u8]
         Part::Behaviour(_) => b"behaviour",
         Part::Service(_) => b"service",
         Part::Target(_) => b"target",
+        Part::Costs => b"costs",
     }
 }
 
@@ -93,6 +94,7 @@ fn number_of_part(part: &Part) -> u32
         Part::Behaviour(i) => *i,
         Part::Service(i) => *i,
         Part::Target(i) => *i,
+        Part::Costs => 0,
     }
 }
 

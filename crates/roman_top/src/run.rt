@@ -9,10 +9,13 @@ ghost use Rattle.roman_top.specs.Headline.{HasHeadline};
 ghost use Rattle.roman_top.specs.Served.{Served};
 ghost use Rattle.roman_top.specs.World.{world};
 
+use crate::advise::advise;
 use crate::certify::certify;
 use crate::check::check_certificate;
 use crate::command::{Command, command_of};
 use crate::make::summarise;
+use crate::resilience::foresee;
+use crate::shortest::shortest;
 use crate::status::{Status, finish};
 use crate::synth::synthesise;
 use crate::talking::{talk_input, talk_shelf};
@@ -27,10 +30,17 @@ use std::sync::ledger::Ledger;
 /// the shelf; the status says whether the start pair is related. `run SYSTEM` answers a session of
 /// that system line by line, to its end or to its line `quit`; the lines come from `input`, and
 /// those of `run SYSTEM SESSION` from the shelf. `certify SYSTEM` writes a certificate of which pairs
-/// are related, and `check SYSTEM CERT` the verdict on the certificate on the shelf. `make N`, for N
+/// are related, and `check SYSTEM CERT` the verdict on the certificate on the shelf. `resilience
+/// SYSTEM` writes whether the start pair is related, how many pairs are and how many services may be
+/// offered, and the same where one service freezes or dies, or two do. `make N`, for N
 /// from 1 to 10, asks the shelf for nothing: it makes a system of N workers, runs its script on a
 /// session, and writes a summary of how the session stands at the start, after each of the script's
 /// first four lines, and at its end.
+///
+/// `shortest SYSTEM` writes within how many requests the opponent wins. `advise SYSTEM COSTS H`, for H from 1 to 64, writes the least
+/// that H requests cost at worst by the costs on the shelf, the service to take for each of them, and
+/// these values for each related pair; or that the start pair isn't related, or that there are too
+/// many of them.
 pub fn serve<F: Shelf, I: Source, O: Sink, L: Ledger>(
     alloc: Global,
     words: &Words,
@@ -73,7 +83,7 @@ fn put_usage<O: Sink>(out: &mut O) -> Result<(), Failed>
     ensures cause { HasCause (O.faults out.old) (O.faults out.new) result }
 {
     out.put(
-        b"usage: roman synth SYSTEM | run SYSTEM [SESSION] | certify SYSTEM | check SYSTEM CERT | make N\n",
+        b"usage: roman synth SYSTEM | run SYSTEM [SESSION] | certify SYSTEM | check SYSTEM CERT | make N | resilience SYSTEM | shortest SYSTEM | advise SYSTEM COSTS H\n",
     )
 }
 
@@ -104,6 +114,13 @@ fn obey<F: Shelf, I: Source, O: Sink, L: Ledger>(
             system,
             certificate,
         } => check_certificate(alloc, system, certificate, shelf, out, steps),
+        Command::Shortest(system) => shortest(alloc, system, shelf, out, steps),
+        Command::Advise {
+            system,
+            costs,
+            requests,
+        } => advise(alloc, system, costs, requests, shelf, out, steps),
+        Command::Resilience(system) => foresee(alloc, system, shelf, out, steps),
         Command::Make(workers) => summarise(alloc, workers, out, steps),
     }
 }

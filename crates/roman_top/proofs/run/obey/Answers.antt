@@ -1,5 +1,5 @@
 use Rattle.std.proofs.Common.{None, Some, ap}
-use Rattle.roman_top.specs.Command.{Synth, Run, Certify, Check, Command, On, Make, command_as}
+use Rattle.roman_top.specs.Command.{Synth, Run, Certify, Check, Shortest, Resilience, Advise, Command, On, Make, command_as}
 use Rattle.roman_top.proofs.ServedLemmas.{served_as, made_served}
 use Rattle.roman_top.proofs.run.obey.Goals as goal
 
@@ -23,9 +23,24 @@ returns-in-Check-clause-served g c =
     served_as _ (Some (On c.in-Check.system.now (Check c.in-Check.certificate.now))) _ _ c.check_certificate.result (ap (λ command. Some (command_as command)) c.in-Check.is)
     (c.check_certificate.ensures.served (g.I.Source.rest c.args.input.now) (g.I.Source.faults c.args.input.now))
 
+pub returns-in-Resilience-clause-served : goal.returns-in-Resilience-clause-served
+returns-in-Resilience-clause-served g c =
+    served_as _ (Some (On c.in-Resilience.system.now Resilience)) _ _ c.foresee.result (ap (λ command. Some (command_as command)) c.in-Resilience.is)
+    (c.foresee.ensures.served (g.I.Source.rest c.args.input.now) (g.I.Source.faults c.args.input.now))
+
+pub returns-in-Advise-clause-served : goal.returns-in-Advise-clause-served
+returns-in-Advise-clause-served g c =
+    served_as _ (Some (On c.in-Advise.system.now (Advise c.in-Advise.costs.now c.in-Advise.requests.count))) _ _ c.advise.result (ap (λ command. Some (command_as command)) c.in-Advise.is)
+    (c.advise.ensures.served (g.I.Source.rest c.args.input.now) (g.I.Source.faults c.args.input.now))
+
 pub returns-in-Run-clause-served : goal.returns-in-Run-clause-served
 returns-in-Run-clause-served g c =
     served_as _ (Some (On c.in-Run.system.now (Run None))) _ _ c.talk_input.result (ap (λ command. Some (command_as command)) c.in-Run.is) c.talk_input.ensures.served
+
+pub returns-in-Shortest-clause-served : goal.returns-in-Shortest-clause-served
+returns-in-Shortest-clause-served g c =
+    served_as _ (Some (On c.in-Shortest.system.now Shortest)) _ _ c.shortest.result (ap (λ command. Some (command_as command)) c.in-Shortest.is)
+    (c.shortest.ensures.served (g.I.Source.rest c.args.input.now) (g.I.Source.faults c.args.input.now))
 
 pub returns-in-Make-clause-served : goal.returns-in-Make-clause-served
 returns-in-Make-clause-served g c =

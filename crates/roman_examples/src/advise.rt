@@ -1,0 +1,532 @@
+//! Advice, and costs that are refused.
+ghost use Rattle.std.specs.Prelude.{◌≡◌, ◌<◌};
+
+use crate::case::{USAGE, has_lines, words_of};
+use crate::texts::Text;
+use roman_io::{MemShelf, MemSink, QuietSource, Sink, Steps, Waste};
+use roman_top::{Status, serve};
+use std::alloc::{AllocError, Global};
+use std::marker::Brand;
+use std::sync::ledger::{Blank, Ledger};
+use std::test::Fail;
+
+/// LAMP with a further behaviour, the same machine, and a second service of it.
+const SPARE: &str =
+    r#"{"roman":1,"environment":{"states":["e"],"start":"e","actions":["on","off"],"steps":[["e","on","e"],["e","off","e"]]},"behaviours":[{"name":"lamp","states":["off","on"],"start":"off","final":["off"],"steps":[["off",true,"on","on"],["on",true,"off","off"]]},{"name":"spare","states":["off","on"],"start":"off","final":["off"],"steps":[["off",true,"on","on"],["on",true,"off","off"]]}],"services":[{"name":"l1","behaviour":"lamp"},{"name":"s1","behaviour":"spare"}],"target":{"states":["off","on"],"start":"off","final":["off"],"steps":[["off",true,"on","on"],["on",true,"off","off"]]}}"#;
+
+/// Fourteen services of two states, and a target that asks for nothing: 16,384 related pairs with the
+/// target state `a`, and with `b`, which is final, none.
+const MANY: &str =
+    r#"{"roman":1,"environment":{"states":["e"],"start":"e","actions":["on"],"steps":[]},"behaviours":[{"name":"two","states":["s","t"],"start":"s","final":[],"steps":[]}],"services":[{"name":"a","behaviour":"two"},{"name":"b","behaviour":"two"},{"name":"c","behaviour":"two"},{"name":"d","behaviour":"two"},{"name":"e","behaviour":"two"},{"name":"f","behaviour":"two"},{"name":"g","behaviour":"two"},{"name":"h","behaviour":"two"},{"name":"i","behaviour":"two"},{"name":"j","behaviour":"two"},{"name":"k","behaviour":"two"},{"name":"l","behaviour":"two"},{"name":"m","behaviour":"two"},{"name":"n","behaviour":"two"}],"target":{"states":["a","b"],"start":"a","final":["b"],"steps":[]}}"#;
+
+/// The same, with one related pair more: that with `b` in which all services are final.
+const ONE_MORE: &str =
+    r#"{"roman":1,"environment":{"states":["e"],"start":"e","actions":["on"],"steps":[]},"behaviours":[{"name":"two","states":["s","t"],"start":"s","final":["t"],"steps":[]}],"services":[{"name":"a","behaviour":"two"},{"name":"b","behaviour":"two"},{"name":"c","behaviour":"two"},{"name":"d","behaviour":"two"},{"name":"e","behaviour":"two"},{"name":"f","behaviour":"two"},{"name":"g","behaviour":"two"},{"name":"h","behaviour":"two"},{"name":"i","behaviour":"two"},{"name":"j","behaviour":"two"},{"name":"k","behaviour":"two"},{"name":"l","behaviour":"two"},{"name":"m","behaviour":"two"},{"name":"n","behaviour":"two"}],"target":{"states":["a","b"],"start":"a","final":["b"],"steps":[]}}"#;
+
+/// A system.
+#[derive(Clone, Copy)]
+enum System {
+    /// One that other examples have too.
+    Known(Text),
+    /// One of these.
+    Own(&'static str),
+}
+
+/// One request for advice, and what it must come to.
+#[derive(Clone, Copy)]
+struct Asked {
+    /// What it shows.
+    name: &'static str,
+    /// The document, on the shelf as `s.json`.
+    system: System,
+    /// The text of the costs, on the shelf as `c.json`.
+    costs: &'static str,
+    /// The words behind `advise`.
+    words: &'static [&'static str],
+    /// The lines that are written.
+    output: &'static [&'static str],
+    /// How the run ends.
+    status: Status,
+}
+
+static ASKED: [Asked; 11] = [
+    Asked {
+        name: "three requests of a lamp",
+        system: System::Known(Text::Lamp),
+        costs: r#"[["lamp","on",3],["lamp","off",1]]"#,
+        words: &["s.json", "c.json", "3"],
+        output: &[
+            "worst 7",
+            "for on: l1 7",
+            "value 1 0 3",
+            "value 1 3 1",
+            "value 2 0 4",
+            "value 2 3 4",
+            "value 3 0 7",
+            "value 3 3 5",
+            "end",
+        ],
+        status: Status::Done,
+    },
+    Asked {
+        name: "one request, a spare lamp",
+        system: System::Own(SPARE),
+        costs: r#"[["lamp","on",3],["lamp","off",1],["spare","on",1],["spare","off",9]]"#,
+        words: &["s.json", "c.json", "1"],
+        output: &[
+            "worst 1",
+            "for on: s1 1",
+            "value 1 0 1",
+            "value 1 5 9",
+            "value 1 6 1",
+            "end",
+        ],
+        status: Status::Done,
+    },
+    Asked {
+        name: "two requests, a spare lamp",
+        system: System::Own(SPARE),
+        costs: r#"[["lamp","on",3],["lamp","off",1],["spare","on",1],["spare","off",9]]"#,
+        words: &["s.json", "c.json", "2"],
+        output: &[
+            "worst 4",
+            "for on: l1 4",
+            "value 1 0 1",
+            "value 1 5 9",
+            "value 1 6 1",
+            "value 2 0 4",
+            "value 2 5 10",
+            "value 2 6 2",
+            "end",
+        ],
+        status: Status::Done,
+    },
+    Asked {
+        name: "services that cost as much",
+        system: System::Own(SPARE),
+        costs: r#"[["spare","off",2],["lamp","off",2]]"#,
+        words: &["s.json", "c.json", "1"],
+        output: &[
+            "worst 0",
+            "for on: l1 0",
+            "value 1 0 0",
+            "value 1 5 2",
+            "value 1 6 2",
+            "end",
+        ],
+        status: Status::Done,
+    },
+    Asked {
+        name: "the greatest cost",
+        system: System::Known(Text::Lamp),
+        costs: r#"[["lamp","on",1000000]]"#,
+        words: &["s.json", "c.json", "1"],
+        output: &[
+            "worst 1000000",
+            "for on: l1 1000000",
+            "value 1 0 1000000",
+            "value 1 3 0",
+            "end",
+        ],
+        status: Status::Done,
+    },
+    Asked {
+        name: "nothing asked",
+        system: System::Known(Text::NoOn),
+        costs: "[]",
+        words: &["s.json", "c.json", "1"],
+        output: &["worst 0", "value 1 0 0", "value 1 3 0", "end"],
+        status: Status::Done,
+    },
+    Asked {
+        name: "no composition",
+        system: System::Known(Text::Flaky),
+        costs: "[]",
+        words: &["s.json", "c.json", "1"],
+        output: &["answer none"],
+        status: Status::No,
+    },
+    Asked {
+        name: "a behaviour that no service has",
+        system: System::Known(Text::Flaky),
+        costs: r#"[["lamp","off",4],["flaky","on",1]]"#,
+        words: &["s.json", "c.json", "64"],
+        output: &["answer none"],
+        status: Status::No,
+    },
+    Asked {
+        name: "costs before the start pair",
+        system: System::Known(Text::Flaky),
+        costs: "{}",
+        words: &["s.json", "c.json", "1"],
+        output: &["refused c.json form costs 0 whole 0"],
+        status: Status::Refused,
+    },
+    Asked {
+        name: "requests named by their target",
+        system: System::Known(Text::Two),
+        costs: r#"[["lamp","on-a",1],["lamp","off-b",2],["lamp","on",3]]"#,
+        words: &["s.json", "c.json", "1"],
+        output: &["refused c.json unknown costs 0 steps 2"],
+        status: Status::Refused,
+    },
+    Asked {
+        name: "too many values",
+        system: System::Own(ONE_MORE),
+        costs: "[]",
+        words: &["s.json", "c.json", "64"],
+        output: &["limit 1048576"],
+        status: Status::Limit,
+    },
+];
+
+static BEFORE_COSTS: [Asked; 5] = [
+    Asked {
+        name: "the document before its costs",
+        system: System::Known(Text::Limit0),
+        costs: "",
+        words: &["s.json", "gone.json", "1"],
+        output: &["refused s.json count system 0 limit 0"],
+        status: Status::Refused,
+    },
+    Asked {
+        name: "the cells before the costs",
+        system: System::Known(Text::Limit7),
+        costs: "",
+        words: &["s.json", "gone.json", "1"],
+        output: &["limit 7"],
+        status: Status::Limit,
+    },
+    Asked {
+        name: "costs that are not there",
+        system: System::Known(Text::Lamp),
+        costs: "[]",
+        words: &["s.json", "gone.json", "1"],
+        output: &[],
+        status: Status::ShelfFault,
+    },
+    Asked {
+        name: "a word short",
+        system: System::Known(Text::Lamp),
+        costs: "[]",
+        words: &["s.json", "c.json"],
+        output: &[USAGE],
+        status: Status::Usage,
+    },
+    Asked {
+        name: "a word more",
+        system: System::Known(Text::Lamp),
+        costs: "[]",
+        words: &["s.json", "c.json", "1", "1"],
+        output: &[USAGE],
+        status: Status::Usage,
+    },
+];
+
+/// Words that are no number of requests.
+static NO_NUMBERS: [&str; 13] = [
+    "0", "65", "01", "+1", "", "-1", "00", "064", "1.0", "1e1", " 1", "99", "100",
+];
+
+/// Texts of costs, and what their refusals say.
+static TEXTS: [(&str, &str); 17] = [
+    ("", "notjson costs 0 whole 0"),
+    ("[", "notjson costs 0 whole 0"),
+    ("[] []", "notjson costs 0 whole 0"),
+    ("{}", "form costs 0 whole 0"),
+    ("null", "form costs 0 whole 0"),
+    ("7", "form costs 0 whole 0"),
+    (r#""lamp""#, "form costs 0 whole 0"),
+    (r#"[["lamp","dim",1]]"#, "unknown costs 0 steps 0"),
+    (
+        r#"[["lamp","on",1],["lamp","on",1]]"#,
+        "repeated costs 0 steps 1",
+    ),
+    (
+        r#"[["lamp","on",1],["spare","on",1],["lamp","off",1],["lamp","on",2]]"#,
+        "repeated costs 0 steps 3",
+    ),
+    (
+        r#"[["lamp","on",1],["lamp","on",1000001]]"#,
+        "count costs 0 steps 1",
+    ),
+    (
+        r#"[["lamp","on","1"],["lump","on",1]]"#,
+        "form costs 0 steps 0",
+    ),
+    (r#"[["lump",1,1]]"#, "unknown costs 0 steps 0"),
+    (r#"[["lamp","dim",1.0]]"#, "unknown costs 0 steps 0"),
+    (r#"[["lamp",1,1000001]]"#, "form costs 0 steps 0"),
+    (r#"[[1,"dim",1]]"#, "form costs 0 steps 0"),
+    (r#"[["l1","on",1]]"#, "unknown costs 0 steps 0"),
+];
+
+/// Items that are refused wherever they stand, and the rules that they break.
+static ITEMS: [(&str, &str); 20] = [
+    ("1", "form"),
+    ("null", "form"),
+    (r#"{"lamp":"on"}"#, "form"),
+    ("[]", "form"),
+    (r#"["spare","off"]"#, "form"),
+    (r#"["spare","off",1,1]"#, "form"),
+    (r#"[1,"off",1]"#, "form"),
+    (r#"["Spare","off",1]"#, "unknown"),
+    (r#"["","off",1]"#, "unknown"),
+    (r#"["spare",null,1]"#, "form"),
+    (r#"["spare","dim",1]"#, "unknown"),
+    (r#"["spare","off",1.0]"#, "form"),
+    (r#"["spare","off",1e3]"#, "form"),
+    (r#"["spare","off",-0]"#, "form"),
+    (r#"["spare","off",-1]"#, "form"),
+    (r#"["spare","off","1"]"#, "form"),
+    (r#"["spare","off",null]"#, "form"),
+    (r#"["spare","off",18446744073709551616]"#, "form"),
+    (r#"["spare","off",1000001]"#, "count"),
+    (r#"["spare","off",18446744073709551615]"#, "count"),
+];
+
+/// Items that are taken.
+static GOOD: [&str; 2] = [r#"["lamp","on",1]"#, r#"["lamp","off",1]"#];
+
+/// The bytes of a system's document.
+fn document(alloc: Global, system: System) -> Result<Vec<u8>, AllocError> {
+    match system {
+        System::Known(text) => text.bytes(alloc),
+        System::Own(text) => Vec::from_slice(alloc, text.as_bytes()),
+    }
+}
+
+/// The status of `advise` and these words on those texts; what is written goes to a sink.
+fn advise<O: Sink, L: Ledger>(
+    alloc: Global,
+    system: System,
+    costs: Vec<u8>,
+    words: &[&str],
+    out: &mut O,
+    steps: &mut Steps<L>,
+) -> Result<Status, AllocError> {
+    let mut files = Vec::new(alloc);
+    files.push((String::from_str(alloc, "s.json")?, document(alloc, system)?))?;
+    files.push((String::from_str(alloc, "c.json")?, costs))?;
+    let mut shelf = MemShelf::new(files, Vec::new(alloc));
+    let mut input = QuietSource::new(Vec::new(alloc));
+    let mut all = words_of(alloc, &["advise"])?;
+    for word in words {
+        all.push(word)?;
+    }
+    Ok(serve(alloc, &all, &mut shelf, &mut input, out, steps))
+}
+
+/// What the first request comes to that doesn't come to what it must, with its name; nothing where
+/// each one does.
+fn first_wrong<L: Ledger>(alloc: Global, rows: &[Asked], blank: Blank) -> Result<String, AllocError>
+    requires name { blank.name ≡ L.name }
+    requires parts { blank.parts ≡ L.parts }
+    requires some { 0 < L.parts }
+{
+    let mut steps = Steps::<L>::new(blank);
+    for row in rows {
+        let mut out = MemSink::new(alloc, Vec::new(alloc));
+        let costs = Vec::from_slice(alloc, row.costs.as_bytes())?;
+        let status = advise(alloc, row.system, costs, row.words, &mut out, &mut steps)?;
+        let written = str::from_utf8(out.bytes()).unwrap_or("no text");
+        if status != row.status || !has_lines(written, row.output) {
+            return format!(in alloc; "{}: status {}\n{}", row.name, status.number(), written);
+        }
+    }
+    Ok(String::new(alloc))
+}
+
+#[test]
+fn advice_is_given(rt: HostRuntime) -> Result<(), Fail> {
+    let wrong = first_wrong::<Brand>(rt.alloc(), &ASKED, Blank::new(1))?;
+    assert_eq!(rt; wrong.as_str(), "");
+    let wrong = first_wrong::<Brand>(rt.alloc(), &BEFORE_COSTS, Blank::new(1))?;
+    assert_eq!(rt; wrong.as_str(), "");
+    Ok(())
+}
+
+/// What the first of the words that are no numbers comes to that isn't answered by the usage line.
+fn first_number<L: Ledger>(alloc: Global, blank: Blank) -> Result<String, AllocError>
+    requires name { blank.name ≡ L.name }
+    requires parts { blank.parts ≡ L.parts }
+    requires some { 0 < L.parts }
+{
+    let mut steps = Steps::<L>::new(blank);
+    for word in &NO_NUMBERS {
+        let mut out = MemSink::new(alloc, Vec::new(alloc));
+        let costs = Vec::from_slice(alloc, b"[]")?;
+        let words = ["s.json", "c.json", word];
+        let system = System::Known(Text::Lamp);
+        let status = advise(alloc, system, costs, &words, &mut out, &mut steps)?;
+        let written = str::from_utf8(out.bytes()).unwrap_or("no text");
+        if status != Status::Usage || !has_lines(written, &[USAGE]) {
+            return format!(in alloc; "{}: status {}\n{}", word, status.number(), written);
+        }
+    }
+    Ok(String::new(alloc))
+}
+
+#[test]
+fn requests_are_counted_in_plain_digits(rt: HostRuntime) -> Result<(), Fail> {
+    let wrong = first_number::<Brand>(rt.alloc(), Blank::new(1))?;
+    assert_eq!(rt; wrong.as_str(), "");
+    Ok(())
+}
+
+/// What a text of costs comes to where that isn't its refusal: nothing where it is.
+fn unrefused<L: Ledger>(
+    alloc: Global,
+    costs: Vec<u8>,
+    rule: &str,
+    steps: &mut Steps<L>,
+) -> Result<String, AllocError> {
+    let mut out = MemSink::new(alloc, Vec::new(alloc));
+    let words = ["s.json", "c.json", "1"];
+    let status = advise(alloc, System::Own(SPARE), costs, &words, &mut out, steps)?;
+    let written = str::from_utf8(out.bytes()).unwrap_or("no text");
+    let line = format!(in alloc; "refused c.json {}\n", rule)?;
+    if status == Status::Refused && written == line.as_str() {
+        return Ok(String::new(alloc));
+    }
+    format!(in alloc; "not {}: status {}\n{}", rule, status.number(), written)
+}
+
+/// What the first of the texts comes to that isn't refused by its rule.
+fn first_text<L: Ledger>(alloc: Global, blank: Blank) -> Result<String, AllocError>
+    requires name { blank.name ≡ L.name }
+    requires parts { blank.parts ≡ L.parts }
+    requires some { 0 < L.parts }
+{
+    let mut steps = Steps::<L>::new(blank);
+    for (text, rule) in &TEXTS {
+        let costs = Vec::from_slice(alloc, text.as_bytes())?;
+        let wrong = unrefused(alloc, costs, rule, &mut steps)?;
+        if !wrong.is_empty() {
+            return Ok(wrong);
+        }
+    }
+    Ok(String::new(alloc))
+}
+
+/// The text of three items, the one at that place being this one.
+fn items_with(alloc: Global, place: usize, item: &str) -> Result<Vec<u8>, AllocError> {
+    let [first, second] = GOOD;
+    let text = match place {
+        0 => format!(in alloc; "[{},{},{}]", item, first, second)?,
+        1 => format!(in alloc; "[{},{},{}]", first, item, second)?,
+        _ => format!(in alloc; "[{},{},{}]", first, second, item)?,
+    };
+    Vec::from_slice(alloc, text.as_bytes())
+}
+
+/// What the first of the items comes to that isn't refused by its rule, at the first place, in the
+/// middle or at the last.
+fn first_item<L: Ledger>(alloc: Global, blank: Blank) -> Result<String, AllocError>
+    requires name { blank.name ≡ L.name }
+    requires parts { blank.parts ≡ L.parts }
+    requires some { 0 < L.parts }
+{
+    let mut steps = Steps::<L>::new(blank);
+    for (item, kind) in &ITEMS {
+        for place in 0..3usize {
+            let costs = items_with(alloc, place, item)?;
+            let rule = format!(in alloc; "{} costs 0 steps {}", kind, place)?;
+            let wrong = unrefused(alloc, costs, rule.as_str(), &mut steps)?;
+            if !wrong.is_empty() {
+                return Ok(wrong);
+            }
+        }
+    }
+    Ok(String::new(alloc))
+}
+
+#[test]
+fn costs_are_refused_by_their_first_rule(rt: HostRuntime) -> Result<(), Fail> {
+    let wrong = first_text::<Brand>(rt.alloc(), Blank::new(1))?;
+    assert_eq!(rt; wrong.as_str(), "");
+    let wrong = first_item::<Brand>(rt.alloc(), Blank::new(1))?;
+    assert_eq!(rt; wrong.as_str(), "");
+    Ok(())
+}
+
+/// A list of so many items, all the same.
+fn same_items(alloc: Global, count: u32) -> Result<Vec<u8>, AllocError> {
+    let mut text = Vec::from_slice(alloc, br#"[["lamp","on",1]"#)?;
+    for _ in 1..count {
+        text.extend_from_slice(br#",["lamp","on",1]"#)?;
+    }
+    text.push(b']')?;
+    Ok(text)
+}
+
+/// What is written of lists of 1,024 and of 1,025 items, and of texts of 1,048,576 bytes and of one more,
+/// where it isn't what it must be.
+fn past_limits<L: Ledger>(alloc: Global, blank: Blank) -> Result<String, AllocError>
+    requires name { blank.name ≡ L.name }
+    requires parts { blank.parts ≡ L.parts }
+    requires some { 0 < L.parts }
+{
+    let mut steps = Steps::<L>::new(blank);
+    let wrong = unrefused(
+        alloc,
+        same_items(alloc, 1024)?,
+        "repeated costs 0 steps 1",
+        &mut steps,
+    )?;
+    if !wrong.is_empty() {
+        return Ok(wrong);
+    }
+    let wrong = unrefused(
+        alloc,
+        same_items(alloc, 1025)?,
+        "count costs 0 whole 0",
+        &mut steps,
+    )?;
+    if !wrong.is_empty() {
+        return Ok(wrong);
+    }
+    let mut text = Vec::from_slice(alloc, b"7")?;
+    text.resize(1_048_576, b' ')?;
+    let wrong = unrefused(alloc, text, "form costs 0 whole 0", &mut steps)?;
+    if !wrong.is_empty() {
+        return Ok(wrong);
+    }
+    let mut text = Vec::from_slice(alloc, b"7")?;
+    text.resize(1_048_577, b' ')?;
+    unrefused(alloc, text, "toolong costs 0 whole 0", &mut steps)
+}
+
+#[test]
+fn costs_have_limits(rt: HostRuntime) -> Result<(), Fail> {
+    let wrong = past_limits::<Brand>(rt.alloc(), Blank::new(1))?;
+    assert_eq!(rt; wrong.as_str(), "");
+    Ok(())
+}
+
+/// The status of advice that has just as many values as there may be.
+fn most_values<L: Ledger>(alloc: Global, blank: Blank) -> Result<Status, AllocError>
+    requires name { blank.name ≡ L.name }
+    requires parts { blank.parts ≡ L.parts }
+    requires some { 0 < L.parts }
+{
+    let mut steps = Steps::<L>::new(blank);
+    let costs = Vec::from_slice(alloc, b"[]")?;
+    let words = ["s.json", "c.json", "64"];
+    let mut out = Waste::new();
+    advise(
+        alloc,
+        System::Own(MANY),
+        costs,
+        &words,
+        &mut out,
+        &mut steps,
+    )
+}
+
+#[test]
+fn as_many_values_as_there_may_be_are_given(rt: HostRuntime) -> Result<(), Fail> {
+    let status = most_values::<Brand>(rt.alloc(), Blank::new(1))?;
+    assert_eq!(rt; status, Status::Done);
+    Ok(())
+}

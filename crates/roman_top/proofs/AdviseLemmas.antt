@@ -1,0 +1,215 @@
+-- Advice by costs that were read, as part of a run.
+use Rattle.std.proofs.Common.{◌≡◌, ◌≢◌, ◌↔◌, ℕ, ◌*◌, ◌<◌, ◌≤◌, inl, inr, Bool, true, false, IsTrue, IsFalse, List, [], Option, Some, IfSome, Result, Ok, Err, refl, sym, ap, ◌∙◌, subst}
+use Rattle.std.proofs.lemmas.Bool.{cond-true, cond-false, lt-ltb, le-ltb, cases_lt}
+use Rattle.roman_io.specs.Faults.{HasCause}
+use Rattle.roman_io.specs.Shelf.{Texts}
+use Rattle.roman_io.specs.Sink.{Wrote, Puts}
+use Rattle.roman_model.specs.Composition.{Great}
+use Rattle.roman_model.specs.System.{Sys, Pair, IsSys}
+use Rattle.roman_model.specs.Numbers.{sizes_of, count, pair_at}
+use Rattle.roman_model.specs.Offers.{is_related, related_count}
+use Rattle.roman_model.proofs.Lists.{by_test, same_test}
+use Rattle.roman_model.proofs.CompositionLemmas.{related_great, great_related}
+use Rattle.roman_model.proofs.NumberLemmas.{numbers_are_pairs}
+use Rattle.roman_read.specs.declared.rules.Kind.{Kind}
+use Rattle.roman_parts.specs.declared.error.PartError.{PartError}
+use Rattle.roman_parts.specs.declared.error.PartError.TheVariants as part_error
+use Rattle.roman_joint.specs.NamedSys.{NamedSys, system_of}
+use Rattle.roman_library.specs.Library.{PlainLibrary}
+use Rattle.roman_library.specs.Refusals.{refusal_of}
+use Rattle.roman_library.specs.declared.refusal.Part.TheVariants as part
+use Rattle.roman_session.specs.Starts.{parts_of, start_of}
+use Rattle.roman_session.specs.Building.{IsSeated}
+use Rattle.roman_session.specs.declared.seating.Seated.{Seated}
+use Rattle.roman_cost.specs.AdviceText.{Advising, Unrelated, TooMany, Told, advice_text, advised_by}
+use Rattle.roman_cost.specs.Costs.{costs_of}
+use Rattle.roman_cost.specs.Refusals.{Reads, Caused, place_of_rule}
+use Rattle.roman_cost.specs.Tables.{CostTable}
+use Rattle.roman_cost.specs.declared.costs.Listed.{Listed}
+use Rattle.roman_cost.specs.declared.error.CostError.{CostError}
+use Rattle.roman_cost.specs.declared.error.CostError.TheVariants as cost
+use Rattle.roman_cost.specs.declared.error.AdviceError.{AdviceError}
+use Rattle.roman_cost.specs.declared.error.AdviceError.TheVariants as advice_error
+use Rattle.roman_cost.specs.declared.limits.TheConstants.{MAX_VALUES}
+use Rattle.roman_top.specs.Advice.{SaysAdvice, OnCosts, GivesAdvice, Affords, TellsRead, CausedByRead, IsSpoken}
+use Rattle.roman_top.specs.Causes.{ShelfCause, SinkCause}
+use Rattle.roman_top.specs.Command.{Advise, On}
+use Rattle.roman_top.specs.Complete.{IsAnswered}
+use Rattle.roman_top.specs.Endings.{Accepts, Opens, Finishes, Stops, Writes, WritesText}
+use Rattle.roman_top.specs.Opening.{Says, opened, OnOpening}
+use Rattle.roman_top.specs.RefusalLine.{refusal_line}
+use Rattle.roman_top.specs.Served.{ServedBeside}
+use Rattle.roman_top.specs.World.{desk}
+use Rattle.roman_top.specs.declared.status.Status.{Status}
+use Rattle.roman_top.specs.declared.status.Status.TheVariants as status
+use Rattle.roman_top.proofs.EndingLemmas.{told_both, on_accepted, writes_put, writes_weaker}
+use Rattle.roman_top.proofs.ServedLemmas.{job_served}
+
+-- ---- what a request for advice comes to
+
+-- what is told of the greatest ND-simulation is the test
+pub told_related : (s : Sys) (p : ℕ) (told : Bool) → IsSys s → p < count (sizes_of s) → (IsTrue told ↔ Great s (pair_at (sizes_of s) p)) → told ≡ is_related s (pair_at (sizes_of s) p)
+told_related s p told ok l great =
+    let P = pair_at (sizes_of s) p in
+    same_test told (is_related s P) (λ t. great_related s P ok (great.0 t)) (λ t. great.1 (related_great s P ok ((numbers_are_pairs s).pair p l) t))
+
+pub advised_unrelated : (n : NamedSys) (listed : List Listed) (h : ℕ) (p : Pair) → IsFalse (is_related (system_of n) p) → advised_by n listed h p ≡ Unrelated
+advised_unrelated n listed h p unrelated = cond-false (is_related (system_of n) p) _ Unrelated unrelated
+
+pub advised_many : (n : NamedSys) (listed : List Listed) (h : ℕ) (p : Pair) → IsTrue (is_related (system_of n) p) → MAX_VALUES < related_count (system_of n) * h → advised_by n listed h p ≡ TooMany
+advised_many n listed h p related many =
+    cond-true (is_related (system_of n) p) _ Unrelated related
+    ∙ cond-true _ TooMany (Told (advice_text n listed h p)) (lt-ltb MAX_VALUES (related_count (system_of n) * h) many)
+
+pub advised_told : (n : NamedSys) (listed : List Listed) (h : ℕ) (p : Pair) → IsTrue (is_related (system_of n) p) → related_count (system_of n) * h ≤ MAX_VALUES → advised_by n listed h p ≡ Told (advice_text n listed h p)
+advised_told n listed h p related few =
+    cond-true (is_related (system_of n) p) _ Unrelated related
+    ∙ cond-false _ TooMany (Told (advice_text n listed h p)) (le-ltb MAX_VALUES (related_count (system_of n) * h) few)
+
+-- there aren't too many values where that isn't answered
+pub few_values : {X : Type 0} (s : Sys) (h : ℕ) (built : Result X AdviceError) → (built ≡ Err advice_error.Limit → ⊥) → ((built ≡ Err advice_error.Limit) ↔ (MAX_VALUES < related_count s * h)) → related_count s * h ≤ MAX_VALUES
+few_values s h built other limit = elim (cases_lt MAX_VALUES (related_count s * h)) [
+  | inl many ↦ absurd (other (limit.1 many))
+  | inr few ↦ few
+]
+
+-- its text was put
+pub advice_put : {T E : Type 0} (advising is : Advising) (text : List ℕ) (ends : Status) (old new : Option (List ℕ)) (result : Status) (r : Result T E) → advising ≡ is → SaysAdvice is text ends →
+    Puts old new text r → Finishes r ends result → (WritesText (SaysAdvice is) old new ends → Writes (SaysAdvice is) old new ends) → Writes (SaysAdvice advising) old new result
+advice_put advising is text ends old new result r same says puts finishes whole =
+    subst (λ (a : Advising). Writes (SaysAdvice a) old new result) (sym same) (writes_put (SaysAdvice is) old new text ends result r puts finishes says whole)
+
+-- the same of the same system
+pub advice_moved : (n m : NamedSys) (listed : List Listed) (h start : ℕ) (old new : Option (List ℕ)) (result : Status) → n ≡ m →
+    Writes (SaysAdvice (advised_by n listed h (pair_at (sizes_of (system_of n)) start))) old new result → Writes (SaysAdvice (advised_by m listed h (pair_at (sizes_of (system_of m)) start))) old new result
+advice_moved n m listed h start old new result same writes = subst (λ (n : NamedSys). Writes (SaysAdvice (advised_by n listed h (pair_at (sizes_of (system_of n)) start))) old new result) same writes
+
+-- ---- how the parts end
+
+-- after a put
+pub finished_spoken : {T E : Type 0} (ends : Status) (old new : Option (List ℕ)) (result : Status) (r : Result T E) → IsSpoken old new ends → Finishes r ends result → IsSpoken old new result
+finished_spoken ends old new result (Ok x) spoken finishes = subst (IsSpoken old new) (sym finishes) spoken
+finished_spoken ends old new result (Err e) spoken finishes = subst (IsSpoken old new) (sym finishes) tt
+
+pub finished_sink : {T E : Type 0} (ends : Status) (old new : ℕ) (result : Status) (r : Result T E) → (new ≡ old → SinkCause old new ends) → Finishes r ends result → HasCause old new r → SinkCause old new result
+finished_sink ends old new result (Ok x) stays finishes cause = subst (SinkCause old new) (sym finishes) (stays cause.stays)
+finished_sink ends old new result (Err e) stays finishes cause = subst (SinkCause old new) (sym finishes) cause.failed
+
+pub spoken_stops : (old new : Option (List ℕ)) (result : Status) → IsSpoken old new result → Stops old new result
+spoken_stops old new status.Done spoken = tt
+spoken_stops old new status.No spoken = tt
+spoken_stops old new status.Usage spoken = absurd spoken
+spoken_stops old new status.Refused spoken = tt
+spoken_stops old new status.Limit spoken = tt
+spoken_stops old new status.ShelfFault spoken = absurd spoken
+spoken_stops old new status.ReadFault spoken = absurd spoken
+spoken_stops old new status.WriteFault spoken = tt
+spoken_stops old new status.TooLong spoken = absurd spoken
+spoken_stops old new status.Memory spoken = spoken
+
+spoken_shelf : (old new : Option (List ℕ)) (n n_now : ℕ) (result : Status) → IsSpoken old new result → n_now ≡ n → ShelfCause n n_now result
+spoken_shelf old new n n_now status.Done spoken same = same
+spoken_shelf old new n n_now status.No spoken same = same
+spoken_shelf old new n n_now status.Usage spoken same = same
+spoken_shelf old new n n_now status.Refused spoken same = same
+spoken_shelf old new n n_now status.Limit spoken same = same
+spoken_shelf old new n n_now status.ShelfFault spoken same = absurd spoken
+spoken_shelf old new n n_now status.ReadFault spoken same = same
+spoken_shelf old new n n_now status.WriteFault spoken same = same
+spoken_shelf old new n n_now status.TooLong spoken same = same
+spoken_shelf old new n n_now status.Memory spoken same = same
+
+-- costs that were read
+pub read_caused : (read : Result CostTable CostError) (costs : CostTable) (old new : Option (List ℕ)) (result : Status) → read ≡ Ok costs → IsSpoken old new result → CausedByRead read result
+read_caused read costs old new result is spoken n n_now caused =
+    spoken_shelf old new n n_now result spoken (subst (λ (r : Result CostTable CostError). Caused n n_now r) is caused)
+
+pub read_writes : (name : List ℕ) (n : NamedSys) (requests : ℕ) (p : Pair) (read : Result CostTable CostError) (costs : CostTable) (old new : Option (List ℕ)) (result : Status) → read ≡ Ok costs →
+    Writes (SaysAdvice (advised_by n costs.listed requests p)) old new result → Writes (TellsRead name n requests p read) old new result
+read_writes name n requests p read costs old new result is writes = subst (λ (r : Result CostTable CostError). Writes (TellsRead name n requests p r) old new result) (sym is) writes
+
+-- costs that were refused
+pub refused_caused : (read : Result CostTable CostError) (kind : Kind) (whole : Bool) (index : ℕ) (old new : Option (List ℕ)) (result : Status) → read ≡ Err (cost.Refused kind whole index) → IsSpoken old new result → CausedByRead read result
+refused_caused read kind whole index old new result is spoken n n_now caused =
+    spoken_shelf old new n n_now result spoken (subst (λ (r : Result CostTable CostError). Caused n n_now r) is caused)
+
+pub refused_writes : (name : List ℕ) (n : NamedSys) (requests : ℕ) (p : Pair) (read : Result CostTable CostError) (kind : Kind) (whole : Bool) (index : ℕ) (old new : Option (List ℕ)) (result : Status) →
+    read ≡ Err (cost.Refused kind whole index) → Writes (Says (refusal_line (refusal_of name part.Costs (part_error.Refused kind (place_of_rule whole) index))) status.Refused) old new result →
+    Writes (TellsRead name n requests p read) old new result
+refused_writes name n requests p read kind whole index old new result is writes =
+    subst (λ (r : Result CostTable CostError). Writes (TellsRead name n requests p r) old new result) (sym is) writes
+
+-- ---- the whole
+
+-- what is told of the reading is told of what it means
+told_of : (name : List ℕ) (n : NamedSys) (requests : ℕ) (p : Pair) (read : Result CostTable CostError) (reading : Result (List Listed) PartError) → Reads (λ costs. costs.listed) read reading →
+    (text : List ℕ) (ends : Status) → TellsRead name n requests p read text ends → OnCosts name (λ listed. SaysAdvice (advised_by n listed requests p)) reading text ends
+told_of name n requests p (Ok costs) reading reads text ends tells =
+    subst (λ (r : Result (List Listed) PartError). OnCosts name (λ listed. SaysAdvice (advised_by n listed requests p)) r text ends) (sym reads) tells
+told_of name n requests p (Err cost.Fault) reading reads text ends tells = absurd tells
+told_of name n requests p (Err (cost.Refused kind whole index)) reading reads text ends tells =
+    subst (λ (r : Result (List Listed) PartError). OnCosts name (λ listed. SaysAdvice (advised_by n listed requests p)) r text ends) (sym reads) tells
+told_of name n requests p (Err cost.Memory) reading reads text ends tells = absurd tells
+
+-- advice on the system of an accepted document is a run
+advised_is_run : (texts : Texts) (system name : List ℕ) (requests : ℕ) (seated : Seated) (read : Result CostTable CostError) (old new : Option (List ℕ)) (result : Status) →
+    Accepts (opened texts system) (λ library. IsSeated library seated) → Reads (λ costs. costs.listed) read (costs_of texts name seated.joint) →
+    Writes (TellsRead name seated.joint requests (pair_at (sizes_of (system_of seated.joint)) seated.start) read) old new result →
+    Writes (OnOpening (GivesAdvice name requests texts) (opened texts system)) old new result
+advised_is_run texts system name requests seated read old new result accepts reads writes =
+    let library = accepts.library in
+    let n = parts_of library in
+    let s = system_of n in
+    let start = start_of library in
+    let here : pair_at (sizes_of s) seated.start ≡ start = ap (pair_at (sizes_of s)) accepts.holds.start ∙ (numbers_are_pairs s).back start accepts.holds.pair in
+    let read_here : Reads (λ costs. costs.listed) read (costs_of texts name n) = subst (λ (n : NamedSys). Reads (λ costs. costs.listed) read (costs_of texts name n)) accepts.holds.parts reads in
+    let of_parts : Writes (TellsRead name n requests (pair_at (sizes_of s) seated.start) read) old new result =
+    subst (λ (n : NamedSys). Writes (TellsRead name n requests (pair_at (sizes_of (system_of n)) seated.start) read) old new result) accepts.holds.parts writes in
+    let at_start : Writes (TellsRead name n requests start read) old new result = subst (λ (p : Pair). Writes (TellsRead name n requests p read) old new result) here of_parts in
+    writes_weaker (TellsRead name n requests start read) (OnOpening (GivesAdvice name requests texts) (opened texts system)) old new result
+    (λ (text : List ℕ) (ends : Status) (tells : TellsRead name n requests start read text ends).
+    on_accepted (GivesAdvice name requests texts) (opened texts system) library text ends accepts.accepted
+    (told_of name n requests start read (costs_of texts name n) read_here text ends tells)) at_start
+
+-- so advice on an opened document does its job
+pub advise_served : (system name : List ℕ) (requests : ℕ) (seated : Seated) (told told_mid told_now : Option Texts) (shelf shelf_mid shelf_now : ℕ) (old mid new : Option (List ℕ)) (out out_mid out_now : ℕ) (read : Result CostTable CostError) (result : Status) →
+    Opens IsSeated system (desk told shelf old out) (desk told_mid shelf_mid mid out_mid) (Ok seated) → IfSome told_mid (λ texts. Reads (λ costs. costs.listed) read (costs_of texts name seated.joint)) →
+    told_now ≡ told_mid → Caused shelf_mid shelf_now read → Writes (TellsRead name seated.joint requests (pair_at (sizes_of (system_of seated.joint)) seated.start) read) mid new result →
+    Stops mid new result → CausedByRead read result → SinkCause out_mid out_now result →
+    ServedBeside (Some (On system (Advise name requests))) (desk told shelf old out) (desk told_now shelf_now new out_now) result
+advise_served system name requests seated told told_mid told_now shelf shelf_mid shelf_now old mid new out out_mid out_now read result opens reads texts cause writes stops caused wrote =
+    let p = pair_at (sizes_of (system_of seated.joint)) seated.start in
+    let found : IfSome told (λ texts. Reads (λ costs. costs.listed) read (costs_of texts name seated.joint)) =
+    subst (λ (t : Option Texts). IfSome t (λ texts. Reads (λ costs. costs.listed) read (costs_of texts name seated.joint))) opens.leaves.texts reads in
+    let mine : Writes (TellsRead name seated.joint requests p read) old new result = subst (λ (o : Option (List ℕ)). Writes (TellsRead name seated.joint requests p read) o new result) opens.leaves.stops writes in
+    job_served system (Advise name requests) (desk told shelf old out) (desk told_now shelf_now new out_now) result tt (record {
+      writes = told_both told (λ texts. Accepts (opened texts system) (λ library. IsSeated library seated)) (λ texts. Reads (λ costs. costs.listed) read (costs_of texts name seated.joint))
+          (λ texts. Writes (OnOpening (GivesAdvice name requests texts) (opened texts system)) old new result) opens.opens found
+          (λ texts accepts reads. advised_is_run texts system name requests seated read old new result accepts reads mine);
+      stops = subst (λ (o : Option (List ℕ)). Stops o new result) opens.leaves.stops stops;
+      texts = texts ∙ opens.leaves.texts;
+      shelf = caused shelf shelf_now (subst (λ (n : ℕ). Caused n shelf_now read) opens.leaves.shelf cause);
+      out = subst (λ (n : ℕ). SinkCause n out_now result) opens.leaves.out wrote;
+    })
+
+-- ---- completeness
+
+-- advice that doesn't come to too many values answers
+advising_answered : (advising : Advising) (text : List ℕ) (result : Status) → advising ≢ TooMany → SaysAdvice advising text result → IsAnswered result
+advising_answered Unrelated text result few says = subst IsAnswered (sym says.1) tt
+advising_answered TooMany text result few says = absurd (few refl)
+advising_answered (Told told) text result few says = subst IsAnswered (sym says.1) tt
+
+-- so it doesn't where they are few
+few_advised : (n : NamedSys) (listed : List Listed) (h : ℕ) (p : Pair) → related_count (system_of n) * h ≤ MAX_VALUES → advised_by n listed h p ≢ TooMany
+few_advised n listed h p few many = by_test (is_related (system_of n) p)
+    (λ related. let e : TooMany ≡ Told (advice_text n listed h p) = sym many ∙ advised_told n listed h p related few in absurd (let f : ⊥ = cc in f))
+    (λ unrelated. let e : TooMany ≡ Unrelated = sym many ∙ advised_unrelated n listed h p unrelated in absurd (let f : ⊥ = cc in f))
+
+-- where the costs are read and the values are few, advice answers
+pub advice_answered : (name : List ℕ) (requests : ℕ) (texts : Texts) (library : PlainLibrary) (text : List ℕ) (result : Status) → Affords name requests texts library → GivesAdvice name requests texts library text result → IsAnswered result
+advice_answered name requests texts library text result affords gives =
+    let n = parts_of library in
+    let says : SaysAdvice (advised_by n affords.listed requests (start_of library)) text result =
+    subst (λ (r : Result (List Listed) PartError). OnCosts name (λ listed. SaysAdvice (advised_by n listed requests (start_of library))) r text result) affords.read gives in
+    advising_answered (advised_by n affords.listed requests (start_of library)) text result (few_advised n affords.listed requests (start_of library) affords.few) says

@@ -1,0 +1,73 @@
+-- The lines of `resilience`, taken one after the other.
+use Rattle.std.proofs.Common.{◌≡◌, ℕ, suc, ◌+◌, ◌<◌, ◌≤◌, List, [], ◌∷◌, ◌++◌, map, length, drop, Some, slice_get, codes, decimal, refl, sym, ap, ap₂, ◌∙◌, append_assoc, add-one}
+use Rattle.std.specs.List.{flat_map}
+use Rattle.std.proofs.lemmas.List.{append-nil}
+use Rattle.std.proofs.lemmas.List.Concat.{flat_map-append}
+use Rattle.roman_model.specs.Lists.{below}
+use Rattle.roman_model.specs.Explanation.{name_at}
+use Rattle.roman_model.specs.System.{Pair}
+use Rattle.roman_model.specs.Without.{Outlook, outlook, system_without, pair_without}
+use Rattle.roman_model.specs.declared.way.Way.{Way}
+use Rattle.roman_model.specs.declared.way.Way.TheVariants.{Freeze, Die}
+use Rattle.roman_joint.specs.NamedSys.{NamedSys, system_of}
+use Rattle.roman_joint.specs.Names.{seat_name}
+use Rattle.roman_joint.specs.declared.seat.Seat.{Seat}
+use Rattle.roman_session.proofs.ServingLemmas.{from_place, from_end}
+use Rattle.roman_session.proofs.SituationLemmas.{mapped_at}
+use Rattle.roman_top.specs.Outlooks.{outlook_words, way_word, names_at, line_without, lines_without, ones, twos, head_text, outlook_text}
+
+-- Names.
+
+pub one_named : (parts : NamedSys) (k : ℕ) (seat : Seat) → slice_get parts.seats k ≡ Some seat → codes "without " ++ seat.name ≡ codes "without" ++ names_at parts (k ∷ [])
+one_named parts k seat there =
+    ap (λ (x : List ℕ). codes "without " ++ x) (sym (append-nil seat.name))
+    ∙ ap (λ (x : List ℕ). codes "without" ++ ((codes " " ++ x) ++ [])) (sym (mapped_at seat_name parts.seats k seat [] there))
+
+pub two_named : (parts : NamedSys) (k j : ℕ) (seat other : Seat) → slice_get parts.seats k ≡ Some seat → slice_get parts.seats j ≡ Some other →
+    ((codes "without " ++ seat.name) ++ codes " ") ++ other.name ≡ codes "without" ++ names_at parts (k ∷ j ∷ [])
+two_named parts k j seat other there there_too =
+    ap (λ (x : List ℕ). codes "without " ++ x) (append_assoc seat.name (codes " ") other.name)
+    ∙ ap (λ (x : List ℕ). codes "without " ++ (seat.name ++ (codes " " ++ x))) (sym (append-nil other.name))
+    ∙ ap₂ (λ (x y : List ℕ). codes "without" ++ ((codes " " ++ x) ++ ((codes " " ++ y) ++ []))) (sym (mapped_at seat_name parts.seats k seat [] there)) (sym (mapped_at seat_name parts.seats j other [] there_too))
+
+-- Lines.
+
+pub line_pieces : (parts : NamedSys) (K : List ℕ) (way : Way) (left : Outlook) (front words : List ℕ) → front ≡ codes "without" ++ names_at parts K ++ way_word way → words ≡ outlook_words left →
+    front ++ (words ++ []) ≡ line_without parts K way left
+line_pieces parts K way left front words is_front is_words = ap (λ (x : List ℕ). front ++ x) (append-nil words) ∙ ap₂ (λ (x y : List ℕ). x ++ y) is_front is_words
+
+pub both_lines : (parts : NamedSys) (p : Pair) (K : List ℕ) (frozen gone : Outlook) → frozen ≡ outlook (system_without Freeze K (system_of parts)) (pair_without Freeze K p) →
+    gone ≡ outlook (system_without Die K (system_of parts)) (pair_without Die K p) → line_without parts K Freeze frozen ++ (line_without parts K Die gone ++ []) ≡ lines_without parts p K
+unfolding lines_without
+both_lines parts p K frozen gone at_freeze at_die =
+    ap (λ (x : List ℕ). line_without parts K Freeze frozen ++ x) (append-nil (line_without parts K Die gone))
+    ∙ ap₂ (λ (x y : Outlook). line_without parts K Freeze x ++ line_without parts K Die y) at_freeze at_die
+
+pub head_pieces : (parts : NamedSys) (now : Outlook) (first words : List ℕ) → first ≡ codes "services " ++ decimal (length parts.seats) ++ codes "\nstart" → words ≡ outlook_words now →
+    first ++ (words ++ []) ≡ head_text parts now
+head_pieces parts now first words is_first is_words = ap (λ (x : List ℕ). first ++ x) (append-nil words) ∙ ap₂ (λ (x y : List ℕ). x ++ y) is_first is_words
+
+-- The text of each place after the other.
+
+pub each_next : {X : Type 0} (g : ℕ → X) (f : X → List ℕ) (n k : ℕ) → k < n → flat_map f (map g (drop k (below n))) ≡ f (g k) ++ flat_map f (map g (drop (k + 1) (below n)))
+each_next g f n k l = ap (λ (ks : List ℕ). flat_map f (map g ks)) (from_place n k l)
+
+pub each_end : {X : Type 0} (g : ℕ → X) (f : X → List ℕ) (n k : ℕ) → n ≤ k → flat_map f (map g (drop k (below n))) ≡ []
+each_end g f n k l = ap (λ (ks : List ℕ). flat_map f (map g ks)) (from_end n k l)
+
+pub all_next : {X : Type 0} (h : ℕ → List X) (f : X → List ℕ) (n k : ℕ) → k < n →
+    flat_map f (flat_map h (drop k (below n))) ≡ flat_map f (h k) ++ flat_map f (flat_map h (drop (k + 1) (below n)))
+all_next h f n k l =
+    ap (λ (ks : List ℕ). flat_map f (flat_map h ks)) (from_place n k l) ∙ flat_map-append f (h k) (flat_map h (drop (k + 1) (below n)))
+
+pub all_end : {X : Type 0} (h : ℕ → List X) (f : X → List ℕ) (n k : ℕ) → n ≤ k → flat_map f (flat_map h (drop k (below n))) ≡ []
+all_end h f n k l = ap (λ (ks : List ℕ). flat_map f (flat_map h ks)) (from_end n k l)
+
+-- The whole.
+
+pub text_pieces : (parts : NamedSys) (p : Pair) →
+    head_text parts (outlook (system_of parts) p)
+    ++ (flat_map (lines_without parts p) (ones (length parts.seats)) ++ (flat_map (lines_without parts p) (twos (length parts.seats)) ++ (codes "end\n" ++ [])))
+    ≡ outlook_text parts p
+unfolding outlook_text
+text_pieces parts p = refl

@@ -1,0 +1,29 @@
+use Rattle.std.proofs.Common.{◌≡◌, ℕ, ◌+◌, ◌<◌, ◌≤◌, List, [], ◌∷◌, ◌++◌, map, length, drop, codes, decimal, refl, sym, ap, ap₂, ◌∙◌, arith}
+use Rattle.roman_model.specs.Lists.{below}
+use Rattle.roman_model.specs.Numbers.{sizes_of, pair_at}
+use Rattle.roman_model.specs.Without.{outlook, system_without, pair_without}
+use Rattle.roman_model.specs.declared.way.Way.TheVariants.{Freeze, Die}
+use Rattle.roman_joint.specs.NamedSys.{system_of}
+use Rattle.roman_text.proofs.Filling.{fill_behind, fill_same, fill_more, fill_failed, fill_last, fill_end, fill_whole, fill_put}
+use Rattle.roman_whatif.specs.Left.{places}
+use Rattle.roman_whatif.specs.Told.{told}
+use Rattle.roman_top.specs.Outlooks.{outlook_words, way_word, names_at, lines_without, ones, twos}
+use Rattle.roman_top.proofs.OutlookLemmas.{one_named, two_named, line_pieces, both_lines, head_pieces, each_next, each_end, all_next, all_end, text_pieces}
+use Rattle.roman_top.proofs.outlooks.push_head.Goals as goal
+
+pub returns-in-Err-clause-gathers : goal.returns-in-Err-clause-gathers
+returns-in-Err-clause-gathers g c =
+    let n = c.args.base.now.joint in
+    let now = outlook (system_of n) (pair_at (sizes_of (system_of n)) c.args.p) in
+    let first = c.bytes.ensures ∙ (c.services_piece-services.ensures ∙ ap (λ (m : ℕ). codes "services " ++ decimal m ++ codes "\nstart") c.seats.ensures.count) in
+    let e = head_pieces n now c.bytes.result.now (outlook_words now) first refl in
+    (fill_failed _ _ _ _ _ _ _ (fill_behind _ _ _ _ e) c.in-Err.ensures.gathers.0, c.in-Err.ensures.gathers.1)
+
+pub returns-clause-gathers : goal.returns-clause-gathers
+returns-clause-gathers g c =
+    let n = c.args.base.now.joint in
+    let now = outlook (system_of n) (pair_at (sizes_of (system_of n)) c.args.p) in
+    let first = c.bytes.ensures ∙ (c.services_piece-services.ensures ∙ ap (λ (m : ℕ). codes "services " ++ decimal m ++ codes "\nstart") c.seats.ensures.count) in
+    let words = c.bytes-2.ensures ∙ (c.outlook_piece.ensures ∙ ap outlook_words c.now.ensures.outlook) in
+    let e = head_pieces n now c.bytes.result.now c.bytes-2.result.now first words in
+    fill_last _ _ _ _ _ _ _ c.push-2.result (fill_more _ _ _ _ _ _ _ _ (fill_behind _ _ _ _ e) c.in_default.ensures.gathers) c.push-2.ensures.gathers

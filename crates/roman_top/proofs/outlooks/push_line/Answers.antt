@@ -1,0 +1,24 @@
+use Rattle.std.proofs.Common.{◌≡◌, ℕ, ◌+◌, ◌<◌, ◌≤◌, List, [], ◌∷◌, ◌++◌, map, length, drop, codes, refl, sym, ap, ap₂, ◌∙◌, arith}
+use Rattle.roman_model.specs.Lists.{below}
+use Rattle.roman_model.specs.Numbers.{sizes_of, pair_at}
+use Rattle.roman_model.specs.Without.{outlook, system_without, pair_without}
+use Rattle.roman_model.specs.declared.way.Way.TheVariants.{Freeze, Die}
+use Rattle.roman_joint.specs.NamedSys.{system_of}
+use Rattle.roman_text.proofs.Filling.{fill_behind, fill_same, fill_more, fill_failed, fill_last, fill_end, fill_whole, fill_put}
+use Rattle.roman_whatif.specs.Left.{places}
+use Rattle.roman_whatif.specs.Told.{told}
+use Rattle.roman_top.specs.Outlooks.{outlook_words, way_word, names_at, lines_without, ones, twos}
+use Rattle.roman_top.proofs.OutlookLemmas.{one_named, two_named, line_pieces, both_lines, head_pieces, each_next, each_end, all_next, all_end, text_pieces}
+use Rattle.roman_top.proofs.outlooks.push_line.Goals as goal
+
+pub returns-in-Err-clause-gathers : goal.returns-in-Err-clause-gathers
+returns-in-Err-clause-gathers g c =
+    let front = c.bytes.ensures ∙ (c.text-front.ensures.text ∙ ap₂ (λ (x y : List ℕ). x ++ y) c.names_piece.ensures.text c.way_word.ensures.word) in
+    let e = line_pieces c.args.joint.now (places c.args.first c.args.second) c.args.way (told c.args.left.now) c.bytes.result.now (outlook_words (told c.args.left.now)) front refl in
+    (fill_failed _ _ _ _ _ _ _ (fill_behind _ _ _ _ e) c.in-Err.ensures.gathers.0, c.in-Err.ensures.gathers.1)
+
+pub returns-clause-gathers : goal.returns-clause-gathers
+returns-clause-gathers g c =
+    let front = c.bytes.ensures ∙ (c.text-front.ensures.text ∙ ap₂ (λ (x y : List ℕ). x ++ y) c.names_piece.ensures.text c.way_word.ensures.word) in
+    let e = line_pieces c.args.joint.now (places c.args.first c.args.second) c.args.way (told c.args.left.now) c.bytes.result.now c.bytes-2.result.now front (c.bytes-2.ensures ∙ c.outlook_piece.ensures) in
+    fill_last _ _ _ _ _ _ _ c.push-2.result (fill_more _ _ _ _ _ _ _ _ (fill_behind _ _ _ _ e) c.in_default.ensures.gathers) c.push-2.ensures.gathers

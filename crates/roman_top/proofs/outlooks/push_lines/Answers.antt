@@ -1,0 +1,34 @@
+use Rattle.std.proofs.Common.{◌≡◌, ℕ, ◌+◌, ◌<◌, ◌≤◌, List, [], ◌∷◌, ◌++◌, map, length, drop, codes, refl, sym, ap, ap₂, ◌∙◌, arith}
+use Rattle.roman_model.specs.Lists.{below}
+use Rattle.roman_model.specs.Numbers.{sizes_of, pair_at}
+use Rattle.roman_model.specs.Without.{outlook, system_without, pair_without}
+use Rattle.roman_model.specs.declared.way.Way.TheVariants.{Freeze, Die}
+use Rattle.roman_joint.specs.NamedSys.{system_of}
+use Rattle.roman_text.proofs.Filling.{fill_behind, fill_same, fill_more, fill_failed, fill_last, fill_end, fill_whole, fill_put}
+use Rattle.roman_whatif.specs.Left.{places}
+use Rattle.roman_whatif.specs.Told.{told}
+use Rattle.roman_top.specs.Outlooks.{outlook_words, way_word, names_at, lines_without, ones, twos}
+use Rattle.roman_top.proofs.OutlookLemmas.{one_named, two_named, line_pieces, both_lines, head_pieces, each_next, each_end, all_next, all_end, text_pieces}
+use Rattle.roman_top.proofs.outlooks.push_lines.Goals as goal
+
+pub left-frozen-requires : goal.left-frozen-requires
+left-frozen-requires g c = (c.args.joint.now, c.requires.losses, record { one = c.requires.first; later = c.requires.second })
+
+pub left-gone-requires : goal.left-gone-requires
+left-gone-requires g c = (c.args.joint.now, c.requires.losses, record { one = c.requires.first; later = c.requires.second })
+
+pub returns-in-Err-clause-gathers : goal.returns-in-Err-clause-gathers
+returns-in-Err-clause-gathers g c =
+    let n = c.args.joint.now in
+    let p = pair_at (sizes_of (system_of n)) c.args.losses.now.pair in
+    let K = places c.args.first c.args.second in
+    let e = both_lines n p K (told c.left-frozen.result) (outlook (system_without Die K (system_of n)) (pair_without Die K p)) (c.left-frozen.ensures n c.requires.losses (record { one = c.requires.first; later = c.requires.second })) refl in
+    (fill_failed _ _ _ _ _ _ _ (fill_behind _ _ _ _ e) c.in-Err.ensures.gathers.0, c.in-Err.ensures.gathers.1)
+
+pub returns-clause-gathers : goal.returns-clause-gathers
+returns-clause-gathers g c =
+    let n = c.args.joint.now in
+    let p = pair_at (sizes_of (system_of n)) c.args.losses.now.pair in
+    let K = places c.args.first c.args.second in
+    let e = both_lines n p K (told c.left-frozen.result) (told c.left-gone.result) (c.left-frozen.ensures n c.requires.losses (record { one = c.requires.first; later = c.requires.second })) (c.left-gone.ensures n c.requires.losses (record { one = c.requires.first; later = c.requires.second })) in
+    fill_last _ _ _ _ _ _ _ c.push_line-2.result (fill_more _ _ _ _ _ _ _ _ (fill_behind _ _ _ _ e) c.in_default.ensures.gathers) c.push_line-2.ensures.gathers

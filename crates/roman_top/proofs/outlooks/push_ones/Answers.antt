@@ -1,0 +1,36 @@
+use Rattle.std.proofs.Common.{◌≡◌, ℕ, ◌+◌, ◌<◌, ◌≤◌, List, [], ◌∷◌, ◌++◌, map, length, drop, codes, refl, sym, ap, ap₂, ◌∙◌, arith}
+use Rattle.roman_model.specs.Lists.{below}
+use Rattle.roman_model.specs.Numbers.{sizes_of, pair_at}
+use Rattle.roman_model.specs.Without.{outlook, system_without, pair_without}
+use Rattle.roman_model.specs.declared.way.Way.TheVariants.{Freeze, Die}
+use Rattle.roman_joint.specs.NamedSys.{system_of}
+use Rattle.roman_text.proofs.Filling.{fill_behind, fill_same, fill_more, fill_failed, fill_last, fill_end, fill_whole, fill_put}
+use Rattle.roman_whatif.specs.Left.{places}
+use Rattle.roman_whatif.specs.Told.{told}
+use Rattle.roman_top.specs.Outlooks.{outlook_words, way_word, names_at, lines_without, ones, twos}
+use Rattle.roman_top.proofs.OutlookLemmas.{one_named, two_named, line_pieces, both_lines, head_pieces, each_next, each_end, all_next, all_end, text_pieces}
+use Rattle.roman_top.proofs.outlooks.push_ones.Goals as goal
+
+pub returns-in-Err-clause-gathers : goal.returns-in-Err-clause-gathers
+returns-in-Err-clause-gathers g c =
+    let n = c.args.joint.now in
+    let within : c.loop-k.k < length n.seats = omega (arith, c.seats-k-end.ensures.count) in
+    let next = each_next (λ (k : ℕ). k ∷ []) (lines_without n (pair_at (sizes_of (system_of n)) c.args.losses.now.pair)) (length n.seats) c.loop-k.k within in
+    (fill_failed _ _ _ _ _ _ _ (fill_same _ _ _ _ _ _ next c.loop-k.invariant.filling) c.in-Err.ensures.gathers.0, c.in-Err.ensures.gathers.1)
+
+pub loop-k-preserved : goal.loop-k-preserved
+loop-k-preserved g c =
+    let n = c.args.joint.now in
+    let within : c.loop-k.k < length n.seats = omega (arith, c.seats-k-end.ensures.count) in
+    let next = each_next (λ (k : ℕ). k ∷ []) (lines_without n (pair_at (sizes_of (system_of n)) c.args.losses.now.pair)) (length n.seats) c.loop-k.k within in
+    record {
+      filling = fill_more _ _ _ _ _ _ _ _ (fill_same _ _ _ _ _ _ next c.loop-k.invariant.filling) c.in_default.ensures.gathers;
+      cause = c.in_default.ensures.cause.stays ∙ c.loop-k.invariant.cause;
+    }
+
+pub returns-clause-gathers : goal.returns-clause-gathers
+returns-clause-gathers g c =
+    let n = c.args.joint.now in
+    let past : length n.seats ≤ c.loop-k.k = omega (arith, c.seats-k-end.ensures.count) in
+    let last = each_end (λ (k : ℕ). k ∷ []) (lines_without n (pair_at (sizes_of (system_of n)) c.args.losses.now.pair)) (length n.seats) c.loop-k.k past in
+    fill_end _ _ _ _ (fill_same _ _ _ _ _ _ last c.loop-k.invariant.filling)

@@ -1,0 +1,17 @@
+use Rattle.std.proofs.Common.{◌≡◌, ℕ, [], ◌∷◌, ◌++◌, map, length, drop}
+use Rattle.std.specs.List.{flat_map}
+use Rattle.roman_model.specs.Lists.{below}
+use Rattle.roman_model.specs.Numbers.{sizes_of, pair_at}
+use Rattle.roman_joint.specs.NamedSys.{system_of}
+use Rattle.roman_text.proofs.Filling.{IsFilling}
+use Rattle.roman_top.specs.Outlooks.{lines_without, ones}
+use Rattle.roman_top.proofs.outlooks.push_ones.Given as goal
+
+-- the lines of the services so far are taken
+abbrev pub invariant-loop-k : goal.invariant-loop-k
+invariant-loop-k g l = record {
+  filling : IsFilling (g.O.Sink.written l.fn.out) (g.O.Sink.written l.out) l.page
+      (flat_map (lines_without l.joint (pair_at (sizes_of (system_of l.joint)) l.losses.pair)) (map (λ (k : ℕ). k ∷ []) (drop l.k (below (length l.joint.seats)))))
+      (l.fn.page ++ flat_map (lines_without l.joint (pair_at (sizes_of (system_of l.joint)) l.losses.pair)) (ones (length l.joint.seats)));
+  cause : g.O.Sink.faults l.out ≡ g.O.Sink.faults l.fn.out;
+}

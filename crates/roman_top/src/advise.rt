@@ -1,0 +1,184 @@
+//! `advise SYSTEM COSTS H`.
+ghost use Rattle.std.specs.Prelude.{◌≡◌, ◌<◌, Some, IfOk};
+ghost use Rattle.roman_io.specs.Faults.{HasCause};
+ghost use Rattle.roman_io.specs.Sink.{Puts};
+ghost use Rattle.roman_model.specs.Numbers.{sizes_of, count, pair_at};
+ghost use Rattle.roman_parts.specs.declared.error.PartError.TheVariants as part_error;
+ghost use Rattle.roman_joint.specs.NamedSys.{system_of};
+ghost use Rattle.roman_library.specs.Refusals.{refusal_of};
+ghost use Rattle.roman_library.specs.declared.refusal.Part.TheVariants as part;
+ghost use Rattle.roman_relation.specs.Greatest.{IsRelation};
+ghost use Rattle.roman_cost.specs.AdviceText.{advised_by};
+ghost use Rattle.roman_cost.specs.Refusals.{place_of_rule};
+ghost use Rattle.roman_cost.specs.Tables.{AreOf};
+ghost use Rattle.roman_top.specs.Advice.{unrelated_line, SaysAdvice, TellsRead, CausedByRead, IsSpoken};
+ghost use Rattle.roman_top.specs.Causes.{SinkCause};
+ghost use Rattle.roman_top.specs.Command.{Advise, On};
+ghost use Rattle.roman_top.specs.Endings.{Stops, Writes};
+ghost use Rattle.roman_top.specs.Opening.{Says};
+ghost use Rattle.roman_top.specs.RefusalLine.{refusal_line};
+ghost use Rattle.roman_top.specs.Served.{ServedBeside};
+ghost use Rattle.roman_top.specs.World.{desk};
+ghost use Rattle.roman_top.specs.declared.status.Status.TheVariants as status;
+
+use crate::limits::put_limit;
+use crate::opening::open_system;
+use crate::refusals::put_refusal;
+use crate::requests::Requests;
+use crate::status::{Status, finish};
+use roman_cost::{Advice, AdviceError, CostError, Costs, MAX_VALUES, put_advice, read_costs};
+use roman_io::{Failed, Shelf, Sink, Steps};
+use roman_library::{FileName, Part, Refusal};
+use roman_parts::List;
+use roman_read::Kind;
+use roman_relation::Relation;
+use roman_session::Seated;
+use std::alloc::Global;
+use std::sync::ledger::Ledger;
+
+/// Writes the least that so many requests cost at worst by the costs on the shelf, and how to come by
+/// it; or that the start pair isn't related, or that there are too many values.
+pub(crate) fn advise<F: Shelf, O: Sink, L: Ledger>(
+    alloc: Global,
+    system: &str,
+    costs: &str,
+    requests: Requests,
+    shelf: &mut F,
+    out: &mut O,
+    steps: &mut Steps<L>,
+) -> Status
+    ensures served { ServedBeside (Some (On system.now (Advise costs.now requests.count)))
+        (desk (F.texts shelf.old) (F.faults shelf.old) (O.written out.old) (O.faults out.old))
+        (desk (F.texts shelf.new) (F.faults shelf.new) (O.written out.new) (O.faults out.new)) result }
+{
+    let seated = match open_system(alloc, system, shelf, out) {
+        Ok(seated) => seated,
+        Err(status) => return status,
+    };
+    let read = read_costs(alloc, shelf, costs, &seated.joint);
+    tell_read(alloc, read, costs, seated, requests, out, steps)
+}
+
+/// Writes what costs that were read come to, or the line of their refusal.
+fn tell_read<O: Sink, L: Ledger>(
+    alloc: Global,
+    read: Result<Costs, CostError>,
+    name: &str,
+    seated: Seated,
+    requests: Requests,
+    out: &mut O,
+    steps: &mut Steps<L>,
+) -> Status
+    requires costs { IfOk read (AreOf seated.joint) }
+    requires start { seated.start < count (sizes_of (system_of seated.joint)) }
+    ensures writes { Writes (TellsRead name.now seated.joint requests.count (pair_at (sizes_of (system_of seated.joint)) seated.start) read)
+        (O.written out.old) (O.written out.new) result }
+    ensures stops { Stops (O.written out.old) (O.written out.new) result }
+    ensures shelf { CausedByRead read result }
+    ensures out { SinkCause (O.faults out.old) (O.faults out.new) result }
+{
+    match read {
+        Ok(costs) => tell_costs(alloc, &costs, seated, requests, out, steps),
+        Err(CostError::Fault) => Status::ShelfFault,
+        Err(CostError::Refused { kind, whole, index }) => {
+            refuse(alloc, name, kind, whole, index, out)
+        }
+        Err(CostError::Memory) => Status::Memory,
+    }
+}
+
+/// Writes the line of a refusal of costs.
+fn refuse<O: Sink>(
+    alloc: Global,
+    name: &str,
+    kind: Kind,
+    whole: bool,
+    index: u32,
+    out: &mut O,
+) -> Status
+    ensures writes { Writes (Says (refusal_line (refusal_of name.now part.Costs (part_error.Refused kind (place_of_rule whole) index))) status.Refused)
+        (O.written out.old) (O.written out.new) result }
+    ensures spoken { IsSpoken (O.written out.old) (O.written out.new) result }
+    ensures out { SinkCause (O.faults out.old) (O.faults out.new) result }
+{
+    let Ok(document) = FileName::new(alloc, name) else {
+        return Status::Memory;
+    };
+    let refusal = Refusal {
+        document,
+        kind,
+        part: Part::Costs,
+        list: list_of(whole),
+        index,
+    };
+    finish(put_refusal(&refusal, out), Status::Refused)
+}
+
+/// The list in which a rule of costs is broken: the text as a whole, or its items.
+fn list_of(whole: bool) -> List
+    ensures { result ≡ place_of_rule whole }
+{
+    if whole { List::Whole } else { List::Steps }
+}
+
+/// Writes what costs come to on a system.
+fn tell_costs<O: Sink, L: Ledger>(
+    alloc: Global,
+    costs: &Costs,
+    seated: Seated,
+    requests: Requests,
+    out: &mut O,
+    steps: &mut Steps<L>,
+) -> Status
+    requires costs { AreOf seated.joint costs.now }
+    requires start { seated.start < count (sizes_of (system_of seated.joint)) }
+    ensures writes { Writes (SaysAdvice (advised_by seated.joint costs.now.listed requests.count (pair_at (sizes_of (system_of seated.joint)) seated.start)))
+        (O.written out.old) (O.written out.new) result }
+    ensures spoken { IsSpoken (O.written out.old) (O.written out.new) result }
+    ensures out { SinkCause (O.faults out.old) (O.faults out.new) result }
+{
+    let Seated { joint, start, .. } = seated;
+    match Relation::build(alloc, joint, steps) {
+        Ok(relation) => tell_relation(alloc, &relation, costs, start, requests, out),
+        Err(_) => Status::Memory,
+    }
+}
+
+/// Writes what costs come to on a relation.
+fn tell_relation<O: Sink>(
+    alloc: Global,
+    relation: &Relation,
+    costs: &Costs,
+    start: u32,
+    requests: Requests,
+    out: &mut O,
+) -> Status
+    requires relation { IsRelation relation.now.joint relation.now.order }
+    requires costs { AreOf relation.now.joint costs.now }
+    requires start { start < count (sizes_of (system_of relation.now.joint)) }
+    ensures writes { Writes (SaysAdvice (advised_by relation.now.joint costs.now.listed requests.count (pair_at (sizes_of (system_of relation.now.joint)) start)))
+        (O.written out.old) (O.written out.new) result }
+    ensures spoken { IsSpoken (O.written out.old) (O.written out.new) result }
+    ensures out { SinkCause (O.faults out.old) (O.faults out.new) result }
+{
+    relation.joint.known();
+    if !relation.related(start) {
+        return finish(put_unrelated(out), Status::No);
+    }
+    match Advice::build(alloc, relation, costs, requests.count) {
+        Ok(advice) => finish(
+            put_advice(&advice, relation, costs, start, out),
+            Status::Done,
+        ),
+        Err(AdviceError::Limit) => finish(put_limit(MAX_VALUES, out), Status::Limit),
+        Err(AdviceError::Memory) => Status::Memory,
+    }
+}
+
+/// Puts the line that says that the start pair isn't related.
+fn put_unrelated<O: Sink>(out: &mut O) -> Result<(), Failed>
+    ensures puts { Puts (O.written out.old) (O.written out.new) unrelated_line result }
+    ensures cause { HasCause (O.faults out.old) (O.faults out.new) result }
+{
+    out.put(b"answer none\n")
+}

@@ -1,0 +1,234 @@
+//! The text of `resilience`.
+ghost use Rattle.std.specs.Prelude.{◌≡◌, ◌+◌, ◌<◌, ◌≤◌, [], ◌∷◌, ◌++◌, map, length, drop, IfSome, if◌then◌else◌, codes, decimal};
+ghost use Rattle.std.specs.List.{flat_map};
+ghost use Rattle.roman_io.specs.Faults.{HasCause};
+ghost use Rattle.roman_io.specs.Sink.{Puts};
+ghost use Rattle.roman_model.specs.Lists.{below};
+ghost use Rattle.roman_model.specs.Numbers.{sizes_of, count, pair_at};
+ghost use Rattle.roman_model.specs.Without.{outlook, system_without, pair_without};
+ghost use Rattle.roman_joint.specs.NamedSys.{system_of};
+ghost use Rattle.roman_relation.specs.Greatest.{IsRelation};
+ghost use Rattle.roman_text.specs.Pages.{Gathers};
+ghost use Rattle.roman_whatif.specs.Left.{places};
+ghost use Rattle.roman_whatif.specs.Losses.{AreLosses};
+ghost use Rattle.roman_whatif.specs.Told.{told};
+ghost use Rattle.roman_top.specs.Outlooks.{outlook_words, way_word, names_at, line_without, lines_without, ones, twos, head_text, outlook_text};
+
+use roman_io::{Failed, Sink};
+use roman_joint::Joint;
+use roman_relation::Relation;
+use roman_text::{Page, Piece};
+use roman_whatif::{Losses, Outlook, Way, now};
+
+/// Puts what a pair of `base` can look forward to, and what is left of it where one service fails, or
+/// two.
+pub(crate) fn put_outlooks<O: Sink>(
+    base: &Relation,
+    losses: &Losses,
+    out: &mut O,
+) -> Result<(), Failed>
+    requires base { IsRelation base.now.joint base.now.order }
+    requires losses { AreLosses base.now.joint losses.now }
+    ensures puts { Puts (O.written out.old) (O.written out.new)
+        (outlook_text base.now.joint (pair_at (sizes_of (system_of base.now.joint)) losses.now.pair)) result }
+    ensures cause { HasCause (O.faults out.old) (O.faults out.new) result }
+{
+    let mut page = Page::new();
+    if let Err(failed) = push_head(base, losses.pair, &mut page, out) {
+        return Err(failed);
+    }
+    if let Err(failed) = push_ones(&base.joint, losses, &mut page, out) {
+        return Err(failed);
+    }
+    if let Err(failed) = push_twos(&base.joint, losses, &mut page, out) {
+        return Err(failed);
+    }
+    if let Err(failed) = page.push(b"end\n", out) {
+        return Err(failed);
+    }
+    page.flush(out)
+}
+
+/// Takes how many services there are, and what the pair can look forward to.
+fn push_head<O: Sink>(base: &Relation, p: u32, page: &mut Page, out: &mut O) -> Result<(), Failed>
+    requires base { IsRelation base.now.joint base.now.order }
+    requires pair { p < count (sizes_of (system_of base.now.joint)) }
+    ensures gathers { let s = system_of base.now.joint in
+        Gathers (O.written out.old) (O.written out.new) page.new (page.old ++ head_text base.now.joint (outlook s (pair_at (sizes_of s) p))) result }
+    ensures cause { HasCause (O.faults out.old) (O.faults out.new) result }
+{
+    let services = services_piece(base.joint.seats());
+    if let Err(failed) = page.push(services.bytes(), out) {
+        return Err(failed);
+    }
+    page.push(outlook_piece(&now(base, p)).bytes(), out)
+}
+
+/// Takes what is left where each service fails.
+fn push_ones<O: Sink>(
+    joint: &Joint,
+    losses: &Losses,
+    page: &mut Page,
+    out: &mut O,
+) -> Result<(), Failed>
+    requires losses { AreLosses joint.now losses.now }
+    ensures gathers { Gathers (O.written out.old) (O.written out.new) page.new
+        (page.old ++ flat_map (lines_without joint.now (pair_at (sizes_of (system_of joint.now)) losses.now.pair)) (ones (length joint.now.seats))) result }
+    ensures cause { HasCause (O.faults out.old) (O.faults out.new) result }
+{
+    for k in 0..joint.seats() {
+        if let Err(failed) = push_lines(joint, losses, k, None, page, out) {
+            return Err(failed);
+        }
+    }
+    Ok(())
+}
+
+/// Takes what is left where each two services fail.
+fn push_twos<O: Sink>(
+    joint: &Joint,
+    losses: &Losses,
+    page: &mut Page,
+    out: &mut O,
+) -> Result<(), Failed>
+    requires losses { AreLosses joint.now losses.now }
+    ensures gathers { Gathers (O.written out.old) (O.written out.new) page.new
+        (page.old ++ flat_map (lines_without joint.now (pair_at (sizes_of (system_of joint.now)) losses.now.pair)) (twos (length joint.now.seats))) result }
+    ensures cause { HasCause (O.faults out.old) (O.faults out.new) result }
+{
+    for k in 0..joint.seats() {
+        if let Err(failed) = push_twos_with(joint, losses, k, page, out) {
+            return Err(failed);
+        }
+    }
+    Ok(())
+}
+
+/// Takes what is left where the service at place k fails and one after it.
+fn push_twos_with<O: Sink>(
+    joint: &Joint,
+    losses: &Losses,
+    k: u8,
+    page: &mut Page,
+    out: &mut O,
+) -> Result<(), Failed>
+    requires losses { AreLosses joint.now losses.now }
+    requires place { k < length joint.now.seats }
+    ensures gathers { Gathers (O.written out.old) (O.written out.new) page.new
+        (page.old ++ flat_map (lines_without joint.now (pair_at (sizes_of (system_of joint.now)) losses.now.pair))
+        (map (λ j. k ∷ j ∷ []) (drop (k + 1) (below (length joint.now.seats))))) result }
+    ensures cause { HasCause (O.faults out.old) (O.faults out.new) result }
+{
+    for j in k + 1..joint.seats() {
+        if let Err(failed) = push_lines(joint, losses, k, Some(j), page, out) {
+            return Err(failed);
+        }
+    }
+    Ok(())
+}
+
+/// Takes what is left where one service freezes, or two, and where they die.
+fn push_lines<O: Sink>(
+    joint: &Joint,
+    losses: &Losses,
+    first: u8,
+    second: Option<u8>,
+    page: &mut Page,
+    out: &mut O,
+) -> Result<(), Failed>
+    requires losses { AreLosses joint.now losses.now }
+    requires first { first < length joint.now.seats }
+    requires second { IfSome second (λ j. (first < j) × (j < length joint.now.seats)) }
+    ensures gathers { Gathers (O.written out.old) (O.written out.new) page.new
+        (page.old ++ lines_without joint.now (pair_at (sizes_of (system_of joint.now)) losses.now.pair) (places first second)) result }
+    ensures cause { HasCause (O.faults out.old) (O.faults out.new) result }
+{
+    let frozen = losses.left(first, second, Way::Freeze);
+    if let Err(failed) = push_line(joint, first, second, Way::Freeze, &frozen, page, out) {
+        return Err(failed);
+    }
+    let gone = losses.left(first, second, Way::Die);
+    push_line(joint, first, second, Way::Die, &gone, page, out)
+}
+
+/// Takes the line that says what is left where one service, or two, fail.
+fn push_line<O: Sink>(
+    joint: &Joint,
+    first: u8,
+    second: Option<u8>,
+    way: Way,
+    left: &Outlook,
+    page: &mut Page,
+    out: &mut O,
+) -> Result<(), Failed>
+    requires first { first < length joint.now.seats }
+    requires second { IfSome second (λ j. j < length joint.now.seats) }
+    ensures gathers { Gathers (O.written out.old) (O.written out.new) page.new
+        (page.old ++ line_without joint.now (places first second) way (told left.now)) result }
+    ensures cause { HasCause (O.faults out.old) (O.faults out.new) result }
+{
+    let front = names_piece(joint, first, second).text(way_word(way));
+    if let Err(failed) = page.push(front.bytes(), out) {
+        return Err(failed);
+    }
+    page.push(outlook_piece(left).bytes(), out)
+}
+
+/// The line of how many services there are, and the word of the next.
+fn services_piece(services: u8) -> Piece
+    ensures { result ≡ codes "services " ++ decimal services ++ codes "\nstart" }
+{
+    Piece::new()
+        .text(b"services ")
+        .number(u32::from(services))
+        .text(b"\nstart")
+}
+
+/// The word of a line, and the names of the services that fail.
+fn names_piece(joint: &Joint, first: u8, second: Option<u8>) -> Piece
+    requires first { first < length joint.now.seats }
+    requires second { IfSome second (λ j. j < length joint.now.seats) }
+    ensures text { result ≡ codes "without" ++ names_at joint.now (places first second) }
+    ensures short { length result ≤ 80 }
+{
+    let one = Piece::new().text(b"without ").name(&joint.seat(first).name);
+    match second {
+        None => one,
+        Some(second) => one.text(b" ").name(&joint.seat(second).name),
+    }
+}
+
+/// The word of how services fail.
+fn way_word(way: Way) -> &'static [u8]
+    ensures word { result.now ≡ way_word way }
+    ensures short { length result.now ≤ 16 }
+{
+    match way {
+        Way::Freeze => b" freeze",
+        Way::Die => b" die",
+    }
+}
+
+/// What is told of an outlook, to the end of the line.
+fn outlook_piece(outlook: &Outlook) -> Piece
+    ensures { result ≡ outlook_words (told outlook.now) }
+{
+    let answer = Piece::new().text(answer_words(outlook.composes));
+    let related = answer.number(outlook.related);
+    related
+        .text(b" choices ")
+        .long_number(outlook.choices)
+        .text(b"\n")
+}
+
+/// Whether a pair is related, up to the number of those that are.
+fn answer_words(composes: bool) -> &'static [u8]
+    ensures words { result.now ≡ (if composes then codes " composition related " else codes " none related ") }
+    ensures short { length result.now ≤ 32 }
+{
+    if composes {
+        b" composition related "
+    } else {
+        b" none related "
+    }
+}

@@ -1,0 +1,35 @@
+//! For how many requests advice is asked for.
+ghost use Rattle.std.specs.Prelude.{◌≡◌, ◌≤◌};
+ghost use Rattle.std.specs.Option.{option_map};
+ghost use Rattle.roman_top.specs.Requests.{requests_of};
+
+use roman_cost::MAX_REQUESTS;
+
+/// A number of requests, from 1 to [`MAX_REQUESTS`].
+#[derive(Clone, Copy)]
+pub(crate) struct Requests {
+    /// The number.
+    pub(crate) count: u8,
+    ghost some: { 1 ≤ count },
+    ghost few: { count ≤ 64 },
+}
+
+/// The number of requests that a word is: a number from 1 to [`MAX_REQUESTS`], with no sign and no
+/// zero before it.
+pub(crate) fn requests_of(word: &str) -> Option<Requests>
+    ensures { option_map (λ requests. requests.count) result ≡ requests_of word.now }
+{
+    match word.as_bytes() {
+        [digit @ b'1'..=b'9'] => Some(Requests {
+            count: digit - b'0',
+        }),
+        [tens @ b'1'..=b'9', ones @ b'0'..=b'9'] => {
+            let count = (tens - b'0') * 10 + (ones - b'0');
+            if count > MAX_REQUESTS {
+                return None;
+            }
+            Some(Requests { count })
+        }
+        _ => None,
+    }
+}

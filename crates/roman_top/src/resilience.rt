@@ -1,0 +1,65 @@
+//! `resilience SYSTEM`.
+ghost use Rattle.std.specs.Prelude.{◌≡◌, ◌<◌, Some};
+ghost use Rattle.roman_model.specs.Numbers.{sizes_of, count, pair_at};
+ghost use Rattle.roman_joint.specs.NamedSys.{system_of};
+ghost use Rattle.roman_top.specs.Causes.{SinkCause};
+ghost use Rattle.roman_top.specs.Command.{Resilience, On};
+ghost use Rattle.roman_top.specs.Endings.{IsDone, Writes};
+ghost use Rattle.roman_top.specs.Opening.{Says};
+ghost use Rattle.roman_top.specs.Outlooks.{outlook_text};
+ghost use Rattle.roman_top.specs.Served.{ServedBeside};
+ghost use Rattle.roman_top.specs.World.{desk};
+ghost use Rattle.roman_top.specs.declared.status.Status.TheVariants as status;
+
+use crate::opening::open_system;
+use crate::outlooks::put_outlooks;
+use crate::status::{Status, finish};
+use roman_io::{Shelf, Sink, Steps};
+use roman_joint::Joint;
+use roman_relation::Relation;
+use roman_session::Seated;
+use roman_whatif::Losses;
+use std::alloc::Global;
+use std::sync::ledger::Ledger;
+
+/// Writes what the starting states can look forward to, and what is left of it where one service
+/// fails, or two.
+pub(crate) fn foresee<F: Shelf, O: Sink, L: Ledger>(
+    alloc: Global,
+    system: &str,
+    shelf: &mut F,
+    out: &mut O,
+    steps: &mut Steps<L>,
+) -> Status
+    ensures served { ServedBeside (Some (On system.now Resilience))
+        (desk (F.texts shelf.old) (F.faults shelf.old) (O.written out.old) (O.faults out.old))
+        (desk (F.texts shelf.new) (F.faults shelf.new) (O.written out.new) (O.faults out.new)) result }
+{
+    match open_system(alloc, system, shelf, out) {
+        Ok(Seated { joint, start, .. }) => foresee_from(alloc, joint, start, out, steps),
+        Err(status) => status,
+    }
+}
+
+/// Writes it for a pair of a joint. The memory is taken before anything is written.
+fn foresee_from<O: Sink, L: Ledger>(
+    alloc: Global,
+    joint: Joint,
+    start: u32,
+    out: &mut O,
+    steps: &mut Steps<L>,
+) -> Status
+    requires { start < count (sizes_of (system_of joint)) }
+    ensures writes { Writes (Says (outlook_text joint (pair_at (sizes_of (system_of joint)) start)) status.Done) (O.written out.old) (O.written out.new) result }
+    ensures stops { IsDone (O.written out.old) (O.written out.new) result }
+    ensures out { SinkCause (O.faults out.old) (O.faults out.new) result }
+{
+    let base = match Relation::build(alloc, joint, steps) {
+        Ok(base) => base,
+        Err(_) => return Status::Memory,
+    };
+    match Losses::build(alloc, &base, start, steps) {
+        Ok(losses) => finish(put_outlooks(&base, &losses, out), Status::Done),
+        Err(_) => Status::Memory,
+    }
+}
