@@ -62,8 +62,10 @@ class Systems(unittest.TestCase):
                     else each
                     for each in document["behaviours"]
                 ]
-                machines = {"e": document["environment"], "t0": document["target"]}
+                targets = document["targets"] if document["roman"] == 3 else [document["target"]]
+                machines = {"e": document["environment"]}
                 machines.update({f"b{number}": each for number, each in enumerate(behaviours)})
+                machines.update({f"t{number}": each for number, each in enumerate(targets)})
                 for key, machine in machines.items():
                     for state in machine["states"]:
                         self.assertIn(f'    "{key} {state}" [label="{state}"', done.stdout)
@@ -131,6 +133,11 @@ class Explanations(unittest.TestCase):
         for arrow in ('"r3" -> "p2"', '"r2" -> "p1"', '"r1" -> "p0"'):
             self.assertIn(arrow, arrows)
         self.assertEqual(arrows.count('"r2" -> "p1"'), 2)
+
+    def test_several_targets(self) -> None:
+        done = draw("samples/two.json", "--explanation", "samples/two.replies", "--dot")
+        self.assertEqual(done.returncode, 0, done.stderr)
+        self.assertIn('"r1" -> "p0"', self.arrows(done.stdout))
 
     def test_finality(self) -> None:
         done = self.game("lamp", "lost off e on: final\nend\n")

@@ -20,6 +20,9 @@ COMMANDS = {
     "run": (["run", "lamp.json"], True),
     "run over a file": (["run", "lamp.json", "lamp.session"], False),
     "make": (["make", "2"], False),
+    "shortest": (["shortest", "lamp.json"], False),
+    "advise": (["advise", "lamp.json", "lamp.costs", "3"], False),
+    "resilience": (["resilience", "lamp.json"], False),
 }
 
 
@@ -33,6 +36,7 @@ class Faults(unittest.TestCase):
         subprocess.run(["cc", "-O1", "-shared", "-fPIC", "-o", cls.library, source, "-ldl"], check=True)
         shutil.copy(program.SAMPLES / "lamp.json", cls.folder)
         (cls.folder / "lamp.session").write_bytes(SESSION)
+        (cls.folder / "lamp.costs").write_bytes(b'[["lamp","on",3],["lamp","off",1]]')
         (cls.folder / "lamp.cert").write_bytes(run(["certify", "lamp.json"], cls.folder).text)
 
     def each_fault(self, kind, words, session):

@@ -14,7 +14,8 @@ README = (TOP / "README.md").read_text(encoding="utf-8")
 
 
 def blocks(language: str) -> List[str]:
-    return re.findall(rf"^```{language}\n(.*?)^```$", GUIDE, re.M | re.S)
+    found = re.findall(r"^```(\w*)\n(.*?)^```$", GUIDE, re.M | re.S)
+    return [text for name, text in found if name == language]
 
 
 class Guide(unittest.TestCase):
@@ -67,6 +68,30 @@ class Guide(unittest.TestCase):
                 check=False,
             )
             self.assertEqual(done.stdout.split("\n", 1)[0], f"pairs {cells // factors[-1]}")
+
+    def test_what_shortest_writes(self) -> None:
+        done = subprocess.run(
+            [PROGRAM, "shortest", "samples/flaky.json"],
+            cwd=TOP,
+            capture_output=True,
+            text=True,
+            timeout=60,
+            check=False,
+        )
+        self.assertEqual(done.returncode, 0)
+        self.assertIn(done.stdout, blocks(""))
+
+    def test_what_is_left_where_services_fail(self) -> None:
+        done = subprocess.run(
+            [PROGRAM, "resilience", "samples/workshop.json"],
+            cwd=TOP,
+            capture_output=True,
+            text=True,
+            timeout=60,
+            check=False,
+        )
+        self.assertEqual(done.returncode, 0)
+        self.assertIn(done.stdout, blocks(""))
 
     def test_links(self) -> None:
         for text, folder in ((GUIDE, TOP / "docs"), (README, TOP)):

@@ -55,6 +55,29 @@ def set_at(*path: Any) -> Edit:
 MISSING = object()
 
 
+def states_of(states: List[str]) -> Edit:
+    """An edit that gives both targets these states, and a step from the first to itself."""
+
+    def edit(document: Any) -> Any:
+        for target in document["targets"]:
+            loop = [states[0], True, "on", states[0]]
+            target.update(states=states, start=states[0], final=[], steps=[loop])
+        return document
+
+    return edit
+
+
+def with_actions(document: Any, actions: List[str], loops: List[Any]) -> Any:
+    """The document with these actions of the environment, and these steps of both targets."""
+    document["environment"]["actions"] = actions
+    document["environment"]["steps"] = []
+    for behaviour in document["behaviours"]:
+        behaviour["steps"] = []
+    for target in document["targets"]:
+        target["steps"] = loops
+    return document
+
+
 def names(kind: str, part: str, way: Tuple[Any, ...], member: str, most: int) -> Iterator[Case]:
     """The refusals of a list of names."""
     place = f"{part} {member}"
@@ -179,6 +202,23 @@ def refusals() -> Iterator[Case]:
     yield from machine("target 0", ("target",), quiet, True)
 
 
+def named(name: Any) -> Any:
+    """A target with that name."""
+    return {"name": name, "states": ["a"], "start": "a", "final": [], "steps": []}
+
+
+def several() -> Iterator[Case]:
+    """The refusals of several targets, in the two lamps."""
+    yield "missing system 0 targets 0", set_at("targets", MISSING)
+    for value in NO_LIST:
+        yield "form system 0 targets 0", set_at("targets", value)
+    for count in (0, 1, 5):
+        items = [named(f"t{number}") for number in range(count)]
+        yield "count system 0 targets 0", set_at("targets", items)
+    yield from text("target 1", ("targets", 1), "name", NO_NAME)
+    yield from machine("target 1", ("targets", 1), ["off", True, "on", "on"], False)
+
+
 def accepted() -> Iterator[Edit]:
     """Documents at the edge of what is accepted."""
     for place in ((), ("environment",), ("behaviours", 0), ("services", 0), ("target",)):
@@ -244,6 +284,34 @@ class Schemas(unittest.TestCase):
             with self.subTest(expected):
                 self.assertEqual(self.ask(document), (3, f"refused s.json {expected}\n"))
                 self.assertFalse(SYSTEM.is_valid(document), document)
+
+    def test_several_targets(self) -> None:
+        lamps = set_at("environment", "states", ["e", "day"])(load("two"))
+        for expected, edit in several():
+            document = edit(copy.deepcopy(lamps))
+            with self.subTest(expected):
+                self.assertEqual(self.ask(document), (3, f"refused s.json {expected}\n"))
+                self.assertFalse(SYSTEM.is_valid(document), document)
+        for edit in (set_at("target", 5), set_at("targets", 0, "note", None)):
+            document = edit(copy.deepcopy(load("two")))
+            self.assertEqual(self.ask(document)[0], 0)
+            self.assertTrue(SYSTEM.is_valid(document))
+
+    def test_what_only_the_program_tells_of_several_targets(self) -> None:
+        actions = [f"a{number}" for number in range(17)]
+        loops = [["off", True, action, "on"] for action in actions]
+        long = [f"{'x' * 20}{number}" for number in range(2)]
+        for line, edit in (
+            ("repeated target 1 name 0", lambda d: set_at("targets", 1, "final", [])(set_at("targets", 1, "name", "a")(d))),
+            ("count system 0 targets 1", states_of([f"s{number}" for number in range(9)])),
+            ("count system 0 targets 2", lambda d: with_actions(d, actions, loops)),
+            ("badname system 0 targets 3", states_of(long)),
+            ("repeated system 0 targets 4", states_of(["x", "x-x"])),
+        ):
+            document = edit(copy.deepcopy(load("two")))
+            with self.subTest(line):
+                self.assertEqual(self.ask(document), (3, f"refused s.json {line}\n"))
+                self.assertTrue(SYSTEM.is_valid(document))
 
     def test_what_the_program_accepts_the_schema_accepts(self) -> None:
         for number, edit in enumerate(accepted()):

@@ -15,9 +15,9 @@ LIMIT = 16_777_216
 
 # Millions of instructions of each command on each system, and megabytes of `synth`.
 INSTRUCTIONS = {
-    "workers": {"synth": 27.2, "certify": 70.0, "check": 77.4, "run": 377.0},
-    "lamps": {"synth": 28.6, "certify": 118.8, "check": 161.7, "run": 618.7},
-    "cycle": {"synth": 990.7},
+    "workers": {"synth": 23.7, "certify": 65.6, "check": 74.6, "run": 324.5, "shortest": 28.6},
+    "lamps": {"synth": 25.4, "certify": 113.8, "check": 158.5, "run": 550.4, "shortest": 36.7},
+    "cycle": {"synth": 171.5, "shortest": 178.8},
 }
 MEGABYTES = {"workers": 4.1, "lamps": 7.5, "cycle": 4.5}
 ROOM = 1.1

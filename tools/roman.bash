@@ -15,11 +15,12 @@ _roman() {
     local word=${COMP_WORDS[COMP_CWORD]}
     COMPREPLY=()
     case $COMP_CWORD:${COMP_WORDS[1]} in
-        1:*) COMPREPLY=($(compgen -W "synth run certify check make" -- "$word")) ;;
+        1:*) COMPREPLY=($(compgen -W "synth run certify check make resilience shortest advise" -- "$word")) ;;
         2:make) COMPREPLY=($(compgen -W "1 2 3 4 5 6 7 8 9 10" -- "$word")) ;;
-        2:synth | 2:run | 2:certify | 2:check) _roman_files .json ;;
+        2:synth | 2:run | 2:certify | 2:check | 2:resilience | 2:shortest | 2:advise) _roman_files .json ;;
         3:run) _roman_files .session .txt ;;
         3:check) _roman_files .cert .txt ;;
+        3:advise) _roman_files .costs .json ;;
     esac
 }
 

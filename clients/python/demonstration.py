@@ -253,7 +253,10 @@ def main() -> int:
     parse.add_argument("--program", default=os.environ.get("ROMAN", str(TOP / "roman")))
     words = parse.parse_args()
     with open(words.system, encoding="utf-8") as text:
-        world = World(json.load(text), random.Random(words.seed), words.failing)
+        document = json.load(text)
+    if document.get("roman") == 3:
+        parse.error("it knows documents with one target alone")
+    world = World(document, random.Random(words.seed), words.failing)
     try:
         with Session(words.system, program=words.program, timeout=60) as session:
             demonstration = Demonstration(session, world)
