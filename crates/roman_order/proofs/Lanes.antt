@@ -76,7 +76,7 @@ pub without_first-less : (n m t : ℕ) → IsFirstOf n m t → m ≤ n → m < n
 without_first-less n m t is h = elim (cases_eq m n) [ inl e ↦ absurd (both_ways (is_on n t) (sym (ap (λ w. is_on w t) e) ∙ is.off) is.on) | inr ne ↦ omega arith ]
 
 -- a word of one lane
-pub lanes_in-one : (k : ℕ) → k < 64 → lanes_in (2 ^ k) ≡ k ∷ []
+lanes_in-one : (k : ℕ) → k < 64 → lanes_in (2 ^ k) ≡ k ∷ []
 lanes_in-one k l =
     lanes_in-first (2 ^ k) 0 k (record {
       low = l;
@@ -88,11 +88,15 @@ lanes_in-one k l =
     ∙ ap (λ xs. k ∷ xs) lanes_in-zero
 
 -- the word as it is computed
-pub one_pow : (k : ℕ) → k < 64 → 1 * 2 ^ k % 2 ^ 64 ≡ 2 ^ k
+one_pow : (k : ℕ) → k < 64 → 1 * 2 ^ k % 2 ^ 64 ≡ 2 ^ k
 one_pow k l = let below : 2 ^ k < 2 ^ 64 = pow-lt l in omega arith
 
 pub one_lane : (k lane : ℕ) → k < 64 → is_on (1 * 2 ^ k % 2 ^ 64) lane ≡ true → lane ≡ k
 one_lane k lane l t = elim (cases_eq lane k) [ inl e ↦ e | inr ne ↦ absurd (both_ways (is_on (2 ^ k) lane) (on_pow_other k lane ne) (sym (ap (λ w. is_on w lane) (one_pow k l)) ∙ t)) ]
+
+-- the entry of one lane
+pub entries_in-one : (lanes x lane : ℕ) (reason : Reason) → lane < 64 → entries_in lanes x (1 * 2 ^ lane % 2 ^ 64) reason ≡ entry_of (x * lanes + lane, reason) ∷ []
+entries_in-one lanes x lane reason low = ap (λ ls. map (λ l. entry_of (x * lanes + l, reason)) ls) (ap lanes_in (one_pow lane low) ∙ lanes_in-one lane low)
 
 pub in_lanes : (word lane : ℕ) → IsIn lane (lanes_in word) → (lane < 64) × (is_on word lane ≡ true)
 unfolding lanes_in

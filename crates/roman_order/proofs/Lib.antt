@@ -3,6 +3,7 @@ pub mod Words
 pub mod Lanes
 pub mod Places
 pub mod Pushes
+pub mod Stamps
 pub mod Counts
 pub mod Distinct
 pub mod Lent

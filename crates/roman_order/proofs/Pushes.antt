@@ -1,13 +1,16 @@
--- One entry more: what the tables say then.
-use Rattle.std.proofs.Common.{◌≡◌, ℕ, ◌-◌, ◌^◌, ◌<◌, false, List, [], ◌∷◌, ◌++◌, length, get_or, ◌∙◌, sym, inl, inr, arith}
-use Rattle.std.proofs.Math.ListN.{set}
-use Rattle.std.proofs.lemmas.Bool.{cases_eq}
-use Rattle.std.proofs.lemmas.List.{map_push, length_push, get_or-set_same, get_or-set_other}
+-- More entries in a table.
+use Rattle.std.proofs.Common.{◌≡◌, ℕ, ◌+◌, ◌*◌, ◌<◌, ◌≤◌, true, false, List, [], ◌∷◌, ◌++◌, map, length, sym, ◌∙◌, subst, inl, inr, refl, arith, append_assoc, append-nil, length-append}
+use Rattle.std.proofs.lemmas.List.{map_push, length_push, length-map}
+use Rattle.std.proofs.lemmas.Nat.{mul-add-lt}
 use Rattle.roman_model.specs.Arena.{Entry}
-use Rattle.roman_order.specs.Board.{has_entry}
-use Rattle.roman_order.specs.Sound.{IsPlaced, entries_of, stamp_of}
+use Rattle.roman_model.specs.Lists.{IsIn, HasNoRepeats}
+use Rattle.roman_model.specs.declared.reason.Reason.{Reason}
+use Rattle.roman_lanes.specs.Rows.{is_on}
+use Rattle.roman_order.specs.Board.{entry_of, lanes_in, entries_in, has_entry}
+use Rattle.roman_order.specs.Sound.{IsPlaced, entries_of}
 use Rattle.roman_order.specs.declared.removal.Removal.{Removal}
-use Rattle.roman_order.proofs.Places.{apart-push, in_range-push, length-le_from_apart, stamp_of-push_same, stamp_of-push_other}
+use Rattle.roman_order.proofs.Lanes.{in_lanes, lanes_once}
+use Rattle.roman_order.proofs.Places.{IsPlaced-push, has_entry-push_other, length-le_from_apart}
 
 -- the entry of what a table holds at a place
 abbrev pub entry_in : Removal → Entry ℕ
@@ -17,18 +20,35 @@ pub entries_of-push : (items : List Removal) (y : Removal) → entries_of (items
 entries_of-push items y = map_push entry_in items y
 
 -- there is room for a pair that isn't listed
-pub room-push : {n : ℕ} {L : List (Entry ℕ)} {stamps : List ℕ} (placed : IsPlaced n L stamps) (x : Entry ℕ) → x.node < n → has_entry L x.node ≡ false → length L < n
-room-push {n} {L} placed x below new =
-    let bound = length-le_from_apart n (L ++ x ∷ []) (apart-push L x placed.apart new) (in_range-push n L x placed.in_range below) in
-    omega (arith, length_push L x, bound)
+pub room-push : (n : ℕ) (items : List Removal) (y : Removal) → IsPlaced n (entries_of items) → y.pair < n → has_entry (entries_of items) y.pair ≡ false → length items < n
+room-push n items y placed here new =
+    let more = IsPlaced-push n (entries_of items) (entry_in y) placed here new in
+    omega (arith, length-le_from_apart n _ more.apart more.in_range, length_push (entries_of items) (entry_in y), length-map items entry_in)
 
-pub IsPlaced-push : (n : ℕ) (L : List (Entry ℕ)) (stamps : List ℕ) (x : Entry ℕ) (place : ℕ) → length L ≡ place → IsPlaced n L stamps → x.node < n → has_entry L x.node ≡ false → x.node < length stamps →
-    IsPlaced n (L ++ x ∷ []) (set stamps x.node place)
-IsPlaced-push n L stamps x place long placed below new room = record {
-  apart = apart-push L x placed.apart new;
-  in_range = in_range-push n L x placed.in_range below;
-  stamped = λ p. elim (cases_eq p x.node) as (λ _. get_or (set stamps x.node place) p (2 ^ 32 - 1) ≡ stamp_of (L ++ x ∷ []) p) [
-    | inl e ↦ rw e (get_or-set_same stamps x.node place (2 ^ 32 - 1) room ∙ (sym long ∙ sym (stamp_of-push_same L x new)))
-    | inr ne ↦ get_or-set_other stamps x.node p place (2 ^ 32 - 1) ne ∙ (placed.stamped p ∙ sym (stamp_of-push_other L x p ne))
-  ];
-}
+-- a pair of a row is in range
+pub pair_below : (rows lanes x lane : ℕ) → x < rows → lane < lanes → x * lanes + lane < rows * lanes
+pair_below rows lanes x lane row in_row = omega (arith, mul-add-lt x lanes lane rows row in_row)
+
+-- ---- the entries of pairs from a first one on
+
+-- all of them may be added that aren't listed, each once
+IsPlaced-lanes : (n first : ℕ) (reason : Reason) (lanes : List ℕ) (L : List (Entry ℕ)) → HasNoRepeats lanes → ((lane : ℕ) → IsIn lane lanes → (first + lane < n) × (has_entry L (first + lane) ≡ false)) → IsPlaced n L →
+    IsPlaced n (L ++ map (λ lane. entry_of (first + lane, reason)) lanes)
+IsPlaced-lanes n first reason [] L once free placed = subst (IsPlaced n) (sym (append-nil L)) placed
+IsPlaced-lanes n first reason (lane ∷ lanes) L once free placed =
+    let x : Entry ℕ = entry_of (first + lane, reason) in
+    let here = free lane (inl refl) in
+    let other = λ (other : ℕ) (i : IsIn other lanes). has_entry-push_other L x (first + other) (λ e. let same : other ≡ lane = omega arith in once.0 (subst (λ l. IsIn l lanes) same i)) in
+    subst (IsPlaced n) (append_assoc L (x ∷ []) (map (λ lane. entry_of (first + lane, reason)) lanes))
+    (IsPlaced-lanes n first reason lanes (L ++ x ∷ []) once.1 (λ l i. ((free l (inr i)).0, other l i ∙ (free l (inr i)).1)) (IsPlaced-push n L x placed here.0 here.1))
+
+pub IsPlaced-row : (rows lanes x lost : ℕ) (reason : Reason) (L : List (Entry ℕ)) → x < rows → ((lane : ℕ) → is_on lost lane ≡ true → lane < lanes) → ((lane : ℕ) → is_on lost lane ≡ true → has_entry L (x * lanes + lane) ≡ false) → IsPlaced (rows * lanes) L →
+    IsPlaced (rows * lanes) (L ++ entries_in lanes x lost reason)
+IsPlaced-row rows lanes x lost reason L row within alive placed =
+    IsPlaced-lanes (rows * lanes) (x * lanes) reason (lanes_in lost) L (lanes_once lost) (λ lane i. let on = (in_lanes lost lane i).1 in (pair_below rows lanes x lane row (within lane on), alive lane on)) placed
+
+-- there is room for them
+pub room-row : (n lanes x lost : ℕ) (reason : Reason) (items : List Removal) → IsPlaced n (entries_of items ++ entries_in lanes x lost reason) → length items + length (lanes_in lost) ≤ n
+room-row n lanes x lost reason items placed =
+    let f = λ (lane : ℕ). entry_of (x * lanes + lane, reason) in
+    omega (arith, length-le_from_apart n _ placed.apart placed.in_range, length-append (entries_of items) (map f (lanes_in lost)), length-map (lanes_in lost) f, length-map items entry_in)

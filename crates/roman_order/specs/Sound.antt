@@ -1,5 +1,5 @@
 -- How the tables of an order make what callers see.
-use Rattle.std.specs.Prelude.{◌≡◌, ℕ, ◌+◌, ◌-◌, ◌*◌, ◌/◌, ◌^◌, ◌<◌, ◌≤◌, ◌==◌, not, true, List, map, drop, length, unwrap_or, slice_index_or, vec_capacity}
+use Rattle.std.specs.Prelude.{◌≡◌, ℕ, ◌+◌, ◌-◌, ◌*◌, ◌/◌, ◌^◌, ◌<◌, ◌≤◌, ◌==◌, not, true, List, map, drop, length, unwrap_or, slice_index, vec_capacity}
 use Rattle.std.specs.List.{IsDistinct}
 use Rattle.roman_model.specs.Arena.{Entry}
 use Rattle.roman_lanes.specs.Rows.{AreRows}
@@ -31,20 +31,23 @@ board_of a = record {
 abbrev pub stamp_of : List (Entry ℕ) → ℕ → ℕ
 stamp_of L p = unwrap_or (place_of L p) (2 ^ 32 - 1)
 
--- the pairs of the list differ and are in range, and each stamp says what the list does
-pub record IsPlaced (pairs : ℕ) (L : List (Entry ℕ)) (stamps : List ℕ) : Type 0 where
+-- the pairs of the list differ and are in range
+pub record IsPlaced (pairs : ℕ) (L : List (Entry ℕ)) : Type 0 where
   pub apart : IsDistinct (λ x y. x == y) (nodes_of L)
   pub in_range : (p : ℕ) → has_entry L p ≡ true → p < pairs
-  pub stamped : (p : ℕ) → slice_index_or stamps p (2 ^ 32 - 1) ≡ stamp_of L p
 
--- the tables are as long as the shape needs, say what the list does, and have room for the greatest number of pairs
+-- the stamps that there are say what the list does
+abbrev pub AreStamps : List (Entry ℕ) → List ℕ → Type 0
+AreStamps L stamps = (p : ℕ) → p < length stamps → slice_index stamps p ≡ stamp_of L p
+
+-- the tables are as long as the shape needs but for the stamps, say what the list does, and have room for the greatest number of pairs
 pub record IsSound (a : Inside) : Type 0 where
-  pub placed : IsPlaced (a.rows * a.lanes) (list_of a) a.stamps.items
+  pub placed : IsPlaced (a.rows * a.lanes) (list_of a)
+  pub stamped : AreStamps (list_of a) a.stamps.items
   pub alive : AreRows a.lanes (λ p. not (has_entry (list_of a) p)) a.words.items
   pub few_lanes : (0 < a.lanes) × (a.lanes ≤ 64)
   pub room : a.rows * a.lanes ≤ a.room
   pub few : a.room < 2 ^ 32
-  pub stamps_long : length a.stamps.items ≡ a.rows * a.lanes
   pub words_long : length a.words.items ≡ a.rows
   pub before_long : length a.before.items ≡ a.rows
   pub marks_long : length a.marks.items ≡ (a.rows * a.lanes + 63) / 64

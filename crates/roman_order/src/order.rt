@@ -3,10 +3,11 @@ ghost use Rattle.std.specs.Prelude.{◌≡◌, ℕ, ◌+◌, ◌*◌, ◌/◌, �
 ghost use Rattle.std.specs.Prelude.{IfOk, IfSome, IfNone};
 ghost use Rattle.std.specs.List.{IsDistinct};
 ghost use Rattle.roman_model.specs.Lists.{below};
-ghost use Rattle.roman_order.specs.Board.{pairs_of, entry_of, nodes_of, has_entry, place_of, is_marked};
+ghost use Rattle.roman_order.specs.Board.{pairs_of, entry_of, nodes_of, has_entry, is_marked};
 
 mod levels;
 mod marks;
+mod places;
 mod pushes;
 mod words;
 
@@ -20,8 +21,8 @@ use std::mem;
 // How many items of a table are copied at once.
 const PIECE: usize = 256;
 
-/// The removal list of a system's pairs, each pair's place in it, the pairs that aren't listed as words,
-/// and marks.
+/// The removal list of a system's pairs, each pair's place in it where that is asked for, the pairs that
+/// aren't listed as words, and marks.
 ///
 /// Pairs and rows are numbers below those that the order was last shaped for: pair p is lane `p % lanes`
 /// of row `p / lanes`.
@@ -37,7 +38,7 @@ pub struct Order {
     cursor: usize,
     entries: Vec<Removal>,
     waiting: Vec<Removal>,
-    // a pair's place in the list, or `u32::MAX`
+    // each pair's place in the list, or `u32::MAX`; empty where they weren't asked for
     stamps: Vec<u32>,
     // a word for each row, with the bits of the pairs that aren't listed
     words: Vec<u64>,
@@ -104,7 +105,7 @@ impl Order {
             cursor: self.cursor,
             entries: copied(alloc, &self.entries, places)?,
             waiting: copied(alloc, &self.waiting, places)?,
-            stamps: copied(alloc, &self.stamps, places)?,
+            stamps: Vec::with_capacity(alloc, places)?,
             words: copied(alloc, &self.words, places)?,
             before: copied(alloc, &self.before, places)?,
             marks: copied(alloc, &self.marks, flags::words_for(self.room))?,
@@ -120,11 +121,11 @@ impl Order {
         ensures { self.new ≡ from.now }
     {
         rewrite(&mut self.entries, &from.entries);
-        rewrite(&mut self.stamps, &from.stamps);
         rewrite(&mut self.words, &from.words);
         rewrite(&mut self.before, &from.before);
         rewrite(&mut self.marks, &from.marks);
         rewrite(&mut self.levels, &from.levels);
+        self.stamps.clear();
         self.waiting.clear();
         self.next = 0;
         self.cursor = from.cursor;
@@ -149,9 +150,9 @@ impl Order {
         ensures unmarked { (p : ℕ) → is_marked self.new p ≡ false }
     {
         self.entries.clear();
+        self.stamps.clear();
         self.levels.clear();
         let pairs = rows * lanes;
-        refill(&mut self.stamps, pairs as usize, u32::MAX);
         refill(&mut self.words, rows as usize, u64::MAX >> (64 - lanes));
         refill(&mut self.before, rows as usize, 0);
         refill(&mut self.marks, flags::words_for(pairs), 0);
@@ -180,10 +181,10 @@ impl Order {
     {
         self.waiting.clear();
         mem::swap(&mut self.entries, &mut self.waiting);
+        self.stamps.clear();
         self.levels.clear();
         self.next = 0;
         let pairs = rows * lanes;
-        refill(&mut self.stamps, pairs as usize, u32::MAX);
         refill(&mut self.words, rows as usize, u64::MAX >> (64 - lanes));
         refill(&mut self.before, rows as usize, 0);
         refill(&mut self.marks, flags::words_for(pairs), 0);
@@ -242,15 +243,6 @@ impl Order {
         ensures { result ≡ not (has_entry self.now.list p) }
     {
         (self.words[(p / self.lanes) as usize] >> (p % self.lanes)) & 1 == 1
-    }
-
-    /// The place of the pair `p` in the list, or `None` where it isn't listed.
-    pub fn stamp(&self, p: u32) -> Option<u32>
-        requires { p < pairs_of self.now }
-        ensures { result ≡ place_of self.now.list p }
-    {
-        let stamp = self.stamps[p as usize];
-        if stamp == u32::MAX { None } else { Some(stamp) }
     }
 }
 

@@ -10,7 +10,11 @@ fn a_list_is_kept_and_reopened(rt: HostRuntime) -> Result<(), Fail> {
     assert_eq!(rt; order.entry(0), (65, Reason::Act(1)));
     assert_eq!(rt; (order.alive(65), order.alive(64)), (false, true));
     assert_eq!(rt; (order.stamp(2), order.stamp(3)), (Some(1), None));
-    assert_eq!(rt; (order.len(), order.unlisted()), (2, 126));
+    order.place_all();
+    assert_eq!(rt; (order.stamp(2), order.stamp(3)), (Some(1), None));
+    order.push(3, Reason::Final);
+    assert_eq!(rt; (order.stamp(2), order.stamp(3)), (Some(1), Some(2)));
+    assert_eq!(rt; (order.len(), order.unlisted()), (3, 125));
     assert_eq!(rt; order.words()[1], u64::MAX - 2);
     order.mark_front(66);
     order.mark(100);
@@ -22,6 +26,7 @@ fn a_list_is_kept_and_reopened(rt: HostRuntime) -> Result<(), Fail> {
     );
     assert_eq!(rt; order.next_waiting(), Some((65, Reason::Act(1))));
     assert_eq!(rt; order.next_waiting(), Some((2, Reason::Final)));
+    assert_eq!(rt; order.next_waiting(), Some((3, Reason::Final)));
     assert_eq!(rt; order.next_waiting(), None);
     order.marks_mut()[0] = 6;
     assert_eq!(rt;

@@ -2,7 +2,7 @@
 ghost use Rattle.std.specs.Prelude.{◌≡◌, ℕ, ◌+◌, ◌*◌, ◌^◌, ◌<◌, ◌≤◌, true, false, [], ◌∷◌, ◌++◌, length, map, vec_capacity};
 ghost use Rattle.roman_lanes.specs.Rows.{is_on};
 ghost use Rattle.roman_order.specs.Board.{pairs_of, entry_of, lanes_in, entries_in, has_entry};
-ghost use Rattle.roman_order.specs.Sound.{IsPlaced, entries_of};
+ghost use Rattle.roman_order.specs.Sound.{entries_of};
 
 use super::Order;
 use crate::flags::lowest;
@@ -28,7 +28,10 @@ impl Order {
         ensures { self.new ≡ record self.old { list = self.old.list ++ entry_of (x * self.old.lanes + lane, reason) ∷ [] } }
     {
         prove!(self.lanes <= 64);
-        self.push_lanes(x, 1 << lane, reason);
+        self.words[x as usize] &= !(1 << lane);
+        let pair = x * self.lanes + lane;
+        self.stamps.clear();
+        self.entries.push_reserved(Removal { pair, reason });
     }
 
     /// Adds an entry for each pair of the row `x` whose lane is in `lost`, the lanes rising, all for one
@@ -41,33 +44,23 @@ impl Order {
     {
         self.words[x as usize] &= !lost;
         let first = x * self.lanes;
-        write_lanes(&mut self.entries, &mut self.stamps, first, lost, reason);
+        self.stamps.clear();
+        write_lanes(&mut self.entries, first, lost, reason);
     }
 }
 
-// Adds an entry for each pair at the lanes `lost` from `first` on, and its stamp.
-fn write_lanes(
-    entries: &mut Vec<Removal>,
-    stamps: &mut [u32],
-    first: u32,
-    lost: u64,
-    reason: Reason,
-)
-    requires placed { IsPlaced (length stamps.old) (entries_of entries.old.items) stamps.old }
-    requires within { (lane : ℕ) → is_on lost lane ≡ true → first + lane < length stamps.old }
-    requires alive { (lane : ℕ) → is_on lost lane ≡ true → has_entry (entries_of entries.old.items) (first + lane) ≡ false }
-    requires room { length stamps.old ≤ vec_capacity entries.old }
-    requires few { length stamps.old < 2 ^ 32 }
+// Adds an entry for each pair at the lanes `lost` from `first` on.
+fn write_lanes(entries: &mut Vec<Removal>, first: u32, lost: u64, reason: Reason)
+    requires room { length entries.old.items + length (lanes_in lost) ≤ vec_capacity entries.old }
+    requires few { (lane : ℕ) → is_on lost lane ≡ true → first + lane < 2 ^ 32 }
     ensures pushed { entries_of entries.new.items
         ≡ entries_of entries.old.items ++ map (λ lane. entry_of (first + lane, reason)) (lanes_in lost) }
-    ensures placed { IsPlaced (length stamps.old) (entries_of entries.new.items) stamps.new }
     ensures room { vec_capacity entries.new ≡ vec_capacity entries.old }
 {
     let mut rest = lost;
     'rest: while rest != 0 {
         let lane = lowest(rest);
         let pair = first + lane;
-        stamps[pair as usize] = entries.len() as u32;
         entries.push_reserved(Removal { pair, reason });
         rest &= !(1 << lane);
     }

@@ -1,5 +1,4 @@
 use Rattle.std.proofs.Common.{◌≡◌, [], arith, rules}
-use Rattle.std.proofs.lemmas.List.{get_or_past}
 use Rattle.roman_order.proofs.Places.{IsPlaced-nil}
 use Rattle.roman_order.proofs.order.Order.build.Goals as goal
 
@@ -13,12 +12,12 @@ invariant_of-result c =
     let marks : c.in_ok-with_capacity-6.field-0.items ≡ [] = search rules in
     let levels : c.in_ok-with_capacity-7.field-0.items ≡ [] = search rules in
     record {
-      placed = rw (entries, stamps) (IsPlaced-nil 0 [] (λ p. get_or_past [] p _ (omega arith)));
+      placed = rw entries (IsPlaced-nil 0);
+      stamped = rw stamps (λ p h. absurd (omega arith));
       alive = rw words (record { each = λ x h. absurd (omega arith) });
       few_lanes = (omega arith, omega arith);
       room = omega arith;
       few = omega (arith, c.ranges.cap_pairs);
-      stamps_long = rw stamps (omega arith);
       words_long = rw words (omega arith);
       before_long = rw before (omega arith);
       marks_long = rw marks (omega arith);

@@ -2,7 +2,6 @@ use Rattle.std.proofs.Common.{◌≡◌, ℕ, zero, ◌-◌, ◌*◌, ◌/◌, �
 use Rattle.std.proofs.lemmas.List.{length-replicate, get_or-replicate}
 use Rattle.std.proofs.lemmas.Nat.Bits.{ones_shr}
 use Rattle.roman_order.specs.Board.{Board}
-use Rattle.roman_order.proofs.Blanks.{get_or-all_blank}
 use Rattle.roman_order.proofs.Lanes.{AreRows-full}
 use Rattle.roman_order.proofs.Places.{IsPlaced-nil}
 use Rattle.roman_order.proofs.Words.{has_flag-none}
@@ -19,26 +18,26 @@ invariant_of-self c =
     let back : 64 - (64 - c.args.lanes) ≡ c.args.lanes = omega (arith, c.requires.lanes.1) in
     let all : full ≡ 2 ^ c.args.lanes - 1 = ones_shr 64 (64 - c.args.lanes) (omega arith) ∙ ap (λ k. 2 ^ k - 1) back in
     record {
-      placed = rw ((ap (λ v. v.items) c.swap.ensures.x_after ∙ c.clear.ensures.items), c.refill.ensures.items) (IsPlaced-nil (c.args.rows * c.args.lanes) _ (λ p. get_or-all_blank (c.args.rows * c.args.lanes) p (2 ^ 32 - 1)));
-      alive = rw ((ap (λ v. v.items) c.swap.ensures.x_after ∙ c.clear.ensures.items), c.refill-2.ensures.items) (AreRows-full c.args.lanes (replicate c.args.rows full)
+      placed = rw (ap (λ v. v.items) c.swap.ensures.x_after ∙ c.clear.ensures.items) (IsPlaced-nil (c.args.rows * c.args.lanes));
+      stamped = rw c.clear-2.ensures.items (λ p h. absurd (omega arith));
+      alive = rw ((ap (λ v. v.items) c.swap.ensures.x_after ∙ c.clear.ensures.items), c.refill.ensures.items) (AreRows-full c.args.lanes (replicate c.args.rows full)
           (λ y h. get_or-replicate c.args.rows y full 0 (omega (arith, h, length-replicate c.args.rows full)) ∙ all));
       few_lanes = c.requires.lanes;
       room = room;
       few = invariant.few;
-      stamps_long = rw c.refill.ensures.items (length-replicate (c.args.rows * c.args.lanes) (2 ^ 32 - 1));
-      words_long = rw c.refill-2.ensures.items (length-replicate c.args.rows full);
-      before_long = rw c.refill-3.ensures.items (length-replicate c.args.rows zero);
-      marks_long = rw c.refill-4.ensures.items (length-replicate c.words_for.result zero ∙ c.words_for.ensures);
+      words_long = rw c.refill.ensures.items (length-replicate c.args.rows full);
+      before_long = rw c.refill-2.ensures.items (length-replicate c.args.rows zero);
+      marks_long = rw c.refill-3.ensures.items (length-replicate c.words_for.result zero ∙ c.words_for.ensures);
       next_in = omega arith;
       entries_room = omega (arith, ap (λ v. vec_capacity v) c.swap.ensures.x_after, invariant.waiting_room, c.clear.ensures.capacity);
       waiting_room = omega (arith, ap (λ v. vec_capacity v) c.swap.ensures.y_after, invariant.entries_room);
-      stamps_room = omega (arith, invariant.stamps_room, c.refill.ensures.room);
-      words_room = omega (arith, invariant.words_room, c.refill-2.ensures.room);
-      before_room = omega (arith, invariant.before_room, c.refill-3.ensures.room);
-      marks_room = omega (arith, invariant.marks_room, c.refill-4.ensures.room);
-      levels_room = omega (arith, invariant.levels_room, c.clear-2.ensures.capacity);
-      few_levels = rw c.clear-2.ensures.items (omega arith);
+      stamps_room = omega (arith, invariant.stamps_room, c.clear-2.ensures.capacity);
+      words_room = omega (arith, invariant.words_room, c.refill.ensures.room);
+      before_room = omega (arith, invariant.before_room, c.refill-2.ensures.room);
+      marks_room = omega (arith, invariant.marks_room, c.refill-3.ensures.room);
+      levels_room = omega (arith, invariant.levels_room, c.clear-3.ensures.capacity);
+      few_levels = rw c.clear-3.ensures.items (omega arith);
     }
 
 pub returns-clause-unmarked : goal.returns-clause-unmarked
-returns-clause-unmarked c p = rw c.refill-4.ensures.items (has_flag-none c.words_for.result p)
+returns-clause-unmarked c p = rw c.refill-3.ensures.items (has_flag-none c.words_for.result p)
