@@ -1,11 +1,11 @@
 -- What is known of a row goes on to hold, words of lanes, and counts of the numbers below a bound.
-use Rattle.std.proofs.Common.{◌≡◌, ℕ, ◌+◌, ◌-◌, ◌*◌, ◌/◌, ◌^◌, ◌<◌, ◌≤◌, Bool, true, false, cond, ◌&&◌, List, [], ◌∷◌, length, filter, count_by, IsTrue, IsFalse, refl, sym, ap, ap₂, ◌∙◌, add-one, length-append, eqb, arith}
+use Rattle.std.proofs.Common.{◌≡◌, ℕ, ◌+◌, ◌-◌, ◌*◌, ◌/◌, ◌^◌, ◌<◌, ◌≤◌, Bool, true, false, cond, [], ◌∷◌, length, filter, count_by, IsTrue, IsFalse, refl, sym, ap, ap₂, ◌∙◌, add-one, length-append, eqb, arith}
 use Rattle.std.specs.Int.{bit_at}
-use Rattle.std.proofs.lemmas.Bool.{cond-true, cond-false, eq-eqb}
+use Rattle.std.proofs.lemmas.Bool.{cond-true, eq-eqb}
 use Rattle.std.proofs.lemmas.Nat.Bits.{bit_at-zero, bit_at_ones, ones_shr}
 use Rattle.std.proofs.lemmas.List.Sums.{length-filter}
 use Rattle.roman_model.specs.Lists.{below}
-use Rattle.roman_model.specs.Arena.{Arena, is_justified}
+use Rattle.roman_model.specs.Arena.{Arena}
 use Rattle.roman_model.proofs.Lists.{filter_below_more}
 use Rattle.roman_model.proofs.ArenaLemmas.{justified_more}
 use Rattle.roman_lanes.specs.Rows.{is_on}

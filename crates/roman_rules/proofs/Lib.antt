@@ -1,2 +1,3 @@
 pub mod NumberedFacts
 pub mod Asking
+pub mod Serving

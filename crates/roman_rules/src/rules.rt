@@ -1,8 +1,8 @@
 //! What algorithms over the numbers of pairs ask of a system.
 ghost use Rattle.std.specs.Prelude.{◌≡◌, ℕ, ◌+◌, ◌*◌, ◌/◌, ◌<◌, ◌≤◌, Bool, true, false, not, ◌&&◌, List, [], ◌∷◌};
-ghost use Rattle.std.specs.Prelude.{length, IsTrue, MatchOption};
-ghost use Rattle.roman_model.specs.Lists.{HoldsEachOnce, IsIn};
-ghost use Rattle.roman_model.specs.Arena.{Arena, Delegation, is_beaten, is_justified, back as predecessors};
+ghost use Rattle.std.specs.Prelude.{length, sum_by, IsTrue, MatchOption};
+ghost use Rattle.roman_model.specs.Lists.{HoldsEachOnce, IsIn, below};
+ghost use Rattle.roman_model.specs.Arena.{Arena, Delegation, is_beaten, is_justified, mask as mask_of, back as predecessors};
 ghost use Rattle.roman_model.specs.Numbers.{Sizes};
 ghost use Rattle.roman_lanes.specs.Rows.{is_on, HasLanes, AreRows};
 ghost use Rattle.roman_lanes.specs.Flags.{has_flag};
@@ -117,6 +117,17 @@ pub trait Rules {
         ensures { (x : ℕ) (gone : ℕ → Bool) → is_row self.now x row.now →
             AreRows (lanes self.now) (λ q. not (gone q)) words.now →
             HasLanes (lanes self.now) x (λ p. not (is_beaten (arena self.now) gone p a k)) result };
+
+    /// How many choices of a seat there are for the action `a` at all pairs of a row together: over the
+    /// pairs, the seats of the pair's mask. The words tell the pairs that aren't gone, row by row.
+    fn choices(&self, row: &Self::Row, words: &[u64], a: u8) -> u32
+        requires row { (x : ℕ) × is_row self.now x row.now }
+        requires action { a < (arena self.now).actions }
+        requires room { length words.now * lanes self.now ≡ length (arena self.now).nodes }
+        ensures counted { (x : ℕ) (gone : ℕ → Bool) → is_row self.now x row.now →
+            AreRows (lanes self.now) (λ q. not (gone q)) words.now →
+            result ≡ sum_by (λ lane. length (mask_of (arena self.now) gone (x * lanes self.now + lane) a)) (below (lanes self.now)) }
+        ensures few { result ≤ 2048 };
 
     /// Those of the pairs `wanted` of a row at which the action `a` is allowed and no seat serves it.
     fn unserved(&self, row: &Self::Row, words: &[u64], a: u8, wanted: u64) -> u64

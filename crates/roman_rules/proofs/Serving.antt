@@ -1,0 +1,139 @@
+-- How many seats the masks of a row's pairs have.
+use Rattle.std.proofs.Common.{◌≡◌, ℕ, zero, suc, ◌+◌, ◌-◌, ◌*◌, ◌%◌, ◌^◌, ◌<◌, ◌≤◌, Bool, true, cond, not, [], length, filter, sum_by, count_ones, IsTrue, IsFalse, inl, inr, refl, sym, ap, ap₂, ◌∙◌, arith, eqb}
+use Rattle.std.specs.Int.{bit_at}
+use Rattle.std.proofs.Math.Pow.{pow_pos}
+use Rattle.std.proofs.lemmas.Bool.{cases_eq, cond-true, cond-false, both_ways, not_from_true, eq-eqb, ne_eqb}
+use Rattle.std.proofs.lemmas.List.Sums.{sum_by_push, length-filter}
+use Rattle.std.proofs.lemmas.Nat.{ones_cat, ones_le_self, zero_from_ones, mod-pow-add}
+use Rattle.std.proofs.lemmas.Nat.Bits.{bit_at-lt}
+use Rattle.roman_model.specs.Lists.{below, is_empty}
+use Rattle.roman_model.specs.Arena.{Arena, is_beaten, mask}
+use Rattle.roman_model.proofs.Lists.{by_test, from_below, sum_by_same, empty_is, not_empty_in}
+use Rattle.roman_model.proofs.ArenaLemmas.{mask_none, beaten_none}
+use Rattle.roman_lanes.specs.Rows.{is_on, HasLanes}
+use Rattle.roman_rules.specs.Numbered.{IsNumbered}
+
+-- ---- an action that isn't allowed
+
+-- where an action isn't allowed each seat is beaten
+pub refused_beaten : (A : Arena ℕ) → IsNumbered A → (gone : ℕ → Bool) (p a k : ℕ) → IsFalse (A.allows p a) → IsTrue (is_beaten A gone p a k)
+refused_beaten A ok gone p a k refused = by_test (is_empty (A.outcomes p a k))
+    (λ t. beaten_none A gone p a k (empty_is (A.outcomes p a k) t))
+    (λ f. let (q, i) = not_empty_in (A.outcomes p a k) f in absurd (both_ways (A.allows p a) refused (ok.served p a k q i).0))
+
+-- ---- sums over numbers below others
+
+pub sum_below_more : (f : ℕ → ℕ) (n : ℕ) → sum_by f (below (n + 1)) ≡ sum_by f (below n) + f n
+sum_below_more f n = (let next : n + 1 ≡ suc n = omega arith in ap (λ m. sum_by f (below m)) next) ∙ sum_by_push f (below n) n
+
+sum_plus : (f g : ℕ → ℕ) (n : ℕ) → sum_by (λ i. f i + g i) (below n) ≡ sum_by f (below n) + sum_by g (below n)
+sum_plus f g zero = refl
+sum_plus f g (suc n) = omega (arith, sum_by_push (λ i. f i + g i) (below n) n, sum_by_push f (below n) n, sum_by_push g (below n) n, sum_plus f g n)
+
+sum_none : (n : ℕ) → sum_by (λ i. 0) (below n) ≡ 0
+sum_none zero = refl
+sum_none (suc n) = omega (arith, sum_by_push (λ i. 0) (below n) n, sum_none n)
+
+-- a sum of sums, the other way round
+pub sum_turned : (f : ℕ → ℕ → ℕ) (m n : ℕ) → sum_by (λ i. sum_by (λ j. f i j) (below n)) (below m) ≡ sum_by (λ j. sum_by (λ i. f i j) (below m)) (below n)
+sum_turned f zero n = sym (sum_none n)
+sum_turned f (suc m) n =
+    sum_by_push (λ i. sum_by (λ j. f i j) (below n)) (below m) m
+    ∙ (ap (λ x. x + sum_by (λ j. f m j) (below n)) (sum_turned f m n)
+    ∙ (sym (sum_plus (λ j. sum_by (λ i. f i j) (below m)) (λ j. f m j) n)
+    ∙ sum_by_same (λ j. sum_by (λ i. f i j) (below m) + f m j) (λ j. sum_by (λ i. f i j) (below (suc m))) (below n) (λ j i. sym (sum_by_push (λ i. f i j) (below m) m))))
+
+-- a sum goes on
+pub sum_further : (f : ℕ → ℕ) (a n : ℕ) → sum_by f (below (a + n)) ≡ sum_by f (below a) + sum_by (λ i. f (a + i)) (below n)
+sum_further f a zero = (let same : a + zero ≡ a = omega arith in ap (λ m. sum_by f (below m)) same) ∙ (let none : sum_by f (below a) ≡ sum_by f (below a) + 0 = omega arith in none)
+sum_further f a (suc n) =
+    let next : a + suc n ≡ suc (a + n) = omega arith in
+    ap (λ m. sum_by f (below m)) next ∙ omega (arith, sum_by_push f (below (a + n)) (a + n), sum_further f a n, sum_by_push (λ i. f (a + i)) (below n) n)
+
+-- numbers at which nothing is added don't change a sum
+pub sum_cut : (f : ℕ → ℕ) (m n : ℕ) → m ≤ n → ((i : ℕ) → m ≤ i → i < n → f i ≡ 0) → sum_by f (below m) ≡ sum_by f (below n)
+sum_cut f m n l none =
+    let rest : m + (n - m) ≡ n = omega arith in
+    let further = sum_further f m (n - m) in
+    let nothing = sum_by_same (λ i. f (m + i)) (λ i. 0) (below (n - m)) (λ i j. none (m + i) (omega arith) (let k = from_below (n - m) i j in omega (arith, k))) in
+    omega (arith, ap (λ k. sum_by f (below k)) rest, further, nothing, sum_none (n - m))
+
+-- ---- the ones of a word
+
+bit_ones : (b : ℕ) → b < 2 → count_ones b ≡ b
+bit_ones b l = elim (cases_eq (count_ones b) 0) [ inl e ↦ e ∙ sym (zero_from_ones b e) | inr some ↦ omega (arith, ones_le_self b) ]
+
+-- the ones among the lowest digits are counted by the bits
+low_ones : (n k : ℕ) → count_ones (n % 2 ^ k) ≡ sum_by (bit_at n) (below k)
+low_ones n zero = let none : n % 1 ≡ 0 = omega arith in ap count_ones none ∙ bit_ones 0 (omega arith)
+low_ones n (suc k) =
+    let split : n % 2 ^ suc k ≡ bit_at n k * 2 ^ k + n % 2 ^ k = (let same : suc k ≡ 1 + k = omega arith in ap (λ j. n % 2 ^ j) same) ∙ mod-pow-add n 1 k in
+    let small : n % 2 ^ k < 2 ^ k = omega (arith, pow_pos k) in
+    ap count_ones split ∙ ones_cat k (bit_at n k) (n % 2 ^ k) small
+    ∙ ap₂ (λ x y. x + y) (bit_ones (bit_at n k) (bit_at-lt n k)) (low_ones n k)
+    ∙ turned (bit_at n k) (sum_by (bit_at n) (below k)) ∙ sym (sum_by_push (bit_at n) (below k) k)
+  where
+    turned : (x y : ℕ) → x + y ≡ y + x
+    turned x y = omega arith
+
+bit_is : (word lane : ℕ) → bit_at word lane ≡ cond (is_on word lane) 1 0
+unfolding is_on
+bit_is word lane = elim (cases_eq (bit_at word lane) 1) [
+  | inl e ↦ e ∙ sym (cond-true (eqb (bit_at word lane) 1) 1 0 (eq-eqb (bit_at word lane) 1 e))
+  | inr ne ↦
+      let none : bit_at word lane ≡ 0 = omega (arith, bit_at-lt word lane) in
+      none ∙ sym (cond-false (eqb (bit_at word lane) 1) 1 0 (ne_eqb (bit_at word lane) 1 ne))
+]
+
+-- the ones of a row's word are the lanes at which the test passes
+pub ones_counted : (lanes row : ℕ) (test : ℕ → Bool) (word : ℕ) → lanes ≤ 64 → word < 2 ^ 64 → HasLanes lanes row test word → count_ones word ≡ sum_by (λ lane. cond (test (row * lanes + lane)) 1 0) (below lanes)
+ones_counted lanes row test word few fits is =
+    let whole : word ≡ word % 2 ^ 64 = omega arith in
+    ap count_ones whole ∙ (low_ones word 64
+    ∙ (sym (sum_cut (bit_at word) lanes 64 few (λ lane past l. bit_is word lane ∙ cond-false (is_on word lane) 1 0 (is.rest lane past)))
+    ∙ sum_by_same (bit_at word) (λ lane. cond (test (row * lanes + lane)) 1 0) (below lanes) (λ lane i. bit_is word lane ∙ ap one_if (is.each lane (from_below lanes lane i)))))
+  where
+    one_if : Bool → ℕ
+    one_if b = cond b 1 0
+
+-- and they are as many as its digits at most
+pub ones_few : (word : ℕ) → word < 2 ^ 64 → count_ones word ≤ 64
+ones_few word fits =
+    let whole : word ≡ word % 2 ^ 64 = omega arith in
+    omega (arith, ap count_ones whole, low_ones word 64, bits_few word 64)
+  where
+    bits_few : (n k : ℕ) → sum_by (bit_at n) (below k) ≤ k
+    bits_few n zero = omega arith
+    bits_few n (suc k) = omega (arith, sum_by_push (bit_at n) (below k) k, bits_few n k, bit_at-lt n k)
+
+-- ---- the seats of a mask
+
+pub mask_counted : (A : Arena ℕ) → IsNumbered A → (gone : ℕ → Bool) (p a : ℕ) → length (mask A gone p a) ≡ sum_by (λ k. cond (not (is_beaten A gone p a k)) 1 0) (below A.seats)
+mask_counted A ok gone p a = by_test (A.allows p a)
+    (λ t. ap length (cond-true (A.allows p a) (filter (λ k. not (is_beaten A gone p a k)) (below A.seats)) [] t) ∙ length-filter (λ k. not (is_beaten A gone p a k)) (below A.seats))
+    (λ f. ap length (mask_none A gone p a f)
+    ∙ sym (sum_by_same (λ k. cond (not (is_beaten A gone p a k)) 1 0) (λ k. 0) (below A.seats) (λ k i. cond-false (not (is_beaten A gone p a k)) 1 0 (not_from_true (is_beaten A gone p a k) (refused_beaten A ok gone p a k f))) ∙ sum_none A.seats))
+
+-- at how many pairs of a row a seat serves the action
+abbrev pub served_by : Arena ℕ → (ℕ → Bool) → ℕ → ℕ → ℕ → ℕ → ℕ
+served_by A gone lanes row a k = sum_by (λ lane. cond (not (is_beaten A gone (row * lanes + lane) a k)) 1 0) (below lanes)
+
+pub none_served : (A : Arena ℕ) (gone : ℕ → Bool) (lanes row a k : ℕ) → ((lane : ℕ) → lane < lanes → is_beaten A gone (row * lanes + lane) a k ≡ true) → served_by A gone lanes row a k ≡ 0
+none_served A gone lanes row a k beaten =
+    sum_by_same (λ lane. cond (not (is_beaten A gone (row * lanes + lane) a k)) 1 0) (λ lane. 0) (below lanes) (λ lane i. ap (λ b. cond (not b) 1 0) (beaten lane (from_below lanes lane i)))
+    ∙ sum_none lanes
+
+-- the seats of an action's masks in a row, seat by seat
+pub action_counted : (A : Arena ℕ) → IsNumbered A → (gone : ℕ → Bool) (lanes row a : ℕ) →
+    sum_by (served_by A gone lanes row a) (below A.seats) ≡ sum_by (λ lane. length (mask A gone (row * lanes + lane) a)) (below lanes)
+action_counted A ok gone lanes row a =
+    sum_turned (λ k lane. cond (not (is_beaten A gone (row * lanes + lane) a k)) 1 0) A.seats lanes
+    ∙ sum_by_same (λ lane. sum_by (λ k. cond (not (is_beaten A gone (row * lanes + lane) a k)) 1 0) (below A.seats)) (λ lane. length (mask A gone (row * lanes + lane) a)) (below lanes)
+    (λ lane i. sym (mask_counted A ok gone (row * lanes + lane) a))
+
+-- where an action is allowed at no pair of a row, its masks there have no seats
+pub none_chosen : (A : Arena ℕ) (gone : ℕ → Bool) (lanes row a : ℕ) → ((lane : ℕ) → lane < lanes → IsFalse (A.allows (row * lanes + lane) a)) →
+    0 ≡ sum_by (λ lane. length (mask A gone (row * lanes + lane) a)) (below lanes)
+none_chosen A gone lanes row a none =
+    sym (sum_by_same (λ lane. length (mask A gone (row * lanes + lane) a)) (λ lane. 0) (below lanes)
+    (λ lane i. ap length (mask_none A gone (row * lanes + lane) a (none lane (from_below lanes lane i)))) ∙ sum_none lanes)
