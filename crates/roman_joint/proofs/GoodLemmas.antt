@@ -1,13 +1,13 @@
 -- Where a seat serves an action at the pairs of a row.
-use Rattle.std.proofs.Common.{◌≡◌, ℕ, zero, suc, ◌+◌, ◌-◌, ◌*◌, ◌/◌, ◌%◌, ◌<◌, ◌≤◌, ◌^◌, Bool, true, false, not, ◌&&◌, ◌||◌, eqb, ltb, inl, inr, get_or, List, [], ◌∷◌, length, slice_get, slice_index, IsTrue, IsFalse, refl, sym, ap, ap₂, ◌∙◌, subst, arith}
+use Rattle.std.proofs.Common.{◌≡◌, ℕ, zero, suc, ◌+◌, ◌-◌, ◌*◌, ◌/◌, ◌%◌, ◌<◌, ◌≤◌, ◌^◌, Bool, true, false, not, ◌&&◌, ◌||◌, eqb, ltb, inl, inr, List, [], length, slice_get, slice_index, IsFalse, refl, sym, ap, ap₂, ◌∙◌, subst, arith}
 use Rattle.std.specs.List.{list_any}
 use Rattle.std.proofs.lemmas.List.{length-map}
 use Rattle.std.proofs.lemmas.Nat.{mul-add-lt, mul-le, mod_below, div_below, div-mul-add, mod-mul-add, div-add-mod'}
-use Rattle.std.proofs.lemmas.Bool.{cases_lt, cases_eq, eq-eqb, ne_eqb, eqb-true, lt-ltb, le-ltb}
+use Rattle.std.proofs.lemmas.Bool.{cases_lt, cases_eq, eq-eqb, ne_eqb, lt-ltb, le-ltb}
 use Rattle.roman_model.specs.Lists.{IsIn, is_empty}
-use Rattle.roman_model.proofs.Lists.{length-below, by_test, any_same}
+use Rattle.roman_model.proofs.Lists.{length-below, by_test, any_same, any_true, any_from, empty_is, not_empty_in}
 use Rattle.roman_model.specs.System.{Sys, Seat, IsSys, seat_next}
-use Rattle.roman_model.proofs.SystemLemmas.{triple_in_range, from_env_next}
+use Rattle.roman_model.proofs.SystemLemmas.{triple_in_range, from_env_next, move_in_range, from_seat_next, seat_in}
 use Rattle.roman_model.specs.Arena.{is_beaten}
 use Rattle.roman_model.specs.Numbers.{Sizes, sizes_of, count, numbered}
 use Rattle.roman_radix.specs.Radix.{IsSizes, stride_of, env_stride_of}
@@ -23,9 +23,10 @@ use Rattle.roman_joint.specs.declared.row.Row.{Row}
 use Rattle.roman_joint.specs.declared.turn.Turn.{Turn}
 use Rattle.roman_joint.proofs.ArenaFacts.{joint_numbered}
 use Rattle.roman_joint.proofs.OutcomeLemmas.{target_in_range}
+use Rattle.roman_joint.proofs.Rows.{size_of_seat}
 use Rattle.roman_joint.proofs.WordLemmas.{on_zero, on_shl, on_below, not_not}
 use Rattle.roman_joint.proofs.SplitLemmas.{joint_sizes, factor}
-use Rattle.roman_joint.proofs.LeadLemmas.{leads_within, leads_served, leads_nothing, any_turned, start_before, leads_before, lanes_parts, stride_positive, lane_state, leads_lanes}
+use Rattle.roman_joint.proofs.LeadLemmas.{Leads, leads_within, leads_served, leads_nothing, start_before, leads_before, lanes_parts, stride_positive, lane_state, leads_lanes}
 
 -- What is known of a row.
 pub record Known (s : Sys) (r : Rows) (x : ℕ) (row : Row) : Type 0 where
@@ -273,65 +274,47 @@ state_shift first b st size lane is pos l low = elim (cases_lt lane (b * st)) [
           ]))
         ]
 
--- where a seat within the lanes serves from one state
-pub serves_from : (s : Sys) (r : Rows) (x a k b own lane good alive word : ℕ) (row : Row) (turn : Turn) (states : List ℕ) (gone : ℕ → Bool) → Known s r x row → IsTurn s row a turn → low_in s ≤ k → k < length s.seats →
-    own ≡ b → states ≡ seat_next (slice_get s.seats k) b row.env a → ((c : ℕ) → IsIn c states → c < slice_index (sizes_of s).seats k) → IsFalse (is_empty states) → AreAlive s gone turn alive → lane < lanes_in s →
-    is_on good lane ≡ has_state (stride_of (sizes_of s) k) (slice_index (sizes_of s).seats k) b lane →
-    (own * stride_of (sizes_of s) k ≤ lane → ((c : ℕ) → IsIn c states → lane + c * stride_of (sizes_of s) k - own * stride_of (sizes_of s) k < 64) →
-    is_on word lane ≡ (is_on good lane && not (list_any (λ c. not (is_on alive (lane + c * stride_of (sizes_of s) k - own * stride_of (sizes_of s) k))) states))) →
-    (is_on good lane ≡ false → is_on word lane ≡ false) →
-    is_on word lane ≡ (has_state (stride_of (sizes_of s) k) (slice_index (sizes_of s).seats k) b lane && not (is_beaten (numbered s) gone (x * lanes_in s + lane) a k))
-unfolding has_state
-serves_from s r x a k b own lane good alive word row turn states gone h ok within seat is_own is_states below_size some living in_lanes masked told off =
-    by_test (has_state (stride_of (sizes_of s) k) (slice_index (sizes_of s).seats k) b lane)
-    (λ t. here t ∙ sym (ap (λ y. y && not (is_beaten (numbered s) gone (x * lanes_in s + lane) a k)) t))
-    (λ f. off (masked ∙ f) ∙ sym (ap (λ y. y && not (is_beaten (numbered s) gone (x * lanes_in s + lane) a k)) f))
+-- where no lane is left alive a seat within the lanes serves nothing
+pub beaten_dead : (s : Sys) (r : Rows) (x a k lane : ℕ) (row : Row) (turn : Turn) (gone : ℕ → Bool) → Known s r x row → IsTurn s row a turn → low_in s ≤ k → k < length s.seats → AreAlive s gone turn 0 → lane < lanes_in s →
+    is_beaten (numbered s) gone (x * lanes_in s + lane) a k ≡ true
+beaten_dead s r x a k lane row turn gone h ok within seat living in_lanes = by_test (is_empty states)
+    (λ none. leads_nothing (numbered s) gone (x * lanes_in s + lane) a k turn.envs.now states to leads (empty_is states none))
+    (λ some.
+    let (b, i) = not_empty_in states some in
+    let there = (lane_state n k lane h.sizes within seats in_lanes).moves b (state_there b i) in
+    let dead : list_any (λ e. gone (to e b)) turn.envs.now ≡ true =
+    not_not (list_any (λ e. gone (to e b)) turn.envs.now) ∙ ap not (sym (living.each (lane + b * st - digit * st) there) ∙ on_zero (lane + b * st - digit * st)) in
+    let (e, j, t) = any_true (λ e. gone (to e b)) turn.envs.now dead in
+    let left : list_any (λ c. list_any (λ d. gone (to c d)) states) turn.envs.now ≡ true =
+    any_from (λ c. list_any (λ d. gone (to c d)) states) e turn.envs.now j (any_from (λ d. gone (to e d)) b states i t) in
+    let served = leads_served (numbered s) gone (x * lanes_in s + lane) a k turn.envs.now states to (λ c d. gone (to c d)) leads ok.some some (λ c d u v. refl) in
+    not_not (is_beaten (numbered s) gone (x * lanes_in s + lane) a k) ∙ ap not (sym served ∙ ap not left))
   where
-    here : IsTrue (has_state (stride_of (sizes_of s) k) (slice_index (sizes_of s).seats k) b lane) → is_on word lane ≡ not (is_beaten (numbered s) gone (x * lanes_in s + lane) a k)
-    here t =
-        let n = sizes_of s in
-        let w = lanes_in s in
-        let st = stride_of n k in
-        let seats : k < length n.seats = omega (arith, length-map s.seats (λ (y : Seat). y.beh.states)) in
-        let part : lane / st % slice_index n.seats k ≡ b = eqb-true (lane / st % slice_index n.seats k) b t in
-        let moves = lane_state n k lane h.sizes within seats in_lanes in
-        let same : own ≡ lane / st % slice_index n.seats k = is_own ∙ sym part in
-        let taken : own * st ≤ lane = subst (λ m. m * st ≤ lane) (sym same) moves.taken in
-        let inside : (c : ℕ) → IsIn c states → lane + c * st - own * st < w = λ c i. subst (λ m. lane + c * st - m * st < w) (sym same) (moves.moves c (below_size c i)) in
-        let few : w ≤ 64 = lanes_few n.seats in
-        let lives : (c : ℕ) → IsIn c states → not (is_on alive (lane + c * st - own * st)) ≡ list_any (λ e. gone ((turn.base + e * env_rows_of n) * w + (lane + c * st - own * st))) turn.envs.now = λ c i.
-        ap not (living.each (lane + c * st - own * st) (inside c i)) ∙ sym (not_not (list_any (λ e. gone ((turn.base + e * env_rows_of n) * w + (lane + c * st - own * st))) turn.envs.now)) in
-        told taken (λ c i. omega (arith, inside c i, few))
-        ∙ (ap (λ y. y && not (list_any (λ c. not (is_on alive (lane + c * st - own * st))) states)) (masked ∙ t)
-        ∙ (ap not (any_same (λ c. not (is_on alive (lane + c * st - own * st))) (λ c. list_any (λ e. gone ((turn.base + e * env_rows_of n) * w + (lane + c * st - own * st))) turn.envs.now) states lives
-        ∙ any_turned (λ c e. gone ((turn.base + e * env_rows_of n) * w + (lane + c * st - own * st))) states turn.envs.now)
-        ∙ leads_served (numbered s) gone (x * w + lane) a k turn.envs.now states (λ e c. (turn.base + e * env_rows_of n) * w + (lane + c * st - own * st))
-        (λ e c. gone ((turn.base + e * env_rows_of n) * w + (lane + c * st - own * st)))
-        (leads_lanes s row x lane a k ok.to turn.base own turn.envs.now states h.sys h.sizes h.looked in_lanes within seat same ok.target ok.worlds (is_states ∙ ap (λ m. seat_next (slice_get s.seats k) m row.env a) (sym is_own)) ok.base)
-        ok.some some (λ e c i j. refl)))
+    n : Sizes
+    n = sizes_of s
 
--- where a seat within the lanes goes nowhere from one state
-pub beaten_from : (s : Sys) (r : Rows) (x a k b lane : ℕ) (row : Row) (turn : Turn) (states : List ℕ) (gone : ℕ → Bool) → Known s r x row → IsTurn s row a turn → low_in s ≤ k → k < length s.seats →
-    states ≡ seat_next (slice_get s.seats k) b row.env a → states ≡ [] → lane < lanes_in s →
-    false ≡ (has_state (stride_of (sizes_of s) k) (slice_index (sizes_of s).seats k) b lane && not (is_beaten (numbered s) gone (x * lanes_in s + lane) a k))
-unfolding has_state
-beaten_from s r x a k b lane row turn states gone h ok within seat is_states none in_lanes =
-    by_test (has_state (stride_of (sizes_of s) k) (slice_index (sizes_of s).seats k) b lane)
-    (λ t. sym (ap₂ (λ y z. y && not z) t (nothing t)))
-    (λ f. sym (ap (λ y. y && not (is_beaten (numbered s) gone (x * lanes_in s + lane) a k)) f))
-  where
-    nothing : IsTrue (has_state (stride_of (sizes_of s) k) (slice_index (sizes_of s).seats k) b lane) → is_beaten (numbered s) gone (x * lanes_in s + lane) a k ≡ true
-    nothing t =
-        let n = sizes_of s in
-        let part : b ≡ lane / stride_of n k % slice_index n.seats k = sym (eqb-true (lane / stride_of n k % slice_index n.seats k) b t) in
-        leads_nothing (numbered s) gone (x * lanes_in s + lane) a k turn.envs.now states (λ e c. (turn.base + e * env_rows_of n) * lanes_in s + (lane + c * stride_of n k - b * stride_of n k))
-        (leads_lanes s row x lane a k ok.to turn.base b turn.envs.now states h.sys h.sizes h.looked in_lanes within seat part ok.target ok.worlds is_states ok.base) none
+    st : ℕ
+    st = stride_of n k
 
--- what is said of each element, by membership
-pub each_below : (xs : List ℕ) (m : ℕ) → ((i d : ℕ) → i < length xs → get_or xs i d < m) → (c : ℕ) → IsIn c xs → c < m
-each_below [] m h c i = absurd i
-each_below (x ∷ xs) m h c (inl e) = subst (λ y. y < m) (sym e) (h 0 0 (omega arith))
-each_below (x ∷ xs) m h c (inr i) = each_below xs m (λ j d l. h (suc j) d (omega arith)) c i
+    digit : ℕ
+    digit = lane / st % slice_index n.seats k
+
+    states : List ℕ
+    states = seat_next (slice_get s.seats k) digit row.env a
+
+    to : ℕ → ℕ → ℕ
+    to e b = (turn.base + e * env_rows_of n) * lanes_in s + (lane + b * st - digit * st)
+
+    seats : k < length n.seats
+    seats = omega (arith, seat, length-map s.seats (λ (y : Seat). y.beh.states))
+
+    leads : Leads (numbered s) (x * lanes_in s + lane) a k turn.envs.now states to
+    leads = leads_lanes s row x lane a k ok.to turn.base digit turn.envs.now states h.sys h.sizes h.looked in_lanes within seat refl ok.target ok.worlds refl ok.base
+
+    state_there : (b : ℕ) → IsIn b states → b < slice_index n.seats k
+    state_there b i =
+        let (y, seated, ready, moves) = from_seat_next (slice_get s.seats k) digit row.env a b i in
+        subst (λ m. b < m) (sym (size_of_seat s.seats k y seated)) (move_in_range s.env y.beh digit row.env a b (h.sys.seats y (seat_in s.seats k y seated)) moves).3
 
 -- the lanes of one state more
 pub below_more : (m b : ℕ) (x : Bool) → ((ltb m b && x) || (eqb m b && x)) ≡ (ltb m (b + 1) && x)

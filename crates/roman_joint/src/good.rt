@@ -1,13 +1,16 @@
-//! At which pairs of a row a seat serves an action.
-ghost use Rattle.std.specs.Prelude.{◌≡◌, ℕ, ◌+◌, ◌*◌, ◌<◌, ◌≤◌, Bool, not, ◌&&◌, false, length, slice_get, slice_index, All};
+//! At which pairs of a row a seat serves an action, and how many seats do.
+ghost use Rattle.std.specs.Prelude.{◌≡◌, ℕ, ◌+◌, ◌*◌, ◌<◌, ◌≤◌, Bool, not, ◌&&◌, false, length, slice_get, slice_index, sum_by, All};
+ghost use Rattle.roman_model.specs.Lists.{below};
 ghost use Rattle.roman_model.specs.System.{seat_next};
-ghost use Rattle.roman_model.specs.Arena.{is_beaten, is_justified};
+ghost use Rattle.roman_model.specs.Arena.{is_beaten, is_justified, mask};
 ghost use Rattle.roman_model.specs.Numbers.{sizes_of, count, numbered};
 ghost use Rattle.roman_model.specs.declared.reason.Reason.TheVariants.{Act};
 ghost use Rattle.roman_radix.specs.Radix.{stride_of};
 ghost use Rattle.roman_lanes.specs.Rows.{is_on, HasLanes, AreRows};
 ghost use Rattle.roman_joint.specs.NamedSys.{system_of};
 ghost use Rattle.roman_joint.specs.Rows.{lanes_in, low_in, has_state, IsRow, IsTurn, AreAlive};
+ghost use Rattle.roman_joint.specs.declared.row.Row.{Row};
+ghost use Rattle.roman_joint.specs.declared.turn.Turn.{Turn};
 
 use crate::joint::Joint;
 use crate::row::Row;
@@ -45,43 +48,71 @@ fn good_before(joint: &Joint, words: &[u64], row: &Row, turn: &Turn<'_>, a: u8, 
     )
 }
 
-/// The lanes at which a seat within the lanes serves the action.
-fn good_within(joint: &Joint, words: &[u64], row: &Row, turn: &Turn<'_>, a: u8, k: u8) -> u64
-    requires row { (x : ℕ) × IsRow (system_of joint.now) x row.now }
-    requires turn { IsTurn (system_of joint.now) row.now a turn.now }
-    requires action { a < (system_of joint.now).env.actions }
+/// The lanes at which the pairs of a turn aren't gone, whichever state of the environment comes.
+fn alive_on(joint: &Joint, words: &[u64], turn: &Turn<'_>) -> u64
+    requires turn { (x : ℕ) × (row : Row) × (a : ℕ) × IsRow (system_of joint.now) x row × IsTurn (system_of joint.now) row a turn.now }
     requires room { length words.now * lanes_in (system_of joint.now) ≡ count (sizes_of (system_of joint.now)) }
-    requires within { low_in (system_of joint.now) ≤ k }
-    requires seat { k < length joint.now.seats }
-    ensures { (x : ℕ) (gone : ℕ → Bool) → IsRow (system_of joint.now) x row.now →
-        AreRows (lanes_in (system_of joint.now)) (λ q. not (gone q)) words.now →
-        HasLanes (lanes_in (system_of joint.now)) x (λ p. not (is_beaten (numbered (system_of joint.now)) gone p a k)) result }
+    ensures { (gone : ℕ → Bool) → AreRows (lanes_in (system_of joint.now)) (λ q. not (gone q)) words.now →
+        AreAlive (system_of joint.now) gone turn.now result }
 {
     let rows = joint.layout();
+    rows_alive(words, turn.base, turn.envs, rows.env_rows, rows.full)
+}
+
+/// The lanes at which a seat within the lanes serves the action, by those that the turn leaves alive.
+fn good_within(joint: &Joint, row: &Row, alive: u64, a: u8, k: u8) -> u64
+    requires row { (x : ℕ) × IsRow (system_of joint.now) x row.now }
+    requires action { a < (system_of joint.now).env.actions }
+    requires within { low_in (system_of joint.now) ≤ k }
+    requires seat { k < length joint.now.seats }
+    ensures { (x : ℕ) (gone : ℕ → Bool) (turn : Turn) → IsRow (system_of joint.now) x row.now →
+        IsTurn (system_of joint.now) row.now a turn → AreAlive (system_of joint.now) gone turn alive →
+        HasLanes (lanes_in (system_of joint.now)) x (λ p. not (is_beaten (numbered (system_of joint.now)) gone p a k)) result }
+{
+    joint.layout();
     if joint.seat(k).frozen {
         return 0;
     }
-    let alive = rows_alive(words, turn.base, turn.envs, rows.env_rows, rows.full);
     let (some, moves) = joint.lane_moves(k, row.env, a);
     moves_alive(alive, moves, some)
 }
 
-/// The lanes at which a seat serves the action.
-fn good_on(joint: &Joint, words: &[u64], row: &Row, turn: &Turn<'_>, a: u8, k: u8) -> u64
+/// The lanes at which a seat serves the action, by those that the turn leaves alive.
+fn good_on(
+    joint: &Joint,
+    words: &[u64],
+    row: &Row,
+    turn: &Turn<'_>,
+    alive: u64,
+    a: u8,
+    k: u8,
+) -> u64
     requires row { (x : ℕ) × IsRow (system_of joint.now) x row.now }
     requires turn { IsTurn (system_of joint.now) row.now a turn.now }
     requires action { a < (system_of joint.now).env.actions }
     requires room { length words.now * lanes_in (system_of joint.now) ≡ count (sizes_of (system_of joint.now)) }
     requires seat { k < length joint.now.seats }
     ensures { (x : ℕ) (gone : ℕ → Bool) → IsRow (system_of joint.now) x row.now →
-        AreRows (lanes_in (system_of joint.now)) (λ q. not (gone q)) words.now →
+        AreRows (lanes_in (system_of joint.now)) (λ q. not (gone q)) words.now → AreAlive (system_of joint.now) gone turn.now alive →
         HasLanes (lanes_in (system_of joint.now)) x (λ p. not (is_beaten (numbered (system_of joint.now)) gone p a k)) result }
 {
     if k < joint.layout().low {
         good_before(joint, words, row, turn, a, k)
     } else {
-        good_within(joint, words, row, turn, a, k)
+        good_within(joint, row, alive, a, k)
     }
+}
+
+/// As many of the first seats as may serve an action: where no lane is left alive, those within the
+/// lanes serve nothing.
+fn serving(joint: &Joint, alive: u64) -> u8
+    ensures few { result ≤ length joint.now.seats }
+    ensures rest { (k : ℕ) → result ≤ k → k < length joint.now.seats → (low_in (system_of joint.now) ≤ k) × (alive ≡ 0) }
+{
+    if alive == 0 {
+        return joint.layout().low;
+    }
+    joint.seats()
 }
 
 impl Joint {
@@ -100,7 +131,31 @@ impl Joint {
         let Some(turn) = turn_of(self, row, a) else {
             return 0;
         };
-        good_on(self, words, row, &turn, a, k)
+        let alive = alive_on(self, words, &turn);
+        good_on(self, words, row, &turn, alive, a, k)
+    }
+
+    /// How many choices of a seat there are for the action at all pairs of a row together: over the
+    /// pairs, the seats that serve it.
+    pub fn choices(&self, row: &Row, words: &[u64], a: u8) -> u32
+        requires row { (x : ℕ) × IsRow (system_of self.now) x row.now }
+        requires action { a < (system_of self.now).env.actions }
+        requires room { length words.now * lanes_in (system_of self.now) ≡ count (sizes_of (system_of self.now)) }
+        ensures counted { (x : ℕ) (gone : ℕ → Bool) → IsRow (system_of self.now) x row.now →
+            AreRows (lanes_in (system_of self.now)) (λ q. not (gone q)) words.now →
+            result ≡ sum_by (λ lane. length (mask (numbered (system_of self.now)) gone (x * lanes_in (system_of self.now) + lane) a)) (below (lanes_in (system_of self.now))) }
+        ensures few { result ≤ 2048 }
+    {
+        self.layout();
+        let Some(turn) = turn_of(self, row, a) else {
+            return 0;
+        };
+        let alive = alive_on(self, words, &turn);
+        let mut count = 0;
+        for k in 0..serving(self, alive) {
+            count += good_on(self, words, row, &turn, alive, a, k).count_ones();
+        }
+        count
     }
 
     /// Those of the pairs `wanted` of a row at which the action `a` is allowed and no seat serves it.
@@ -118,12 +173,13 @@ impl Joint {
         let Some(turn) = turn_of(self, row, a) else {
             return 0;
         };
+        let alive = alive_on(self, words, &turn);
         let mut left = wanted;
         for k in 0..self.seats() {
             if left == 0 {
                 return 0;
             }
-            let good = good_on(self, words, row, &turn, a, k);
+            let good = good_on(self, words, row, &turn, alive, a, k);
             left = less(left, good);
         }
         left

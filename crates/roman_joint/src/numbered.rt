@@ -86,6 +86,10 @@ impl Rules for Joint {
         Joint::good(self, row, words, a, k)
     }
 
+    fn choices(&self, row: &Row, words: &[u64], a: u8) -> u32 {
+        Joint::choices(self, row, words, a)
+    }
+
     fn unserved(&self, row: &Row, words: &[u64], a: u8, wanted: u64) -> u64 {
         Joint::unserved(self, row, words, a, wanted)
     }

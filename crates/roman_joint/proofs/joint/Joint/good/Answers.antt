@@ -12,3 +12,9 @@ returns-in_default c x gone ok rows =
       each = λ lane l. on_zero lane ∙ sym (ap not (unopened (system_of n) c.args.row.now x c.args.a c.args.k lane gone (joint_numbered n c.known.ensures) ok l c.in_default.ensures));
       rest = λ lane l. on_zero lane;
     }
+
+pub alive_on-alive-requires-clause-turn : goal.alive_on-alive-requires-clause-turn
+alive_on-alive-requires-clause-turn c = (c.requires.row.0, c.args.row.now, c.args.a, c.requires.row.1, c.in-Some.ensures)
+
+pub returns : goal.returns
+returns c x gone ok rows = c.good_on.ensures x gone ok rows (c.alive_on-alive.ensures gone rows)

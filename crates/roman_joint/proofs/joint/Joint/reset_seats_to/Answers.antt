@@ -8,7 +8,7 @@ use Rattle.roman_joint.specs.Parts.{HasSameParts}
 use Rattle.roman_joint.specs.Rows.{AreRowsOf}
 use Rattle.roman_joint.specs.Moves.{HoldsMoves}
 use Rattle.roman_joint.proofs.MoveLemmas.{room_kept}
-use Rattle.roman_joint.proofs.SeatChanges.{with_seats, with_the_seats}
+use Rattle.roman_joint.proofs.SeatChanges.{with_the_seats}
 use Rattle.roman_joint.proofs.joint.Joint.reset_seats_to.Goals as goal
 
 pub put_seats-requires : goal.put_seats-requires

@@ -25,6 +25,9 @@ returns-in_default-clause-lost c x gone ok rows lane l =
     let s = system_of c.args.self.now in
     on_zero lane ∙ and_nothing (is_on c.args.wanted lane) (is_justified (numbered s) gone (x * lanes_in s + lane) (Act c.args.a)) (refused s c.args.row.now x c.args.a lane gone ok l c.in_default.ensures)
 
+pub alive_on-alive-requires-clause-turn : goal.alive_on-alive-requires-clause-turn
+alive_on-alive-requires-clause-turn c = (c.requires.row.0, c.args.row.now, c.args.a, c.requires.row.1, c.in-Some.ensures)
+
 pub loop-k-init : goal.loop-k-init
 loop-k-init c = record { lost = λ x gone ok rows lane l. all_pass (is_on c.args.wanted lane); within = λ lane off. off }
 
@@ -41,7 +44,7 @@ loop-k-preserved c = record {
   lost = λ x gone ok rows lane l.
       let s = system_of c.args.self.now in
       let beaten = is_beaten (numbered s) gone (x * lanes_in s + lane) c.args.a in
-      c.less-left.ensures lane ∙ (ap₂ (λ u v. u && not v) (c.loop-k.invariant.lost x gone ok rows lane l) ((c.good_on-good.ensures x gone ok rows).each lane l) ∙ one_more beaten c.loop-k.k (is_on c.args.wanted lane));
+      c.less-left.ensures lane ∙ (ap₂ (λ u v. u && not v) (c.loop-k.invariant.lost x gone ok rows lane l) ((c.good_on-good.ensures x gone ok rows (c.alive_on-alive.ensures gone rows)).each lane l) ∙ one_more beaten c.loop-k.k (is_on c.args.wanted lane));
   within = λ lane off. c.less-left.ensures lane ∙ ap (λ u. u && not (is_on c.good_on-good.result lane)) (c.loop-k.invariant.within lane off);
 }
 
