@@ -1,27 +1,16 @@
--- How many seats the masks have, row by row.
-use Rattle.std.proofs.Common.{◌≡◌, ℕ, zero, suc, ◌+◌, ◌-◌, ◌*◌, ◌%◌, ◌^◌, ◌<◌, ◌≤◌, Bool, true, false, cond, not, ◌&&◌, [], length, filter, sum_by, count_ones, IsTrue, IsFalse, inl, inr, refl, sym, ap, ap₂, ◌∙◌, subst, arith, eqb}
+-- The bits of masks, and how many seats all of them have.
+use Rattle.std.proofs.Common.{◌≡◌, ℕ, zero, suc, ◌+◌, ◌*◌, ◌<◌, ◌≤◌, Bool, cond, not, ◌&&◌, sum_by, inl, inr, sym, ap, ◌∙◌, subst, arith}
 use Rattle.std.specs.Int.{bit_at}
-use Rattle.std.proofs.Math.Pow.{pow_pos}
-use Rattle.std.proofs.lemmas.Bool.{cases_eq, cases_lt, cond-true, cond-false, both_ways, not_from_true, eq-eqb, ne_eqb}
-use Rattle.std.proofs.lemmas.List.Sums.{sum_by_push, length-filter}
-use Rattle.std.proofs.lemmas.Nat.{ones_cat, ones_le_self, zero_from_ones, mod-pow-add}
-use Rattle.std.proofs.lemmas.Nat.Bits.{bit_at-lt}
-use Rattle.roman_model.specs.Lists.{below, is_empty}
+use Rattle.std.proofs.lemmas.Bool.{cases_eq, cases_lt, not_from_true}
+use Rattle.std.proofs.lemmas.List.Sums.{sum_by_push}
+use Rattle.roman_model.specs.Lists.{below}
 use Rattle.roman_model.specs.System.{has}
 use Rattle.roman_model.specs.Arena.{Arena, is_beaten, mask}
-use Rattle.roman_model.proofs.Lists.{by_test, from_below, sum_by_same, empty_is, not_empty_in}
-use Rattle.roman_model.proofs.ArenaLemmas.{mask_has, mask_has_past, mask_none, beaten_none}
-use Rattle.roman_lanes.specs.Rows.{is_on, HasLanes}
+use Rattle.roman_model.proofs.Lists.{by_test}
+use Rattle.roman_model.proofs.ArenaLemmas.{mask_has, mask_has_past}
 use Rattle.roman_rules.specs.Bits.{HasBits, bit_of}
 use Rattle.roman_rules.specs.Numbered.{IsNumbered}
-
--- ---- a mask's bits
-
--- where an action isn't allowed each seat is beaten
-pub refused_beaten : (A : Arena ℕ) → IsNumbered A → (gone : ℕ → Bool) (p a k : ℕ) → IsFalse (A.allows p a) → IsTrue (is_beaten A gone p a k)
-refused_beaten A ok gone p a k refused = by_test (is_empty (A.outcomes p a k))
-    (λ t. beaten_none A gone p a k (empty_is (A.outcomes p a k) t))
-    (λ f. let (q, i) = not_empty_in (A.outcomes p a k) f in absurd (both_ways (A.allows p a) refused (ok.served p a k q i).0))
+use Rattle.roman_rules.proofs.Serving.{refused_beaten, sum_further}
 
 pub has_good : (A : Arena ℕ) → IsNumbered A → (gone : ℕ → Bool) (p a k : ℕ) → k < A.seats → has (mask A gone p a) k ≡ not (is_beaten A gone p a k)
 has_good A ok gone p a k l = mask_has A gone p a k l ∙ by_test (A.allows p a)
@@ -44,35 +33,6 @@ mask_all A gone p a n bits l read rest = record {
   each = λ j m. elim (cases_lt j n) [ inl less ↦ read j less | inr past ↦ rest j past ∙ sym (ap bit_of (mask_has_past A gone p a j (omega arith))) ];
 }
 
--- ---- sums over numbers below others
-
-pub sum_below_more : (f : ℕ → ℕ) (n : ℕ) → sum_by f (below (n + 1)) ≡ sum_by f (below n) + f n
-sum_below_more f n = (let next : n + 1 ≡ suc n = omega arith in ap (λ m. sum_by f (below m)) next) ∙ sum_by_push f (below n) n
-
-sum_plus : (f g : ℕ → ℕ) (n : ℕ) → sum_by (λ i. f i + g i) (below n) ≡ sum_by f (below n) + sum_by g (below n)
-sum_plus f g zero = refl
-sum_plus f g (suc n) = omega (arith, sum_by_push (λ i. f i + g i) (below n) n, sum_by_push f (below n) n, sum_by_push g (below n) n, sum_plus f g n)
-
-sum_none : (n : ℕ) → sum_by (λ i. 0) (below n) ≡ 0
-sum_none zero = refl
-sum_none (suc n) = omega (arith, sum_by_push (λ i. 0) (below n) n, sum_none n)
-
--- a sum of sums, the other way round
-pub sum_turned : (f : ℕ → ℕ → ℕ) (m n : ℕ) → sum_by (λ i. sum_by (λ j. f i j) (below n)) (below m) ≡ sum_by (λ j. sum_by (λ i. f i j) (below m)) (below n)
-sum_turned f zero n = sym (sum_none n)
-sum_turned f (suc m) n =
-    sum_by_push (λ i. sum_by (λ j. f i j) (below n)) (below m) m
-    ∙ (ap (λ x. x + sum_by (λ j. f m j) (below n)) (sum_turned f m n)
-    ∙ (sym (sum_plus (λ j. sum_by (λ i. f i j) (below m)) (λ j. f m j) n)
-    ∙ sum_by_same (λ j. sum_by (λ i. f i j) (below m) + f m j) (λ j. sum_by (λ i. f i j) (below (suc m))) (below n) (λ j i. sym (sum_by_push (λ i. f i j) (below m) m))))
-
--- a sum goes on
-sum_further : (f : ℕ → ℕ) (a n : ℕ) → sum_by f (below (a + n)) ≡ sum_by f (below a) + sum_by (λ i. f (a + i)) (below n)
-sum_further f a zero = (let same : a + zero ≡ a = omega arith in ap (λ m. sum_by f (below m)) same) ∙ (let none : sum_by f (below a) ≡ sum_by f (below a) + 0 = omega arith in none)
-sum_further f a (suc n) =
-    let next : a + suc n ≡ suc (a + n) = omega arith in
-    ap (λ m. sum_by f (below m)) next ∙ omega (arith, sum_by_push f (below (a + n)) (a + n), sum_further f a n, sum_by_push (λ i. f (a + i)) (below n) n)
-
 -- a sum over rows is one over all pairs
 pub sum_rows : (f : ℕ → ℕ) (lanes rows : ℕ) → sum_by (λ row. sum_by (λ lane. f (row * lanes + lane)) (below lanes)) (below rows) ≡ sum_by f (below (rows * lanes))
 sum_rows f lanes zero = let none : zero * lanes ≡ zero = omega arith in ap (λ m. sum_by f (below m)) (sym none)
@@ -81,78 +41,3 @@ sum_rows f lanes (suc rows) =
     sum_by_push (λ row. sum_by (λ lane. f (row * lanes + lane)) (below lanes)) (below rows) rows
     ∙ (ap (λ x. x + sum_by (λ lane. f (rows * lanes + lane)) (below lanes)) (sum_rows f lanes rows)
     ∙ (sym (sum_further f (rows * lanes) lanes) ∙ ap (λ m. sum_by f (below m)) (sym next)))
-
--- ---- the ones of a word
-
-bit_ones : (b : ℕ) → b < 2 → count_ones b ≡ b
-bit_ones b l = elim (cases_eq (count_ones b) 0) [ inl e ↦ e ∙ sym (zero_from_ones b e) | inr some ↦ omega (arith, ones_le_self b) ]
-
--- the ones among the lowest digits are counted by the bits
-low_ones : (n k : ℕ) → count_ones (n % 2 ^ k) ≡ sum_by (bit_at n) (below k)
-low_ones n zero = let none : n % 1 ≡ 0 = omega arith in ap count_ones none ∙ bit_ones 0 (omega arith)
-low_ones n (suc k) =
-    let split : n % 2 ^ suc k ≡ bit_at n k * 2 ^ k + n % 2 ^ k = (let same : suc k ≡ 1 + k = omega arith in ap (λ j. n % 2 ^ j) same) ∙ mod-pow-add n 1 k in
-    let small : n % 2 ^ k < 2 ^ k = omega (arith, pow_pos k) in
-    ap count_ones split ∙ ones_cat k (bit_at n k) (n % 2 ^ k) small
-    ∙ ap₂ (λ x y. x + y) (bit_ones (bit_at n k) (bit_at-lt n k)) (low_ones n k)
-    ∙ turned (bit_at n k) (sum_by (bit_at n) (below k)) ∙ sym (sum_by_push (bit_at n) (below k) k)
-  where
-    turned : (x y : ℕ) → x + y ≡ y + x
-    turned x y = omega arith
-
-bit_is : (word lane : ℕ) → bit_at word lane ≡ cond (is_on word lane) 1 0
-unfolding is_on
-bit_is word lane = elim (cases_eq (bit_at word lane) 1) [
-  | inl e ↦ e ∙ sym (cond-true (eqb (bit_at word lane) 1) 1 0 (eq-eqb (bit_at word lane) 1 e))
-  | inr ne ↦
-      let none : bit_at word lane ≡ 0 = omega (arith, bit_at-lt word lane) in
-      none ∙ sym (cond-false (eqb (bit_at word lane) 1) 1 0 (ne_eqb (bit_at word lane) 1 ne))
-]
-
--- the ones of a row's word are the lanes at which the test passes
-pub ones_counted : (lanes row : ℕ) (test : ℕ → Bool) (word : ℕ) → lanes ≤ 64 → word < 2 ^ 64 → HasLanes lanes row test word → count_ones word ≡ sum_by (λ lane. cond (test (row * lanes + lane)) 1 0) (below lanes)
-ones_counted lanes row test word few fits is =
-    let whole : word ≡ word % 2 ^ 64 = omega arith in
-    let rest : lanes + (64 - lanes) ≡ 64 = omega arith in
-    ap count_ones whole ∙ (low_ones word 64 ∙ (ap (λ m. sum_by (bit_at word) (below m)) (sym rest) ∙ (sum_further (bit_at word) lanes (64 - lanes)
-    ∙ (ap₂ (λ x y. x + y) (sum_by_same (bit_at word) (λ lane. cond (test (row * lanes + lane)) 1 0) (below lanes) (λ lane i. bit_is word lane ∙ ap one_if (is.each lane (from_below lanes lane i))))
-    (sum_by_same (λ i. bit_at word (lanes + i)) (λ i. 0) (below (64 - lanes)) (λ i j. bit_is word (lanes + i) ∙ cond-false (is_on word (lanes + i)) 1 0 (is.rest (lanes + i) (omega arith))) ∙ sum_none (64 - lanes))
-    ∙ nothing (sum_by (λ lane. cond (test (row * lanes + lane)) 1 0) (below lanes))))))
-  where
-    one_if : Bool → ℕ
-    one_if b = cond b 1 0
-
-    nothing : (x : ℕ) → x + 0 ≡ x
-    nothing x = omega arith
-
--- ---- the seats of a mask
-
-pub mask_counted : (A : Arena ℕ) → IsNumbered A → (gone : ℕ → Bool) (p a : ℕ) → length (mask A gone p a) ≡ sum_by (λ k. cond (not (is_beaten A gone p a k)) 1 0) (below A.seats)
-mask_counted A ok gone p a = by_test (A.allows p a)
-    (λ t. ap length (cond-true (A.allows p a) (filter (λ k. not (is_beaten A gone p a k)) (below A.seats)) [] t) ∙ length-filter (λ k. not (is_beaten A gone p a k)) (below A.seats))
-    (λ f. ap length (mask_none A gone p a f)
-    ∙ sym (sum_by_same (λ k. cond (not (is_beaten A gone p a k)) 1 0) (λ k. 0) (below A.seats) (λ k i. cond-false (not (is_beaten A gone p a k)) 1 0 (not_from_true (is_beaten A gone p a k) (refused_beaten A ok gone p a k f))) ∙ sum_none A.seats))
-
--- the seats of an action's masks in a row, seat by seat
-pub action_counted : (A : Arena ℕ) → IsNumbered A → (gone : ℕ → Bool) (lanes row a : ℕ) →
-    sum_by (λ k. sum_by (λ lane. cond (not (is_beaten A gone (row * lanes + lane) a k)) 1 0) (below lanes)) (below A.seats) ≡ sum_by (λ lane. length (mask A gone (row * lanes + lane) a)) (below lanes)
-action_counted A ok gone lanes row a =
-    sum_turned (λ k lane. cond (not (is_beaten A gone (row * lanes + lane) a k)) 1 0) A.seats lanes
-    ∙ sum_by_same (λ lane. sum_by (λ k. cond (not (is_beaten A gone (row * lanes + lane) a k)) 1 0) (below A.seats)) (λ lane. length (mask A gone (row * lanes + lane) a)) (below lanes)
-    (λ lane i. sym (mask_counted A ok gone (row * lanes + lane) a))
-
--- where an action is allowed at no pair of a row, its masks there have no seats
-pub none_chosen : (A : Arena ℕ) (gone : ℕ → Bool) (lanes row a : ℕ) → ((lane : ℕ) → lane < lanes → IsFalse (A.allows (row * lanes + lane) a)) →
-    0 ≡ sum_by (λ lane. length (mask A gone (row * lanes + lane) a)) (below lanes)
-none_chosen A gone lanes row a none =
-    sym (sum_by_same (λ lane. length (mask A gone (row * lanes + lane) a)) (λ lane. 0) (below lanes)
-    (λ lane i. ap length (mask_none A gone (row * lanes + lane) a (none lane (from_below lanes lane i)))) ∙ sum_none lanes)
-
--- as many as pass are no more than all
-pub sum_few : (test : ℕ → Bool) (n : ℕ) → sum_by (λ i. cond (test i) 1 0) (below n) ≤ n
-sum_few test zero = omega arith
-sum_few test (suc n) = omega (arith, sum_by_push (λ i. cond (test i) 1 0) (below n) n, sum_few test n, one_few (test n))
-  where
-    one_few : (b : Bool) → cond b 1 0 ≤ 1
-    one_few true = omega arith
-    one_few false = omega arith

@@ -60,33 +60,10 @@ fn row_choices<J: Rules>(joint: &J, order: &Order, x: u32) -> u64
     joint.lanes();
     order.len();
     let row = joint.row(x);
-    let mut count = 0;
-    for a in 0..joint.actions() {
-        count += action_choices(joint, order, &row, x, a);
-    }
-    count
-}
-
-/// How many those of an action have.
-fn action_choices<J: Rules>(joint: &J, order: &Order, row: &J::Row, x: u32, a: u8) -> u64
-    requires shaped { IsShaped (J.arena joint.now) (J.lanes joint.now) order.now }
-    requires inside { x < order.now.rows }
-    requires row { J.is_row joint.now x row.now }
-    requires action { a < (J.arena joint.now).actions }
-    ensures counted { let A = J.arena joint.now in
-        result ≡ sum_by (λ lane. length (mask_of A (is_listed A order.now.list) (x * J.lanes joint.now + lane) a)) (below (J.lanes joint.now)) }
-    ensures bound { result ≤ 2048 }
-{
-    joint.known();
-    joint.lanes();
-    order.len();
-    if (joint.row_actions(row) >> a) & 1 == 0 {
-        return 0;
-    }
     let words = order.words();
     let mut count = 0;
-    for k in 0..joint.seats() {
-        count += u64::from(joint.good(row, words, a, k).count_ones());
+    for a in 0..joint.actions() {
+        count += u64::from(joint.choices(&row, words, a));
     }
     count
 }
