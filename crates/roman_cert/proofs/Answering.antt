@@ -17,12 +17,12 @@ use Rattle.roman_model.proofs.ArenaLemmas.{IsSame, justified_is}
 use Rattle.roman_model.proofs.WorkLemmas.{order_middle}
 use Rattle.roman_model.proofs.ExplanationLemmas.{before_is}
 use Rattle.roman_rules.specs.Numbered.{IsNumbered}
-use Rattle.roman_rules.specs.Finding.{IsFinding, Finds}
+use Rattle.roman_rules.specs.Finding.{IsFinding, HasFinding}
 use Rattle.roman_rules.specs.declared.finding.Finding.{Finding}
 use Rattle.roman_rules.specs.declared.finding.Finding.TheVariants.{Good, NoOutcome, Leaves}
 use Rattle.roman_rules.proofs.NumberedFacts.{numbered_same}
-use Rattle.roman_order.specs.Board.{Board, pairs_of, has_entry, place_of}
-use Rattle.roman_order.proofs.Places.{is_some-place_of}
+use Rattle.roman_order.specs.Board.{Board, pairs_of, has_entry, place_in_list}
+use Rattle.roman_order.proofs.Places.{is_some-place_in_list}
 use Rattle.roman_relation.proofs.Beginnings.{listed_is}
 use Rattle.roman_cert.proofs.Texts.{drop_at}
 
@@ -50,16 +50,16 @@ position_among test d (suc i) (x ∷ xs) m e = elim (cases_Bool (test x)) [
 ]
 
 -- a listed pair stands before a place exactly where its own is smaller
-pub place_before : (L : List (Entry ℕ)) (q i m : ℕ) → place_of L q ≡ Some m → ltb m i ≡ has_entry (take i L) q
+pub place_before : (L : List (Entry ℕ)) (q i m : ℕ) → place_in_list L q ≡ Some m → ltb m i ≡ has_entry (take i L) q
 place_before L q i m e =
     let whole : 0 + i ≡ i = omega arith in
     sym (position_among (λ (x : Entry ℕ). eqb q x.node) 0 i L m e ∙ ap (ltb m) whole)
 
 -- a pair that isn't listed stands nowhere
-pub no_place_before : (L : List (Entry ℕ)) (q i : ℕ) → place_of L q ≡ None → false ≡ has_entry (take i L) q
+pub no_place_before : (L : List (Entry ℕ)) (q i : ℕ) → place_in_list L q ≡ None → false ≡ has_entry (take i L) q
 no_place_before L q i e =
     let test : Entry ℕ → Bool = λ x. eqb q x.node in
-    let none : has_entry L q ≡ false = sym (is_some-place_of L q) ∙ ap (λ (o : Option ℕ). elim o [ None ↦ false | Some m ↦ true ]) e in
+    let none : has_entry L q ≡ false = sym (is_some-place_in_list L q) ∙ ap (λ (o : Option ℕ). elim o [ None ↦ false | Some m ↦ true ]) e in
     let split : (list_any test (take i L) || list_any test (drop i L)) ≡ false = sym (list_any-append test (take i L) (drop i L)) ∙ ap (list_any test) (take-append-drop i L) ∙ none in
     sym (or_parts (list_any test (take i L)) (list_any test (drop i L)) split).0
 
@@ -113,7 +113,7 @@ find_alike p q (x ∷ xs) same = ap₂ (λ b o. cond b (Some x) o) (same x) (fin
 
 -- the first outcome that stands before the entry's place is the defeating answer
 pub answer_found : (A : Arena ℕ) → IsNumbered A → (n : Sizes) (L : List (Entry ℕ)) (i p a k : ℕ) (finding : Finding) → IsOrder A L → slice_get L i ≡ Some (record { node = p; reason = Act a }) →
-    Finds n k (has_entry (take i L)) (A.outcomes p a k) finding → pair_of finding ≡ answer A L p a k
+    HasFinding n k (has_entry (take i L)) (A.outcomes p a k) finding → pair_of finding ≡ answer A L p a k
 answer_found A ok n L i p a k finding order e found = named finding found.is ∙ sym is
   where
     same : (q : ℕ) → is_listed A (entries_before A L p) q ≡ has_entry (take i L) q

@@ -11,7 +11,7 @@ use Rattle.roman_model.specs.declared.reason.Reason.{Reason}
 use Rattle.roman_model.specs.Explanation.{Names, SeatNames, name_at, seat_names, state_names, reason_name, lost_line, answer_line}
 use Rattle.roman_model.proofs.NumberLemmas.{length-states_at}
 use Rattle.roman_joint.specs.NamedSys.{NamedSys, system_of, seat_of}
-use Rattle.roman_joint.specs.Names.{names_of, names_of_seat}
+use Rattle.roman_joint.specs.Names.{names_in, names_of_seat}
 use Rattle.roman_cert.specs.Slices.{lost_text}
 
 -- The line of a seat
@@ -70,26 +70,26 @@ line_ends names bs reason k bytes past is =
 
 -- the states of the services from place k on, and the end of the line
 pub lost_from : NamedSys → Entry ℕ → ℕ → List ℕ
-lost_from n x k = states_from (names_of n) (pair_at (sizes_of (system_of n)) x.node).bs x.reason k
+lost_from n x k = states_from (names_in n) (pair_at (sizes_of (system_of n)) x.node).bs x.reason k
 
 pub lost_begins : (n : NamedSys) (x : Entry ℕ) (bytes : List ℕ) →
-    bytes ≡ codes "lost " ++ name_at (names_of n).target (pair_at (sizes_of (system_of n)) x.node).t ++ 32 ∷ name_at (names_of n).env (pair_at (sizes_of (system_of n)) x.node).e →
+    bytes ≡ codes "lost " ++ name_at (names_in n).target (pair_at (sizes_of (system_of n)) x.node).t ++ 32 ∷ name_at (names_in n).env (pair_at (sizes_of (system_of n)) x.node).e →
     bytes ++ lost_from n x 0 ≡ lost_text n x
 unfolding lost_from lost_text
-lost_begins n x bytes is = line_begins (names_of n) (pair_at (sizes_of (system_of n)) x.node) x.reason bytes is
+lost_begins n x bytes is = line_begins (names_in n) (pair_at (sizes_of (system_of n)) x.node) x.reason bytes is
 
 pub lost_next : (n : NamedSys) (x : Entry ℕ) (k : ℕ) (bytes : List ℕ) → k < length n.seats →
-    bytes ≡ 32 ∷ name_at (seat_names (names_of n) k).states (slice_index (pair_at (sizes_of (system_of n)) x.node).bs k) → lost_from n x k ≡ bytes ++ lost_from n x (k + 1)
+    bytes ≡ 32 ∷ name_at (seat_names (names_in n) k).states (slice_index (pair_at (sizes_of (system_of n)) x.node).bs k) → lost_from n x k ≡ bytes ++ lost_from n x (k + 1)
 unfolding lost_from
 lost_next n x k bytes l is =
     let s = system_of n in
-    let names : length (names_of n).seats ≡ length n.seats = length-map n.seats (names_of_seat n.catalogue) in
+    let names : length (names_in n).seats ≡ length n.seats = length-map n.seats (names_of_seat n.catalogue) in
     let states : length (pair_at (sizes_of s) x.node).bs ≡ length n.seats =
     length-states_at (sizes_of s).seats (x.node % product_of (sizes_of s).seats) ∙ length-map s.seats (λ seat. seat.beh.states) ∙ length-map n.seats (seat_of n.catalogue) in
-    line_next (names_of n) (pair_at (sizes_of s) x.node).bs x.reason k bytes (omega arith) (omega arith) is
+    line_next (names_in n) (pair_at (sizes_of s) x.node).bs x.reason k bytes (omega arith) (omega arith) is
 
-pub lost_ends : (n : NamedSys) (x : Entry ℕ) (k : ℕ) (bytes : List ℕ) → length n.seats ≤ k → bytes ≡ codes ": " ++ reason_name (names_of n) x.reason ++ 10 ∷ [] → lost_from n x k ≡ bytes ++ []
+pub lost_ends : (n : NamedSys) (x : Entry ℕ) (k : ℕ) (bytes : List ℕ) → length n.seats ≤ k → bytes ≡ codes ": " ++ reason_name (names_in n) x.reason ++ 10 ∷ [] → lost_from n x k ≡ bytes ++ []
 unfolding lost_from
 lost_ends n x k bytes past is =
-    let names : length (names_of n).seats ≡ length n.seats = length-map n.seats (names_of_seat n.catalogue) in
-    line_ends (names_of n) (pair_at (sizes_of (system_of n)) x.node).bs x.reason k bytes (omega arith) is
+    let names : length (names_in n).seats ≡ length n.seats = length-map n.seats (names_of_seat n.catalogue) in
+    line_ends (names_in n) (pair_at (sizes_of (system_of n)) x.node).bs x.reason k bytes (omega arith) is

@@ -6,12 +6,12 @@ use Rattle.roman_model.specs.Explanation.{SeatNames, name_at, seat_names}
 use Rattle.roman_model.specs.Numbers.{sizes_of}
 use Rattle.roman_parts.specs.Named.{NamedBeh}
 use Rattle.roman_joint.specs.NamedSys.{NamedSys, IsNamedSys, system_of}
-use Rattle.roman_joint.specs.Names.{beh_states, names_of, names_of_seat}
-use Rattle.roman_joint.specs.Behaviours.{IsBehaviourOf}
+use Rattle.roman_joint.specs.Names.{beh_states, names_in, names_of_seat}
+use Rattle.roman_joint.specs.Behaviours.{IsSeatBehaviour}
 use Rattle.roman_joint.proofs.BehaviourLemmas.{behaves}
 
 -- a service has as many states as its behaviour
-pub state_within : (n : NamedSys) (k b : ℕ) (beh : NamedBeh) → IsNamedSys n → IsBehaviourOf n k beh → length beh.states ≡ beh.beh.states → b < slice_index (sizes_of (system_of n)).seats k → b < length beh.states
+pub state_within : (n : NamedSys) (k b : ℕ) (beh : NamedBeh) → IsNamedSys n → IsSeatBehaviour n k beh → length beh.states ≡ beh.beh.states → b < slice_index (sizes_of (system_of n)).seats k → b < length beh.states
 state_within n k b beh known of states below =
     let at = behaves n k beh known of in
     let size : slice_index (sizes_of (system_of n)).seats k ≡ at.seat.beh.states =
@@ -19,10 +19,10 @@ state_within n k b beh known of states below =
     subst (λ m. b < m) (size ∙ ap (λ y. y.states) at.is ∙ sym states) below
 
 -- the names of its states are those of its behaviour's
-pub states_are : (n : NamedSys) (k : ℕ) (beh : NamedBeh) → IsBehaviourOf n k beh → (seat_names (names_of n) k).states ≡ beh.states
+pub states_are : (n : NamedSys) (k : ℕ) (beh : NamedBeh) → IsSeatBehaviour n k beh → (seat_names (names_in n) k).states ≡ beh.states
 states_are n k beh of =
     ap (λ (x : SeatNames). x.states)
-    (get_or_from_slice_get (names_of n).seats k (names_of_seat n.catalogue of.seat) (record { service = []; states = [] })
+    (get_or_from_slice_get (names_in n).seats k (names_of_seat n.catalogue of.seat) (record { service = []; states = [] })
     (slice_get-map (names_of_seat n.catalogue) n.seats k ∙ ap (option_map (names_of_seat n.catalogue)) of.seated))
     ∙ get_or_from_slice_get (map beh_states n.catalogue) of.seat.behaviour beh.states [] (slice_get-map beh_states n.catalogue of.seat.behaviour ∙ ap (option_map beh_states) of.placed)
 

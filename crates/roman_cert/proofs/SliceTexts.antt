@@ -11,7 +11,7 @@ use Rattle.roman_model.proofs.NumberedLists.{numbered_is_arena}
 use Rattle.roman_joint.specs.NamedSys.{NamedSys, system_of, IsNamedSys}
 use Rattle.roman_order.specs.Board.{Board, pairs_of, has_entry, is_marked}
 use Rattle.roman_relation.specs.Greatest.{arena_of}
-use Rattle.roman_cert.specs.Reasons.{IsReasonOf}
+use Rattle.roman_cert.specs.Reasons.{NamesAction}
 use Rattle.roman_cert.specs.Slices.{lost_text, answers_text, entry_text, marked_entries, slice_text}
 use Rattle.roman_cert.proofs.Texts.{drop_at}
 use Rattle.roman_cert.proofs.Answering.{entry_in, listed_numbers, entry_allowed}
@@ -24,10 +24,10 @@ pub entry_pair : (n : NamedSys) (board : Board) (i : ℕ) (x : Entry ℕ) → pa
 entry_pair n board i x shaped in_range e = listed_numbers (system_of n) board shaped in_range x (entry_in board.list i x e)
 
 -- its reason names an action of the system
-pub entry_reason : (n : NamedSys) (L : List (Entry ℕ)) (i : ℕ) (x : Entry ℕ) → IsNamedSys n → IsOrder (arena_of n) L → slice_get L i ≡ Some x → IsReasonOf (system_of n).env.actions x.reason
+pub entry_reason : (n : NamedSys) (L : List (Entry ℕ)) (i : ℕ) (x : Entry ℕ) → IsNamedSys n → IsOrder (arena_of n) L → slice_get L i ≡ Some x → NamesAction (system_of n).env.actions x.reason
 entry_reason n L i x known order e = by_reason x.reason e
   where
-    by_reason : (r : Reason) → slice_get L i ≡ Some (record { node = x.node; reason = r }) → IsReasonOf (system_of n).env.actions r
+    by_reason : (r : Reason) → slice_get L i ≡ Some (record { node = x.node; reason = r }) → NamesAction (system_of n).env.actions r
     by_reason Final f = tt
     by_reason (Act a) f = (numbered_is_arena (system_of n) known.system).allowed x.node a (entry_allowed (arena_of n) L i x.node a order f)
 

@@ -4,6 +4,6 @@ use Rattle.roman_model.specs.declared.reason.Reason.{Reason}
 use Rattle.roman_model.specs.declared.reason.Reason.TheVariants.{Final, Act}
 
 -- the action that the reason names is one of so many
-abbrev pub IsReasonOf : ℕ → Reason → Type 0
-IsReasonOf actions Final = Unit {0}
-IsReasonOf actions (Act a) = a < actions
+abbrev pub NamesAction : ℕ → Reason → Type 0
+NamesAction actions Final = Unit {0}
+NamesAction actions (Act a) = a < actions

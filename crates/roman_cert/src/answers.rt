@@ -2,7 +2,7 @@
 ghost use Rattle.std.specs.Prelude.{◌≡◌, ◌<◌, length, take, slice_get, Some, IfSome};
 ghost use Rattle.roman_model.specs.Arena.{IsOrder};
 ghost use Rattle.roman_model.specs.Explanation.{answer as answer_of};
-ghost use Rattle.roman_order.specs.Board.{pairs_of, entry_of, has_entry};
+ghost use Rattle.roman_order.specs.Board.{pairs_of, as_entry, has_entry};
 
 use roman_io::Steps;
 use roman_model::Reason;
@@ -35,7 +35,7 @@ pub(crate) fn answer<J: Rules, L: Ledger>(
 ) -> Option<u32>
     requires shaped { pairs_of order.now ≡ length (J.arena joint.now).nodes }
     requires valid { IsOrder (J.arena joint.now) order.now.list }
-    requires entry { slice_get order.now.list i ≡ Some (entry_of (p, Reason.Act a)) }
+    requires entry { slice_get order.now.list i ≡ Some (as_entry (p, Reason.Act a)) }
     requires seat { k < (J.arena joint.now).seats }
     ensures answer { result ≡ answer_of (J.arena joint.now) order.now.list p a k }
     ensures within { IfSome result (λ q. q < length (J.arena joint.now).nodes) }

@@ -7,7 +7,7 @@ ghost use Rattle.roman_model.specs.Lines.{text_of};
 ghost use Rattle.roman_model.specs.Certificate.{head_line, count_line, entry_line, cert_text};
 ghost use Rattle.roman_model.specs.Numbers.{sizes_of, count, IsCompleteList};
 ghost use Rattle.roman_joint.specs.NamedSys.{system_of};
-ghost use Rattle.roman_order.specs.Board.{entry_of};
+ghost use Rattle.roman_order.specs.Board.{as_entry};
 ghost use Rattle.roman_cert.specs.Certified.{WroteGreatest};
 
 use roman_io::{Failed, Sink};
@@ -65,7 +65,7 @@ fn push_entry<O: Sink>(
     out: &mut O,
 ) -> Result<(), Failed>
     ensures gathers { Gathers (O.written out.old) (O.written out.new) page.new
-        (page.old ++ text_of (entry_line (entry_of (pair, reason)) ∷ [])) result }
+        (page.old ++ text_of (entry_line (as_entry (pair, reason)) ∷ [])) result }
     ensures cause { HasCause (O.faults out.old) (O.faults out.new) result }
 {
     page.push_number(pair, out)?;

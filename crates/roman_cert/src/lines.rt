@@ -7,9 +7,9 @@ ghost use Rattle.roman_model.specs.Explanation.{name_at, seat_names, reason_name
 ghost use Rattle.roman_model.specs.Lines.{text_of};
 ghost use Rattle.roman_model.specs.Numbers.{sizes_of, count, pair_at};
 ghost use Rattle.roman_joint.specs.NamedSys.{system_of};
-ghost use Rattle.roman_joint.specs.Names.{names_of};
-ghost use Rattle.roman_order.specs.Board.{entry_of};
-ghost use Rattle.roman_cert.specs.Reasons.{IsReasonOf};
+ghost use Rattle.roman_joint.specs.Names.{names_in};
+ghost use Rattle.roman_order.specs.Board.{as_entry};
+ghost use Rattle.roman_cert.specs.Reasons.{NamesAction};
 ghost use Rattle.roman_cert.specs.Slices.{lost_text};
 
 use crate::naming::{action_name, env_name, service_name, state_name, target_name};
@@ -27,9 +27,9 @@ pub(crate) fn push_lost<O: Sink>(
     out: &mut O,
 ) -> Result<(), Failed>
     requires pair { p < count (sizes_of (system_of joint.now)) }
-    requires reason { IsReasonOf (system_of joint.now).env.actions reason }
+    requires reason { NamesAction (system_of joint.now).env.actions reason }
     ensures gathers { Gathers (O.written out.old) (O.written out.new) page.new
-        (page.old ++ lost_text joint.now (entry_of (p, reason))) result }
+        (page.old ++ lost_text joint.now (as_entry (p, reason))) result }
     ensures cause { HasCause (O.faults out.old) (O.faults out.new) result }
 {
     let parts = parts_piece(joint, p);
@@ -46,8 +46,8 @@ pub(crate) fn push_lost<O: Sink>(
 fn parts_piece(joint: &Joint, p: u32) -> Piece
     requires { p < count (sizes_of (system_of joint.now)) }
     ensures { let q = pair_at (sizes_of (system_of joint.now)) p in
-        result ≡ codes "lost " ++ name_at (names_of joint.now).target q.t
-        ++ 32 ∷ name_at (names_of joint.now).env q.e }
+        result ≡ codes "lost " ++ name_at (names_in joint.now).target q.t
+        ++ 32 ∷ name_at (names_in joint.now).env q.e }
 {
     let text = Piece::new().text(b"lost ").name(target_name(joint, p));
     text.text(b" ").name(env_name(joint, p))
@@ -58,15 +58,15 @@ fn state_piece(joint: &Joint, p: u32, k: u8) -> Piece
     requires pair { p < count (sizes_of (system_of joint.now)) }
     requires seat { k < length joint.now.seats }
     ensures { let q = pair_at (sizes_of (system_of joint.now)) p in
-        result ≡ 32 ∷ name_at (seat_names (names_of joint.now) k).states (slice_index q.bs k) }
+        result ≡ 32 ∷ name_at (seat_names (names_in joint.now) k).states (slice_index q.bs k) }
 {
     Piece::new().text(b" ").name(state_name(joint, p, k))
 }
 
 /// The end of a pair's line: why it is lost.
 fn reason_piece(joint: &Joint, reason: Reason) -> Piece
-    requires { IsReasonOf (system_of joint.now).env.actions reason }
-    ensures { result ≡ codes ": " ++ reason_name (names_of joint.now) reason ++ 10 ∷ [] }
+    requires { NamesAction (system_of joint.now).env.actions reason }
+    ensures { result ≡ codes ": " ++ reason_name (names_in joint.now) reason ++ 10 ∷ [] }
 {
     let text = Piece::new().text(b": ");
     match reason {
@@ -80,7 +80,7 @@ pub(crate) fn answer_piece(joint: &Joint, k: u8, answer: Option<u32>) -> Piece
     requires seat { k < length joint.now.seats }
     requires pair { ForSome answer (λ q. q < count (sizes_of (system_of joint.now))) }
     ensures { let answered = option_map (pair_at (sizes_of (system_of joint.now))) answer in
-        result ≡ text_of (answer_line (names_of joint.now) k answered ∷ []) }
+        result ≡ text_of (answer_line (names_in joint.now) k answered ∷ []) }
 {
     let text = Piece::new().text(b"  ").name(service_name(joint, k));
     match answer {
@@ -96,8 +96,8 @@ fn add_states(text: Piece, joint: &Joint, k: u8, q: u32) -> Piece
     requires pair { q < count (sizes_of (system_of joint.now)) }
     ensures { let answered = pair_at (sizes_of (system_of joint.now)) q in
         result ≡ text ++ codes " may answer "
-        ++ name_at (seat_names (names_of joint.now) k).states (slice_index answered.bs k)
-        ++ codes " " ++ name_at (names_of joint.now).env answered.e ++ 10 ∷ [] }
+        ++ name_at (seat_names (names_in joint.now) k).states (slice_index answered.bs k)
+        ++ codes " " ++ name_at (names_in joint.now).env answered.e ++ 10 ∷ [] }
 {
     let text = text.text(b" may answer ").name(state_name(joint, q, k));
     text.text(b" ").name(env_name(joint, q)).text(b"\n")

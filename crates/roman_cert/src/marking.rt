@@ -2,7 +2,7 @@
 ghost use Rattle.std.specs.Prelude.{◌≡◌, ℕ, ◌<◌, ◌&&◌, ◌||◌, length, slice_get, Some};
 ghost use Rattle.roman_model.specs.Arena.{Entry, is_among, IsOrder};
 ghost use Rattle.roman_model.specs.Explanation.{answers, rests_on};
-ghost use Rattle.roman_order.specs.Board.{pairs_of, entry_of, is_marked};
+ghost use Rattle.roman_order.specs.Board.{pairs_of, as_entry, is_marked};
 
 use crate::answers::answer;
 use roman_io::Steps;
@@ -68,7 +68,7 @@ fn mark_answers<J: Rules, L: Ledger>(
 )
     requires shaped { pairs_of order.old ≡ length (J.arena joint.now).nodes }
     requires valid { IsOrder (J.arena joint.now) order.old.list }
-    requires entry { slice_get order.old.list i ≡ Some (entry_of (p, Reason.Act a)) }
+    requires entry { slice_get order.old.list i ≡ Some (as_entry (p, Reason.Act a)) }
     ensures marked { let A = J.arena joint.now in
         (q : ℕ) → is_marked order.new q
         ≡ (is_marked order.old q || is_among A (answers A order.old.list p (Reason.Act a)) q) }

@@ -9,7 +9,7 @@ ghost use Rattle.roman_model.specs.Explanation.{explanation, explain_text, Expla
 ghost use Rattle.roman_model.specs.Numbers.{sizes_of, count, pair_at, entry_at};
 ghost use Rattle.roman_model.specs.Play.{OpponentWins};
 ghost use Rattle.roman_joint.specs.NamedSys.{system_of};
-ghost use Rattle.roman_joint.specs.Names.{names_of};
+ghost use Rattle.roman_joint.specs.Names.{names_in};
 ghost use Rattle.roman_order.specs.Board.{pairs_of};
 ghost use Rattle.roman_relation.specs.Greatest.{arena_of, IsRelation};
 ghost use Rattle.roman_cert.specs.Slices.{answers_text, entry_text, marked_entries, slice_text};
@@ -45,7 +45,7 @@ pub fn write_slice<O: Sink, L: Ledger>(
     ensures text { let s = system_of relation.old.joint in
         let L = map (entry_at s) relation.old.order.list in
         Puts (O.written out.old) (O.written out.new)
-        (explain_text s (names_of relation.old.joint) L (pair_at (sizes_of s) p)) result }
+        (explain_text s (names_in relation.old.joint) L (pair_at (sizes_of s) p)) result }
     ensures explained { let s = system_of relation.old.joint in
         ExplainedOrder s (map (entry_at s) relation.old.order.list) (pair_at (sizes_of s) p) }
     ensures wins { let s = system_of relation.old.joint in

@@ -15,7 +15,7 @@ use Rattle.roman_model.proofs.VerdictLemmas.{fault_in_body, fault_after_end}
 use Rattle.roman_model.specs.declared.reason.Reason.{Reason}
 use Rattle.roman_model.specs.declared.reason.Reason.TheVariants.{Final, Act}
 use Rattle.roman_lanes.specs.Rows.{AreRows}
-use Rattle.roman_rules.specs.Asked.{IsKnown, IsReasonOf}
+use Rattle.roman_rules.specs.Asked.{HoldsWhereKept, IsReasonOf}
 use Rattle.roman_rules.proofs.Asking.{known_more}
 use Rattle.roman_rules.specs.Numbered.{IsNumbered}
 use Rattle.roman_check.specs.declared.audit.Audit.{Audit}
@@ -25,7 +25,7 @@ use Rattle.roman_check.specs.declared.verdict.Why.{Why}
 use Rattle.roman_check.specs.declared.verdict.Why.TheVariants.{Form}
 use Rattle.roman_check.specs.Verdicts.{fault_of}
 use Rattle.roman_check.specs.Remain.{Remain}
-use Rattle.roman_check.specs.Audits.{due_after, IsShaped, HasListed, HasRead, Judges}
+use Rattle.roman_check.specs.Audits.{due_after, IsInRows, HasListed, HasRead, Judges}
 use Rattle.roman_check.proofs.ReasonLemmas.{given_action, row_within}
 
 -- Entries
@@ -70,7 +70,7 @@ listed_more A ok L x line e q =
 -- an entry was read: its pair is taken out, and what was known of the row that was asked is known still
 pub entry_listed : (A : Arena ℕ) → IsNumbered A → (L : List (Entry ℕ)) (x : Entry ℕ) (line : List ℕ) (new : Audit) → Some x ≡ entry_of (length A.nodes) A.actions line →
     (((q : ℕ) → is_listed A (L ++ entries_on A (line ∷ [])) q ≡ (is_listed A L q || q == x.node)) → Remain (length A.nodes) (is_listed A (L ++ entries_on A (line ∷ []))) new.left) →
-    IsKnown A new.left.lanes (is_listed A L) new.asked → HasListed A (L ++ entries_on A (line ∷ [])) new
+    HoldsWhereKept A new.left.lanes (is_listed A L) new.asked → HasListed A (L ++ entries_on A (line ∷ [])) new
 entry_listed A ok L x line new e left known = record {
   left = left (listed_more A ok L x line e);
   known = known_more A new.left.lanes (is_listed A L) (is_listed A (L ++ entries_on A (line ∷ []))) new.asked (λ q t. listed_more A ok L x line e q ∙ ap (λ b. b || q == x.node) t) known;
@@ -80,8 +80,8 @@ entry_listed A ok L x line new e left known = record {
 pub listed_rows : (A : Arena ℕ) (L : List (Entry ℕ)) (audit : Audit) (lanes : ℕ) → HasListed A L audit → audit.left.lanes ≡ lanes → (words : List ℕ) → words ≡ audit.left.words.items → AreRows lanes (λ q. not (is_listed A L q)) words
 listed_rows A L audit lanes has shaped words same = subst (AreRows lanes (λ q. not (is_listed A L q))) (sym same) (subst (λ m. AreRows m (λ q. not (is_listed A L q)) audit.left.words.items) shaped has.left.rows)
 
-pub listed_known : (A : Arena ℕ) (L : List (Entry ℕ)) (audit : Audit) (lanes : ℕ) → HasListed A L audit → audit.left.lanes ≡ lanes → IsKnown A lanes (is_listed A L) audit.asked
-listed_known A L audit lanes has shaped = subst (λ m. IsKnown A m (is_listed A L) audit.asked) shaped has.known
+pub listed_known : (A : Arena ℕ) (L : List (Entry ℕ)) (audit : Audit) (lanes : ℕ) → HasListed A L audit → audit.left.lanes ≡ lanes → HoldsWhereKept A lanes (is_listed A L) audit.asked
+listed_known A L audit lanes has shaped = subst (λ m. HoldsWhereKept A m (is_listed A L) audit.asked) shaped has.known
 
 -- the reason of an entry is one of the system
 pub reason_given : (A : Arena ℕ) (r : Reason) → IsIn r (reasons A.actions) → IsReasonOf A r
@@ -89,7 +89,7 @@ reason_given A Final i = tt
 reason_given A (Act a) i = given_action A.actions a i
 
 -- the row of a pair is one of the table
-pub pair_within : (lanes pairs : ℕ) (audit : Audit) → IsShaped lanes pairs audit → (p row lane : ℕ) → row * audit.left.lanes + lane ≡ p → p < pairs → row < length audit.left.words.items
+pub pair_within : (lanes pairs : ℕ) (audit : Audit) → IsInRows lanes pairs audit → (p row lane : ℕ) → row * audit.left.lanes + lane ≡ p → p < pairs → row < length audit.left.words.items
 pair_within lanes pairs audit shaped p row lane e l =
     row_within row lane audit.left.lanes (length audit.left.words.items) p e
     (subst (λ m. p < length audit.left.words.items * m) (sym shaped.in_rows) (subst (λ n. p < n) (sym shaped.room) l))
@@ -156,7 +156,7 @@ after_end (head ∷ size ∷ body) e = (head, size, body, refl, has_ended (list_
 pub same_listed : (A : Arena ℕ) (L : List (Entry ℕ)) (old new : Audit) → new.left ≡ old.left → new.asked ≡ old.asked → HasListed A L old → HasListed A L new
 same_listed A L old new left asked has = record {
   left = subst (Remain (length A.nodes) (is_listed A L)) (sym left) has.left;
-  known = subst (λ a. IsKnown A new.left.lanes (is_listed A L) a) (sym asked) (subst (λ t. IsKnown A t.lanes (is_listed A L) old.asked) (sym left) has.known);
+  known = subst (λ a. HoldsWhereKept A new.left.lanes (is_listed A L) a) (sym asked) (subst (λ t. HoldsWhereKept A t.lanes (is_listed A L) old.asked) (sym left) has.known);
 }
 
 opening_fault : (b c : Bool) (fault : Option Why) → b ≡ c → fault ≡ (if b then None else Some Form) → option_map fault_of fault ≡ (if c then None else Some text.Form)

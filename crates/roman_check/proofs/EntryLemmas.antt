@@ -12,7 +12,7 @@ use Rattle.roman_model.specs.Certificate.{count_line, reason_text, entry_line, r
 use Rattle.roman_model.proofs.Lists.{from_map, from_below}
 use Rattle.roman_model.proofs.SystemLemmas.{same_numbers_itself}
 use Rattle.roman_model.proofs.CertificateLemmas.{IsSmall, AreFew, cut_at, decimal_without, act_reason, in_possible, from_possible, possible_small, entry_of-line, entry_of_none}
-use Rattle.roman_check.specs.Readings.{Reads}
+use Rattle.roman_check.specs.Readings.{ReadsOff}
 use Rattle.roman_check.specs.Decimals.{IsNumberTo}
 use Rattle.roman_check.proofs.DigitLemmas.{decimal_shape, no_space_digit}
 use Rattle.roman_check.proofs.Texts.{same_from, clear_before}
@@ -30,7 +30,7 @@ counted line front text n b is whole to from =
 
 -- Reasons
 
-pub no_reason_text : (actions : ℕ) (text : List ℕ) → IsFalse (same_numbers (reason_text Final) text) → ((n : ℕ) → n < actions → decimal n ≢ text) → Reads (reasons actions) reason_text text None
+pub no_reason_text : (actions : ℕ) (text : List ℕ) → IsFalse (same_numbers (reason_text Final) text) → ((n : ℕ) → n < actions → decimal n ≢ text) → ReadsOff (reasons actions) reason_text text None
 no_reason_text actions text other none = record { is = λ r i e. no r i e }
   where
     no : (r : Reason) → IsIn r (reasons actions) → reason_text r ≡ text → ⊥
@@ -41,7 +41,7 @@ no_reason_text actions text other none = record { is = λ r i e. no r i e }
         let is : a ≡ b = cc in
         none a (subst (λ n. n < actions) (sym is) (from_below actions b j)) e
 
-pub action_text : (actions a : ℕ) (text : List ℕ) → a < actions → decimal a ≡ text → Reads (reasons actions) reason_text text (Some (Act a))
+pub action_text : (actions a : ℕ) (text : List ℕ) → a < actions → decimal a ≡ text → ReadsOff (reasons actions) reason_text text (Some (Act a))
 action_text actions a text l e = record { is = (act_reason actions a l, e) }
 
 -- Entries

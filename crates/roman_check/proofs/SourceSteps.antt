@@ -1,7 +1,7 @@
 -- Certificates that are taken from a source piece by piece.
 use Rattle.std.proofs.Common.{◌≡◌, ℕ, ◌+◌, ◌<◌, ◌≤◌, List, [], ◌∷◌, ◌++◌, length, take, drop, Option, Some, None, sym, ap, ◌∙◌, subst, arith, append_assoc, append-nil, length-append}
 use Rattle.std.proofs.lemmas.List.{take-append-drop, take-take, take_at}
-use Rattle.roman_io.specs.Source.{Gave, EndsAt}
+use Rattle.roman_io.specs.Source.{Gave, EndsAt, Had, IsAtEnd, GaveAtMost}
 use Rattle.roman_io.proofs.SourceLemmas.{Gave-then}
 use Rattle.roman_model.specs.Lines.{text_of, ended_lines}
 use Rattle.roman_model.specs.Arena.{Arena}
@@ -15,7 +15,7 @@ use Rattle.roman_check.specs.declared.reader.Reader.{Reader}
 use Rattle.roman_check.specs.declared.verdict.Why.{Why}
 use Rattle.roman_check.specs.Verdicts.{fault_of}
 use Rattle.roman_check.specs.Readers.{IsReading, IsAtFault}
-use Rattle.roman_check.specs.Checks.{Had, HaveVerdict, NoneAtFault, GaveAtMost, IsAtEnd}
+use Rattle.roman_check.specs.Checks.{HaveVerdict, NoneAtFault}
 
 -- What the source had
 

@@ -5,7 +5,7 @@ use Rattle.std.specs.Option.{option_map}
 use Rattle.roman_model.specs.System.{same_numbers}
 use Rattle.roman_model.specs.Arena.{Arena, Entry, is_listed}
 use Rattle.roman_model.specs.Certificate.{end_line, entries_on, line_fault}
-use Rattle.roman_rules.specs.Asked.{IsKnown}
+use Rattle.roman_rules.specs.Asked.{HoldsWhereKept}
 use Rattle.roman_check.specs.declared.audit.Audit.{Audit}
 use Rattle.roman_check.specs.declared.audit.Due.{Due}
 use Rattle.roman_check.specs.declared.audit.Due.TheVariants.{Head, Count, Body, Nothing}
@@ -20,14 +20,14 @@ due_after (head ∷ []) = Count
 due_after (head ∷ size ∷ body) = if list_any (same_numbers end_line) body then Nothing else Body
 
 -- there is a bit for each of so many pairs, in rows of so many
-pub record IsShaped (lanes pairs : ℕ) (audit : Audit) : Type 0 where
+pub record IsInRows (lanes pairs : ℕ) (audit : Audit) : Type 0 where
   pub in_rows : audit.left.lanes ≡ lanes
   pub room : length audit.left.words.items * lanes ≡ pairs
 
 -- the entries that were read are those of the list
 pub record HasListed (A : Arena ℕ) (L : List (Entry ℕ)) (audit : Audit) : Type 0 where
   pub left : Remain (length A.nodes) (is_listed A L) audit.left
-  pub known : IsKnown A audit.left.lanes (is_listed A L) audit.asked
+  pub known : HoldsWhereKept A audit.left.lanes (is_listed A L) audit.asked
 
 -- those are the lines that were read
 pub record HasRead (A : Arena ℕ) (text : List (List ℕ)) (audit : Audit) : Type 0 where

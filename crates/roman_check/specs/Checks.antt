@@ -1,7 +1,7 @@
 -- What a check says of what its source had.
 use Rattle.std.specs.Prelude.{◌≡◌, ℕ, ◌≤◌, List, [], length, Option, None, Some, Result, Ok, Err}
 use Rattle.roman_io.specs.Faults.{Rose}
-use Rattle.roman_io.specs.Source.{Gave}
+use Rattle.roman_io.specs.Source.{Gave, Had}
 use Rattle.roman_model.specs.Lines.{ended_lines}
 use Rattle.roman_model.specs.Arena.{Arena}
 use Rattle.roman_model.specs.Certificate as text
@@ -11,11 +11,6 @@ use Rattle.roman_check.specs.declared.verdict.Verdict.TheVariants.{Greatest, Rej
 use Rattle.roman_check.specs.declared.error.CheckError.{CheckError}
 use Rattle.roman_check.specs.declared.error.CheckError.TheVariants.{Fault, TooLong, Memory}
 use Rattle.roman_check.specs.Verdicts.{verdict_of}
-
--- the source had those bytes, where it tells
-abbrev pub Had : Option (List ℕ) → List ℕ → Type 0
-Had None bytes = Unit {0}
-Had (Some rest) bytes = rest ≡ bytes
 
 -- the bytes that the source had have that verdict
 pub record HaveVerdict (A : Arena ℕ) (start : ℕ) (told : Option (List ℕ)) (verdict : text.Verdict) : Type 0 where
@@ -28,17 +23,6 @@ pub record NoneAtFault (A : Arena ℕ) (before now : Option (List ℕ)) : Type 0
   pub taken : List ℕ
   pub gave : Gave before now taken
   pub none : faults A (ended_lines taken) (length (ended_lines taken)) ≡ []
-
--- the source gave at most so many bytes
-pub record GaveAtMost (most : ℕ) (before now : Option (List ℕ)) : Type 0 where
-  pub taken : List ℕ
-  pub gave : Gave before now taken
-  pub few : length taken ≤ most
-
--- the source has no byte left, where it tells
-abbrev pub IsAtEnd : Option (List ℕ) → Type 0
-IsAtEnd None = Unit {0}
-IsAtEnd (Some rest) = rest ≡ []
 
 -- no line was rejected
 abbrev pub SaysGreatest : Verdict → Type 0

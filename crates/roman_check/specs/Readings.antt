@@ -9,9 +9,9 @@ abbrev pub entry_with : ℕ × Reason → Entry ℕ
 entry_with x = record { node = x.0; reason = x.1 }
 
 -- the answer is the thing among those whose text that is, or that there is none
-abbrev pub IsReading : {X : Type 0} → List X → (X → List ℕ) → List ℕ → Option X → Type 0
-IsReading {X} xs text_of line None = (x : X) → IsIn x xs → text_of x ≢ line
-IsReading xs text_of line (Some x) = IsIn x xs × (text_of x ≡ line)
+abbrev pub IsParse : {X : Type 0} → List X → (X → List ℕ) → List ℕ → Option X → Type 0
+IsParse {X} xs text_of line None = (x : X) → IsIn x xs → text_of x ≢ line
+IsParse xs text_of line (Some x) = IsIn x xs × (text_of x ≡ line)
 
-pub record Reads {X : Type 0} (xs : List X) (text_of : X → List ℕ) (line : List ℕ) (answer : Option X) : Type 0 where
-  pub is : IsReading xs text_of line answer
+pub record ReadsOff {X : Type 0} (xs : List X) (text_of : X → List ℕ) (line : List ℕ) (answer : Option X) : Type 0 where
+  pub is : IsParse xs text_of line answer

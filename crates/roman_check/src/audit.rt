@@ -5,7 +5,7 @@ ghost use Rattle.roman_model.specs.System.{same_numbers};
 ghost use Rattle.roman_model.specs.Arena.{Arena, Entry, is_listed};
 ghost use Rattle.roman_model.specs.Certificate.{end_line, entry_of, entries_on, entry_fault, body_fault};
 ghost use Rattle.roman_check.specs.Verdicts.{fault_of};
-ghost use Rattle.roman_check.specs.Audits.{IsShaped, HasListed, HasRead, Judges};
+ghost use Rattle.roman_check.specs.Audits.{IsInRows, HasListed, HasRead, Judges};
 
 use crate::entries::{entry, is_count, is_end, is_head};
 use crate::missing::first_missing;
@@ -44,7 +44,7 @@ impl Audit {
     pub(crate) fn build<J: Rules>(alloc: Global, joint: &J) -> Result<Audit, AllocError>
         ensures due { IfOk result (λ audit. audit.due ≡ Due.Head) }
         ensures list { IfOk result (HasListed (J.arena joint.now) []) }
-        ensures shaped { IfOk result (IsShaped (J.lanes joint.now) (length (J.arena joint.now).nodes)) }
+        ensures shaped { IfOk result (IsInRows (J.lanes joint.now) (length (J.arena joint.now).nodes)) }
     {
         Ok(Audit {
             due: Due::Head,
@@ -73,13 +73,13 @@ impl Audit {
         line: &[u8],
         steps: &mut Steps<L>,
     ) -> Option<Why>
-        requires shaped { IsShaped (J.lanes joint.now) (length (J.arena joint.now).nodes) self.old }
+        requires shaped { IsInRows (J.lanes joint.now) (length (J.arena joint.now).nodes) self.old }
         ensures fault { let A = J.arena joint.now in
             (L : List (Entry ℕ)) → HasListed A L self.old →
             option_map fault_of result ≡ entry_fault A L (entry_of (length A.nodes) A.actions line.now) }
         ensures list { let A = J.arena joint.now in
             (L : List (Entry ℕ)) → HasListed A L self.old → result ≡ None → HasListed A (L ++ entries_on A (line.now ∷ [])) self.new }
-        ensures shaped { IsShaped (J.lanes joint.now) (length (J.arena joint.now).nodes) self.new }
+        ensures shaped { IsInRows (J.lanes joint.now) (length (J.arena joint.now).nodes) self.new }
         ensures due { self.new.due ≡ self.old.due }
     {
         joint.known();
@@ -107,13 +107,13 @@ impl Audit {
         line: &[u8],
         steps: &mut Steps<L>,
     ) -> Option<Why>
-        requires shaped { IsShaped (J.lanes joint.now) (length (J.arena joint.now).nodes) self.old }
+        requires shaped { IsInRows (J.lanes joint.now) (length (J.arena joint.now).nodes) self.old }
         ensures fault { let A = J.arena joint.now in
             (L : List (Entry ℕ)) → HasListed A L self.old → option_map fault_of result ≡ body_fault A L (Some line.now) }
         ensures list { let A = J.arena joint.now in
             (L : List (Entry ℕ)) → HasListed A L self.old → result ≡ None → HasListed A (L ++ entries_on A (line.now ∷ [])) self.new }
         ensures due { self.new.due ≡ (if same_numbers end_line line.now then Due.Nothing else self.old.due) }
-        ensures shaped { IsShaped (J.lanes joint.now) (length (J.arena joint.now).nodes) self.new }
+        ensures shaped { IsInRows (J.lanes joint.now) (length (J.arena joint.now).nodes) self.new }
     {
         joint.known();
         if !is_end(line) {
@@ -133,9 +133,9 @@ impl Audit {
         line: &[u8],
         steps: &mut Steps<L>,
     ) -> Option<Why>
-        requires shaped { IsShaped (J.lanes joint.now) (length (J.arena joint.now).nodes) self.old }
+        requires shaped { IsInRows (J.lanes joint.now) (length (J.arena joint.now).nodes) self.old }
         ensures judged { Judges (J.arena joint.now) self.old self.new line.now result }
-        ensures shaped { IsShaped (J.lanes joint.now) (length (J.arena joint.now).nodes) self.new }
+        ensures shaped { IsInRows (J.lanes joint.now) (length (J.arena joint.now).nodes) self.new }
     {
         match self.due {
             Due::Head => self.judge_opening(is_head(line), Due::Count),

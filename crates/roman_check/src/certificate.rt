@@ -1,11 +1,12 @@
 //! The check of a certificate.
 ghost use Rattle.std.specs.Prelude.{◌≡◌, ◌≢◌, ℕ, ◌+◌, ◌<◌, ◌≤◌, [], length, Err, IfOk, IsErrOf};
 ghost use Rattle.roman_io.specs.Faults.{Rose};
+ghost use Rattle.roman_io.specs.Source.{IsAtEnd, GaveAtMost};
 ghost use Rattle.roman_model.specs.Certificate.{TooLong};
 ghost use Rattle.roman_check.specs.Verdicts.{verdict_of};
-ghost use Rattle.roman_check.specs.Audits.{IsShaped};
+ghost use Rattle.roman_check.specs.Audits.{IsInRows};
 ghost use Rattle.roman_check.specs.Readers.{IsReading};
-ghost use Rattle.roman_check.specs.Checks.{HaveVerdict, NoneAtFault, GaveAtMost, IsAtEnd, SaysGreatest, Comes};
+ghost use Rattle.roman_check.specs.Checks.{HaveVerdict, NoneAtFault, SaysGreatest, Comes};
 
 use crate::error::CheckError;
 use crate::reader::Reader;
@@ -28,7 +29,7 @@ fn read<J: Rules, S: Source, L: Ledger>(
     steps: &mut Steps<L>,
 ) -> Result<Verdict, CheckError>
     requires start { start < length (J.arena joint.now).nodes }
-    requires shaped { IsShaped (J.lanes joint.now) (length (J.arena joint.now).nodes) reader.old.audit }
+    requires shaped { IsInRows (J.lanes joint.now) (length (J.arena joint.now).nodes) reader.old.audit }
     requires lines { reader.old.lines ≡ 0 }
     requires reading { IsReading (J.arena joint.now) [] reader.old }
     ensures comes { Comes (J.arena joint.now) start (S.rest source.old) (S.rest source.new) (S.faults source.old) (S.faults source.new) result }

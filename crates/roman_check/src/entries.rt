@@ -3,7 +3,7 @@ ghost use Rattle.std.specs.Prelude.{◌≡◌};
 ghost use Rattle.std.specs.Option.{option_map};
 ghost use Rattle.roman_model.specs.System.{same_numbers};
 ghost use Rattle.roman_model.specs.Certificate.{head_line, count_line, end_line, reason_text, reasons, entry_of};
-ghost use Rattle.roman_check.specs.Readings.{entry_with, Reads};
+ghost use Rattle.roman_check.specs.Readings.{entry_with, ReadsOff};
 
 use crate::numbers::{is_number, number_below, number_to_space, trim_below};
 use roman_model::Reason;
@@ -41,7 +41,7 @@ fn is_final(text: &[u8]) -> bool
 
 /// The reason whose text that is, where there are so many actions.
 fn reason(text: &[u8], actions: u8) -> Option<Reason>
-    ensures { Reads (reasons actions) reason_text text.now result }
+    ensures { ReadsOff (reasons actions) reason_text text.now result }
 {
     if is_final(text) {
         return Some(Reason::Final);

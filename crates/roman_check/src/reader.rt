@@ -6,7 +6,7 @@ ghost use Rattle.roman_model.specs.Certificate.{cert_verdict};
 ghost use Rattle.roman_rules.specs.Numbered.{IsNumbered};
 ghost use Rattle.roman_check.specs.Verdicts.{verdict_of};
 ghost use Rattle.roman_check.specs.Lines.{Holds};
-ghost use Rattle.roman_check.specs.Audits.{IsShaped, Judges};
+ghost use Rattle.roman_check.specs.Audits.{IsInRows, Judges};
 ghost use Rattle.roman_check.specs.Readers.{IsReading, HasLines, Feeds, Closes};
 
 use crate::audit::{Audit, Due};
@@ -50,7 +50,7 @@ impl Reader {
     /// Nothing was read.
     pub(crate) fn build<J: Rules>(alloc: Global, joint: &J) -> Result<Reader, AllocError>
         ensures reading { IfOk result (IsReading (J.arena joint.now) []) }
-        ensures shaped { IfOk result (λ reader. IsShaped (J.lanes joint.now) (length (J.arena joint.now).nodes) reader.audit) }
+        ensures shaped { IfOk result (λ reader. IsInRows (J.lanes joint.now) (length (J.arena joint.now).nodes) reader.audit) }
         ensures lines { IfOk result (λ reader. reader.lines ≡ 0) }
     {
         Ok(Reader {
@@ -62,10 +62,10 @@ impl Reader {
 
     /// Judges the line that was read so far.
     fn judge<J: Rules, L: Ledger>(&mut self, joint: &J, steps: &mut Steps<L>) -> Option<Why>
-        requires shaped { IsShaped (J.lanes joint.now) (length (J.arena joint.now).nodes) self.old.audit }
+        requires shaped { IsInRows (J.lanes joint.now) (length (J.arena joint.now).nodes) self.old.audit }
         ensures judged { (bytes : List ℕ) → Holds self.old.line bytes →
             Judges (J.arena joint.now) self.old.audit self.new.audit bytes result }
-        ensures shaped { IsShaped (J.lanes joint.now) (length (J.arena joint.now).nodes) self.new.audit }
+        ensures shaped { IsInRows (J.lanes joint.now) (length (J.arena joint.now).nodes) self.new.audit }
         ensures rest { self.new ≡ record self.old { audit = self.new.audit } }
     {
         joint.known();
@@ -82,10 +82,10 @@ impl Reader {
         last: &[u8],
         steps: &mut Steps<L>,
     ) -> Option<Why>
-        requires shaped { IsShaped (J.lanes joint.now) (length (J.arena joint.now).nodes) self.old.audit }
+        requires shaped { IsInRows (J.lanes joint.now) (length (J.arena joint.now).nodes) self.old.audit }
         ensures judged { (bytes : List ℕ) → Holds self.old.line bytes →
             Judges (J.arena joint.now) self.old.audit self.new.audit (bytes ++ last.now) result }
-        ensures shaped { IsShaped (J.lanes joint.now) (length (J.arena joint.now).nodes) self.new.audit }
+        ensures shaped { IsInRows (J.lanes joint.now) (length (J.arena joint.now).nodes) self.new.audit }
         ensures lines { self.new.lines ≡ self.old.lines }
     {
         if self.line.is_empty() {
@@ -102,11 +102,11 @@ impl Reader {
         last: &[u8],
         steps: &mut Steps<L>,
     ) -> Option<Why>
-        requires shaped { IsShaped (J.lanes joint.now) (length (J.arena joint.now).nodes) self.old.audit }
+        requires shaped { IsInRows (J.lanes joint.now) (length (J.arena joint.now).nodes) self.old.audit }
         requires line { IsLine last.now }
         requires room { self.old.lines < MAX_CERTIFICATE_BYTES }
         ensures fed { Feeds (J.arena joint.now) self.old self.new (last.now ++ 10 ∷ []) result }
-        ensures shaped { IsShaped (J.lanes joint.now) (length (J.arena joint.now).nodes) self.new.audit }
+        ensures shaped { IsInRows (J.lanes joint.now) (length (J.arena joint.now).nodes) self.new.audit }
         ensures lines { self.new.lines ≤ self.old.lines + 1 }
     {
         if let Some(why) = self.judge_end(joint, last, steps) {
@@ -124,10 +124,10 @@ impl Reader {
         piece: &[u8],
         steps: &mut Steps<L>,
     ) -> Option<Why>
-        requires shaped { IsShaped (J.lanes joint.now) (length (J.arena joint.now).nodes) self.old.audit }
+        requires shaped { IsInRows (J.lanes joint.now) (length (J.arena joint.now).nodes) self.old.audit }
         requires room { self.old.lines + length piece.now ≤ MAX_CERTIFICATE_BYTES }
         ensures fed { Feeds (J.arena joint.now) self.old self.new piece.now result }
-        ensures shaped { IsShaped (J.lanes joint.now) (length (J.arena joint.now).nodes) self.new.audit }
+        ensures shaped { IsInRows (J.lanes joint.now) (length (J.arena joint.now).nodes) self.new.audit }
         ensures lines { self.new.lines ≤ self.old.lines + length piece.now }
     {
         let mut start = 0;
@@ -143,10 +143,10 @@ impl Reader {
 
     /// Reads the last line where its newline is missing, and names its fault.
     fn close<J: Rules, L: Ledger>(&mut self, joint: &J, steps: &mut Steps<L>) -> Option<Why>
-        requires shaped { IsShaped (J.lanes joint.now) (length (J.arena joint.now).nodes) self.old.audit }
+        requires shaped { IsInRows (J.lanes joint.now) (length (J.arena joint.now).nodes) self.old.audit }
         requires room { self.old.lines ≤ MAX_CERTIFICATE_BYTES }
         ensures closed { Closes (J.arena joint.now) self.old self.new result }
-        ensures shaped { IsShaped (J.lanes joint.now) (length (J.arena joint.now).nodes) self.new.audit }
+        ensures shaped { IsInRows (J.lanes joint.now) (length (J.arena joint.now).nodes) self.new.audit }
         ensures lines { self.new.lines ≤ self.old.lines + 1 }
     {
         if self.line.is_empty() {
@@ -185,7 +185,7 @@ impl Reader {
         start: u32,
         steps: &mut Steps<L>,
     ) -> Verdict
-        requires shaped { IsShaped (J.lanes joint.now) (length (J.arena joint.now).nodes) self.old.audit }
+        requires shaped { IsInRows (J.lanes joint.now) (length (J.arena joint.now).nodes) self.old.audit }
         requires room { self.old.lines ≤ MAX_CERTIFICATE_BYTES }
         requires start { start < length (J.arena joint.now).nodes }
         ensures { (bytes : List ℕ) → IsReading (J.arena joint.now) bytes self.old →

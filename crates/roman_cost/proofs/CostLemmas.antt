@@ -7,7 +7,7 @@ use Rattle.std.proofs.lemmas.List.{get_or-set_same, get_or-set_other, length-set
 use Rattle.roman_model.proofs.Lists.{by_test}
 use Rattle.roman_joint.specs.NamedSys.{NamedSys}
 use Rattle.roman_joint.specs.declared.seat.Seat.{Seat}
-use Rattle.roman_cost.specs.Tables.{CostTable, HasCells, listed_cost, cost_of, cost_at, seat_costs, cell_of}
+use Rattle.roman_cost.specs.Tables.{CostTable, HoldsCosts, listed_cost, cost_of, cost_at, seat_costs, cell_of}
 use Rattle.roman_cost.specs.declared.costs.Listed.{Listed}
 use Rattle.roman_cost.specs.declared.limits.TheConstants.{MAX_COST}
 
@@ -61,11 +61,11 @@ cell-put n listed item cells b a la li within new before = by_test (item.behavio
     other : (t : Bool) → IsFalse t → IsTrue t → ⊥
     other t f g = absurd (cc)
 
-pub HasCells-put : (table : CostTable) (cells after : List ℕ) (item : Listed) → HasCells table cells → item.behaviour < table.behaviours → item.action < table.actions →
+pub HoldsCosts-put : (table : CostTable) (cells after : List ℕ) (item : Listed) → HoldsCosts table cells → item.behaviour < table.behaviours → item.action < table.actions →
     item.cost ≤ MAX_COST → listed_cost table.listed item.behaviour item.action ≡ None →
     after ≡ set cells (item.behaviour * table.actions + item.action) (item.cost + 1) →
-    HasCells (record { behaviours = table.behaviours; actions = table.actions; listed = table.listed ++ item ∷ [] }) after
-HasCells-put table cells after item has lb la small new is =
+    HoldsCosts (record { behaviours = table.behaviours; actions = table.actions; listed = table.listed ++ item ∷ [] }) after
+HoldsCosts-put table cells after item has lb la small new is =
     let within : item.behaviour * table.actions + item.action < length cells =
     omega (arith, mul-add-lt item.behaviour table.actions item.action table.behaviours lb la, has.len) in
     record {

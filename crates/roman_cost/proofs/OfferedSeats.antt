@@ -15,7 +15,7 @@ use Rattle.roman_model.proofs.NumberLemmas.{numbers_are_pairs}
 use Rattle.roman_model.proofs.AdviceLemmas.{through_numbered}
 use Rattle.roman_model.proofs.PlanLemmas.{max_over_same, max_over_le}
 use Rattle.std.proofs.lemmas.Bool.{cond-true}
-use Rattle.roman_cost.specs.Advised.{related_pairs, AreRanks}
+use Rattle.roman_cost.specs.Advised.{related_pairs, HavePlaces}
 use Rattle.roman_cost.specs.Filling.{ranked, IsRanked, AreSmall}
 use Rattle.roman_cost.specs.declared.limits.TheConstants.{MAX_COST, MAX_REQUESTS}
 use Rattle.roman_cost.proofs.Best.{filter_has, first_least_same}
@@ -48,7 +48,7 @@ offered s p a k ok l i =
           (subst (λ X. IsTrue (is_related s X)) (sym back) (great_related s R ok (all R o)));
     }
 
-pub offered_ranked : (s : Sys) (p a k : ℕ) (ranks row : List ℕ) → IsOffered s p a k → AreRanks (related_pairs s) ranks → length row ≡ length (related_pairs s) →
+pub offered_ranked : (s : Sys) (p a k : ℕ) (ranks row : List ℕ) → IsOffered s p a k → HavePlaces (related_pairs s) ranks → length row ≡ length (related_pairs s) →
     All (IsRanked ranks row) ((numbered s).outcomes p a k)
 offered_ranked s p a k ranks row is are long =
     all_from (IsRanked ranks row) ((numbered s).outcomes p a k) (λ q i.
@@ -58,7 +58,7 @@ offered_ranked s p a k ranks row is are long =
 abbrev pub cost_by : Sys → Costs → List ℕ → List ℕ → ℕ → ℕ → ℕ → ℕ
 cost_by s C ranks row p a k = C k a + max_over (ranked ranks row) ((numbered s).outcomes p a k)
 
-pub cost_is : (s : Sys) (C : Costs) (ranks row : List ℕ) (p a k h : ℕ) → IsSys s → p < count (sizes_of s) → AreRanks (related_pairs s) ranks →
+pub cost_is : (s : Sys) (C : Costs) (ranks row : List ℕ) (p a k h : ℕ) → IsSys s → p < count (sizes_of s) → HavePlaces (related_pairs s) ranks →
     row ≡ map (least_at s C h) (related_pairs s) → IsIn k (offers s (pair_at (sizes_of s) p) a) →
     cost_by s C ranks row p a k ≡ through s C (least s C h) (pair_at (sizes_of s) p) a k
 cost_is s C ranks row p a k h ok l are is i =
@@ -68,7 +68,7 @@ cost_is s C ranks row p a k h ok l are is i =
     ∙ through_numbered s C h p a k ok l
 
 -- the best of the offered seats by that row is the choice
-pub best_is_choice : (s : Sys) (C : Costs) (ranks row : List ℕ) (p a h : ℕ) → IsSys s → p < count (sizes_of s) → AreRanks (related_pairs s) ranks →
+pub best_is_choice : (s : Sys) (C : Costs) (ranks row : List ℕ) (p a h : ℕ) → IsSys s → p < count (sizes_of s) → HavePlaces (related_pairs s) ranks →
     row ≡ map (least_at s C h) (related_pairs s) →
     first_least (cost_by s C ranks row p a) (offers s (pair_at (sizes_of s) p) a) ≡ choice s C h (pair_at (sizes_of s) p) a
 best_is_choice s C ranks row p a h ok l are is =

@@ -12,7 +12,7 @@ use Rattle.roman_model.proofs.NumberLemmas.{numbers_are_pairs}
 use Rattle.roman_model.proofs.CompositionLemmas.{great_related, related_great}
 use Rattle.roman_model.proofs.Lists.{same_test, filter_in, in_filter, in_below, from_below, length-below, get_or-below, filter_below_more}
 use Rattle.roman_model.proofs.TableLemmas.{rank, rank_at, table_at}
-use Rattle.roman_cost.specs.Advised.{related_pairs, AreRanks, AdviceTable, Advises}
+use Rattle.roman_cost.specs.Advised.{related_pairs, HavePlaces, AdviceTable, Advises}
 use Rattle.roman_cost.specs.Filling.{ranked}
 
 -- whether the pair of that number is related
@@ -61,8 +61,8 @@ pairs_passed q n pairs fails before =
     before ∙ sym (append-nil (filter q (below n))) ∙ ap (λ b. filter q (below n) ++ cond b (n ∷ []) []) (sym fails) ∙ sym (filter_below_more q n) ∙ ap (λ m. filter q (below m)) (sym (add-one n))
 
 -- where all numbers below n are seen
-pub ranks_done : (q : ℕ → Bool) (n : ℕ) (pairs ranks : List ℕ) → pairs ≡ filter q (below n) → ranks ≡ map (rank q) (below n) → AreRanks pairs ranks
-ranks_done q n pairs ranks ps rs = subst (λ xs. AreRanks xs ranks) (sym ps) (subst (λ xs. AreRanks (filter q (below n)) xs) (sym rs) (record {
+pub ranks_done : (q : ℕ → Bool) (n : ℕ) (pairs ranks : List ℕ) → pairs ≡ filter q (below n) → ranks ≡ map (rank q) (below n) → HavePlaces pairs ranks
+ranks_done q n pairs ranks ps rs = subst (λ xs. HavePlaces xs ranks) (sym ps) (subst (λ xs. HavePlaces (filter q (below n)) xs) (sym rs) (record {
   within = λ p i. let l : p < n = small p i in subst (λ m. p < m) (sym long) l;
   below = λ p i. subst (λ r. r < length (filter q (below n))) (sym (is p (small p i))) (rank_at q n p 0 (small p i) (passes p i)).0;
   at = λ p i. ap (λ r. get_or (filter q (below n)) r 0) (is p (small p i)) ∙ (rank_at q n p 0 (small p i) (passes p i)).1;
@@ -87,7 +87,7 @@ value_at s C table h p r v says few l at is =
     is ∙ ap (λ xs. get_or xs (h * length table.pairs + r) 0) says.values ∙ table_at (least_at s C) table.pairs (suc table.requests) h r 0 0 (omega arith) l ∙ ap (least_at s C h) at
 
 -- the value of a pair that is related, in a row for all of them
-pub ranked_value : (s : Sys) (C : Costs) (h : ℕ) (pairs ranks row : List ℕ) (p : ℕ) → AreRanks pairs ranks → IsIn p pairs → row ≡ map (least_at s C h) pairs →
+pub ranked_value : (s : Sys) (C : Costs) (h : ℕ) (pairs ranks row : List ℕ) (p : ℕ) → HavePlaces pairs ranks → IsIn p pairs → row ≡ map (least_at s C h) pairs →
     ranked ranks row p ≡ least_at s C h p
 ranked_value s C h pairs ranks row p are i is =
     ap (λ xs. get_or xs (slice_index ranks p) 0) is ∙ get_or-map (least_at s C h) pairs (slice_index ranks p) 0 0 (are.below p i) ∙ ap (least_at s C h) (are.at p i)

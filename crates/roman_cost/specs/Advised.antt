@@ -29,7 +29,7 @@ pub record Advises (s : Sys) (C : Costs) (table : AdviceTable) : Type 0 where
   pub values : table.values ≡ value_rows s C table.pairs (suc table.requests)
 
 -- each of the pairs stands among them at its rank
-pub record AreRanks (pairs ranks : List ℕ) : Type 0 where
+pub record HavePlaces (pairs ranks : List ℕ) : Type 0 where
   pub within : (p : ℕ) → IsIn p pairs → p < length ranks
   pub below : (p : ℕ) → IsIn p pairs → slice_index ranks p < length pairs
   pub at : (p : ℕ) → IsIn p pairs → slice_index pairs (slice_index ranks p) ≡ p
@@ -37,6 +37,6 @@ pub record AreRanks (pairs ranks : List ℕ) : Type 0 where
 -- the pairs have ranks, and each row a value for each of them
 pub record HasRanks (requests : ℕ) (pairs places values : List ℕ) : Type 0 where
   pub few : requests ≤ MAX_REQUESTS
-  pub ranks : AreRanks pairs places
+  pub ranks : HavePlaces pairs places
   pub len : length values ≡ suc requests * length pairs
   pub small : AreSmall values

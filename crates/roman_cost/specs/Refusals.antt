@@ -14,30 +14,30 @@ place_of_rule true = list.Whole
 place_of_rule false = list.Steps
 
 -- a refusal is the one that the definition gives; a fault and want of memory say nothing of it
-abbrev pub Stops : {Y : Type 0} → CostError → Result Y PartError → Type 0
-Stops error.Fault reading = Unit {0}
-Stops (error.Refused kind whole index) reading = reading ≡ Err (part_error.Refused kind (place_of_rule whole) index)
-Stops error.Memory reading = Unit {0}
+abbrev pub IsRefusedBy : {Y : Type 0} → CostError → Result Y PartError → Type 0
+IsRefusedBy error.Fault reading = Unit {0}
+IsRefusedBy (error.Refused kind whole index) reading = reading ≡ Err (part_error.Refused kind (place_of_rule whole) index)
+IsRefusedBy error.Memory reading = Unit {0}
 
 -- what the code reads, seen through a view, is what the definition gives, and so is what it refuses
-abbrev pub Reads : {X Y : Type 0} → (X → Y) → Result X CostError → Result Y PartError → Type 0
-Reads view (Ok x) reading = reading ≡ Ok (view x)
-Reads view (Err e) reading = Stops e reading
+abbrev pub ReadsAs : {X Y : Type 0} → (X → Y) → Result X CostError → Result Y PartError → Type 0
+ReadsAs view (Ok x) reading = reading ≡ Ok (view x)
+ReadsAs view (Err e) reading = IsRefusedBy e reading
 
 -- a count of faults rose where the error is a fault, and stayed elsewhere
-abbrev pub IsCause : ℕ → ℕ → CostError → Type 0
-IsCause old new error.Fault = Rose old new
-IsCause old new (error.Refused kind whole index) = new ≡ old
-IsCause old new error.Memory = new ≡ old
+abbrev pub IsCostCause : ℕ → ℕ → CostError → Type 0
+IsCostCause old new error.Fault = Rose old new
+IsCostCause old new (error.Refused kind whole index) = new ≡ old
+IsCostCause old new error.Memory = new ≡ old
 
 -- so it did where the answer is an error, and it stayed where it is none
-abbrev pub Caused : {T : Type 0} → ℕ → ℕ → Result T CostError → Type 0
-Caused old new (Ok x) = new ≡ old
-Caused old new (Err e) = IsCause old new e
+abbrev pub HasCostCause : {T : Type 0} → ℕ → ℕ → Result T CostError → Type 0
+HasCostCause old new (Ok x) = new ≡ old
+HasCostCause old new (Err e) = IsCostCause old new e
 
 -- no fault is answered
-abbrev pub IsQuiet : {T : Type 0} → Result T CostError → Type 0
-IsQuiet (Ok x) = Unit {0}
-IsQuiet (Err error.Fault) = ⊥
-IsQuiet (Err (error.Refused kind whole index)) = Unit {0}
-IsQuiet (Err error.Memory) = Unit {0}
+abbrev pub IsFaultless : {T : Type 0} → Result T CostError → Type 0
+IsFaultless (Ok x) = Unit {0}
+IsFaultless (Err error.Fault) = ⊥
+IsFaultless (Err (error.Refused kind whole index)) = Unit {0}
+IsFaultless (Err error.Memory) = Unit {0}

@@ -44,7 +44,7 @@ cell_of None = 0
 cell_of (Some cost) = cost + 1
 
 -- no listed cost is too great, and the cell of a behaviour and an action tells what is listed for both
-pub record HasCells (table : CostTable) (laid : List ℕ) : Type 0 where
+pub record HoldsCosts (table : CostTable) (laid : List ℕ) : Type 0 where
   pub few_behaviours : table.behaviours ≤ MAX_BEHAVIOURS
   pub few_actions : table.actions ≤ MAX_ACTIONS
   pub small : All (λ x. x.cost ≤ MAX_COST) table.listed

@@ -30,7 +30,7 @@ pub struct Costs {
 }
 
 impl Model for Costs {
-    ghost use Rattle.roman_cost.specs.Tables.{CostTable, HasCells};
+    ghost use Rattle.roman_cost.specs.Tables.{CostTable, HoldsCosts};
 
     ghost Value = { CostTable };
 
@@ -40,7 +40,7 @@ impl Model for Costs {
       listed = c.listed.items;
     } };
 
-    ghost invariant = { λ c. HasCells (record {
+    ghost invariant = { λ c. HoldsCosts (record {
       behaviours = c.behaviours;
       actions = c.actions;
       listed = c.listed.items;

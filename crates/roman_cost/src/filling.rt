@@ -5,7 +5,7 @@ ghost use Rattle.roman_model.specs.Offers.{is_related};
 ghost use Rattle.roman_model.specs.Plans.{least_at};
 ghost use Rattle.roman_joint.specs.NamedSys.{system_of};
 ghost use Rattle.roman_relation.specs.Greatest.{IsRelation};
-ghost use Rattle.roman_cost.specs.Advised.{related_pairs, value_rows, AreRanks};
+ghost use Rattle.roman_cost.specs.Advised.{related_pairs, value_rows, HavePlaces};
 ghost use Rattle.roman_cost.specs.Filling.{AreSmall, AreOffers, HasOffers};
 ghost use Rattle.roman_cost.specs.Tables.{seat_costs, AreOf};
 ghost use Rattle.roman_cost.specs.declared.limits.TheConstants.{MAX_REQUESTS};
@@ -25,7 +25,7 @@ pub(crate) fn ranked_pairs(
 ) -> Result<(Vec<u32>, Vec<u32>), AllocError>
     requires { IsRelation relation.now.joint relation.now.order }
     ensures pairs { IfOk result (λ made. made.0.items ≡ related_pairs (system_of relation.now.joint)) }
-    ensures ranks { IfOk result (λ made. AreRanks made.0.items made.1.items) }
+    ensures ranks { IfOk result (λ made. HavePlaces made.0.items made.1.items) }
 {
     relation.joint.known();
     let count = relation.joint.shape().pairs();
@@ -52,7 +52,7 @@ pub(crate) fn push_row(
 ) -> Result<(), AllocError>
     requires costs { AreOf joint.now costs.now }
     requires pairs { pairs.now ≡ related_pairs (system_of joint.now) }
-    requires ranks { AreRanks pairs.now ranks.now }
+    requires ranks { HavePlaces pairs.now ranks.now }
     requires offered { HasOffers (system_of joint.now) pairs.now offered.now }
     requires few { h < MAX_REQUESTS }
     requires rows { values.old.items
@@ -85,7 +85,7 @@ fn dearest(joint: &Joint, costs: &Costs, ranks: &[u32], row: &[u32], p: u32, off
     requires costs { AreOf joint.now costs.now }
     requires pair { p < count (sizes_of (system_of joint.now)) }
     requires related { IsTrue (is_related (system_of joint.now) (pair_at (sizes_of (system_of joint.now)) p)) }
-    requires ranks { AreRanks (related_pairs (system_of joint.now)) ranks.now }
+    requires ranks { HavePlaces (related_pairs (system_of joint.now)) ranks.now }
     requires row { length row.now ≡ length (related_pairs (system_of joint.now)) }
     requires small { AreSmall row.now }
     requires offered { AreOffers (system_of joint.now) p offered.now }

@@ -8,7 +8,7 @@ ghost use Rattle.roman_parts.specs.Lists.{place_in};
 ghost use Rattle.roman_parts.specs.Reading.{looked};
 ghost use Rattle.roman_parts.specs.declared.error.List.TheVariants as list;
 ghost use Rattle.roman_joint.specs.Names.{beh_name};
-ghost use Rattle.roman_cost.specs.Refusals.{Reads, IsQuiet, place_of_rule};
+ghost use Rattle.roman_cost.specs.Refusals.{ReadsAs, IsFaultless, place_of_rule};
 ghost use Rattle.roman_cost.specs.declared.error.CostError.TheVariants.{Refused};
 
 use crate::error::CostError;
@@ -40,8 +40,8 @@ pub(crate) fn refused_at(kind: Kind, index: u32) -> CostError
 
 /// The items of a list that the text is.
 pub(crate) fn items_of(v: &Value) -> Result<&[Value], CostError>
-    ensures items { Reads (λ x. items_view x.now) result (looked list.Whole 0 (list_of (view v.now))) }
-    ensures quiet { IsQuiet result }
+    ensures items { ReadsAs (λ x. items_view x.now) result (looked list.Whole 0 (list_of (view v.now))) }
+    ensures quiet { IsFaultless result }
 {
     match list(v) {
         Ok(items) => Ok(items),
@@ -51,8 +51,8 @@ pub(crate) fn items_of(v: &Value) -> Result<&[Value], CostError>
 
 /// The parts of an item.
 pub(crate) fn parts_of(v: &Value, index: u32) -> Result<&[Value], CostError>
-    ensures parts { Reads (λ x. items_view x.now) result (looked list.Steps index (list_of (view v.now))) }
-    ensures quiet { IsQuiet result }
+    ensures parts { ReadsAs (λ x. items_view x.now) result (looked list.Steps index (list_of (view v.now))) }
+    ensures quiet { IsFaultless result }
 {
     match list(v) {
         Ok(items) => Ok(items),
@@ -62,8 +62,8 @@ pub(crate) fn parts_of(v: &Value, index: u32) -> Result<&[Value], CostError>
 
 /// A number of an item.
 pub(crate) fn number_at(v: &Value, index: u32) -> Result<u64, CostError>
-    ensures number { Reads (λ x. x) result (looked list.Steps index (number_of (view v.now))) }
-    ensures quiet { IsQuiet result }
+    ensures number { ReadsAs (λ x. x) result (looked list.Steps index (number_of (view v.now))) }
+    ensures quiet { IsFaultless result }
 {
     match number(v) {
         Ok(found) => Ok(found),
@@ -78,9 +78,9 @@ pub(crate) fn behaviour_at(
     v: &Value,
     index: u32,
 ) -> Result<usize, CostError>
-    ensures place { Reads (λ x. x) result (place_in (map beh_name catalogue.now) list.Steps index (view v.now)) }
+    ensures place { ReadsAs (λ x. x) result (place_in (map beh_name catalogue.now) list.Steps index (view v.now)) }
     ensures within { IfOk result (λ place. place < length catalogue.now) }
-    ensures quiet { IsQuiet result }
+    ensures quiet { IsFaultless result }
 {
     let text = match text(v) {
         Ok(text) => text,
@@ -95,9 +95,9 @@ pub(crate) fn behaviour_at(
 #[tactic(auto, unfolding(roman_parts::specs::Lists::place_in))]
 /// The number of the action that an item names.
 pub(crate) fn action_at(actions: &NameTable, v: &Value, index: u32) -> Result<u32, CostError>
-    ensures place { Reads (λ x. x) result (place_in actions.now list.Steps index (view v.now)) }
+    ensures place { ReadsAs (λ x. x) result (place_in actions.now list.Steps index (view v.now)) }
     ensures within { IfOk result (λ place. place < length actions.now) }
-    ensures quiet { IsQuiet result }
+    ensures quiet { IsFaultless result }
 {
     let text = match text(v) {
         Ok(text) => text,

@@ -5,7 +5,7 @@ ghost use Rattle.roman_model.specs.declared.limits.TheConstants.{MAX_BEHAVIOURS}
 ghost use Rattle.roman_read.specs.Items.{each_item};
 ghost use Rattle.roman_joint.specs.Names.{beh_name};
 ghost use Rattle.roman_cost.specs.Costs.{cost_item, cost_step, costs_in, value_of, costs_of};
-ghost use Rattle.roman_cost.specs.Refusals.{Reads, Caused, IsQuiet};
+ghost use Rattle.roman_cost.specs.Refusals.{ReadsAs, HasCostCause, IsFaultless};
 ghost use Rattle.roman_cost.specs.Tables.{AreOf};
 
 use crate::costs::{Costs, Listed};
@@ -30,10 +30,10 @@ pub fn read_costs<F: Shelf>(
 ) -> Result<Costs, CostError>
     requires few { length joint.now.catalogue ≤ MAX_BEHAVIOURS }
     ensures costs { IfSome (F.texts shelf.old)
-        (λ texts. Reads (λ costs. costs.listed) result (costs_of texts name.now joint.now)) }
+        (λ texts. ReadsAs (λ costs. costs.listed) result (costs_of texts name.now joint.now)) }
     ensures of { IfOk result (AreOf joint.now) }
     ensures texts { F.texts shelf.new ≡ F.texts shelf.old }
-    ensures cause { Caused (F.faults shelf.old) (F.faults shelf.new) result }
+    ensures cause { HasCostCause (F.faults shelf.old) (F.faults shelf.new) result }
 {
     let value = read_value(alloc, shelf, name)?;
     costs_in(alloc, joint, &value)
@@ -42,9 +42,9 @@ pub fn read_costs<F: Shelf>(
 #[tactic(auto, unfolding(crate::specs::Costs::value_of))]
 // The value of a text of costs.
 fn read_value<F: Shelf>(alloc: Global, shelf: &mut F, name: &str) -> Result<Value, CostError>
-    ensures value { IfSome (F.texts shelf.old) (λ texts. Reads view result (value_of texts name.now)) }
+    ensures value { IfSome (F.texts shelf.old) (λ texts. ReadsAs view result (value_of texts name.now)) }
     ensures texts { F.texts shelf.new ≡ F.texts shelf.old }
-    ensures cause { Caused (F.faults shelf.old) (F.faults shelf.new) result }
+    ensures cause { HasCostCause (F.faults shelf.old) (F.faults shelf.new) result }
 {
     match document(alloc, shelf, name) {
         Ok(value) => Ok(value),
@@ -59,10 +59,10 @@ fn read_value<F: Shelf>(alloc: Global, shelf: &mut F, name: &str) -> Result<Valu
 // The costs that a value lists.
 fn costs_in(alloc: Global, joint: &Joint, v: &Value) -> Result<Costs, CostError>
     requires few { length joint.now.catalogue ≤ MAX_BEHAVIOURS }
-    ensures costs { Reads (λ costs. costs.listed) result
+    ensures costs { ReadsAs (λ costs. costs.listed) result
         (costs_in (map beh_name joint.now.catalogue) joint.now.environment.actions (view v.now)) }
     ensures of { IfOk result (AreOf joint.now) }
-    ensures quiet { IsQuiet result }
+    ensures quiet { IsFaultless result }
 {
     let items = items_of(v)?;
     if items.len() > MAX_COSTS as usize {
@@ -76,10 +76,10 @@ fn costs_in(alloc: Global, joint: &Joint, v: &Value) -> Result<Costs, CostError>
 fn read_items(alloc: Global, joint: &Joint, items: &[Value]) -> Result<Costs, CostError>
     requires few { length joint.now.catalogue ≤ MAX_BEHAVIOURS }
     requires items { length items.now ≤ MAX_COSTS }
-    ensures costs { Reads (λ costs. costs.listed) result
+    ensures costs { ReadsAs (λ costs. costs.listed) result
         (each_item (cost_step (map beh_name joint.now.catalogue) joint.now.environment.actions) 0 [] (items_view items.now)) }
     ensures of { IfOk result (AreOf joint.now) }
-    ensures quiet { IsQuiet result }
+    ensures quiet { IsFaultless result }
 {
     let behaviours = joint.catalogue().len();
     let actions = joint.environment().actions().len() as usize;
@@ -95,10 +95,10 @@ fn read_items(alloc: Global, joint: &Joint, items: &[Value]) -> Result<Costs, Co
 fn add_item(costs: &mut Costs, joint: &Joint, v: &Value, index: u32) -> Result<(), CostError>
     requires few { length joint.now.catalogue ≤ MAX_BEHAVIOURS }
     requires of { AreOf joint.now costs.old }
-    ensures step { Reads (λ _. costs.new.listed) result
+    ensures step { ReadsAs (λ _. costs.new.listed) result
         (cost_step (map beh_name joint.now.catalogue) joint.now.environment.actions index costs.old.listed (view v.now)) }
     ensures of { IfOk result (λ _. AreOf joint.now costs.new) }
-    ensures quiet { IsQuiet result }
+    ensures quiet { IsFaultless result }
 {
     let item = read_item(joint, v, index)?;
     if costs.has(item.behaviour, item.action) {
@@ -112,12 +112,12 @@ fn add_item(costs: &mut Costs, joint: &Joint, v: &Value, index: u32) -> Result<(
 // One item, by the names of a system.
 fn read_item(joint: &Joint, v: &Value, index: u32) -> Result<Listed, CostError>
     requires { length joint.now.catalogue ≤ MAX_BEHAVIOURS }
-    ensures item { Reads (λ x. x) result
+    ensures item { ReadsAs (λ x. x) result
         (cost_item (map beh_name joint.now.catalogue) joint.now.environment.actions index (view v.now)) }
     ensures behaviour { IfOk result (λ x. x.behaviour < length joint.now.catalogue) }
     ensures action { IfOk result (λ x. x.action < length joint.now.environment.actions) }
     ensures small { IfOk result (λ x. x.cost ≤ MAX_COST) }
-    ensures quiet { IsQuiet result }
+    ensures quiet { IsFaultless result }
 {
     let items = parts_of(v, index)?;
     let [behaviour, action, cost] = items else {

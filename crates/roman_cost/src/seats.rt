@@ -6,7 +6,7 @@ ghost use Rattle.roman_model.specs.Offers.{is_related, offers};
 ghost use Rattle.roman_model.specs.Plans.{max_over, least, least_at, choice, through};
 ghost use Rattle.roman_rules.specs.Bits.{HasBits};
 ghost use Rattle.roman_joint.specs.NamedSys.{system_of};
-ghost use Rattle.roman_cost.specs.Advised.{related_pairs, AreRanks};
+ghost use Rattle.roman_cost.specs.Advised.{related_pairs, HavePlaces};
 ghost use Rattle.roman_cost.specs.Filling.{ranked, IsRanked, AreSmall, better_of};
 ghost use Rattle.roman_cost.specs.Tables.{seat_costs, AreOf};
 
@@ -29,7 +29,7 @@ pub(crate) fn cheapest(
     requires pair { p < count (sizes_of (system_of joint.now)) }
     requires related { IsTrue (is_related (system_of joint.now) (pair_at (sizes_of (system_of joint.now)) p)) }
     requires allowed { IsTrue (is_allowed (system_of joint.now) (pair_at (sizes_of (system_of joint.now)) p) a) }
-    requires ranks { AreRanks (related_pairs (system_of joint.now)) ranks.now }
+    requires ranks { HavePlaces (related_pairs (system_of joint.now)) ranks.now }
     requires row { length row.now ≡ length (related_pairs (system_of joint.now)) }
     requires small { AreSmall row.now }
     requires offered { HasBits offered (has (offers (system_of joint.now) (pair_at (sizes_of (system_of joint.now)) p) a)) }

@@ -1,4 +1,4 @@
--- Moves by a request that is served.
+-- Becomes by a request that is served.
 use Rattle.std.proofs.Common.{◌≡◌, ◌≢◌, ℕ, zero, suc, ◌<◌, ◌≤◌, Bool, true, false, List, [], ◌∷◌, Option, Some, None, IsTrue, IsFalse, All, length, map, slice_get, slice_index, slice_set, refl, sym, ap, ap₂, ◌∙◌, subst, arith}
 use Rattle.std.specs.List.{AllZip}
 use Rattle.std.proofs.lemmas.List.{get_or-set_same, length-map}
@@ -12,7 +12,7 @@ use Rattle.roman_model.specs.Numbers.{sizes_of, count, number, pair_at}
 use Rattle.roman_model.proofs.SystemLemmas.{in_env_next, from_env_next, in_beh_next, from_beh_next, from_allowed, triple_in_range, move_in_range, seat_in}
 use Rattle.roman_model.proofs.NumberLemmas.{numbers_are_pairs, AreBelow-length, AreBelow-index, states_below, IsPairOf-from, IsPairOf-moved, pair_at-number}
 use Rattle.roman_radix.specs.Radix.{moved}
-use Rattle.roman_generator.specs.Moves.{CanMove, Moves}
+use Rattle.roman_generator.specs.Moves.{CanMove, Becomes}
 use Rattle.roman_generator.proofs.OfferLemmas.{in_has, has_in}
 
 -- a pair has a state for each seat
@@ -57,7 +57,7 @@ pub all_move : (s : Sys) (p : ℕ) (a k b e to q : ℕ) (seat : Seat) → IsSys 
     IsTrue (has (env_next s.env (pair_at (sizes_of s) p).e a) e) → IsTrue (has (beh_next seat.beh (slice_index (pair_at (sizes_of s) p).bs k) (pair_at (sizes_of s) p).e a) b) →
     IsIn to (beh_next s.target (pair_at (sizes_of s) p).t (pair_at (sizes_of s) p).e a) →
     q ≡ number (sizes_of s) (moved (pair_at (sizes_of s) p) to e k b) → q < count (sizes_of s) → e < s.env.states → to < s.target.states → b < slice_index (sizes_of s).seats k →
-    Moves s (pair_at (sizes_of s) p) a k b e q
+    Becomes s (pair_at (sizes_of s) p) a k b e q
 all_move s p a k b e to q seat ok l seated ready has_e has_b has_to is below env_within to_within b_within =
     let n = sizes_of s in
     let here = pair_at n p in

@@ -1,4 +1,4 @@
--- Moves of a system by one request that is served.
+-- Becomes of a system by one request that is served.
 use Rattle.std.specs.Prelude.{◌≡◌, ℕ, ◌<◌, slice_set}
 use Rattle.roman_model.specs.System.{Sys, Pair, TStep, SStep}
 use Rattle.roman_model.specs.Numbers.{sizes_of, count, pair_at}
@@ -8,7 +8,7 @@ abbrev pub CanMove : Sys → Pair → ℕ → ℕ → ℕ → ℕ → Type 0
 CanMove s p a k b e = SStep s p.bs p.e a k (slice_set p.bs k b) e
 
 -- by such a step, and a target step, p becomes the pair with number q
-pub record Moves (s : Sys) (p : Pair) (a k b e q : ℕ) : Type 0 where
+pub record Becomes (s : Sys) (p : Pair) (a k b e q : ℕ) : Type 0 where
   pub to : ℕ
   pub target : TStep s p.t p.e a to e
   pub system : CanMove s p a k b e

@@ -3,7 +3,7 @@ ghost use Rattle.std.specs.Prelude.{◌≡◌, ◌<◌, length, IsTrue, IfSome, 
 ghost use Rattle.roman_model.specs.System.{has, is_allowed, is_ready};
 ghost use Rattle.roman_model.specs.Numbers.{sizes_of, count, pair_at};
 ghost use Rattle.roman_joint.specs.NamedSys.{system_of};
-ghost use Rattle.roman_generator.specs.Moves.{CanMove, Moves};
+ghost use Rattle.roman_generator.specs.Moves.{CanMove, Becomes};
 
 use roman_joint::Joint;
 
@@ -14,7 +14,7 @@ pub fn next_pair(joint: &Joint, p: u32, a: u8, k: u8, b2: u8, e2: u8) -> Option<
     requires pair { p < count (sizes_of (system_of joint.now)) }
     requires allowed { IsTrue (is_allowed (system_of joint.now) (pair_at (sizes_of (system_of joint.now)) p) a) }
     requires ready { IsTrue (is_ready (slice_get (system_of joint.now).seats k)) }
-    ensures moves { IfSome result (Moves (system_of joint.now) (pair_at (sizes_of (system_of joint.now)) p) a k b2 e2) }
+    ensures moves { IfSome result (Becomes (system_of joint.now) (pair_at (sizes_of (system_of joint.now)) p) a k b2 e2) }
     ensures none { IfNone result (CanMove (system_of joint.now) (pair_at (sizes_of (system_of joint.now)) p) a k b2 e2 → ⊥) }
 {
     joint.known();

@@ -8,7 +8,7 @@ use Rattle.roman_model.specs.System as model
 use Rattle.roman_parts.specs.Named.{NamedBeh}
 use Rattle.roman_joint.specs.NamedSys.{NamedSys, IsNamedSys, IsOverEnv, system_of, seat_of, beh_at}
 use Rattle.roman_joint.specs.declared.seat.Seat.{Seat}
-use Rattle.roman_joint.specs.Behaviours.{IsBehaviourOf}
+use Rattle.roman_joint.specs.Behaviours.{IsSeatBehaviour}
 
 -- what is read at a place of the catalogue
 pub beh_read : (catalogue : List NamedBeh) (i : ℕ) (beh : NamedBeh) → slice_get catalogue i ≡ Some beh → beh_at catalogue i ≡ beh.beh
@@ -28,7 +28,7 @@ pub record Behaves (n : NamedSys) (k : ℕ) (beh : NamedBeh) : Type 0 where
   pub env_states : beh.env_states ≡ n.environment.env.states
   pub actions : beh.actions ≡ n.environment.env.actions
 
-pub behaves : (n : NamedSys) (k : ℕ) (beh : NamedBeh) → IsNamedSys n → IsBehaviourOf n k beh → Behaves n k beh
+pub behaves : (n : NamedSys) (k : ℕ) (beh : NamedBeh) → IsNamedSys n → IsSeatBehaviour n k beh → Behaves n k beh
 behaves n k beh known of =
     let l = slice_get_within n.catalogue of.seat.behaviour beh of.placed in
     let over : IsOverEnv n.environment beh =

@@ -17,7 +17,7 @@ use Rattle.roman_radix.proofs.RowLemmas.{low_of-le, lanes_few, lanes_positive, r
 use Rattle.roman_lanes.specs.Rows.{is_on, HasLanes, AreRows}
 use Rattle.roman_rules.specs.Numbered.{IsNumbered}
 use Rattle.roman_joint.specs.NamedSys.{NamedSys, system_of, seat_of, IsNamedSys}
-use Rattle.roman_joint.specs.Rows.{lanes_in, low_in, has_state, AreRowsOf, IsRow, IsTurn, AreAlive}
+use Rattle.roman_joint.specs.Rows.{lanes_in, low_in, lane_has_state, AreRowsOf, IsRow, IsTurn, AreAlive}
 use Rattle.roman_joint.specs.declared.layout.Rows.{Rows}
 use Rattle.roman_joint.specs.declared.row.Row.{Row}
 use Rattle.roman_joint.specs.declared.turn.Turn.{Turn}
@@ -234,9 +234,9 @@ state_below n k b h within seat state =
     all (suc m) p w pos e = omega arith
 
 -- the lanes of state b, from those of state 0
-pub state_shift : (first b st size lane : ℕ) → ((j : ℕ) → j < 64 → is_on first j ≡ has_state st size 0 j) → 0 < st → b < size → lane < 64 →
-    is_on (first * 2 ^ (b * st) % 2 ^ 64) lane ≡ has_state st size b lane
-unfolding has_state
+pub state_shift : (first b st size lane : ℕ) → ((j : ℕ) → j < 64 → is_on first j ≡ lane_has_state st size 0 j) → 0 < st → b < size → lane < 64 →
+    is_on (first * 2 ^ (b * st) % 2 ^ 64) lane ≡ lane_has_state st size b lane
+unfolding lane_has_state
 state_shift first b st size lane is pos l low = elim (cases_lt lane (b * st)) [
   | inl less ↦
       let high : lane / st < b = div_below lane st b pos less in
@@ -336,8 +336,8 @@ below_more m b x = elim (cases_lt m b) [
     or_nothing true = refl
     or_nothing false = refl
 
-pub state_is : (st size b lane : ℕ) → has_state st size b lane ≡ eqb (lane / st % size) b
-unfolding has_state
+pub state_is : (st size b lane : ℕ) → lane_has_state st size b lane ≡ eqb (lane / st % size) b
+unfolding lane_has_state
 state_is st size b lane = refl
 
 -- a seat before the lanes is one of the seats

@@ -21,7 +21,7 @@ use Rattle.roman_parts.specs.Named.{NamedBeh}
 use Rattle.roman_joint.specs.NamedSys.{NamedSys, system_of, seat_of}
 use Rattle.roman_joint.specs.declared.seat.Seat as declared
 use Rattle.roman_joint.specs.Rows.{lanes_in, low_in, IsTurn, AreAlive}
-use Rattle.roman_joint.specs.Moves.{lane_state_of, GoesTo, AreMovesOf, AreWays, move_of, moves_from, ways_room, within_in, IsSpan, HoldsSpans, HoldsMoves, HasRoom, IsAdded, IsKept, AreSeatsOf}
+use Rattle.roman_joint.specs.Moves.{lane_state_of, GoesTo, AreMovesOf, AreWays, lane_move, lane_moves_from, ways_room, within_in, IsSpan, HoldsSpans, HoldsMoves, HasRoom, IsAdded, IsKept, AreSeatsOf}
 use Rattle.roman_joint.specs.declared.layout.Rows.{Rows}
 use Rattle.roman_joint.specs.declared.row.Row.{Row}
 use Rattle.roman_joint.specs.declared.turn.Turn.{Turn}
@@ -69,27 +69,27 @@ lanes_room n h =
     shorter (suc k) (n ∷ ns) = let less : length (drop k ns) ≤ length ns = shorter k ns in omega arith
 
 -- one way more
-pub way_more : (lanes : List ℕ) (last stride j : ℕ) → moves_from lanes last stride (j + 1) ≡ moves_from lanes last stride j ++ cond (eqb (slice_index lanes j) 0) [] (move_of lanes last stride j ∷ [])
+pub way_more : (lanes : List ℕ) (last stride j : ℕ) → lane_moves_from lanes last stride (j + 1) ≡ lane_moves_from lanes last stride j ++ cond (eqb (slice_index lanes j) 0) [] (lane_move lanes last stride j ∷ [])
 way_more lanes last stride j =
-    ap (λ m. map (move_of lanes last stride) (filter (λ i. not (slice_index lanes i == 0)) (below m))) (add-one j)
-    ∙ (ap (map (move_of lanes last stride)) (filter_below_more (λ i. not (slice_index lanes i == 0)) j)
-    ∙ (map-append (move_of lanes last stride) (filter (λ i. not (slice_index lanes i == 0)) (below j)) (cond (not (slice_index lanes j == 0)) (j ∷ []) [])
-    ∙ ap (λ ms. moves_from lanes last stride j ++ ms) (by_cases (slice_index lanes j == 0))))
+    ap (λ m. map (lane_move lanes last stride) (filter (λ i. not (slice_index lanes i == 0)) (below m))) (add-one j)
+    ∙ (ap (map (lane_move lanes last stride)) (filter_below_more (λ i. not (slice_index lanes i == 0)) j)
+    ∙ (map-append (lane_move lanes last stride) (filter (λ i. not (slice_index lanes i == 0)) (below j)) (cond (not (slice_index lanes j == 0)) (j ∷ []) [])
+    ∙ ap (λ ms. lane_moves_from lanes last stride j ++ ms) (by_cases (slice_index lanes j == 0))))
   where
-    by_cases : (b : Bool) → map (move_of lanes last stride) (cond (not b) (j ∷ []) []) ≡ cond b [] (move_of lanes last stride j ∷ [])
+    by_cases : (b : Bool) → map (lane_move lanes last stride) (cond (not b) (j ∷ []) []) ≡ cond b [] (lane_move lanes last stride j ∷ [])
     by_cases true = refl
     by_cases false = refl
 
-pub ways_few : (lanes : List ℕ) (last stride count : ℕ) → length (moves_from lanes last stride count) ≤ count
+pub ways_few : (lanes : List ℕ) (last stride count : ℕ) → length (lane_moves_from lanes last stride count) ≤ count
 ways_few lanes last stride zero = omega arith
 ways_few lanes last stride (suc j) =
-    let before : length (moves_from lanes last stride j) ≤ j = ways_few lanes last stride j in
-    let more : length (moves_from lanes last stride (suc j)) ≡ length (moves_from lanes last stride j) + length (cond (eqb (slice_index lanes j) 0) [] (move_of lanes last stride j ∷ [])) =
-    ap (λ m. length (moves_from lanes last stride m)) (sym (add-one j)) ∙ (ap length (way_more lanes last stride j) ∙ length-append (moves_from lanes last stride j) (cond (eqb (slice_index lanes j) 0) [] (move_of lanes last stride j ∷ []))) in
-    let one : length (cond (eqb (slice_index lanes j) 0) [] (move_of lanes last stride j ∷ [])) ≤ 1 = at_most (eqb (slice_index lanes j) 0) in
+    let before : length (lane_moves_from lanes last stride j) ≤ j = ways_few lanes last stride j in
+    let more : length (lane_moves_from lanes last stride (suc j)) ≡ length (lane_moves_from lanes last stride j) + length (cond (eqb (slice_index lanes j) 0) [] (lane_move lanes last stride j ∷ [])) =
+    ap (λ m. length (lane_moves_from lanes last stride m)) (sym (add-one j)) ∙ (ap length (way_more lanes last stride j) ∙ length-append (lane_moves_from lanes last stride j) (cond (eqb (slice_index lanes j) 0) [] (lane_move lanes last stride j ∷ []))) in
+    let one : length (cond (eqb (slice_index lanes j) 0) [] (lane_move lanes last stride j ∷ [])) ≤ 1 = at_most (eqb (slice_index lanes j) 0) in
     omega arith
   where
-    at_most : (b : Bool) → length (cond b [] (move_of lanes last stride j ∷ [])) ≤ 1
+    at_most : (b : Bool) → length (cond b [] (lane_move lanes last stride j ∷ [])) ≤ 1
     at_most true = omega arith
     at_most false = omega arith
 
@@ -116,7 +116,7 @@ way_goes lane st last j digit b e taken = elim (cases_lt j last) [
 
 -- the moves of the ways are those of the service
 pub moves_made : (n : Sizes) (k last e a : ℕ) (beh : Beh) (ways : Ways) → IsSizes n → low_of n.seats ≤ k → k < length n.seats → beh.states ≡ slice_index n.seats k → last + 1 ≡ slice_index n.seats k →
-    AreWays n k beh e a ways → AreMovesOf n k beh e a ways.some (moves_from ways.lanes last (stride_of n k) (last + last + 1))
+    AreWays n k beh e a ways → AreMovesOf n k beh e a ways.some (lane_moves_from ways.lanes last (stride_of n k) (last + last + 1))
 moves_made n k last e a beh ways h within seat states size ok = record {
   each = ok.each;
   rest = ok.rest;
@@ -137,16 +137,16 @@ moves_made n k last e a beh ways h within seat states size ok = record {
     less : (x : ℕ) → x ≤ last → x * st < 64
     less x l = let product : x * st ≤ last * st = mul-le-mul_right st l in omega (arith, product, most)
 
-    small_move : (move : Move) → IsIn move (moves_from ways.lanes last st (last + last + 1)) → (move.from < 64) × (move.to < 64)
+    small_move : (move : Move) → IsIn move (lane_moves_from ways.lanes last st (last + last + 1)) → (move.from < 64) × (move.to < 64)
     small_move move i =
-        let (j, in_all, is) = from_map (move_of ways.lanes last st) move (filter all (below (last + last + 1))) i in
+        let (j, in_all, is) = from_map (lane_move ways.lanes last st) move (filter all (below (last + last + 1))) i in
         let l : j < last + last + 1 = from_below (last + last + 1) j (filter_in all j (below (last + last + 1)) in_all).0 in
         (subst (λ (m : Move). m.from < 64) (sym is) (less (last - j) (omega arith)), subst (λ (m : Move). m.to < 64) (sym is) (less (j - last) (omega arith)))
 
-    sound_move : (move : Move) (lane : ℕ) → IsIn move (moves_from ways.lanes last st (last + last + 1)) → lane < lanes_of n.seats → is_on move.lanes lane ≡ true →
+    sound_move : (move : Move) (lane : ℕ) → IsIn move (lane_moves_from ways.lanes last st (last + last + 1)) → lane < lanes_of n.seats → is_on move.lanes lane ≡ true →
         (b : ℕ) × IsIn b (beh_next beh (lane_state_of n k lane) e a) × GoesTo n k lane b move
     sound_move move lane i l on =
-        let (j, in_all, is) = from_map (move_of ways.lanes last st) move (filter all (below (last + last + 1))) i in
+        let (j, in_all, is) = from_map (lane_move ways.lanes last st) move (filter all (below (last + last + 1))) i in
         let digit = lane_state_of n k lane in
         let nexts = beh_next beh digit e a in
         let test = λ (b : ℕ). b + slice_index n.seats k == j + 1 + digit in
@@ -158,7 +158,7 @@ moves_made n k last e a beh ways h within seat states size ok = record {
         (b, in_states, subst (GoesTo n k lane b) (sym is) (record { taken = to.0; there = to.1 }))
 
     whole_move : (b lane : ℕ) → lane < lanes_of n.seats → IsIn b (beh_next beh (lane_state_of n k lane) e a) →
-        (move : Move) × IsIn move (moves_from ways.lanes last st (last + last + 1)) × (is_on move.lanes lane ≡ true) × GoesTo n k lane b move
+        (move : Move) × IsIn move (lane_moves_from ways.lanes last st (last + last + 1)) × (is_on move.lanes lane ≡ true) × GoesTo n k lane b move
     whole_move b lane l i =
         let digit = lane_state_of n k lane in
         let nexts = beh_next beh digit e a in
@@ -171,8 +171,8 @@ moves_made n k last e a beh ways h within seat states size ok = record {
         let some : slice_index ways.lanes j ≢ 0 = λ none. false≢true (sym (on_zero lane) ∙ (ap (λ w. is_on w lane) (sym none) ∙ on)) in
         let there : j < last + last + 1 = omega (arith, size, in_size) in
         let to = way_goes lane st last j digit b sum_last (lane_state n k lane h within seat l).taken in (
-          move_of ways.lanes last st j,
-          in_map (move_of ways.lanes last st) j (filter all (below (last + last + 1))) (in_filter all j (below (last + last + 1)) (in_below (last + last + 1) j there) (not_from_false (eqb (slice_index ways.lanes j) 0) (ne_eqb (slice_index ways.lanes j) 0 some))),
+          lane_move ways.lanes last st j,
+          in_map (lane_move ways.lanes last st) j (filter all (below (last + last + 1))) (in_filter all j (below (last + last + 1)) (in_below (last + last + 1) j there) (not_from_false (eqb (slice_index ways.lanes j) 0) (ne_eqb (slice_index ways.lanes j) 0 some))),
           on,
           record { taken = to.0; there = to.1 },
         )

@@ -10,7 +10,7 @@ use Rattle.roman_model.specs.Numbers.{Sizes, IsPairOf, sizes_of, count, number, 
 use Rattle.roman_model.proofs.SystemLemmas.{triple_in_range, move_in_range, from_env_next, from_beh_next, seat_in, states_set}
 use Rattle.roman_model.proofs.NumberLemmas.{numbers_are_pairs, IsPairOf-from, AreBelow-length, number_below, parts_of_number, states_number-set}
 use Rattle.roman_radix.specs.Radix.{stride_of, env_stride_of, target_stride_of}
-use Rattle.roman_joint.specs.Outcomes.{IsPlaced}
+use Rattle.roman_joint.specs.Outcomes.{IsPairWith}
 
 -- the pair to which the action leads, where the environment goes to e and the seat to b
 abbrev pub outcome : Pair → ℕ → ℕ → ℕ → ℕ → Pair
@@ -84,7 +84,7 @@ target_in_range s t e a to sys next =
 -- each number is that of the outcome's pair
 pub outcome_placed : (s : Sys) (p a k to e b q' : ℕ) (seat : Seat) → IsSys s → p < count (sizes_of s) → to < s.target.states → slice_get s.seats k ≡ Some seat →
     IsIn e (env_next s.env (pair_at (sizes_of s) p).e a) → IsIn b (beh_next seat.beh (slice_index (pair_at (sizes_of s) p).bs k) (pair_at (sizes_of s) p).e a) →
-    q' ≡ number (sizes_of s) (outcome (pair_at (sizes_of s) p) k to e b) → IsPlaced (sizes_of s) k q' e b
+    q' ≡ number (sizes_of s) (outcome (pair_at (sizes_of s) p) k to e b) → IsPairWith (sizes_of s) k q' e b
 outcome_placed s p a k to e b q' seat sys below_p target seated in_env in_states is =
     let n = sizes_of s in
     let q : Pair = pair_at n p in

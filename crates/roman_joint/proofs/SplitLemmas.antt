@@ -14,7 +14,7 @@ use Rattle.roman_radix.proofs.Strides.{product_positive, AreSizes-drop}
 use Rattle.roman_radix.proofs.RowLemmas.{low_of-le, lanes_positive, tails_from, exact, row_div, row_least, row_below, env_rows_are}
 use Rattle.roman_lanes.specs.Rows.{is_on}
 use Rattle.roman_joint.specs.NamedSys.{NamedSys, system_of, IsNamedSys}
-use Rattle.roman_joint.specs.Rows.{lanes_in, low_in, has_state, AreRowsOf, IsRow}
+use Rattle.roman_joint.specs.Rows.{lanes_in, low_in, lane_has_state, AreRowsOf, IsRow}
 use Rattle.roman_joint.specs.Scenes.{ArePermitted, AreLeading}
 use Rattle.roman_joint.specs.declared.layout.Rows.{Rows}
 use Rattle.roman_joint.specs.declared.row.Row.{Row}
@@ -60,7 +60,7 @@ pub rows_made : (n : Sizes) (r : Rows) → IsSizes n → r.low ≡ low_of n.seat
     r.rows * lanes_of n.seats ≡ count n → r.env_rows ≡ env_stride_of n / r.lanes → r.target_rows ≡ target_stride_of n / r.lanes →
     ((k : ℕ) → k < length n.seats → slice_index r.strides k ≡ cond (ltb k r.low) (stride_of n k / r.lanes) (stride_of n k)) →
     ((k : ℕ) → k < length n.seats → slice_index r.sizes k ≡ slice_index n.seats k) →
-    ((k lane : ℕ) → k < length n.seats → lane < 64 → is_on (slice_index r.firsts k) lane ≡ has_state (stride_of n k) (slice_index n.seats k) 0 lane) → AreRowsOf n r
+    ((k lane : ℕ) → k < length n.seats → lane < 64 → is_on (slice_index r.firsts k) lane ≡ lane_has_state (stride_of n k) (slice_index n.seats k) 0 lane) → AreRowsOf n r
 rows_made n r h is_low is_lanes full rows env target strides sizes firsts = record {
   low = is_low;
   lanes = is_lanes;
@@ -105,11 +105,11 @@ strides_more n strides low w k value room is before j l = elim (cases_eq j k) [
   | inr other ↦ get_or-set_other strides k j value 0 other ∙ before j (omega arith)
 ]
 
-pub firsts_more : (n : Sizes) (firsts : List ℕ) (k word : ℕ) → k < length firsts → ((lane : ℕ) → lane < 64 → is_on word lane ≡ has_state (stride_of n k) (slice_index n.seats k) 0 lane) →
-    ((j lane : ℕ) → j < k → lane < 64 → is_on (slice_index firsts j) lane ≡ has_state (stride_of n j) (slice_index n.seats j) 0 lane) →
-    (j lane : ℕ) → j < k + 1 → lane < 64 → is_on (slice_index (set firsts k word) j) lane ≡ has_state (stride_of n j) (slice_index n.seats j) 0 lane
+pub firsts_more : (n : Sizes) (firsts : List ℕ) (k word : ℕ) → k < length firsts → ((lane : ℕ) → lane < 64 → is_on word lane ≡ lane_has_state (stride_of n k) (slice_index n.seats k) 0 lane) →
+    ((j lane : ℕ) → j < k → lane < 64 → is_on (slice_index firsts j) lane ≡ lane_has_state (stride_of n j) (slice_index n.seats j) 0 lane) →
+    (j lane : ℕ) → j < k + 1 → lane < 64 → is_on (slice_index (set firsts k word) j) lane ≡ lane_has_state (stride_of n j) (slice_index n.seats j) 0 lane
 firsts_more n firsts k word room is before j lane l m = elim (cases_eq j k) [
-  | inl e ↦ subst (λ x. is_on (slice_index (set firsts k word) x) lane ≡ has_state (stride_of n x) (slice_index n.seats x) 0 lane) (sym e)
+  | inl e ↦ subst (λ x. is_on (slice_index (set firsts k word) x) lane ≡ lane_has_state (stride_of n x) (slice_index n.seats x) 0 lane) (sym e)
       (ap (λ w. is_on w lane) (get_or-set_same firsts k word 0 room) ∙ is lane m)
   | inr other ↦ ap (λ w. is_on w lane) (get_or-set_other firsts k j word 0 other) ∙ before j lane (omega arith) m
 ]

@@ -16,7 +16,7 @@ use Rattle.roman_model.proofs.SystemLemmas.{seat_in}
 use Rattle.roman_joint.specs.declared.walk.Walk.{Walk}
 use Rattle.roman_joint.proofs.BackwardLemmas.{found_backwards}
 use Rattle.roman_joint.specs.Backward.{seat_prev, from_states, from_seat, from_target, from_env, from_action, from_all}
-use Rattle.roman_joint.specs.Walks.{goal_of, IsWalk, left_of_seat, left_of_target, left_of_env, left_of_action, left_of_all, left, GoesOn}
+use Rattle.roman_joint.specs.Walks.{goal_of, IsWalk, left_of_seat, left_of_target, left_of_env, left_of_action, left_of_all, left, WalkGoesOn}
 
 -- the first of some lists, and the rest
 flat_map-drop : {X Y : Type 0} (f : X → List Y) (xs : List X) (i : ℕ) (d : X) → i < length xs → flat_map f (drop i xs) ≡ f (get_or xs i d) ++ flat_map f (drop (i + 1) xs)
@@ -74,7 +74,7 @@ module _ (s : Sys) (sys : IsSys s) (w : Walk) (ok : IsWalk s w) where
   abbrev pub seat_on : Walk
   seat_on = record w { seat = w.seat + 1; states_taken = 0 }
 
-  pub goes_seat : left_of_seat s w ≡ [] → w.seat + 1 < length s.seats → GoesOn s w seat_on
+  pub goes_seat : left_of_seat s w ≡ [] → w.seat + 1 < length s.seats → WalkGoesOn s w seat_on
   goes_seat no_states more =
       let rest = left_of_env s w ++ (left_of_action s w ++ left_of_all s w) in
       let f = from_seat s (goal_of s w) w.action w.env w.target in
@@ -110,7 +110,7 @@ module _ (s : Sys) (sys : IsSys s) (w : Walk) (ok : IsWalk s w) where
 
   pub goes_target : (t row : ℕ) → left_of_seat s w ≡ [] → left_of_target s w ≡ [] → w.targets_taken < length (beh_prev s.target (goal_of s w).t w.env w.action) →
       t ≡ get_or (beh_prev s.target (goal_of s w).t w.env w.action) w.targets_taken 0 → t < s.target.states →
-      row ≡ number (sizes_of s) (record { t = t; e = w.env; bs = (goal_of s w).bs }) → GoesOn s w (target_on t row)
+      row ≡ number (sizes_of s) (record { t = t; e = w.env; bs = (goal_of s w).bs }) → WalkGoesOn s w (target_on t row)
   goes_target t row no_states no_seats more is within at =
       let targets = beh_prev s.target (goal_of s w).t w.env w.action in
       let rest = left_of_action s w ++ left_of_all s w in
@@ -152,7 +152,7 @@ module _ (s : Sys) (sys : IsSys s) (w : Walk) (ok : IsWalk s w) where
 
   pub goes_env : (e row : ℕ) → left_of_seat s w ≡ [] → left_of_target s w ≡ [] → left_of_env s w ≡ [] → w.envs_taken < length (env_prev s.env (goal_of s w).e w.action) →
       e ≡ get_or (env_prev s.env (goal_of s w).e w.action) w.envs_taken 0 → e < s.env.states →
-      row ≡ number (sizes_of s) (record { t = w.target; e = e; bs = (goal_of s w).bs }) → GoesOn s w (env_on e row)
+      row ≡ number (sizes_of s) (record { t = w.target; e = e; bs = (goal_of s w).bs }) → WalkGoesOn s w (env_on e row)
   goes_env e row no_states no_seats no_targets more is within at =
       let envs = env_prev s.env (goal_of s w).e w.action in
       let rest = left_of_all s w in
@@ -193,7 +193,7 @@ module _ (s : Sys) (sys : IsSys s) (w : Walk) (ok : IsWalk s w) where
   abbrev pub action_on : Walk
   action_on = record w { action = w.action + 1; envs_taken = 0; targets_taken = 64; seat = length s.seats; states_taken = 0 }
 
-  pub goes_action : left_of_seat s w ≡ [] → left_of_target s w ≡ [] → left_of_env s w ≡ [] → left_of_action s w ≡ [] → w.action + 1 < s.env.actions → GoesOn s w action_on
+  pub goes_action : left_of_seat s w ≡ [] → left_of_target s w ≡ [] → left_of_env s w ≡ [] → left_of_action s w ≡ [] → w.action + 1 < s.env.actions → WalkGoesOn s w action_on
   goes_action no_states no_seats no_targets no_envs more =
       let q = goal_of s w in
       let a = w.action + 1 in
@@ -242,21 +242,21 @@ module _ (s : Sys) (sys : IsSys s) (w : Walk) (ok : IsWalk s w) where
   pub goes_env_at : (e row m : ℕ) → left_of_seat s w ≡ [] → left_of_target s w ≡ [] → left_of_env s w ≡ [] → w.envs_taken < length (env_prev s.env (goal_of s w).e w.action) →
       e ≡ get_or (env_prev s.env (goal_of s w).e w.action) w.envs_taken 0 → e < s.env.states →
       row ≡ number (sizes_of s) (record { t = w.target; e = e; bs = (goal_of s w).bs }) → m ≡ length s.seats →
-      GoesOn s w (record w { env = e; row = row; envs_taken = w.envs_taken + 1; targets_taken = 0; seat = m; states_taken = 0 })
+      WalkGoesOn s w (record w { env = e; row = row; envs_taken = w.envs_taken + 1; targets_taken = 0; seat = m; states_taken = 0 })
   goes_env_at e row m no_states no_seats no_targets more is within at seats =
-      subst (λ k. GoesOn s w (record w { env = e; row = row; envs_taken = w.envs_taken + 1; targets_taken = 0; seat = k; states_taken = 0 })) (sym seats)
+      subst (λ k. WalkGoesOn s w (record w { env = e; row = row; envs_taken = w.envs_taken + 1; targets_taken = 0; seat = k; states_taken = 0 })) (sym seats)
       (goes_env e row no_states no_seats no_targets more is within at)
 
   pub goes_action_at : (m : ℕ) → left_of_seat s w ≡ [] → left_of_target s w ≡ [] → left_of_env s w ≡ [] → left_of_action s w ≡ [] → w.action + 1 < s.env.actions → m ≡ length s.seats →
-      GoesOn s w (record w { action = w.action + 1; envs_taken = 0; targets_taken = 64; seat = m; states_taken = 0 })
+      WalkGoesOn s w (record w { action = w.action + 1; envs_taken = 0; targets_taken = 64; seat = m; states_taken = 0 })
   goes_action_at m no_states no_seats no_targets no_envs more seats =
-      subst (λ k. GoesOn s w (record w { action = w.action + 1; envs_taken = 0; targets_taken = 64; seat = k; states_taken = 0 })) (sym seats)
+      subst (λ k. WalkGoesOn s w (record w { action = w.action + 1; envs_taken = 0; targets_taken = 64; seat = k; states_taken = 0 })) (sym seats)
       (goes_action no_states no_seats no_targets no_envs more)
 
 -- more of the states before may count as taken, where the same are left
-module _ (s : Sys) (w v : Walk) (m : ℕ) (on : GoesOn s w v) (small : m ≤ 64) where
+module _ (s : Sys) (w v : Walk) (m : ℕ) (on : WalkGoesOn s w v) (small : m ≤ 64) where
   pub more_targets : v.targets_taken ≤ m → drop m (beh_prev s.target (goal_of s v).t v.env v.action) ≡ drop v.targets_taken (beh_prev s.target (goal_of s v).t v.env v.action) →
-      GoesOn s w (record v { targets_taken = m })
+      WalkGoesOn s w (record v { targets_taken = m })
   more_targets more same =
       let ok = on.walk in
       let f = from_target s (goal_of s v) v.action v.env in
@@ -280,7 +280,7 @@ module _ (s : Sys) (w v : Walk) (m : ℕ) (on : GoesOn s w v) (small : m ≤ 64)
         falls = omega (arith, on.falls);
       }
 
-  pub more_envs : v.envs_taken ≤ m → flat_map (from_env s (goal_of s v) v.action) (drop m (env_prev s.env (goal_of s v).e v.action)) ≡ left_of_action s v → GoesOn s w (record v { envs_taken = m })
+  pub more_envs : v.envs_taken ≤ m → flat_map (from_env s (goal_of s v) v.action) (drop m (env_prev s.env (goal_of s v).e v.action)) ≡ left_of_action s v → WalkGoesOn s w (record v { envs_taken = m })
   more_envs more same =
       let ok = on.walk in
       record {
@@ -304,7 +304,7 @@ module _ (s : Sys) (w v : Walk) (m : ℕ) (on : GoesOn s w v) (small : m ≤ 64)
       }
 
 -- all of the environment's states count as taken on an action that doesn't lead to the pair
-pub leads_on : (s : Sys) (w v : Walk) (m : ℕ) → IsSys s → GoesOn s w v → v.envs_taken ≡ 0 → (m ≡ 0) ⊎ ((m ≡ 64) × (bit_at v.leading v.action ≡ 0)) → GoesOn s w (record v { envs_taken = m })
+pub leads_on : (s : Sys) (w v : Walk) (m : ℕ) → IsSys s → WalkGoesOn s w v → v.envs_taken ≡ 0 → (m ≡ 0) ⊎ ((m ≡ 64) × (bit_at v.leading v.action ≡ 0)) → WalkGoesOn s w (record v { envs_taken = m })
 leads_on s w v m sys on none first = elim first [
   | inl e ↦ more_envs s w v m on (omega (arith, e)) (omega (arith, e, none)) (ap (λ i. flat_map (from_env s (goal_of s v) v.action) (drop i envs)) (e ∙ sym none))
   | inr (e, bit) ↦ more_envs s w v m on (omega (arith, e)) (omega (arith, e, none))

@@ -5,7 +5,7 @@ use Rattle.roman_joint.specs.NamedSys.{NamedSys}
 use Rattle.roman_joint.specs.declared.seat.Seat.{Seat}
 
 -- the behaviour is that of the service at place k
-pub record IsBehaviourOf (n : NamedSys) (k : ℕ) (beh : NamedBeh) : Type 0 where
+pub record IsSeatBehaviour (n : NamedSys) (k : ℕ) (beh : NamedBeh) : Type 0 where
   pub seat : Seat
   pub seated : slice_get n.seats k ≡ Some seat
   pub placed : slice_get n.catalogue seat.behaviour ≡ Some beh

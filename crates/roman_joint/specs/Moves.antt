@@ -42,12 +42,12 @@ pub record AreWays (n : Sizes) (k : ℕ) (beh : Beh) (e a : ℕ) (ways : Ways) :
   pub goes : (j lane : ℕ) → lane < lanes_of n.seats → is_on (slice_index ways.lanes j) lane ≡ list_any (λ b. b + slice_index n.seats k == j + 1 + lane_state_of n k lane) (beh_next beh (lane_state_of n k lane) e a)
 
 -- the move of a way
-abbrev pub move_of : List ℕ → ℕ → ℕ → ℕ → Move
-move_of lanes last stride j = record { lanes = slice_index lanes j; from = (last - j) * stride; to = (j - last) * stride }
+abbrev pub lane_move : List ℕ → ℕ → ℕ → ℕ → Move
+lane_move lanes last stride j = record { lanes = slice_index lanes j; from = (last - j) * stride; to = (j - last) * stride }
 
 -- the moves of the first ways, less those that no lane goes
-abbrev pub moves_from : List ℕ → ℕ → ℕ → ℕ → List Move
-moves_from lanes last stride count = map (move_of lanes last stride) (filter (λ j. not (slice_index lanes j == 0)) (below count))
+abbrev pub lane_moves_from : List ℕ → ℕ → ℕ → ℕ → List Move
+lane_moves_from lanes last stride count = map (lane_move lanes last stride) (filter (λ j. not (slice_index lanes j == 0)) (below count))
 
 -- how many ways seats of those sizes have at most
 abbrev pub ways_room : List ℕ → ℕ

@@ -18,16 +18,16 @@ abbrev pub beh_states : NamedBeh → List (List ℕ)
 beh_states beh = beh.states
 
 -- the names of the states of the behaviour at a place of the catalogue
-abbrev pub states_at : List NamedBeh → ℕ → List (List ℕ)
-states_at catalogue i = slice_index_or (map beh_states catalogue) i []
+abbrev pub states_of_behaviour : List NamedBeh → ℕ → List (List ℕ)
+states_of_behaviour catalogue i = slice_index_or (map beh_states catalogue) i []
 
 -- the name of a service, and those of its states
 abbrev pub names_of_seat : List NamedBeh → Seat → SeatNames
-names_of_seat catalogue seat = record { service = seat.name; states = states_at catalogue seat.behaviour }
+names_of_seat catalogue seat = record { service = seat.name; states = states_of_behaviour catalogue seat.behaviour }
 
 -- the names of states, actions and services
-abbrev pub names_of : NamedSys → Names
-names_of parts = record {
+abbrev pub names_in : NamedSys → Names
+names_in parts = record {
   target = parts.target.states;
   env = parts.environment.states;
   actions = parts.environment.actions;

@@ -13,7 +13,7 @@ abbrev pub outcome_numbers : Outcomes → List ℕ
 outcome_numbers o = flat_map (λ e. map (λ b. outcome_number o e b) o.states.now) o.envs.now
 
 -- the number is that of a pair with the environment in e and seat k in b
-pub record IsPlaced (n : Sizes) (k q e b : ℕ) : Type 0 where
+pub record IsPairWith (n : Sizes) (k q e b : ℕ) : Type 0 where
   pub below : q < count n
   pub env : (pair_at n q).e ≡ e
   pub state : slice_index (pair_at n q).bs k ≡ b

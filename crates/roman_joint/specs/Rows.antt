@@ -21,8 +21,8 @@ abbrev pub low_in : Sys → ℕ
 low_in s = low_of (sizes_of s).seats
 
 -- the lane is one of state b, for a seat of that stride and size
-unfoldable pub has_state : ℕ → ℕ → ℕ → ℕ → Bool
-has_state stride size b lane = lane / stride % size == b
+unfoldable pub lane_has_state : ℕ → ℕ → ℕ → ℕ → Bool
+lane_has_state stride size b lane = lane / stride % size == b
 
 -- the rows are those of the sizes: strides of seats before the lanes are counted in rows, those of seats within them in lanes
 pub record AreRowsOf (n : Sizes) (r : Rows) : Type 0 where
@@ -35,7 +35,7 @@ pub record AreRowsOf (n : Sizes) (r : Rows) : Type 0 where
   pub before : (k : ℕ) → k < low_of n.seats → slice_index r.strides k * lanes_of n.seats ≡ stride_of n k
   pub within : (k : ℕ) → low_of n.seats ≤ k → k < length n.seats → slice_index r.strides k ≡ stride_of n k
   pub sizes : (k : ℕ) → k < length n.seats → slice_index r.sizes k ≡ slice_index n.seats k
-  pub firsts : (k lane : ℕ) → k < length n.seats → lane < 64 → is_on (slice_index r.firsts k) lane ≡ has_state (stride_of n k) (slice_index n.seats k) 0 lane
+  pub firsts : (k lane : ℕ) → k < length n.seats → lane < 64 → is_on (slice_index r.firsts k) lane ≡ lane_has_state (stride_of n k) (slice_index n.seats k) 0 lane
 
 -- what was looked up is that of row x: all its pairs have these states of the target, the environment and the seats before the lanes
 pub record IsRow (s : Sys) (x : ℕ) (row : Row) : Type 0 where

@@ -62,7 +62,7 @@ way_left s walk =
     (s.env.actions - walk.action) * 2 ^ 20 + (64 - walk.envs_taken) * 2 ^ 13 + (64 - walk.targets_taken) * 2 ^ 6 + (length s.seats - walk.seat)
 
 -- the walk goes on, and what is left stays
-pub record GoesOn (s : Sys) (old new : Walk) : Type 0 where
+pub record WalkGoesOn (s : Sys) (old new : Walk) : Type 0 where
   pub walk : IsWalk s new
   pub left : left s new ≡ left s old
   pub falls : way_left s new < way_left s old

@@ -8,7 +8,7 @@ ghost use Rattle.roman_model.specs.declared.reason.Reason.TheVariants.{Act};
 ghost use Rattle.roman_radix.specs.Radix.{stride_of};
 ghost use Rattle.roman_lanes.specs.Rows.{is_on, HasLanes, AreRows};
 ghost use Rattle.roman_joint.specs.NamedSys.{system_of};
-ghost use Rattle.roman_joint.specs.Rows.{lanes_in, low_in, has_state, IsRow, IsTurn, AreAlive};
+ghost use Rattle.roman_joint.specs.Rows.{lanes_in, low_in, lane_has_state, IsRow, IsTurn, AreAlive};
 ghost use Rattle.roman_joint.specs.declared.row.Row.{Row};
 ghost use Rattle.roman_joint.specs.declared.turn.Turn.{Turn};
 

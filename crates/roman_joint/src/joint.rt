@@ -3,7 +3,7 @@ ghost use Rattle.std.specs.Prelude.{◌≡◌, ◌<◌, ◌≤◌, ◌↔◌, Al
 ghost use Rattle.roman_model.specs.Lists.{HasNoRepeats};
 ghost use Rattle.roman_model.specs.Numbers.{sizes_of};
 ghost use Rattle.roman_model.specs.declared.limits.TheConstants.{MAX_SERVICES, MAX_CELLS};
-ghost use Rattle.roman_joint.specs.Behaviours.{IsBehaviourOf};
+ghost use Rattle.roman_joint.specs.Behaviours.{IsSeatBehaviour};
 ghost use Rattle.roman_joint.specs.NamedSys.{NamedSys, system_of, cells, IsOverEnv, TargetIsOverEnv, IsNamedSys};
 ghost use Rattle.roman_joint.specs.Rows.{AreRowsOf, low_in};
 ghost use Rattle.roman_joint.specs.Moves.{AreMovesOf};
@@ -144,7 +144,7 @@ impl Joint {
     /// The behaviour of the service at place k.
     pub fn behaviour(&self, k: u8) -> &Behaviour
         requires { k < length self.now.seats }
-        ensures { IsBehaviourOf self.now k result.now }
+        ensures { IsSeatBehaviour self.now k result.now }
     {
         self.known();
         let seat = self.seat(k);

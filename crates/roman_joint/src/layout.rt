@@ -1,7 +1,7 @@
 //! How the numbers of pairs split into rows and lanes.
 ghost use Rattle.std.specs.Prelude.{◌≡◌, ◌≢◌, ℕ, ◌/◌, ◌<◌, ◌≤◌, ltb, length, slice_index, if◌then◌else◌, true};
 ghost use Rattle.roman_lanes.specs.Rows.{is_on};
-ghost use Rattle.roman_joint.specs.Rows.{has_state, AreRowsOf};
+ghost use Rattle.roman_joint.specs.Rows.{lane_has_state, AreRowsOf};
 
 use roman_model::MAX_SERVICES;
 use roman_radix::Shape;
@@ -83,7 +83,7 @@ fn all_lanes(lanes: u32) -> u64
 fn first_lanes(stride: u32, size: u8) -> u64
     requires stride { 0 < stride }
     requires size { 0 < size }
-    ensures { (lane : ℕ) → lane < 64 → is_on result lane ≡ has_state stride size 0 lane }
+    ensures { (lane : ℕ) → lane < 64 → is_on result lane ≡ lane_has_state stride size 0 lane }
 {
     let mut lanes = 0;
     for lane in 0..64 {

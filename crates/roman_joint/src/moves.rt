@@ -4,7 +4,7 @@ ghost use Rattle.std.specs.Prelude.{◌≡◌, ℕ, ◌+◌, ◌-◌, ◌*◌, �
 ghost use Rattle.roman_radix.specs.Rows.{low_of};
 ghost use Rattle.roman_joint.specs.NamedSys.{NamedSys, system_of};
 ghost use Rattle.roman_joint.specs.Rows.{AreRowsOf};
-ghost use Rattle.roman_joint.specs.Moves.{moves_from, AreSeatsOf, HoldsSpans, HoldsMoves, HasRoom, IsAdded, IsKept};
+ghost use Rattle.roman_joint.specs.Moves.{lane_moves_from, AreSeatsOf, HoldsSpans, HoldsMoves, HasRoom, IsAdded, IsKept};
 
 use crate::layout::Rows;
 use crate::seat::Seat;
@@ -88,7 +88,7 @@ fn push_ways(moves: &mut Vec<Move>, lanes: &[u64], last: u8, stride: u32)
     requires small { last * stride < 64 }
     requires few { last < 64 }
     requires long { last + last < length lanes.now }
-    ensures moves { moves.new.items ≡ moves.old.items ++ moves_from lanes.now last stride (last + last + 1) }
+    ensures moves { moves.new.items ≡ moves.old.items ++ lane_moves_from lanes.now last stride (last + last + 1) }
     ensures capacity { vec_capacity moves.new ≡ vec_capacity moves.old }
 {
     for j in 0..last + last + 1 {

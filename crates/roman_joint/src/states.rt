@@ -7,7 +7,7 @@ ghost use Rattle.roman_radix.specs.Rows.{low_of, lanes_of};
 ghost use Rattle.roman_lanes.specs.Rows.{is_on};
 ghost use Rattle.roman_joint.specs.NamedSys.{system_of};
 ghost use Rattle.roman_joint.specs.Backward.{seat_prev};
-ghost use Rattle.roman_joint.specs.Rows.{lanes_in, low_in, has_state, AreRowsOf, may_rest as may_rest_in};
+ghost use Rattle.roman_joint.specs.Rows.{lanes_in, low_in, lane_has_state, AreRowsOf, may_rest as may_rest_in};
 
 use crate::joint::Joint;
 use crate::layout::Rows;
@@ -87,7 +87,7 @@ pub(crate) fn state_lanes(shape: &Shape, rows: &Rows, k: u8, b: u8) -> u64
     requires within { low_of shape.now.seats ≤ k }
     requires seat { k < length shape.now.seats }
     requires state { b < slice_index shape.now.seats k }
-    ensures each { (lane : ℕ) → lane < lanes_of shape.now.seats → is_on result lane ≡ has_state (stride_of shape.now k) (slice_index shape.now.seats k) b lane }
+    ensures each { (lane : ℕ) → lane < lanes_of shape.now.seats → is_on result lane ≡ lane_has_state (stride_of shape.now k) (slice_index shape.now.seats k) b lane }
     ensures rest { (lane : ℕ) → lanes_of shape.now.seats ≤ lane → is_on result lane ≡ false }
 {
     shape.known();

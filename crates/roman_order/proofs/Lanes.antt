@@ -15,7 +15,7 @@ use Rattle.roman_model.specs.declared.reason.Reason.{Reason}
 use Rattle.roman_model.proofs.Lists.{filter_below_more, list_any-map, any_true, any_from, none_from, filter_in, in_filter, in_below, from_below, same_test, HasNoRepeats-filter, HasNoRepeats-below}
 use Rattle.roman_lanes.specs.Rows.{is_on, HasLanes, AreRows}
 use Rattle.roman_lanes.proofs.RowBits.{on_and, on_less, on_zero, on_ones, on_ones_above, on_pow_same, on_pow_other}
-use Rattle.roman_order.specs.Board.{entry_of, lanes_in, entries_in, has_entry}
+use Rattle.roman_order.specs.Board.{as_entry, set_lanes, entries_in, has_entry}
 
 -- ---- the lanes of a word, the first apart
 
@@ -50,13 +50,13 @@ first_then n m t (suc k) is h l =
           ∙ ap (λ xs. t ∷ xs) (sym (filter_below_more (is_on m) k)))
     ]
 
-pub lanes_in-first : (n m t : ℕ) → IsFirstOf n m t → lanes_in n ≡ t ∷ lanes_in m
-unfolding lanes_in
-lanes_in-first n m t is = first_then n m t 64 is is.low (omega arith)
+pub set_lanes-first : (n m t : ℕ) → IsFirstOf n m t → set_lanes n ≡ t ∷ set_lanes m
+unfolding set_lanes
+set_lanes-first n m t is = first_then n m t 64 is is.low (omega arith)
 
-pub lanes_in-zero : lanes_in 0 ≡ []
-unfolding lanes_in
-lanes_in-zero = none_before 0 64 64 (λ i h. on_zero i) (omega arith)
+pub set_lanes-zero : set_lanes 0 ≡ []
+unfolding set_lanes
+set_lanes-zero = none_before 0 64 64 (λ i h. on_zero i) (omega arith)
 
 -- a word without one of its lanes
 abbrev pub without_lane : ℕ → ℕ → ℕ
@@ -76,16 +76,16 @@ pub without_first-less : (n m t : ℕ) → IsFirstOf n m t → m ≤ n → m < n
 without_first-less n m t is h = elim (cases_eq m n) [ inl e ↦ absurd (both_ways (is_on n t) (sym (ap (λ w. is_on w t) e) ∙ is.off) is.on) | inr ne ↦ omega arith ]
 
 -- a word of one lane
-lanes_in-one : (k : ℕ) → k < 64 → lanes_in (2 ^ k) ≡ k ∷ []
-lanes_in-one k l =
-    lanes_in-first (2 ^ k) 0 k (record {
+set_lanes-one : (k : ℕ) → k < 64 → set_lanes (2 ^ k) ≡ k ∷ []
+set_lanes-one k l =
+    set_lanes-first (2 ^ k) 0 k (record {
       low = l;
       on = on_pow_same k;
       before = λ i h. on_pow_other k i (λ e. omega arith);
       off = on_zero k;
       same = λ i h ne. on_zero i ∙ sym (on_pow_other k i ne);
     })
-    ∙ ap (λ xs. k ∷ xs) lanes_in-zero
+    ∙ ap (λ xs. k ∷ xs) set_lanes-zero
 
 -- the word as it is computed
 one_pow : (k : ℕ) → k < 64 → 1 * 2 ^ k % 2 ^ 64 ≡ 2 ^ k
@@ -95,42 +95,42 @@ pub one_lane : (k lane : ℕ) → k < 64 → is_on (1 * 2 ^ k % 2 ^ 64) lane ≡
 one_lane k lane l t = elim (cases_eq lane k) [ inl e ↦ e | inr ne ↦ absurd (both_ways (is_on (2 ^ k) lane) (on_pow_other k lane ne) (sym (ap (λ w. is_on w lane) (one_pow k l)) ∙ t)) ]
 
 -- the entry of one lane
-pub entries_in-one : (lanes x lane : ℕ) (reason : Reason) → lane < 64 → entries_in lanes x (1 * 2 ^ lane % 2 ^ 64) reason ≡ entry_of (x * lanes + lane, reason) ∷ []
-entries_in-one lanes x lane reason low = ap (λ ls. map (λ l. entry_of (x * lanes + l, reason)) ls) (ap lanes_in (one_pow lane low) ∙ lanes_in-one lane low)
+pub entries_in-one : (lanes x lane : ℕ) (reason : Reason) → lane < 64 → entries_in lanes x (1 * 2 ^ lane % 2 ^ 64) reason ≡ as_entry (x * lanes + lane, reason) ∷ []
+entries_in-one lanes x lane reason low = ap (λ ls. map (λ l. as_entry (x * lanes + l, reason)) ls) (ap set_lanes (one_pow lane low) ∙ set_lanes-one lane low)
 
-pub in_lanes : (word lane : ℕ) → IsIn lane (lanes_in word) → (lane < 64) × (is_on word lane ≡ true)
-unfolding lanes_in
+pub in_lanes : (word lane : ℕ) → IsIn lane (set_lanes word) → (lane < 64) × (is_on word lane ≡ true)
+unfolding set_lanes
 in_lanes word lane i = let (j, t) = filter_in (is_on word) lane (below 64) i in (from_below 64 lane j, t)
 
-pub lanes_once : (word : ℕ) → HasNoRepeats (lanes_in word)
-unfolding lanes_in
+pub lanes_once : (word : ℕ) → HasNoRepeats (set_lanes word)
+unfolding set_lanes
 lanes_once word = HasNoRepeats-filter (is_on word) (below 64) (HasNoRepeats-below 64)
 
 -- ---- which pairs are listed after entries for the lanes of a row
 
 -- the pair at a lane of the row is listed where it was, or where its lane is one of them
 pub has_entry-lane : (L : List (Entry ℕ)) (first lost lane : ℕ) (reason : Reason) → lane < 64 →
-    has_entry (L ++ map (λ l. entry_of (first + l, reason)) (lanes_in lost)) (first + lane) ≡ (has_entry L (first + lane) || is_on lost lane)
-unfolding lanes_in
+    has_entry (L ++ map (λ l. as_entry (first + l, reason)) (set_lanes lost)) (first + lane) ≡ (has_entry L (first + lane) || is_on lost lane)
+unfolding set_lanes
 has_entry-lane L first lost lane reason low =
-    list_any-append (λ (x : Entry ℕ). eqb (first + lane) x.node) L (map (λ l. entry_of (first + l, reason)) (lanes_in lost))
-    ∙ ap (λ b. has_entry L (first + lane) || b) (list_any-map (λ l. entry_of (first + l, reason)) (λ (x : Entry ℕ). eqb (first + lane) x.node) (lanes_in lost)
-    ∙ same_test (list_any (λ l. eqb (first + lane) (first + l)) (lanes_in lost)) (is_on lost lane)
+    list_any-append (λ (x : Entry ℕ). eqb (first + lane) x.node) L (map (λ l. as_entry (first + l, reason)) (set_lanes lost))
+    ∙ ap (λ b. has_entry L (first + lane) || b) (list_any-map (λ l. as_entry (first + l, reason)) (λ (x : Entry ℕ). eqb (first + lane) x.node) (set_lanes lost)
+    ∙ same_test (list_any (λ l. eqb (first + lane) (first + l)) (set_lanes lost)) (is_on lost lane)
     (λ t.
-    let (l, i, e) = any_true (λ l. eqb (first + lane) (first + l)) (lanes_in lost) t in
+    let (l, i, e) = any_true (λ l. eqb (first + lane) (first + l)) (set_lanes lost) t in
     let equal = eqb-true (first + lane) (first + l) e in
     let same : l ≡ lane = omega arith in
     subst (λ j. IsTrue (is_on lost j)) same (filter_in (is_on lost) l (below 64) i).1)
-    (λ t. any_from (λ l. eqb (first + lane) (first + l)) lane (lanes_in lost) (in_filter (is_on lost) lane (below 64) (in_below 64 lane low) t) (eq-eqb (first + lane) (first + lane) refl)))
+    (λ t. any_from (λ l. eqb (first + lane) (first + l)) lane (set_lanes lost) (in_filter (is_on lost) lane (below 64) (in_below 64 lane low) t) (eq-eqb (first + lane) (first + lane) refl)))
 
 -- another pair is listed where it was
 pub has_entry-elsewhere : (L : List (Entry ℕ)) (first lost p : ℕ) (reason : Reason) → ((lane : ℕ) → lane < 64 → is_on lost lane ≡ true → p ≢ first + lane) →
-    has_entry (L ++ map (λ l. entry_of (first + l, reason)) (lanes_in lost)) p ≡ has_entry L p
-unfolding lanes_in
+    has_entry (L ++ map (λ l. as_entry (first + l, reason)) (set_lanes lost)) p ≡ has_entry L p
+unfolding set_lanes
 has_entry-elsewhere L first lost p reason apart =
-    list_any-append (λ (x : Entry ℕ). eqb p x.node) L (map (λ l. entry_of (first + l, reason)) (lanes_in lost))
-    ∙ (ap (λ b. has_entry L p || b) (list_any-map (λ l. entry_of (first + l, reason)) (λ (x : Entry ℕ). eqb p x.node) (lanes_in lost)
-    ∙ none_from (λ l. eqb p (first + l)) (lanes_in lost)
+    list_any-append (λ (x : Entry ℕ). eqb p x.node) L (map (λ l. as_entry (first + l, reason)) (set_lanes lost))
+    ∙ (ap (λ b. has_entry L p || b) (list_any-map (λ l. as_entry (first + l, reason)) (λ (x : Entry ℕ). eqb p x.node) (set_lanes lost)
+    ∙ none_from (λ l. eqb p (first + l)) (set_lanes lost)
     (λ l i. let (j, t) = filter_in (is_on lost) l (below 64) i in ne_eqb p (first + l) (apart l (from_below 64 l j) t)))
     ∙ or_off (has_entry L p))
   where

@@ -7,7 +7,7 @@ use Rattle.std.proofs.lemmas.List.{map_push, length-map}
 use Rattle.std.proofs.lemmas.Map.Keys.{IsDistinct-push}
 use Rattle.std.proofs.lemmas.Map.Steps.{length-le_from_distinct_below}
 use Rattle.roman_model.specs.Arena.{Entry}
-use Rattle.roman_order.specs.Board.{nodes_of, has_entry, place_of}
+use Rattle.roman_order.specs.Board.{nodes_of, has_entry, place_in_list}
 use Rattle.roman_order.specs.Sound.{IsPlaced, stamp_of}
 
 -- ---- places
@@ -85,9 +85,9 @@ cases_Option None = inl refl
 cases_Option (Some j) = inr (j, refl)
 
 -- the greatest stamp says that the pair isn't listed
-pub place_of-from_greatest : (L : List (Entry ℕ)) (p : ℕ) → length L < 2 ^ 32 → stamp_of L p ≡ 2 ^ 32 - 1 → None ≡ place_of L p
-place_of-from_greatest L p few e =
-    elim (cases_Option (place_of L p)) [
+pub place_in_list-from_greatest : (L : List (Entry ℕ)) (p : ℕ) → length L < 2 ^ 32 → stamp_of L p ≡ 2 ^ 32 - 1 → None ≡ place_in_list L p
+place_in_list-from_greatest L p few e =
+    elim (cases_Option (place_in_list L p)) [
       | inl n ↦ sym n
       | inr w ↦
           let bound = position_from-bound (λ (x : Entry ℕ). eqb p x.node) 0 L w.0 w.1 in
@@ -102,5 +102,5 @@ position_from-is_some : {X : Type 0} (test : X → Bool) (i : ℕ) (xs : List X)
 position_from-is_some test i [] = refl
 position_from-is_some test i (x ∷ xs) = elim (cases_Bool (test x)) [ inl t ↦ rw t | inr f ↦ rw f (position_from-is_some test (i + 1) xs) ]
 
-pub is_some-place_of : (L : List (Entry ℕ)) (p : ℕ) → is_some (place_of L p) ≡ has_entry L p
-is_some-place_of L p = position_from-is_some (λ (x : Entry ℕ). eqb p x.node) 0 L
+pub is_some-place_in_list : (L : List (Entry ℕ)) (p : ℕ) → is_some (place_in_list L p) ≡ has_entry L p
+is_some-place_in_list L p = position_from-is_some (λ (x : Entry ℕ). eqb p x.node) 0 L

@@ -6,7 +6,7 @@ use Rattle.roman_model.specs.Arena.{Entry}
 use Rattle.roman_model.specs.Lists.{IsIn, HasNoRepeats}
 use Rattle.roman_model.specs.declared.reason.Reason.{Reason}
 use Rattle.roman_lanes.specs.Rows.{is_on}
-use Rattle.roman_order.specs.Board.{entry_of, lanes_in, entries_in, has_entry}
+use Rattle.roman_order.specs.Board.{as_entry, set_lanes, entries_in, has_entry}
 use Rattle.roman_order.specs.Sound.{IsPlaced, entries_of}
 use Rattle.roman_order.specs.declared.removal.Removal.{Removal}
 use Rattle.roman_order.proofs.Lanes.{in_lanes, lanes_once}
@@ -33,22 +33,22 @@ pair_below rows lanes x lane row in_row = omega (arith, mul-add-lt x lanes lane 
 
 -- all of them may be added that aren't listed, each once
 IsPlaced-lanes : (n first : ℕ) (reason : Reason) (lanes : List ℕ) (L : List (Entry ℕ)) → HasNoRepeats lanes → ((lane : ℕ) → IsIn lane lanes → (first + lane < n) × (has_entry L (first + lane) ≡ false)) → IsPlaced n L →
-    IsPlaced n (L ++ map (λ lane. entry_of (first + lane, reason)) lanes)
+    IsPlaced n (L ++ map (λ lane. as_entry (first + lane, reason)) lanes)
 IsPlaced-lanes n first reason [] L once free placed = subst (IsPlaced n) (sym (append-nil L)) placed
 IsPlaced-lanes n first reason (lane ∷ lanes) L once free placed =
-    let x : Entry ℕ = entry_of (first + lane, reason) in
+    let x : Entry ℕ = as_entry (first + lane, reason) in
     let here = free lane (inl refl) in
     let other = λ (other : ℕ) (i : IsIn other lanes). has_entry-push_other L x (first + other) (λ e. let same : other ≡ lane = omega arith in once.0 (subst (λ l. IsIn l lanes) same i)) in
-    subst (IsPlaced n) (append_assoc L (x ∷ []) (map (λ lane. entry_of (first + lane, reason)) lanes))
+    subst (IsPlaced n) (append_assoc L (x ∷ []) (map (λ lane. as_entry (first + lane, reason)) lanes))
     (IsPlaced-lanes n first reason lanes (L ++ x ∷ []) once.1 (λ l i. ((free l (inr i)).0, other l i ∙ (free l (inr i)).1)) (IsPlaced-push n L x placed here.0 here.1))
 
 pub IsPlaced-row : (rows lanes x lost : ℕ) (reason : Reason) (L : List (Entry ℕ)) → x < rows → ((lane : ℕ) → is_on lost lane ≡ true → lane < lanes) → ((lane : ℕ) → is_on lost lane ≡ true → has_entry L (x * lanes + lane) ≡ false) → IsPlaced (rows * lanes) L →
     IsPlaced (rows * lanes) (L ++ entries_in lanes x lost reason)
 IsPlaced-row rows lanes x lost reason L row within alive placed =
-    IsPlaced-lanes (rows * lanes) (x * lanes) reason (lanes_in lost) L (lanes_once lost) (λ lane i. let on = (in_lanes lost lane i).1 in (pair_below rows lanes x lane row (within lane on), alive lane on)) placed
+    IsPlaced-lanes (rows * lanes) (x * lanes) reason (set_lanes lost) L (lanes_once lost) (λ lane i. let on = (in_lanes lost lane i).1 in (pair_below rows lanes x lane row (within lane on), alive lane on)) placed
 
 -- there is room for them
-pub room-row : (n lanes x lost : ℕ) (reason : Reason) (items : List Removal) → IsPlaced n (entries_of items ++ entries_in lanes x lost reason) → length items + length (lanes_in lost) ≤ n
+pub room-row : (n lanes x lost : ℕ) (reason : Reason) (items : List Removal) → IsPlaced n (entries_of items ++ entries_in lanes x lost reason) → length items + length (set_lanes lost) ≤ n
 room-row n lanes x lost reason items placed =
-    let f = λ (lane : ℕ). entry_of (x * lanes + lane, reason) in
-    omega (arith, length-le_from_apart n _ placed.apart placed.in_range, length-append (entries_of items) (map f (lanes_in lost)), length-map (lanes_in lost) f, length-map items entry_in)
+    let f = λ (lane : ℕ). as_entry (x * lanes + lane, reason) in
+    omega (arith, length-le_from_apart n _ placed.apart placed.in_range, length-append (entries_of items) (map f (set_lanes lost)), length-map (set_lanes lost) f, length-map items entry_in)

@@ -32,8 +32,8 @@ abbrev pub is_marked : Board → ℕ → Bool
 is_marked board p = has_flag board.marks p
 
 -- the entry of a pair and a reason
-abbrev pub entry_of : ℕ × Reason → Entry ℕ
-entry_of x = record { node = x.0; reason = x.1 }
+abbrev pub as_entry : ℕ × Reason → Entry ℕ
+as_entry x = record { node = x.0; reason = x.1 }
 
 -- the pairs of the entries
 abbrev pub nodes_of : List (Entry ℕ) → List ℕ
@@ -44,13 +44,13 @@ abbrev pub has_entry : List (Entry ℕ) → ℕ → Bool
 has_entry L p = list_any (λ x. p == x.node) L
 
 -- the place of the first entry of the pair p
-abbrev pub place_of : List (Entry ℕ) → ℕ → Option ℕ
-place_of L p = position_from (λ x. p == x.node) 0 L
+abbrev pub place_in_list : List (Entry ℕ) → ℕ → Option ℕ
+place_in_list L p = position_from (λ x. p == x.node) 0 L
 
 -- the lanes whose bits are set, rising
-unfoldable pub lanes_in : ℕ → List ℕ
-lanes_in word = filter (is_on word) (below 64)
+unfoldable pub set_lanes : ℕ → List ℕ
+set_lanes word = filter (is_on word) (below 64)
 
 -- the entries of those pairs of a row, for one reason
 abbrev pub entries_in : ℕ → ℕ → ℕ → Reason → List (Entry ℕ)
-entries_in lanes row word reason = map (λ lane. entry_of (row * lanes + lane, reason)) (lanes_in word)
+entries_in lanes row word reason = map (λ lane. as_entry (row * lanes + lane, reason)) (set_lanes word)

@@ -3,7 +3,7 @@ use Rattle.std.specs.Prelude.{◌≡◌, ℕ, ◌+◌, ◌-◌, ◌*◌, ◌/◌
 use Rattle.std.specs.List.{IsDistinct}
 use Rattle.roman_model.specs.Arena.{Entry}
 use Rattle.roman_lanes.specs.Rows.{AreRows}
-use Rattle.roman_order.specs.Board.{Board, nodes_of, has_entry, place_of}
+use Rattle.roman_order.specs.Board.{Board, nodes_of, has_entry, place_in_list}
 use Rattle.roman_order.specs.declared.removal.Removal.{Removal}
 use Rattle.roman_order.specs.declared.order.Order.TheInside.{Inside}
 
@@ -12,15 +12,15 @@ abbrev pub entries_of : List Removal → List (Entry ℕ)
 entries_of xs = map (λ x. record { node = x.pair; reason = x.reason }) xs
 
 -- the removal list
-abbrev pub list_of : Inside → List (Entry ℕ)
-list_of a = entries_of a.entries.items
+abbrev pub removal_list : Inside → List (Entry ℕ)
+removal_list a = entries_of a.entries.items
 
 abbrev pub board_of : Inside → Board
 board_of a = record {
   cap_pairs = a.room;
   rows = a.rows;
   lanes = a.lanes;
-  list = list_of a;
+  list = removal_list a;
   waiting = entries_of (drop a.next a.waiting.items);
   marks = a.marks.items;
   before = a.before.items;
@@ -29,7 +29,7 @@ board_of a = record {
 
 -- the place of the pair in the list, or the greatest stamp where it isn't listed
 abbrev pub stamp_of : List (Entry ℕ) → ℕ → ℕ
-stamp_of L p = unwrap_or (place_of L p) (2 ^ 32 - 1)
+stamp_of L p = unwrap_or (place_in_list L p) (2 ^ 32 - 1)
 
 -- the pairs of the list differ and are in range
 pub record IsPlaced (pairs : ℕ) (L : List (Entry ℕ)) : Type 0 where
@@ -42,9 +42,9 @@ AreStamps L stamps = (p : ℕ) → p < length stamps → slice_index stamps p �
 
 -- the tables are as long as the shape needs but for the stamps, say what the list does, and have room for the greatest number of pairs
 pub record IsSound (a : Inside) : Type 0 where
-  pub placed : IsPlaced (a.rows * a.lanes) (list_of a)
-  pub stamped : AreStamps (list_of a) a.stamps.items
-  pub alive : AreRows a.lanes (λ p. not (has_entry (list_of a) p)) a.words.items
+  pub placed : IsPlaced (a.rows * a.lanes) (removal_list a)
+  pub stamped : AreStamps (removal_list a) a.stamps.items
+  pub alive : AreRows a.lanes (λ p. not (has_entry (removal_list a) p)) a.words.items
   pub few_lanes : (0 < a.lanes) × (a.lanes ≤ 64)
   pub room : a.rows * a.lanes ≤ a.room
   pub few : a.room < 2 ^ 32

@@ -3,7 +3,7 @@ ghost use Rattle.std.specs.Prelude.{◌≡◌, ℕ, ◌+◌, ◌*◌, ◌/◌, �
 ghost use Rattle.std.specs.Prelude.{IfOk, IfSome, IfNone};
 ghost use Rattle.std.specs.List.{IsDistinct};
 ghost use Rattle.roman_model.specs.Lists.{below};
-ghost use Rattle.roman_order.specs.Board.{pairs_of, entry_of, nodes_of, has_entry, is_marked};
+ghost use Rattle.roman_order.specs.Board.{pairs_of, as_entry, nodes_of, has_entry, is_marked};
 
 mod levels;
 mod marks;
@@ -195,7 +195,7 @@ impl Order {
     /// Takes the first entry that waits, or `None` where none does.
     pub fn next_waiting(&mut self) -> Option<(u32, Reason)>
         ensures none { IfNone result ((self.old.waiting ≡ []) × (self.new ≡ self.old)) }
-        ensures first { IfSome result (λ x. self.old.waiting ≡ entry_of x ∷ self.new.waiting) }
+        ensures first { IfSome result (λ x. self.old.waiting ≡ as_entry x ∷ self.new.waiting) }
         ensures rest { self.new ≡ record self.old { waiting = self.new.waiting } }
     {
         if self.next == self.waiting.len() {
@@ -231,7 +231,7 @@ impl Order {
     /// The entry at place `i` of the list: the pair, and why it was removed.
     pub fn entry(&self, i: u32) -> (u32, Reason)
         requires { i < length self.now.list }
-        ensures { slice_get self.now.list i ≡ Some (entry_of result) }
+        ensures { slice_get self.now.list i ≡ Some (as_entry result) }
     {
         let entry = self.entries[i as usize];
         (entry.pair, entry.reason)

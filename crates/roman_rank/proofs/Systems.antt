@@ -13,7 +13,7 @@ use Rattle.roman_joint.specs.NamedSys.{NamedSys, system_of, IsNamedSys}
 use Rattle.roman_order.specs.Board.{Board, pairs_of, has_entry}
 use Rattle.roman_relation.specs.Shaped.{IsShaped}
 use Rattle.roman_relation.specs.Settled.{IsSettled, AreLevels}
-use Rattle.roman_relation.specs.Greatest.{arena_of, lanes_of, HasCompleteList}
+use Rattle.roman_relation.specs.Greatest.{arena_of, row_lanes, HasCompleteList}
 use Rattle.roman_relation.proofs.Relating.{listed_numbers}
 use Rattle.roman_rules.specs.Numbered.{IsNumbered}
 use Rattle.roman_rules.proofs.NumberedFacts.{numbered_arena, in_nodes, from_nodes}
@@ -29,7 +29,7 @@ few_pairs n known =
     omega (arith, length-below m, mul-le-mul_left m one, known.fits, known.limit.1)
 
 -- a complete list has every pair that is lost
-pub complete_all : (n : NamedSys) (board : Board) → IsNamedSys n → HasCompleteList n board → IsShaped (arena_of n) (lanes_of n) board → ((p : ℕ) → has_entry board.list p ≡ true → p < pairs_of board) →
+pub complete_all : (n : NamedSys) (board : Board) → IsNamedSys n → HasCompleteList n board → IsShaped (arena_of n) (row_lanes n) board → ((p : ℕ) → has_entry board.list p ≡ true → p < pairs_of board) →
     HoldsAllLost (arena_of n) board.list
 complete_all n board known complete shaped in_range = record {
   each = λ p l m t.

@@ -6,7 +6,7 @@ ghost use Rattle.roman_model.specs.Numbers.{sizes_of, pair_at};
 ghost use Rattle.roman_model.specs.Offers.{related_count};
 ghost use Rattle.roman_joint.specs.NamedSys.{system_of};
 ghost use Rattle.roman_relation.specs.Shaped.{IsShaped};
-ghost use Rattle.roman_relation.specs.Greatest.{arena_of, lanes_of, HasCompleteList};
+ghost use Rattle.roman_relation.specs.Greatest.{arena_of, row_lanes, HasCompleteList};
 ghost use Rattle.roman_rank.specs.Depths.{IsLeast, IsGreatest, depth_count};
 ghost use Rattle.roman_rank.specs.Ranking.{depth_in, AreDepths, AreRanks, IsRanking};
 
@@ -51,7 +51,7 @@ impl Ranks {
         steps: &mut Steps<L>,
     ) -> Result<Ranks, AllocError>
         requires complete { HasCompleteList relation.now.joint relation.now.order }
-        requires shaped { IsShaped (arena_of relation.now.joint) (lanes_of relation.now.joint) relation.now.order }
+        requires shaped { IsShaped (arena_of relation.now.joint) (row_lanes relation.now.joint) relation.now.order }
         ensures depths { IfOk result (AreDepths (system_of relation.now.joint)) }
     {
         relation.joint.known();
@@ -119,7 +119,7 @@ fn depths_of<L: Ledger>(
     steps: &mut Steps<L>,
 ) -> Result<Vec<u32>, AllocError>
     requires complete { HasCompleteList relation.now.joint relation.now.order }
-    requires shaped { IsShaped (arena_of relation.now.joint) (lanes_of relation.now.joint) relation.now.order }
+    requires shaped { IsShaped (arena_of relation.now.joint) (row_lanes relation.now.joint) relation.now.order }
     ensures { IfOk result (λ depths. AreRanks (arena_of relation.now.joint) depths.items) }
 {
     relation.joint.known();

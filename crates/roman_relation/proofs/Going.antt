@@ -6,16 +6,16 @@ use Rattle.roman_model.specs.Arena.{Arena, Entry, IsOrder, fall}
 use Rattle.roman_model.proofs.WorkLemmas.{fall_append}
 use Rattle.roman_order.specs.Board.{Board, pairs_of}
 use Rattle.roman_relation.specs.Shaped.{IsShaped}
-use Rattle.roman_relation.specs.Settled.{Begins, GoesOn}
+use Rattle.roman_relation.specs.Settled.{Begins, SettlesOn}
 use Rattle.roman_relation.proofs.Beginnings.{begins_itself, begins_on}
 
 pub begins_append : (L M : List (Entry ℕ)) → Begins L (L ++ M)
 begins_append L M = take-append_seam L M
 
-pub goes_on_itself : (A : Arena ℕ) (b : Board) → IsOrder A b.list → GoesOn A b b
+pub goes_on_itself : (A : Arena ℕ) (b : Board) → IsOrder A b.list → SettlesOn A b b
 goes_on_itself A b order = record { valid = order; begins = begins_itself b.list; rest = refl }
 
-pub goes_on_on : (A : Arena ℕ) (a b c : Board) → GoesOn A a b → GoesOn A b c → GoesOn A a c
+pub goes_on_on : (A : Arena ℕ) (a b c : Board) → SettlesOn A a b → SettlesOn A b c → SettlesOn A a c
 goes_on_on A a b c p q = record {
   valid = q.valid;
   begins = begins_on a.list b.list c.list p.begins q.begins;
@@ -23,7 +23,7 @@ goes_on_on A a b c p q = record {
 }
 
 -- what has the shape and has gone on has the shape
-pub shaped_on : (A : Arena ℕ) (lanes : ℕ) (b c : Board) → IsShaped A lanes b → GoesOn A b c → IsShaped A lanes c
+pub shaped_on : (A : Arena ℕ) (lanes : ℕ) (b c : Board) → IsShaped A lanes b → SettlesOn A b c → IsShaped A lanes c
 shaped_on A lanes b c s g = record {
   pairs = ap (λ (x : Board). pairs_of x) g.rest ∙ s.pairs;
   lanes = ap (λ (x : Board). x.lanes) g.rest ∙ s.lanes;
@@ -34,8 +34,8 @@ pub front_kept : (start : ℕ) (L M : List (Entry ℕ)) → start ≤ length L �
 front_kept start L M l = take-append-le start L M l
 
 -- by entries that a removal list can have next
-pub goes_on_added : (A : Arena ℕ) (b c : Board) (M : List (Entry ℕ)) → IsOrder A (b.list ++ M) → c ≡ record b { list = b.list ++ M } → GoesOn A b c
-goes_on_added A b c M order e = subst (λ (d : Board). GoesOn A b d) (sym e) (record { valid = order; begins = begins_append b.list M; rest = refl })
+pub goes_on_added : (A : Arena ℕ) (b c : Board) (M : List (Entry ℕ)) → IsOrder A (b.list ++ M) → c ≡ record b { list = b.list ++ M } → SettlesOn A b c
+goes_on_added A b c M order e = subst (λ (d : Board). SettlesOn A b d) (sym e) (record { valid = order; begins = begins_append b.list M; rest = refl })
 
 pub begins_added : (b c : Board) (M : List (Entry ℕ)) → c ≡ record b { list = b.list ++ M } → Begins b.list c.list
 begins_added b c M e = subst (λ (d : Board). Begins b.list d.list) (sym e) (begins_append b.list M)

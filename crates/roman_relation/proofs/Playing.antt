@@ -14,12 +14,12 @@ use Rattle.roman_rules.specs.Numbered.{IsNumbered}
 use Rattle.roman_rules.proofs.NumberedFacts.{numbered_same}
 use Rattle.roman_order.specs.Board.{Board, has_entry, is_marked}
 use Rattle.roman_relation.specs.Settled.{Begins, IsSettled, HoldsLost}
-use Rattle.roman_relation.specs.Rounds.{AreUnlisted, AwaitsRound, InRound, IsJudged, IsDone, IsMarking, on_at}
+use Rattle.roman_relation.specs.Rounds.{AreUnlisted, AwaitsRound, InRound, IsJudged, IsPairJudged, IsMarking, on_at}
 use Rattle.roman_relation.proofs.Beginnings.{listed_is, begins_listed, begins_unlisted, take_listed}
 use Rattle.roman_relation.proofs.Lanes.{at_pair, on_lane}
 
 -- all actions are judged
-pub done_all : (A : Arena ℕ) → IsNumbered A → (start p n : ℕ) (c : Board) → A.actions ≤ n → ((a : ℕ) → a < n → IsJudged A start c p a) → IsDone A start c p
+pub done_all : (A : Arena ℕ) → IsNumbered A → (start p n : ℕ) (c : Board) → A.actions ≤ n → ((a : ℕ) → a < n → IsJudged A start c p a) → IsPairJudged A start c p
 done_all A ok start p n c enough judged a off = by_test (A.allows p a)
     (λ t. judged a (let l : a < A.actions = ok.allowed p a t in omega arith) off)
     (λ refused. unallowed_unjustified A (is_listed A (take start c.list)) p a refused)
@@ -37,7 +37,7 @@ round_begins A lanes start b e ready =
 
 -- after the marked rows were judged all pairs are done
 pub all_done : (A : Arena ℕ) (lanes start : ℕ) (b c : Board) → start ≡ length b.list → AwaitsRound A lanes b → Begins b.list c.list →
-    ((p : ℕ) → p < length A.nodes → is_marked b (p / lanes) ≡ true → IsDone A start c p) → (p : ℕ) → p < length A.nodes → IsDone A start c p
+    ((p : ℕ) → p < length A.nodes → is_marked b (p / lanes) ≡ true → IsPairJudged A start c p) → (p : ℕ) → p < length A.nodes → IsPairJudged A start c p
 all_done A lanes start b c e ready begins done p l a off = by_test (is_marked b (p / lanes))
     (λ t. done p l t a off)
     (λ f. subst (λ L. IsFalse (is_justified A (is_listed A L) p (Act a))) (sym (ap (λ n. take n c.list) e ∙ begins)) (ready.served p a l f (begins_unlisted A b.list c.list p begins off)))
@@ -75,7 +75,7 @@ kept_ends A lanes start d some long marking = record {
     below_all row lane h l = let m = mul-add-lt row lanes lane (length d.before) h l in omega (arith, m)
 
 -- pairs of rows that aren't marked are served
-pub served_next : (A : Arena ℕ) → IsNumbered A → (lanes start : ℕ) (d : Board) → IsMarking A lanes start (length d.list) d → ((p : ℕ) → p < length A.nodes → IsDone A start d p) →
+pub served_next : (A : Arena ℕ) → IsNumbered A → (lanes start : ℕ) (d : Board) → IsMarking A lanes start (length d.list) d → ((p : ℕ) → p < length A.nodes → IsPairJudged A start d p) →
     (p a : ℕ) → p < length A.nodes → is_marked d (p / lanes) ≡ false → IsFalse (is_listed A d.list p) → IsFalse (is_justified A (is_listed A d.list) p (Act a))
 served_next A ok lanes start d marking done p a l unmarked off =
     sym (justified_same A (is_listed A (take start d.list)) (is_listed A d.list) p (Act a) same) ∙ done p l a off
@@ -90,7 +90,7 @@ served_next A ok lanes start d marking done p a l unmarked off =
 
 -- ---- what a round lists
 
-pub lost_more : (A : Arena ℕ) → IsNumbered A → (lanes start n : ℕ) (b c : Board) → start ≡ length b.list → Begins b.list c.list → InRound A lanes start c → ((p : ℕ) → p < length A.nodes → IsDone A start c p) →
+pub lost_more : (A : Arena ℕ) → IsNumbered A → (lanes start n : ℕ) (b c : Board) → start ≡ length b.list → Begins b.list c.list → InRound A lanes start c → ((p : ℕ) → p < length A.nodes → IsPairJudged A start c p) →
     HoldsLost A n b.list → HoldsLost A (suc n) c.list
 lost_more A ok lanes start n b c here begins round done holds = record {
   each = λ p l. same_test (is_listed A c.list p) (loses A (suc n) p)
@@ -114,7 +114,7 @@ lost_more A ok lanes start n b c here begins round done holds = record {
     judged p a l = ap (λ L. is_justified A (is_listed A L) p (Act a)) front ∙ justified_same A (is_listed A b.list) (loses A n) p (Act a) (λ d k q i. holds.each q (ok.closed p d k q l i))
 
 -- a round that adds nothing is the last
-pub settled_round : (A : Arena ℕ) → IsNumbered A → (start : ℕ) (c : Board) → IsOrder A c.list → start ≡ length c.list → ((p : ℕ) → p < length A.nodes → IsDone A start c p) →
+pub settled_round : (A : Arena ℕ) → IsNumbered A → (start : ℕ) (c : Board) → IsOrder A c.list → start ≡ length c.list → ((p : ℕ) → p < length A.nodes → IsPairJudged A start c p) →
     ((p : ℕ) → p < length A.nodes → IsFalse (is_listed A c.list p) → IsTrue (A.fine p)) → ((p : ℕ) → has_entry c.list p ≡ true → p < length A.nodes) → IsSettled A c.list
 settled_round A ok start c valid here done fine in_range = record {
   nodes = λ x i. in_range x.node (sym (listed_is A ok c.list x.node) ∙ in_listed A (numbered_same A ok) c.list x i);

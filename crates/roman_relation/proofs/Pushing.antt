@@ -13,7 +13,7 @@ use Rattle.roman_lanes.specs.Rows.{is_on, HasLanes}
 use Rattle.roman_lanes.proofs.RowBits.{on_and}
 use Rattle.roman_rules.specs.Numbered.{IsNumbered}
 use Rattle.roman_rules.proofs.NumberedFacts.{numbered_same}
-use Rattle.roman_order.specs.Board.{Board, entry_of, lanes_in, entries_in}
+use Rattle.roman_order.specs.Board.{Board, as_entry, set_lanes, entries_in}
 use Rattle.roman_order.proofs.Lanes.{in_lanes, lanes_once, has_entry-lane}
 use Rattle.roman_relation.specs.Settled.{Begins}
 use Rattle.roman_relation.specs.Rounds.{AreUnlisted, InRound, IsJudged, falls}
@@ -23,10 +23,10 @@ use Rattle.roman_relation.proofs.Going.{front_kept}
 -- ---- a removal list with the entries of some lanes, for one reason that held before them
 
 pub order_lanes : (A : Arena ℕ) → IsNumbered A → (gone : ℕ → Bool) (first : ℕ) (reason : Reason) (L : List (Entry ℕ)) (ls : List ℕ) → IsOrder A L → HasNoRepeats ls → ((q : ℕ) → IsTrue (gone q) → IsTrue (is_listed A L q)) →
-    ((l : ℕ) → IsIn l ls → IsFalse (is_listed A L (first + l)) × IsTrue (is_justified A gone (first + l) reason)) → IsOrder A (L ++ map (λ l. entry_of (first + l, reason)) ls)
+    ((l : ℕ) → IsIn l ls → IsFalse (is_listed A L (first + l)) × IsTrue (is_justified A gone (first + l) reason)) → IsOrder A (L ++ map (λ l. as_entry (first + l, reason)) ls)
 order_lanes A ok gone first reason L [] order once less each = subst (IsOrder A) (sym (append-nil L)) order
 order_lanes A ok gone first reason L (l ∷ ls) order once less each =
-    let f : ℕ → Entry ℕ = λ i. entry_of (first + i, reason) in
+    let f : ℕ → Entry ℕ = λ i. as_entry (first + i, reason) in
     let (new, because) = each l (inl refl) in
     let holds : IsTrue (is_justified A (is_listed A L) (first + l) reason) = justified_more A gone (is_listed A L) (first + l) reason (λ a k q i t. less q t) because in
     subst (IsOrder A) (append_assoc L (f l ∷ []) (map f ls))
@@ -43,7 +43,7 @@ pub listed_lane : (A : Arena ℕ) → IsNumbered A → (lanes row lost : ℕ) (r
     (lane : ℕ) × (lane < 64) × (is_on lost lane ≡ true) × (q ≡ row * lanes + lane)
 listed_lane A ok lanes row lost reason q t =
     let (x, i, e) = listed_in A (numbered_same A ok) (entries_in lanes row lost reason) q t in
-    let (lane, j, f) = from_map (λ l. entry_of (row * lanes + l, reason)) x (lanes_in lost) i in
+    let (lane, j, f) = from_map (λ l. as_entry (row * lanes + l, reason)) x (set_lanes lost) i in
     let (low, on) = in_lanes lost lane j in
     (lane, low, on, e ∙ ap (λ (y : Entry ℕ). y.node) f)
 
@@ -75,7 +75,7 @@ unfine_word A L lanes row bits word few fails left = record {
 
 pub unfine_order : (A : Arena ℕ) → IsNumbered A → (L : List (Entry ℕ)) (lanes row lost : ℕ) → IsUnfine A L lanes row lost → IsOrder A L → IsOrder A (L ++ entries_in lanes row lost Final)
 unfine_order A ok L lanes row lost is order =
-    order_lanes A ok (is_listed A L) (row * lanes) Final L (lanes_in lost) order (lanes_once lost) (λ q t. t)
+    order_lanes A ok (is_listed A L) (row * lanes) Final L (set_lanes lost) order (lanes_once lost) (λ q t. t)
     (λ lane i.
     let (low, on) = in_lanes lost lane i in
     let p = row * lanes + lane in
@@ -127,7 +127,7 @@ lost_word A start L lanes row a lost word few action left is none = record {
 pub lost_round : (A : Arena ℕ) → IsNumbered A → (lanes start row a lost : ℕ) (b c : Board) → IsLost A start b.list lanes row a lost → c ≡ record b { list = b.list ++ entries_in lanes row lost (Act a) } →
     InRound A lanes start b → InRound A lanes start c
 lost_round A ok lanes start row a lost b c is e round = subst (InRound A lanes start) (sym e) (record {
-  valid = order_lanes A ok (is_listed A (take start b.list)) (row * lanes) (Act a) b.list (lanes_in lost) round.valid (lanes_once lost) (λ q t. take_listed A start b.list q t) each;
+  valid = order_lanes A ok (is_listed A (take start b.list)) (row * lanes) (Act a) b.list (set_lanes lost) round.valid (lanes_once lost) (λ q t. take_listed A start b.list q t) each;
   begun = omega (arith, round.begun, length-append b.list more);
   kept = subst (λ L. AreUnlisted A lanes L b.before) (sym front) round.kept;
   because = λ q t. subst (λ L. IsTrue (is_listed A L q) ⊎ IsTrue (falls A L q)) (sym front)
@@ -150,7 +150,7 @@ lost_round A ok lanes start row a lost b c is e round = subst (InRound A lanes s
     parts : (lane : ℕ) → is_on lost lane ≡ true → IsTrue (not (is_listed A b.list (row * lanes + lane))) × IsTrue (is_justified A (is_listed A (take start b.list)) (row * lanes + lane) (Act a))
     parts lane on = and_parts (not (is_listed A b.list (row * lanes + lane))) (is_justified A (is_listed A (take start b.list)) (row * lanes + lane) (Act a)) (sym (is.is lane (is.within lane on)) ∙ on)
 
-    each : (lane : ℕ) → IsIn lane (lanes_in lost) → IsFalse (is_listed A b.list (row * lanes + lane)) × IsTrue (is_justified A (is_listed A (take start b.list)) (row * lanes + lane) (Act a))
+    each : (lane : ℕ) → IsIn lane (set_lanes lost) → IsFalse (is_listed A b.list (row * lanes + lane)) × IsTrue (is_justified A (is_listed A (take start b.list)) (row * lanes + lane) (Act a))
     each lane i = let (low, on) = in_lanes lost lane i in (not-true (is_listed A b.list (row * lanes + lane)) (parts lane on).0, (parts lane on).1)
 
 pub lost_judged : (A : Arena ℕ) → IsNumbered A → (lanes start row a lost lane : ℕ) (b c : Board) → IsLost A start b.list lanes row a lost → c ≡ record b { list = b.list ++ entries_in lanes row lost (Act a) } →

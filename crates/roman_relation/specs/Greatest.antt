@@ -13,8 +13,8 @@ abbrev pub arena_of : NamedSys → Arena ℕ
 arena_of joint = numbered (system_of joint)
 
 -- how many pairs a row of the joint has
-abbrev pub lanes_of : NamedSys → ℕ
-lanes_of joint = lanes_in (system_of joint)
+abbrev pub row_lanes : NamedSys → ℕ
+row_lanes joint = lanes_in (system_of joint)
 
 -- the order has room for just as many pairs as a system within the joint's limit may have
 pub record HasCaps (joint : NamedSys) (order : Board) : Type 0 where
@@ -30,5 +30,5 @@ pub record HasCompleteList (joint : NamedSys) (order : Board) : Type 0 where
 -- for every system within the limit
 pub record IsRelation (joint : NamedSys) (order : Board) : Type 0 where
   pub complete : HasCompleteList joint order
-  pub shaped : IsShaped (arena_of joint) (lanes_of joint) order
+  pub shaped : IsShaped (arena_of joint) (row_lanes joint) order
   pub caps : HasCaps joint order

@@ -39,8 +39,8 @@ abbrev pub IsJudged : Arena ℕ → ℕ → Board → ℕ → ℕ → Type 0
 IsJudged A start board p a = IsFalse (is_listed A board.list p) → IsFalse (is_justified A (is_listed A (take start board.list)) p (Act a))
 
 -- p is judged for each action
-abbrev pub IsDone : Arena ℕ → ℕ → Board → ℕ → Type 0
-IsDone A start board p = (a : ℕ) → IsJudged A start board p a
+abbrev pub IsPairJudged : Arena ℕ → ℕ → Board → ℕ → Type 0
+IsPairJudged A start board p = (a : ℕ) → IsJudged A start board p a
 
 -- the bit of a pair
 abbrev pub on_at : ℕ → List ℕ → ℕ → Bool

@@ -10,7 +10,7 @@ abbrev pub Begins : List (Entry ℕ) → List (Entry ℕ) → Type 0
 Begins L M = take (length L) M ≡ L
 
 -- the new order has a removal list that begins with the old one's, and nothing else has changed but marks and kept words
-pub record GoesOn (A : Arena ℕ) (old new : Board) : Type 0 where
+pub record SettlesOn (A : Arena ℕ) (old new : Board) : Type 0 where
   pub valid : IsOrder A new.list
   pub begins : Begins old.list new.list
   pub rest : new ≡ record old { list = new.list; marks = new.marks; before = new.before }

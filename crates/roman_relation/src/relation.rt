@@ -12,7 +12,7 @@ ghost use Rattle.roman_joint.specs.Parts.{HasSameParts};
 ghost use Rattle.roman_order.specs.Board.{has_entry};
 ghost use Rattle.roman_relation.specs.Shaped.{IsShaped};
 ghost use Rattle.roman_relation.specs.Settled.{Begins, RisesByDepth, AreLevels};
-ghost use Rattle.roman_relation.specs.Greatest.{arena_of, lanes_of, HasCaps, HasCompleteList};
+ghost use Rattle.roman_relation.specs.Greatest.{arena_of, row_lanes, HasCaps, HasCompleteList};
 
 use crate::masks;
 use crate::rounds::settle_list;
@@ -50,7 +50,7 @@ impl Relation {
         ensures complete { IfOk result (λ relation. HasCompleteList relation.joint relation.order) }
         ensures rises { IfOk result (λ relation. RisesByDepth (arena_of relation.joint) relation.order.list) }
         ensures levels { IfOk result (λ relation. AreLevels (arena_of relation.joint) relation.order.levels relation.order.list) }
-        ensures shaped { IfOk result (λ relation. IsShaped (arena_of relation.joint) (lanes_of relation.joint) relation.order) }
+        ensures shaped { IfOk result (λ relation. IsShaped (arena_of relation.joint) (row_lanes relation.joint) relation.order) }
         ensures caps { IfOk result (λ relation. HasCaps relation.joint relation.order) }
     {
         joint.known();
@@ -87,7 +87,7 @@ impl Relation {
 
     /// Whether the pair `p` is related.
     pub fn related(&self, p: u32) -> bool
-        requires shaped { IsShaped (arena_of self.now.joint) (lanes_of self.now.joint) self.now.order }
+        requires shaped { IsShaped (arena_of self.now.joint) (row_lanes self.now.joint) self.now.order }
         requires pair { p < count (sizes_of (system_of self.now.joint)) }
         ensures listed { result ≡ not (has_entry self.now.order.list p) }
         ensures great { let s = system_of self.now.joint in
@@ -101,7 +101,7 @@ impl Relation {
 
     /// How many pairs are related.
     pub fn count(&self) -> u32
-        requires { IsShaped (arena_of self.now.joint) (lanes_of self.now.joint) self.now.order }
+        requires { IsShaped (arena_of self.now.joint) (row_lanes self.now.joint) self.now.order }
         ensures listed { result + length self.now.order.list
             ≡ count (sizes_of (system_of self.now.joint)) }
         ensures related { let s = system_of self.now.joint in
@@ -115,7 +115,7 @@ impl Relation {
     /// The mask of the pair `p` and the action `a`, whether the pair is related or not: bit k is set
     /// exactly where service k has an outcome there, and none that is listed.
     pub fn mask(&self, p: u32, a: u8) -> u32
-        requires shaped { IsShaped (arena_of self.now.joint) (lanes_of self.now.joint) self.now.order }
+        requires shaped { IsShaped (arena_of self.now.joint) (row_lanes self.now.joint) self.now.order }
         requires pair { p < count (sizes_of (system_of self.now.joint)) }
         requires action { a < (system_of self.now.joint).env.actions }
         ensures { let A = arena_of self.now.joint in
@@ -141,7 +141,7 @@ impl Relation {
 
     /// How many seats the masks of all pairs, related or not, have together.
     pub fn choices(&self) -> u64
-        requires { IsShaped (arena_of self.now.joint) (lanes_of self.now.joint) self.now.order }
+        requires { IsShaped (arena_of self.now.joint) (row_lanes self.now.joint) self.now.order }
         ensures { HasCompleteList self.now.joint self.now.order
             → result ≡ choice_count (system_of self.now.joint) }
     {
@@ -158,7 +158,7 @@ impl Relation {
         ensures complete { HasCompleteList self.new.joint self.new.order }
         ensures rises { RisesByDepth (arena_of self.new.joint) self.new.order.list }
         ensures levels { AreLevels (arena_of self.new.joint) self.new.order.levels self.new.order.list }
-        ensures shaped { IsShaped (arena_of self.new.joint) (lanes_of self.new.joint) self.new.order }
+        ensures shaped { IsShaped (arena_of self.new.joint) (row_lanes self.new.joint) self.new.order }
         ensures caps { HasCaps self.new.joint self.new.order }
     {
         self.joint.known();
@@ -170,7 +170,7 @@ impl Relation {
     /// Goes on from a removal list to a complete one. The steps are at most as many as delegations lead to
     /// the pairs that are added.
     pub fn settle<L: Ledger>(&mut self, steps: &mut Steps<L>)
-        requires shaped { IsShaped (arena_of self.old.joint) (lanes_of self.old.joint) self.old.order }
+        requires shaped { IsShaped (arena_of self.old.joint) (row_lanes self.old.joint) self.old.order }
         requires valid { IsOrder (arena_of self.old.joint) self.old.order.list }
         requires idle { self.old.order.waiting ≡ [] }
         ensures complete { HasCompleteList self.new.joint self.new.order }

@@ -3,7 +3,7 @@ ghost use Rattle.std.specs.Prelude.{◌≡◌, ◌≢◌, ℕ, suc, ◌+◌, ◌
 ghost use Rattle.std.specs.Prelude.{length, drop, IsTrue};
 ghost use Rattle.roman_model.specs.Arena.{IsOrder, fall};
 ghost use Rattle.roman_relation.specs.Shaped.{IsShaped};
-ghost use Rattle.roman_relation.specs.Settled.{Begins, GoesOn, IsSettled, HoldsLost, RisesByDepth, AreLevels};
+ghost use Rattle.roman_relation.specs.Settled.{Begins, SettlesOn, IsSettled, HoldsLost, RisesByDepth, AreLevels};
 ghost use Rattle.roman_relation.specs.Rounds.{AwaitsRound};
 
 mod judging;
@@ -23,7 +23,7 @@ pub fn begin_rounds<J: Rules>(joint: &J, order: &mut Order)
     requires shaped { IsShaped (J.arena joint.now) (J.lanes joint.now) order.old }
     requires valid { IsOrder (J.arena joint.now) order.old.list }
     ensures ready { AwaitsRound (J.arena joint.now) (J.lanes joint.now) order.new }
-    ensures goes_on { GoesOn (J.arena joint.now) order.old order.new }
+    ensures goes_on { SettlesOn (J.arena joint.now) order.old order.new }
     ensures lost { order.old.list ≡ [] → HoldsLost (J.arena joint.now) 0 order.new.list }
 {
     joint.known();
@@ -41,7 +41,7 @@ pub fn begin_rounds<J: Rules>(joint: &J, order: &mut Order)
 pub fn play_round<J: Rules, L: Ledger>(joint: &J, order: &mut Order, steps: &mut Steps<L>)
     requires ready { AwaitsRound (J.arena joint.now) (J.lanes joint.now) order.old }
     ensures ready { AwaitsRound (J.arena joint.now) (J.lanes joint.now) order.new }
-    ensures goes_on { GoesOn (J.arena joint.now) order.old order.new }
+    ensures goes_on { SettlesOn (J.arena joint.now) order.old order.new }
     ensures lost { (n : ℕ) → HoldsLost (J.arena joint.now) n order.old.list →
         HoldsLost (J.arena joint.now) (suc n) order.new.list }
     ensures settled { length order.new.list ≡ length order.old.list →

@@ -7,7 +7,7 @@ use Rattle.roman_model.specs.Change.{Die, CanChange}
 use Rattle.roman_model.specs.Numbers.{sizes_of}
 use Rattle.roman_model.proofs.NumberedChanges.{size_at}
 use Rattle.roman_parts.specs.Named.{NamedBeh}
-use Rattle.roman_joint.specs.Behaviours.{IsBehaviourOf}
+use Rattle.roman_joint.specs.Behaviours.{IsSeatBehaviour}
 use Rattle.roman_joint.specs.NamedSys.{NamedSys, IsNamedSys, system_of, seat_of}
 use Rattle.roman_joint.specs.declared.seat.Seat as joint
 use Rattle.roman_joint.proofs.BehaviourLemmas.{Behaves, behaves, seat_read}
@@ -35,7 +35,7 @@ loose_goes n k b here seat there seated loose =
     ap not loose ∙ sym (ap (λ r. not r || is_final seat.beh b) (sym rests ∙ loose))
 
 -- and one that rests its final states
-pub final_goes : (n : NamedSys) (k b : ℕ) (here : joint.Seat) (beh : NamedBeh) (final : Bool) (seat : Seat) → IsNamedSys n → slice_get n.seats k ≡ Some here → IsBehaviourOf n k beh →
+pub final_goes : (n : NamedSys) (k b : ℕ) (here : joint.Seat) (beh : NamedBeh) (final : Bool) (seat : Seat) → IsNamedSys n → slice_get n.seats k ≡ Some here → IsSeatBehaviour n k beh →
     IsTrue here.rests → final ≡ is_final beh.beh b → CanChange (Die k seat) (system_of n) → final ≡ (not seat.rests || is_final seat.beh b)
 final_goes n k b here beh final seat known there of rest is seated =
     let at : Behaves n k beh = behaves n k beh known of in
@@ -44,7 +44,7 @@ final_goes n k b here beh final seat known there of rest is seated =
     is ∙ ap (λ x. is_final x b) (sym at.is ∙ ap (λ (x : Seat). x.beh) same) ∙ sym (ap (λ r. not r || is_final seat.beh b) (sym rests ∙ rest))
 
 -- a service has as many states as its size says
-pub size_is : (n : NamedSys) (k : ℕ) (beh : NamedBeh) → IsNamedSys n → IsBehaviourOf n k beh → slice_index (sizes_of (system_of n)).seats k ≡ beh.beh.states
+pub size_is : (n : NamedSys) (k : ℕ) (beh : NamedBeh) → IsNamedSys n → IsSeatBehaviour n k beh → slice_index (sizes_of (system_of n)).seats k ≡ beh.beh.states
 size_is n k beh known of =
     let at : Behaves n k beh = behaves n k beh known of in
     size_at (system_of n).seats k at.seat at.seated ∙ ap (λ x. x.states) at.is

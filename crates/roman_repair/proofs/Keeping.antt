@@ -14,10 +14,10 @@ use Rattle.roman_model.proofs.ArenaLemmas.{listed_among, listed_append, justifie
 use Rattle.roman_model.proofs.OrderLemmas.{replay_from_same, middle_first}
 use Rattle.roman_model.proofs.WorkLemmas.{readings_at, readings_within}
 use Rattle.roman_rules.specs.Numbered.{IsNumbered}
-use Rattle.roman_rules.specs.Asked.{IsKnown, IsReasonOf, readings_of, readings_of_reason}
+use Rattle.roman_rules.specs.Asked.{HoldsWhereKept, IsReasonOf, readings_of, readings_of_reason}
 use Rattle.roman_rules.specs.declared.asked.Asked.{Asked}
 use Rattle.roman_rules.proofs.Asking.{known_more, readings_of-allowed}
-use Rattle.roman_order.specs.Board.{Board, nodes_of, has_entry, entry_of}
+use Rattle.roman_order.specs.Board.{Board, nodes_of, has_entry, as_entry}
 use Rattle.roman_relation.proofs.Lanes.{unlisted_rows}
 use Rattle.roman_repair.specs.Replays.{is_possible, AreCandidates, with_replay, readings_of_entries, grown_numbers}
 
@@ -150,10 +150,10 @@ replaying_end A start now all left so_far none = sym (append-nil now.list) ∙ a
 -- What is known.
 
 pub known_kept : (A : Arena ℕ) (lanes : ℕ) (asked : Asked) (old new : List (Entry ℕ)) (x : Entry ℕ) (b : Bool) → new ≡ (if b then old ++ x ∷ [] else old) →
-    IsKnown A lanes (is_listed A old) asked → IsKnown A lanes (is_listed A new) asked
-known_kept A lanes asked old new x b is known = subst (λ L. IsKnown A lanes (is_listed A L) asked) (sym is) (by_answer b)
+    HoldsWhereKept A lanes (is_listed A old) asked → HoldsWhereKept A lanes (is_listed A new) asked
+known_kept A lanes asked old new x b is known = subst (λ L. HoldsWhereKept A lanes (is_listed A L) asked) (sym is) (by_answer b)
   where
-    by_answer : (b : Bool) → IsKnown A lanes (is_listed A (if b then old ++ x ∷ [] else old)) asked
+    by_answer : (b : Bool) → HoldsWhereKept A lanes (is_listed A (if b then old ++ x ∷ [] else old)) asked
     by_answer true = known_more A lanes (is_listed A old) (is_listed A (old ++ x ∷ [])) asked (λ q t. listed_append A old (x ∷ []) q ∙ or_left (is_listed A old q) (is_listed A (x ∷ []) q) t) known
     by_answer false = known
 
@@ -175,9 +175,9 @@ grown_end states x b l = drop_all b (grown_numbers states x) (omega (arith, leng
 
 -- the candidate at hand, whose number is m, is the first of those that are left
 pub state_first : (A : Arena ℕ) (start now : Board) (states : ℕ) (x : Entry ℕ) (b m : ℕ) → IsReplaying A start now (grown_numbers states x) (drop b (grown_numbers states x)) → b < states →
-    m ≡ x.node * states + b → IsReplaying A start now (grown_numbers states x) (entry_of (m, x.reason) ∷ drop (b + 1) (grown_numbers states x))
+    m ≡ x.node * states + b → IsReplaying A start now (grown_numbers states x) (as_entry (m, x.reason) ∷ drop (b + 1) (grown_numbers states x))
 state_first A start now states x b m so_far l is =
-    subst (λ (y : Entry ℕ). IsReplaying A start now (grown_numbers states x) (y ∷ drop (b + 1) (grown_numbers states x))) (ap (λ i. entry_of (i, x.reason)) (sym is))
+    subst (λ (y : Entry ℕ). IsReplaying A start now (grown_numbers states x) (y ∷ drop (b + 1) (grown_numbers states x))) (ap (λ i. as_entry (i, x.reason)) (sym is))
     (subst (IsReplaying A start now (grown_numbers states x)) (grown_more states x b l) so_far)
 
 -- the number that is computed

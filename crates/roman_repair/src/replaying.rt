@@ -2,8 +2,8 @@
 ghost use Rattle.std.specs.Prelude.{◌≡◌, ℕ, ◌+◌, ◌*◌, ◌<◌, ◌≤◌, ◌++◌, ◌∷◌, [], if◌then◌else◌};
 ghost use Rattle.std.specs.Prelude.{false, length, flat_map, IsTrue, IsFalse};
 ghost use Rattle.roman_model.specs.Arena.{Arena, is_listed, is_justified};
-ghost use Rattle.roman_rules.specs.Asked.{IsKnown, readings_of_reason};
-ghost use Rattle.roman_order.specs.Board.{entry_of, has_entry};
+ghost use Rattle.roman_rules.specs.Asked.{HoldsWhereKept, readings_of_reason};
+ghost use Rattle.roman_order.specs.Board.{as_entry, has_entry};
 ghost use Rattle.roman_relation.specs.Shaped.{IsShaped};
 ghost use Rattle.roman_repair.specs.Replays.{is_possible, AreCandidates, with_replay, readings_of_entries, grown_numbers};
 
@@ -26,11 +26,11 @@ fn keep<J: Rules, L: Ledger>(
     requires pair { p < length (J.arena joint.now).nodes }
     requires possible { IsTrue (is_possible (J.arena joint.now) p reason) }
     requires new { has_entry order.old.list p ≡ false }
-    requires known { IsKnown (J.arena joint.now) (J.lanes joint.now) (is_listed (J.arena joint.now) order.old.list) asked.old }
+    requires known { HoldsWhereKept (J.arena joint.now) (J.lanes joint.now) (is_listed (J.arena joint.now) order.old.list) asked.old }
     ensures list { let A = J.arena joint.now in
         order.new.list ≡ (if is_justified A (is_listed A order.old.list) p reason
-        then order.old.list ++ entry_of (p, reason) ∷ [] else order.old.list) }
-    ensures known { IsKnown (J.arena joint.now) (J.lanes joint.now) (is_listed (J.arena joint.now) order.new.list) asked.new }
+        then order.old.list ++ as_entry (p, reason) ∷ [] else order.old.list) }
+    ensures known { HoldsWhereKept (J.arena joint.now) (J.lanes joint.now) (is_listed (J.arena joint.now) order.new.list) asked.new }
     ensures rest { order.new ≡ record order.old { list = order.new.list } }
     ensures cost { steps.new ≤ steps.old + readings_of_reason (J.arena joint.now) p reason }
 {
@@ -50,12 +50,12 @@ fn keep_entry<J: Rules, L: Ledger>(
     steps: &mut Steps<L>,
 )
     requires shaped { IsShaped (J.arena joint.now) (J.lanes joint.now) order.old }
-    requires candidates { AreCandidates (J.arena joint.now) order.old.list (grown_numbers states (entry_of entry)) }
-    requires known { IsKnown (J.arena joint.now) (J.lanes joint.now) (is_listed (J.arena joint.now) order.old.list) asked.old }
-    ensures list { order.new.list ≡ with_replay (J.arena joint.now) order.old.list (grown_numbers states (entry_of entry)) }
-    ensures known { IsKnown (J.arena joint.now) (J.lanes joint.now) (is_listed (J.arena joint.now) order.new.list) asked.new }
+    requires candidates { AreCandidates (J.arena joint.now) order.old.list (grown_numbers states (as_entry entry)) }
+    requires known { HoldsWhereKept (J.arena joint.now) (J.lanes joint.now) (is_listed (J.arena joint.now) order.old.list) asked.old }
+    ensures list { order.new.list ≡ with_replay (J.arena joint.now) order.old.list (grown_numbers states (as_entry entry)) }
+    ensures known { HoldsWhereKept (J.arena joint.now) (J.lanes joint.now) (is_listed (J.arena joint.now) order.new.list) asked.new }
     ensures rest { order.new ≡ record order.old { list = order.new.list } }
-    ensures cost { steps.new ≤ steps.old + readings_of_entries (J.arena joint.now) (grown_numbers states (entry_of entry)) }
+    ensures cost { steps.new ≤ steps.old + readings_of_entries (J.arena joint.now) (grown_numbers states (as_entry entry)) }
 {
     joint.known();
     let (pair, reason) = entry;

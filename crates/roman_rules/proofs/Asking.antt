@@ -10,11 +10,11 @@ use Rattle.roman_model.proofs.Lists.{filter_below_more}
 use Rattle.roman_model.proofs.ArenaLemmas.{justified_more}
 use Rattle.roman_lanes.specs.Rows.{is_on}
 use Rattle.roman_rules.specs.Bits.{bit_of}
-use Rattle.roman_rules.specs.Asked.{IsKnown, readings_of}
+use Rattle.roman_rules.specs.Asked.{HoldsWhereKept, readings_of}
 use Rattle.roman_rules.specs.declared.asked.Asked.{Asked}
 
 -- what is known goes on to hold where more is gone
-pub known_more : (A : Arena ℕ) (lanes : ℕ) (gone more : ℕ → Bool) (asked : Asked) → ((q : ℕ) → IsTrue (gone q) → IsTrue (more q)) → IsKnown A lanes gone asked → IsKnown A lanes more asked
+pub known_more : (A : Arena ℕ) (lanes : ℕ) (gone more : ℕ → Bool) (asked : Asked) → ((q : ℕ) → IsTrue (gone q) → IsTrue (more q)) → HoldsWhereKept A lanes gone asked → HoldsWhereKept A lanes more asked
 known_more A lanes gone more asked h known = record {
   each = λ lane l on. justified_more A gone more (asked.row * lanes + lane) asked.reason (λ a k q i t. h q t) (known.each lane l on);
 }

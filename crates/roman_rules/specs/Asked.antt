@@ -8,7 +8,7 @@ use Rattle.roman_model.specs.declared.reason.Reason.TheVariants.{Final, Act}
 use Rattle.roman_rules.specs.declared.asked.Asked.{Asked}
 
 -- at each pair that is kept of the row the reason holds, where those pairs are gone
-pub record IsKnown (A : Arena ℕ) (lanes : ℕ) (gone : ℕ → Bool) (asked : Asked) : Type 0 where
+pub record HoldsWhereKept (A : Arena ℕ) (lanes : ℕ) (gone : ℕ → Bool) (asked : Asked) : Type 0 where
   pub each : (lane : ℕ) → lane < lanes → is_on asked.lanes lane ≡ true → IsTrue (is_justified A gone (asked.row * lanes + lane) asked.reason)
 
 -- the action of the reason, where it names one, is one of the system

@@ -13,5 +13,5 @@ IsFinding n k gone qs NoOutcome = qs ≡ []
 IsFinding n k gone qs (Leaves env state pair) = (find gone qs ≡ Some pair) × ((pair_at n pair).e ≡ env) × (slice_index (pair_at n pair).bs k ≡ state)
 
 -- there is an outcome and none is gone, or there is none, or the first one that is gone is named
-pub record Finds (n : Sizes) (k : ℕ) (gone : ℕ → Bool) (qs : List ℕ) (finding : Finding) : Type 0 where
+pub record HasFinding (n : Sizes) (k : ℕ) (gone : ℕ → Bool) (qs : List ℕ) (finding : Finding) : Type 0 where
   pub is : IsFinding n k gone qs finding

@@ -3,7 +3,7 @@ ghost use Rattle.std.specs.Prelude.{◌≡◌, ℕ, ◌+◌, ◌*◌, ◌/◌, �
 ghost use Rattle.roman_model.specs.Lists.{below};
 ghost use Rattle.roman_model.specs.Arena.{Arena, is_justified};
 ghost use Rattle.roman_lanes.specs.Rows.{is_on, AreRows};
-ghost use Rattle.roman_rules.specs.Asked.{IsKnown, IsReasonOf, readings_of, readings_of_reason};
+ghost use Rattle.roman_rules.specs.Asked.{HoldsWhereKept, IsReasonOf, readings_of, readings_of_reason};
 
 use crate::rules::Rules;
 use roman_io::Steps;
@@ -102,7 +102,7 @@ fn ask_row<J: Rules, L: Ledger>(
 impl Asked {
     /// No row was asked: nothing is known.
     pub fn nothing() -> Asked
-        ensures { (A : Arena ℕ) (lanes : ℕ) (gone : ℕ → Bool) → IsKnown A lanes gone result }
+        ensures { (A : Arena ℕ) (lanes : ℕ) (gone : ℕ → Bool) → HoldsWhereKept A lanes gone result }
     {
         Asked {
             row: 0,
@@ -142,7 +142,7 @@ impl Asked {
             result ≡ is_justified A gone (x * lanes + lane) reason }
         ensures known { let A = J.arena joint.now in let lanes = J.lanes joint.now in
             (gone : ℕ → Bool) → AreRows lanes (λ q. not (gone q)) words.now →
-            IsKnown A lanes gone self.new }
+            HoldsWhereKept A lanes gone self.new }
         ensures row { self.new.row ≡ x }
         ensures cost { let A = J.arena joint.now in let lanes = J.lanes joint.now in
             steps.new ≤ steps.old + readings_of_reason A (x * lanes + lane) reason }
@@ -176,10 +176,10 @@ impl Asked {
         requires room { length words.now * J.lanes joint.now ≡ length (J.arena joint.now).nodes }
         ensures justified { let A = J.arena joint.now in let lanes = J.lanes joint.now in
             (gone : ℕ → Bool) → AreRows lanes (λ q. not (gone q)) words.now →
-            IsKnown A lanes gone self.old → result ≡ is_justified A gone p reason }
+            HoldsWhereKept A lanes gone self.old → result ≡ is_justified A gone p reason }
         ensures known { let A = J.arena joint.now in let lanes = J.lanes joint.now in
             (gone : ℕ → Bool) → AreRows lanes (λ q. not (gone q)) words.now →
-            IsKnown A lanes gone self.old → IsKnown A lanes gone self.new }
+            HoldsWhereKept A lanes gone self.old → HoldsWhereKept A lanes gone self.new }
         ensures row { let first = self.new.row * J.lanes joint.now in (first ≤ p) × (p < first + J.lanes joint.now) }
         ensures cost { let A = J.arena joint.now in
             steps.new ≤ steps.old + readings_of_reason A p reason }

@@ -8,7 +8,7 @@ ghost use Rattle.roman_lanes.specs.Rows.{is_on, HasLanes, AreRows};
 ghost use Rattle.roman_lanes.specs.Flags.{has_flag};
 ghost use Rattle.roman_rules.specs.Bits.{HasBits};
 ghost use Rattle.roman_rules.specs.Numbered.{IsNumbered};
-ghost use Rattle.roman_rules.specs.Finding.{Finds};
+ghost use Rattle.roman_rules.specs.Finding.{HasFinding};
 
 use crate::finding::Finding;
 use roman_io::Steps;
@@ -177,7 +177,7 @@ pub trait Rules {
         requires callable { (q : ℕ) → q < length (arena self.now).nodes → F.pre alive.now q }
         ensures finding { (gone : ℕ → Bool)
             → ((q : ℕ) (r : Bool) → q < length (arena self.now).nodes → F.post alive.now q r → r ≡ not (gone q))
-            → Finds (sizes self.now) k gone ((arena self.now).outcomes p a k) result }
+            → HasFinding (sizes self.now) k gone ((arena self.now).outcomes p a k) result }
         ensures step { steps.new ≡ steps.old + 1 };
 
     /// Begins a walk through all delegations of which the pair `p2` is an outcome.

@@ -8,7 +8,7 @@ use Rattle.roman_text.specs.declared.replies.Reply.TheVariants as reply
 use Rattle.roman_session.specs.Situations.{Situation, IsOpen, IsSituation}
 use Rattle.roman_session.specs.Rulings.{asked}
 use Rattle.roman_session.specs.Steps.{Does, Asks, Sees, Step, StepOn, StepBy, offer_text}
-use Rattle.roman_session.specs.Answering.{NamesSome, StaysRelated}
+use Rattle.roman_session.specs.Answering.{NamesSome, SeenStaysRelated}
 use Rattle.roman_session.specs.declared.events.Sight.{Sight}
 use Rattle.roman_session.specs.declared.phase.Phase.{Phase}
 use Rattle.roman_session.specs.declared.phase.Phase.TheVariants.{Offered}
@@ -46,7 +46,7 @@ unfolding Step
 step_unshaped old line why is = subst (λ (r : Result LineShape LineError). StepBy old r (reply_text reply.ErrorLine) old) (sym is) (refl, refl)
 
 -- after what is seen and possible, the pair is related
-pub stays_related : (old new : Situation) (line text : List ℕ) → IsSituation old → Step old line text new → StaysRelated old line new
+pub stays_related : (old new : Situation) (line text : List ℕ) → IsSituation old → Step old line text new → SeenStaysRelated old line new
 unfolding Step
 stays_related old new line text is step state env x shape ok can =
     let by_shape : StepOn old (saw state env) text new = subst (λ (r : Result LineShape LineError). StepBy old r text new) shape step in

@@ -6,7 +6,7 @@ use Rattle.roman_joint.specs.NamedSys.{NamedSys, system_of, IsNamedSys}
 use Rattle.roman_relation.specs.Greatest.{IsRelation}
 use Rattle.roman_relation.specs.declared.relation.Relation.{Relation}
 use Rattle.roman_library.specs.Library.{PlainLibrary}
-use Rattle.roman_session.specs.Starts.{start_of, IsStart}
+use Rattle.roman_session.specs.Starts.{start_pair_of, IsStart}
 use Rattle.roman_session.specs.Building.{starting, IsSeated}
 use Rattle.roman_session.specs.Layout.{situation_in, IsSession}
 use Rattle.roman_session.specs.declared.seating.Seated.{Seated}
@@ -20,7 +20,7 @@ pub record HasBegun (library : PlainLibrary) (a : Inside) : Type 0 where
 
 -- the states are the library's
 begins_at : (library : PlainLibrary) (x : Seated) (t e : ℕ) → IsSeated library x → t ≡ x.joint.target.beh.start → e ≡ x.joint.environment.env.start →
-    ◌≡◌ {A = Pair} (record { t = t; e = e; bs = x.states.items }) (start_of library)
+    ◌≡◌ {A = Pair} (record { t = t; e = e; bs = x.states.items }) (start_pair_of library)
 begins_at library x t e seated is_t is_e =
     ap₂ (λ (t e : ℕ). record { t = t; e = e; bs = x.states.items }) is_t is_e
     ∙ ap₂ (λ (n : NamedSys) (bs : List ℕ). starting n bs) seated.parts seated.states
@@ -34,7 +34,7 @@ pub begun : (library : PlainLibrary) (x : Seated) (relation : Relation) (t e : �
 begun library x relation t e seated few known joint ok is_t is_e =
     let here = begins_at library x t e seated is_t is_e in
     let pair : IsPair (system_of relation.joint) (record { t = t; e = e; bs = x.states.items }) =
-    subst (λ (p : Pair). IsPair (system_of relation.joint) p) (sym here) (subst (λ (n : NamedSys). IsPair (system_of n) (start_of library)) (sym (joint ∙ seated.parts)) seated.pair) in
+    subst (λ (p : Pair). IsPair (system_of relation.joint) p) (sym here) (subst (λ (n : NamedSys). IsPair (system_of n) (start_pair_of library)) (sym (joint ∙ seated.parts)) seated.pair) in
     record {
       session = record {
         relation = ok;

@@ -18,7 +18,7 @@ use Rattle.roman_repair.specs.declared.tally.Tally.{Tally}
 use Rattle.roman_text.specs.Replies.{reply_text}
 use Rattle.roman_text.specs.declared.replies.Reply.{Reply}
 use Rattle.roman_text.specs.declared.replies.Reply.TheVariants as reply
-use Rattle.roman_session.specs.Situations.{Situation, system_of, IsPhase}
+use Rattle.roman_session.specs.Situations.{Situation, present_system, IsPhase}
 use Rattle.roman_session.specs.Rulings.{seat_at, with_room}
 use Rattle.roman_session.specs.Joins.{CanJoin}
 use Rattle.roman_session.specs.declared.events.Joining.{Joining}
@@ -33,18 +33,18 @@ use Rattle.roman_session.proofs.RulingLemmas.{cells_with, with_room_is, no_room_
 use Rattle.roman_session.proofs.SituationLemmas.{there_is}
 
 -- the seat of a present service
-pub seat_is : (s : Situation) (k : ℕ) → k < length s.parts.seats → slice_get (system_of s).seats k ≡ Some (seat_at s k)
+pub seat_is : (s : Situation) (k : ℕ) → k < length s.parts.seats → slice_get (present_system s).seats k ≡ Some (seat_at s k)
 seat_is s k l =
-    let seats = (system_of s).seats in
+    let seats = (present_system s).seats in
     let (x, there) = there_is seats k (omega (arith, l, length-map s.parts.seats (joint.seat_of s.parts.catalogue))) in
     there ∙ ap Some (sym (get_or_from_slice_get seats k x _ there))
 
 -- it is ready where it isn't frozen
-pub seat_ready : (s : Situation) (k : ℕ) → k < length s.parts.seats → IsFalse (seat_at s k).frozen → IsTrue (is_ready (slice_get (system_of s).seats k))
+pub seat_ready : (s : Situation) (k : ℕ) → k < length s.parts.seats → IsFalse (seat_at s k).frozen → IsTrue (is_ready (slice_get (present_system s).seats k))
 seat_ready s k l ready = ap is_ready (seat_is s k l) ∙ ap not ready
 
 -- and isn't where it is
-pub seat_unready : (s : Situation) (k : ℕ) → k < length s.parts.seats → IsTrue (seat_at s k).frozen → IsFalse (is_ready (slice_get (system_of s).seats k))
+pub seat_unready : (s : Situation) (k : ℕ) → k < length s.parts.seats → IsTrue (seat_at s k).frozen → IsFalse (is_ready (slice_get (present_system s).seats k))
 seat_unready s k l frozen = ap is_ready (seat_is s k l) ∙ ap not frozen
 
 -- a front of a list and the rest have as many entries as they are counted
@@ -164,7 +164,7 @@ has_place a ok not_full = omega (arith, not_full, ok.known.parts.system.few, len
 pub has_room : (a : Inside) → IsSession a → length a.relation.joint.seats < MAX_SERVICES → vec_len a.states < vec_capacity a.states
 has_room a ok few =
     let s = situation_in a in
-    omega (arith, few, ok.room, a.states.ok.0, states_long (system_of s) s.here ok.known.here, length-map a.relation.joint.seats (joint.seat_of a.relation.joint.catalogue))
+    omega (arith, few, ok.room, a.states.ok.0, states_long (present_system s) s.here ok.known.here, length-map a.relation.joint.seats (joint.seat_of a.relation.joint.catalogue))
 
 -- a system that isn't past the limit is within it
 pub is_within : (cells limit : ℕ) → (limit < cells → ⊥) → cells ≤ limit

@@ -14,7 +14,7 @@ use Rattle.roman_session.specs.Situations.{Situation}
 use Rattle.roman_session.specs.Steps.{Told}
 use Rattle.roman_session.specs.Known.{AreBehaviours}
 use Rattle.roman_session.specs.Hearing.{has_quit, front_of, is_heard_out, heard_lines, GaveQuit, spot, hall, Tells, TellsFront, IsHeardOut, IsCutOff, StopsShort, TellsFrontOfAll}
-use Rattle.roman_session.specs.HearingBytes.{ear, IsHearing, StopsAtQuit, Fails, FailsIn, HearsPiece, HearsRest}
+use Rattle.roman_session.specs.HearingBytes.{ear, IsHearing, StopsAtQuit, FallsShort, FailsIn, HearsPiece, HearsRest}
 use Rattle.roman_session.specs.declared.hearing.HearError.{HearError}
 use Rattle.roman_session.specs.declared.hearing.HearError.TheVariants.{ReadFault, WriteFault, TooLong}
 use Rattle.roman_session.proofs.HearingLines.{ended_more, lines_more, quit_left, told_stops}
@@ -97,7 +97,7 @@ module _ (old new : Situation) (start mid : Option (List ℕ)) (taken : List ℕ
   }
 
   -- the answer to the last isn't written whole
-  fronts_rest : Fails (spot old before) (lines taken) (spot new now) → TellsFrontOfAll (hall old start before) now
+  fronts_rest : FallsShort (spot old before) (lines taken) (spot new now) → TellsFrontOfAll (hall old start before) now
   fronts_rest fails = record {
     session = taken;
     had = had_all start mid taken n gave ends none;

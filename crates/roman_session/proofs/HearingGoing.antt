@@ -27,12 +27,12 @@ use Rattle.roman_text.specs.declared.replies.Reply.{Reply}
 use Rattle.roman_text.specs.declared.replies.Reply.TheVariants as reply
 use Rattle.roman_joint.specs.NamedSys.{NamedSys, IsNamedSys, beh_at, seat_of}
 use Rattle.roman_joint.specs.NamedSys as joint
-use Rattle.roman_joint.specs.Names.{seat_name, beh_name, states_at, names_of}
+use Rattle.roman_joint.specs.Names.{seat_name, beh_name, states_of_behaviour, names_in}
 use Rattle.roman_joint.proofs.BehaviourLemmas.{beh_read}
 use Rattle.roman_joint.proofs.SeatChanges.{frozen_system, frozen_known, gone_system, gone_known, joined_system, joined_known}
 use Rattle.roman_library.specs.Library.{IsBehaviour}
-use Rattle.roman_session.specs.Situations.{Situation, system_of, is_idle, IsPhase, IsSituation}
-use Rattle.roman_session.specs.Rulings.{named, service_named, seat_at, asked, handed, seen, aborted, jumped, env_jumped, frozen, thawed, died, joining, joined, unexplained}
+use Rattle.roman_session.specs.Situations.{Situation, present_system, is_idle, IsPhase, IsSituation}
+use Rattle.roman_session.specs.Rulings.{named, service_named, seat_at, asked, handed, seen, aborted, jumped, env_jumped, frozen, thawed, died, joining, join_of, unexplained}
 use Rattle.roman_session.specs.Reports.{report_text}
 use Rattle.roman_session.specs.Steps.{Asks, Hands, Sees, Aborts, Jumps, EnvJumps, Changing, Changes, Freezes, Thaws, Dies, Joins, freezing, thawing, dying, growing, Explains, Says, Does, StepOn, StepBy, Step, CanBe, pair_after, offer_text, service_at, parts_after}
 use Rattle.roman_session.specs.Known.{AreBehaviours}
@@ -52,13 +52,13 @@ use Rattle.roman_session.proofs.WithinLemmas.{frozen_within, thawed_within, died
 -- the target allows the request that is open
 abbrev pub IsAllowed : Situation → Phase → Type 0
 IsAllowed s Idle = Unit {0}
-IsAllowed s (Offered a) = IsTrue (is_allowed (system_of s) s.here a)
-IsAllowed s (Delegated a k) = IsTrue (is_allowed (system_of s) s.here a)
+IsAllowed s (Offered a) = IsTrue (is_allowed (present_system s) s.here a)
+IsAllowed s (Delegated a k) = IsTrue (is_allowed (present_system s) s.here a)
 
 pub record IsGoing (s : Situation) : Type 0 where
   pub parts : IsNamedSys s.parts
   pub behaviours : AreBehaviours s.parts
-  pub list : IsComplete (system_of s) s.list
+  pub list : IsComplete (present_system s) s.list
   pub phase : IsAllowed s s.phase
 
 -- something can be answered, and the session can go on after it
@@ -88,11 +88,11 @@ does_there Act s (Err refusal) is act = says_there s (reply_text refusal) is
 does_there Act s (Ok x) is act = act x refl
 
 explains_there : (s : Situation) (x : Unit {0}) → IsGoing s → CanGo (Explains s x)
-explains_there s x is = record { text = explain_text (system_of s) (names_of s.parts) s.list s.here; new = s; acts = (refl, refl); going = is }
+explains_there s x is = record { text = explain_text (present_system s) (names_in s.parts) s.list s.here; new = s; acts = (refl, refl); going = is }
 
 -- ---- requests
 
-asks_there : (s : Situation) (a : ℕ) → IsGoing s → IsTrue (is_allowed (system_of s) s.here a) → CanGo (Asks s a)
+asks_there : (s : Situation) (a : ℕ) → IsGoing s → IsTrue (is_allowed (present_system s) s.here a) → CanGo (Asks s a)
 asks_there s a is allowed = record {
   text = offer_text s a;
   new = record s { phase = Offered a };
@@ -122,22 +122,22 @@ aborts_there s x is = record {
 shows : Situation → Sight → Pair → Bool
 shows s x q = (q.e == x.env) && same_numbers q.bs (slice_set s.here.bs x.seat x.state)
 
-sight_there : (s : Situation) (x : Sight) (q : Pair) → IsGoing s → IsIn q (outcomes (system_of s) s.here x.action x.seat) → IsTrue (shows s x q) → CanGo (Sees s x)
+sight_there : (s : Situation) (x : Sight) (q : Pair) → IsGoing s → IsIn q (outcomes (present_system s) s.here x.action x.seat) → IsTrue (shows s x q) → CanGo (Sees s x)
 unfolding shows
 sight_there s x q is i shown =
     let (env, states) = and_parts (q.e == x.env) (same_numbers q.bs (slice_set s.here.bs x.seat x.state)) shown in
     let bs : q.bs ≡ slice_set s.here.bs x.seat x.state = same_numbers_is q.bs (slice_set s.here.bs x.seat x.state) states in
     let e : q.e ≡ x.env = eqb-true q.e x.env env in
-    let (target, moved) = from_outcome (system_of s) s.here x.action x.seat q i in
+    let (target, moved) = from_outcome (present_system s) s.here x.action x.seat q i in
     record {
       text = reply_text (reply.Now (name_at s.parts.target.states q.t) (name_at s.parts.environment.states x.env));
       new = record s { here = pair_after s x q.t; phase = Idle };
       acts = inl (record {
         to = q.t;
         moved = record {
-          target = subst (λ (e : ℕ). TStep (system_of s) s.here.t s.here.e x.action q.t e) e target;
-          system = subst (λ (e : ℕ). SStep (system_of s) s.here.bs s.here.e x.action x.seat (slice_set s.here.bs x.seat x.state) e) e
-              (subst (λ (bs : List ℕ). SStep (system_of s) s.here.bs s.here.e x.action x.seat bs q.e) bs moved);
+          target = subst (λ (e : ℕ). TStep (present_system s) s.here.t s.here.e x.action q.t e) e target;
+          system = subst (λ (e : ℕ). SStep (present_system s) s.here.bs s.here.e x.action x.seat (slice_set s.here.bs x.seat x.state) e) e
+              (subst (λ (bs : List ℕ). SStep (present_system s) s.here.bs s.here.e x.action x.seat bs q.e) bs moved);
         };
         says = refl;
         becomes = refl;
@@ -146,21 +146,21 @@ sight_there s x q is i shown =
     }
 
 -- where none does it can't be
-never_seen : (s : Situation) (x : Sight) → IsGoing s → IsTrue (is_allowed (system_of s) s.here x.action) →
-    IsFalse (list_any (shows s x) (outcomes (system_of s) s.here x.action x.seat)) → CanBe s x → ⊥
+never_seen : (s : Situation) (x : Sight) → IsGoing s → IsTrue (is_allowed (present_system s) s.here x.action) →
+    IsFalse (list_any (shows s x) (outcomes (present_system s) s.here x.action x.seat)) → CanBe s x → ⊥
 unfolding shows
 never_seen s x is allowed none moved =
-    let (t, e, step) = from_allowed (system_of s) s.here x.action allowed in
+    let (t, e, step) = from_allowed (present_system s) s.here x.action allowed in
     let bs : List ℕ = slice_set s.here.bs x.seat x.state in
     let q : Pair = pair_after s x t in
     both_ways (shows s x q)
-    (any_false (shows s x) q (outcomes (system_of s) s.here x.action x.seat) none
-    (outcome_in (system_of s) s.here x.action x.seat t x.env bs is.parts.system (moved.world, step.1) moved))
+    (any_false (shows s x) q (outcomes (present_system s) s.here x.action x.seat) none
+    (outcome_in (present_system s) s.here x.action x.seat t x.env bs is.parts.system (moved.world, step.1) moved))
     (and_from (x.env == x.env) (same_numbers bs bs) (eq-eqb x.env x.env refl) (same_numbers_itself bs))
 
-sees_there : (s : Situation) (x : Sight) → IsGoing s → IsTrue (is_allowed (system_of s) s.here x.action) → CanGo (Sees s x)
-sees_there s x is allowed = by_test (list_any (shows s x) (outcomes (system_of s) s.here x.action x.seat))
-    (λ some. let (q, i, shown) = any_true (shows s x) (outcomes (system_of s) s.here x.action x.seat) some in sight_there s x q is i shown)
+sees_there : (s : Situation) (x : Sight) → IsGoing s → IsTrue (is_allowed (present_system s) s.here x.action) → CanGo (Sees s x)
+sees_there s x is allowed = by_test (list_any (shows s x) (outcomes (present_system s) s.here x.action x.seat))
+    (λ some. let (q, i, shown) = any_true (shows s x) (outcomes (present_system s) s.here x.action x.seat) some in sight_there s x q is i shown)
     (λ none. record { text = reply_text reply.Impossible; new = s; acts = inr (never_seen s x is allowed none, refl, refl); going = is })
 
 -- ---- jumps
@@ -188,11 +188,11 @@ env_jumps_there s e is idle =
 -- ---- changes of the services
 
 -- the replay goes on to a complete list of the new system
-changes_there : (s : Situation) (x : Changing) → IsGoing s → s.phase ≡ Idle → CanChange x.change (system_of s) → joint.system_of (parts_after s x) ≡ after x.change (system_of s) →
+changes_there : (s : Situation) (x : Changing) → IsGoing s → s.phase ≡ Idle → CanChange x.change (present_system s) → joint.system_of (parts_after s x) ≡ after x.change (present_system s) →
     IsNamedSys (parts_after s x) → CanGo (Changes s x)
 changes_there s x is idle can same known =
-    let after : Sys = after x.change (system_of s) in
-    let renamed = renaming_keeps x.change (system_of s) s.list is.parts.system can is.list.pairs is.list.order in
+    let after : Sys = after x.change (present_system s) in
+    let renamed = renaming_keeps x.change (present_system s) s.list is.parts.system can is.list.pairs is.list.order in
     let kept : List (Entry Pair) = replay (arena after) (rename x.change s.list) in
     let (added, complete) = order_goes_on after kept renamed.system (λ y i. renamed.pairs y (sublist_in y kept (rename x.change s.list) (replay_sublist (arena after) (rename x.change s.list)) i)) renamed.order in
     let list : IsComplete (joint.system_of (parts_after s x)) (kept ++ added) = subst (λ (s : Sys). IsComplete s (kept ++ added)) (sym same) complete in
@@ -227,7 +227,7 @@ dies_there s service k is h =
     let (x, there) = there_is s.parts.seats k l in
     changes_there s (dying s k) is (died_idle s service k h) (seat_is s k l) (gone_system s.parts k (seat_at s k)) (gone_known s.parts k x is.parts l (sym (get_or_from_slice_get s.parts.seats k x x there)))
 
-joins_there : (s : Situation) (service behaviour state : List ℕ) (loose : Bool) (x : Joining) → IsGoing s → joined s service behaviour state loose ≡ Ok x → CanGo (Joins s x)
+joins_there : (s : Situation) (service behaviour state : List ℕ) (loose : Bool) (x : Joining) → IsGoing s → join_of s service behaviour state loose ≡ Ok x → CanGo (Joins s x)
 joins_there s service behaviour state loose x is h =
     let (y, e, h1) = bind_ok (joining s service behaviour state loose) _ x h in
     let (few, h2) = checked (nat_lt (length s.parts.seats) MAX_SERVICES) reply.ErrorFull _ x h1 in
@@ -252,7 +252,7 @@ step_on s (freeze service) is = does_there Freezes s (frozen s service) is (λ k
 step_on s (thaw service) is = does_there Thaws s (thawed s service) is (λ k h. thaws_there s service k is h)
 step_on s (die service) is = does_there Dies s (died s service) is (λ k h. dies_there s service k is h)
 step_on s (join service behaviour state loose) is =
-    does_there Joins s (joined s service behaviour state loose) is (λ x h. joins_there s service behaviour state loose x is h)
+    does_there Joins s (join_of s service behaviour state loose) is (λ x h. joins_there s service behaviour state loose x is h)
 step_on s (jump service state) is = does_there Jumps s (jumped s service state) is (λ x h. jumps_there s x is (jumped_idle s service state x h))
 step_on s (jump_env env) is = does_there EnvJumps s (env_jumped s env) is (λ e h. env_jumps_there s e is (env_jumped_idle s env e h))
 step_on s report is = says_there s (report_text s.parts s.here) is

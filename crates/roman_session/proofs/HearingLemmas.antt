@@ -14,7 +14,7 @@ use Rattle.roman_session.specs.Situations.{Situation, IsSituation}
 use Rattle.roman_session.specs.Steps.{Step}
 use Rattle.roman_session.specs.Answering.{Answered, next_of}
 use Rattle.roman_session.specs.Hearing.{ends_session, has_quit, spot, Tells}
-use Rattle.roman_session.specs.HearingBytes.{ear, IsHearing, StopsAtQuit, Fails, FailsIn, HearsBytes}
+use Rattle.roman_session.specs.HearingBytes.{ear, IsHearing, StopsAtQuit, FallsShort, FailsIn, HearsBytes}
 use Rattle.roman_session.specs.declared.next.Next.{Next}
 use Rattle.roman_session.specs.declared.next.Next.TheVariants.{More, Quit}
 use Rattle.roman_session.proofs.HearingLines.{quit_last, quitless_last, told_push}
@@ -57,7 +57,7 @@ tells_more old mid new ls line more before wrote now quitless tells step wrote_m
 }
 
 fails_more : (old mid new : Situation) (ls : List (List ℕ)) (line more : List ℕ) (before wrote now : Option (List ℕ)) → IsFalse (has_quit ls) →
-    Tells (spot old before) ls (spot mid wrote) → Step mid line more new → WroteFront wrote now more → IsSituation new → Fails (spot old before) (ls ++ line ∷ []) (spot new now)
+    Tells (spot old before) ls (spot mid wrote) → Step mid line more new → WroteFront wrote now more → IsSituation new → FallsShort (spot old before) (ls ++ line ∷ []) (spot new now)
 fails_more old mid new ls line more before wrote now quitless tells step wrote_more known = record {
   tells = record {
     text = tells.text ++ more;
@@ -183,9 +183,9 @@ module _ (old : Situation) (before : Option (List ℕ)) (taken : List ℕ) (mid 
       (tells_more old mid new (ended_lines taken) (unfinished taken) answered.text before wrote now is.quitless is.tells answered.step answered.puts)
 
   pub fails_rest : (new : Situation) (now : Option (List ℕ)) (failed : Failed) → nat_lt 0 (length held) ≡ true → Answered {T = Next} mid (unfinished taken) new wrote now (Err failed) → IsSituation new →
-      Fails (spot old before) (lines taken) (spot new now)
+      FallsShort (spot old before) (lines taken) (spot new now)
   fails_rest new now failed some answered known =
-      subst (λ (ls : List (List ℕ)). Fails (spot old before) ls (spot new now)) (rest_line some)
+      subst (λ (ls : List (List ℕ)). FallsShort (spot old before) ls (spot new now)) (rest_line some)
       (fails_more old mid new (ended_lines taken) (unfinished taken) answered.text before wrote now is.quitless is.tells answered.step answered.puts known)
 
 -- ---- a piece, as far as there is room

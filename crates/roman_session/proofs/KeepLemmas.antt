@@ -4,7 +4,7 @@ use Rattle.roman_text.specs.Shapes.{LineShape, nothing, ask, hand, saw, abort, f
 use Rattle.roman_text.specs.declared.errors.LineError.{LineError}
 use Rattle.roman_text.specs.declared.replies.Reply.{Reply}
 use Rattle.roman_session.specs.Situations.{Situation}
-use Rattle.roman_session.specs.Rulings.{asked, handed, seen, aborted, jumped, env_jumped, frozen, thawed, died, joined, unexplained}
+use Rattle.roman_session.specs.Rulings.{asked, handed, seen, aborted, jumped, env_jumped, frozen, thawed, died, join_of, unexplained}
 use Rattle.roman_session.specs.Steps.{Asks, Hands, Sees, Aborts, Jumps, EnvJumps, Freezes, Thaws, Dies, Joins, Explains, Does, StepOn, StepBy, Step, Answers}
 use Rattle.roman_session.specs.Known.{AreBehaviours}
 
@@ -39,7 +39,7 @@ step_keeps old new (freeze service) text step = does_keeps Freezes old new (froz
 step_keeps old new (thaw service) text step = does_keeps Thaws old new (thawed old service) text (λ k changes. keeps_by old new _ changes.becomes refl refl refl) step
 step_keeps old new (die service) text step = does_keeps Dies old new (died old service) text (λ k changes. keeps_by old new _ changes.becomes refl refl refl) step
 step_keeps old new (join service behaviour state loose) text step =
-    does_keeps Joins old new (joined old service behaviour state loose) text (λ x changes. keeps_by old new _ changes.becomes refl refl refl) step
+    does_keeps Joins old new (join_of old service behaviour state loose) text (λ x changes. keeps_by old new _ changes.becomes refl refl refl) step
 step_keeps old new (jump service state) text step = does_keeps Jumps old new (jumped old service state) text (λ x jumps. keeps_by old new _ jumps.1 refl refl refl) step
 step_keeps old new (jump_env env) text step = does_keeps EnvJumps old new (env_jumped old env) text (λ e jumps. keeps_by old new _ jumps.1 refl refl refl) step
 step_keeps old new report text step = keeps_by old new old step.1 refl refl refl

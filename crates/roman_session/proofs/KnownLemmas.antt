@@ -17,8 +17,8 @@ use Rattle.roman_joint.specs.NamedSys.{IsNamedSys, seat_of}
 use Rattle.roman_joint.specs.NamedSys as joint
 use Rattle.roman_joint.proofs.SeatChanges.{frozen_system, frozen_known, gone_system, gone_known, joined_system, joined_known}
 use Rattle.roman_session.specs.Known.{AreBehaviours, AreNamed, StepsStayKnown}
-use Rattle.roman_session.specs.Situations.{Situation, system_of, is_idle, IsOpen, IsPhase, IsSituation}
-use Rattle.roman_session.specs.Rulings.{named, service_named, state_named, seat_at, asked, handed, seen, aborted, jumped, env_jumped, frozen, thawed, died, joining, joined, unexplained}
+use Rattle.roman_session.specs.Situations.{Situation, present_system, is_idle, IsOpen, IsPhase, IsSituation}
+use Rattle.roman_session.specs.Rulings.{named, service_named, state_named, seat_at, asked, handed, seen, aborted, jumped, env_jumped, frozen, thawed, died, joining, join_of, unexplained}
 use Rattle.roman_session.specs.Steps.{Asks, Hands, Sees, Aborts, Jumps, EnvJumps, Changing, Changes, Freezes, Thaws, Dies, Joins, freezing, thawing, dying, growing, Explains, Does, StepOn, StepBy, Step, parts_after}
 use Rattle.roman_session.specs.declared.events.Handing.{Handing}
 use Rattle.roman_session.specs.declared.events.Joining.{Joining}
@@ -51,7 +51,7 @@ hands_known old new service text x is ok hands =
       parts = is.parts;
       here = is.here;
       list = is.list;
-      phase = (is_open, number_listed (offers (system_of old) old.here x.action) x.seat handed.offered);
+      phase = (is_open, number_listed (offers (present_system old) old.here x.action) x.seat handed.offered);
     })
 
 sees_known : (old new : Situation) (x : Sight) (text : List ℕ) → IsSituation old → Sees old x text new → IsSituation new
@@ -66,7 +66,7 @@ aborts_known old new x text is aborts = subst IsSituation (sym aborts.1) (record
 
 record IsJump (s : Situation) (x : Jump) : Type 0 where
   seat : x.seat < length s.parts.seats
-  state : IfSome (slice_get (system_of s).seats x.seat) (λ seat. x.state < seat.beh.states)
+  state : IfSome (slice_get (present_system s).seats x.seat) (λ seat. x.state < seat.beh.states)
 
 jump_is : (s : Situation) (service state : List ℕ) (x : Jump) → IsSituation s → AreBehaviours s.parts → jumped s service state ≡ Ok x → IsJump s x
 unfolding jumped
@@ -90,7 +90,7 @@ jumps_known old new service state text x is behaviours ok jumps =
       phase = subst (IsPhase next) (sym idle) tt;
     })
 
-env_state_is : (s : Situation) (env : List ℕ) (e : ℕ) → AreNamed s.parts → env_jumped s env ≡ Ok e → e < (system_of s).env.states
+env_state_is : (s : Situation) (env : List ℕ) (e : ℕ) → AreNamed s.parts → env_jumped s env ≡ Ok e → e < (present_system s).env.states
 unfolding env_jumped
 env_state_is s env e are h =
     let (i, ei, h1) = bind_ok (named s.parts.environment.states env) _ e h in
@@ -118,19 +118,19 @@ changes_known old new x text idle known pair changes =
     subst IsSituation (sym changes.becomes) (record {
       parts = known;
       here = pair;
-      list = subst (λ (s : Situation). IsComplete (system_of s) (changes.kept ++ changes.added)) changes.becomes changes.complete;
+      list = subst (λ (s : Situation). IsComplete (present_system s) (changes.kept ++ changes.added)) changes.becomes changes.complete;
       phase = subst (IsPhase next) (sym idle) tt;
     })
 
 freezes_known : (old new : Situation) (service text : List ℕ) (k : ℕ) → IsSituation old → frozen old service ≡ Ok k → Freezes old k text new → IsSituation new
 freezes_known old new service text k is ok changes =
     changes_known old new (freezing old k) text (frozen_is old service k ok).idle (frozen_known old.parts k true is.parts (frozen_within old service k ok))
-    (subst (λ (s : Sys). IsPair s old.here) (sym (frozen_system old.parts k true)) (IsPair-turned (system_of old) k true old.here is.here)) changes
+    (subst (λ (s : Sys). IsPair s old.here) (sym (frozen_system old.parts k true)) (IsPair-turned (present_system old) k true old.here is.here)) changes
 
 thaws_known : (old new : Situation) (service text : List ℕ) (k : ℕ) → IsSituation old → thawed old service ≡ Ok k → Thaws old k text new → IsSituation new
 thaws_known old new service text k is ok changes =
     changes_known old new (thawing old k) text (thawed_is old service k ok).idle (frozen_known old.parts k false is.parts (thawed_within old service k ok))
-    (subst (λ (s : Sys). IsPair s old.here) (sym (frozen_system old.parts k false)) (IsPair-turned (system_of old) k false old.here is.here)) changes
+    (subst (λ (s : Sys). IsPair s old.here) (sym (frozen_system old.parts k false)) (IsPair-turned (present_system old) k false old.here is.here)) changes
 
 dies_known : (old new : Situation) (service text : List ℕ) (k : ℕ) → IsSituation old → died old service ≡ Ok k → Dies old k text new → IsSituation new
 dies_known old new service text k is ok changes =
@@ -138,10 +138,10 @@ dies_known old new service text k is ok changes =
     let (x, there) = there_is old.parts.seats k l in
     let next = dying old k in
     changes_known old new next text (died_idle old service k ok) (gone_known old.parts k x is.parts l (sym (get_or_from_slice_get old.parts.seats k x x there)))
-    (subst (λ (s : Sys). IsPair s next.here) (sym (gone_system old.parts k (seat_at old k))) (IsPair-without (system_of old) k old.here is.here)) changes
+    (subst (λ (s : Sys). IsPair s next.here) (sym (gone_system old.parts k (seat_at old k))) (IsPair-without (present_system old) k old.here is.here)) changes
 
 joins_known : (old new : Situation) (service behaviour state text : List ℕ) (loose : Bool) (x : Joining) → IsSituation old → AreBehaviours old.parts →
-    joined old service behaviour state loose ≡ Ok x → Joins old x text new → IsSituation new
+    join_of old service behaviour state loose ≡ Ok x → Joins old x text new → IsSituation new
 joins_known old new service behaviour state text loose x is behaviours ok changes =
     let (y, e, h1) = bind_ok (joining old service behaviour state loose) _ x ok in
     let (few, h2) = checked (nat_lt (length old.parts.seats) MAX_SERVICES) reply.ErrorFull _ x h1 in
@@ -153,7 +153,7 @@ joins_known old new service behaviour state text loose x is behaviours ok change
     let next = growing old y in
     changes_known old new next text (joining_idle old service behaviour state loose y e)
     (joined_known old.parts y.seat is.parts room fresh.behaviour beh fresh.name (leb-true (cells_with old y) old.parts.limit fits))
-    (subst (λ (s : Sys). IsPair s next.here) (sym (joined_system old.parts y.seat)) (IsPair-grown (system_of old) (seat_of old.parts.catalogue y.seat) old.here y.state is.here fresh.state))
+    (subst (λ (s : Sys). IsPair s next.here) (sym (joined_system old.parts y.seat)) (IsPair-grown (present_system old) (seat_of old.parts.catalogue y.seat) old.here y.state is.here fresh.state))
     (subst (λ (x : Joining). Joins old x text new) same changes)
 
 -- any line
@@ -168,7 +168,7 @@ on_known old new (freeze service) text is are step = does_known Freezes old new 
 on_known old new (thaw service) text is are step = does_known Thaws old new (thawed old service) text is (λ k ok. thaws_known old new service text k is ok) step
 on_known old new (die service) text is are step = does_known Dies old new (died old service) text is (λ k ok. dies_known old new service text k is ok) step
 on_known old new (join service behaviour state loose) text is are step =
-    does_known Joins old new (joined old service behaviour state loose) text is (λ x ok. joins_known old new service behaviour state text loose x is are.behaviours ok) step
+    does_known Joins old new (join_of old service behaviour state loose) text is (λ x ok. joins_known old new service behaviour state text loose x is are.behaviours ok) step
 on_known old new (jump service state) text is are step =
     does_known Jumps old new (jumped old service state) text is (λ x ok. jumps_known old new service state text x is are.behaviours ok) step
 on_known old new (jump_env env) text is are step = does_known EnvJumps old new (env_jumped old env) text is (λ e ok. env_jumps_known old new env text e is are ok) step

@@ -19,10 +19,10 @@ use Rattle.roman_rules.specs.Bits.{HasBits}
 use Rattle.roman_joint.specs.NamedSys.{NamedSys, IsNamedSys, system_of, seat_of}
 use Rattle.roman_joint.specs.declared.seat.Seat.{Seat}
 use Rattle.roman_session.specs.Situations as situation
-use Rattle.roman_joint.specs.Names.{seat_name, beh_name, beh_states, states_at}
+use Rattle.roman_joint.specs.Names.{seat_name, beh_name, beh_states, states_of_behaviour}
 use Rattle.roman_session.specs.Situations.{Situation}
 use Rattle.roman_session.specs.Serving.{seats_set, served, served_text}
-use Rattle.roman_session.specs.Reports.{head_lines, service_line, service_lines, offer_line, offer_lines, lines_text, report_text}
+use Rattle.roman_session.specs.Reports.{report_head, service_line, service_lines, offer_line, offer_lines, lines_text, report_text}
 use Rattle.roman_session.specs.Steps.{offer_text, service_at}
 use Rattle.roman_generator.proofs.MoveLemmas.{states_long}
 use Rattle.roman_session.proofs.SituationLemmas.{mapped_at, there_is}
@@ -96,16 +96,16 @@ offer_line_is parts n p a mask name known same is allowed bits =
     ∙ sym (lines-cons (line.Offer (name_at parts.environment.actions a)) (map serves ks ++ line.Stop ∷ []) ∙ ap (λ (text : List ℕ). line_text (line.Offer (name_at parts.environment.actions a)) ++ text) rest)
 
 -- the reply to a request, in the pieces in which it is taken
-pub offer_text_is : (s : Situation) (n : NamedSys) (a mask : ℕ) → IsNamedSys s.parts → n ≡ s.parts → IsTrue (is_allowed (situation.system_of s) s.here a) →
-    HasBits mask (has (offers (situation.system_of s) s.here a)) →
+pub offer_text_is : (s : Situation) (n : NamedSys) (a mask : ℕ) → IsNamedSys s.parts → n ≡ s.parts → IsTrue (is_allowed (situation.present_system s) s.here a) →
+    HasBits mask (has (offers (situation.present_system s) s.here a)) →
     reply_text reply.Offer ++ (served_text n (seats_set mask (length n.seats)) ++ (reply_text reply.Stop ++ [])) ≡ offer_text s a
 unfolding offer_text
 offer_text_is s n a mask known same allowed bits =
-    let served_all = served_text s.parts (offers (situation.system_of s) s.here a) in
+    let served_all = served_text s.parts (offers (situation.present_system s) s.here a) in
     ap (λ (names : List ℕ). reply_text reply.Offer ++ (names ++ (reply_text reply.Stop ++ []))) (mask_names s.parts n s.here a mask known same allowed bits)
     ∙ ap (λ (text : List ℕ). reply_text reply.Offer ++ (served_all ++ text)) (append-nil (reply_text reply.Stop))
     ∙ sym (append_assoc (reply_text reply.Offer) served_all (reply_text reply.Stop))
-    ∙ ap (λ (names : List ℕ). reply_text reply.Offer ++ names ++ reply_text reply.Stop) (served_replies s (offers (situation.system_of s) s.here a))
+    ∙ ap (λ (names : List ℕ). reply_text reply.Offer ++ names ++ reply_text reply.Stop) (served_replies s (offers (situation.present_system s) s.here a))
 
 -- the lines of the actions from a on
 pub lines_from : NamedSys → Pair → ℕ → List ℕ
@@ -157,8 +157,8 @@ pub service_line_is : (catalogue : List NamedBeh) (seat : Seat) (beh : NamedBeh)
     line.Service seat.name beh.name name seat.frozen (not seat.rests) ≡ service_line catalogue seat b
 service_line_is catalogue seat beh b name placed there =
     let behaviour : beh.name ≡ name_at (map beh_name catalogue) seat.behaviour = sym (mapped_at beh_name catalogue seat.behaviour beh [] placed) in
-    let states : states_at catalogue seat.behaviour ≡ beh.states = mapped_at beh_states catalogue seat.behaviour beh [] placed in
-    let state : name ≡ name_at (states_at catalogue seat.behaviour) b =
+    let states : states_of_behaviour catalogue seat.behaviour ≡ beh.states = mapped_at beh_states catalogue seat.behaviour beh [] placed in
+    let state : name ≡ name_at (states_of_behaviour catalogue seat.behaviour) b =
     sym (get_or_from_slice_get beh.states b name [] there) ∙ ap (λ (names : List (List ℕ)). name_at names b) (sym states) in
     ap₂ (λ (behaviour state : List ℕ). line.Service seat.name behaviour state seat.frozen (not seat.rests)) behaviour state
 
@@ -203,7 +203,7 @@ services_begin parts p = refl
 
 -- the report in pieces
 report_pieces : (parts : NamedSys) (p : Pair) →
-    lines_text (head_lines parts p)
+    lines_text (report_head parts p)
     ++ (lines_text (service_lines parts.catalogue parts.seats p.bs)
     ++ (lines_text (line.Answer (is_related (system_of parts) p) ∷ [])
     ++ (lines_text (offer_lines parts p)
@@ -218,12 +218,12 @@ report_pieces parts p =
     lines-append offered ends ∙ ap (λ (text : List ℕ). lines_text offered ++ text) (sym (append-nil (lines_text ends))) in
     let after_services : lines_text (answer ∷ (offered ++ ends)) ≡ lines_text (answer ∷ []) ++ (lines_text offered ++ (lines_text ends ++ [])) =
     lines-append (answer ∷ []) (offered ++ ends) ∙ ap (λ (text : List ℕ). lines_text (answer ∷ []) ++ text) last in
-    sym (lines-append (head_lines parts p) (services ++ answer ∷ (offered ++ ends))
-    ∙ ap (λ (text : List ℕ). lines_text (head_lines parts p) ++ text)
+    sym (lines-append (report_head parts p) (services ++ answer ∷ (offered ++ ends))
+    ∙ ap (λ (text : List ℕ). lines_text (report_head parts p) ++ text)
     (lines-append services (answer ∷ (offered ++ ends)) ∙ ap (λ (text : List ℕ). lines_text services ++ text) after_services))
 
 -- the pieces in which the report is taken
-pub report_is : (parts : NamedSys) (p : Pair) (head : List ReportLine) (related : Bool) → head ≡ head_lines parts p → related ≡ is_related (system_of parts) p →
+pub report_is : (parts : NamedSys) (p : Pair) (head : List ReportLine) (related : Bool) → head ≡ report_head parts p → related ≡ is_related (system_of parts) p →
     lines_text head
     ++ (lines_text (service_lines parts.catalogue parts.seats p.bs)
     ++ (lines_text (line.Answer related ∷ [])

@@ -12,9 +12,9 @@ use Rattle.roman_read.proofs.Given.{bind_ok}
 use Rattle.roman_text.specs.declared.replies.Reply.{Reply}
 use Rattle.roman_text.specs.declared.replies.Reply.TheVariants as reply
 use Rattle.roman_joint.specs.NamedSys.{seat_of, cells}
-use Rattle.roman_joint.specs.Names.{beh_name, states_at}
-use Rattle.roman_session.specs.Situations.{Situation, system_of, is_idle}
-use Rattle.roman_session.specs.Rulings.{named, service_named, state_named, check, delegation, offered_action, seat_at, asked, handed, seen, jumped, env_jumped, frozen, thawed, died, joining, with_room}
+use Rattle.roman_joint.specs.Names.{beh_name, states_of_behaviour}
+use Rattle.roman_session.specs.Situations.{Situation, present_system, is_idle}
+use Rattle.roman_session.specs.Rulings.{named, service_named, state_named, demand, delegation, offered_action, seat_at, asked, handed, seen, jumped, env_jumped, frozen, thawed, died, joining, with_room}
 use Rattle.roman_session.specs.declared.events.Handing.{Handing}
 use Rattle.roman_session.specs.declared.events.Joining.{Joining}
 use Rattle.roman_session.specs.declared.events.Jump.{Jump}
@@ -23,12 +23,12 @@ use Rattle.roman_session.specs.declared.phase.Phase.{Phase}
 use Rattle.roman_session.specs.declared.phase.Phase.TheVariants.{Idle, Offered, Delegated}
 
 -- a test that isn't refused holds
-check_ok : (test : Bool) (refusal : Reply) (x : Unit {0}) → check test refusal ≡ Ok x → IsTrue test
+check_ok : (test : Bool) (refusal : Reply) (x : Unit {0}) → demand test refusal ≡ Ok x → IsTrue test
 check_ok true refusal x h = refl
 check_ok false refusal x h = cc
 
 -- after a test that holds comes what follows
-pub checked : {Y : Type 0} (test : Bool) (refusal : Reply) (f : Unit {0} → Result Y Reply) (y : Y) → (check test refusal >>= f) ≡ Ok y → IsTrue test × (f tt ≡ Ok y)
+pub checked : {Y : Type 0} (test : Bool) (refusal : Reply) (f : Unit {0} → Result Y Reply) (y : Y) → (demand test refusal >>= f) ≡ Ok y → IsTrue test × (f tt ≡ Ok y)
 checked true refusal f y h = (refl, h)
 checked false refusal f y h = cc
 
@@ -36,22 +36,22 @@ checked false refusal f y h = cc
 pub record IsAsked (s : Situation) (action : List ℕ) (a : ℕ) : Type 0 where
   pub named : named s.parts.environment.actions action ≡ Ok a
   pub idle : IsTrue (is_idle s.phase)
-  pub related : IsTrue (is_related (system_of s) s.here)
-  pub allowed : IsTrue (is_allowed (system_of s) s.here a)
+  pub related : IsTrue (is_related (present_system s) s.here)
+  pub allowed : IsTrue (is_allowed (present_system s) s.here a)
 
 pub asked_is : (s : Situation) (action : List ℕ) (a : ℕ) → asked s action ≡ Ok a → IsAsked s action a
 unfolding asked
 asked_is s action a h =
     let (b, e, h1) = bind_ok (named s.parts.environment.actions action) _ a h in
     let (idle, h2) = checked (is_idle s.phase) reply.ErrorBusy _ a h1 in
-    let (related, h3) = checked (is_related (system_of s) s.here) reply.NoComposition _ a h2 in
-    let (allowed, h4) = checked (is_allowed (system_of s) s.here b) reply.NotAllowed _ a h3 in
+    let (related, h3) = checked (is_related (present_system s) s.here) reply.NoComposition _ a h2 in
+    let (allowed, h4) = checked (is_allowed (present_system s) s.here b) reply.NotAllowed _ a h3 in
     let same : b ≡ a = cc in
     record {
       named = e ∙ ap Ok same;
       idle = idle;
       related = related;
-      allowed = subst (λ (a : ℕ). IsTrue (is_allowed (system_of s) s.here a)) same allowed;
+      allowed = subst (λ (a : ℕ). IsTrue (is_allowed (present_system s) s.here a)) same allowed;
     }
 
 -- what was delegated, where something was
@@ -79,19 +79,19 @@ offered_is (Delegated b k) a h = cc
 -- a delegation that isn't refused answers a request, by a service that was offered for it
 pub record IsHanded (s : Situation) (x : Handing) : Type 0 where
   pub phase : s.phase ≡ Offered x.action
-  pub offered : IsTrue (has (offers (system_of s) s.here x.action) x.seat)
+  pub offered : IsTrue (has (offers (present_system s) s.here x.action) x.seat)
 
 pub handed_is : (s : Situation) (service : List ℕ) (x : Handing) → handed s service ≡ Ok x → IsHanded s x
 unfolding handed
 handed_is s service x h =
     let (k, e, h1) = bind_ok (service_named s service) _ x h in
     let (a, ea, h2) = bind_ok (offered_action s.phase) _ x h1 in
-    let (offered, h3) = checked (has (offers (system_of s) s.here a) k) reply.NotOffered _ x h2 in
+    let (offered, h3) = checked (has (offers (present_system s) s.here a) k) reply.NotOffered _ x h2 in
     let action : a ≡ x.action = cc in
     let seat : k ≡ x.seat = cc in
     record {
       phase = offered_is s.phase a ea ∙ ap Offered action;
-      offered = subst (λ (k : ℕ). IsTrue (has (offers (system_of s) s.here x.action) k)) seat (subst (λ (a : ℕ). IsTrue (has (offers (system_of s) s.here a) k)) action offered);
+      offered = subst (λ (k : ℕ). IsTrue (has (offers (present_system s) s.here x.action) k)) seat (subst (λ (a : ℕ). IsTrue (has (offers (present_system s) s.here a) k)) action offered);
     }
 
 -- no request is open
@@ -156,16 +156,16 @@ unfolding joining
 joining_idle s service behaviour state loose x h =
     let (named_well, h1) = checked (is_name service) reply.ErrorName _ x h in
     let (i, e1, h2) = bind_ok (named (map beh_name s.parts.catalogue) behaviour) _ x h1 in
-    let (b, e2, h3) = bind_ok (named (states_at s.parts.catalogue i) state) _ x h2 in
+    let (b, e2, h3) = bind_ok (named (states_of_behaviour s.parts.catalogue i) state) _ x h2 in
     idle_is s.phase (checked (is_idle s.phase) reply.ErrorBusy _ x h3).0
 
 -- the answer by the two tests of room
 room_by : Joining → Bool → Bool → Result Joining Reply
-room_by x few fits = check few reply.ErrorFull >>= (λ _. check fits reply.ErrorLimit >>= (λ _. Ok x))
+room_by x few fits = demand few reply.ErrorFull >>= (λ _. demand fits reply.ErrorLimit >>= (λ _. Ok x))
 
 -- the cells of the system with the service
 abbrev pub cells_with : Situation → Joining → ℕ
-cells_with s x = cells (after (Join (seat_of s.parts.catalogue x.seat)) (system_of s))
+cells_with s x = cells (after (Join (seat_of s.parts.catalogue x.seat)) (present_system s))
 
 -- where there is room a service joins
 pub with_room_is : (s : Situation) (x : Joining) → length s.parts.seats < MAX_SERVICES → cells_with s x ≤ s.parts.limit → with_room s x ≡ Ok x

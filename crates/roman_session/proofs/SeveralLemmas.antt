@@ -27,10 +27,10 @@ use Rattle.roman_library.specs.Targets.{PlainTargets, NamesTargets, CombinesTarg
 use Rattle.roman_library.proofs.TargetLemmas.{targets_known}
 use Rattle.roman_library.proofs.KnownLemmas.{libraries_known, behaviour_there}
 use Rattle.roman_library.proofs.CombinedLemmas.{targets_combined}
-use Rattle.roman_session.specs.Situations.{Situation, IsSituation, system_of}
+use Rattle.roman_session.specs.Situations.{Situation, IsSituation, present_system}
 use Rattle.roman_session.specs.Starts.{IsStart}
 use Rattle.roman_session.specs.Steps.{Answers, until_quit}
-use Rattle.roman_session.specs.Known.{AreNamed, IsKnown}
+use Rattle.roman_session.specs.Known.{AreNamed, IsKnownSituation}
 use Rattle.roman_session.specs.Several.{several_in, MeansAll, SeveralAreServed}
 use Rattle.roman_session.proofs.KeepLemmas.{answers_keep}
 use Rattle.roman_session.proofs.KnownLemmas.{steps_known}
@@ -91,7 +91,7 @@ module _ (said : PlainTargets) (library : PlainLibrary) (s : Situation) (combine
       let same : length s.parts.catalogue ≡ length said.catalogue = ap (λ (made : PlainCombined). length made.catalogue) parts_are ∙ catalogue_length said in
       subst (λ (n : ℕ). (get_or s.parts.seats k d).behaviour < n) same (is.parts.behaviours k d l)
 
-  system_is : system_of s ≡ combined (several_in said s)
+  system_is : present_system s ≡ combined (several_in said s)
   system_is = ap (λ (made : PlainCombined). made_system made s.parts.seats) parts_are ∙ made_combined said s.parts.seats seats_within
 
   seat_known : (seat : Seat) → seat.behaviour < length said.catalogue → IsBeh said.environment.env (beh_at said.catalogue seat.behaviour)
@@ -128,8 +128,8 @@ module _ (said : PlainTargets) (library : PlainLibrary) (s : Situation) (combine
 
 -- Sessions
 
-answers_known : (old new : Situation) (ls : List (List ℕ)) (text : List ℕ) → IsKnown old → Answers old ls text new → IsKnown new
-answers_known old new [] text known (none, same) = subst IsKnown (sym same) known
+answers_known : (old new : Situation) (ls : List (List ℕ)) (text : List ℕ) → IsKnownSituation old → Answers old ls text new → IsKnownSituation new
+answers_known old new [] text known (none, same) = subst IsKnownSituation (sym same) known
 answers_known old new (line ∷ ls) text known (said, more, mid, split, step, answers) = answers_known mid new ls more (steps_known old mid line said known step) answers
 
 pub several_served : SeveralAreServed

@@ -20,10 +20,10 @@ use Rattle.roman_parts.specs.Named.{NamedBeh}
 use Rattle.roman_joint.specs.NamedSys.{NamedSys}
 use Rattle.roman_joint.specs.NamedSys as joint
 use Rattle.roman_joint.specs.declared.seat.Seat.{Seat}
-use Rattle.roman_joint.specs.Behaviours.{IsBehaviourOf}
-use Rattle.roman_joint.specs.Names.{seat_name, beh_states, names_of_seat, names_of}
+use Rattle.roman_joint.specs.Behaviours.{IsSeatBehaviour}
+use Rattle.roman_joint.specs.Names.{seat_name, beh_states, names_of_seat, names_in}
 use Rattle.roman_generator.proofs.MoveLemmas.{states_long}
-use Rattle.roman_session.specs.Situations.{Situation, system_of, IsOpen, IsPhase, IsSituation}
+use Rattle.roman_session.specs.Situations.{Situation, present_system, IsOpen, IsPhase, IsSituation}
 use Rattle.roman_session.specs.Steps.{service_at}
 use Rattle.roman_session.specs.Layout.{situation_in, IsSession}
 use Rattle.roman_session.specs.declared.phase.Phase.{Phase}
@@ -48,71 +48,71 @@ parts_shown a s view = ap (λ (s : Situation). s.parts) view
 pub state_there : (a : Inside) (s : Situation) (k : ℕ) → IsSession a → situation_in a ≡ s → k < length s.parts.seats → k < length a.states.items
 state_there a s k ok view l =
     let t = situation_in a in
-    let long = states_long (system_of t) t.here ok.known.here in
+    let long = states_long (present_system t) t.here ok.known.here in
     omega (arith, l, long, length-map t.parts.seats (joint.seat_of t.parts.catalogue), ap (λ (s : Situation). length s.parts.seats) view)
 
 -- the pair with the number of the current one is the current one
-pub here_pair : (s : Situation) (p : ℕ) → IsSituation s → p ≡ number (sizes_of (system_of s)) s.here → pair_at (sizes_of (system_of s)) p ≡ s.here
-here_pair s p is h = ap (pair_at (sizes_of (system_of s))) h ∙ (numbers_are_pairs (system_of s)).back s.here is.here
+pub here_pair : (s : Situation) (p : ℕ) → IsSituation s → p ≡ number (sizes_of (present_system s)) s.here → pair_at (sizes_of (present_system s)) p ≡ s.here
+here_pair s p is h = ap (pair_at (sizes_of (present_system s))) h ∙ (numbers_are_pairs (present_system s)).back s.here is.here
 
 -- what is found at that number is found at the current pair
-pub at_here : {X : Type 0} (F : Sys → Pair → X) (s : Situation) (n : NamedSys) (p : ℕ) → IsSituation s → n ≡ s.parts → p ≡ number (sizes_of (system_of s)) s.here →
-    F (joint.system_of n) (pair_at (sizes_of (joint.system_of n)) p) ≡ F (system_of s) s.here
-at_here F s n p is same h = ap (λ (n : NamedSys). F (joint.system_of n) (pair_at (sizes_of (joint.system_of n)) p)) same ∙ ap (F (system_of s)) (here_pair s p is h)
+pub at_here : {X : Type 0} (F : Sys → Pair → X) (s : Situation) (n : NamedSys) (p : ℕ) → IsSituation s → n ≡ s.parts → p ≡ number (sizes_of (present_system s)) s.here →
+    F (joint.system_of n) (pair_at (sizes_of (joint.system_of n)) p) ≡ F (present_system s) s.here
+at_here F s n p is same h = ap (λ (n : NamedSys). F (joint.system_of n) (pair_at (sizes_of (joint.system_of n)) p)) same ∙ ap (F (present_system s)) (here_pair s p is h)
 
 -- what is mapped at a place
 pub mapped_at : {X Y : Type 0} (f : X → Y) (xs : List X) (k : ℕ) (x : X) (d : Y) → slice_get xs k ≡ Some x → slice_index_or (map f xs) k d ≡ f x
 mapped_at f xs k x d h = get_or_from_slice_get (map f xs) k (f x) d (slice_get-map f xs k ∙ ap (option_map f) h)
 
 -- the names of a service's states are those of its behaviour
-pub states_named : (n : NamedSys) (k : ℕ) (beh : NamedBeh) → IsBehaviourOf n k beh → (seat_names (names_of n) k).states ≡ beh.states
+pub states_named : (n : NamedSys) (k : ℕ) (beh : NamedBeh) → IsSeatBehaviour n k beh → (seat_names (names_in n) k).states ≡ beh.states
 states_named n k beh of =
     ap (λ (x : SeatNames). x.states) (mapped_at (names_of_seat n.catalogue) n.seats k of.seat (record { service = []; states = [] }) of.seated)
     ∙ mapped_at beh_states n.catalogue of.seat.behaviour beh [] of.placed
 
 -- a seat that is offered is that of a present service
-pub offered_within : (s : Situation) (a k : ℕ) → IsSituation s → IsIn k (offers (system_of s) s.here a) → k < length s.parts.seats
+pub offered_within : (s : Situation) (a k : ℕ) → IsSituation s → IsIn k (offers (present_system s) s.here a) → k < length s.parts.seats
 offered_within s a k is i =
-    let (allowed, l, some, all) = offer_is (system_of s) s.here a k is.parts.system is.here i in
+    let (allowed, l, some, all) = offer_is (present_system s) s.here a k is.parts.system is.here i in
     omega (arith, l, length-map s.parts.seats (joint.seat_of s.parts.catalogue))
 
 -- what holds at the number of the current pair holds at the current pair
-pub holds_here : (P : Sys → Pair → Type 0) (s : Situation) (n : NamedSys) (p : ℕ) → IsSituation s → n ≡ s.parts → p ≡ number (sizes_of (system_of s)) s.here →
-    P (joint.system_of n) (pair_at (sizes_of (joint.system_of n)) p) → P (system_of s) s.here
+pub holds_here : (P : Sys → Pair → Type 0) (s : Situation) (n : NamedSys) (p : ℕ) → IsSituation s → n ≡ s.parts → p ≡ number (sizes_of (present_system s)) s.here →
+    P (joint.system_of n) (pair_at (sizes_of (joint.system_of n)) p) → P (present_system s) s.here
 holds_here P s n p is same h there =
-    subst (P (system_of s)) (here_pair s p is h) (subst (λ (n : NamedSys). P (joint.system_of n) (pair_at (sizes_of (joint.system_of n)) p)) same there)
+    subst (P (present_system s)) (here_pair s p is h) (subst (λ (n : NamedSys). P (joint.system_of n) (pair_at (sizes_of (joint.system_of n)) p)) same there)
 
 -- and the other way
-pub holds_there : (P : Sys → Pair → Type 0) (s : Situation) (n : NamedSys) (p : ℕ) → IsSituation s → n ≡ s.parts → p ≡ number (sizes_of (system_of s)) s.here →
-    P (system_of s) s.here → P (joint.system_of n) (pair_at (sizes_of (joint.system_of n)) p)
+pub holds_there : (P : Sys → Pair → Type 0) (s : Situation) (n : NamedSys) (p : ℕ) → IsSituation s → n ≡ s.parts → p ≡ number (sizes_of (present_system s)) s.here →
+    P (present_system s) s.here → P (joint.system_of n) (pair_at (sizes_of (joint.system_of n)) p)
 holds_there P s n p is same h here =
-    subst (λ (n : NamedSys). P (joint.system_of n) (pair_at (sizes_of (joint.system_of n)) p)) (sym same) (subst (P (system_of s)) (sym (here_pair s p is h)) here)
+    subst (λ (n : NamedSys). P (joint.system_of n) (pair_at (sizes_of (joint.system_of n)) p)) (sym same) (subst (P (present_system s)) (sym (here_pair s p is h)) here)
 
 -- a test that tells whether the current pair is related is the definition's
-pub related_is : (s : Situation) (n : NamedSys) (p : ℕ) (r : Bool) → IsSituation s → n ≡ s.parts → p ≡ number (sizes_of (system_of s)) s.here →
-    IsTrue r ↔ Great (joint.system_of n) (pair_at (sizes_of (joint.system_of n)) p) → r ≡ is_related (system_of s) s.here
+pub related_is : (s : Situation) (n : NamedSys) (p : ℕ) (r : Bool) → IsSituation s → n ≡ s.parts → p ≡ number (sizes_of (present_system s)) s.here →
+    IsTrue r ↔ Great (joint.system_of n) (pair_at (sizes_of (joint.system_of n)) p) → r ≡ is_related (present_system s) s.here
 related_is s n p r is same h there =
     let great = holds_here (λ s p. IsTrue r ↔ Great s p) s n p is same h there in
-    let t = is_related (system_of s) s.here in
-    by_test r (λ yes. yes ∙ sym (great_related (system_of s) s.here is.parts.system (great.0 yes)))
-    (λ no. by_test t (λ yes. absurd (both_ways r no (great.1 (related_great (system_of s) s.here is.parts.system is.here yes)))) (λ other. no ∙ sym other))
+    let t = is_related (present_system s) s.here in
+    by_test r (λ yes. yes ∙ sym (great_related (present_system s) s.here is.parts.system (great.0 yes)))
+    (λ no. by_test t (λ yes. absurd (both_ways r no (great.1 (related_great (present_system s) s.here is.parts.system is.here yes)))) (λ other. no ∙ sym other))
 
 -- a current pair that isn't related is outside the greatest relation
-pub unrelated_there : (s : Situation) (n : NamedSys) (p : ℕ) → IsSituation s → n ≡ s.parts → p ≡ number (sizes_of (system_of s)) s.here → IsFalse (is_related (system_of s) s.here) →
+pub unrelated_there : (s : Situation) (n : NamedSys) (p : ℕ) → IsSituation s → n ≡ s.parts → p ≡ number (sizes_of (present_system s)) s.here → IsFalse (is_related (present_system s) s.here) →
     Great (joint.system_of n) (pair_at (sizes_of (joint.system_of n)) p) → ⊥
 unrelated_there s n p is same h unrelated great =
-    both_ways (is_related (system_of s) s.here) unrelated (great_related (system_of s) s.here is.parts.system (holds_here Great s n p is same h great))
+    both_ways (is_related (present_system s) s.here) unrelated (great_related (present_system s) s.here is.parts.system (holds_here Great s n p is same h great))
 
 -- a delegate is offered for its request
-pub delegated_is : (s : Situation) (a k : ℕ) → IsSituation s → s.phase ≡ Delegated a k → IsOpen s a × IsIn k (offers (system_of s) s.here a)
+pub delegated_is : (s : Situation) (a k : ℕ) → IsSituation s → s.phase ≡ Delegated a k → IsOpen s a × IsIn k (offers (present_system s) s.here a)
 delegated_is s a k is phase = subst (IsPhase s) phase is.phase
 
 -- and is ready
-pub delegate_ready : (s : Situation) (a k : ℕ) → IsSituation s → IsIn k (offers (system_of s) s.here a) → IsTrue (is_ready (slice_get (system_of s).seats k))
+pub delegate_ready : (s : Situation) (a k : ℕ) → IsSituation s → IsIn k (offers (present_system s) s.here a) → IsTrue (is_ready (slice_get (present_system s).seats k))
 delegate_ready s a k is i =
-    let (allowed, l, some, all) = offer_is (system_of s) s.here a k is.parts.system is.here i in
-    let (q, j) = not_empty_in (outcomes (system_of s) s.here a k) (ne_not_empty (outcomes (system_of s) s.here a k) some) in
-    (outcome_seat (system_of s) s.here a k q j).1
+    let (allowed, l, some, all) = offer_is (present_system s) s.here a k is.parts.system is.here i in
+    let (q, j) = not_empty_in (outcomes (present_system s) s.here a k) (ne_not_empty (outcomes (present_system s) s.here a k) some) in
+    (outcome_seat (present_system s) s.here a k q j).1
 
 -- a phase at the current pair is one, whatever the present phase
 pub phase_kept : (s : Situation) (new phase : Phase) → IsPhase s phase → IsPhase (record s { phase = new }) phase
@@ -129,10 +129,10 @@ pub offered_open : (s : Situation) (a : ℕ) → IsSituation s → s.phase ≡ O
 offered_open s a is phase = subst (IsPhase s) phase is.phase
 
 -- with a service in another of its states the pair is one
-pub jumped_pair : (s : Situation) (k b : ℕ) → IsSituation s → k < length s.parts.seats → IfSome (slice_get (system_of s).seats k) (λ seat. b < seat.beh.states) →
-    IsPair (system_of s) (record { t = s.here.t; e = s.here.e; bs = slice_set s.here.bs k b })
+pub jumped_pair : (s : Situation) (k b : ℕ) → IsSituation s → k < length s.parts.seats → IfSome (slice_get (present_system s).seats k) (λ seat. b < seat.beh.states) →
+    IsPair (present_system s) (record { t = s.here.t; e = s.here.e; bs = slice_set s.here.bs k b })
 jumped_pair s k b is l within =
-    let seats = (system_of s).seats in
+    let seats = (present_system s).seats in
     let (x, seated) = there_is seats k (omega (arith, l, length-map s.parts.seats (joint.seat_of s.parts.catalogue))) in
     let less : b < x.beh.states = subst (λ (o : Option Seat'). IfSome o (λ seat. b < seat.beh.states)) seated within in
     record { t = is.here.t; e = is.here.e; bs = states_set seats s.here.bs k b x is.here.bs seated less }

@@ -12,7 +12,7 @@ use Rattle.roman_joint.specs.NamedSys.{NamedSys, beh_at, seat_of, still, system_
 use Rattle.roman_joint.proofs.BehaviourLemmas.{beh_read}
 use Rattle.roman_library.specs.Library.{PlainLibrary, IsService, IsLibrary, service_name}
 use Rattle.roman_library.specs.declared.library.Service.{Service}
-use Rattle.roman_session.specs.Starts.{seat_of_service, state_of_service, parts_of, start_of}
+use Rattle.roman_session.specs.Starts.{seat_of_service, state_of_service, parts_of, start_pair_of}
 use Rattle.roman_session.specs.Building.{starting, IsSeated}
 use Rattle.roman_session.specs.declared.seating.Seated.{Seated}
 
@@ -50,7 +50,7 @@ states_within catalogue [] are = tt
 states_within catalogue (x ∷ xs) are = (state_within catalogue x are.0, states_within catalogue xs are.1)
 
 -- a library begins at a pair of its system
-pub start_pair : (library : PlainLibrary) → IsLibrary library → IsPair (system_of (parts_of library)) (start_of library)
+pub start_pair : (library : PlainLibrary) → IsLibrary library → IsPair (system_of (parts_of library)) (start_pair_of library)
 start_pair library is = record {
   t = (is.target.known library.environment.env (sym is.target.env_states) (sym is.target.actions)).start;
   e = is.environment.start;
@@ -58,14 +58,14 @@ start_pair library is = record {
 }
 
 -- the same of a system and states that are the library's
-pub seated_pair : (library : PlainLibrary) (parts : NamedSys) (bs : List ℕ) → IsLibrary library → parts ≡ parts_of library → bs ≡ (start_of library).bs →
+pub seated_pair : (library : PlainLibrary) (parts : NamedSys) (bs : List ℕ) → IsLibrary library → parts ≡ parts_of library → bs ≡ (start_pair_of library).bs →
     IsPair (system_of parts) (starting parts bs)
 seated_pair library parts bs is same states =
     subst (λ (n : NamedSys). IsPair (system_of n) (starting n bs)) (sym same)
     (subst (λ (bs : List ℕ). IsPair (system_of (parts_of library)) (starting (parts_of library) bs)) (sym states) (start_pair library is))
 
 -- the library is seated
-pub seated : (library : PlainLibrary) (x : Seated) (bs : List ℕ) → IsLibrary library → x.joint ≡ parts_of library → x.states.items ≡ (start_of library).bs → bs ≡ (start_of library).bs →
+pub seated : (library : PlainLibrary) (x : Seated) (bs : List ℕ) → IsLibrary library → x.joint ≡ parts_of library → x.states.items ≡ (start_pair_of library).bs → bs ≡ (start_pair_of library).bs →
     x.start ≡ number (sizes_of (system_of x.joint)) (starting x.joint bs) → x.start < count (sizes_of (system_of x.joint)) → MAX_SERVICES ≤ vec_capacity x.states → IsSeated library x
 seated library x bs is same states given start below room = record {
   parts = same;

@@ -12,7 +12,7 @@ use Rattle.roman_model.proofs.ArenaLemmas.{in_mask}
 use Rattle.roman_model.proofs.CompositionLemmas.{related_great, great_related}
 use Rattle.roman_model.proofs.OfferLemmas.{offer_is, related_offers}
 use Rattle.roman_model.proofs.SystemLemmas.{outcome_in, outcome_pair}
-use Rattle.roman_session.specs.Situations.{Situation, system_of, IsSituation, IsPhase}
+use Rattle.roman_session.specs.Situations.{Situation, present_system, IsSituation, IsPhase}
 use Rattle.roman_session.specs.Steps.{HasMoved, Moves, pair_after}
 use Rattle.roman_session.specs.Laws.{NotOfferedFails, RequestsAreOffered, OutcomesAreRelated}
 use Rattle.roman_session.specs.declared.events.Sight.{Sight}
@@ -35,23 +35,23 @@ not_offered_fails s p a k l allowed out =
     (λ unbeaten. absurd (out (in_mask (arena s) (λ q. not (is_related s q)) p a k allowed l unbeaten)))
 
 -- the current pair is related, where it is tested
-here_great : (s : Situation) → IsSituation s → IsTrue (is_related (system_of s) s.here) → Great (system_of s) s.here
-here_great s is related = related_great (system_of s) s.here is.parts.system is.here related
+here_great : (s : Situation) → IsSituation s → IsTrue (is_related (present_system s) s.here) → Great (present_system s) s.here
+here_great s is related = related_great (present_system s) s.here is.parts.system is.here related
 
 pub requests_offered : RequestsAreOffered
 requests_offered s action a is ok =
     let asked = asked_is s action a ok in
-    related_offers (system_of s) s.here a is.parts.system (here_great s is asked.related) asked.allowed
+    related_offers (present_system s) s.here a is.parts.system (here_great s is asked.related) asked.allowed
 
 -- where a sight is of a delegation, the pair after it is related
-pub moved_related : (old new : Situation) (x : Sight) (text : List ℕ) → IsSituation old → IsIn x.seat (offers (system_of old) old.here x.action) → Moves old x text new →
-    IsTrue (is_related (system_of new) new.here)
+pub moved_related : (old new : Situation) (x : Sight) (text : List ℕ) → IsSituation old → IsIn x.seat (offers (present_system old) old.here x.action) → Moves old x text new →
+    IsTrue (is_related (present_system new) new.here)
 moved_related old new x text is offered moves =
-    let s = system_of old in
+    let s = present_system old in
     let q = pair_after old x moves.to in
     let (allowed, l, some, all) = offer_is s old.here x.action x.seat is.parts.system is.here offered in
     let out = outcome_in s old.here x.action x.seat moves.to x.env q.bs is.parts.system moves.moved.target moves.moved.system in
-    subst (λ (s : Situation). IsTrue (is_related (system_of s) s.here)) (sym moves.becomes)
+    subst (λ (s : Situation). IsTrue (is_related (present_system s) s.here)) (sym moves.becomes)
     (great_related s q is.parts.system (all q out))
 
 pub outcomes_related : OutcomesAreRelated
@@ -60,8 +60,8 @@ outcomes_related old new state env text x is ok moves =
     moved_related old new x text is phase.1 moves
 
 -- the pair after a move is one
-pub moved_pair : (s : Situation) (x : Sight) (to : ℕ) → IsSituation s → HasMoved s x to → IsPair (system_of s) (pair_after s x to)
+pub moved_pair : (s : Situation) (x : Sight) (to : ℕ) → IsSituation s → HasMoved s x to → IsPair (present_system s) (pair_after s x to)
 moved_pair s x to is moves =
     let q = pair_after s x to in
-    outcome_pair (system_of s) s.here x.action x.seat q is.parts.system is.here
-    (outcome_in (system_of s) s.here x.action x.seat to x.env q.bs is.parts.system moves.target moves.system)
+    outcome_pair (present_system s) s.here x.action x.seat q is.parts.system is.here
+    (outcome_in (present_system s) s.here x.action x.seat to x.env q.bs is.parts.system moves.target moves.system)

@@ -15,12 +15,12 @@ use Rattle.roman_text.specs.declared.replies.Reply.{Reply}
 use Rattle.roman_text.specs.declared.replies.Reply.TheVariants as reply
 use Rattle.roman_parts.specs.Named.{NamedBeh}
 use Rattle.roman_joint.specs.NamedSys.{beh_at}
-use Rattle.roman_joint.specs.Names.{seat_name, beh_name, beh_states, states_at, names_of}
+use Rattle.roman_joint.specs.Names.{seat_name, beh_name, beh_states, states_of_behaviour, names_in}
 use Rattle.roman_joint.proofs.BehaviourLemmas.{beh_read, seat_read}
 use Rattle.roman_joint.specs.declared.seat.Seat.{Seat as Place}
 use Rattle.roman_library.specs.Library.{IsBehaviour}
 use Rattle.roman_session.specs.Known.{AreBehaviours}
-use Rattle.roman_session.specs.Situations.{Situation, system_of, is_idle, IsSituation}
+use Rattle.roman_session.specs.Situations.{Situation, present_system, is_idle, IsSituation}
 use Rattle.roman_session.specs.Rulings.{named, service_named, state_named, seat_at, frozen, thawed, died, joining}
 use Rattle.roman_session.specs.declared.events.Joining.{Joining}
 use Rattle.roman_session.proofs.NameLemmas.{name_is_new}
@@ -45,7 +45,7 @@ placed_behaviour s i behaviours l =
     let (y, there) = there_is s.parts.catalogue i l in
     (y, there, subst (IsBehaviour s.parts.environment) (get_or_from_slice_get s.parts.catalogue i y y there) (All-get_or (IsBehaviour s.parts.environment) s.parts.catalogue i y l behaviours))
 
-pub states_counted : (s : Situation) (i : ℕ) → AreBehaviours s.parts → i < length s.parts.catalogue → length (states_at s.parts.catalogue i) ≡ (beh_at s.parts.catalogue i).states
+pub states_counted : (s : Situation) (i : ℕ) → AreBehaviours s.parts → i < length s.parts.catalogue → length (states_of_behaviour s.parts.catalogue i) ≡ (beh_at s.parts.catalogue i).states
 states_counted s i behaviours l =
     let (y, there, is) = placed_behaviour s i behaviours l in
     ap (λ (names : List (List ℕ)). length names) (mapped_at beh_states s.parts.catalogue i y [] there)
@@ -53,7 +53,7 @@ states_counted s i behaviours l =
 
 -- a state that is named is one of the service's
 pub state_within : (s : Situation) (k b : ℕ) (state : List ℕ) → IsSituation s → AreBehaviours s.parts → k < length s.parts.seats → state_named s k state ≡ Ok b →
-    IfSome (slice_get (system_of s).seats k) (λ seat. b < seat.beh.states)
+    IfSome (slice_get (present_system s).seats k) (λ seat. b < seat.beh.states)
 state_within s k b state is behaviours l h =
     let (seat, seated) = there_is s.parts.seats k l in
     let inside : seat.behaviour < length s.parts.catalogue =
@@ -61,8 +61,8 @@ state_within s k b state is behaviours l h =
     (All-get_or (λ (x : Place). x.behaviour < length s.parts.catalogue) s.parts.seats k seat l is.parts.behaviours) in
     let (beh, placed, known) = placed_behaviour s seat.behaviour behaviours inside in
     let names = states_named s.parts k beh (record { seat = seat; seated = seated; placed = placed }) in
-    let less : b < length (seat_names (names_of s.parts) k).states = named_within (seat_names (names_of s.parts) k).states state b h in
-    let count : length (seat_names (names_of s.parts) k).states ≡ (beh_at s.parts.catalogue seat.behaviour).states =
+    let less : b < length (seat_names (names_in s.parts) k).states = named_within (seat_names (names_in s.parts) k).states state b h in
+    let count : length (seat_names (names_in s.parts) k).states ≡ (beh_at s.parts.catalogue seat.behaviour).states =
     ap (λ (names : List (List ℕ)). length names) names ∙ known.names ∙ ap (λ (b : Beh). b.states) (sym (beh_read s.parts.catalogue seat.behaviour beh placed)) in
     let fits : b < (beh_at s.parts.catalogue seat.behaviour).states = omega (arith, less, count) in
     subst (λ (o : Option Seat). IfSome o (λ seat. b < seat.beh.states)) (sym (seat_read s.parts k seat seated)) fits
@@ -104,13 +104,13 @@ unfolding joining
 joining_new s service behaviour state loose x behaviours h =
     let (good, h1) = checked (is_name service) reply.ErrorName _ x h in
     let (i, named_i, h2) = bind_ok (named (map beh_name s.parts.catalogue) behaviour) _ x h1 in
-    let (b, named_b, h3) = bind_ok (named (states_at s.parts.catalogue i) state) _ x h2 in
+    let (b, named_b, h3) = bind_ok (named (states_of_behaviour s.parts.catalogue i) state) _ x h2 in
     let (idle, h4) = checked (is_idle s.phase) reply.ErrorBusy _ x h3 in
     let (free, h5) = checked (is_none (place_of (map seat_name s.parts.seats) service)) reply.ErrorTaken _ x h4 in
     let whole = same_ok _ x h5 in
     let names = map seat_name s.parts.seats in
     let l : i < length s.parts.catalogue = omega (arith, named_within (map beh_name s.parts.catalogue) behaviour i named_i, length-map s.parts.catalogue beh_name) in
-    let less = named_within (states_at s.parts.catalogue i) state b named_b in
+    let less = named_within (states_of_behaviour s.parts.catalogue i) state b named_b in
     subst (IsNew s) whole (record {
       name = name_is_new names service (named names service) refl (not_ok (place_of names service) free);
       behaviour = l;

@@ -6,8 +6,8 @@ use Rattle.roman_io.specs.Sink.{Puts}
 use Rattle.roman_text.specs.Replies.{reply_text}
 use Rattle.roman_text.specs.Shapes.{LineShape, ask, saw, shape_of}
 use Rattle.roman_text.specs.declared.errors.LineError.{LineError}
-use Rattle.roman_joint.specs.Names.{names_of}
-use Rattle.roman_session.specs.Situations.{Situation, system_of, IsOpen}
+use Rattle.roman_joint.specs.Names.{names_in}
+use Rattle.roman_session.specs.Situations.{Situation, present_system, IsOpen}
 use Rattle.roman_session.specs.Rulings.{asked, seen}
 use Rattle.roman_session.specs.Reports.{report_text}
 use Rattle.roman_session.specs.Steps.{Step, CanBe, offer_text, is_quit}
@@ -23,7 +23,7 @@ answer_text s Nothing = []
 answer_text s (Line reply) = reply_text reply
 answer_text s (Offers a) = offer_text s a
 answer_text s Report = report_text s.parts s.here
-answer_text s Explanation = explain_text (system_of s) (names_of s.parts) s.list s.here
+answer_text s Explanation = explain_text (present_system s) (names_in s.parts) s.list s.here
 
 -- services are offered only for a request that is open, and only a pair that isn't related is explained
 abbrev pub CanBeSaid : Situation → Answer → Type 0
@@ -31,7 +31,7 @@ CanBeSaid s Nothing = Unit {0}
 CanBeSaid s (Line reply) = Unit {0}
 CanBeSaid s (Offers a) = IsOpen s a
 CanBeSaid s Report = Unit {0}
-CanBeSaid s Explanation = IsFalse (is_related (system_of s) s.here)
+CanBeSaid s Explanation = IsFalse (is_related (present_system s) s.here)
 
 -- the session went on by one step: its text was written, or a prefix of it where the sink failed
 pub record Answered {T E : Type 0} (old : Situation) (line : List ℕ) (new : Situation) (before after : Option (List ℕ)) (result : Result T E) : Type 0 where
@@ -41,12 +41,12 @@ pub record Answered {T E : Type 0} (old : Situation) (line : List ℕ) (new : Si
 
 -- where a request isn't refused, at least one service is offered
 abbrev pub NamesSome : Situation → List ℕ → Type 0
-NamesSome old line = (action : List ℕ) (a : ℕ) → shape_of line ≡ Ok (ask action) → asked old action ≡ Ok a → offers (system_of old) old.here a ≢ []
+NamesSome old line = (action : List ℕ) (a : ℕ) → shape_of line ≡ Ok (ask action) → asked old action ≡ Ok a → offers (present_system old) old.here a ≢ []
 
 -- where what is seen is possible, the new pair is related
-abbrev pub StaysRelated : Situation → List ℕ → Situation → Type 0
-StaysRelated old line new =
-    (state env : List ℕ) (x : Sight) → shape_of line ≡ Ok (saw state env) → seen old state env ≡ Ok x → CanBe old x → IsTrue (is_related (system_of new) new.here)
+abbrev pub SeenStaysRelated : Situation → List ℕ → Situation → Type 0
+SeenStaysRelated old line new =
+    (state env : List ℕ) (x : Sight) → shape_of line ≡ Ok (saw state env) → seen old state env ≡ Ok x → CanBe old x → IsTrue (is_related (present_system new) new.here)
 
 -- the session ends exactly at `quit`
 abbrev pub next_after : Result LineShape LineError → Next

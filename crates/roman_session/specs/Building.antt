@@ -5,7 +5,7 @@ use Rattle.roman_model.specs.Numbers.{sizes_of, count, number}
 use Rattle.roman_model.specs.declared.limits.TheConstants.{MAX_SERVICES}
 use Rattle.roman_joint.specs.NamedSys.{NamedSys, system_of, cells}
 use Rattle.roman_library.specs.Library.{PlainLibrary}
-use Rattle.roman_session.specs.Starts.{parts_of, start_of}
+use Rattle.roman_session.specs.Starts.{parts_of, start_pair_of}
 use Rattle.roman_session.specs.declared.error.BuildError.{BuildError}
 use Rattle.roman_session.specs.declared.error.BuildError.TheVariants.{Limit, Memory}
 use Rattle.roman_session.specs.declared.seating.Seated.{Seated}
@@ -18,9 +18,9 @@ starting parts bs = record { t = parts.target.beh.start; e = parts.environment.e
 -- services as there may be
 pub record IsSeated (library : PlainLibrary) (seated : Seated) : Type 0 where
   pub parts : seated.joint ≡ parts_of library
-  pub states : seated.states.items ≡ (start_of library).bs
-  pub pair : IsPair (system_of (parts_of library)) (start_of library)
-  pub start : seated.start ≡ number (sizes_of (system_of (parts_of library))) (start_of library)
+  pub states : seated.states.items ≡ (start_pair_of library).bs
+  pub pair : IsPair (system_of (parts_of library)) (start_pair_of library)
+  pub start : seated.start ≡ number (sizes_of (system_of (parts_of library))) (start_pair_of library)
   pub below : seated.start < count (sizes_of (system_of (parts_of library)))
   pub room : MAX_SERVICES ≤ vec_capacity seated.states
 

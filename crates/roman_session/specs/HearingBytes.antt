@@ -34,7 +34,7 @@ pub record StopsAtQuit (old : Spot) (taken piece : List ℕ) (new : Spot) : Type
   pub tells : Tells old (ended_lines (taken ++ heard ++ 10 ∷ [])) new
 
 -- the answer to the last of those lines wasn't written whole, and lines may follow
-pub record Fails (old : Spot) (lines : List (List ℕ)) (new : Spot) : Type 0 where
+pub record FallsShort (old : Spot) (lines : List (List ℕ)) (new : Spot) : Type 0 where
   pub tells : TellsFront old lines new
   pub known : IsSituation new.situation
 
@@ -43,7 +43,7 @@ pub record FailsIn (old : Spot) (bytes : List ℕ) (new : Spot) : Type 0 where
   pub heard : List ℕ
   pub past : List ℕ
   pub split : bytes ≡ heard ++ past
-  pub fails : Fails old (ended_lines heard) new
+  pub fails : FallsShort old (ended_lines heard) new
 
 -- the bytes were heard after what was taken before, up to a `quit` or to a fault of the sink
 abbrev pub HearsBytes : Spot → List ℕ → List ℕ → Ear → Result Next Failed → Type 0
@@ -63,5 +63,5 @@ HearsPiece room old taken piece new (Err TooLong) = IsHearing old (taken ++ take
 abbrev pub HearsRest : Spot → List ℕ → Spot → Result (Unit {0}) HearError → Type 0
 HearsRest old taken new (Ok x) = Tells old (lines taken) new
 HearsRest old taken new (Err ReadFault) = ⊥
-HearsRest old taken new (Err WriteFault) = Fails old (lines taken) new
+HearsRest old taken new (Err WriteFault) = FallsShort old (lines taken) new
 HearsRest old taken new (Err TooLong) = ⊥

@@ -15,10 +15,10 @@ pub record AreNamed (parts : NamedSys) : Type 0 where
   pub environment : length parts.environment.states ≡ parts.environment.env.states
 
 -- the situation is well formed, and whatever its session comes to will be
-pub record IsKnown (s : Situation) : Type 0 where
+pub record IsKnownSituation (s : Situation) : Type 0 where
   pub situation : IsSituation s
   pub named : AreNamed s.parts
 
 -- a step from such a situation leads to such a situation
 abbrev pub StepsStayKnown : Type 0
-StepsStayKnown = (old new : Situation) (line text : List ℕ) → IsKnown old → Step old line text new → IsKnown new
+StepsStayKnown = (old new : Situation) (line text : List ℕ) → IsKnownSituation old → Step old line text new → IsKnownSituation new

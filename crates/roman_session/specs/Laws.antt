@@ -3,21 +3,21 @@ use Rattle.std.specs.Prelude.{◌≡◌, ◌≢◌, ℕ, ◌<◌, ◌⊎◌, Lis
 use Rattle.roman_model.specs.Lists.{IsIn}
 use Rattle.roman_model.specs.System.{Sys, Pair, outcomes, is_allowed}
 use Rattle.roman_model.specs.Offers.{is_related, offers}
-use Rattle.roman_session.specs.Situations.{Situation, system_of, IsSituation}
+use Rattle.roman_session.specs.Situations.{Situation, present_system, IsSituation}
 use Rattle.roman_session.specs.Rulings.{asked, seen}
 use Rattle.roman_session.specs.declared.events.Sight.{Sight}
 use Rattle.roman_session.specs.Steps.{Moves}
 use Rattle.roman_session.specs.Reports.{report_text}
-use Rattle.roman_session.specs.Starts.{parts_of, start_of, afresh}
+use Rattle.roman_session.specs.Starts.{parts_of, start_pair_of, afresh}
 
 -- a request that isn't refused is offered to some service
 abbrev pub RequestsAreOffered : Type 0
-RequestsAreOffered = (s : Situation) (action : List ℕ) (a : ℕ) → IsSituation s → asked s action ≡ Ok a → offers (system_of s) s.here a ≢ []
+RequestsAreOffered = (s : Situation) (action : List ℕ) (a : ℕ) → IsSituation s → asked s action ≡ Ok a → offers (present_system s) s.here a ≢ []
 
 -- after an outcome that is possible the current pair is related
 abbrev pub OutcomesAreRelated : Type 0
 OutcomesAreRelated = (old new : Situation) (state env text : List ℕ) (x : Sight) → IsSituation old → seen old state env ≡ Ok x → Moves old x text new →
-    IsTrue (is_related (system_of new) new.here)
+    IsTrue (is_related (present_system new) new.here)
 
 -- a seat that isn't offered for an allowed action has no outcome, or one that isn't related
 abbrev pub NotOfferedFails : Type 0
@@ -26,4 +26,4 @@ NotOfferedFails = (s : Sys) (p : Pair) (a k : ℕ) → k < length s.seats → Is
 
 -- the report is that of the library that begins where the session stands
 abbrev pub ReportsAreAfresh : Type 0
-ReportsAreAfresh = (s : Situation) → IsSituation s → report_text s.parts s.here ≡ report_text (parts_of (afresh s)) (start_of (afresh s))
+ReportsAreAfresh = (s : Situation) → IsSituation s → report_text s.parts s.here ≡ report_text (parts_of (afresh s)) (start_pair_of (afresh s))

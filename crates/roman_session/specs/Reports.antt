@@ -4,19 +4,19 @@ use Rattle.std.specs.List.{filter, flat_map}
 use Rattle.roman_model.specs.Lists.{below}
 use Rattle.roman_model.specs.System.{Pair, pairs, is_final, is_allowed}
 use Rattle.roman_model.specs.Explanation.{name_at}
-use Rattle.roman_model.specs.Offers.{is_related, offers}
+use Rattle.roman_model.specs.Offers.{is_related, offers, related_count}
 use Rattle.roman_text.specs.Report.{line_text}
 use Rattle.roman_text.specs.declared.report.ReportLine.{ReportLine}
 use Rattle.roman_text.specs.declared.report.ReportLine.TheVariants as line
 use Rattle.roman_parts.specs.Named.{NamedBeh}
 use Rattle.roman_joint.specs.NamedSys.{NamedSys, system_of}
 use Rattle.roman_joint.specs.declared.seat.Seat.{Seat}
-use Rattle.roman_joint.specs.Names.{seat_name, beh_name, states_at}
+use Rattle.roman_joint.specs.Names.{seat_name, beh_name, states_of_behaviour}
 
 -- the line of a service that is in state b
 abbrev pub service_line : List NamedBeh → Seat → ℕ → ReportLine
 service_line catalogue seat b =
-    line.Service seat.name (name_at (map beh_name catalogue) seat.behaviour) (name_at (states_at catalogue seat.behaviour) b) seat.frozen (not seat.rests)
+    line.Service seat.name (name_at (map beh_name catalogue) seat.behaviour) (name_at (states_of_behaviour catalogue seat.behaviour) b) seat.frozen (not seat.rests)
 
 -- the lines of the services
 abbrev pub service_lines : List NamedBeh → List Seat → List ℕ → List ReportLine
@@ -37,15 +37,11 @@ offer_lines parts p =
     then flat_map (offer_line parts p) (filter (is_allowed (system_of parts) p) (below (system_of parts).env.actions))
     else []
 
--- how many pairs are related
-abbrev pub related_count : NamedSys → ℕ
-related_count parts = length (filter (is_related (system_of parts)) (pairs (system_of parts)))
-
 -- the first lines
-abbrev pub head_lines : NamedSys → Pair → List ReportLine
-head_lines parts p =
+abbrev pub report_head : NamedSys → Pair → List ReportLine
+report_head parts p =
     line.Pairs (length (pairs (system_of parts)))
-    ∷ line.Related (related_count parts)
+    ∷ line.Related (related_count (system_of parts))
     ∷ line.Environment (name_at parts.environment.states p.e)
     ∷ line.Target (name_at parts.target.states p.t) (is_final parts.target.beh p.t)
     ∷ []
@@ -53,7 +49,7 @@ head_lines parts p =
 -- the lines of the report
 abbrev pub report_lines : NamedSys → Pair → List ReportLine
 report_lines parts p =
-    head_lines parts p
+    report_head parts p
     ++ (service_lines parts.catalogue parts.seats p.bs
     ++ line.Answer (is_related (system_of parts) p)
     ∷ (offer_lines parts p ++ line.End ∷ []))

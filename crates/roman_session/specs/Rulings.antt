@@ -12,8 +12,8 @@ use Rattle.roman_read.specs.Names.{is_name, place_of}
 use Rattle.roman_text.specs.declared.replies.Reply.{Reply}
 use Rattle.roman_text.specs.declared.replies.Reply.TheVariants as reply
 use Rattle.roman_joint.specs.NamedSys.{still, seat_of, cells}
-use Rattle.roman_joint.specs.Names.{seat_name, beh_name, states_at, names_of}
-use Rattle.roman_session.specs.Situations.{Situation, system_of, is_idle}
+use Rattle.roman_joint.specs.Names.{seat_name, beh_name, states_of_behaviour, names_in}
+use Rattle.roman_session.specs.Situations.{Situation, present_system, is_idle}
 use Rattle.roman_session.specs.declared.events.Handing.{Handing}
 use Rattle.roman_session.specs.declared.events.Joining.{Joining}
 use Rattle.roman_session.specs.declared.events.Jump.{Jump}
@@ -33,17 +33,17 @@ service_named s name = named (map seat_name s.parts.seats) name
 
 -- the number of a state of the service at place k
 abbrev pub state_named : Situation → ℕ → List ℕ → Result ℕ Reply
-state_named s k name = named (seat_names (names_of s.parts) k).states name
+state_named s k name = named (seat_names (names_in s.parts) k).states name
 
 -- ---- tests
 
 -- goes on where the test holds
-abbrev pub check : Bool → Reply → Result (Unit {0}) Reply
-check test refusal = if test then Ok tt else Err refusal
+abbrev pub demand : Bool → Reply → Result (Unit {0}) Reply
+demand test refusal = if test then Ok tt else Err refusal
 
 -- goes on where no request is open
 abbrev pub check_idle : Phase → Result (Unit {0}) Reply
-check_idle phase = check (is_idle phase) reply.ErrorBusy
+check_idle phase = demand (is_idle phase) reply.ErrorBusy
 
 -- the action for which services were offered
 abbrev pub offered_action : Phase → Result ℕ Reply
@@ -64,8 +64,8 @@ unfoldable pub asked : Situation → List ℕ → Result ℕ Reply
 asked s action = do
   a ← named s.parts.environment.actions action
   _ ← check_idle s.phase
-  _ ← check (is_related (system_of s) s.here) reply.NoComposition
-  _ ← check (is_allowed (system_of s) s.here a) reply.NotAllowed
+  _ ← demand (is_related (present_system s) s.here) reply.NoComposition
+  _ ← demand (is_allowed (present_system s) s.here a) reply.NotAllowed
   Ok a
 
 -- use S: what is delegated to which seat
@@ -73,7 +73,7 @@ unfoldable pub handed : Situation → List ℕ → Result Handing Reply
 handed s service = do
   k ← service_named s service
   a ← offered_action s.phase
-  _ ← check (has (offers (system_of s) s.here a) k) reply.NotOffered
+  _ ← demand (has (offers (present_system s) s.here a) k) reply.NotOffered
   Ok (record { action = a; seat = k })
 
 -- saw B E: the states that are seen
@@ -86,7 +86,7 @@ seen s state env = do
 
 -- abort
 unfoldable pub aborted : Situation → Result (Unit {0}) Reply
-aborted s = check (not (is_idle s.phase)) reply.ErrorIdle
+aborted s = demand (not (is_idle s.phase)) reply.ErrorIdle
 
 -- ---- jumps
 
@@ -109,14 +109,14 @@ env_jumped s env = do
 
 -- the seat at place k
 abbrev pub seat_at : Situation → ℕ → model.Seat
-seat_at s k = slice_index_or (system_of s).seats k (record { beh = still; frozen = true; rests = true })
+seat_at s k = slice_index_or (present_system s).seats k (record { beh = still; frozen = true; rests = true })
 
 -- freeze S: the seat
 unfoldable pub frozen : Situation → List ℕ → Result ℕ Reply
 frozen s service = do
   k ← service_named s service
   _ ← check_idle s.phase
-  _ ← check (not (seat_at s k).frozen) reply.ErrorFrozen
+  _ ← demand (not (seat_at s k).frozen) reply.ErrorFrozen
   Ok k
 
 -- thaw S: the seat
@@ -124,7 +124,7 @@ unfoldable pub thawed : Situation → List ℕ → Result ℕ Reply
 thawed s service = do
   k ← service_named s service
   _ ← check_idle s.phase
-  _ ← check (seat_at s k).frozen reply.ErrorReady
+  _ ← demand (seat_at s k).frozen reply.ErrorReady
   Ok k
 
 -- die S: the seat
@@ -137,26 +137,26 @@ died s service = do
 -- join S B STATE, or join S B STATE loose: the service, whether there is room for it or not
 unfoldable pub joining : Situation → List ℕ → List ℕ → List ℕ → Bool → Result Joining Reply
 joining s service behaviour state loose = do
-  _ ← check (is_name service) reply.ErrorName
+  _ ← demand (is_name service) reply.ErrorName
   i ← named (map beh_name s.parts.catalogue) behaviour
-  b ← named (states_at s.parts.catalogue i) state
+  b ← named (states_of_behaviour s.parts.catalogue i) state
   _ ← check_idle s.phase
-  _ ← check (is_none (place_of (map seat_name s.parts.seats) service)) reply.ErrorTaken
+  _ ← demand (is_none (place_of (map seat_name s.parts.seats) service)) reply.ErrorTaken
   Ok (record { seat = record { name = service; behaviour = i; frozen = false; rests = not loose }; state = b })
 
 -- the service that joins, where there is room for it
 abbrev pub with_room : Situation → Joining → Result Joining Reply
 with_room s x = do
-  _ ← check (nat_lt (length s.parts.seats) MAX_SERVICES) reply.ErrorFull
-  _ ← check (nat_le (cells (after (Join (seat_of s.parts.catalogue x.seat)) (system_of s))) s.parts.limit) reply.ErrorLimit
+  _ ← demand (nat_lt (length s.parts.seats) MAX_SERVICES) reply.ErrorFull
+  _ ← demand (nat_le (cells (after (Join (seat_of s.parts.catalogue x.seat)) (present_system s))) s.parts.limit) reply.ErrorLimit
   Ok x
 
 -- join S B STATE, or join S B STATE loose: the service
-abbrev pub joined : Situation → List ℕ → List ℕ → List ℕ → Bool → Result Joining Reply
-joined s service behaviour state loose = joining s service behaviour state loose >>= with_room s
+abbrev pub join_of : Situation → List ℕ → List ℕ → List ℕ → Bool → Result Joining Reply
+join_of s service behaviour state loose = joining s service behaviour state loose >>= with_room s
 
 -- ---- questions
 
 -- explain
 unfoldable pub unexplained : Situation → Result (Unit {0}) Reply
-unexplained s = check (not (is_related (system_of s) s.here)) reply.ErrorRelated
+unexplained s = demand (not (is_related (present_system s) s.here)) reply.ErrorRelated

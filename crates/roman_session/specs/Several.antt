@@ -10,7 +10,7 @@ use Rattle.roman_multi.specs.Combining.{machines}
 use Rattle.roman_library.specs.Documents.{library_of}
 use Rattle.roman_library.specs.Library.{PlainLibrary}
 use Rattle.roman_library.specs.Targets.{PlainTargets, NamesTargets}
-use Rattle.roman_session.specs.Situations.{Situation, IsSituation, system_of}
+use Rattle.roman_session.specs.Situations.{Situation, IsSituation, present_system}
 use Rattle.roman_session.specs.Starts.{IsStart}
 use Rattle.roman_session.specs.Steps.{Told}
 
@@ -20,8 +20,8 @@ several_in said s = record { env = said.environment.env; targets = machines said
 
 -- the present system is the one that stands for all of them, and a pair of it is related exactly where some simulation of them all holds it
 pub record MeansAll (said : PlainTargets) (s : Situation) : Type 0 where
-  pub system : system_of s ≡ combined (several_in said s)
-  pub great : (p : Pair) → IsPair (system_of s) p → Great (system_of s) p ↔ GreatAll (several_in said s) (couple_all (several_in said s) p)
+  pub system : present_system s ≡ combined (several_in said s)
+  pub great : (p : Pair) → IsPair (present_system s) p → Great (present_system s) p ↔ GreatAll (several_in said s) (couple_all (several_in said s) p)
 
 -- so it is in every session of an accepted document of several targets, after any lines
 abbrev pub SeveralAreServed : Type 0

@@ -19,8 +19,8 @@ pub record Situation : Type 0 where
   pub list : List (Entry Pair)
 
 -- the system of the services now present
-abbrev pub system_of : Situation → Sys
-system_of s = joint.system_of s.parts
+abbrev pub present_system : Situation → Sys
+present_system s = joint.system_of s.parts
 
 -- ---- phases
 
@@ -32,17 +32,17 @@ is_idle (Delegated a k) = false
 
 -- the current pair is related, and the target allows the action there
 abbrev pub IsOpen : Situation → ℕ → Type 0
-IsOpen s a = IsTrue (is_related (system_of s) s.here) × IsTrue (is_allowed (system_of s) s.here a)
+IsOpen s a = IsTrue (is_related (present_system s) s.here) × IsTrue (is_allowed (present_system s) s.here a)
 
 -- the request can be served, and its delegate is offered for it
 abbrev pub IsPhase : Situation → Phase → Type 0
 IsPhase s Idle = Unit {0}
 IsPhase s (Offered a) = IsOpen s a
-IsPhase s (Delegated a k) = IsOpen s a × IsIn k (offers (system_of s) s.here a)
+IsPhase s (Delegated a k) = IsOpen s a × IsIn k (offers (present_system s) s.here a)
 
 -- what holds between any two lines
 pub record IsSituation (s : Situation) : Type 0 where
   pub parts : IsNamedSys s.parts
-  pub here : IsPair (system_of s) s.here
-  pub list : IsComplete (system_of s) s.list
+  pub here : IsPair (present_system s) s.here
+  pub list : IsComplete (present_system s) s.list
   pub phase : IsPhase s s.phase

@@ -6,7 +6,7 @@ use Rattle.roman_joint.specs.NamedSys.{NamedSys}
 use Rattle.roman_joint.specs.declared.seat.Seat.{Seat}
 use Rattle.roman_library.specs.Library.{PlainLibrary}
 use Rattle.roman_library.specs.declared.library.Service.{Service}
-use Rattle.roman_session.specs.Situations.{Situation, system_of}
+use Rattle.roman_session.specs.Situations.{Situation, present_system}
 use Rattle.roman_session.specs.declared.phase.Phase.TheVariants.{Idle}
 
 -- the place that a service takes in a system
@@ -28,8 +28,8 @@ parts_of library = record {
 }
 
 -- the states in which the library's parts and services begin
-abbrev pub start_of : PlainLibrary → Pair
-start_of library = record {
+abbrev pub start_pair_of : PlainLibrary → Pair
+start_pair_of library = record {
   t = library.target.beh.start;
   e = library.environment.env.start;
   bs = map state_of_service library.services;
@@ -38,9 +38,9 @@ start_of library = record {
 -- nothing was asked for yet, and the list is any complete one
 pub record IsStart (library : PlainLibrary) (s : Situation) : Type 0 where
   pub parts : s.parts ≡ parts_of library
-  pub here : s.here ≡ start_of library
+  pub here : s.here ≡ start_pair_of library
   pub phase : s.phase ≡ Idle
-  pub list : IsComplete (system_of s) s.list
+  pub list : IsComplete (present_system s) s.list
 
 -- the services, each in its present state
 abbrev pub services_in : List Seat → List ℕ → List Service

@@ -16,9 +16,9 @@ use Rattle.roman_text.specs.declared.replies.Reply.TheVariants as reply
 use Rattle.roman_joint.specs.NamedSys.{NamedSys, seat_of}
 use Rattle.roman_joint.specs.Changes.{with_frozen}
 use Rattle.roman_joint.specs.declared.seat.Seat.{Seat}
-use Rattle.roman_joint.specs.Names.{seat_name, names_of}
-use Rattle.roman_session.specs.Situations.{Situation, system_of}
-use Rattle.roman_session.specs.Rulings.{seat_at, asked, handed, seen, aborted, jumped, env_jumped, frozen, thawed, died, joined, unexplained}
+use Rattle.roman_joint.specs.Names.{seat_name, names_in}
+use Rattle.roman_session.specs.Situations.{Situation, present_system}
+use Rattle.roman_session.specs.Rulings.{seat_at, asked, handed, seen, aborted, jumped, env_jumped, frozen, thawed, died, join_of, unexplained}
 use Rattle.roman_session.specs.Reports.{report_text}
 use Rattle.roman_session.specs.declared.events.Handing.{Handing}
 use Rattle.roman_session.specs.declared.events.Joining.{Joining}
@@ -35,7 +35,7 @@ service_at s k = name_at (map seat_name s.parts.seats) k
 -- the line that names the services offered for a
 unfoldable pub offer_text : Situation → ℕ → List ℕ
 offer_text s a =
-    reply_text reply.Offer ++ flat_map (λ k. reply_text (reply.Serves (service_at s k))) (offers (system_of s) s.here a) ++ reply_text reply.Stop
+    reply_text reply.Offer ++ flat_map (λ k. reply_text (reply.Serves (service_at s k))) (offers (present_system s) s.here a) ++ reply_text reply.Stop
 
 -- do: the services that are offered are named
 abbrev pub Asks : Situation → ℕ → List ℕ → Situation → Type 0
@@ -51,11 +51,11 @@ pair_after s x t = record { t = t; e = x.env; bs = slice_set s.here.bs x.seat x.
 
 -- some system step leads to what is seen
 abbrev pub CanBe : Situation → Sight → Type 0
-CanBe s x = SStep (system_of s) s.here.bs s.here.e x.action x.seat (slice_set s.here.bs x.seat x.state) x.env
+CanBe s x = SStep (present_system s) s.here.bs s.here.e x.action x.seat (slice_set s.here.bs x.seat x.state) x.env
 
 -- a target step and the system step lead there, and the target goes to t
 pub record HasMoved (s : Situation) (x : Sight) (t : ℕ) : Type 0 where
-  pub target : TStep (system_of s) s.here.t s.here.e x.action t x.env
+  pub target : TStep (present_system s) s.here.t s.here.e x.action t x.env
   pub system : CanBe s x
 
 -- the pair moves
@@ -113,8 +113,8 @@ pub record Changes (old : Situation) (x : Changing) (text : List ℕ) (new : Sit
   pub kept : List (Entry Pair)
   pub added : List (Entry Pair)
   pub becomes : new ≡ record { parts = parts_after old x; here = x.here; phase = old.phase; list = kept ++ added }
-  pub replays : kept ≡ replay (arena (system_of new)) (rename x.change old.list)
-  pub complete : IsComplete (system_of new) (kept ++ added)
+  pub replays : kept ≡ replay (arena (present_system new)) (rename x.change old.list)
+  pub complete : IsComplete (present_system new) (kept ++ added)
   pub says : text ≡ reply_text (reply.Kept (length kept) (length added))
 
 -- freeze
@@ -135,7 +135,7 @@ Joins old x text new = Changes old (growing old x) text new
 
 -- explain: the part of the list on which the current pair's entry rests is shown
 abbrev pub Explains : Situation → Unit {0} → List ℕ → Situation → Type 0
-Explains old x text new = (text ≡ explain_text (system_of old) (names_of old.parts) old.list old.here) × (new ≡ old)
+Explains old x text new = (text ≡ explain_text (present_system old) (names_in old.parts) old.list old.here) × (new ≡ old)
 
 -- nothing but the text
 abbrev pub Says : Situation → List ℕ → List ℕ → Situation → Type 0
@@ -158,7 +158,7 @@ StepOn old abort text new = Does Aborts old (aborted old) text new
 StepOn old (freeze service) text new = Does Freezes old (frozen old service) text new
 StepOn old (thaw service) text new = Does Thaws old (thawed old service) text new
 StepOn old (die service) text new = Does Dies old (died old service) text new
-StepOn old (join service behaviour state loose) text new = Does Joins old (joined old service behaviour state loose) text new
+StepOn old (join service behaviour state loose) text new = Does Joins old (join_of old service behaviour state loose) text new
 StepOn old (jump service state) text new = Does Jumps old (jumped old service state) text new
 StepOn old (jump_env env) text new = Does EnvJumps old (env_jumped old env) text new
 StepOn old report text new = Says old (report_text old.parts old.here) text new

@@ -8,32 +8,32 @@ use Rattle.roman_model.specs.Explanation.{name_at}
 use Rattle.roman_text.specs.Shapes.{LineShape, ask, hand, report, shape_of}
 use Rattle.roman_text.specs.declared.report.ReportLine.{ReportLine}
 use Rattle.roman_text.specs.declared.report.ReportLine.TheVariants as line
-use Rattle.roman_session.specs.Situations.{Situation, system_of, IsSituation}
+use Rattle.roman_session.specs.Situations.{Situation, present_system, IsSituation}
 use Rattle.roman_session.specs.Steps.{Step, service_at}
 use Rattle.roman_session.specs.Rulings.{named, service_named}
 use Rattle.roman_session.specs.Reports.{lines_text, report_text, service_lines}
-use Rattle.roman_session.specs.Starts.{parts_of, start_of, afresh}
+use Rattle.roman_session.specs.Starts.{parts_of, start_pair_of, afresh}
 use Rattle.roman_session.specs.declared.phase.Phase.{Phase}
 use Rattle.roman_session.specs.declared.phase.Phase.TheVariants.{Idle, Offered, Delegated}
 
 -- the current pair is related
 abbrev pub IsGreat : Situation → Type 0
-IsGreat s = Great (system_of s) s.here
+IsGreat s = Great (present_system s) s.here
 
 -- the target may ask for the action
 abbrev pub MayAsk : Situation → ℕ → Type 0
-MayAsk s a = Allows (system_of s) s.here.t s.here.e a
+MayAsk s a = Allows (present_system s) s.here.t s.here.e a
 
 -- the service at place k serves the action: it may answer each of the target's steps, and whatever it does leads to related pairs
 abbrev pub ServesHere : Situation → ℕ → ℕ → Type 0
-ServesHere s a k = Serves (system_of s) (GreatCouple (system_of s)) (couple s.here) a k
+ServesHere s a k = Serves (present_system s) (GreatCouple (present_system s)) (couple s.here) a k
 
 -- ---- requests
 
 -- exactly the services that serve the action, in their order
 pub record AreServing (s : Situation) (a : ℕ) (ks : List ℕ) : Type 0 where
-  pub order : IsSublist ks (below (length (system_of s).seats))
-  pub exact : (k : ℕ) → IsIn k ks ↔ ((k < length (system_of s).seats) × ServesHere s a k)
+  pub order : IsSublist ks (below (length (present_system s).seats))
+  pub exact : (k : ℕ) → IsIn k ks ↔ ((k < length (present_system s).seats) × ServesHere s a k)
 
 -- the text offers exactly these services
 pub record OffersServing (s : Situation) (a : ℕ) (text : List ℕ) : Type 0 where
@@ -75,16 +75,16 @@ offered_lines s a ks = line.Offer (name_at s.parts.environment.actions a) ∷ (m
 pub record ReportsGreat (s : Situation) (text : List ℕ) : Type 0 where
   pub related : List Pair
   pub once : HasNoRepeats related
-  pub each : (p : Pair) → IsIn p related ↔ (IsPair (system_of s) p × Great (system_of s) p)
+  pub each : (p : Pair) → IsIn p related ↔ (IsPair (present_system s) p × Great (present_system s) p)
   pub composes : Bool
   pub answer : IsTrue composes ↔ IsGreat s
   pub actions : List ℕ
-  pub order : IsSublist actions (below (system_of s).env.actions)
+  pub order : IsSublist actions (below (present_system s).env.actions)
   pub allowed : (a : ℕ) → IsIn a actions ↔ (IsGreat s × MayAsk s a)
   pub services : ℕ → List ℕ
   pub serving : (a : ℕ) → IsIn a actions → AreServing s a (services a)
   pub says : text ≡ lines_text (
-      line.Pairs (length (pairs (system_of s)))
+      line.Pairs (length (pairs (present_system s)))
       ∷ line.Related (length related)
       ∷ line.Environment (name_at s.parts.environment.states s.here.e)
       ∷ line.Target (name_at s.parts.target.states s.here.t) (is_final s.parts.target.beh s.here.t)
@@ -94,7 +94,7 @@ pub record ReportsGreat (s : Situation) (text : List ℕ) : Type 0 where
 
 -- the answer to `report` is that of a synthesis afresh, and right
 pub record AnswersReport (s : Situation) (text : List ℕ) : Type 0 where
-  pub afresh : text ≡ report_text (parts_of (afresh s)) (start_of (afresh s))
+  pub afresh : text ≡ report_text (parts_of (afresh s)) (start_pair_of (afresh s))
   pub great : ReportsGreat s text
 
 -- ---- the word

@@ -3,7 +3,7 @@ ghost use Rattle.std.specs.Prelude.{◌≡◌, ◌<◌, ◌≤◌, map, length, 
 ghost use Rattle.roman_model.specs.Explanation.{seat_names};
 ghost use Rattle.roman_model.specs.declared.limits.TheConstants.{MAX_BEHAVIOURS};
 ghost use Rattle.roman_joint.specs.NamedSys.{beh_at, system_of};
-ghost use Rattle.roman_joint.specs.Names.{seat_name, beh_name, states_at, names_of};
+ghost use Rattle.roman_joint.specs.Names.{seat_name, beh_name, states_of_behaviour, names_in};
 ghost use Rattle.roman_session.specs.Rulings.{named};
 
 use roman_joint::Joint;
@@ -39,7 +39,7 @@ pub(crate) fn service_place(joint: &Joint, name: &[u8]) -> Result<u8, Reply>
 /// The number of a state of the service at place k.
 pub(crate) fn state_place(joint: &Joint, k: u8, name: &[u8]) -> Result<u8, Reply>
     requires { k < length joint.now.seats }
-    ensures place { result ≡ named (seat_names (names_of joint.now) k).states name.now }
+    ensures place { result ≡ named (seat_names (names_in joint.now) k).states name.now }
     ensures within { IfOk result (λ b. IfSome (slice_get (system_of joint.now).seats k) (λ seat. b < seat.beh.states)) }
 {
     joint.known();
@@ -61,7 +61,7 @@ pub(crate) fn behaviour_place(catalogue: &[Behaviour], name: &[u8]) -> Result<u8
 /// The number of a state of the behaviour at place i.
 pub(crate) fn behaviour_state(catalogue: &[Behaviour], i: u8, name: &[u8]) -> Result<u8, Reply>
     requires { i < length catalogue.now }
-    ensures place { result ≡ named (states_at catalogue.now i) name.now }
+    ensures place { result ≡ named (states_of_behaviour catalogue.now i) name.now }
     ensures within { IfOk result (λ b. b < (beh_at catalogue.now i).states) }
 {
     place(catalogue[i as usize].states(), name)

@@ -5,12 +5,11 @@ ghost use Rattle.roman_model.specs.System.{IsPair, pairs, has, is_allowed};
 ghost use Rattle.roman_model.specs.System as model;
 ghost use Rattle.roman_model.specs.Numbers.{sizes_of, count, number, entry_at};
 ghost use Rattle.roman_model.specs.Explanation.{name_at};
-ghost use Rattle.roman_model.specs.Offers.{is_related, offers};
+ghost use Rattle.roman_model.specs.Offers.{is_related, offers, related_count};
 ghost use Rattle.roman_radix.specs.Radix.{moved};
 ghost use Rattle.roman_rules.specs.Bits.{HasBits};
 ghost use Rattle.roman_relation.specs.Greatest.{IsRelation};
-ghost use Rattle.roman_session.specs.Situations.{Situation, system_of, is_idle, IsOpen, IsPhase, IsSituation};
-ghost use Rattle.roman_session.specs.Reports.{related_count};
+ghost use Rattle.roman_session.specs.Situations.{Situation, present_system, is_idle, IsOpen, IsPhase, IsSituation};
 
 mod answering;
 mod building;
@@ -53,21 +52,21 @@ impl Model for Session {
 impl Session {
     /// The number of pairs.
     pub fn pairs(&self) -> u32
-        ensures { result ≡ length (pairs (system_of self.now)) }
+        ensures { result ≡ length (pairs (present_system self.now)) }
     {
         self.relation.joint.shape().pairs()
     }
 
     /// The number of related pairs.
     pub fn related(&self) -> u32
-        ensures { result ≡ related_count self.now.parts }
+        ensures { result ≡ related_count (present_system self.now) }
     {
         self.relation.count()
     }
 
     /// Whether a composition exists from the current pair: it is related.
     pub fn composes(&self) -> bool
-        ensures { result ≡ is_related (system_of self.now) self.now.here }
+        ensures { result ≡ is_related (present_system self.now) self.now.here }
     {
         self.relation.related(self.here())
     }
@@ -85,7 +84,7 @@ impl Session {
     pub fn relation(&self) -> &Relation
         ensures parts { result.now.joint ≡ self.now.parts }
         ensures relation { IsRelation result.now.joint result.now.order }
-        ensures list { self.now.list ≡ map (entry_at (system_of self.now)) result.now.order.list }
+        ensures list { self.now.list ≡ map (entry_at (present_system self.now)) result.now.order.list }
     {
         &self.relation
     }
@@ -99,8 +98,8 @@ impl Session {
 
     // The number of the current pair.
     fn here(&self) -> u32
-        ensures number { result ≡ number (sizes_of (system_of self.now)) self.now.here }
-        ensures below { result < count (sizes_of (system_of self.now)) }
+        ensures number { result ≡ number (sizes_of (present_system self.now)) self.now.here }
+        ensures below { result < count (sizes_of (present_system self.now)) }
     {
         let shape = self.relation.joint.shape();
         shape.number(self.target, self.env, &self.states)
@@ -110,31 +109,31 @@ impl Session {
     fn state(&self, k: u8) -> u8
         requires { k < length self.now.parts.seats }
         ensures value { result ≡ slice_index self.now.here.bs k }
-        ensures within { (seat : model.Seat) → slice_get (system_of self.now).seats k ≡ Some seat → result < seat.beh.states }
+        ensures within { (seat : model.Seat) → slice_get (present_system self.now).seats k ≡ Some seat → result < seat.beh.states }
     {
         self.states[k as usize]
     }
 
     // The number of actions.
     fn actions(&self) -> u8
-        ensures { result ≡ (system_of self.now).env.actions }
+        ensures { result ≡ (present_system self.now).env.actions }
     {
         self.relation.joint.environment().actions().len() as u8
     }
 
     // Whether the target allows the action at the current pair.
     fn allows(&self, a: u8) -> bool
-        requires { a < (system_of self.now).env.actions }
-        ensures { result ≡ is_allowed (system_of self.now) self.now.here a }
+        requires { a < (present_system self.now).env.actions }
+        ensures { result ≡ is_allowed (present_system self.now) self.now.here a }
     {
         self.relation.joint.allowed(self.here(), a)
     }
 
     // The services that are offered for the action, one bit each.
     fn offered(&self, a: u8) -> u32
-        requires related { IsTrue (is_related (system_of self.now) self.now.here) }
-        requires allowed { IsTrue (is_allowed (system_of self.now) self.now.here a) }
-        ensures { HasBits result (has (offers (system_of self.now) self.now.here a)) }
+        requires related { IsTrue (is_related (present_system self.now) self.now.here) }
+        requires allowed { IsTrue (is_allowed (present_system self.now) self.now.here a) }
+        ensures { HasBits result (has (offers (present_system self.now) self.now.here a)) }
     {
         offers(&self.relation, self.here(), a)
     }
@@ -150,7 +149,7 @@ impl Session {
     fn is_offered(&self, a: u8, k: u8) -> bool
         requires open { IsOpen self.now a }
         requires seat { k < length self.now.parts.seats }
-        ensures { result ≡ has (offers (system_of self.now) self.now.here a) k }
+        ensures { result ≡ has (offers (present_system self.now) self.now.here a) k }
     {
         self.known();
         (self.offered(a) >> k) & 1 == 1
@@ -174,7 +173,7 @@ impl Session {
 
     // The name of an action.
     fn action_name(&self, a: u8) -> Name
-        requires { a < (system_of self.now).env.actions }
+        requires { a < (present_system self.now).env.actions }
         ensures { result ≡ name_at self.now.parts.environment.actions a }
     {
         *self.relation.joint.environment().actions().at(u32::from(a))
@@ -191,7 +190,7 @@ impl Session {
     // Moves the target, the environment and the service at place k to other states, where no request
     // is open then.
     fn move_to(&mut self, t: u8, e: u8, k: u8, b: u8)
-        requires pair { IsPair (system_of self.old) (moved self.old.here t e k b) }
+        requires pair { IsPair (present_system self.old) (moved self.old.here t e k b) }
         requires seat { k < length self.old.parts.seats }
         ensures { self.new ≡ record self.old { here = moved self.old.here t e k b; phase = Phase.Idle } }
     {
@@ -203,7 +202,7 @@ impl Session {
 
     // Moves the environment to another state, where no request is open.
     fn move_env(&mut self, e: u8)
-        requires state { e < (system_of self.old).env.states }
+        requires state { e < (present_system self.old).env.states }
         requires idle { self.old.phase ≡ Phase.Idle }
         ensures { self.new ≡ record self.old { here = record self.old.here { e = e } } }
     {

@@ -18,12 +18,12 @@ use Rattle.roman_joint.specs.NamedSys.{NamedSys, system_of}
 use Rattle.roman_library.specs.Library.{PlainLibrary}
 use Rattle.roman_library.specs.Refusals.{refusal_of}
 use Rattle.roman_library.specs.declared.refusal.Part.TheVariants as part
-use Rattle.roman_session.specs.Starts.{parts_of, start_of}
+use Rattle.roman_session.specs.Starts.{parts_of, start_pair_of}
 use Rattle.roman_session.specs.Building.{IsSeated}
 use Rattle.roman_session.specs.declared.seating.Seated.{Seated}
 use Rattle.roman_cost.specs.AdviceText.{Advising, Unrelated, TooMany, Told, advice_text, advised_by}
 use Rattle.roman_cost.specs.Costs.{costs_of}
-use Rattle.roman_cost.specs.Refusals.{Reads, Caused, place_of_rule}
+use Rattle.roman_cost.specs.Refusals.{ReadsAs, HasCostCause, place_of_rule}
 use Rattle.roman_cost.specs.Tables.{CostTable}
 use Rattle.roman_cost.specs.declared.costs.Listed.{Listed}
 use Rattle.roman_cost.specs.declared.error.CostError.{CostError}
@@ -35,8 +35,8 @@ use Rattle.roman_top.specs.Advice.{SaysAdvice, OnCosts, GivesAdvice, Affords, Te
 use Rattle.roman_top.specs.Causes.{ShelfCause, SinkCause}
 use Rattle.roman_top.specs.Command.{Advise, On}
 use Rattle.roman_top.specs.Complete.{IsAnswered}
-use Rattle.roman_top.specs.Endings.{Accepts, Opens, Finishes, Stops, Writes, WritesText}
-use Rattle.roman_top.specs.Opening.{Says, opened, OnOpening}
+use Rattle.roman_top.specs.Endings.{Accepts, Opens, Finishes, EndsBare, Writes, WritesText}
+use Rattle.roman_top.specs.Opening.{EndsWith, document_opening, OnOpening}
 use Rattle.roman_top.specs.RefusalLine.{refusal_line}
 use Rattle.roman_top.specs.Served.{ServedBeside}
 use Rattle.roman_top.specs.World.{desk}
@@ -95,7 +95,7 @@ pub finished_sink : {T E : Type 0} (ends : Status) (old new : ℕ) (result : Sta
 finished_sink ends old new result (Ok x) stays finishes cause = subst (SinkCause old new) (sym finishes) (stays cause.stays)
 finished_sink ends old new result (Err e) stays finishes cause = subst (SinkCause old new) (sym finishes) cause.failed
 
-pub spoken_stops : (old new : Option (List ℕ)) (result : Status) → IsSpoken old new result → Stops old new result
+pub spoken_stops : (old new : Option (List ℕ)) (result : Status) → IsSpoken old new result → EndsBare old new result
 spoken_stops old new status.Done spoken = tt
 spoken_stops old new status.No spoken = tt
 spoken_stops old new status.Usage spoken = absurd spoken
@@ -122,7 +122,7 @@ spoken_shelf old new n n_now status.Memory spoken same = same
 -- costs that were read
 pub read_caused : (read : Result CostTable CostError) (costs : CostTable) (old new : Option (List ℕ)) (result : Status) → read ≡ Ok costs → IsSpoken old new result → CausedByRead read result
 read_caused read costs old new result is spoken n n_now caused =
-    spoken_shelf old new n n_now result spoken (subst (λ (r : Result CostTable CostError). Caused n n_now r) is caused)
+    spoken_shelf old new n n_now result spoken (subst (λ (r : Result CostTable CostError). HasCostCause n n_now r) is caused)
 
 pub read_writes : (name : List ℕ) (n : NamedSys) (requests : ℕ) (p : Pair) (read : Result CostTable CostError) (costs : CostTable) (old new : Option (List ℕ)) (result : Status) → read ≡ Ok costs →
     Writes (SaysAdvice (advised_by n costs.listed requests p)) old new result → Writes (TellsRead name n requests p read) old new result
@@ -131,10 +131,10 @@ read_writes name n requests p read costs old new result is writes = subst (λ (r
 -- costs that were refused
 pub refused_caused : (read : Result CostTable CostError) (kind : Kind) (whole : Bool) (index : ℕ) (old new : Option (List ℕ)) (result : Status) → read ≡ Err (cost.Refused kind whole index) → IsSpoken old new result → CausedByRead read result
 refused_caused read kind whole index old new result is spoken n n_now caused =
-    spoken_shelf old new n n_now result spoken (subst (λ (r : Result CostTable CostError). Caused n n_now r) is caused)
+    spoken_shelf old new n n_now result spoken (subst (λ (r : Result CostTable CostError). HasCostCause n n_now r) is caused)
 
 pub refused_writes : (name : List ℕ) (n : NamedSys) (requests : ℕ) (p : Pair) (read : Result CostTable CostError) (kind : Kind) (whole : Bool) (index : ℕ) (old new : Option (List ℕ)) (result : Status) →
-    read ≡ Err (cost.Refused kind whole index) → Writes (Says (refusal_line (refusal_of name part.Costs (part_error.Refused kind (place_of_rule whole) index))) status.Refused) old new result →
+    read ≡ Err (cost.Refused kind whole index) → Writes (EndsWith (refusal_line (refusal_of name part.Costs (part_error.Refused kind (place_of_rule whole) index))) status.Refused) old new result →
     Writes (TellsRead name n requests p read) old new result
 refused_writes name n requests p read kind whole index old new result is writes =
     subst (λ (r : Result CostTable CostError). Writes (TellsRead name n requests p r) old new result) (sym is) writes
@@ -142,7 +142,7 @@ refused_writes name n requests p read kind whole index old new result is writes 
 -- ---- the whole
 
 -- what is told of the reading is told of what it means
-told_of : (name : List ℕ) (n : NamedSys) (requests : ℕ) (p : Pair) (read : Result CostTable CostError) (reading : Result (List Listed) PartError) → Reads (λ costs. costs.listed) read reading →
+told_of : (name : List ℕ) (n : NamedSys) (requests : ℕ) (p : Pair) (read : Result CostTable CostError) (reading : Result (List Listed) PartError) → ReadsAs (λ costs. costs.listed) read reading →
     (text : List ℕ) (ends : Status) → TellsRead name n requests p read text ends → OnCosts name (λ listed. SaysAdvice (advised_by n listed requests p)) reading text ends
 told_of name n requests p (Ok costs) reading reads text ends tells =
     subst (λ (r : Result (List Listed) PartError). OnCosts name (λ listed. SaysAdvice (advised_by n listed requests p)) r text ends) (sym reads) tells
@@ -153,42 +153,42 @@ told_of name n requests p (Err cost.Memory) reading reads text ends tells = absu
 
 -- advice on the system of an accepted document is a run
 advised_is_run : (texts : Texts) (system name : List ℕ) (requests : ℕ) (seated : Seated) (read : Result CostTable CostError) (old new : Option (List ℕ)) (result : Status) →
-    Accepts (opened texts system) (λ library. IsSeated library seated) → Reads (λ costs. costs.listed) read (costs_of texts name seated.joint) →
+    Accepts (document_opening texts system) (λ library. IsSeated library seated) → ReadsAs (λ costs. costs.listed) read (costs_of texts name seated.joint) →
     Writes (TellsRead name seated.joint requests (pair_at (sizes_of (system_of seated.joint)) seated.start) read) old new result →
-    Writes (OnOpening (GivesAdvice name requests texts) (opened texts system)) old new result
+    Writes (OnOpening (GivesAdvice name requests texts) (document_opening texts system)) old new result
 advised_is_run texts system name requests seated read old new result accepts reads writes =
     let library = accepts.library in
     let n = parts_of library in
     let s = system_of n in
-    let start = start_of library in
+    let start = start_pair_of library in
     let here : pair_at (sizes_of s) seated.start ≡ start = ap (pair_at (sizes_of s)) accepts.holds.start ∙ (numbers_are_pairs s).back start accepts.holds.pair in
-    let read_here : Reads (λ costs. costs.listed) read (costs_of texts name n) = subst (λ (n : NamedSys). Reads (λ costs. costs.listed) read (costs_of texts name n)) accepts.holds.parts reads in
+    let read_here : ReadsAs (λ costs. costs.listed) read (costs_of texts name n) = subst (λ (n : NamedSys). ReadsAs (λ costs. costs.listed) read (costs_of texts name n)) accepts.holds.parts reads in
     let of_parts : Writes (TellsRead name n requests (pair_at (sizes_of s) seated.start) read) old new result =
     subst (λ (n : NamedSys). Writes (TellsRead name n requests (pair_at (sizes_of (system_of n)) seated.start) read) old new result) accepts.holds.parts writes in
     let at_start : Writes (TellsRead name n requests start read) old new result = subst (λ (p : Pair). Writes (TellsRead name n requests p read) old new result) here of_parts in
-    writes_weaker (TellsRead name n requests start read) (OnOpening (GivesAdvice name requests texts) (opened texts system)) old new result
+    writes_weaker (TellsRead name n requests start read) (OnOpening (GivesAdvice name requests texts) (document_opening texts system)) old new result
     (λ (text : List ℕ) (ends : Status) (tells : TellsRead name n requests start read text ends).
-    on_accepted (GivesAdvice name requests texts) (opened texts system) library text ends accepts.accepted
+    on_accepted (GivesAdvice name requests texts) (document_opening texts system) library text ends accepts.accepted
     (told_of name n requests start read (costs_of texts name n) read_here text ends tells)) at_start
 
--- so advice on an opened document does its job
+-- so advice on an document_opening document does its job
 pub advise_served : (system name : List ℕ) (requests : ℕ) (seated : Seated) (told told_mid told_now : Option Texts) (shelf shelf_mid shelf_now : ℕ) (old mid new : Option (List ℕ)) (out out_mid out_now : ℕ) (read : Result CostTable CostError) (result : Status) →
-    Opens IsSeated system (desk told shelf old out) (desk told_mid shelf_mid mid out_mid) (Ok seated) → IfSome told_mid (λ texts. Reads (λ costs. costs.listed) read (costs_of texts name seated.joint)) →
-    told_now ≡ told_mid → Caused shelf_mid shelf_now read → Writes (TellsRead name seated.joint requests (pair_at (sizes_of (system_of seated.joint)) seated.start) read) mid new result →
-    Stops mid new result → CausedByRead read result → SinkCause out_mid out_now result →
+    Opens IsSeated system (desk told shelf old out) (desk told_mid shelf_mid mid out_mid) (Ok seated) → IfSome told_mid (λ texts. ReadsAs (λ costs. costs.listed) read (costs_of texts name seated.joint)) →
+    told_now ≡ told_mid → HasCostCause shelf_mid shelf_now read → Writes (TellsRead name seated.joint requests (pair_at (sizes_of (system_of seated.joint)) seated.start) read) mid new result →
+    EndsBare mid new result → CausedByRead read result → SinkCause out_mid out_now result →
     ServedBeside (Some (On system (Advise name requests))) (desk told shelf old out) (desk told_now shelf_now new out_now) result
 advise_served system name requests seated told told_mid told_now shelf shelf_mid shelf_now old mid new out out_mid out_now read result opens reads texts cause writes stops caused wrote =
     let p = pair_at (sizes_of (system_of seated.joint)) seated.start in
-    let found : IfSome told (λ texts. Reads (λ costs. costs.listed) read (costs_of texts name seated.joint)) =
-    subst (λ (t : Option Texts). IfSome t (λ texts. Reads (λ costs. costs.listed) read (costs_of texts name seated.joint))) opens.leaves.texts reads in
+    let found : IfSome told (λ texts. ReadsAs (λ costs. costs.listed) read (costs_of texts name seated.joint)) =
+    subst (λ (t : Option Texts). IfSome t (λ texts. ReadsAs (λ costs. costs.listed) read (costs_of texts name seated.joint))) opens.leaves.texts reads in
     let mine : Writes (TellsRead name seated.joint requests p read) old new result = subst (λ (o : Option (List ℕ)). Writes (TellsRead name seated.joint requests p read) o new result) opens.leaves.stops writes in
     job_served system (Advise name requests) (desk told shelf old out) (desk told_now shelf_now new out_now) result tt (record {
-      writes = told_both told (λ texts. Accepts (opened texts system) (λ library. IsSeated library seated)) (λ texts. Reads (λ costs. costs.listed) read (costs_of texts name seated.joint))
-          (λ texts. Writes (OnOpening (GivesAdvice name requests texts) (opened texts system)) old new result) opens.opens found
+      writes = told_both told (λ texts. Accepts (document_opening texts system) (λ library. IsSeated library seated)) (λ texts. ReadsAs (λ costs. costs.listed) read (costs_of texts name seated.joint))
+          (λ texts. Writes (OnOpening (GivesAdvice name requests texts) (document_opening texts system)) old new result) opens.opens found
           (λ texts accepts reads. advised_is_run texts system name requests seated read old new result accepts reads mine);
-      stops = subst (λ (o : Option (List ℕ)). Stops o new result) opens.leaves.stops stops;
+      stops = subst (λ (o : Option (List ℕ)). EndsBare o new result) opens.leaves.stops stops;
       texts = texts ∙ opens.leaves.texts;
-      shelf = caused shelf shelf_now (subst (λ (n : ℕ). Caused n shelf_now read) opens.leaves.shelf cause);
+      shelf = caused shelf shelf_now (subst (λ (n : ℕ). HasCostCause n shelf_now read) opens.leaves.shelf cause);
       out = subst (λ (n : ℕ). SinkCause n out_now result) opens.leaves.out wrote;
     })
 
@@ -210,6 +210,6 @@ few_advised n listed h p few many = by_test (is_related (system_of n) p)
 pub advice_answered : (name : List ℕ) (requests : ℕ) (texts : Texts) (library : PlainLibrary) (text : List ℕ) (result : Status) → Affords name requests texts library → GivesAdvice name requests texts library text result → IsAnswered result
 advice_answered name requests texts library text result affords gives =
     let n = parts_of library in
-    let says : SaysAdvice (advised_by n affords.listed requests (start_of library)) text result =
-    subst (λ (r : Result (List Listed) PartError). OnCosts name (λ listed. SaysAdvice (advised_by n listed requests (start_of library))) r text result) affords.read gives in
-    advising_answered (advised_by n affords.listed requests (start_of library)) text result (few_advised n affords.listed requests (start_of library) affords.few) says
+    let says : SaysAdvice (advised_by n affords.listed requests (start_pair_of library)) text result =
+    subst (λ (r : Result (List Listed) PartError). OnCosts name (λ listed. SaysAdvice (advised_by n listed requests (start_pair_of library))) r text result) affords.read gives in
+    advising_answered (advised_by n affords.listed requests (start_pair_of library)) text result (few_advised n affords.listed requests (start_pair_of library) affords.few) says

@@ -12,8 +12,8 @@ use Rattle.roman_session.specs.Building.{IsSeated}
 use Rattle.roman_session.specs.declared.seating.Seated.{Seated}
 use Rattle.roman_top.specs.Causes.{ShelfCause, SinkCause}
 use Rattle.roman_top.specs.Command.{Certify, On}
-use Rattle.roman_top.specs.Endings.{Accepts, Opens, Finishes, IsDone, Stops, Writes}
-use Rattle.roman_top.specs.Opening.{opened, OnOpening}
+use Rattle.roman_top.specs.Endings.{Accepts, Opens, Finishes, IsDone, EndsBare, Writes}
+use Rattle.roman_top.specs.Opening.{document_opening, OnOpening}
 use Rattle.roman_top.specs.Run.{Certifies, CertifiesSystem}
 use Rattle.roman_top.specs.Served.{ServedBeside}
 use Rattle.roman_top.specs.World.{desk}
@@ -31,12 +31,12 @@ certified joint given order old new result r same complete puts finishes =
     (record { list = order.list; complete = complete.list; says = (refl, refl) }) (λ w. w))
 
 -- the certificate of the system of an accepted document is a run
-certified_is_run : (texts : Texts) (system : List ℕ) (seated : Seated) (old new : Option (List ℕ)) (result : Status) → Accepts (opened texts system) (λ library. IsSeated library seated) →
-    Writes (CertifiesSystem (system_of seated.joint)) old new result → Writes (OnOpening Certifies (opened texts system)) old new result
+certified_is_run : (texts : Texts) (system : List ℕ) (seated : Seated) (old new : Option (List ℕ)) (result : Status) → Accepts (document_opening texts system) (λ library. IsSeated library seated) →
+    Writes (CertifiesSystem (system_of seated.joint)) old new result → Writes (OnOpening Certifies (document_opening texts system)) old new result
 certified_is_run texts system seated old new result accepts writes =
-    writes_weaker (CertifiesSystem (system_of seated.joint)) (OnOpening Certifies (opened texts system)) old new result
+    writes_weaker (CertifiesSystem (system_of seated.joint)) (OnOpening Certifies (document_opening texts system)) old new result
     (λ (text : List ℕ) (ends : Status) (certifies : CertifiesSystem (system_of seated.joint) text ends).
-    on_accepted Certifies (opened texts system) accepts.library text ends accepts.accepted
+    on_accepted Certifies (document_opening texts system) accepts.library text ends accepts.accepted
     (subst (λ (n : NamedSys). CertifiesSystem (system_of n) text ends) accepts.holds.parts certifies)) writes
 
 -- after a put the work is done, or the sink failed
@@ -50,7 +50,7 @@ finished_cause old new result (Ok x) finishes cause = subst (SinkCause old new) 
 finished_cause old new result (Err e) finishes cause = subst (SinkCause old new) (sym finishes) cause.failed
 
 -- nothing else stopped it
-pub done_stops : (old new : Option (List ℕ)) (result : Status) → IsDone old new result → Stops old new result
+pub done_stops : (old new : Option (List ℕ)) (result : Status) → IsDone old new result → EndsBare old new result
 done_stops old new status.Done done = tt
 done_stops old new status.No done = absurd done
 done_stops old new status.Usage done = absurd done
@@ -74,7 +74,7 @@ done_shelf old new n n_now status.WriteFault done same = same
 done_shelf old new n n_now status.TooLong done same = same
 done_shelf old new n n_now status.Memory done same = same
 
--- the certificate of an opened document
+-- the certificate of an document_opening document
 pub certify_served : (system : List ℕ) (seated : Seated) (told told_now : Option Texts) (shelf shelf_now : ℕ) (old mid new : Option (List ℕ)) (out out_mid out_now : ℕ) (result : Status) →
     Opens IsSeated system (desk told shelf old out) (desk told_now shelf_now mid out_mid) (Ok seated) → Writes (CertifiesSystem (system_of seated.joint)) mid new result → IsDone mid new result → SinkCause out_mid out_now result →
     ServedBeside (Some (On system Certify)) (desk told shelf old out) (desk told_now shelf_now new out_now) result
@@ -82,7 +82,7 @@ certify_served system seated told told_now shelf shelf_now old mid new out out_m
     let mine : Writes (CertifiesSystem (system_of seated.joint)) old new result = subst (λ (o : Option (List ℕ)). Writes (CertifiesSystem (system_of seated.joint)) o new result) opens.leaves.stops writes in
     let is_done : IsDone old new result = subst (λ (o : Option (List ℕ)). IsDone o new result) opens.leaves.stops done in
     job_served system Certify (desk told shelf old out) (desk told_now shelf_now new out_now) result tt (record {
-      writes = told_more told (λ texts. Accepts (opened texts system) (λ library. IsSeated library seated)) (λ texts. Writes (OnOpening Certifies (opened texts system)) old new result) opens.opens
+      writes = told_more told (λ texts. Accepts (document_opening texts system) (λ library. IsSeated library seated)) (λ texts. Writes (OnOpening Certifies (document_opening texts system)) old new result) opens.opens
           (λ texts accepts. certified_is_run texts system seated old new result accepts mine);
       stops = done_stops old new result is_done;
       texts = opens.leaves.texts;

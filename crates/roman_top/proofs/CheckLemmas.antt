@@ -7,7 +7,7 @@ use Rattle.roman_model.specs.Arena.{Arena}
 use Rattle.roman_model.specs.Numbers.{sizes_of, number, numbered}
 use Rattle.roman_model.specs.Certificate.{TooLong, cert_verdict}
 use Rattle.roman_joint.specs.NamedSys.{NamedSys, system_of}
-use Rattle.roman_session.specs.Starts.{start_of}
+use Rattle.roman_session.specs.Starts.{start_pair_of}
 use Rattle.roman_session.specs.Building.{IsSeated}
 use Rattle.roman_session.specs.declared.seating.Seated.{Seated}
 use Rattle.roman_check.specs.Checks.{HaveVerdict}
@@ -19,9 +19,9 @@ use Rattle.roman_check.specs.declared.error.CheckError.{CheckError}
 use Rattle.roman_check.specs.declared.error.CheckError.TheVariants as check
 use Rattle.roman_top.specs.Causes.{SinkCause}
 use Rattle.roman_top.specs.Command.{Check, On}
-use Rattle.roman_top.specs.Endings.{Finds, CheckCause, JudgesCheck, CausedByCheck, Accepts, Opens, Stops, Writes}
-use Rattle.roman_top.specs.Opening.{opened, OnOpening, library_system}
-use Rattle.roman_top.specs.Run.{Judges, Checks}
+use Rattle.roman_top.specs.Endings.{FindsVerdict, CheckCause, JudgesCheck, CausedByCheck, Accepts, Opens, EndsBare, Writes}
+use Rattle.roman_top.specs.Opening.{document_opening, OnOpening, library_system}
+use Rattle.roman_top.specs.Run.{SaysVerdict, Checks}
 use Rattle.roman_top.specs.Served.{ServedBeside}
 use Rattle.roman_top.specs.World.{desk}
 use Rattle.roman_top.specs.Verdicts.{greatest_text, rejected_text}
@@ -36,7 +36,7 @@ had_text A start texts name verdict have = ap (cert_verdict A start) have.had �
 
 -- what the check of a text of the shelf finds
 found_text : (A : Arena ℕ) (start : ℕ) (told : Option Texts) (name : List ℕ) (result : Result Verdict CheckError) → IfOk result (λ verdict. HaveVerdict A start (rest_from told name 0) (verdict_of verdict)) →
-    (IsErrOf result check.TooLong → HaveVerdict A start (rest_from told name 0) TooLong) → IfSome told (λ texts. Finds A start (text_of texts name) result)
+    (IsErrOf result check.TooLong → HaveVerdict A start (rest_from told name 0) TooLong) → IfSome told (λ texts. FindsVerdict A start (text_of texts name) result)
 found_text A start None name result whole long = tt
 found_text A start (Some texts) name (Ok verdict) whole long = had_text A start texts name (verdict_of verdict) whole
 found_text A start (Some texts) name (Err check.Fault) whole long = tt
@@ -46,7 +46,7 @@ found_text A start (Some texts) name (Err check.Memory) whole long = tt
 -- the same of a source that began with that text
 pub finds_text : (A : Arena ℕ) (start : ℕ) (told given : Option Texts) (name given_name : List ℕ) (at : ℕ) (result : Result Verdict CheckError) → given ≡ told → given_name ≡ name → at ≡ 0 →
     IfOk result (λ verdict. HaveVerdict A start (rest_from given given_name at) (verdict_of verdict)) → (IsErrOf result check.TooLong → HaveVerdict A start (rest_from given given_name at) TooLong) →
-    IfSome told (λ texts. Finds A start (text_of texts name) result)
+    IfSome told (λ texts. FindsVerdict A start (text_of texts name) result)
 finds_text A start told given name given_name at result same_texts same_name at_start whole long =
     let same : rest_from given given_name at ≡ rest_from told name 0 = rw (same_texts, same_name, at_start) refl in
     found_text A start told name result (subst (λ (rest : Option (List ℕ)). IfOk result (λ verdict. HaveVerdict A start rest (verdict_of verdict))) same whole)
@@ -60,53 +60,53 @@ check_cause old new (Err check.TooLong) rose stayed = stayed (λ e. cc)
 check_cause old new (Err check.Memory) rose stayed = stayed (λ e. cc)
 
 -- the verdict on the certificate is the run's
-judged : (A : Arena ℕ) (start : ℕ) (certificate : List ℕ) (checked : Result Verdict CheckError) → Finds A start certificate checked → (text : List ℕ) (ends : Status) → JudgesCheck checked text ends → Judges (cert_verdict A start certificate) text ends
-judged A start certificate (Ok verdict) finds text ends judges = subst (λ v. Judges v text ends) (sym finds) judges
+judged : (A : Arena ℕ) (start : ℕ) (certificate : List ℕ) (checked : Result Verdict CheckError) → FindsVerdict A start certificate checked → (text : List ℕ) (ends : Status) → JudgesCheck checked text ends → SaysVerdict (cert_verdict A start certificate) text ends
+judged A start certificate (Ok verdict) finds text ends judges = subst (λ v. SaysVerdict v text ends) (sym finds) judges
 judged A start certificate (Err check.Fault) finds text ends judges = absurd judges
-judged A start certificate (Err check.TooLong) finds text ends judges = subst (λ v. Judges v text ends) (sym finds) judges
+judged A start certificate (Err check.TooLong) finds text ends judges = subst (λ v. SaysVerdict v text ends) (sym finds) judges
 judged A start certificate (Err check.Memory) finds text ends judges = absurd judges
 
 -- the check of a certificate against the system of an accepted document is a run
 checked_is_run : (texts : Texts) (system certificate : List ℕ) (seated : Seated) (checked : Result Verdict CheckError) (old new : Option (List ℕ)) (result : Status) →
-    Accepts (opened texts system) (λ library. IsSeated library seated) → Finds (numbered (system_of seated.joint)) seated.start (text_of texts certificate) checked → Writes (JudgesCheck checked) old new result →
-    Writes (OnOpening (Checks (text_of texts certificate)) (opened texts system)) old new result
+    Accepts (document_opening texts system) (λ library. IsSeated library seated) → FindsVerdict (numbered (system_of seated.joint)) seated.start (text_of texts certificate) checked → Writes (JudgesCheck checked) old new result →
+    Writes (OnOpening (Checks (text_of texts certificate)) (document_opening texts system)) old new result
 checked_is_run texts system certificate seated checked old new result accepts finds writes =
     let library = accepts.library in
     let s = library_system library in
-    let of_parts : Finds (numbered s) seated.start (text_of texts certificate) checked = subst (λ (n : NamedSys). Finds (numbered (system_of n)) seated.start (text_of texts certificate) checked) accepts.holds.parts finds in
-    let found : Finds (numbered s) (number (sizes_of s) (start_of library)) (text_of texts certificate) checked = subst (λ (n : ℕ). Finds (numbered s) n (text_of texts certificate) checked) accepts.holds.start of_parts in
-    writes_weaker (JudgesCheck checked) (OnOpening (Checks (text_of texts certificate)) (opened texts system)) old new result
+    let of_parts : FindsVerdict (numbered s) seated.start (text_of texts certificate) checked = subst (λ (n : NamedSys). FindsVerdict (numbered (system_of n)) seated.start (text_of texts certificate) checked) accepts.holds.parts finds in
+    let found : FindsVerdict (numbered s) (number (sizes_of s) (start_pair_of library)) (text_of texts certificate) checked = subst (λ (n : ℕ). FindsVerdict (numbered s) n (text_of texts certificate) checked) accepts.holds.start of_parts in
+    writes_weaker (JudgesCheck checked) (OnOpening (Checks (text_of texts certificate)) (document_opening texts system)) old new result
     (λ (text : List ℕ) (ends : Status) (judges : JudgesCheck checked text ends).
-    on_accepted (Checks (text_of texts certificate)) (opened texts system) library text ends accepts.accepted
-    (judged (numbered s) (number (sizes_of s) (start_of library)) (text_of texts certificate) checked found text ends judges)) writes
+    on_accepted (Checks (text_of texts certificate)) (document_opening texts system) library text ends accepts.accepted
+    (judged (numbered s) (number (sizes_of s) (start_pair_of library)) (text_of texts certificate) checked found text ends judges)) writes
 
--- so a check of an opened document does its job
+-- so a check of an document_opening document does its job
 pub check_served : (system certificate : List ℕ) (seated : Seated) (told told_mid told_now : Option Texts) (shelf shelf_mid shelf_now : ℕ) (old mid new : Option (List ℕ)) (out out_mid out_now : ℕ) (checked : Result Verdict CheckError) (result : Status) →
-    Opens IsSeated system (desk told shelf old out) (desk told_mid shelf_mid mid out_mid) (Ok seated) → IfSome told_mid (λ texts. Finds (numbered (system_of seated.joint)) seated.start (text_of texts certificate) checked) →
-    told_now ≡ told_mid → CheckCause shelf_mid shelf_now checked → Writes (JudgesCheck checked) mid new result → Stops mid new result → CausedByCheck checked result → SinkCause out_mid out_now result →
+    Opens IsSeated system (desk told shelf old out) (desk told_mid shelf_mid mid out_mid) (Ok seated) → IfSome told_mid (λ texts. FindsVerdict (numbered (system_of seated.joint)) seated.start (text_of texts certificate) checked) →
+    told_now ≡ told_mid → CheckCause shelf_mid shelf_now checked → Writes (JudgesCheck checked) mid new result → EndsBare mid new result → CausedByCheck checked result → SinkCause out_mid out_now result →
     ServedBeside (Some (On system (Check certificate))) (desk told shelf old out) (desk told_now shelf_now new out_now) result
 check_served system certificate seated told told_mid told_now shelf shelf_mid shelf_now old mid new out out_mid out_now checked result opens finds texts cause writes stops caused wrote =
     let S = system_of seated.joint in
-    let found : IfSome told (λ texts. Finds (numbered S) seated.start (text_of texts certificate) checked) =
-    subst (λ (t : Option Texts). IfSome t (λ texts. Finds (numbered S) seated.start (text_of texts certificate) checked)) opens.leaves.texts finds in
+    let found : IfSome told (λ texts. FindsVerdict (numbered S) seated.start (text_of texts certificate) checked) =
+    subst (λ (t : Option Texts). IfSome t (λ texts. FindsVerdict (numbered S) seated.start (text_of texts certificate) checked)) opens.leaves.texts finds in
     let mine : Writes (JudgesCheck checked) old new result = subst (λ (o : Option (List ℕ)). Writes (JudgesCheck checked) o new result) opens.leaves.stops writes in
     job_served system (Check certificate) (desk told shelf old out) (desk told_now shelf_now new out_now) result tt (record {
-      writes = told_both told (λ texts. Accepts (opened texts system) (λ library. IsSeated library seated)) (λ texts. Finds (numbered S) seated.start (text_of texts certificate) checked)
-          (λ texts. Writes (OnOpening (Checks (text_of texts certificate)) (opened texts system)) old new result) opens.opens found
+      writes = told_both told (λ texts. Accepts (document_opening texts system) (λ library. IsSeated library seated)) (λ texts. FindsVerdict (numbered S) seated.start (text_of texts certificate) checked)
+          (λ texts. Writes (OnOpening (Checks (text_of texts certificate)) (document_opening texts system)) old new result) opens.opens found
           (λ texts accepts finds. checked_is_run texts system certificate seated checked old new result accepts finds mine);
-      stops = subst (λ (o : Option (List ℕ)). Stops o new result) opens.leaves.stops stops;
+      stops = subst (λ (o : Option (List ℕ)). EndsBare o new result) opens.leaves.stops stops;
       texts = texts ∙ opens.leaves.texts;
       shelf = caused shelf shelf_now (subst (λ (n : ℕ). CheckCause n shelf_now checked) opens.leaves.shelf cause);
       out = subst (λ (n : ℕ). SinkCause n out_now result) opens.leaves.out wrote;
     })
 
 -- what is said of a verdict
-pub says_greatest : (verdict : Verdict) (related : ℕ) (start : Bool) → verdict ≡ checked_as.Greatest related start → Judges (verdict_of verdict) (greatest_text related start) status.Done
-says_greatest verdict related start e = subst (λ (v : Verdict). Judges (verdict_of v) (greatest_text related start) status.Done) (sym e) (refl, refl)
+pub says_greatest : (verdict : Verdict) (related : ℕ) (start : Bool) → verdict ≡ checked_as.Greatest related start → SaysVerdict (verdict_of verdict) (greatest_text related start) status.Done
+says_greatest verdict related start e = subst (λ (v : Verdict). SaysVerdict (verdict_of v) (greatest_text related start) status.Done) (sym e) (refl, refl)
 
-pub says_rejected : (verdict : Verdict) (line : ℕ) (why : Why) → verdict ≡ checked_as.Rejected line why → Judges (verdict_of verdict) (rejected_text line (fault_of why)) status.No
-says_rejected verdict line why e = subst (λ (v : Verdict). Judges (verdict_of v) (rejected_text line (fault_of why)) status.No) (sym e) (refl, refl)
+pub says_rejected : (verdict : Verdict) (line : ℕ) (why : Why) → verdict ≡ checked_as.Rejected line why → SaysVerdict (verdict_of verdict) (rejected_text line (fault_of why)) status.No
+says_rejected verdict line why e = subst (λ (v : Verdict). SaysVerdict (verdict_of v) (rejected_text line (fault_of why)) status.No) (sym e) (refl, refl)
 
 -- a verdict is told where there is one
-pub tells_verdict : (checked : Result Verdict CheckError) (verdict : Verdict) (old new : Option (List ℕ)) (result : Status) → checked ≡ Ok verdict → Writes (Judges (verdict_of verdict)) old new result → Writes (JudgesCheck checked) old new result
+pub tells_verdict : (checked : Result Verdict CheckError) (verdict : Verdict) (old new : Option (List ℕ)) (result : Status) → checked ≡ Ok verdict → Writes (SaysVerdict (verdict_of verdict)) old new result → Writes (JudgesCheck checked) old new result
 tells_verdict checked verdict old new result e writes = subst (λ (r : Result Verdict CheckError). Writes (JudgesCheck r) old new result) (sym e) writes

@@ -7,14 +7,14 @@ use Rattle.roman_model.specs.System.{Sys, Pair}
 use Rattle.roman_model.specs.Numbers.{sizes_of, number, numbered}
 use Rattle.roman_model.specs.Certificate.{Verdict, Greatest, Rejected, TooLong, cert_verdict}
 use Rattle.roman_library.specs.Library.{PlainLibrary}
-use Rattle.roman_session.specs.Starts.{start_of}
+use Rattle.roman_session.specs.Starts.{start_pair_of}
 use Rattle.roman_session.specs.Hearing.{front_of, is_heard_out}
 use Rattle.roman_top.specs.Command.{Job, Synth, Run, Certify, Check, Shortest, Advise, Resilience, Command, On, Make}
-use Rattle.roman_top.specs.Complete.{Suffices, CanAnswer, IsAnswered, IsQuiet, IsComplete}
-use Rattle.roman_top.specs.Opening.{library_system, opened}
-use Rattle.roman_top.specs.Run.{EndsBy, Judges, Talks, Does, IsSession, HasRun, texts_for}
+use Rattle.roman_top.specs.Complete.{Suffices, CanAnswer, IsAnswered, IsUndisturbed, AnswersWherePossible}
+use Rattle.roman_top.specs.Opening.{library_system, document_opening}
+use Rattle.roman_top.specs.Run.{EndsBy, SaysVerdict, Talks, JobDoes, IsSessionText, HasRun, texts_for}
 use Rattle.roman_top.specs.Served.{Served}
-use Rattle.roman_top.specs.Sessions.{Tells}
+use Rattle.roman_top.specs.Sessions.{ToldFromStart}
 use Rattle.roman_top.specs.World.{World}
 use Rattle.roman_top.specs.declared.status.Status.{Status}
 use Rattle.roman_top.specs.declared.status.Status.TheVariants as status
@@ -42,37 +42,37 @@ ends_answered s p status.WriteFault ends = ends
 ends_answered s p status.TooLong ends = ends
 ends_answered s p status.Memory ends = tt
 
-judged_answered : (verdict : Verdict) (text : List ℕ) (result : Status) → verdict ≢ TooLong → Judges verdict text result → IsAnswered result
+judged_answered : (verdict : Verdict) (text : List ℕ) (result : Status) → verdict ≢ TooLong → SaysVerdict verdict text result → IsAnswered result
 judged_answered (Greatest related start) text result short judges = is_done result judges.1
 judged_answered (Rejected line why) text result short judges = subst IsAnswered (sym judges.1) tt
 judged_answered TooLong text result short judges = absurd (short refl)
 
 talked_answered : (session : List ℕ) (library : PlainLibrary) (text : List ℕ) (result : Status) → IsTrue (is_heard_out session) → Talks session library text result → IsAnswered result
 talked_answered session library text result short talks =
-    is_done result (matched_true (is_heard_out session) (Tells library (lines session) text × (result ≡ status.Done)) (Tells library (ended_lines (front_of session)) text × (result ≡ status.TooLong)) short talks).1
+    is_done result (matched_true (is_heard_out session) (ToldFromStart library (lines session) text × (result ≡ status.Done)) (ToldFromStart library (ended_lines (front_of session)) text × (result ≡ status.TooLong)) short talks).1
 
 -- a job on its library gets its answer
-job_answered : (job : Job) (texts : Texts) (system : List ℕ) (rest : Option (List ℕ)) (session text : List ℕ) (library : PlainLibrary) (result : Status) → IsSession (Some (On system job)) texts rest session → Suffices job texts rest library →
-    Does job texts session library text result → IsAnswered result
-job_answered Synth texts system rest session text library result given enough does = ends_answered (library_system library) (start_of library) result does.1
+job_answered : (job : Job) (texts : Texts) (system : List ℕ) (rest : Option (List ℕ)) (session text : List ℕ) (library : PlainLibrary) (result : Status) → IsSessionText (Some (On system job)) texts rest session → Suffices job texts rest library →
+    JobDoes job texts session library text result → IsAnswered result
+job_answered Synth texts system rest session text library result given enough does = ends_answered (library_system library) (start_pair_of library) result does.1
 job_answered (Run None) texts system None session text library result given enough does = absurd enough
 job_answered (Run None) texts system (Some bytes) session text library result given enough does = talked_answered session library text result (subst (λ (b : List ℕ). IsTrue (is_heard_out b)) given enough) does
 job_answered (Run (Some name)) texts system rest session text library result given enough does = talked_answered session library text result (subst (λ (b : List ℕ). IsTrue (is_heard_out b)) (sym given) enough) does
 job_answered Certify texts system rest session text library result given enough does = is_done result does.says.1
 job_answered Resilience texts system rest session text library result given enough does = is_done result does.1
 job_answered (Check certificate) texts system rest session text library result given enough does =
-    judged_answered (cert_verdict (numbered (library_system library)) (number (sizes_of (library_system library)) (start_of library)) (text_of texts certificate)) text result enough does
+    judged_answered (cert_verdict (numbered (library_system library)) (number (sizes_of (library_system library)) (start_pair_of library)) (text_of texts certificate)) text result enough does
 job_answered Shortest texts system rest session text library result given enough does = is_done result does.1
 job_answered (Advise costs requests) texts system rest session text library result given enough does = advice_answered costs requests texts library text result enough does
 
 answered : (asked : Option Command) (texts : Texts) (old new : World) (result : Status) → HasRun asked texts old new result → CanAnswer asked texts old.rest → IsAnswered result
 answered None texts old new result run can = absurd can
 answered (Some (On system job)) texts old new result run (library, accepted, enough) =
-    job_answered job texts system old.rest run.session run.text library result run.given enough (work_of (Does job texts run.session) (opened texts system) library run.text result accepted run.run)
+    job_answered job texts system old.rest run.session run.text library result run.given enough (work_of (JobDoes job texts run.session) (document_opening texts system) library run.text result accepted run.run)
 answered (Some (Make n)) texts old new result run can = is_done result run.run.1
 
 -- where no count of faults rose, the command gets its answer if it can
-by_status : (asked : Option Command) (old new : World) (result : Status) → Served asked old new result → IsQuiet old new → IfSome (texts_for asked old.texts) (λ texts. CanAnswer asked texts old.rest → IsAnswered result)
+by_status : (asked : Option Command) (old new : World) (result : Status) → Served asked old new result → IsUndisturbed old new → IfSome (texts_for asked old.texts) (λ texts. CanAnswer asked texts old.rest → IsAnswered result)
 by_status asked old new status.Done served quiet = told_all (texts_for asked old.texts) (λ texts. CanAnswer asked texts old.rest → IsAnswered status.Done) (λ texts can. tt)
 by_status asked old new status.No served quiet = told_all (texts_for asked old.texts) (λ texts. CanAnswer asked texts old.rest → IsAnswered status.No) (λ texts can. tt)
 by_status asked old new status.Usage served quiet =
@@ -88,5 +88,5 @@ by_status asked old new status.TooLong served quiet =
     told_more (texts_for asked old.texts) (λ texts. HasRun asked texts old new status.TooLong) (λ texts. CanAnswer asked texts old.rest → IsAnswered status.TooLong) (served.run tt) (λ texts run can. answered asked texts old new status.TooLong run can)
 by_status asked old new status.Memory served quiet = told_all (texts_for asked old.texts) (λ texts. CanAnswer asked texts old.rest → IsAnswered status.Memory) (λ texts can. tt)
 
-pub completes : (asked : Option Command) (old new : World) (result : Status) → Served asked old new result → IsComplete asked old new result
+pub completes : (asked : Option Command) (old new : World) (result : Status) → Served asked old new result → AnswersWherePossible asked old new result
 completes asked old new result served quiet = by_status asked old new result served quiet

@@ -8,7 +8,7 @@ use Rattle.roman_library.specs.Documents.{library_of}
 use Rattle.roman_library.specs.Library.{PlainLibrary}
 use Rattle.roman_library.specs.declared.refusal.Refusal.{Refusal}
 use Rattle.roman_top.specs.Endings.{WritesText, Writes, TurnsAway, ReadsTo, OpensTo, Finishes}
-use Rattle.roman_top.specs.Opening.{Opening, Refused, Past, Accepted, opening_of, opened, OnOpening, library_system, is_past_limit, limit_line}
+use Rattle.roman_top.specs.Opening.{Opening, Refused, Past, Accepted, opening_of, document_opening, OnOpening, library_system, is_past_limit, limit_line}
 use Rattle.roman_top.specs.RefusalLine.{refusal_line}
 use Rattle.roman_top.specs.declared.status.Status.{Status}
 use Rattle.roman_top.specs.declared.status.Status.TheVariants as status
@@ -58,22 +58,22 @@ accepted_is (Ok other) library h = by (is_past_limit other) refl h
 pub refused : {T E X : Type 0} (view : X → PlainLibrary) (told : Option Texts) (name : List ℕ) (refusal : Refusal) (old new : Option (List ℕ)) (result : Status) (r : Result T E) →
     IfSome told (λ texts. library_of texts name ≡ Err refusal) → Puts old new (refusal_line refusal) r → Finishes r status.Refused result →
     IfSome told (λ texts. ReadsTo {X = X} view texts name old new (Err result))
-refused view told name refusal old new result r means puts finishes = told_more told (λ texts. library_of texts name ≡ Err refusal) (λ texts. Writes (TurnsAway (opened texts name)) old new result) means
+refused view told name refusal old new result r means puts finishes = told_more told (λ texts. library_of texts name ≡ Err refusal) (λ texts. Writes (TurnsAway (document_opening texts name)) old new result) means
     (λ texts is.
-    let there : TurnsAway (opened texts name) (refusal_line refusal) status.Refused =
+    let there : TurnsAway (document_opening texts name) (refusal_line refusal) status.Refused =
     subst (λ (opening : Opening). TurnsAway opening (refusal_line refusal) status.Refused) (sym (ap opening_of is)) (refl, refl) in
-    writes_put (TurnsAway (opened texts name)) old new (refusal_line refusal) status.Refused result r puts finishes there (λ w. w))
+    writes_put (TurnsAway (document_opening texts name)) old new (refusal_line refusal) status.Refused result r puts finishes there (λ w. w))
 
 -- the line of a limit was put
 pub exceeded : {T E X : Type 0} (Holds : PlainLibrary → X → Type 0) (told : Option Texts) (name : List ℕ) (library : PlainLibrary) (old mid new : Option (List ℕ)) (result : Status) (r : Result T E) →
     IfSome told (λ texts. library_of texts name ≡ Ok library) → library.limit < cells (library_system library) → mid ≡ old → Puts mid new (limit_line library.limit) r → Finishes r status.Limit result →
-    IfSome told (λ texts. OpensTo Holds (opened texts name) old new (Err result))
-exceeded Holds told name library old mid new result r means past same puts finishes = told_more told (λ texts. library_of texts name ≡ Ok library) (λ texts. Writes (TurnsAway (opened texts name)) old new result) means
+    IfSome told (λ texts. OpensTo Holds (document_opening texts name) old new (Err result))
+exceeded Holds told name library old mid new result r means past same puts finishes = told_more told (λ texts. library_of texts name ≡ Ok library) (λ texts. Writes (TurnsAway (document_opening texts name)) old new result) means
     (λ texts is.
-    let there : TurnsAway (opened texts name) (limit_line library.limit) status.Limit =
+    let there : TurnsAway (document_opening texts name) (limit_line library.limit) status.Limit =
     subst (λ (opening : Opening). TurnsAway opening (limit_line library.limit) status.Limit)
     (sym (opens_past (library_of texts name) library is (lt-ltb library.limit (cells (library_system library)) past))) (refl, refl) in
-    writes_put (TurnsAway (opened texts name)) old new (limit_line library.limit) status.Limit result r (subst (λ (o : Option (List ℕ)). Puts o new (limit_line library.limit) r) same puts) finishes there (λ w. w))
+    writes_put (TurnsAway (document_opening texts name)) old new (limit_line library.limit) status.Limit result r (subst (λ (o : Option (List ℕ)). Puts o new (limit_line library.limit) r) same puts) finishes there (λ w. w))
 
 -- parts of a run
 

@@ -8,19 +8,19 @@ use Rattle.roman_joint.specs.NamedSys.{NamedSys}
 use Rattle.roman_library.specs.Library.{PlainLibrary}
 use Rattle.roman_session.specs.Situations.{Situation}
 use Rattle.roman_session.specs.Reports.{report_text}
-use Rattle.roman_session.specs.Starts.{parts_of, start_of, IsStart}
+use Rattle.roman_session.specs.Starts.{parts_of, start_pair_of, IsStart}
 use Rattle.roman_session.specs.Words.{ReportsGreat}
 use Rattle.roman_session.specs.Steps.{until_quit, Answers}
 use Rattle.roman_session.specs.Hearing.{front_of, is_heard_out, heard_lines}
-use Rattle.roman_session.specs.Known.{IsKnown}
+use Rattle.roman_session.specs.Known.{IsKnownSituation}
 use Rattle.roman_session.proofs.KnownLemmas.{steps_known}
 use Rattle.roman_session.proofs.WordLemmas.{answers_great, open_great, reports_great}
 use Rattle.roman_top.specs.Command.{Job, Synth, Run, Certify, Check, Shortest, Advise, Resilience, Command, On, Make}
-use Rattle.roman_top.specs.Headline.{Turn, line_of, text_of, AreTurns, AnswersLines, KeepsPromise, HasHeadline}
-use Rattle.roman_top.specs.Opening.{Accepted, opened}
+use Rattle.roman_top.specs.Headline.{Turn, line_of, turn_text, AreTurns, AnswersLines, KeepsPromise, HasHeadline}
+use Rattle.roman_top.specs.Opening.{Accepted, document_opening}
 use Rattle.roman_top.specs.Run.{Talks, Synthesises, HasRun, texts_for}
 use Rattle.roman_top.specs.Served.{Served}
-use Rattle.roman_top.specs.Sessions.{Tells}
+use Rattle.roman_top.specs.Sessions.{ToldFromStart}
 use Rattle.roman_top.specs.World.{World}
 use Rattle.roman_top.specs.declared.status.Status.{Status}
 use Rattle.roman_top.specs.declared.status.Status.TheVariants as status
@@ -32,9 +32,9 @@ record HasTurns (s : Situation) (ls : List (List ℕ)) (text : List ℕ) : Type 
   turns : List Turn
   are : AreTurns s turns
   lines : map line_of turns ≡ ls
-  texts : flat_map text_of turns ≡ text
+  texts : flat_map turn_text turns ≡ text
 
-turns_of : (s now : Situation) (ls : List (List ℕ)) (text : List ℕ) → IsKnown s → Answers s ls text now → HasTurns s ls text
+turns_of : (s now : Situation) (ls : List (List ℕ)) (text : List ℕ) → IsKnownSituation s → Answers s ls text now → HasTurns s ls text
 turns_of s now [] text known (none, same) = record { turns = []; are = tt; lines = refl; texts = sym none }
 turns_of s now (line ∷ ls) text known (said, more, mid, split, step, rest) =
     let next = steps_known s mid line said known step in
@@ -47,23 +47,23 @@ turns_of s now (line ∷ ls) text known (said, more, mid, split, step, rest) =
     }
 
 -- what is told of the lines that are heard
-heard_tells : (b : Bool) (library : PlainLibrary) (ls ms : List (List ℕ)) (text : List ℕ) (P Q : Type 0) → MatchBool b (Tells library ls text × P) (Tells library ms text × Q) → Tells library (cond b ls ms) text
+heard_tells : (b : Bool) (library : PlainLibrary) (ls ms : List (List ℕ)) (text : List ℕ) (P Q : Type 0) → MatchBool b (ToldFromStart library ls text × P) (ToldFromStart library ms text × Q) → ToldFromStart library (cond b ls ms) text
 heard_tells true library ls ms text P Q tells = tells.0
 heard_tells false library ls ms text P Q tells = tells.0
 
-answers_lines : (texts : Texts) (system : List ℕ) (library : PlainLibrary) (ls : List (List ℕ)) (text : List ℕ) → opened texts system ≡ Accepted library → Tells library ls text → AnswersLines library ls text
+answers_lines : (texts : Texts) (system : List ℕ) (library : PlainLibrary) (ls : List (List ℕ)) (text : List ℕ) → document_opening texts system ≡ Accepted library → ToldFromStart library ls text → AnswersLines library ls text
 answers_lines texts system library ls text accepted tells =
     let known = starts_known texts system library tells.start accepted tells.begins in
     let all = turns_of tells.start tells.now (until_quit ls) text known tells.told in
     record { start = tells.start; begins = tells.begins; known = known.situation; turns = all.turns; are = all.are; lines = all.lines; texts = all.texts }
 
-talked : (texts : Texts) (system session : List ℕ) (library : PlainLibrary) (text : List ℕ) (result : Status) → opened texts system ≡ Accepted library → Talks session library text result → AnswersLines library (heard_lines session) text
+talked : (texts : Texts) (system session : List ℕ) (library : PlainLibrary) (text : List ℕ) (result : Status) → document_opening texts system ≡ Accepted library → Talks session library text result → AnswersLines library (heard_lines session) text
 talked texts system session library text result accepted talks =
     answers_lines texts system library (heard_lines session) text accepted
     (heard_tells (is_heard_out session) library (lines session) (ended_lines (front_of session)) text (result ≡ status.Done) (result ≡ status.TooLong) talks)
 
 -- the report of a synthesis
-reported : (texts : Texts) (system : List ℕ) (library : PlainLibrary) (text : List ℕ) (s : Situation) → opened texts system ≡ Accepted library → text ≡ report_text (parts_of library) (start_of library) → IsStart library s → ReportsGreat s text
+reported : (texts : Texts) (system : List ℕ) (library : PlainLibrary) (text : List ℕ) (s : Situation) → document_opening texts system ≡ Accepted library → text ≡ report_text (parts_of library) (start_pair_of library) → IsStart library s → ReportsGreat s text
 reported texts system library text s accepted says start =
     reports_great s text (starts_known texts system library s accepted start).situation
     (says ∙ ap₂ (λ (n : NamedSys) (p : Pair). report_text n p) (sym start.parts) (sym start.here))
@@ -73,14 +73,14 @@ keeps_promise : (asked : Option Command) (texts : Texts) (old new : World) (resu
 keeps_promise None texts old new result run = tt
 keeps_promise (Some (On system Synth)) texts old new result run = λ library accepted. record {
   text = run.text;
-  great = λ s start. reported texts system library run.text s accepted (work_of Synthesises (opened texts system) library run.text result accepted run.run).0 start;
+  great = λ s start. reported texts system library run.text s accepted (work_of Synthesises (document_opening texts system) library run.text result accepted run.run).0 start;
   wrote = run.wrote;
 }
 keeps_promise (Some (On system (Run name))) texts old new result run = λ library accepted. record {
   session = run.session;
   given = run.given;
   text = run.text;
-  answers = talked texts system run.session library run.text result accepted (work_of (Talks run.session) (opened texts system) library run.text result accepted run.run);
+  answers = talked texts system run.session library run.text result accepted (work_of (Talks run.session) (document_opening texts system) library run.text result accepted run.run);
   wrote = run.wrote;
 }
 keeps_promise (Some (On system Certify)) texts old new result run = tt

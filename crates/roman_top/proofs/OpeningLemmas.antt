@@ -1,4 +1,4 @@
--- Documents that are opened, and what becomes of a run without one.
+-- Documents that are document_opening, and what becomes of a run without one.
 use Rattle.std.proofs.Common.{◌≡◌, ℕ, ◌<◌, ◌≤◌, List, [], Option, IfSome, Result, Ok, Err, refl, sym, ◌∙◌, subst}
 use Rattle.std.proofs.lemmas.Bool.{le-ltb}
 use Rattle.roman_io.specs.Faults.{HasCause, Rose}
@@ -9,8 +9,8 @@ use Rattle.roman_joint.specs.NamedSys.{cells}
 use Rattle.roman_library.specs.Documents.{library_of}
 use Rattle.roman_library.specs.Library.{PlainLibrary}
 use Rattle.roman_library.specs.declared.refusal.Refusal.{Refusal}
-use Rattle.roman_top.specs.Endings.{Writes, TurnsAway, Accepts, OpensTo, ReadsTo, Leaves, Opens, Reads, Finishes}
-use Rattle.roman_top.specs.Opening.{opened, library_system, limit_line}
+use Rattle.roman_top.specs.Endings.{Writes, TurnsAway, Accepts, OpensTo, ReadsTo, Leaves, Opens, OpensLibrary, Finishes}
+use Rattle.roman_top.specs.Opening.{document_opening, library_system, limit_line}
 use Rattle.roman_top.specs.RefusalLine.{refusal_line}
 use Rattle.roman_top.specs.World.{Desk, desk}
 use Rattle.roman_top.specs.declared.status.Status.{Status}
@@ -36,23 +36,23 @@ module _ {X : Type 0} (told told_now : Option Texts) (shelf shelf_now : ℕ) (ol
 -- Reading a document
 
 module _ {X : Type 0} (view : X → PlainLibrary) (name : List ℕ) (told told_now : Option Texts) (shelf shelf_now : ℕ) (old : Option (List ℕ)) (out : ℕ) (texts : told_now ≡ told) where
-  pub read_ok : (x : X) → IfSome told (λ texts. library_of texts name ≡ Ok (view x)) → shelf_now ≡ shelf → Reads view name (desk told shelf old out) (desk told_now shelf_now old out) (Ok x)
+  pub read_ok : (x : X) → IfSome told (λ texts. library_of texts name ≡ Ok (view x)) → shelf_now ≡ shelf → OpensLibrary view name (desk told shelf old out) (desk told_now shelf_now old out) (Ok x)
   read_ok x means shelves = record { reads = means; leaves = record { away = tt; stops = refl; texts = texts; shelf = shelves; out = refl } }
 
-  pub read_fault : Rose shelf shelf_now → Reads view name (desk told shelf old out) (desk told_now shelf_now old out) (Err status.ShelfFault)
+  pub read_fault : Rose shelf shelf_now → OpensLibrary view name (desk told shelf old out) (desk told_now shelf_now old out) (Err status.ShelfFault)
   read_fault rose = record {
     reads = told_all told (λ texts. Unit {0}) (λ texts. tt);
     leaves = record { away = tt; stops = Wrote-nil old; texts = texts; shelf = rose; out = refl };
   }
 
-  pub read_none : shelf_now ≡ shelf → Reads view name (desk told shelf old out) (desk told_now shelf_now old out) (Err status.Memory)
+  pub read_none : shelf_now ≡ shelf → OpensLibrary view name (desk told shelf old out) (desk told_now shelf_now old out) (Err status.Memory)
   read_none shelves = record {
     reads = told_all told (λ texts. Unit {0}) (λ texts. tt);
     leaves = record { away = tt; stops = Wrote-nil old; texts = texts; shelf = shelves; out = refl };
   }
 
   pub read_refused : {T E : Type 0} (refusal : Refusal) (new : Option (List ℕ)) (out_now : ℕ) (result : Status) (r : Result T E) → IfSome told (λ texts. library_of texts name ≡ Err refusal) → shelf_now ≡ shelf →
-      Puts old new (refusal_line refusal) r → HasCause out out_now r → Finishes r status.Refused result → Reads view name (desk told shelf old out) (desk told_now shelf_now new out_now) (Err result)
+      Puts old new (refusal_line refusal) r → HasCause out out_now r → Finishes r status.Refused result → OpensLibrary view name (desk told shelf old out) (desk told_now shelf_now new out_now) (Err result)
   read_refused refusal new out_now result r means shelves puts cause finishes = record {
     reads = refused view told name refusal old new result r means puts finishes;
     leaves = refused_leaves told told_now shelf shelf_now old new out out out_now result texts shelves refl r cause finishes;
@@ -62,14 +62,14 @@ module _ {X : Type 0} (view : X → PlainLibrary) (name : List ℕ) (told told_n
 
 module _ {X Y : Type 0} (view : Y → PlainLibrary) (Holds : PlainLibrary → X → Type 0) (name : List ℕ) (told told_now : Option Texts) (shelf shelf_now : ℕ) (old mid : Option (List ℕ)) (out out_mid : ℕ) where
   -- it was refused
-  pub opens_away : (result : Status) → Reads view name (desk told shelf old out) (desk told_now shelf_now mid out_mid) (Err result) → Opens Holds name (desk told shelf old out) (desk told_now shelf_now mid out_mid) (Err result)
+  pub opens_away : (result : Status) → OpensLibrary view name (desk told shelf old out) (desk told_now shelf_now mid out_mid) (Err result) → Opens Holds name (desk told shelf old out) (desk told_now shelf_now mid out_mid) (Err result)
   opens_away result r = record { opens = r.reads; leaves = record { away = r.leaves.away; stops = r.leaves.stops; texts = r.leaves.texts; shelf = r.leaves.shelf; out = r.leaves.out } }
 
-  module _ (y : Y) (read : Reads view name (desk told shelf old out) (desk told_now shelf_now mid out_mid) (Ok y)) where
+  module _ (y : Y) (read : OpensLibrary view name (desk told shelf old out) (desk told_now shelf_now mid out_mid) (Ok y)) where
     -- it is within its limit
     pub opens_ok : (x : X) → cells (library_system (view y)) ≤ (view y).limit → Holds (view y) x → Opens Holds name (desk told shelf old out) (desk told_now shelf_now mid out_mid) (Ok x)
     opens_ok x within holds = record {
-      opens = told_more told (λ texts. library_of texts name ≡ Ok (view y)) (λ texts. Accepts (opened texts name) (λ library. Holds library x)) read.reads (λ texts is. record {
+      opens = told_more told (λ texts. library_of texts name ≡ Ok (view y)) (λ texts. Accepts (document_opening texts name) (λ library. Holds library x)) read.reads (λ texts is. record {
         library = view y;
         accepted = opens_accepted (library_of texts name) (view y) is (le-ltb (view y).limit (cells (library_system (view y))) within);
         holds = holds;

@@ -14,17 +14,17 @@ use Rattle.roman_joint.specs.Names.{seat_name}
 use Rattle.roman_joint.specs.declared.seat.Seat.{Seat}
 use Rattle.roman_session.proofs.ServingLemmas.{from_place, from_end}
 use Rattle.roman_session.proofs.SituationLemmas.{mapped_at}
-use Rattle.roman_top.specs.Outlooks.{outlook_words, way_word, names_at, line_without, lines_without, ones, twos, head_text, outlook_text}
+use Rattle.roman_top.specs.Outlooks.{outlook_words, way_word, service_names, line_without, lines_without, ones, twos, head_text, outlook_text}
 
 -- Names.
 
-pub one_named : (parts : NamedSys) (k : ℕ) (seat : Seat) → slice_get parts.seats k ≡ Some seat → codes "without " ++ seat.name ≡ codes "without" ++ names_at parts (k ∷ [])
+pub one_named : (parts : NamedSys) (k : ℕ) (seat : Seat) → slice_get parts.seats k ≡ Some seat → codes "without " ++ seat.name ≡ codes "without" ++ service_names parts (k ∷ [])
 one_named parts k seat there =
     ap (λ (x : List ℕ). codes "without " ++ x) (sym (append-nil seat.name))
     ∙ ap (λ (x : List ℕ). codes "without" ++ ((codes " " ++ x) ++ [])) (sym (mapped_at seat_name parts.seats k seat [] there))
 
 pub two_named : (parts : NamedSys) (k j : ℕ) (seat other : Seat) → slice_get parts.seats k ≡ Some seat → slice_get parts.seats j ≡ Some other →
-    ((codes "without " ++ seat.name) ++ codes " ") ++ other.name ≡ codes "without" ++ names_at parts (k ∷ j ∷ [])
+    ((codes "without " ++ seat.name) ++ codes " ") ++ other.name ≡ codes "without" ++ service_names parts (k ∷ j ∷ [])
 two_named parts k j seat other there there_too =
     ap (λ (x : List ℕ). codes "without " ++ x) (append_assoc seat.name (codes " ") other.name)
     ∙ ap (λ (x : List ℕ). codes "without " ++ (seat.name ++ (codes " " ++ x))) (sym (append-nil other.name))
@@ -32,7 +32,7 @@ two_named parts k j seat other there there_too =
 
 -- Lines.
 
-pub line_pieces : (parts : NamedSys) (K : List ℕ) (way : Way) (left : Outlook) (front words : List ℕ) → front ≡ codes "without" ++ names_at parts K ++ way_word way → words ≡ outlook_words left →
+pub line_pieces : (parts : NamedSys) (K : List ℕ) (way : Way) (left : Outlook) (front words : List ℕ) → front ≡ codes "without" ++ service_names parts K ++ way_word way → words ≡ outlook_words left →
     front ++ (words ++ []) ≡ line_without parts K way left
 line_pieces parts K way left front words is_front is_words = ap (λ (x : List ℕ). front ++ x) (append-nil words) ∙ ap₂ (λ (x y : List ℕ). x ++ y) is_front is_words
 

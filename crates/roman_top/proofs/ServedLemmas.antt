@@ -9,10 +9,10 @@ use Rattle.roman_io.proofs.SourceLemmas.{Gave-nil}
 use Rattle.roman_library.specs.Library.{PlainLibrary}
 use Rattle.roman_top.specs.Causes.{ShelfCause, InputCause, SinkCause}
 use Rattle.roman_top.specs.Command.{Job, Synth, Run, Certify, Check, Shortest, Advise, Resilience, Command, On, Make, usage_line}
-use Rattle.roman_top.specs.Endings.{WritesText, WritesFront, Writes, Stops, DoesJob, TurnsAway, IsAway, Opens, Finishes, IsDone}
+use Rattle.roman_top.specs.Endings.{WritesText, WritesFront, Writes, EndsBare, DoesJob, TurnsAway, IsAway, Opens, Finishes, IsDone}
 use Rattle.roman_top.specs.Faults.{IsFree, AtShelfFault, HasRunFront, IsOfTaken, EndsInput}
-use Rattle.roman_top.specs.Opening.{opened, OnOpening}
-use Rattle.roman_top.specs.Run.{Does, Makes, IsSession, HasRun}
+use Rattle.roman_top.specs.Opening.{document_opening, OnOpening}
+use Rattle.roman_top.specs.Run.{JobDoes, Makes, IsSessionText, HasRun}
 use Rattle.roman_top.specs.Served.{Served, ServedBeside}
 use Rattle.roman_top.specs.World.{World, Desk, world, beside, IsUnwritten}
 use Rattle.roman_top.specs.declared.status.Status.{Status}
@@ -41,11 +41,11 @@ free_text IsRun old new status.Memory free w = absurd free
 front_text : (IsRun : List ℕ → Status → Type 0) (old new : Option (List ℕ)) (result : Status) → result ≡ status.WriteFault → Writes IsRun old new result → WritesFront IsRun old new
 front_text IsRun old new result is w = subst (Writes IsRun old new) is w
 
-unwritten_at : (old new : Option (List ℕ)) (result ends : Status) → Stops old new result → result ≡ ends → Stops old new ends
-unwritten_at old new result ends stops is = subst (Stops old new) is stops
+unwritten_at : (old new : Option (List ℕ)) (result ends : Status) → EndsBare old new result → result ≡ ends → EndsBare old new ends
+unwritten_at old new result ends stops is = subst (EndsBare old new) is stops
 
 -- the input isn't read
-input_stays : (old new : Option (List ℕ)) (n : ℕ) (result : Status) → Stops old new result → InputCause n n result
+input_stays : (old new : Option (List ℕ)) (n : ℕ) (result : Status) → EndsBare old new result → InputCause n n result
 input_stays old new n status.Done stops = refl
 input_stays old new n status.No stops = refl
 input_stays old new n status.Usage stops = refl
@@ -59,7 +59,7 @@ input_stays old new n status.Memory stops = refl
 
 -- By the job
 
--- a session from the input isn't done where its document isn't opened
+-- a session from the input isn't done where its document isn't document_opening
 ends_away : (system : List ℕ) (old new : World) (result : Status) → IsAway result → EndsInput (Some (On system (Run None))) old new result
 ends_away system old new status.Done away = absurd away
 ends_away system old new status.No away = tt
@@ -74,7 +74,7 @@ ends_away system old new status.Memory away = tt
 
 -- what a job says where it takes nothing from the input
 record IsAside (job : Job) : Type 0 where
-  given : (texts : Texts) (system : List ℕ) (rest : Option (List ℕ)) → (session : List ℕ) × IsSession (Some (On system job)) texts rest session
+  given : (texts : Texts) (system : List ℕ) (rest : Option (List ℕ)) → (session : List ℕ) × IsSessionText (Some (On system job)) texts rest session
   shelf : (system : List ℕ) (old new : World) → IsUnwritten old new → AtShelfFault (Some (On system job)) old new
   taken : (texts : Texts) (system : List ℕ) (old new : World) → Gave old.rest new.rest [] → HasRunFront (Some (On system (Run None))) texts (Some []) old new → IsOfTaken (Some (On system job)) texts old new
   ends : (system : List ℕ) (old new : World) (result : Status) → IsAway result → EndsInput (Some (On system job)) old new result
@@ -88,7 +88,7 @@ aside (Run None) = record {
   ends = ends_away;
 }
   where
-    input_given : (system : List ℕ) (rest : Option (List ℕ)) → (session : List ℕ) × IsSession (Some (On system (Run None))) [] rest session
+    input_given : (system : List ℕ) (rest : Option (List ℕ)) → (session : List ℕ) × IsSessionText (Some (On system (Run None))) [] rest session
     input_given system None = ([], tt)
     input_given system (Some bytes) = (bytes, refl)
 aside (Run (Some name)) = record {
@@ -103,26 +103,26 @@ aside Shortest = record { given = λ texts system rest. ([], tt); shelf = λ sys
 aside (Advise costs requests) = record { given = λ texts system rest. ([], tt); shelf = λ system old new w. w; taken = λ texts system old new gave front. tt; ends = λ system old new result away. tt }
 aside Resilience = record { given = λ texts system rest. ([], tt); shelf = λ system old new w. w; taken = λ texts system old new gave front. tt; ends = λ system old new result away. tt }
 
--- Documents that aren't opened
+-- Documents that aren't document_opening
 
 -- a front of the line of such a document is one of a run of any job
-away_front : (texts : Texts) (system : List ℕ) (job : Job) (rest : Option (List ℕ)) (old new : World) (result : Status) → Writes (TurnsAway (opened texts system)) old.written new.written result → result ≡ status.WriteFault →
+away_front : (texts : Texts) (system : List ℕ) (job : Job) (rest : Option (List ℕ)) (old new : World) (result : Status) → Writes (TurnsAway (document_opening texts system)) old.written new.written result → result ≡ status.WriteFault →
     HasRunFront (Some (On system job)) texts rest old new
 away_front texts system job rest old new result writes is =
     let (session, given) = (aside job).given texts system rest in
-    let w = front_text (TurnsAway (opened texts system)) old.written new.written result is writes in
-    record { session = session; given = given; text = w.text; ends = w.ends; run = away_is_run (Does job texts session) (opened texts system) w.text w.ends w.run; wrote = w.wrote }
+    let w = front_text (TurnsAway (document_opening texts system)) old.written new.written result is writes in
+    record { session = session; given = given; text = w.text; ends = w.ends; run = away_is_run (JobDoes job texts session) (document_opening texts system) w.text w.ends w.run; wrote = w.wrote }
 
 pub away_served : {X : Type 0} (Holds : PlainLibrary → X → Type 0) (system : List ℕ) (job : Job) (old new : Desk) (result : Status) → Opens {X = X} Holds system old new (Err result) → ServedBeside (Some (On system job)) old new result
 away_served {X} Holds system job old new result opens rest faults =
     let before = beside old rest faults in
     let after = beside new rest faults in
-    let Away : Texts → Type 0 = λ texts. Writes (TurnsAway (opened texts system)) old.written new.written result in
+    let Away : Texts → Type 0 = λ texts. Writes (TurnsAway (document_opening texts system)) old.written new.written result in
     record {
       run = λ free. told_more old.texts Away (λ texts. HasRun (Some (On system job)) texts before after result) opens.opens (λ texts writes.
           let (session, given) = (aside job).given texts system rest in
-          let w = free_text (TurnsAway (opened texts system)) old.written new.written result free writes in
-          record { session = session; given = given; text = w.text; run = away_is_run (Does job texts session) (opened texts system) w.text result w.run; wrote = w.wrote });
+          let w = free_text (TurnsAway (document_opening texts system)) old.written new.written result free writes in
+          record { session = session; given = given; text = w.text; run = away_is_run (JobDoes job texts session) (document_opening texts system) w.text result w.run; wrote = w.wrote });
       shelf_fault = λ is. (aside job).shelf system before after (unwritten_at old.written new.written result status.ShelfFault opens.leaves.stops is);
       read_fault = λ is. absurd (unwritten_at old.written new.written result status.ReadFault opens.leaves.stops is);
       write_fault = λ is. told_more old.texts Away (λ texts. HasRunFront (Some (On system job)) texts rest before after × IsOfTaken (Some (On system job)) texts before after) opens.opens (λ texts writes. (
@@ -146,7 +146,7 @@ IsPlain (Run name) = ⊥
 IsPlain _ = Unit {0}
 
 record IsSilent (job : Job) : Type 0 where
-  given : (texts : Texts) (system : List ℕ) (rest : Option (List ℕ)) → IsSession (Some (On system job)) texts rest []
+  given : (texts : Texts) (system : List ℕ) (rest : Option (List ℕ)) → IsSessionText (Some (On system job)) texts rest []
   taken : (texts : Texts) (system : List ℕ) (old new : World) → IsOfTaken (Some (On system job)) texts old new
   ends : (system : List ℕ) (old new : World) (result : Status) → EndsInput (Some (On system job)) old new result
 
@@ -164,15 +164,15 @@ job_served system job old new result plain does rest faults =
     let before = beside old rest faults in
     let after = beside new rest faults in
     let is = silent job plain in
-    let Done : Texts → Type 0 = λ texts. Writes (OnOpening (Does job texts []) (opened texts system)) old.written new.written result in
+    let Done : Texts → Type 0 = λ texts. Writes (OnOpening (JobDoes job texts []) (document_opening texts system)) old.written new.written result in
     record {
       run = λ free. told_more old.texts Done (λ texts. HasRun (Some (On system job)) texts before after result) does.writes (λ texts writes.
-          let w = free_text (OnOpening (Does job texts []) (opened texts system)) old.written new.written result free writes in
+          let w = free_text (OnOpening (JobDoes job texts []) (document_opening texts system)) old.written new.written result free writes in
           record { session = []; given = is.given texts system rest; text = w.text; run = w.run; wrote = w.wrote });
       shelf_fault = λ stop. (aside job).shelf system before after (unwritten_at old.written new.written result status.ShelfFault does.stops stop);
       read_fault = λ stop. absurd (unwritten_at old.written new.written result status.ReadFault does.stops stop);
       write_fault = λ stop. told_more old.texts Done (λ texts. HasRunFront (Some (On system job)) texts rest before after × IsOfTaken (Some (On system job)) texts before after) does.writes (λ texts writes.
-          let w = front_text (OnOpening (Does job texts []) (opened texts system)) old.written new.written result stop writes in (
+          let w = front_text (OnOpening (JobDoes job texts []) (document_opening texts system)) old.written new.written result stop writes in (
             record { session = []; given = is.given texts system rest; text = w.text; ends = w.ends; run = w.run; wrote = w.wrote },
             is.taken texts system before after,
           ));

@@ -8,12 +8,12 @@ use Rattle.roman_joint.specs.NamedSys.{NamedSys, system_of}
 use Rattle.roman_library.specs.Library.{PlainLibrary}
 use Rattle.roman_rank.specs.DepthText.{PutsDepths}
 use Rattle.roman_session.specs.Building.{IsSeated}
-use Rattle.roman_session.specs.Starts.{parts_of, start_of}
+use Rattle.roman_session.specs.Starts.{parts_of, start_pair_of}
 use Rattle.roman_session.specs.declared.seating.Seated.{Seated}
 use Rattle.roman_top.specs.Causes.{SinkCause}
 use Rattle.roman_top.specs.Command.{Shortest, On}
 use Rattle.roman_top.specs.Endings.{Accepts, Opens, Finishes, IsDone, Writes}
-use Rattle.roman_top.specs.Opening.{library_system, opened, OnOpening}
+use Rattle.roman_top.specs.Opening.{library_system, document_opening, OnOpening}
 use Rattle.roman_top.specs.Run.{Shortens, ShortensSystem}
 use Rattle.roman_top.specs.Served.{ServedBeside}
 use Rattle.roman_top.specs.World.{desk}
@@ -36,19 +36,19 @@ shortened joint given start old new result r same puts finishes =
     (writes_put (ShortensSystem (system_of given) (pair_at (sizes_of (system_of given)) start)) old new puts.text status.Done result r puts.puts finishes (puts.tells, refl) (λ w. w))
 
 -- a library begins where its seated system does
-begins_there : (library : PlainLibrary) (seated : Seated) → IsSeated library seated → start_pair seated ≡ start_of library
+begins_there : (library : PlainLibrary) (seated : Seated) → IsSeated library seated → start_pair seated ≡ start_pair_of library
 begins_there library seated is =
     let s = library_system library in
     ap (λ (n : NamedSys). pair_at (sizes_of (system_of n)) seated.start) is.parts
-    ∙ (ap (pair_at (sizes_of s)) is.start ∙ (numbers_are_pairs s).back (start_of library) is.pair)
+    ∙ (ap (pair_at (sizes_of s)) is.start ∙ (numbers_are_pairs s).back (start_pair_of library) is.pair)
 
 -- the depths of the system of an accepted document are a run
-shortened_is_run : (texts : Texts) (system : List ℕ) (seated : Seated) (old new : Option (List ℕ)) (result : Status) → Accepts (opened texts system) (λ library. IsSeated library seated) →
-    Writes (ShortensSystem (system_of seated.joint) (start_pair seated)) old new result → Writes (OnOpening Shortens (opened texts system)) old new result
+shortened_is_run : (texts : Texts) (system : List ℕ) (seated : Seated) (old new : Option (List ℕ)) (result : Status) → Accepts (document_opening texts system) (λ library. IsSeated library seated) →
+    Writes (ShortensSystem (system_of seated.joint) (start_pair seated)) old new result → Writes (OnOpening Shortens (document_opening texts system)) old new result
 shortened_is_run texts system seated old new result accepts writes =
-    writes_weaker (ShortensSystem (system_of seated.joint) (start_pair seated)) (OnOpening Shortens (opened texts system)) old new result
+    writes_weaker (ShortensSystem (system_of seated.joint) (start_pair seated)) (OnOpening Shortens (document_opening texts system)) old new result
     (λ (text : List ℕ) (ends : Status) (shortens : ShortensSystem (system_of seated.joint) (start_pair seated) text ends).
-    on_accepted Shortens (opened texts system) accepts.library text ends accepts.accepted
+    on_accepted Shortens (document_opening texts system) accepts.library text ends accepts.accepted
     (subst (λ (p : Pair). ShortensSystem (library_system accepts.library) p text ends) (begins_there accepts.library seated accepts.holds)
     (subst (λ (n : NamedSys). ShortensSystem (system_of n) (start_pair seated) text ends) accepts.holds.parts shortens))) writes
 
@@ -56,7 +56,7 @@ shortened_is_run texts system seated old new result accepts writes =
 pub start_below : (library : PlainLibrary) (seated : Seated) → IsSeated library seated → seated.start < count (sizes_of (system_of seated.joint))
 start_below library seated is = subst (λ (n : NamedSys). seated.start < count (sizes_of (system_of n))) (sym is.parts) is.below
 
--- the depths of an opened document
+-- the depths of an document_opening document
 pub shortest_served : (system : List ℕ) (seated : Seated) (told told_now : Option Texts) (shelf shelf_now : ℕ) (old mid new : Option (List ℕ)) (out out_mid out_now : ℕ) (result : Status) →
     Opens IsSeated system (desk told shelf old out) (desk told_now shelf_now mid out_mid) (Ok seated) → Writes (ShortensSystem (system_of seated.joint) (start_pair seated)) mid new result → IsDone mid new result → SinkCause out_mid out_now result →
     ServedBeside (Some (On system Shortest)) (desk told shelf old out) (desk told_now shelf_now new out_now) result
@@ -64,7 +64,7 @@ shortest_served system seated told told_now shelf shelf_now old mid new out out_
     let mine : Writes (ShortensSystem (system_of seated.joint) (start_pair seated)) old new result = subst (λ (o : Option (List ℕ)). Writes (ShortensSystem (system_of seated.joint) (start_pair seated)) o new result) opens.leaves.stops writes in
     let is_done : IsDone old new result = subst (λ (o : Option (List ℕ)). IsDone o new result) opens.leaves.stops done in
     job_served system Shortest (desk told shelf old out) (desk told_now shelf_now new out_now) result tt (record {
-      writes = told_more told (λ texts. Accepts (opened texts system) (λ library. IsSeated library seated)) (λ texts. Writes (OnOpening Shortens (opened texts system)) old new result) opens.opens
+      writes = told_more told (λ texts. Accepts (document_opening texts system) (λ library. IsSeated library seated)) (λ texts. Writes (OnOpening Shortens (document_opening texts system)) old new result) opens.opens
           (λ texts accepts. shortened_is_run texts system seated old new result accepts mine);
       stops = done_stops old new result is_done;
       texts = opens.leaves.texts;

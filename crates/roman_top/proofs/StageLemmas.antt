@@ -7,7 +7,7 @@ use Rattle.roman_session.specs.Situations.{Situation}
 use Rattle.roman_session.specs.Steps.{Answers, Step}
 use Rattle.roman_session.specs.Answering.{Answered}
 use Rattle.roman_top.specs.Made.{made_line, standing, stages, Passes}
-use Rattle.roman_top.specs.Stages.{HasAnswered, line_of, lines_of}
+use Rattle.roman_top.specs.Stages.{HasComeTo, line_of_stage, lines_of}
 use Rattle.roman_top.specs.declared.stage.Stage.{Stage}
 
 -- one more line is answered
@@ -29,7 +29,7 @@ take_line xs from i line order within is =
 
 -- it is answered as well
 pub answered_more : {T E : Type 0} (old mid new : Situation) (xs : List (List ℕ)) (from i : ℕ) (line : List ℕ) (before after : Option (List ℕ)) (result : Result T E) → from ≤ i → i < length xs → slice_get xs i ≡ Some line →
-    HasAnswered old (take (i - from) (drop from xs)) mid → Answered mid line new before after result → HasAnswered old (take (i + 1 - from) (drop from xs)) new
+    HasComeTo old (take (i - from) (drop from xs)) mid → Answered mid line new before after result → HasComeTo old (take (i + 1 - from) (drop from xs)) new
 answered_more old mid new xs from i line before after result order within is so_far answered = record {
   replies = so_far.replies ++ answered.text;
   answers = subst (λ ls. Answers old ls (so_far.replies ++ answered.text) new) (sym (take_line xs from i line order within is))
@@ -37,37 +37,37 @@ answered_more old mid new xs from i line before after result order within is so_
 }
 
 -- a stage after those lines, and the further stages
-passes_on : (s next : Situation) (word : List ℕ) (lines : List (List ℕ)) (more : List (List ℕ × List (List ℕ))) (line rest : List ℕ) → HasAnswered s lines next → line ≡ standing word next → Passes next more rest →
+passes_on : (s next : Situation) (word : List ℕ) (lines : List (List ℕ)) (more : List (List ℕ × List (List ℕ))) (line rest : List ℕ) → HasComeTo s lines next → line ≡ standing word next → Passes next more rest →
     Passes s ((word, lines) ∷ more) (line ++ rest)
 passes_on s next word lines more line rest answered is passes = (answered.replies, rest, next, answered.answers, passes, ap (λ front. front ++ rest) is)
 
 -- a session that is given the whole script
 pub script_passes : (s0 s1 s2 s3 s4 s5 : Situation) (start freeze thaw die join round : Stage) →
-    line_of start ≡ standing (codes "start") s0 →
-    HasAnswered s0 (take 1 script_lines) s1 → line_of freeze ≡ standing (codes "freeze") s1 →
-    HasAnswered s1 (take 1 (drop 1 script_lines)) s2 → line_of thaw ≡ standing (codes "thaw") s2 →
-    HasAnswered s2 (take 1 (drop 2 script_lines)) s3 → line_of die ≡ standing (codes "die") s3 →
-    HasAnswered s3 (take 1 (drop 3 script_lines)) s4 → line_of join ≡ standing (codes "join") s4 →
-    HasAnswered s4 (take 9 (drop 4 script_lines)) s5 → line_of round ≡ standing (codes "round") s5 →
+    line_of_stage start ≡ standing (codes "start") s0 →
+    HasComeTo s0 (take 1 script_lines) s1 → line_of_stage freeze ≡ standing (codes "freeze") s1 →
+    HasComeTo s1 (take 1 (drop 1 script_lines)) s2 → line_of_stage thaw ≡ standing (codes "thaw") s2 →
+    HasComeTo s2 (take 1 (drop 2 script_lines)) s3 → line_of_stage die ≡ standing (codes "die") s3 →
+    HasComeTo s3 (take 1 (drop 3 script_lines)) s4 → line_of_stage join ≡ standing (codes "join") s4 →
+    HasComeTo s4 (take 9 (drop 4 script_lines)) s5 → line_of_stage round ≡ standing (codes "round") s5 →
     Passes s0 stages (lines_of (start ∷ freeze ∷ thaw ∷ die ∷ join ∷ round ∷ []))
 script_passes s0 s1 s2 s3 s4 s5 start freeze thaw die join round at_start h1 at_freeze h2 at_thaw h3 at_die h4 at_join h5 at_round =
     let fifth : Passes s4 ((codes "round", take 9 (drop 4 script_lines)) ∷ []) (lines_of (round ∷ [])) =
-    passes_on s4 s5 (codes "round") (take 9 (drop 4 script_lines)) [] (line_of round) (codes "end\n") h5 at_round refl in
+    passes_on s4 s5 (codes "round") (take 9 (drop 4 script_lines)) [] (line_of_stage round) (codes "end\n") h5 at_round refl in
     let fourth : Passes s3 ((codes "join", take 1 (drop 3 script_lines)) ∷ (codes "round", take 9 (drop 4 script_lines)) ∷ []) (lines_of (join ∷ round ∷ [])) =
-    passes_on s3 s4 (codes "join") (take 1 (drop 3 script_lines)) ((codes "round", take 9 (drop 4 script_lines)) ∷ []) (line_of join) (lines_of (round ∷ [])) h4 at_join fifth in
+    passes_on s3 s4 (codes "join") (take 1 (drop 3 script_lines)) ((codes "round", take 9 (drop 4 script_lines)) ∷ []) (line_of_stage join) (lines_of (round ∷ [])) h4 at_join fifth in
     let third : Passes s2 ((codes "die", take 1 (drop 2 script_lines)) ∷ (codes "join", take 1 (drop 3 script_lines)) ∷ (codes "round", take 9 (drop 4 script_lines)) ∷ []) (lines_of (die ∷ join ∷ round ∷ [])) =
-    passes_on s2 s3 (codes "die") (take 1 (drop 2 script_lines)) ((codes "join", take 1 (drop 3 script_lines)) ∷ (codes "round", take 9 (drop 4 script_lines)) ∷ []) (line_of die) (lines_of (join ∷ round ∷ [])) h3 at_die fourth in
+    passes_on s2 s3 (codes "die") (take 1 (drop 2 script_lines)) ((codes "join", take 1 (drop 3 script_lines)) ∷ (codes "round", take 9 (drop 4 script_lines)) ∷ []) (line_of_stage die) (lines_of (join ∷ round ∷ [])) h3 at_die fourth in
     let second = passes_on s1 s2 (codes "thaw") (take 1 (drop 1 script_lines)) ((codes "die", take 1 (drop 2 script_lines)) ∷ (codes "join", take 1 (drop 3 script_lines)) ∷ (codes "round", take 9 (drop 4 script_lines)) ∷ [])
-    (line_of thaw) (lines_of (die ∷ join ∷ round ∷ [])) h2 at_thaw third in
+    (line_of_stage thaw) (lines_of (die ∷ join ∷ round ∷ [])) h2 at_thaw third in
     let first = passes_on s0 s1 (codes "freeze") (take 1 script_lines)
     ((codes "thaw", take 1 (drop 1 script_lines)) ∷ (codes "die", take 1 (drop 2 script_lines)) ∷ (codes "join", take 1 (drop 3 script_lines)) ∷ (codes "round", take 9 (drop 4 script_lines)) ∷ [])
-    (line_of freeze) (lines_of (thaw ∷ die ∷ join ∷ round ∷ [])) h1 at_freeze second in
+    (line_of_stage freeze) (lines_of (thaw ∷ die ∷ join ∷ round ∷ [])) h1 at_freeze second in
     ([], lines_of (freeze ∷ thaw ∷ die ∷ join ∷ round ∷ []), s0, (refl, refl), first, ap (λ front. front ++ lines_of (freeze ∷ thaw ∷ die ∷ join ∷ round ∷ [])) at_start)
 
 -- ---- lines that are taken one after the other
 
 -- what is left begins with the next line
-pub lines_of-drop : (stages : List Stage) (i : ℕ) (d : Stage) (piece : List ℕ) → i < length stages → piece ≡ line_of (get_or stages i d) → lines_of (drop i stages) ≡ piece ++ lines_of (drop (i + 1) stages)
+pub lines_of-drop : (stages : List Stage) (i : ℕ) (d : Stage) (piece : List ℕ) → i < length stages → piece ≡ line_of_stage (get_or stages i d) → lines_of (drop i stages) ≡ piece ++ lines_of (drop (i + 1) stages)
 lines_of-drop stages i d piece within is = rw (add-one, is) (ap lines_of (drop-cons stages i d within))
 
 -- past the last stage the last line is left

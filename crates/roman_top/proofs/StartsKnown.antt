@@ -13,8 +13,8 @@ use Rattle.roman_library.specs.Library.{PlainLibrary, IsService, IsLibrary}
 use Rattle.roman_library.specs.declared.library.Service.{Service}
 use Rattle.roman_session.specs.Situations.{Situation, IsPhase}
 use Rattle.roman_session.specs.Situations as situation
-use Rattle.roman_session.specs.Starts.{seat_of_service, parts_of, start_of, IsStart}
-use Rattle.roman_session.specs.Known.{AreNamed, IsKnown}
+use Rattle.roman_session.specs.Starts.{seat_of_service, parts_of, start_pair_of, IsStart}
+use Rattle.roman_session.specs.Known.{AreNamed, IsKnownSituation}
 use Rattle.roman_session.proofs.ChangedLemmas.{is_within}
 use Rattle.roman_session.proofs.SituationLemmas.{there_is}
 use Rattle.roman_session.proofs.StartLemmas.{behaviours_within, names_once, start_pair}
@@ -60,11 +60,11 @@ library_parts library is within = record {
   target = (is.target.env_states, is.target.actions);
 }
 
-start_known : (library : PlainLibrary) (s : Situation) → IsKnownLibrary library → IsFalse (is_past_limit library) → IsStart library s → IsKnown s
+start_known : (library : PlainLibrary) (s : Situation) → IsKnownLibrary library → IsFalse (is_past_limit library) → IsStart library s → IsKnownSituation s
 start_known library s is within start = record {
   situation = record {
     parts = subst IsNamedSys (sym start.parts) (library_parts library is.known within);
-    here = subst (λ (p : Pair). IsPair (situation.system_of s) p) (sym start.here) (subst (λ (n : NamedSys). IsPair (system_of n) (start_of library)) (sym start.parts) (start_pair library is.known));
+    here = subst (λ (p : Pair). IsPair (situation.present_system s) p) (sym start.here) (subst (λ (n : NamedSys). IsPair (system_of n) (start_pair_of library)) (sym start.parts) (start_pair library is.known));
     list = start.list;
     phase = subst (IsPhase s) (sym start.phase) tt;
   };

@@ -20,8 +20,8 @@ use Rattle.roman_top.specs.Causes.{ShelfCause, InputCause, SinkCause}
 use Rattle.roman_top.specs.Command.{Run, On}
 use Rattle.roman_top.specs.Endings.{Accepts, GoesOnFrom, HearsText, Opens, heard_status}
 use Rattle.roman_top.specs.Faults.{IsFree, HasAnswered, HasAnsweredFront, HasAnsweredInput, HasRunFront, HasFrontOfTaken, AtShelfFault, IsOfTaken, IsOfSession, TakesInput, EndsInput}
-use Rattle.roman_top.specs.Opening.{opened}
-use Rattle.roman_top.specs.Run.{Talks, Runs, IsSession, HasRun}
+use Rattle.roman_top.specs.Opening.{document_opening}
+use Rattle.roman_top.specs.Run.{Talks, Runs, IsSessionText, HasRun}
 use Rattle.roman_top.specs.Served.{Served, ServedBeside}
 use Rattle.roman_top.specs.World.{World, Desk, world, desk}
 use Rattle.roman_top.specs.declared.status.Status.{Status}
@@ -44,10 +44,10 @@ pub record Heard (old new : Hall) (result : Result (Unit {0}) HearError) : Type 
 
 -- Sessions of accepted documents
 
-module _ (texts : Texts) (system : List ℕ) (start : Situation) (accepts : Accepts (opened texts system) (λ library. IsStart library start)) where
+module _ (texts : Texts) (system : List ℕ) (start : Situation) (accepts : Accepts (document_opening texts system) (λ library. IsStart library start)) where
   -- what is told of a whole session, or of its front, is a run
   talked : (name : Option (List ℕ)) (session text : List ℕ) (ends : Status) → Talks session accepts.library text ends → Runs (Some (On system (Run name))) texts session text ends
-  talked name session text ends talks = on_accepted (Talks session) (opened texts system) accepts.library text ends accepts.accepted talks
+  talked name session text ends talks = on_accepted (Talks session) (document_opening texts system) accepts.library text ends accepts.accepted talks
 
   talks_all : (session text : List ℕ) (now : Situation) → IsTrue (is_heard_out session) → Told start (lines session) text now → Talks session accepts.library text status.Done
   talks_all session text now out told = match_true (is_heard_out session) _ _ out (record { start = start; now = now; begins = accepts.holds; told = told }, refl)
@@ -55,7 +55,7 @@ module _ (texts : Texts) (system : List ℕ) (start : Situation) (accepts : Acce
   talks_front : (session text : List ℕ) (now : Situation) → IsFalse (is_heard_out session) → Told start (ended_lines (front_of session)) text now → Talks session accepts.library text status.TooLong
   talks_front session text now long told = match_false (is_heard_out session) _ _ long (record { start = start; now = now; begins = accepts.holds; told = told }, refl)
 
-  module _ (name : Option (List ℕ)) (old new : World) (from : Option (List ℕ)) (now : Situation) (given : (session : List ℕ) → Had from session → IsSession (Some (On system (Run name))) texts old.rest session) where
+  module _ (name : Option (List ℕ)) (old new : World) (from : Option (List ℕ)) (now : Situation) (given : (session : List ℕ) → Had from session → IsSessionText (Some (On system (Run name))) texts old.rest session) where
     -- heard to its end, or to `quit`
     runs_out : IsHeardOut (hall start from old.written) (spot now new.written) → HasRun (Some (On system (Run name))) texts old new status.Done
     runs_out h = record {
@@ -234,13 +234,13 @@ ends_input system old new (Err hear.TooLong) past = tt
 -- What a call does that hears a session
 
 heard_input : (system : List ℕ) (start now : Situation) (told told_mid : Option Texts) (shelf shelf_mid : ℕ) (rest rest_now : Option (List ℕ)) (input input_now : ℕ) (old new : Option (List ℕ)) (out out_mid out_now : ℕ)
-    (heard : Result (Unit {0}) HearError) → IfSome told (λ texts. Accepts (opened texts system) (λ library. IsStart library start)) → AreBehaviours start.parts → told_mid ≡ told → shelf_mid ≡ shelf → out_mid ≡ out →
+    (heard : Result (Unit {0}) HearError) → IfSome told (λ texts. Accepts (document_opening texts system) (λ library. IsStart library start)) → AreBehaviours start.parts → told_mid ≡ told → shelf_mid ≡ shelf → out_mid ≡ out →
     Heard (hall start rest old) (hall now rest_now new) heard → CausedBy hear.ReadFault input input_now heard → CausedBy hear.WriteFault out_mid out_now heard →
     Served (Some (On system (Run None))) (world told shelf rest input old out) (world told_mid shelf_mid rest_now input_now new out_now) (heard_status status.ReadFault heard)
 heard_input system start now told told_mid shelf shelf_mid rest rest_now input input_now old new out out_mid out_now heard opens behaviours texts shelves outs h reads writes =
     let before = world told shelf rest input old out in
     let after = world told_mid shelf_mid rest_now input_now new out_now in
-    let Starts : Texts → Type 0 = λ texts. Accepts (opened texts system) (λ library. IsStart library start) in
+    let Starts : Texts → Type 0 = λ texts. Accepts (document_opening texts system) (λ library. IsStart library start) in
     record {
       run = λ free. told_more told Starts (λ texts. HasRun (Some (On system (Run None))) texts before after (heard_status status.ReadFault heard)) opens
           (λ texts accepts. heard_runs texts system start accepts None before after rest now (λ session had. had) status.ReadFault heard (λ free. free) h.ok h.too_long free);
@@ -258,7 +258,7 @@ heard_input system start now told told_mid shelf shelf_mid rest rest_now input i
       input = input_cause input input_now heard reads;
       out = sink_cause out out_mid out_now status.ReadFault heard outs writes (λ same. same);
       taken = inr (record {
-        accepted = told_more told Starts (λ texts. (library : _) × (opened texts system ≡ _)) opens (λ texts accepts. (accepts.library, accepts.accepted));
+        accepted = told_more told Starts (λ texts. (library : _) × (document_opening texts system ≡ _)) opens (λ texts accepts. (accepts.library, accepts.accepted));
         session = of_session heard;
         few = h.taken;
       });
@@ -278,16 +278,16 @@ module _ (system : List ℕ) (start now : Situation) (told told_mid : Option Tex
 
   pub input_took : TakesInput (Some (On system (Run None))) (world told shelf rest input old out) (world told_mid shelf_mid rest_now input_now new out_now) result
   input_took = record {
-    accepted = told_more told (λ texts. Accepts (opened texts system) (λ library. IsStart library start)) (λ texts. (library : _) × (opened texts system ≡ _)) opens.opens (λ texts accepts. (accepts.library, accepts.accepted));
+    accepted = told_more told (λ texts. Accepts (document_opening texts system) (λ library. IsStart library start)) (λ texts. (library : _) × (document_opening texts system ≡ _)) opens.opens (λ texts accepts. (accepts.library, accepts.accepted));
     session = subst IsOfSession (sym is) (of_session heard);
     few = h.taken;
   }
 
 -- the text of the shelf that a session is
-shelf_given : (texts : Texts) (system name : List ℕ) (rest : Option (List ℕ)) (session : List ℕ) → Had (rest_from (Some texts) name 0) session → IsSession (Some (On system (Run (Some name)))) texts rest session
+shelf_given : (texts : Texts) (system name : List ℕ) (rest : Option (List ℕ)) (session : List ℕ) → Had (rest_from (Some texts) name 0) session → IsSessionText (Some (On system (Run (Some name)))) texts rest session
 shelf_given texts system name rest session had = sym had
 
-broken_shelf : (texts : Texts) (system name : List ℕ) (start now : Situation) (accepts : Accepts (opened texts system) (λ library. IsStart library start)) (old new : World) → old.texts ≡ Some texts →
+broken_shelf : (texts : Texts) (system name : List ℕ) (start now : Situation) (accepts : Accepts (document_opening texts system) (λ library. IsStart library start)) (old new : World) → old.texts ≡ Some texts →
     GoesOnFrom (hall start (rest_from (Some texts) name 0) old.written) (spot now new.written) → AtShelfFault (Some (On system (Run (Some name)))) old new
 broken_shelf texts system name start now accepts old new told (has, goes) =
     let (left, e, split) = Gave-told (text_of texts name) has goes.taken goes.gave in
@@ -295,7 +295,7 @@ broken_shelf texts system name start now accepts old new told (has, goes) =
     (record { taken = goes.taken; rest = left; split = split; answered = answered texts system start accepts old new now (rest_from (Some texts) name 0) has goes }))
 
 heard_shelf : (system name : List ℕ) (start now : Situation) (told told_now : Option Texts) (shelf shelf_mid shelf_now : ℕ) (old new : Option (List ℕ)) (out out_mid out_now : ℕ) (heard : Result (Unit {0}) HearError) →
-    IfSome told (λ texts. Accepts (opened texts system) (λ library. IsStart library start)) → AreBehaviours start.parts → told_now ≡ told → shelf_mid ≡ shelf → out_mid ≡ out →
+    IfSome told (λ texts. Accepts (document_opening texts system) (λ library. IsStart library start)) → AreBehaviours start.parts → told_now ≡ told → shelf_mid ≡ shelf → out_mid ≡ out →
     HearsText (hall start (rest_from told name 0) old) (spot now new) heard → CausedBy hear.ReadFault shelf_mid shelf_now heard → CausedBy hear.WriteFault out_mid out_now heard →
     ServedBeside (Some (On system (Run (Some name)))) (desk told shelf old out) (desk told_now shelf_now new out_now) (heard_status status.ShelfFault heard)
 heard_shelf system name start now None told_now shelf shelf_mid shelf_now old new out out_mid out_now heard opens behaviours texts shelves outs h reads writes rest input = record {

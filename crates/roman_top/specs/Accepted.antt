@@ -4,9 +4,9 @@ use Rattle.roman_io.specs.Shelf.{Texts}
 use Rattle.roman_library.specs.Library.{PlainLibrary}
 use Rattle.roman_session.specs.Situations.{Situation}
 use Rattle.roman_session.specs.Starts.{IsStart}
-use Rattle.roman_session.specs.Known.{IsKnown}
-use Rattle.roman_top.specs.Opening.{Accepted, opened}
+use Rattle.roman_session.specs.Known.{IsKnownSituation}
+use Rattle.roman_top.specs.Opening.{Accepted, document_opening}
 
 -- an accepted document within its limit starts a well-formed situation
 abbrev pub StartsAreKnown : Type 0
-StartsAreKnown = (texts : Texts) (system : List ℕ) (library : PlainLibrary) (s : Situation) → opened texts system ≡ Accepted library → IsStart library s → IsKnown s
+StartsAreKnown = (texts : Texts) (system : List ℕ) (library : PlainLibrary) (s : Situation) → document_opening texts system ≡ Accepted library → IsStart library s → IsKnownSituation s

@@ -10,17 +10,17 @@ use Rattle.roman_joint.specs.NamedSys.{NamedSys}
 use Rattle.roman_library.specs.Library.{PlainLibrary}
 use Rattle.roman_library.specs.Refusals.{refusal_of}
 use Rattle.roman_library.specs.declared.refusal.Part.TheVariants as part
-use Rattle.roman_session.specs.Starts.{parts_of, start_of}
+use Rattle.roman_session.specs.Starts.{parts_of, start_pair_of}
 use Rattle.roman_cost.specs.AdviceText.{Advising, Unrelated, TooMany, Told, advised_by}
 use Rattle.roman_cost.specs.Costs.{costs_of}
-use Rattle.roman_cost.specs.Refusals.{Caused, place_of_rule}
+use Rattle.roman_cost.specs.Refusals.{HasCostCause, place_of_rule}
 use Rattle.roman_cost.specs.Tables.{CostTable}
 use Rattle.roman_cost.specs.declared.costs.Listed.{Listed}
 use Rattle.roman_cost.specs.declared.error.CostError.{CostError}
 use Rattle.roman_cost.specs.declared.error.CostError.TheVariants as cost
 use Rattle.roman_cost.specs.declared.limits.TheConstants.{MAX_VALUES}
 use Rattle.roman_top.specs.Causes.{ShelfCause}
-use Rattle.roman_top.specs.Opening.{Says, library_system, limit_line}
+use Rattle.roman_top.specs.Opening.{EndsWith, library_system, limit_line}
 use Rattle.roman_top.specs.RefusalLine.{refusal_line}
 use Rattle.roman_top.specs.declared.status.Status.{Status}
 use Rattle.roman_top.specs.declared.status.Status.TheVariants as status
@@ -31,19 +31,19 @@ unrelated_line = codes "answer none\n"
 
 -- the pair isn't related, there are too many values, or the advice
 abbrev pub SaysAdvice : Advising → List ℕ → Status → Type 0
-SaysAdvice Unrelated out result = Says unrelated_line status.No out result
-SaysAdvice TooMany out result = Says (limit_line MAX_VALUES) status.Limit out result
-SaysAdvice (Told text) out result = Says text status.Done out result
+SaysAdvice Unrelated out result = EndsWith unrelated_line status.No out result
+SaysAdvice TooMany out result = EndsWith (limit_line MAX_VALUES) status.Limit out result
+SaysAdvice (Told text) out result = EndsWith text status.Done out result
 
 -- costs that are refused get the line of their refusal; by those that are read the work is done
 abbrev pub OnCosts : List ℕ → (List Listed → List ℕ → Status → Type 0) → Result (List Listed) PartError → List ℕ → Status → Type 0
-OnCosts name Work (Err error) out result = Says (refusal_line (refusal_of name part.Costs error)) status.Refused out result
+OnCosts name Work (Err error) out result = EndsWith (refusal_line (refusal_of name part.Costs error)) status.Refused out result
 OnCosts name Work (Ok listed) out result = Work listed out result
 
 -- advise: what the costs of that name come to for so many requests from the library's start on
 abbrev pub GivesAdvice : List ℕ → ℕ → Texts → PlainLibrary → List ℕ → Status → Type 0
 GivesAdvice name requests texts library =
-    OnCosts name (λ listed. SaysAdvice (advised_by (parts_of library) listed requests (start_of library))) (costs_of texts name (parts_of library))
+    OnCosts name (λ listed. SaysAdvice (advised_by (parts_of library) listed requests (start_pair_of library))) (costs_of texts name (parts_of library))
 
 -- the costs of that name are read, and there are not too many values
 pub record Affords (name : List ℕ) (requests : ℕ) (texts : Texts) (library : PlainLibrary) : Type 0 where
@@ -58,12 +58,12 @@ abbrev pub TellsRead : List ℕ → NamedSys → ℕ → Pair → Result CostTab
 TellsRead name n requests p (Ok costs) out result = SaysAdvice (advised_by n costs.listed requests p) out result
 TellsRead name n requests p (Err cost.Fault) out result = ⊥
 TellsRead name n requests p (Err (cost.Refused kind whole index)) out result =
-    Says (refusal_line (refusal_of name part.Costs (part_error.Refused kind (place_of_rule whole) index))) status.Refused out result
+    EndsWith (refusal_line (refusal_of name part.Costs (part_error.Refused kind (place_of_rule whole) index))) status.Refused out result
 TellsRead name n requests p (Err cost.Memory) out result = ⊥
 
 -- a fault of reading costs is one of the shelf, and no other status is
 abbrev pub CausedByRead : Result CostTable CostError → Status → Type 0
-CausedByRead read result = (old new : ℕ) → Caused old new read → ShelfCause old new result
+CausedByRead read result = (old new : ℕ) → HasCostCause old new read → ShelfCause old new result
 
 -- neither the shelf nor the input failed, and nothing was written where memory did
 abbrev pub IsSpoken : Option (List ℕ) → Option (List ℕ) → Status → Type 0

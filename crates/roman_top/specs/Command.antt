@@ -2,7 +2,7 @@
 use Rattle.std.specs.Prelude.{ℕ, List, [], ◌∷◌, Option, None, Some, codes, if◌then◌else◌}
 use Rattle.std.specs.Option.{option_map}
 use Rattle.std.specs.Str.{bytes_eq}
-use Rattle.roman_top.specs.Requests.{requests_of}
+use Rattle.roman_top.specs.Requests.{request_count_of}
 use Rattle.roman_top.specs.Workers.{workers_of}
 use Rattle.roman_top.specs.declared.command.Command.{Command as Asked}
 use Rattle.roman_top.specs.declared.command.Command.TheVariants as asked
@@ -23,8 +23,8 @@ pub data Command : Type 0 where
   Make : (n : ℕ) → Command
 
 -- the command of a word and one more
-abbrev pub with_one : List ℕ → List ℕ → Option Command
-with_one word name =
+abbrev pub command_with_one : List ℕ → List ℕ → Option Command
+command_with_one word name =
     if bytes_eq word (codes "synth") then Some (On name Synth)
     else if bytes_eq word (codes "run") then Some (On name (Run None))
     else if bytes_eq word (codes "certify") then Some (On name Certify)
@@ -34,25 +34,25 @@ with_one word name =
     else None
 
 -- the command of a word and two names
-abbrev pub with_two : List ℕ → List ℕ → List ℕ → Option Command
-with_two word name other =
+abbrev pub command_with_two : List ℕ → List ℕ → List ℕ → Option Command
+command_with_two word name other =
     if bytes_eq word (codes "run") then Some (On name (Run (Some other)))
     else if bytes_eq word (codes "check") then Some (On name (Check other))
     else None
 
 -- the command of a word, two names and one more word
-abbrev pub with_three : List ℕ → List ℕ → List ℕ → List ℕ → Option Command
-with_three word name other third =
-    if bytes_eq word (codes "advise") then option_map (λ requests. On name (Advise other requests)) (requests_of third)
+abbrev pub command_with_three : List ℕ → List ℕ → List ℕ → List ℕ → Option Command
+command_with_three word name other third =
+    if bytes_eq word (codes "advise") then option_map (λ requests. On name (Advise other requests)) (request_count_of third)
     else None
 
 -- the command that the words are, if they have the shape of one
 abbrev pub command_of : List (List ℕ) → Option Command
 command_of [] = None
 command_of (word ∷ []) = None
-command_of (word ∷ name ∷ []) = with_one word name
-command_of (word ∷ name ∷ other ∷ []) = with_two word name other
-command_of (word ∷ name ∷ other ∷ third ∷ []) = with_three word name other third
+command_of (word ∷ name ∷ []) = command_with_one word name
+command_of (word ∷ name ∷ other ∷ []) = command_with_two word name other
+command_of (word ∷ name ∷ other ∷ third ∷ []) = command_with_three word name other third
 command_of (word ∷ name ∷ other ∷ third ∷ another ∷ more) = None
 
 -- what words without a shape are answered

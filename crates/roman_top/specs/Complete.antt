@@ -5,11 +5,11 @@ use Rattle.roman_io.specs.Shelf.{Texts, text_of}
 use Rattle.roman_model.specs.Numbers.{sizes_of, number, numbered}
 use Rattle.roman_model.specs.Certificate.{TooLong, cert_verdict}
 use Rattle.roman_library.specs.Library.{PlainLibrary}
-use Rattle.roman_session.specs.Starts.{start_of}
+use Rattle.roman_session.specs.Starts.{start_pair_of}
 use Rattle.roman_session.specs.Hearing.{is_heard_out}
 use Rattle.roman_top.specs.Command.{Job, Synth, Run, Certify, Check, Shortest, Advise, Resilience, Command, On, Make}
 use Rattle.roman_top.specs.Advice.{Affords}
-use Rattle.roman_top.specs.Opening.{Accepted, opened, library_system}
+use Rattle.roman_top.specs.Opening.{Accepted, document_opening, library_system}
 use Rattle.roman_top.specs.Run.{WithTexts}
 use Rattle.roman_top.specs.World.{World}
 use Rattle.roman_top.specs.declared.status.Status.{Status}
@@ -24,7 +24,7 @@ IsShort (Some session) = IsTrue (is_heard_out session)
 abbrev pub IsShortFor : PlainLibrary → List ℕ → Type 0
 IsShortFor library certificate =
     let s = library_system library in
-    cert_verdict (numbered s) (number (sizes_of s) (start_of library)) certificate ≢ TooLong
+    cert_verdict (numbered s) (number (sizes_of s) (start_pair_of library)) certificate ≢ TooLong
 
 -- what a job needs beside its library
 abbrev pub Suffices : Job → Texts → Option (List ℕ) → PlainLibrary → Type 0
@@ -40,7 +40,7 @@ Suffices Resilience texts rest library = Unit {0}
 -- nothing but a fault or want of memory keeps the command from its answer
 abbrev pub CanAnswer : Option Command → Texts → Option (List ℕ) → Type 0
 CanAnswer None texts rest = ⊥
-CanAnswer (Some (On system job)) texts rest = (library : PlainLibrary) × (opened texts system ≡ Accepted library) × Suffices job texts rest library
+CanAnswer (Some (On system job)) texts rest = (library : PlainLibrary) × (document_opening texts system ≡ Accepted library) × Suffices job texts rest library
 CanAnswer (Some (Make n)) texts rest = Unit {0}
 
 -- the command got its answer, or there was no memory
@@ -51,11 +51,11 @@ IsAnswered status.Memory = Unit {0}
 IsAnswered _ = ⊥
 
 -- no count of faults rose
-pub record IsQuiet (old new : World) : Type 0 where
+pub record IsUndisturbed (old new : World) : Type 0 where
   pub shelf : Rose old.shelf_faults new.shelf_faults → ⊥
   pub input : Rose old.input_faults new.input_faults → ⊥
   pub out : Rose old.out_faults new.out_faults → ⊥
 
 -- where no count rises, the command gets its answer if it can
-abbrev pub IsComplete : Option Command → World → World → Status → Type 0
-IsComplete asked old new result = IsQuiet old new → WithTexts asked old.texts (λ texts. CanAnswer asked texts old.rest → IsAnswered result)
+abbrev pub AnswersWherePossible : Option Command → World → World → Status → Type 0
+AnswersWherePossible asked old new result = IsUndisturbed old new → WithTexts asked old.texts (λ texts. CanAnswer asked texts old.rest → IsAnswered result)

@@ -11,7 +11,7 @@ use Rattle.roman_check.specs.declared.error.CheckError.{CheckError}
 use Rattle.roman_check.specs.declared.error.CheckError.TheVariants as check
 use Rattle.roman_library.specs.Documents.{library_of}
 use Rattle.roman_library.specs.Library.{PlainLibrary}
-use Rattle.roman_session.specs.Situations.{Situation, system_of}
+use Rattle.roman_session.specs.Situations.{Situation, present_system}
 use Rattle.roman_session.specs.Hearing.{Spot, Hall, IsHeardOut, IsCutOff, GoesOn, TellsFrontOfAll}
 use Rattle.roman_session.specs.Known.{AreBehaviours}
 use Rattle.roman_session.specs.Reports.{report_text}
@@ -19,8 +19,8 @@ use Rattle.roman_session.specs.declared.hearing.HearError.{HearError}
 use Rattle.roman_session.specs.declared.hearing.HearError.TheVariants as hear
 use Rattle.roman_top.specs.Causes.{ShelfCause, SinkCause, CauseIn}
 use Rattle.roman_top.specs.Command.{Job}
-use Rattle.roman_top.specs.Opening.{Accepted, Opening, opened, OnOpening}
-use Rattle.roman_top.specs.Run.{EndsBy, Judges, Does}
+use Rattle.roman_top.specs.Opening.{Accepted, Opening, document_opening, OnOpening}
+use Rattle.roman_top.specs.Run.{EndsBy, SaysVerdict, JobDoes}
 use Rattle.roman_top.specs.World.{Desk}
 use Rattle.roman_top.specs.declared.status.Status.{Status}
 use Rattle.roman_top.specs.declared.status.Status.TheVariants as status
@@ -47,17 +47,17 @@ Writes IsRun old new status.Memory = Unit {0}
 Writes IsRun old new result = WritesText IsRun old new result
 
 -- nothing was written where the shelf or memory failed; Usage isn't answered, and the input isn't read
-abbrev pub Stops : Option (List ℕ) → Option (List ℕ) → Status → Type 0
-Stops old new status.Usage = ⊥
-Stops old new status.ShelfFault = Wrote old new []
-Stops old new status.ReadFault = ⊥
-Stops old new status.Memory = Wrote old new []
-Stops old new _ = Unit {0}
+abbrev pub EndsBare : Option (List ℕ) → Option (List ℕ) → Status → Type 0
+EndsBare old new status.Usage = ⊥
+EndsBare old new status.ShelfFault = Wrote old new []
+EndsBare old new status.ReadFault = ⊥
+EndsBare old new status.Memory = Wrote old new []
+EndsBare old new _ = Unit {0}
 
 -- a job on the document of that name, by a shelf and a sink alone
 pub record DoesJob (name : List ℕ) (job : Job) (old new : Desk) (result : Status) : Type 0 where
-  pub writes : IfSome old.texts (λ texts. Writes (OnOpening (Does job texts []) (opened texts name)) old.written new.written result)
-  pub stops : Stops old.written new.written result
+  pub writes : IfSome old.texts (λ texts. Writes (OnOpening (JobDoes job texts []) (document_opening texts name)) old.written new.written result)
+  pub stops : EndsBare old.written new.written result
   pub texts : new.texts ≡ old.texts
   pub shelf : ShelfCause old.shelf_faults new.shelf_faults result
   pub out : SinkCause old.out_faults new.out_faults result
@@ -74,7 +74,7 @@ pub record Accepts (opening : Opening) (Holds : PlainLibrary → Type 0) : Type 
   pub accepted : opening ≡ Accepted library
   pub holds : Holds library
 
--- a document is opened, or turned away with its line
+-- a document is document_opening, or turned away with its line
 abbrev pub OpensTo : {X : Type 0} → (PlainLibrary → X → Type 0) → Opening → Option (List ℕ) → Option (List ℕ) → Result X Status → Type 0
 OpensTo Holds opening old new (Ok x) = Accepts opening (λ library. Holds library x)
 OpensTo Holds opening old new (Err result) = Writes (TurnsAway opening) old new result
@@ -82,14 +82,14 @@ OpensTo Holds opening old new (Err result) = Writes (TurnsAway opening) old new 
 -- the same before its cells are counted
 abbrev pub ReadsTo : {X : Type 0} → (X → PlainLibrary) → Texts → List ℕ → Option (List ℕ) → Option (List ℕ) → Result X Status → Type 0
 ReadsTo view texts name old new (Ok x) = library_of texts name ≡ Ok (view x)
-ReadsTo view texts name old new (Err result) = Writes (TurnsAway (opened texts name)) old new result
+ReadsTo view texts name old new (Err result) = Writes (TurnsAway (document_opening texts name)) old new result
 
 -- nothing was written by then; else it stops
 abbrev pub StopsIn : {X : Type 0} → Option (List ℕ) → Option (List ℕ) → Result X Status → Type 0
 StopsIn old new (Ok x) = new ≡ old
-StopsIn old new (Err result) = Stops old new result
+StopsIn old new (Err result) = EndsBare old new result
 
--- such a document, a fault or want of memory kept a document from being opened
+-- such a document, a fault or want of memory kept a document from being document_opening
 abbrev pub IsAway : Status → Type 0
 IsAway status.Refused = Unit {0}
 IsAway status.Limit = Unit {0}
@@ -106,13 +106,13 @@ pub record Leaves {X : Type 0} (old new : Desk) (result : Result X Status) : Typ
   pub shelf : CauseIn ShelfCause old.shelf_faults new.shelf_faults result
   pub out : CauseIn SinkCause old.out_faults new.out_faults result
 
--- the document of that name is opened or turned away
+-- the document of that name is document_opening or turned away
 pub record Opens {X : Type 0} (Holds : PlainLibrary → X → Type 0) (name : List ℕ) (old new : Desk) (result : Result X Status) : Type 0 where
-  pub opens : IfSome old.texts (λ texts. OpensTo Holds (opened texts name) old.written new.written result)
+  pub opens : IfSome old.texts (λ texts. OpensTo Holds (document_opening texts name) old.written new.written result)
   pub leaves : Leaves old new result
 
 -- it is read or refused
-pub record Reads {X : Type 0} (view : X → PlainLibrary) (name : List ℕ) (old new : Desk) (result : Result X Status) : Type 0 where
+pub record OpensLibrary {X : Type 0} (view : X → PlainLibrary) (name : List ℕ) (old new : Desk) (result : Result X Status) : Type 0 where
   pub reads : IfSome old.texts (λ texts. ReadsTo view texts name old.written new.written result)
   pub leaves : Leaves old new result
 
@@ -137,7 +137,7 @@ status_of false = status.No
 
 -- the report of a session, and whether its pair is related
 abbrev pub Reports : Situation → List ℕ → Status → Type 0
-Reports s out result = (out ≡ report_text s.parts s.here) × EndsBy (system_of s) s.here result
+Reports s out result = (out ≡ report_text s.parts s.here) × EndsBy (present_system s) s.here result
 
 -- the work was done, or the sink failed; or memory did, and nothing was written
 abbrev pub IsDone : Option (List ℕ) → Option (List ℕ) → Status → Type 0
@@ -169,11 +169,11 @@ heard_status fault (Err hear.TooLong) = status.TooLong
 -- ---- certificates
 
 -- the verdict on a certificate, or that it is too long; a fault and want of memory say nothing of it
-abbrev pub Finds : Arena ℕ → ℕ → List ℕ → Result Verdict CheckError → Type 0
-Finds A start certificate (Ok verdict) = cert_verdict A start certificate ≡ verdict_of verdict
-Finds A start certificate (Err check.Fault) = Unit {0}
-Finds A start certificate (Err check.TooLong) = cert_verdict A start certificate ≡ TooLong
-Finds A start certificate (Err check.Memory) = Unit {0}
+abbrev pub FindsVerdict : Arena ℕ → ℕ → List ℕ → Result Verdict CheckError → Type 0
+FindsVerdict A start certificate (Ok verdict) = cert_verdict A start certificate ≡ verdict_of verdict
+FindsVerdict A start certificate (Err check.Fault) = Unit {0}
+FindsVerdict A start certificate (Err check.TooLong) = cert_verdict A start certificate ≡ TooLong
+FindsVerdict A start certificate (Err check.Memory) = Unit {0}
 
 -- a count of faults rose where the check failed, and stayed elsewhere
 abbrev pub CheckCause : {X : Type 0} → ℕ → ℕ → Result X CheckError → Type 0
@@ -184,9 +184,9 @@ CheckCause old new (Err check.Memory) = new ≡ old
 
 -- what is said of a check
 abbrev pub JudgesCheck : Result Verdict CheckError → List ℕ → Status → Type 0
-JudgesCheck (Ok verdict) out result = Judges (verdict_of verdict) out result
+JudgesCheck (Ok verdict) out result = SaysVerdict (verdict_of verdict) out result
 JudgesCheck (Err check.Fault) out result = ⊥
-JudgesCheck (Err check.TooLong) out result = Judges TooLong out result
+JudgesCheck (Err check.TooLong) out result = SaysVerdict TooLong out result
 JudgesCheck (Err check.Memory) out result = ⊥
 
 -- a fault of the check is one of the shelf, and no other status is

@@ -7,9 +7,9 @@ use Rattle.roman_model.specs.declared.limits.TheConstants.{MAX_SESSION_BYTES}
 use Rattle.roman_library.specs.Library.{PlainLibrary}
 use Rattle.roman_session.specs.Hearing.{AreWhole, GaveQuit}
 use Rattle.roman_top.specs.Command.{Run, Command, On, Make}
-use Rattle.roman_top.specs.Opening.{Accepted, opened}
-use Rattle.roman_top.specs.Run.{Runs, IsSession, WithTexts}
-use Rattle.roman_top.specs.Sessions.{GoesOn}
+use Rattle.roman_top.specs.Opening.{Accepted, document_opening}
+use Rattle.roman_top.specs.Run.{Runs, IsSessionText, WithTexts}
+use Rattle.roman_top.specs.Sessions.{GoesOnInSession}
 use Rattle.roman_top.specs.World.{World, IsUnwritten}
 use Rattle.roman_top.specs.declared.status.Status.{Status}
 use Rattle.roman_top.specs.declared.status.Status.TheVariants as status
@@ -27,9 +27,9 @@ IsFree _ = Unit {0}
 -- a session of that document has taken those bytes and goes on, and the replies to their whole lines were written
 pub record HasAnswered (texts : Texts) (system taken : List ℕ) (old new : World) : Type 0 where
   pub library : PlainLibrary
-  pub accepted : opened texts system ≡ Accepted library
+  pub accepted : document_opening texts system ≡ Accepted library
   pub text : List ℕ
-  pub replies : GoesOn library taken text
+  pub replies : GoesOnInSession library taken text
   pub wrote : Wrote old.written new.written text
 
 -- a session on the shelf has taken some first bytes of its text
@@ -59,7 +59,7 @@ AtReadFault _ old new = ⊥
 -- a front of the text of a run was written, where the input had that rest
 pub record HasRunFront (asked : Option Command) (texts : Texts) (rest : Option (List ℕ)) (old new : World) : Type 0 where
   pub session : List ℕ
-  pub given : IsSession asked texts rest session
+  pub given : IsSessionText asked texts rest session
   pub text : List ℕ
   pub ends : Status
   pub run : Runs asked texts session text ends
@@ -97,14 +97,14 @@ IsOfSession status.TooLong = Unit {0}
 IsOfSession _ = ⊥
 
 -- bytes were taken for the session of an accepted document within its limit, and not too many of them
-pub record HasTaken (system : List ℕ) (old new : World) (result : Status) : Type 0 where
-  pub accepted : IfSome old.texts (λ texts. (library : PlainLibrary) × (opened texts system ≡ Accepted library))
+pub record HasTakenBytes (system : List ℕ) (old new : World) (result : Status) : Type 0 where
+  pub accepted : IfSome old.texts (λ texts. (library : PlainLibrary) × (document_opening texts system ≡ Accepted library))
   pub session : IsOfSession result
   pub few : GaveAtMost (MAX_SESSION_BYTES + 4096) old.rest new.rest
 
 -- only a session without a name takes bytes from the input
 abbrev pub TakesInput : Option Command → World → World → Status → Type 0
-TakesInput (Some (On system (Run None))) old new result = HasTaken system old new result
+TakesInput (Some (On system (Run None))) old new result = HasTakenBytes system old new result
 TakesInput _ old new result = ⊥
 
 -- a session from the input that was done is at the input's end, or at most 4,095 bytes past its `quit`

@@ -11,8 +11,8 @@ use Rattle.roman_session.specs.Hearing.{heard_lines}
 use Rattle.roman_session.specs.Words.{IsOpenGreat, KeepsWord, ReportsGreat}
 use Rattle.roman_top.specs.Command.{Job, Synth, Run, Command, On}
 use Rattle.roman_top.specs.Faults.{IsFree}
-use Rattle.roman_top.specs.Opening.{Accepted, opened}
-use Rattle.roman_top.specs.Run.{IsSession, WithTexts}
+use Rattle.roman_top.specs.Opening.{Accepted, document_opening}
+use Rattle.roman_top.specs.Run.{IsSessionText, WithTexts}
 use Rattle.roman_top.specs.World.{World}
 use Rattle.roman_top.specs.declared.status.Status.{Status}
 
@@ -26,11 +26,11 @@ pub record Turn : Type 0 where
 abbrev pub line_of : Turn → List ℕ
 line_of x = x.line
 
-abbrev pub text_of : Turn → List ℕ
-text_of x = x.text
+abbrev pub turn_text : Turn → List ℕ
+turn_text x = x.text
 
 -- it is a step between well-formed situations, a request is open before it only if it can be served, and the text keeps its word
-pub record IsTurn (x : Turn) : Type 0 where
+pub record IsSoundTurn (x : Turn) : Type 0 where
   pub before : IsSituation x.before
   pub after : IsSituation x.after
   pub asked : IsOpenGreat x.before x.before.phase
@@ -40,7 +40,7 @@ pub record IsTurn (x : Turn) : Type 0 where
 -- each turn begins where the one before it led
 abbrev pub AreTurns : Situation → List Turn → Type 0
 AreTurns s [] = Unit {0}
-AreTurns s (x ∷ xs) = (x.before ≡ s) × IsTurn x × AreTurns x.after xs
+AreTurns s (x ∷ xs) = (x.before ≡ s) × IsSoundTurn x × AreTurns x.after xs
 
 -- from the library's situation on there is a turn for each line that is heard, up to the first `quit`, and their texts are the whole text
 pub record AnswersLines (library : PlainLibrary) (heard : List (List ℕ)) (text : List ℕ) : Type 0 where
@@ -50,12 +50,12 @@ pub record AnswersLines (library : PlainLibrary) (heard : List (List ℕ)) (text
   pub turns : List Turn
   pub are : AreTurns start turns
   pub lines : map line_of turns ≡ until_quit heard
-  pub texts : flat_map text_of turns ≡ text
+  pub texts : flat_map turn_text turns ≡ text
 
 -- the answers to the lines of the session were written, as far as it is heard
 pub record HasAnsweredLines (asked : Option Command) (library : PlainLibrary) (texts : Texts) (old new : World) : Type 0 where
   pub session : List ℕ
-  pub given : IsSession asked texts old.rest session
+  pub given : IsSessionText asked texts old.rest session
   pub text : List ℕ
   pub answers : AnswersLines library (heard_lines session) text
   pub wrote : Wrote old.written new.written text
@@ -69,8 +69,8 @@ pub record HasReported (library : PlainLibrary) (old new : World) : Type 0 where
 -- what is promised of a session and of a synthesis of an accepted document within its limit
 abbrev pub KeepsPromise : Option Command → Texts → World → World → Type 0
 KeepsPromise (Some (On system (Run name))) texts old new =
-    (library : PlainLibrary) → opened texts system ≡ Accepted library → HasAnsweredLines (Some (On system (Run name))) library texts old new
-KeepsPromise (Some (On system Synth)) texts old new = (library : PlainLibrary) → opened texts system ≡ Accepted library → HasReported library old new
+    (library : PlainLibrary) → document_opening texts system ≡ Accepted library → HasAnsweredLines (Some (On system (Run name))) library texts old new
+KeepsPromise (Some (On system Synth)) texts old new = (library : PlainLibrary) → document_opening texts system ≡ Accepted library → HasReported library old new
 KeepsPromise _ texts old new = Unit {0}
 
 -- so it is where neither a fault nor want of memory ended the run

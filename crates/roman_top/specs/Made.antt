@@ -1,13 +1,12 @@
 -- What is said of a made system: how it stands at the start, and after the lines of its script.
 use Rattle.std.specs.Prelude.{◌≡◌, ℕ, Bool, List, [], ◌∷◌, ◌++◌, length, take, drop, if◌then◌else◌, codes, decimal}
 use Rattle.roman_model.specs.System.{pairs}
-use Rattle.roman_model.specs.Offers.{is_related}
+use Rattle.roman_model.specs.Offers.{is_related, related_count}
 use Rattle.roman_make.specs.Made.{made}
 use Rattle.roman_make.specs.Script.{script_lines}
-use Rattle.roman_session.specs.Situations.{Situation, system_of}
+use Rattle.roman_session.specs.Situations.{Situation, present_system}
 use Rattle.roman_session.specs.Starts.{IsStart}
 use Rattle.roman_session.specs.Steps.{Answers}
-use Rattle.roman_session.specs.Reports.{related_count}
 
 -- `WORD pairs P related R composition`, or `none` in place of `composition`
 abbrev pub stage_line : List ℕ → ℕ → ℕ → Bool → List ℕ
@@ -16,7 +15,7 @@ stage_line word pairs related composes =
 
 -- how a session stands
 abbrev pub standing : List ℕ → Situation → List ℕ
-standing word s = stage_line word (length (pairs (system_of s))) (related_count s.parts) (is_related (system_of s) s.here)
+standing word s = stage_line word (length (pairs (present_system s))) (related_count (present_system s)) (is_related (present_system s) s.here)
 
 -- the stages of the script, each with the lines before it
 abbrev pub stages : List (List ℕ × List (List ℕ))

@@ -12,8 +12,8 @@ use Rattle.roman_top.specs.declared.status.Status.{Status}
 use Rattle.roman_top.specs.declared.status.Status.TheVariants as status
 
 -- that text is written, and that is the status
-abbrev pub Says : List ℕ → Status → List ℕ → Status → Type 0
-Says text ends out result = (out ≡ text) × (result ≡ ends)
+abbrev pub EndsWith : List ℕ → Status → List ℕ → Status → Type 0
+EndsWith text ends out result = (out ≡ text) × (result ≡ ends)
 
 -- the system of a library
 abbrev pub library_system : PlainLibrary → Sys
@@ -39,11 +39,11 @@ opening_of (Err refusal) = Refused refusal
 opening_of (Ok library) = if is_past_limit library then Past library else Accepted library
 
 -- what the document of that name comes to
-abbrev pub opened : Texts → List ℕ → Opening
-opened texts name = opening_of (library_of texts name)
+abbrev pub document_opening : Texts → List ℕ → Opening
+document_opening texts name = opening_of (library_of texts name)
 
 -- an accepted library gets its work done; else there is the line of the first refusal, or that of the limit
 abbrev pub OnOpening : (PlainLibrary → List ℕ → Status → Type 0) → Opening → List ℕ → Status → Type 0
-OnOpening Work (Refused refusal) out result = Says (refusal_line refusal) status.Refused out result
-OnOpening Work (Past library) out result = Says (limit_line library.limit) status.Limit out result
+OnOpening Work (Refused refusal) out result = EndsWith (refusal_line refusal) status.Refused out result
+OnOpening Work (Past library) out result = EndsWith (limit_line library.limit) status.Limit out result
 OnOpening Work (Accepted library) out result = Work library out result

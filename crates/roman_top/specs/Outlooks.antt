@@ -21,12 +21,12 @@ way_word Freeze = codes " freeze"
 way_word Die = codes " die"
 
 -- the names of the services at those places
-abbrev pub names_at : NamedSys → List ℕ → List ℕ
-names_at parts K = flat_map (λ k. codes " " ++ name_at (map seat_name parts.seats) k) K
+abbrev pub service_names : NamedSys → List ℕ → List ℕ
+service_names parts K = flat_map (λ k. codes " " ++ name_at (map seat_name parts.seats) k) K
 
 -- the line that says what is left where they fail so
 abbrev pub line_without : NamedSys → List ℕ → Way → Outlook → List ℕ
-line_without parts K way left = codes "without" ++ names_at parts K ++ way_word way ++ outlook_words left
+line_without parts K way left = codes "without" ++ service_names parts K ++ way_word way ++ outlook_words left
 
 -- what is left where they freeze, and where they die
 unfoldable pub lines_without : NamedSys → Pair → List ℕ → List ℕ

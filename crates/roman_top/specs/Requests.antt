@@ -10,12 +10,12 @@ abbrev pub is_digit : ℕ → Bool
 is_digit byte = nat_le 48 byte && nat_le byte 57
 
 -- the number that two digits are
-abbrev pub number_of : ℕ → ℕ → ℕ
-number_of tens ones = (tens - 48) * 10 + (ones - 48)
+abbrev pub two_digits : ℕ → ℕ → ℕ
+two_digits tens ones = (tens - 48) * 10 + (ones - 48)
 
 -- `1` to `64`: a number of one or two digits, the first not 0
-abbrev pub requests_of : List ℕ → Option ℕ
-requests_of [] = None
-requests_of (digit ∷ []) = if is_first_digit digit then Some (digit - 48) else None
-requests_of (tens ∷ ones ∷ []) = if is_first_digit tens && is_digit ones && nat_le (number_of tens ones) 64 then Some (number_of tens ones) else None
-requests_of (tens ∷ ones ∷ another ∷ more) = None
+abbrev pub request_count_of : List ℕ → Option ℕ
+request_count_of [] = None
+request_count_of (digit ∷ []) = if is_first_digit digit then Some (digit - 48) else None
+request_count_of (tens ∷ ones ∷ []) = if is_first_digit tens && is_digit ones && nat_le (two_digits tens ones) 64 then Some (two_digits tens ones) else None
+request_count_of (tens ∷ ones ∷ another ∷ more) = None

@@ -11,15 +11,15 @@ use Rattle.roman_model.specs.Numbers.{sizes_of, count, number, numbered, IsCompl
 use Rattle.roman_model.specs.Certificate.{Verdict, Greatest, Rejected, TooLong, cert_text, cert_verdict}
 use Rattle.roman_library.specs.Library.{PlainLibrary}
 use Rattle.roman_session.specs.Reports.{report_text}
-use Rattle.roman_session.specs.Starts.{parts_of, start_of}
+use Rattle.roman_session.specs.Starts.{parts_of, start_pair_of}
 use Rattle.roman_session.specs.Hearing.{front_of, is_heard_out}
 use Rattle.roman_rank.specs.DepthText.{TellsDepths}
 use Rattle.roman_top.specs.Command.{Job, Synth, Run, Certify, Check, Shortest, Advise, Resilience, Command, On, Make, usage_line}
 use Rattle.roman_top.specs.Advice.{GivesAdvice}
 use Rattle.roman_top.specs.Made.{Summarises}
-use Rattle.roman_top.specs.Opening.{Says, library_system, opened, OnOpening}
+use Rattle.roman_top.specs.Opening.{EndsWith, library_system, document_opening, OnOpening}
 use Rattle.roman_top.specs.Outlooks.{outlook_text}
-use Rattle.roman_top.specs.Sessions.{Tells}
+use Rattle.roman_top.specs.Sessions.{ToldFromStart}
 use Rattle.roman_top.specs.Verdicts.{greatest_text, rejected_text}
 use Rattle.roman_top.specs.World.{World}
 use Rattle.roman_top.specs.declared.status.Status.{Status}
@@ -36,29 +36,29 @@ EndsBy s p _ = ⊥
 -- synth: the report on the starting states
 abbrev pub Synthesises : PlainLibrary → List ℕ → Status → Type 0
 Synthesises library out result =
-    (out ≡ report_text (parts_of library) (start_of library)) × EndsBy (library_system library) (start_of library) result
+    (out ≡ report_text (parts_of library) (start_pair_of library)) × EndsBy (library_system library) (start_pair_of library) result
 
 -- the certificate of a complete removal list
 pub record CertifiesSystem (s : Sys) (out : List ℕ) (result : Status) : Type 0 where
   pub list : List (Entry ℕ)
   pub complete : IsCompleteList s list
-  pub says : Says (cert_text (count (sizes_of s)) list) status.Done out result
+  pub says : EndsWith (cert_text (count (sizes_of s)) list) status.Done out result
 
 -- certify: the certificate of the system
 abbrev pub Certifies : PlainLibrary → List ℕ → Status → Type 0
 Certifies library out result = CertifiesSystem (library_system library) out result
 
 -- what is said of a certificate with that verdict
-abbrev pub Judges : Verdict → List ℕ → Status → Type 0
-Judges (Greatest related start) out result = Says (greatest_text related start) status.Done out result
-Judges (Rejected line why) out result = Says (rejected_text line why) status.No out result
-Judges TooLong out result = Says [] status.TooLong out result
+abbrev pub SaysVerdict : Verdict → List ℕ → Status → Type 0
+SaysVerdict (Greatest related start) out result = EndsWith (greatest_text related start) status.Done out result
+SaysVerdict (Rejected line why) out result = EndsWith (rejected_text line why) status.No out result
+SaysVerdict TooLong out result = EndsWith [] status.TooLong out result
 
 -- check: the verdict on the certificate
 abbrev pub Checks : List ℕ → PlainLibrary → List ℕ → Status → Type 0
 Checks certificate library out result =
     let s = library_system library in
-    Judges (cert_verdict (numbered s) (number (sizes_of s) (start_of library)) certificate) out result
+    SaysVerdict (cert_verdict (numbered s) (number (sizes_of s) (start_pair_of library)) certificate) out result
 
 -- the depths of the system's pairs; what is told of the start pair is the least number of requests within which the
 -- opponent wins against every delegation
@@ -67,46 +67,46 @@ ShortensSystem s p out result = TellsDepths s p out × (result ≡ status.Done)
 
 -- shortest: the depths, from the starting states
 abbrev pub Shortens : PlainLibrary → List ℕ → Status → Type 0
-Shortens library out result = ShortensSystem (library_system library) (start_of library) out result
+Shortens library out result = ShortensSystem (library_system library) (start_pair_of library) out result
 
 -- resilience: what the starting states can look forward to, and what is left of it where services fail
 abbrev pub Foresees : PlainLibrary → List ℕ → Status → Type 0
-Foresees library out result = Says (outlook_text (parts_of library) (start_of library)) status.Done out result
+Foresees library out result = EndsWith (outlook_text (parts_of library) (start_pair_of library)) status.Done out result
 
 -- run: what is told of the lines, or of those that end within as much as is ever read
 abbrev pub Talks : List ℕ → PlainLibrary → List ℕ → Status → Type 0
 Talks session library out result =
     MatchBool (is_heard_out session)
-    (Tells library (lines session) out × (result ≡ status.Done))
-    (Tells library (ended_lines (front_of session)) out × (result ≡ status.TooLong))
+    (ToldFromStart library (lines session) out × (result ≡ status.Done))
+    (ToldFromStart library (ended_lines (front_of session)) out × (result ≡ status.TooLong))
 
 -- make: the summary of the system of n
 abbrev pub Makes : ℕ → List ℕ → Status → Type 0
 Makes n out result = Summarises n out × (result ≡ status.Done)
 
 -- what each job does
-abbrev pub Does : Job → Texts → List ℕ → PlainLibrary → List ℕ → Status → Type 0
-Does Synth texts session = Synthesises
-Does (Run name) texts session = Talks session
-Does Certify texts session = Certifies
-Does (Check certificate) texts session = Checks (text_of texts certificate)
-Does Shortest texts session = Shortens
-Does (Advise costs requests) texts session = GivesAdvice costs requests texts
-Does Resilience texts session = Foresees
+abbrev pub JobDoes : Job → Texts → List ℕ → PlainLibrary → List ℕ → Status → Type 0
+JobDoes Synth texts session = Synthesises
+JobDoes (Run name) texts session = Talks session
+JobDoes Certify texts session = Certifies
+JobDoes (Check certificate) texts session = Checks (text_of texts certificate)
+JobDoes Shortest texts session = Shortens
+JobDoes (Advise costs requests) texts session = GivesAdvice costs requests texts
+JobDoes Resilience texts session = Foresees
 
 -- ---- runs
 
 -- a run of a command, or of words without a shape
 abbrev pub Runs : Option Command → Texts → List ℕ → List ℕ → Status → Type 0
-Runs None texts session out result = Says usage_line status.Usage out result
-Runs (Some (On system job)) texts session out result = OnOpening (Does job texts session) (opened texts system) out result
+Runs None texts session out result = EndsWith usage_line status.Usage out result
+Runs (Some (On system job)) texts session out result = OnOpening (JobDoes job texts session) (document_opening texts system) out result
 Runs (Some (Make n)) texts session out result = Makes n out result
 
 -- the bytes of the session: a text of the shelf, or those that the input had, where it tells them
-abbrev pub IsSession : Option Command → Texts → Option (List ℕ) → List ℕ → Type 0
-IsSession (Some (On system (Run (Some name)))) texts before session = session ≡ text_of texts name
-IsSession (Some (On system (Run None))) texts before session = Had before session
-IsSession _ texts before session = Unit {0}
+abbrev pub IsSessionText : Option Command → Texts → Option (List ℕ) → List ℕ → Type 0
+IsSessionText (Some (On system (Run (Some name)))) texts before session = session ≡ text_of texts name
+IsSessionText (Some (On system (Run None))) texts before session = Had before session
+IsSessionText _ texts before session = Unit {0}
 
 -- the shelf's texts that a call asks for, where it tells them; `make` and words without a shape ask for none
 abbrev pub texts_for : Option Command → Option Texts → Option Texts
@@ -120,7 +120,7 @@ WithTexts asked told Holds = IfSome (texts_for asked told) Holds
 -- what was written, and the status, are a run
 pub record HasRun (asked : Option Command) (texts : Texts) (old new : World) (result : Status) : Type 0 where
   pub session : List ℕ
-  pub given : IsSession asked texts old.rest session
+  pub given : IsSessionText asked texts old.rest session
   pub text : List ℕ
   pub run : Runs asked texts session text result
   pub wrote : Wrote old.written new.written text

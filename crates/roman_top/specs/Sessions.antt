@@ -9,7 +9,7 @@ use Rattle.roman_session.specs.Steps.{Told}
 use Rattle.roman_session.specs.Hearing.{has_quit}
 
 -- what a session of that library is told of those lines, from some start on
-pub record Tells (library : PlainLibrary) (lines : List (List ℕ)) (text : List ℕ) : Type 0 where
+pub record ToldFromStart (library : PlainLibrary) (lines : List (List ℕ)) (text : List ℕ) : Type 0 where
   pub start : Situation
   pub now : Situation
   pub begins : IsStart library start
@@ -17,7 +17,7 @@ pub record Tells (library : PlainLibrary) (lines : List (List ℕ)) (text : List
 
 -- a session that goes on: the bytes taken so far are not too many, none of their whole lines ends it, and
 -- the replies to these lines are that text
-pub record GoesOn (library : PlainLibrary) (taken text : List ℕ) : Type 0 where
+pub record GoesOnInSession (library : PlainLibrary) (taken text : List ℕ) : Type 0 where
   pub few : length taken ≤ MAX_SESSION_BYTES
   pub quitless : IsFalse (has_quit (ended_lines taken))
-  pub tells : Tells library (ended_lines taken) text
+  pub tells : ToldFromStart library (ended_lines taken) text

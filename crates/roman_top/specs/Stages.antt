@@ -6,15 +6,15 @@ use Rattle.roman_top.specs.Made.{stage_line}
 use Rattle.roman_top.specs.declared.stage.Stage.{Stage}
 
 -- the line of a stage
-abbrev pub line_of : Stage → List ℕ
-line_of stage = stage_line stage.word.now stage.pairs stage.related stage.composes
+abbrev pub line_of_stage : Stage → List ℕ
+line_of_stage stage = stage_line stage.word.now stage.pairs stage.related stage.composes
 
 -- the lines of the stages, and the last line
 abbrev pub lines_of : List Stage → List ℕ
 lines_of [] = codes "end\n"
-lines_of (stage ∷ more) = line_of stage ++ lines_of more
+lines_of (stage ∷ more) = line_of_stage stage ++ lines_of more
 
 -- a session has answered those lines
-pub record HasAnswered (old : Situation) (lines : List (List ℕ)) (new : Situation) : Type 0 where
+pub record HasComeTo (old : Situation) (lines : List (List ℕ)) (new : Situation) : Type 0 where
   pub replies : List ℕ
   pub answers : Answers old lines replies new

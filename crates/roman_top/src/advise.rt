@@ -14,8 +14,8 @@ ghost use Rattle.roman_cost.specs.Tables.{AreOf};
 ghost use Rattle.roman_top.specs.Advice.{unrelated_line, SaysAdvice, TellsRead, CausedByRead, IsSpoken};
 ghost use Rattle.roman_top.specs.Causes.{SinkCause};
 ghost use Rattle.roman_top.specs.Command.{Advise, On};
-ghost use Rattle.roman_top.specs.Endings.{Stops, Writes};
-ghost use Rattle.roman_top.specs.Opening.{Says};
+ghost use Rattle.roman_top.specs.Endings.{EndsBare, Writes};
+ghost use Rattle.roman_top.specs.Opening.{EndsWith};
 ghost use Rattle.roman_top.specs.RefusalLine.{refusal_line};
 ghost use Rattle.roman_top.specs.Served.{ServedBeside};
 ghost use Rattle.roman_top.specs.World.{desk};
@@ -73,7 +73,7 @@ fn tell_read<O: Sink, L: Ledger>(
     requires start { seated.start < count (sizes_of (system_of seated.joint)) }
     ensures writes { Writes (TellsRead name.now seated.joint requests.count (pair_at (sizes_of (system_of seated.joint)) seated.start) read)
         (O.written out.old) (O.written out.new) result }
-    ensures stops { Stops (O.written out.old) (O.written out.new) result }
+    ensures stops { EndsBare (O.written out.old) (O.written out.new) result }
     ensures shelf { CausedByRead read result }
     ensures out { SinkCause (O.faults out.old) (O.faults out.new) result }
 {
@@ -96,7 +96,7 @@ fn refuse<O: Sink>(
     index: u32,
     out: &mut O,
 ) -> Status
-    ensures writes { Writes (Says (refusal_line (refusal_of name.now part.Costs (part_error.Refused kind (place_of_rule whole) index))) status.Refused)
+    ensures writes { Writes (EndsWith (refusal_line (refusal_of name.now part.Costs (part_error.Refused kind (place_of_rule whole) index))) status.Refused)
         (O.written out.old) (O.written out.new) result }
     ensures spoken { IsSpoken (O.written out.old) (O.written out.new) result }
     ensures out { SinkCause (O.faults out.old) (O.faults out.new) result }

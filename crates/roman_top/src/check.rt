@@ -6,8 +6,8 @@ ghost use Rattle.roman_check.specs.Verdicts.{verdict_of};
 ghost use Rattle.roman_joint.specs.NamedSys.{system_of};
 ghost use Rattle.roman_top.specs.Causes.{SinkCause};
 ghost use Rattle.roman_top.specs.Command.{Check, On};
-ghost use Rattle.roman_top.specs.Endings.{Finds, CheckCause, JudgesCheck, CausedByCheck, IsTold, Stops, Writes};
-ghost use Rattle.roman_top.specs.Run.{Judges};
+ghost use Rattle.roman_top.specs.Endings.{FindsVerdict, CheckCause, JudgesCheck, CausedByCheck, IsTold, EndsBare, Writes};
+ghost use Rattle.roman_top.specs.Run.{SaysVerdict};
 ghost use Rattle.roman_top.specs.Served.{ServedBeside};
 ghost use Rattle.roman_top.specs.World.{desk};
 
@@ -43,7 +43,7 @@ pub(crate) fn check_certificate<F: Shelf, O: Sink, L: Ledger>(
 /// Writes the verdict, where there is one.
 fn tell<O: Sink>(checked: Result<Verdict, CheckError>, out: &mut O) -> Status
     ensures writes { Writes (JudgesCheck checked) (O.written out.old) (O.written out.new) result }
-    ensures stops { Stops (O.written out.old) (O.written out.new) result }
+    ensures stops { EndsBare (O.written out.old) (O.written out.new) result }
     ensures shelf { CausedByCheck checked result }
     ensures out { SinkCause (O.faults out.old) (O.faults out.new) result }
 {
@@ -57,7 +57,7 @@ fn tell<O: Sink>(checked: Result<Verdict, CheckError>, out: &mut O) -> Status
 
 /// Writes a verdict.
 fn tell_verdict<O: Sink>(verdict: Verdict, out: &mut O) -> Status
-    ensures writes { Writes (Judges (verdict_of verdict)) (O.written out.old) (O.written out.new) result }
+    ensures writes { Writes (SaysVerdict (verdict_of verdict)) (O.written out.old) (O.written out.new) result }
     ensures stops { IsTold result }
     ensures out { SinkCause (O.faults out.old) (O.faults out.new) result }
 {
@@ -78,7 +78,7 @@ fn verdict_on<F: Shelf, L: Ledger>(
     steps: &mut Steps<L>,
 ) -> Result<Verdict, CheckError>
     requires { seated.now.start < count (sizes_of (system_of seated.now.joint)) }
-    ensures finds { IfSome (F.texts shelf.old) (λ texts. Finds (numbered (system_of seated.now.joint)) seated.now.start (text_of texts name.now) result) }
+    ensures finds { IfSome (F.texts shelf.old) (λ texts. FindsVerdict (numbered (system_of seated.now.joint)) seated.now.start (text_of texts name.now) result) }
     ensures texts { F.texts shelf.new ≡ F.texts shelf.old }
     ensures cause { CheckCause (F.faults shelf.old) (F.faults shelf.new) result }
 {

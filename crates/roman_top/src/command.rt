@@ -46,7 +46,7 @@ pub(crate) enum Command<'a> {
     Make(Workers),
 }
 
-ghost use Rattle.roman_top.specs.Command.{command_as, command_of, with_one, with_two, with_three};
+ghost use Rattle.roman_top.specs.Command.{command_as, command_of, command_with_one, command_with_two, command_with_three};
 
 /// The command that the words are, where they have the shape of one.
 pub(crate) fn command_of(words: &Words) -> Option<Command<'_>>
@@ -62,7 +62,7 @@ pub(crate) fn command_of(words: &Words) -> Option<Command<'_>>
 
 /// The command of a word and one more.
 fn with_one<'a>(word: &str, name: &'a str) -> Option<Command<'a>>
-    ensures { option_map command_as result ≡ with_one word.now name.now }
+    ensures { option_map command_as result ≡ command_with_one word.now name.now }
 {
     match word {
         "synth" => Some(Command::Synth(name)),
@@ -77,7 +77,7 @@ fn with_one<'a>(word: &str, name: &'a str) -> Option<Command<'a>>
 
 /// The command of a word and two names.
 fn with_two<'a>(word: &str, name: &'a str, other: &'a str) -> Option<Command<'a>>
-    ensures { option_map command_as result ≡ with_two word.now name.now other.now }
+    ensures { option_map command_as result ≡ command_with_two word.now name.now other.now }
 {
     match word {
         "run" => Some(Command::RunOnShelf {
@@ -94,7 +94,7 @@ fn with_two<'a>(word: &str, name: &'a str, other: &'a str) -> Option<Command<'a>
 
 /// The command of a word, two names and one more word.
 fn with_three<'a>(word: &str, name: &'a str, other: &'a str, third: &str) -> Option<Command<'a>>
-    ensures { option_map command_as result ≡ with_three word.now name.now other.now third.now }
+    ensures { option_map command_as result ≡ command_with_three word.now name.now other.now third.now }
 {
     match word {
         "advise" => Some(Command::Advise {

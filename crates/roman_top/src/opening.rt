@@ -5,7 +5,7 @@ ghost use Rattle.roman_library.specs.Library.{PlainLibrary, IsLibrary, plain};
 ghost use Rattle.roman_session.specs.Building.{IsSeated};
 ghost use Rattle.roman_session.specs.Known.{AreBehaviours};
 ghost use Rattle.roman_session.specs.Starts.{IsStart};
-ghost use Rattle.roman_top.specs.Endings.{Opens, Reads};
+ghost use Rattle.roman_top.specs.Endings.{Opens, OpensLibrary};
 ghost use Rattle.roman_top.specs.World.{desk};
 
 use crate::limits::put_limit;
@@ -74,7 +74,7 @@ fn read_library<F: Shelf, O: Sink>(
     shelf: &mut F,
     out: &mut O,
 ) -> Result<Library, Status>
-    ensures reads { Reads plain name.now
+    ensures reads { OpensLibrary plain name.now
         (desk (F.texts shelf.old) (F.faults shelf.old) (O.written out.old) (O.faults out.old))
         (desk (F.texts shelf.new) (F.faults shelf.new) (O.written out.new) (O.faults out.new)) result }
     ensures library { IfOk result (λ library. IsLibrary (plain library)) }

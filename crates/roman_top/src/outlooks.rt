@@ -12,7 +12,7 @@ ghost use Rattle.roman_text.specs.Pages.{Gathers};
 ghost use Rattle.roman_whatif.specs.Left.{places};
 ghost use Rattle.roman_whatif.specs.Losses.{AreLosses};
 ghost use Rattle.roman_whatif.specs.Told.{told};
-ghost use Rattle.roman_top.specs.Outlooks.{outlook_words, way_word, names_at, line_without, lines_without, ones, twos, head_text, outlook_text};
+ghost use Rattle.roman_top.specs.Outlooks.{outlook_words, way_word, service_names, line_without, lines_without, ones, twos, head_text, outlook_text};
 
 use roman_io::{Failed, Sink};
 use roman_joint::Joint;
@@ -188,7 +188,7 @@ fn services_piece(services: u8) -> Piece
 fn names_piece(joint: &Joint, first: u8, second: Option<u8>) -> Piece
     requires first { first < length joint.now.seats }
     requires second { IfSome second (λ j. j < length joint.now.seats) }
-    ensures text { result ≡ codes "without" ++ names_at joint.now (places first second) }
+    ensures text { result ≡ codes "without" ++ service_names joint.now (places first second) }
     ensures short { length result ≤ 80 }
 {
     let one = Piece::new().text(b"without ").name(&joint.seat(first).name);

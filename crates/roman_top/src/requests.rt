@@ -1,7 +1,7 @@
 //! For how many requests advice is asked for.
 ghost use Rattle.std.specs.Prelude.{◌≡◌, ◌≤◌};
 ghost use Rattle.std.specs.Option.{option_map};
-ghost use Rattle.roman_top.specs.Requests.{requests_of};
+ghost use Rattle.roman_top.specs.Requests.{request_count_of};
 
 use roman_cost::MAX_REQUESTS;
 
@@ -17,7 +17,7 @@ pub(crate) struct Requests {
 /// The number of requests that a word is: a number from 1 to [`MAX_REQUESTS`], with no sign and no
 /// zero before it.
 pub(crate) fn requests_of(word: &str) -> Option<Requests>
-    ensures { option_map (λ requests. requests.count) result ≡ requests_of word.now }
+    ensures { option_map (λ requests. requests.count) result ≡ request_count_of word.now }
 {
     match word.as_bytes() {
         [digit @ b'1'..=b'9'] => Some(Requests {

@@ -5,7 +5,7 @@ ghost use Rattle.roman_joint.specs.NamedSys.{system_of};
 ghost use Rattle.roman_top.specs.Causes.{SinkCause};
 ghost use Rattle.roman_top.specs.Command.{Resilience, On};
 ghost use Rattle.roman_top.specs.Endings.{IsDone, Writes};
-ghost use Rattle.roman_top.specs.Opening.{Says};
+ghost use Rattle.roman_top.specs.Opening.{EndsWith};
 ghost use Rattle.roman_top.specs.Outlooks.{outlook_text};
 ghost use Rattle.roman_top.specs.Served.{ServedBeside};
 ghost use Rattle.roman_top.specs.World.{desk};
@@ -50,7 +50,7 @@ fn foresee_from<O: Sink, L: Ledger>(
     steps: &mut Steps<L>,
 ) -> Status
     requires { start < count (sizes_of (system_of joint)) }
-    ensures writes { Writes (Says (outlook_text joint (pair_at (sizes_of (system_of joint)) start)) status.Done) (O.written out.old) (O.written out.new) result }
+    ensures writes { Writes (EndsWith (outlook_text joint (pair_at (sizes_of (system_of joint)) start)) status.Done) (O.written out.old) (O.written out.new) result }
     ensures stops { IsDone (O.written out.old) (O.written out.new) result }
     ensures out { SinkCause (O.faults out.old) (O.faults out.new) result }
 {

@@ -3,7 +3,7 @@ ghost use Rattle.std.specs.Prelude.{◌≡◌, ◌⊎◌, Some};
 ghost use Rattle.roman_io.specs.Faults.{HasCause};
 ghost use Rattle.roman_io.specs.Sink.{Puts};
 ghost use Rattle.roman_top.specs.Command.{command_as, command_of, usage_line};
-ghost use Rattle.roman_top.specs.Complete.{IsComplete};
+ghost use Rattle.roman_top.specs.Complete.{AnswersWherePossible};
 ghost use Rattle.roman_top.specs.Faults.{TakesInput};
 ghost use Rattle.roman_top.specs.Headline.{HasHeadline};
 ghost use Rattle.roman_top.specs.Served.{Served};
@@ -62,7 +62,7 @@ pub fn serve<F: Shelf, I: Source, O: Sink, L: Ledger>(
 
     // Where no count of faults rises, a command gets its answer, or there is no memory: with an
     // accepted document within its limit, and a session or a certificate that isn't too long.
-    ensures complete { IsComplete (command_of words.now)
+    ensures complete { AnswersWherePossible (command_of words.now)
         (world (F.texts shelf.old) (F.faults shelf.old) (I.rest input.old) (I.faults input.old) (O.written out.old) (O.faults out.old))
         (world (F.texts shelf.new) (F.faults shelf.new) (I.rest input.new) (I.faults input.new) (O.written out.new) (O.faults out.new)) result }
 

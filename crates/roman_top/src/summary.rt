@@ -5,7 +5,7 @@ ghost use Rattle.roman_io.specs.Sink.{Puts};
 ghost use Rattle.roman_text.specs.Pages.{Gathers};
 ghost use Rattle.roman_make.specs.Script.{script_lines};
 ghost use Rattle.roman_top.specs.Made.{made_line, standing, stages, Passes};
-ghost use Rattle.roman_top.specs.Stages.{HasAnswered, line_of, lines_of};
+ghost use Rattle.roman_top.specs.Stages.{HasComeTo, line_of_stage, lines_of};
 
 use crate::stage::Stage;
 use roman_io::{Failed, Sink, Steps, Waste};
@@ -17,7 +17,7 @@ use std::sync::ledger::Ledger;
 /// How the session stands.
 fn stand(word: &'static [u8], session: &Session) -> Stage
     requires { length word.now ≤ 16 }
-    ensures line { line_of result ≡ standing word.now session.now }
+    ensures line { line_of_stage result ≡ standing word.now session.now }
     ensures word { result.word.now ≡ word.now }
 {
     Stage {
@@ -32,7 +32,7 @@ fn stand(word: &'static [u8], session: &Session) -> Stage
 fn play<L: Ledger>(session: &mut Session, from: u8, to: u8, steps: &mut Steps<L>)
     requires order { from ≤ to }
     requires end { to ≤ 13 }
-    ensures { HasAnswered session.old (take (to - from) (drop from script_lines)) session.new }
+    ensures { HasComeTo session.old (take (to - from) (drop from script_lines)) session.new }
 {
     let mut waste = Waste::new();
     for i in from..to {
@@ -99,7 +99,7 @@ fn push_stages<O: Sink>(stages: &[Stage], page: &mut Page, out: &mut O) -> Resul
 
 /// The line of a stage.
 fn stage_piece(stage: &Stage) -> Piece
-    ensures { result ≡ line_of stage.now }
+    ensures { result ≡ line_of_stage stage.now }
 {
     let pairs = Piece::new()
         .text(stage.word)

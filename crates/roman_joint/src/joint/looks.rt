@@ -6,8 +6,8 @@ ghost use Rattle.roman_model.specs.declared.limits.TheConstants.{MAX_CELLS};
 ghost use Rattle.roman_rules.specs.Bits.{HasBits};
 ghost use Rattle.roman_joint.specs.NamedSys.{system_of};
 ghost use Rattle.roman_joint.specs.Scenes.{IsScene};
-ghost use Rattle.roman_rules.specs.Finding.{Finds};
-ghost use Rattle.roman_joint.specs.Outcomes.{outcome_number, outcome_numbers, IsPlaced};
+ghost use Rattle.roman_rules.specs.Finding.{HasFinding};
+ghost use Rattle.roman_joint.specs.Outcomes.{outcome_number, outcome_numbers, IsPairWith};
 
 use super::Joint;
 use crate::outcomes::{Outcomes, outcome_gone};
@@ -75,7 +75,7 @@ impl Joint {
         requires ready { IsTrue ((numbered (system_of self.now)).ready k) }
         requires callable { (q : ℕ) → q < count (sizes_of (system_of self.now)) → A.pre alive.now q }
         ensures finding { (gone : ℕ → Bool) → ((q : ℕ) (r : Bool) → q < count (sizes_of (system_of self.now)) → A.post alive.now q r → r ≡ not (gone q))
-            → Finds (sizes_of (system_of self.now)) k gone ((numbered (system_of self.now)).outcomes p a k) result }
+            → HasFinding (sizes_of (system_of self.now)) k gone ((numbered (system_of self.now)).outcomes p a k) result }
         ensures step { steps.new ≡ steps.old + 1 }
     {
         steps.tick();
@@ -109,7 +109,7 @@ impl Joint {
         requires ready { IsTrue ((numbered (system_of self.now)).ready k) }
         ensures numbers { (numbered (system_of self.now)).outcomes p a k ≡ outcome_numbers result }
         ensures places { (e b : ℕ) → IsIn e result.envs.now → IsIn b result.states.now
-            → IsPlaced (sizes_of (system_of self.now)) k (outcome_number result e b) e b }
+            → IsPairWith (sizes_of (system_of self.now)) k (outcome_number result e b) e b }
         ensures some { IsFalse (is_empty result.envs.now) }
         ensures few { count (sizes_of (system_of self.now)) ≤ MAX_CELLS }
     {

@@ -4,7 +4,7 @@ ghost use Rattle.roman_model.specs.Lists.{HoldsEachOnce};
 ghost use Rattle.roman_model.specs.Arena.{back};
 ghost use Rattle.roman_model.specs.Numbers.{sizes_of, count, numbered};
 ghost use Rattle.roman_joint.specs.NamedSys.{system_of};
-ghost use Rattle.roman_joint.specs.Walks.{IsWalk, GoesOn, left, left_of_seat, left_of_target, left_of_env, left_of_action, left_of_all};
+ghost use Rattle.roman_joint.specs.Walks.{IsWalk, WalkGoesOn, left, left_of_seat, left_of_target, left_of_env, left_of_action, left_of_all};
 
 use super::Joint;
 use crate::walk::{Walk, first_env, one_more};
@@ -97,7 +97,7 @@ impl Joint {
     fn go_on(&self, walk: &mut Walk) -> bool
         requires walk { IsWalk (system_of self.now) walk.old }
         requires seat { left_of_seat (system_of self.now) walk.old ≡ [] }
-        ensures { MatchBool result (GoesOn (system_of self.now) walk.old walk.new)
+        ensures { MatchBool result (WalkGoesOn (system_of self.now) walk.old walk.new)
             ((walk.new ≡ walk.old) × (left (system_of self.now) walk.old ≡ [])) }
     {
         self.next_seat(walk)
@@ -110,7 +110,7 @@ impl Joint {
     fn next_seat(&self, walk: &mut Walk) -> bool
         requires walk { IsWalk (system_of self.now) walk.old }
         requires seat { left_of_seat (system_of self.now) walk.old ≡ [] }
-        ensures { MatchBool result (GoesOn (system_of self.now) walk.old walk.new)
+        ensures { MatchBool result (WalkGoesOn (system_of self.now) walk.old walk.new)
             ((walk.new ≡ walk.old) × (left_of_target (system_of self.now) walk.old ≡ [])) }
     {
         if walk.seat as usize + 1 >= self.seats.len() {
@@ -126,7 +126,7 @@ impl Joint {
         requires walk { IsWalk (system_of self.now) walk.old }
         requires seat { left_of_seat (system_of self.now) walk.old ≡ [] }
         requires target { left_of_target (system_of self.now) walk.old ≡ [] }
-        ensures { MatchBool result (GoesOn (system_of self.now) walk.old walk.new)
+        ensures { MatchBool result (WalkGoesOn (system_of self.now) walk.old walk.new)
             ((walk.new ≡ walk.old) × (left_of_env (system_of self.now) walk.old ≡ [])) }
     {
         let target = &self.target;
@@ -154,7 +154,7 @@ impl Joint {
         requires seat { left_of_seat (system_of self.now) walk.old ≡ [] }
         requires target { left_of_target (system_of self.now) walk.old ≡ [] }
         requires env { left_of_env (system_of self.now) walk.old ≡ [] }
-        ensures { MatchBool result (GoesOn (system_of self.now) walk.old walk.new)
+        ensures { MatchBool result (WalkGoesOn (system_of self.now) walk.old walk.new)
             ((walk.new ≡ walk.old) × (left_of_action (system_of self.now) walk.old ≡ [])) }
     {
         let environment = &self.environment;
@@ -185,7 +185,7 @@ impl Joint {
         requires target { left_of_target (system_of self.now) walk.old ≡ [] }
         requires env { left_of_env (system_of self.now) walk.old ≡ [] }
         requires action { left_of_action (system_of self.now) walk.old ≡ [] }
-        ensures { MatchBool result (GoesOn (system_of self.now) walk.old walk.new)
+        ensures { MatchBool result (WalkGoesOn (system_of self.now) walk.old walk.new)
             ((walk.new ≡ walk.old) × (left_of_all (system_of self.now) walk.old ≡ [])) }
     {
         if u32::from(walk.action) + 1 >= self.environment.actions().len() {

@@ -1,6 +1,6 @@
 // The places of pairs in the list.
 ghost use Rattle.std.specs.Prelude.{◌≡◌, ℕ, ◌-◌, ◌^◌, ◌<◌, length, All, slice_index};
-ghost use Rattle.roman_order.specs.Board.{pairs_of, place_of};
+ghost use Rattle.roman_order.specs.Board.{pairs_of, place_in_list};
 ghost use Rattle.roman_order.specs.Sound.{entries_of, AreStamps};
 
 use super::{Order, refill};
@@ -10,7 +10,7 @@ impl Order {
     /// The place of the pair `p` in the list, or `None` where it isn't listed.
     pub fn stamp(&self, p: u32) -> Option<u32>
         requires { p < pairs_of self.now }
-        ensures { result ≡ place_of self.now.list p }
+        ensures { result ≡ place_in_list self.now.list p }
     {
         let Some(&stamp) = self.stamps.get(p as usize) else {
             return place_in(&self.entries, p);
@@ -37,7 +37,7 @@ impl Order {
 // The place of the first entry of the pair `p`, which is looked for from the front.
 fn place_in(entries: &[Removal], p: u32) -> Option<u32>
     requires { length entries.now < 2 ^ 32 }
-    ensures { result ≡ place_of (entries_of entries.now) p }
+    ensures { result ≡ place_in_list (entries_of entries.now) p }
 {
     let place = entries.iter().position(|entry| entry.pair == p)?;
     Some(place as u32)

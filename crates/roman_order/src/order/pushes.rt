@@ -1,7 +1,7 @@
 // How entries are added.
 ghost use Rattle.std.specs.Prelude.{◌≡◌, ℕ, ◌+◌, ◌*◌, ◌^◌, ◌<◌, ◌≤◌, true, false, [], ◌∷◌, ◌++◌, length, map, vec_capacity};
 ghost use Rattle.roman_lanes.specs.Rows.{is_on};
-ghost use Rattle.roman_order.specs.Board.{pairs_of, entry_of, lanes_in, entries_in, has_entry};
+ghost use Rattle.roman_order.specs.Board.{pairs_of, as_entry, set_lanes, entries_in, has_entry};
 ghost use Rattle.roman_order.specs.Sound.{entries_of};
 
 use super::Order;
@@ -14,7 +14,7 @@ impl Order {
     pub fn push(&mut self, p: u32, reason: Reason)
         requires in_range { p < pairs_of self.old }
         requires alive { has_entry self.old.list p ≡ false }
-        ensures { self.new ≡ record self.old { list = self.old.list ++ entry_of (p, reason) ∷ [] } }
+        ensures { self.new ≡ record self.old { list = self.old.list ++ as_entry (p, reason) ∷ [] } }
     {
         let x = p / self.lanes;
         self.push_at(x, p % self.lanes, reason);
@@ -25,7 +25,7 @@ impl Order {
         requires row { x < self.old.rows }
         requires lane { lane < self.old.lanes }
         requires alive { has_entry self.old.list (x * self.old.lanes + lane) ≡ false }
-        ensures { self.new ≡ record self.old { list = self.old.list ++ entry_of (x * self.old.lanes + lane, reason) ∷ [] } }
+        ensures { self.new ≡ record self.old { list = self.old.list ++ as_entry (x * self.old.lanes + lane, reason) ∷ [] } }
     {
         prove!(self.lanes <= 64);
         self.words[x as usize] &= !(1 << lane);
@@ -51,10 +51,10 @@ impl Order {
 
 // Adds an entry for each pair at the lanes `lost` from `first` on.
 fn write_lanes(entries: &mut Vec<Removal>, first: u32, lost: u64, reason: Reason)
-    requires room { length entries.old.items + length (lanes_in lost) ≤ vec_capacity entries.old }
+    requires room { length entries.old.items + length (set_lanes lost) ≤ vec_capacity entries.old }
     requires few { (lane : ℕ) → is_on lost lane ≡ true → first + lane < 2 ^ 32 }
     ensures pushed { entries_of entries.new.items
-        ≡ entries_of entries.old.items ++ map (λ lane. entry_of (first + lane, reason)) (lanes_in lost) }
+        ≡ entries_of entries.old.items ++ map (λ lane. as_entry (first + lane, reason)) (set_lanes lost) }
     ensures room { vec_capacity entries.new ≡ vec_capacity entries.old }
 {
     let mut rest = lost;

@@ -4,7 +4,7 @@ ghost use Rattle.std.specs.Prelude.{length};
 ghost use Rattle.roman_order.specs.Board.{is_marked};
 ghost use Rattle.roman_relation.specs.Shaped.{IsShaped};
 ghost use Rattle.roman_relation.specs.Settled.{Begins};
-ghost use Rattle.roman_relation.specs.Rounds.{InRound, IsJudged, IsDone};
+ghost use Rattle.roman_relation.specs.Rounds.{InRound, IsJudged, IsPairJudged};
 
 use roman_model::Reason;
 use roman_order::Order;
@@ -20,7 +20,7 @@ pub(crate) fn judge_marked<J: Rules>(joint: &J, order: &mut Order)
     ensures unmarked { (y : ℕ) → is_marked order.new y ≡ false }
     ensures done { let A = J.arena joint.now in
         (start p : ℕ) → InRound A (J.lanes joint.now) start order.old → p < length A.nodes →
-        is_marked order.old (p / J.lanes joint.now) ≡ true → IsDone A start order.new p }
+        is_marked order.old (p / J.lanes joint.now) ≡ true → IsPairJudged A start order.new p }
 {
     joint.lanes();
     let rows = joint.rows();
@@ -39,7 +39,7 @@ fn judge_if<J: Rules>(joint: &J, order: &mut Order, x: u32, is_row: bool)
     ensures rest { order.new ≡ record order.old { list = order.new.list } }
     ensures done { let A = J.arena joint.now in
         (start lane : ℕ) → InRound A (J.lanes joint.now) start order.old → lane < J.lanes joint.now → x < order.old.rows →
-        IsDone A start order.new (x * J.lanes joint.now + lane) }
+        IsPairJudged A start order.new (x * J.lanes joint.now + lane) }
 {
     if is_row {
         judge(joint, order, x);
@@ -56,7 +56,7 @@ fn judge<J: Rules>(joint: &J, order: &mut Order, x: u32)
     ensures rest { order.new ≡ record order.old { list = order.new.list } }
     ensures done { let A = J.arena joint.now in
         (start lane : ℕ) → InRound A (J.lanes joint.now) start order.old → lane < J.lanes joint.now →
-        IsDone A start order.new (x * J.lanes joint.now + lane) }
+        IsPairJudged A start order.new (x * J.lanes joint.now + lane) }
 {
     joint.known();
     joint.lanes();

@@ -3,7 +3,7 @@ ghost use Rattle.std.specs.Prelude.{◌≡◌, ℕ, ◌+◌, ◌*◌, ◌<◌, �
 ghost use Rattle.std.specs.Prelude.{length, IsTrue, IsFalse};
 ghost use Rattle.roman_model.specs.Arena.{is_listed, IsOrder};
 ghost use Rattle.roman_relation.specs.Shaped.{IsShaped};
-ghost use Rattle.roman_relation.specs.Settled.{GoesOn};
+ghost use Rattle.roman_relation.specs.Settled.{SettlesOn};
 
 use roman_model::Reason;
 use roman_order::Order;
@@ -13,7 +13,7 @@ use roman_rules::Rules;
 pub(crate) fn list_unfine<J: Rules>(joint: &J, order: &mut Order)
     requires shaped { IsShaped (J.arena joint.now) (J.lanes joint.now) order.old }
     requires valid { IsOrder (J.arena joint.now) order.old.list }
-    ensures goes_on { GoesOn (J.arena joint.now) order.old order.new }
+    ensures goes_on { SettlesOn (J.arena joint.now) order.old order.new }
     ensures fine { let A = J.arena joint.now in
         (p : ℕ) → p < length A.nodes → IsFalse (is_listed A order.new.list p) → IsTrue (A.fine p) }
     ensures because { let A = J.arena joint.now in
@@ -31,7 +31,7 @@ fn list_unfine_row<J: Rules>(joint: &J, order: &mut Order, x: u32)
     requires shaped { IsShaped (J.arena joint.now) (J.lanes joint.now) order.old }
     requires row { x < order.old.rows }
     requires valid { IsOrder (J.arena joint.now) order.old.list }
-    ensures goes_on { GoesOn (J.arena joint.now) order.old order.new }
+    ensures goes_on { SettlesOn (J.arena joint.now) order.old order.new }
     ensures fine { let A = J.arena joint.now in
         (lane : ℕ) → lane < J.lanes joint.now →
         IsFalse (is_listed A order.new.list (x * J.lanes joint.now + lane)) →

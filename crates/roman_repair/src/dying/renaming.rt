@@ -7,7 +7,7 @@ ghost use Rattle.roman_model.proofs.NumberedChanges.{rename_numbers};
 ghost use Rattle.roman_radix.specs.Rows.{lanes_of};
 ghost use Rattle.roman_joint.specs.NamedSys.{system_of};
 ghost use Rattle.roman_joint.specs.Rows.{lanes_in};
-ghost use Rattle.roman_order.specs.Board.{pairs_of, entry_of};
+ghost use Rattle.roman_order.specs.Board.{pairs_of, as_entry};
 ghost use Rattle.roman_relation.specs.Shaped.{IsShaped};
 ghost use Rattle.roman_repair.specs.Deaths.{list_with};
 
@@ -24,7 +24,7 @@ fn rename_entry(joint: &Joint, order: &mut Order, k: u8, p: u32, reason: Reason)
     requires shaped { pairs_of order.old ≡ count (sizes_without k (sizes_of (system_of joint.now))) }
     ensures list { (seat : Seat) → CanChange (Die k seat) (system_of joint.now) →
         order.new.list
-        ≡ list_with (sizes_of (system_of joint.now)) k seat order.old.list (entry_of (p, reason)) }
+        ≡ list_with (sizes_of (system_of joint.now)) k seat order.old.list (as_entry (p, reason)) }
     ensures rest { order.new ≡ record order.old { list = order.new.list } }
 {
     joint.known();

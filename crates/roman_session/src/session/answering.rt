@@ -4,11 +4,11 @@ ghost use Rattle.roman_io.specs.Faults.{HasCause};
 ghost use Rattle.roman_io.specs.Sink.{Puts};
 ghost use Rattle.roman_model.specs.Explanation.{explain_text};
 ghost use Rattle.roman_model.specs.Offers.{is_related};
-ghost use Rattle.roman_joint.specs.Names.{names_of};
+ghost use Rattle.roman_joint.specs.Names.{names_in};
 ghost use Rattle.roman_text.specs.Shapes.{ask, explain, shape_of_event};
-ghost use Rattle.roman_session.specs.Situations.{system_of, IsPhase};
+ghost use Rattle.roman_session.specs.Situations.{present_system, IsPhase};
 ghost use Rattle.roman_session.specs.Steps.{StepOn, Step};
-ghost use Rattle.roman_session.specs.Answering.{answer_text, CanBeSaid, Answered, NamesSome, StaysRelated, next_after, next_of};
+ghost use Rattle.roman_session.specs.Answering.{answer_text, CanBeSaid, Answered, NamesSome, SeenStaysRelated, next_after, next_of};
 
 use super::Session;
 use crate::answers::Answer;
@@ -45,7 +45,7 @@ impl Session {
 
         // What the answer says can be relied on.
         ensures offered { NamesSome self.old line.now }
-        ensures related { StaysRelated self.old line.now self.new }
+        ensures related { SeenStaysRelated self.old line.now self.new }
         ensures phase { IsPhase self.new self.new.phase }
     {
         self.known();
@@ -146,9 +146,9 @@ impl Session {
         out: &mut O,
         steps: &mut Steps<L>,
     ) -> Result<(), Failed>
-        requires { IsFalse (is_related (system_of self.old) self.old.here) }
+        requires { IsFalse (is_related (present_system self.old) self.old.here) }
         ensures puts { let s = self.old in
-            Puts (O.written out.old) (O.written out.new) (explain_text (system_of s) (names_of s.parts) s.list s.here) result }
+            Puts (O.written out.old) (O.written out.new) (explain_text (present_system s) (names_in s.parts) s.list s.here) result }
         ensures stays { self.new ≡ self.old }
         ensures cause { HasCause (O.faults out.old) (O.faults out.new) result }
     {

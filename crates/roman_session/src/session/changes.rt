@@ -3,7 +3,7 @@ ghost use Rattle.std.specs.Prelude.{◌≡◌, ◌<◌, length, slice_get, IsTru
 ghost use Rattle.roman_model.specs.System.{is_ready};
 ghost use Rattle.roman_text.specs.Replies.{reply_text};
 ghost use Rattle.roman_text.specs.Shapes.{freeze, thaw, die, join};
-ghost use Rattle.roman_session.specs.Situations.{system_of};
+ghost use Rattle.roman_session.specs.Situations.{present_system};
 ghost use Rattle.roman_session.specs.Rulings.{with_room};
 ghost use Rattle.roman_session.specs.Joins.{CanJoin};
 ghost use Rattle.roman_session.specs.Steps.{Does, Freezes, Thaws, Dies, Joins, StepOn};
@@ -77,7 +77,7 @@ impl Session {
     // Freezes the service at place k, which is ready.
     fn freeze_seat<L: Ledger>(&mut self, k: u8, steps: &mut Steps<L>) -> Reply
         requires idle { self.old.phase ≡ Phase.Idle }
-        requires ready { IsTrue (is_ready (slice_get (system_of self.old).seats k)) }
+        requires ready { IsTrue (is_ready (slice_get (present_system self.old).seats k)) }
         ensures { Freezes self.old k (reply_text result) self.new }
     {
         let tally = freeze(&mut self.relation, k, steps);
@@ -89,7 +89,7 @@ impl Session {
     fn thaw_seat<L: Ledger>(&mut self, k: u8, steps: &mut Steps<L>) -> Reply
         requires idle { self.old.phase ≡ Phase.Idle }
         requires seat { k < length self.old.parts.seats }
-        requires frozen { IsFalse (is_ready (slice_get (system_of self.old).seats k)) }
+        requires frozen { IsFalse (is_ready (slice_get (present_system self.old).seats k)) }
         ensures { Thaws self.old k (reply_text result) self.new }
     {
         let tally = thaw(&mut self.relation, k, steps);

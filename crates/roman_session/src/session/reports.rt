@@ -4,7 +4,7 @@ ghost use Rattle.roman_io.specs.Faults.{HasCause};
 ghost use Rattle.roman_io.specs.Sink.{Puts};
 ghost use Rattle.roman_text.specs.Pages.{Gathers};
 ghost use Rattle.roman_session.specs.Situations.{IsOpen};
-ghost use Rattle.roman_session.specs.Reports.{head_lines, service_lines, offer_line, offer_lines, lines_text, report_text};
+ghost use Rattle.roman_session.specs.Reports.{report_head, service_lines, offer_line, offer_lines, lines_text, report_text};
 ghost use Rattle.roman_session.specs.Steps.{offer_text};
 
 use super::Session;
@@ -68,7 +68,7 @@ impl Session {
 
     // The first lines of the report.
     fn head_lines(&self) -> [ReportLine; 4]
-        ensures { result ≡ head_lines self.now.parts self.now.here }
+        ensures { result ≡ report_head self.now.parts self.now.here }
     {
         let here = self.target;
         [

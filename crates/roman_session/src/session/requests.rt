@@ -2,7 +2,7 @@
 ghost use Rattle.std.specs.Prelude.{◌≡◌, IfSome, IfNone, MatchResult, Ok, Err};
 ghost use Rattle.roman_text.specs.Replies.{reply_text};
 ghost use Rattle.roman_text.specs.Shapes.{hand, saw, abort};
-ghost use Rattle.roman_session.specs.Situations.{system_of};
+ghost use Rattle.roman_session.specs.Situations.{present_system};
 ghost use Rattle.roman_session.specs.Rulings.{asked};
 ghost use Rattle.roman_session.specs.Steps.{HasMoved, CanBe, StepOn};
 

@@ -2,7 +2,7 @@
 ghost use Rattle.std.specs.Prelude.{◌≡◌, ◌<◌, length, map, IfOk, IfSome, slice_get};
 ghost use Rattle.roman_joint.specs.Names.{beh_name};
 ghost use Rattle.roman_session.specs.Joins.{CanJoin};
-ghost use Rattle.roman_session.specs.Situations.{system_of, IsOpen};
+ghost use Rattle.roman_session.specs.Situations.{present_system, IsOpen};
 ghost use Rattle.roman_session.specs.Rulings.{named, service_named, state_named, seat_at, offered_action, delegation, asked, handed, seen, aborted, jumped, env_jumped, frozen, thawed, died, joining};
 
 use super::Session;
@@ -17,7 +17,7 @@ impl Session {
     // The action with this name.
     fn action_place(&self, name: &[u8]) -> Result<u8, Reply>
         ensures place { result ≡ named self.now.parts.environment.actions name.now }
-        ensures within { IfOk result (λ a. a < (system_of self.now).env.actions) }
+        ensures within { IfOk result (λ a. a < (present_system self.now).env.actions) }
     {
         place(self.relation.joint.environment().actions(), name)
     }
@@ -25,7 +25,7 @@ impl Session {
     // The state of the environment with this name.
     fn env_place(&self, name: &[u8]) -> Result<u8, Reply>
         ensures place { result ≡ named self.now.parts.environment.states name.now }
-        ensures within { IfOk result (λ e. e < (system_of self.now).env.states) }
+        ensures within { IfOk result (λ e. e < (present_system self.now).env.states) }
     {
         place(self.relation.joint.environment().states(), name)
     }
@@ -42,7 +42,7 @@ impl Session {
     fn state_place(&self, k: u8, name: &[u8]) -> Result<u8, Reply>
         requires { k < length self.now.parts.seats }
         ensures place { result ≡ state_named self.now k name.now }
-        ensures within { IfOk result (λ b. IfSome (slice_get (system_of self.now).seats k) (λ seat. b < seat.beh.states)) }
+        ensures within { IfOk result (λ b. IfSome (slice_get (present_system self.now).seats k) (λ seat. b < seat.beh.states)) }
     {
         state_place(&self.relation.joint, k, name)
     }
@@ -134,7 +134,7 @@ impl Session {
     pub(super) fn jumped(&self, service: &[u8], state: &[u8]) -> Result<Jump, Reply>
         ensures jumped { result ≡ jumped self.now service.now state.now }
         ensures seat { IfOk result (λ x. x.seat < length self.now.parts.seats) }
-        ensures state { IfOk result (λ x. IfSome (slice_get (system_of self.now).seats x.seat) (λ seat. x.state < seat.beh.states)) }
+        ensures state { IfOk result (λ x. IfSome (slice_get (present_system self.now).seats x.seat) (λ seat. x.state < seat.beh.states)) }
     {
         let seat = self.service_place(service)?;
         let state = self.state_place(seat, state)?;
@@ -148,7 +148,7 @@ impl Session {
     // The state to which `jumpenv` moves the environment.
     pub(super) fn env_jumped(&self, env: &[u8]) -> Result<u8, Reply>
         ensures jumped { result ≡ env_jumped self.now env.now }
-        ensures within { IfOk result (λ e. e < (system_of self.now).env.states) }
+        ensures within { IfOk result (λ e. e < (present_system self.now).env.states) }
     {
         let env = self.env_place(env)?;
         if !self.is_idle() {

@@ -2,7 +2,7 @@ use Rattle.std.proofs.Common.{◌+◌, [], ◌∷◌, codes, refl, ◌∙◌, ar
 use Rattle.std.proofs.lemmas.Result.{err_from_is_err_and}
 use Rattle.roman_model.specs.Lines.{text_of}
 use Rattle.roman_model.specs.Certificate.{entry_line}
-use Rattle.roman_order.specs.Board.{entry_of}
+use Rattle.roman_order.specs.Board.{as_entry}
 use Rattle.roman_text.proofs.Filling.{fill_whole, fill_same, fill_more, fill_failed, fill_put}
 use Rattle.roman_cert.proofs.Certificates.{rest_from, cert_begins, cert_next, cert_ends}
 use Rattle.roman_cert.proofs.certificate.write_list.Goals as goal
@@ -26,16 +26,16 @@ loop-i-init g c =
 pub returns-in_err-push_entry-clause-text : goal.returns-in_err-push_entry-clause-text
 returns-in_err-push_entry-clause-text g c =
     let L = c.args.order.now.list in
-    let bytes = text_of (entry_line (entry_of c.entry-pair.result) ∷ []) in
-    let next = cert_next L c.loop-i.i (entry_of c.entry-pair.result) bytes c.entry-pair.ensures refl in
+    let bytes = text_of (entry_line (as_entry c.entry-pair.result) ∷ []) in
+    let next = cert_next L c.loop-i.i (as_entry c.entry-pair.result) bytes c.entry-pair.ensures refl in
     let p = err_from_is_err_and c.from_residual-in_err-push_entry.result c.from_residual-in_err-push_entry.ensures.1 in
     rw p.1 (fill_failed _ _ _ _ bytes (rest_from L (c.loop-i.i + 1)) _ (fill_same _ _ _ _ _ _ next c.loop-i.invariant.filling) c.in_err-push_entry.ensures.gathers.0)
 
 pub loop-i-preserved : goal.loop-i-preserved
 loop-i-preserved g c =
     let L = c.args.order.now.list in
-    let bytes = text_of (entry_line (entry_of c.entry-pair.result) ∷ []) in
-    let next = cert_next L c.loop-i.i (entry_of c.entry-pair.result) bytes c.entry-pair.ensures refl in
+    let bytes = text_of (entry_line (as_entry c.entry-pair.result) ∷ []) in
+    let next = cert_next L c.loop-i.i (as_entry c.entry-pair.result) bytes c.entry-pair.ensures refl in
     record {
       filling = fill_more _ _ _ _ _ bytes (rest_from L (c.loop-i.i + 1)) _ (fill_same _ _ _ _ _ _ next c.loop-i.invariant.filling) c.in_ok-push_entry.ensures.gathers;
       cause = c.in_ok-push_entry.ensures.cause.stays ∙ c.loop-i.invariant.cause;

@@ -2,7 +2,7 @@ use Rattle.std.proofs.Common.{◌++◌, List, ℕ, codes, ap, ap₂, ◌∙◌}
 use Rattle.std.specs.Option.{option_map}
 use Rattle.roman_model.specs.Numbers.{sizes_of, pair_at}
 use Rattle.roman_joint.specs.NamedSys.{system_of}
-use Rattle.roman_joint.specs.Names.{names_of}
+use Rattle.roman_joint.specs.Names.{names_in}
 use Rattle.roman_cert.proofs.LineTexts.{may_answer}
 use Rattle.roman_cert.proofs.lines.answer_piece.Goals as goal
 
@@ -10,6 +10,6 @@ pub returns-in-Some : goal.returns-in-Some
 returns-in-Some c =
     let n = c.args.joint.now in
     let pair = pair_at (sizes_of (system_of n)) in
-    may_answer (names_of n) c.args.k (pair c.in-Some.q) (option_map pair c.args.answer) c.name-text.result c.add_states.result (ap (option_map pair) c.in-Some.is)
+    may_answer (names_in n) c.args.k (pair c.in-Some.q) (option_map pair c.args.answer) c.name-text.result c.add_states.result (ap (option_map pair) c.in-Some.is)
     (c.name-text.ensures.text ∙ ap₂ (λ (xs ys : List ℕ). xs ++ ys) (c.text.ensures.text ∙ ap (λ (xs : List ℕ). xs ++ codes "  ") c.new.ensures) (ap (λ (xs : List ℕ). xs) c.service_name.ensures))
     c.add_states.ensures

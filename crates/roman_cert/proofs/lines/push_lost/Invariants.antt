@@ -1,5 +1,5 @@
 use Rattle.std.proofs.Common.{◌≡◌, ◌++◌}
-use Rattle.roman_order.specs.Board.{entry_of}
+use Rattle.roman_order.specs.Board.{as_entry}
 use Rattle.roman_text.proofs.Filling.{IsFilling}
 use Rattle.roman_cert.specs.Slices.{lost_text}
 use Rattle.roman_cert.proofs.LineTexts.{lost_from}
@@ -8,7 +8,7 @@ use Rattle.roman_cert.proofs.lines.push_lost.Given as goal
 -- the states of the services so far are taken
 abbrev pub invariant-loop-k : goal.invariant-loop-k
 invariant-loop-k g l =
-    let x = entry_of (l.p, l.reason) in
+    let x = as_entry (l.p, l.reason) in
     record {
       filling : IsFilling (g.O.Sink.written l.fn.out) (g.O.Sink.written l.out) l.page (lost_from l.joint x l.k) (l.fn.page ++ lost_text l.joint x);
       cause : g.O.Sink.faults l.out ≡ g.O.Sink.faults l.fn.out;

@@ -1,8 +1,8 @@
 use Rattle.std.proofs.Common.{arith}
-use Rattle.roman_order.specs.Board.{entry_of}
+use Rattle.roman_order.specs.Board.{as_entry}
 use Rattle.roman_cert.proofs.Answering.{entry_node}
 use Rattle.roman_cert.proofs.marking.visit.Goals as goal
 
 pub marked-requires : goal.marked-requires
 marked-requires g c =
-    omega (arith, c.requires.shaped, entry_node (g.J.Rules.arena c.args.joint.now) c.args.order.now c.args.i (entry_of c.entry-p.result) c.requires.shaped c.len.ensures.in_range c.entry-p.ensures)
+    omega (arith, c.requires.shaped, entry_node (g.J.Rules.arena c.args.joint.now) c.args.order.now c.args.i (as_entry c.entry-p.result) c.requires.shaped c.len.ensures.in_range c.entry-p.ensures)

@@ -8,14 +8,14 @@ use Rattle.roman_model.specs.declared.reason.Reason.TheVariants.{Act}
 use Rattle.roman_model.proofs.Lists.{length-below}
 use Rattle.roman_joint.specs.NamedSys.{system_of}
 use Rattle.roman_joint.proofs.Finds.{if_some}
-use Rattle.roman_order.specs.Board.{entry_of}
+use Rattle.roman_order.specs.Board.{as_entry}
 use Rattle.roman_text.proofs.Filling.{fill_behind, fill_same, fill_more, fill_failed, fill_end}
 use Rattle.roman_cert.proofs.AnswerTexts.{entry_is, answers_from, answers_filling, no_answers, answers_next, answers_skip, answers_end}
 use Rattle.roman_cert.proofs.slice.push_answers.Goals as goal
 
 pub returns-in_default-clause-gathers : goal.returns-in_default-clause-gathers
 returns-in_default-clause-gathers g c x e =
-    let is = same_Some x (entry_of c.entry-p.result) (sym e ∙ c.entry-p.ensures) in
+    let is = same_Some x (as_entry c.entry-p.result) (sym e ∙ c.entry-p.ensures) in
     fill_end _ _ _ _ (fill_behind _ _ [] _ (no_answers c.args.joint.now c.args.order.now.list x (λ a f. c.in_default.not-Act a (sym (ap (λ (y : Entry ℕ). y.reason) is) ∙ f))))
 
 pub loop-k-preserved-then-not-is_ready : goal.loop-k-preserved-then-not-is_ready
@@ -36,7 +36,7 @@ returns-in_err-push-clause-gathers g c x e =
     let a = c.in-Act.a in
     let bytes = c.bytes.result.now in
     let is = entry_is L c.args.i c.entry-p.result (Act a) x c.entry-p.ensures c.in-Act.is e in
-    let next = answers_next n c.args.order.now c.args.i (entry_of c.entry-p.result) a c.loop-k.k c.answer-found.result bytes c.known.ensures c.requires.shaped c.len.ensures.in_range c.entry-p.ensures
+    let next = answers_next n c.args.order.now c.args.i (as_entry c.entry-p.result) a c.loop-k.k c.answer-found.result bytes c.known.ensures c.requires.shaped c.len.ensures.in_range c.entry-p.ensures
     (omega (arith, c.seats-k-end.ensures.count)) (sym c.is_ready.ensures ∙ c.if-not-is_ready.false) c.answer-found.ensures.answer (c.bytes.ensures ∙ c.answer_piece-line.ensures) in
     let p = err_from_is_err_and c.from_residual.result c.from_residual.ensures.1 in
     rw p.1 (
@@ -50,7 +50,7 @@ loop-k-preserved g c =
     let L = c.args.order.now.list in
     let a = c.in-Act.a in
     let bytes = c.bytes.result.now in
-    let next = answers_next n c.args.order.now c.args.i (entry_of c.entry-p.result) a c.loop-k.k c.answer-found.result bytes c.known.ensures c.requires.shaped c.len.ensures.in_range c.entry-p.ensures
+    let next = answers_next n c.args.order.now c.args.i (as_entry c.entry-p.result) a c.loop-k.k c.answer-found.result bytes c.known.ensures c.requires.shaped c.len.ensures.in_range c.entry-p.ensures
     (omega (arith, c.seats-k-end.ensures.count)) (sym c.is_ready.ensures ∙ c.if-not-is_ready.false) c.answer-found.ensures.answer (c.bytes.ensures ∙ c.answer_piece-line.ensures) in
     record {
       filling = fill_more _ _ _ _ _ bytes (answers_from n L c.entry-p.result.0 a (c.loop-k.k + 1)) _ (fill_same _ _ _ _ _ _ next c.loop-k.invariant.filling) c.in_ok-push.ensures.gathers;

@@ -1,6 +1,6 @@
 use Rattle.std.proofs.Common.{◌+◌, [], codes, refl, sym, ◌∙◌, arith}
 use Rattle.std.proofs.lemmas.Result.{err_from_is_err_and}
-use Rattle.roman_order.specs.Board.{entry_of}
+use Rattle.roman_order.specs.Board.{as_entry}
 use Rattle.roman_relation.specs.Greatest.{arena_of}
 use Rattle.roman_text.proofs.Filling.{fill_whole, fill_same, fill_more, fill_failed, fill_put}
 use Rattle.roman_cert.specs.Slices.{entry_text}
@@ -14,17 +14,17 @@ loop-i-init g c = record { filling = fill_whole _ _ _ _ c.new-page.ensures.empty
 pub marked-requires : goal.marked-requires
 marked-requires g c =
     let n = c.args.joint.now in
-    omega (arith, c.requires.shaped, entry_node (arena_of n) c.args.order.now c.loop-i.i (entry_of c.entry-p.result) c.requires.shaped c.len-i-end.ensures.in_range c.entry-p.ensures)
+    omega (arith, c.requires.shaped, entry_node (arena_of n) c.args.order.now c.loop-i.i (as_entry c.entry-p.result) c.requires.shaped c.len-i-end.ensures.in_range c.entry-p.ensures)
 
 pub loop-i-preserved-then-not-marked : goal.loop-i-preserved-then-not-marked
 loop-i-preserved-then-not-marked g c =
-    let skip = slice_skip c.args.joint.now c.args.order.now c.loop-i.i (entry_of c.entry-p.result) c.entry-p.ensures (sym c.marked.ensures ∙ c.if-not-marked.true) in
+    let skip = slice_skip c.args.joint.now c.args.order.now c.loop-i.i (as_entry c.entry-p.result) c.entry-p.ensures (sym c.marked.ensures ∙ c.if-not-marked.true) in
     record { filling = fill_same _ _ _ _ _ _ skip c.loop-i.invariant.filling; cause = c.loop-i.invariant.cause }
 
 pub returns-in_err-push_entry-clause-text : goal.returns-in_err-push_entry-clause-text
 returns-in_err-push_entry-clause-text g c =
     let n = c.args.joint.now in
-    let x = entry_of c.entry-p.result in
+    let x = as_entry c.entry-p.result in
     let next = slice_next n c.args.order.now c.loop-i.i x c.entry-p.ensures (sym c.marked.ensures ∙ c.if-not-marked.false) in
     let p = err_from_is_err_and c.from_residual.result c.from_residual.ensures.1 in
     rw p.1 (fill_failed _ _ _ _ (entry_text n c.args.order.now.list x) (slice_from n c.args.order.now (c.loop-i.i + 1)) _ (fill_same _ _ _ _ _ _ next c.loop-i.invariant.filling) (c.in_err-push_entry.ensures.gathers x c.entry-p.ensures).0)
@@ -32,7 +32,7 @@ returns-in_err-push_entry-clause-text g c =
 pub loop-i-preserved : goal.loop-i-preserved
 loop-i-preserved g c =
     let n = c.args.joint.now in
-    let x = entry_of c.entry-p.result in
+    let x = as_entry c.entry-p.result in
     let next = slice_next n c.args.order.now c.loop-i.i x c.entry-p.ensures (sym c.marked.ensures ∙ c.if-not-marked.false) in
     record {
       filling = fill_more _ _ _ _ _ (entry_text n c.args.order.now.list x) (slice_from n c.args.order.now (c.loop-i.i + 1)) _ (fill_same _ _ _ _ _ _ next c.loop-i.invariant.filling) (c.in_ok-push_entry.ensures.gathers x c.entry-p.ensures);

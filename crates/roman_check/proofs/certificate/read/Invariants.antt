@@ -1,7 +1,7 @@
 use Rattle.std.proofs.Common.{◌≡◌, ◌+◌, ◌≤◌, List, ℕ, length}
 use Rattle.roman_io.specs.Source.{Gave}
 use Rattle.roman_model.specs.declared.limits.TheConstants.{MAX_CERTIFICATE_BYTES}
-use Rattle.roman_check.specs.Audits.{IsShaped}
+use Rattle.roman_check.specs.Audits.{IsInRows}
 use Rattle.roman_check.specs.Readers.{IsReading}
 use Rattle.roman_check.proofs.certificate.read.Given as goal
 
@@ -12,7 +12,7 @@ invariant-takes g l = record {
   reading : IsReading (g.J.Rules.arena l.joint) taken l.reader;
   room : l.room + length taken ≡ MAX_CERTIFICATE_BYTES;
   lines : l.reader.lines + l.room ≤ MAX_CERTIFICATE_BYTES;
-  shaped : IsShaped (g.J.Rules.lanes l.joint) (length (g.J.Rules.arena l.joint).nodes) l.reader.audit;
+  shaped : IsInRows (g.J.Rules.lanes l.joint) (length (g.J.Rules.arena l.joint).nodes) l.reader.audit;
   piece : length l.piece ≡ 4096;
   faults : g.S.Source.faults l.source ≡ g.S.Source.faults l.initial.source;
   borrowed : g.S.Source.borrowed l.source ≡ g.S.Source.borrowed l.initial.source;

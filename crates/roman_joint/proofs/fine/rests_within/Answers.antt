@@ -7,7 +7,7 @@ use Rattle.roman_radix.proofs.Strides.{AreSizes-index}
 use Rattle.roman_lanes.specs.Rows.{is_on}
 use Rattle.roman_joint.specs.NamedSys.{system_of}
 use Rattle.roman_radix.specs.Rows.{low_of, lanes_of}
-use Rattle.roman_joint.specs.Rows.{AreRowsOf, has_state, may_rest}
+use Rattle.roman_joint.specs.Rows.{AreRowsOf, lane_has_state, may_rest}
 use Rattle.roman_joint.proofs.WordLemmas.{on_zero}
 use Rattle.roman_joint.proofs.SplitLemmas.{joint_sizes}
 use Rattle.roman_joint.proofs.GoodLemmas.{within, below_more, state_is}
@@ -49,8 +49,8 @@ loop-b-preserved c lane l =
     let m = lane / st % size in
     let b = c.loop-b.b in
     let f = may_rest (slice_get s.seats c.args.k) in
-    let in_state : is_on c.state_lanes-in_state.result lane ≡ has_state st size b lane =
-    subst (λ (n : Sizes). is_on c.state_lanes-in_state.result lane ≡ has_state (stride_of n c.args.k) (slice_index n.seats c.args.k) b lane) c.shape-shape.ensures
+    let in_state : is_on c.state_lanes-in_state.result lane ≡ lane_has_state st size b lane =
+    subst (λ (n : Sizes). is_on c.state_lanes-in_state.result lane ≡ lane_has_state (stride_of n c.args.k) (slice_index n.seats c.args.k) b lane) c.shape-shape.ensures
     (c.state_lanes-in_state.ensures.each lane (subst (λ (n : Sizes). lane < lanes_of n.seats) (sym c.shape-shape.ensures) l)) in
     c.with_lanes-lanes.ensures lane
     ∙ (ap₂ (λ y z. y || z) (c.loop-b.invariant lane l)

@@ -1,7 +1,7 @@
 use Rattle.std.proofs.Common.{◌≡◌, ℕ, ◌/◌, ◌<◌, length, slice_index, ltb, if◌then◌else◌}
 use Rattle.roman_radix.specs.Radix.{stride_of}
 use Rattle.roman_lanes.specs.Rows.{is_on}
-use Rattle.roman_joint.specs.Rows.{has_state}
+use Rattle.roman_joint.specs.Rows.{lane_has_state}
 use Rattle.roman_joint.proofs.layout.rows_of.Given as goal
 
 -- the numbers of the services so far are set
@@ -12,5 +12,5 @@ invariant-loop-k l = record {
   wide : length l.firsts ≡ 32;
   set : (j : ℕ) → j < l.k → slice_index l.strides j ≡ (if ltb j l.low then stride_of l.shape j / l.lanes else stride_of l.shape j);
   sizes : (j : ℕ) → j < l.k → slice_index l.sizes j ≡ slice_index l.shape.seats j;
-  firsts : (j lane : ℕ) → j < l.k → lane < 64 → is_on (slice_index l.firsts j) lane ≡ has_state (stride_of l.shape j) (slice_index l.shape.seats j) 0 lane;
+  firsts : (j lane : ℕ) → j < l.k → lane < 64 → is_on (slice_index l.firsts j) lane ≡ lane_has_state (stride_of l.shape j) (slice_index l.shape.seats j) 0 lane;
 }

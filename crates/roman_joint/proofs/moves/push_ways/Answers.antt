@@ -1,6 +1,6 @@
 use Rattle.std.proofs.Common.{◌≤◌, ◌++◌, ◌∷◌, [], cond, eqb, length, slice_index, sym, ap, ◌∙◌, refl, arith}
 use Rattle.std.proofs.lemmas.List.{append-nil, append_assoc, length-append}
-use Rattle.roman_joint.specs.Moves.{move_of, moves_from}
+use Rattle.roman_joint.specs.Moves.{lane_move, lane_moves_from}
 use Rattle.roman_joint.proofs.MoveLemmas.{way_more, ways_few}
 use Rattle.roman_joint.proofs.moves.push_ways.Goals as goal
 
@@ -9,7 +9,7 @@ loop-j-init c = record { moves = sym (append-nil c.args.moves.now.items); capaci
 
 pub push_way-requires-clause-room : goal.push_way-requires-clause-room
 push_way-requires-clause-room c =
-    let made = moves_from c.args.lanes.now c.args.last c.args.stride c.loop-j.j in
+    let made = lane_moves_from c.args.lanes.now c.args.last c.args.stride c.loop-j.j in
     let few : length made ≤ c.loop-j.j = ways_few c.args.lanes.now c.args.last c.args.stride c.loop-j.j in
     omega (arith, few, c.loop-j.moves.ok.0, c.args.moves.now.ok.0, ap length c.loop-j.invariant.moves, length-append c.args.moves.now.items made, c.loop-j.invariant.capacity, c.requires.room)
 
@@ -17,8 +17,8 @@ pub loop-j-preserved : goal.loop-j-preserved
 loop-j-preserved c =
     let lanes = c.args.lanes.now in
     let j = c.loop-j.j in
-    let made = moves_from lanes c.args.last c.args.stride j in
-    let more = cond (eqb (slice_index lanes j) 0) [] (move_of lanes c.args.last c.args.stride j ∷ []) in
+    let made = lane_moves_from lanes c.args.last c.args.stride j in
+    let more = cond (eqb (slice_index lanes j) 0) [] (lane_move lanes c.args.last c.args.stride j ∷ []) in
     record {
       moves =
           c.push_way.ensures.moves

@@ -1,10 +1,10 @@
 use Rattle.std.proofs.Common.{◌≡◌, ◌++◌, vec_capacity}
-use Rattle.roman_joint.specs.Moves.{moves_from}
+use Rattle.roman_joint.specs.Moves.{lane_moves_from}
 use Rattle.roman_joint.proofs.moves.push_ways.Given as goal
 
 -- the moves of the ways so far
 abbrev pub invariant-loop-j : goal.invariant-loop-j
 invariant-loop-j l = record {
-  moves : l.moves.items ≡ l.fn.moves.items ++ moves_from l.lanes l.last l.stride l.j;
+  moves : l.moves.items ≡ l.fn.moves.items ++ lane_moves_from l.lanes l.last l.stride l.j;
   capacity : vec_capacity l.moves ≡ vec_capacity l.fn.moves;
 }

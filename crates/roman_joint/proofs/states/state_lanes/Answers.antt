@@ -4,7 +4,7 @@ use Rattle.roman_radix.specs.Radix.{IsSizes, stride_of}
 use Rattle.roman_radix.specs.Rows.{low_of}
 use Rattle.roman_radix.proofs.RowLemmas.{lanes_few}
 use Rattle.roman_lanes.specs.Rows.{is_on}
-use Rattle.roman_joint.specs.Rows.{has_state, AreRowsOf}
+use Rattle.roman_joint.specs.Rows.{lane_has_state, AreRowsOf}
 use Rattle.roman_joint.specs.declared.layout.Rows.{Rows}
 use Rattle.roman_joint.proofs.WordLemmas.{on_and}
 use Rattle.roman_joint.proofs.LeadLemmas.{stride_positive}
@@ -34,7 +34,7 @@ returns-clause-each c lane l =
     on_and (slice_index r.firsts k * 2 ^ (c.from.result * slice_index r.strides k) % 2 ^ 64) r.full lane
     ∙ (ap₂ (λ a b. a && b) (ap (λ m. is_on (slice_index r.firsts k * 2 ^ m % 2 ^ 64) lane) from
     ∙ state_shift (slice_index r.firsts k) c.args.b st size lane (λ j m. laid.firsts k j c.requires.seat m) (stride_positive n k c.known.ensures) c.requires.state few) (full_on n r lane laid l)
-    ∙ with_true (has_state st size c.args.b lane))
+    ∙ with_true (lane_has_state st size c.args.b lane))
   where
     with_true : (b : Bool) → (b && true) ≡ b
     with_true true = refl

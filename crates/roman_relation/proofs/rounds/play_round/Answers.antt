@@ -3,7 +3,7 @@ use Rattle.roman_model.specs.Arena.{Entry, IsOrder, is_listed, is_justified}
 use Rattle.roman_model.specs.declared.reason.Reason.TheVariants.{Act}
 use Rattle.roman_order.specs.Board.{Board, has_entry}
 use Rattle.roman_relation.specs.Settled.{Begins, IsSettled, HoldsLost}
-use Rattle.roman_relation.specs.Rounds.{InRound, IsDone}
+use Rattle.roman_relation.specs.Rounds.{InRound, IsPairJudged}
 use Rattle.roman_relation.proofs.Beginnings.{begins_unlisted}
 use Rattle.roman_relation.proofs.Going.{shaped_same, same_list}
 use Rattle.roman_relation.proofs.Playing.{round_begins, all_done, marking_starts, kept_ends, served_next, lost_more, settled_round}
@@ -28,7 +28,7 @@ round g c =
     c.judge_marked.ensures.round c.len-start.result
     (round_begins (g.J.Rules.arena c.args.joint.now) (g.J.Rules.lanes c.args.joint.now) c.len-start.result c.args.order.now c.len-start.ensures.value c.requires.ready)
 
-done : (g : Over) (c : goal.After-len g) → (p : ℕ) → p < length (g.J.Rules.arena c.args.joint.now).nodes → IsDone (g.J.Rules.arena c.args.joint.now) c.len-start.result c.judge_marked.new.order p
+done : (g : Over) (c : goal.After-len g) → (p : ℕ) → p < length (g.J.Rules.arena c.args.joint.now).nodes → IsPairJudged (g.J.Rules.arena c.args.joint.now) c.len-start.result c.judge_marked.new.order p
 done g c =
     let A = g.J.Rules.arena c.args.joint.now in
     let n = g.J.Rules.lanes c.args.joint.now in

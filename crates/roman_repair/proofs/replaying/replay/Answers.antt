@@ -1,5 +1,5 @@
 use Rattle.std.proofs.Common.{◌++◌, flat_map, arith}
-use Rattle.roman_order.specs.Board.{entry_of}
+use Rattle.roman_order.specs.Board.{as_entry}
 use Rattle.roman_repair.specs.Replays.{grown_numbers}
 use Rattle.roman_repair.proofs.Keeping.{candidates_left, entry_first, entry_turn, entry_cost}
 use Rattle.roman_repair.proofs.replaying.replay.Goals as goal
@@ -8,7 +8,7 @@ pub keep_entry-requires-clause-candidates : goal.keep_entry-requires-clause-cand
 keep_entry-requires-clause-candidates g c =
     let A = g.J.Rules.arena c.args.joint.now in
     let next = c.next_waiting.new.self in
-    let x = entry_of c.in-Some.entry in
+    let x = as_entry c.in-Some.entry in
     let all = flat_map (grown_numbers c.args.states) c.args.order.now.waiting in
     candidates_left A next.list (grown_numbers c.args.states x) (flat_map (grown_numbers c.args.states) next.waiting)
     (entry_first A c.args.order.now c.replay.order next c.args.states all x c.replay.invariant.replaying c.in-Some.ensures.first c.next_waiting.ensures.rest).candidates
@@ -18,7 +18,7 @@ replay-preserved g c =
     let A = g.J.Rules.arena c.args.joint.now in
     let next = c.next_waiting.new.self in
     let new = c.keep_entry.new.order in
-    let x = entry_of c.in-Some.entry in
+    let x = as_entry c.in-Some.entry in
     let all = flat_map (grown_numbers c.args.states) c.args.order.now.waiting in
     record {
       replaying = entry_turn A c.args.order.now c.replay.order next new c.args.states all x c.replay.invariant.replaying c.in-Some.ensures.first c.next_waiting.ensures.rest

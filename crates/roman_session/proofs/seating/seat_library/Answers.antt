@@ -2,7 +2,7 @@ use Rattle.std.proofs.Common.{◌≡◌, ◌<◌, List, All, map, length, sym, a
 use Rattle.roman_model.specs.Lists.{HasNoRepeats}
 use Rattle.roman_joint.specs.declared.seat.Seat.{Seat}
 use Rattle.roman_library.specs.Library.{plain}
-use Rattle.roman_session.specs.Starts.{seat_of_service, state_of_service, parts_of, start_of}
+use Rattle.roman_session.specs.Starts.{seat_of_service, state_of_service, parts_of, start_pair_of}
 use Rattle.roman_session.proofs.StartLemmas.{behaviours_within, names_once, seated_pair, seated}
 use Rattle.roman_session.proofs.seating.seat_library.Goals as goal
 
@@ -20,12 +20,12 @@ build-requires-clause-names c =
     let seats : c.in_ok-seats.seats.items ≡ map seat_of_service library.services = c.in_ok-seats.ensures ∙ ap (map seat_of_service) c.deref.ensures.value in
     subst (λ (seats : List Seat). HasNoRepeats (map (λ seat. seat.name) seats)) (sym seats) (names_once library c.requires)
 
-pub start_of-start-requires : goal.start_of-start-requires
-start_of-start-requires c =
+pub start_pair_of-start-requires : goal.start_of-start-requires
+start_pair_of-start-requires c =
     let library = plain c.args.library in
     let seats : c.in_ok-seats.seats.items ≡ map seat_of_service library.services = c.in_ok-seats.ensures ∙ ap (map seat_of_service) c.deref.ensures.value in
     let joint : c.in-Ok.joint ≡ parts_of library = c.in-Ok.ensures.parts ∙ ap (λ (seats : List Seat). record (parts_of library) { seats = seats }) seats in
-    let states : c.in_ok-states.states.items ≡ (start_of library).bs = c.in_ok-states.ensures.states ∙ ap (map state_of_service) c.deref-2.ensures.value in
+    let states : c.in_ok-states.states.items ≡ (start_pair_of library).bs = c.in_ok-states.ensures.states ∙ ap (map state_of_service) c.deref-2.ensures.value in
     seated_pair library c.in-Ok.joint c.deref-in-Ok.result.now c.requires joint (c.deref-in-Ok.ensures.value ∙ states)
 
 pub returns-in-Ok-clause-seated : goal.returns-in-Ok-clause-seated
@@ -33,6 +33,6 @@ returns-in-Ok-clause-seated c =
     let library = plain c.args.library in
     let seats : c.in_ok-seats.seats.items ≡ map seat_of_service library.services = c.in_ok-seats.ensures ∙ ap (map seat_of_service) c.deref.ensures.value in
     let joint : c.in-Ok.joint ≡ parts_of library = c.in-Ok.ensures.parts ∙ ap (λ (seats : List Seat). record (parts_of library) { seats = seats }) seats in
-    let states : c.in_ok-states.states.items ≡ (start_of library).bs = c.in_ok-states.ensures.states ∙ ap (map state_of_service) c.deref-2.ensures.value in
+    let states : c.in_ok-states.states.items ≡ (start_pair_of library).bs = c.in_ok-states.ensures.states ∙ ap (map state_of_service) c.deref-2.ensures.value in
     seated library (record { joint = c.in-Ok.joint; states = c.in_ok-states.states; start = c.start_of-start.result }) c.deref-in-Ok.result.now c.requires joint states
     (c.deref-in-Ok.ensures.value ∙ states) c.start_of-start.ensures.number c.start_of-start.ensures.below c.in_ok-states.ensures.room

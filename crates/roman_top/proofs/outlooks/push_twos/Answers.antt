@@ -7,7 +7,7 @@ use Rattle.roman_joint.specs.NamedSys.{system_of}
 use Rattle.roman_text.proofs.Filling.{fill_behind, fill_same, fill_more, fill_failed, fill_last, fill_end, fill_whole, fill_put}
 use Rattle.roman_whatif.specs.Left.{places}
 use Rattle.roman_whatif.specs.Told.{told}
-use Rattle.roman_top.specs.Outlooks.{outlook_words, way_word, names_at, lines_without, ones, twos}
+use Rattle.roman_top.specs.Outlooks.{outlook_words, way_word, service_names, lines_without, ones, twos}
 use Rattle.roman_top.proofs.OutlookLemmas.{one_named, two_named, line_pieces, both_lines, head_pieces, each_next, each_end, all_next, all_end, text_pieces}
 use Rattle.roman_top.proofs.outlooks.push_twos.Goals as goal
 

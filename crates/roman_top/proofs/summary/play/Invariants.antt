@@ -1,8 +1,8 @@
 use Rattle.std.proofs.Common.{◌-◌, take, drop}
 use Rattle.roman_make.specs.Script.{script_lines}
-use Rattle.roman_top.specs.Stages.{HasAnswered}
+use Rattle.roman_top.specs.Stages.{HasComeTo}
 use Rattle.roman_top.proofs.summary.play.Given as goal
 
 -- the lines so far are answered
 abbrev pub invariant-loop-i : goal.invariant-loop-i
-invariant-loop-i g l = HasAnswered l.fn.session (take (l.i - l.from) (drop l.from script_lines)) l.session
+invariant-loop-i g l = HasComeTo l.fn.session (take (l.i - l.from) (drop l.from script_lines)) l.session

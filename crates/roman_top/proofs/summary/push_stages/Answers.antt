@@ -1,17 +1,17 @@
 use Rattle.std.proofs.Common.{ap, ◌∙◌, arith}
 use Rattle.roman_text.proofs.Filling.{fill_same, fill_more, fill_failed, fill_last}
-use Rattle.roman_top.specs.Stages.{line_of}
+use Rattle.roman_top.specs.Stages.{line_of_stage}
 use Rattle.roman_top.proofs.StageLemmas.{lines_of-drop, lines_of-end}
 use Rattle.roman_top.proofs.summary.push_stages.Goals as goal
 
 pub returns-in-Err-clause-gathers : goal.returns-in-Err-clause-gathers
 returns-in-Err-clause-gathers g c =
-    let next = lines_of-drop c.args.stages.now c.loop-stage.stage-index c.stage-item.result c.bytes.result.now c.loop-stage-test.true (c.bytes.ensures ∙ c.stage_piece.ensures ∙ ap line_of c.stage-item.is) in
+    let next = lines_of-drop c.args.stages.now c.loop-stage.stage-index c.stage-item.result c.bytes.result.now c.loop-stage-test.true (c.bytes.ensures ∙ c.stage_piece.ensures ∙ ap line_of_stage c.stage-item.is) in
     (fill_failed _ _ _ _ _ _ _ (fill_same _ _ _ _ _ _ next c.loop-stage.invariant.filling) c.in-Err.ensures.gathers.0, c.in-Err.ensures.gathers.1)
 
 pub loop-stage-preserved : goal.loop-stage-preserved
 loop-stage-preserved g c =
-    let next = lines_of-drop c.args.stages.now c.loop-stage.stage-index c.stage-item.result c.bytes.result.now c.loop-stage-test.true (c.bytes.ensures ∙ c.stage_piece.ensures ∙ ap line_of c.stage-item.is) in
+    let next = lines_of-drop c.args.stages.now c.loop-stage.stage-index c.stage-item.result c.bytes.result.now c.loop-stage-test.true (c.bytes.ensures ∙ c.stage_piece.ensures ∙ ap line_of_stage c.stage-item.is) in
     record {
       filling = fill_more _ _ _ _ _ _ _ _ (fill_same _ _ _ _ _ _ next c.loop-stage.invariant.filling) c.in_default.ensures.gathers;
       cause = c.in_default.ensures.cause.stays ∙ c.loop-stage.invariant.cause;

@@ -2,7 +2,7 @@ use Rattle.std.proofs.Common.{◌≡◌, ◌+◌, ◌*◌, ◌<◌, ◌==◌, �
 use Rattle.std.proofs.lemmas.Bool.{not-true}
 use Rattle.roman_model.specs.Arena.{is_listed}
 use Rattle.roman_model.specs.Certificate.{entry_of, entries_on}
-use Rattle.roman_rules.specs.Asked.{IsKnown}
+use Rattle.roman_rules.specs.Asked.{HoldsWhereKept}
 use Rattle.roman_check.specs.Readings.{entry_with}
 use Rattle.roman_check.proofs.AuditLemmas.{entry_given, reason_given, repeated_entry, unjustified_entry, clean_entry, pair_within, listed_rows, listed_known, entry_listed}
 use Rattle.roman_check.proofs.audit.Audit.judge_entry.Goals as goal
@@ -81,7 +81,7 @@ returns-clause-list g c L has none =
     (record { due = c.args.self.now.due; left = c.remove.new.self; asked = c.holds.new.self }) e
     (λ more. c.remove.ensures.removed (length A.nodes) (is_listed A L) (is_listed A (L ++ entries_on A (c.args.line.now ∷ []))) has.left (subst (λ p. p < length A.nodes) (sym place) within) absent
     (λ q. more q ∙ ap (λ p. is_listed A L q || q == p) (sym place)))
-    (subst (λ m. IsKnown A m (is_listed A L) c.holds.new.self) (sym (c.remove.ensures.lanes ∙ c.requires.shaped.in_rows)) after)
+    (subst (λ m. HoldsWhereKept A m (is_listed A L) c.holds.new.self) (sym (c.remove.ensures.lanes ∙ c.requires.shaped.in_rows)) after)
 
 pub returns-clause-shaped : goal.returns-clause-shaped
 returns-clause-shaped g c = record {

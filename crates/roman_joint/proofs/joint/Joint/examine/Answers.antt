@@ -3,7 +3,7 @@ use Rattle.std.specs.List.{find}
 use Rattle.roman_model.specs.Lists.{IsIn, is_empty}
 use Rattle.roman_model.specs.Numbers.{sizes_of}
 use Rattle.roman_joint.specs.NamedSys.{system_of}
-use Rattle.roman_joint.specs.Outcomes.{outcome_number, IsPlaced}
+use Rattle.roman_joint.specs.Outcomes.{outcome_number, IsPairWith}
 use Rattle.roman_joint.proofs.Finds.{in_at, if_some, find_numbers, no_numbers, some_numbers, none_there, some_there}
 use Rattle.roman_joint.proofs.joint.Joint.examine.Goals as goal
 
@@ -40,7 +40,7 @@ overflow_mul-result g c =
     let o = c.outcomes-outcomes.result in
     let n = sizes_of (system_of c.args.self.now) in
     let among = if_some c.outcome_gone.result (c.in-Some.env, c.in-Some.state) _ c.in-Some.is c.outcome_gone.ensures.among in
-    let at : IsPlaced n c.args.k (outcome_number o c.in-Some.env c.in-Some.state) c.in-Some.env c.in-Some.state = c.outcomes-outcomes.ensures.places c.in-Some.env c.in-Some.state among.0 among.1 in
+    let at : IsPairWith n c.args.k (outcome_number o c.in-Some.env c.in-Some.state) c.in-Some.env c.in-Some.state = c.outcomes-outcomes.ensures.places c.in-Some.env c.in-Some.state among.0 among.1 in
     let env_is : c.from.result * o.env_stride ≡ c.in-Some.env * o.env_stride = ap (λ x. x * o.env_stride) c.from.ensures in
     omega (arith, at.below, c.outcomes-outcomes.ensures.few)
 
@@ -49,7 +49,7 @@ overflow_add-result g c =
     let o = c.outcomes-outcomes.result in
     let n = sizes_of (system_of c.args.self.now) in
     let among = if_some c.outcome_gone.result (c.in-Some.env, c.in-Some.state) _ c.in-Some.is c.outcome_gone.ensures.among in
-    let at : IsPlaced n c.args.k (outcome_number o c.in-Some.env c.in-Some.state) c.in-Some.env c.in-Some.state = c.outcomes-outcomes.ensures.places c.in-Some.env c.in-Some.state among.0 among.1 in
+    let at : IsPairWith n c.args.k (outcome_number o c.in-Some.env c.in-Some.state) c.in-Some.env c.in-Some.state = c.outcomes-outcomes.ensures.places c.in-Some.env c.in-Some.state among.0 among.1 in
     let env_is : c.from.result * o.env_stride ≡ c.in-Some.env * o.env_stride = ap (λ x. x * o.env_stride) c.from.ensures in
     omega (arith, at.below, c.outcomes-outcomes.ensures.few)
 
@@ -58,7 +58,7 @@ overflow_mul-result-in-Some g c =
     let o = c.outcomes-outcomes.result in
     let n = sizes_of (system_of c.args.self.now) in
     let among = if_some c.outcome_gone.result (c.in-Some.env, c.in-Some.state) _ c.in-Some.is c.outcome_gone.ensures.among in
-    let at : IsPlaced n c.args.k (outcome_number o c.in-Some.env c.in-Some.state) c.in-Some.env c.in-Some.state = c.outcomes-outcomes.ensures.places c.in-Some.env c.in-Some.state among.0 among.1 in
+    let at : IsPairWith n c.args.k (outcome_number o c.in-Some.env c.in-Some.state) c.in-Some.env c.in-Some.state = c.outcomes-outcomes.ensures.places c.in-Some.env c.in-Some.state among.0 among.1 in
     let env_is : c.from.result * o.env_stride ≡ c.in-Some.env * o.env_stride = ap (λ x. x * o.env_stride) c.from.ensures in
     let state_is : c.from-in-Some.result * o.stride ≡ c.in-Some.state * o.stride = ap (λ x. x * o.stride) c.from-in-Some.ensures in
     omega (arith, at.below, c.outcomes-outcomes.ensures.few)
@@ -68,7 +68,7 @@ overflow_add-result-in-Some g c =
     let o = c.outcomes-outcomes.result in
     let n = sizes_of (system_of c.args.self.now) in
     let among = if_some c.outcome_gone.result (c.in-Some.env, c.in-Some.state) _ c.in-Some.is c.outcome_gone.ensures.among in
-    let at : IsPlaced n c.args.k (outcome_number o c.in-Some.env c.in-Some.state) c.in-Some.env c.in-Some.state = c.outcomes-outcomes.ensures.places c.in-Some.env c.in-Some.state among.0 among.1 in
+    let at : IsPairWith n c.args.k (outcome_number o c.in-Some.env c.in-Some.state) c.in-Some.env c.in-Some.state = c.outcomes-outcomes.ensures.places c.in-Some.env c.in-Some.state among.0 among.1 in
     let env_is : c.from.result * o.env_stride ≡ c.in-Some.env * o.env_stride = ap (λ x. x * o.env_stride) c.from.ensures in
     let state_is : c.from-in-Some.result * o.stride ≡ c.in-Some.state * o.stride = ap (λ x. x * o.stride) c.from-in-Some.ensures in
     omega (arith, at.below, c.outcomes-outcomes.ensures.few)
@@ -94,7 +94,7 @@ returns-in-Some-clause-finding g c = λ gone told.
     let o = c.outcomes-outcomes.result in
     let n = sizes_of (system_of c.args.self.now) in
     let among = if_some c.outcome_gone.result (c.in-Some.env, c.in-Some.state) _ c.in-Some.is c.outcome_gone.ensures.among in
-    let at : IsPlaced n c.args.k (outcome_number o c.in-Some.env c.in-Some.state) c.in-Some.env c.in-Some.state = c.outcomes-outcomes.ensures.places c.in-Some.env c.in-Some.state among.0 among.1 in
+    let at : IsPairWith n c.args.k (outcome_number o c.in-Some.env c.in-Some.state) c.in-Some.env c.in-Some.state = c.outcomes-outcomes.ensures.places c.in-Some.env c.in-Some.state among.0 among.1 in
     let env_is : c.from.result * o.env_stride ≡ c.in-Some.env * o.env_stride = ap (λ x. x * o.env_stride) c.from.ensures in
     let state_is : c.from-in-Some.result * o.stride ≡ c.in-Some.state * o.stride = ap (λ x. x * o.stride) c.from-in-Some.ensures in
     let first = c.outcome_gone.ensures.first gone (λ i d l j e m r post.
@@ -102,6 +102,6 @@ returns-in-Some-clause-finding g c = λ gone told.
     (c.outcomes-outcomes.ensures.places (get_or o.envs.now i d) (get_or o.states.now j e) (in_at o.envs.now i d l) (in_at o.states.now j e m)).below post) in
     let found = find_numbers (outcome_number o) gone o.envs.now o.states.now (Some (c.in-Some.env, c.in-Some.state)) (sym c.in-Some.is ∙ first) in
     let pair : outcome_number o c.in-Some.env c.in-Some.state ≡ o.base + c.from.result * o.env_stride + c.from-in-Some.result * o.stride = omega (arith, env_is, state_is) in
-    let placed : IsPlaced n c.args.k (o.base + c.from.result * o.env_stride + c.from-in-Some.result * o.stride) c.in-Some.env c.in-Some.state =
-    subst (λ q. IsPlaced n c.args.k q c.in-Some.env c.in-Some.state) pair at in
+    let placed : IsPairWith n c.args.k (o.base + c.from.result * o.env_stride + c.from-in-Some.result * o.stride) c.in-Some.env c.in-Some.state =
+    subst (λ q. IsPairWith n c.args.k q c.in-Some.env c.in-Some.state) pair at in
     record { is = (ap (find gone) c.outcomes-outcomes.ensures.numbers ∙ (found ∙ ap Some pair), placed.env, placed.state) }

@@ -4,7 +4,7 @@ use Rattle.roman_model.specs.System.{env_prev}
 use Rattle.roman_model.specs.Numbers.{sizes_of, count}
 use Rattle.roman_joint.specs.NamedSys.{system_of}
 use Rattle.roman_joint.specs.Backward.{from_env}
-use Rattle.roman_joint.specs.Walks.{goal_of, GoesOn}
+use Rattle.roman_joint.specs.Walks.{goal_of, WalkGoesOn}
 use Rattle.roman_joint.proofs.Shown.{Shows, shown, seats_shown, envs_shown}
 use Rattle.roman_model.specs.declared.limits.TheConstants.{MAX_CELLS}
 use Rattle.roman_parts.specs.Named.{NamedEnv}
@@ -86,7 +86,7 @@ returns c =
     let to : RowMoves (sizes_of s) w.row c.from.result c.from-2.result c.env_stride-stride.result w.target next (goal_of s w).bs =
     env_moves s w c.from.result c.from-2.result next c.env_stride-stride.result c.requires.walk c.from.ensures c.from-2.ensures within (c.env_stride-stride.ensures ∙ ap env_stride_of fields.shape) in
     let fits : count (sizes_of s) ≤ MAX_CELLS = count_fits n fields.known in
-    let on : GoesOn s w (record w { env = next; row = w.row - c.from.result * c.env_stride-stride.result + c.from-2.result * c.env_stride-stride.result; envs_taken = w.envs_taken + 1; targets_taken = 0; seat = c.len.result; states_taken = 0 }) =
+    let on : WalkGoesOn s w (record w { env = next; row = w.row - c.from.result * c.env_stride-stride.result + c.from-2.result * c.env_stride-stride.result; envs_taken = w.envs_taken + 1; targets_taken = 0; seat = c.len.result; states_taken = 0 }) =
     goes_env_at s fields.known.system w c.requires.walk next _ c.len.result c.requires.seat c.requires.target c.requires.env (subst (λ xs. w.envs_taken < length xs) is c.if-taken-envs.false) (ap (λ xs. get_or xs w.envs_taken 0) is) within to.number (c.len.ensures ∙ seats_shown a n fields) in
     more_envs s w _ c.one_more-walk.result on c.one_more-walk.ensures.more.1 (omega (arith, c.one_more-walk.ensures.more.0)) (ap (flat_map (from_env s (goal_of s w) w.action)) (c.one_more-walk.ensures.same (env_prev s.env (goal_of s w).e w.action) (sym (ap length is))))
 

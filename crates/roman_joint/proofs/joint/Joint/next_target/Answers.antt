@@ -2,7 +2,7 @@ use Rattle.std.proofs.Common.{◌≡◌, ◌+◌, ◌-◌, ◌*◌, ◌<◌, ◌
 use Rattle.roman_model.specs.System.{beh_prev}
 use Rattle.roman_model.specs.Numbers.{sizes_of, count}
 use Rattle.roman_joint.specs.NamedSys.{system_of}
-use Rattle.roman_joint.specs.Walks.{goal_of, GoesOn}
+use Rattle.roman_joint.specs.Walks.{goal_of, WalkGoesOn}
 use Rattle.roman_joint.proofs.Shown.{Shows, shown, targets_shown}
 use Rattle.roman_model.specs.declared.limits.TheConstants.{MAX_CELLS}
 use Rattle.roman_parts.specs.Named.{NamedTarget}
@@ -95,7 +95,7 @@ returns c =
     let to : RowMoves (sizes_of s) w.row c.from.result c.from-2.result c.target_stride-stride.result next w.env (goal_of s w).bs =
     target_moves s w c.from.result c.from-2.result next c.target_stride-stride.result c.requires.walk c.from.ensures c.from-2.ensures within (c.target_stride-stride.ensures ∙ ap target_stride_of fields.shape) in
     let fits : count (sizes_of s) ≤ MAX_CELLS = count_fits n fields.known in
-    let on : GoesOn s w (record w { target = next; row = w.row - c.from.result * c.target_stride-stride.result + c.from-2.result * c.target_stride-stride.result; targets_taken = w.targets_taken + 1; seat = 0; states_taken = 0 }) =
+    let on : WalkGoesOn s w (record w { target = next; row = w.row - c.from.result * c.target_stride-stride.result + c.from-2.result * c.target_stride-stride.result; targets_taken = w.targets_taken + 1; seat = 0; states_taken = 0 }) =
     goes_target s fields.known.system w c.requires.walk next _ c.requires.seat c.requires.target (subst (λ xs. w.targets_taken < length xs) is c.if-taken-targets.false) (ap (λ xs. get_or xs w.targets_taken 0) is) within to.number in
     more_targets s w _ c.one_more-walk.result on c.one_more-walk.ensures.more.1 (omega (arith, c.one_more-walk.ensures.more.0)) (c.one_more-walk.ensures.same (beh_prev s.target (goal_of s w).t w.env w.action) (sym (ap length is)))
 

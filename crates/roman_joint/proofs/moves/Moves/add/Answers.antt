@@ -1,6 +1,6 @@
 use Rattle.std.proofs.Common.{◌≡◌, ℕ, ◌+◌, ◌-◌, ◌*◌, ◌<◌, ◌≤◌, length, slice_index, refl, sym, subst, arith}
 use Rattle.roman_radix.proofs.Strides.{AreSizes-index}
-use Rattle.roman_joint.specs.Moves.{AreMovesOf, moves_from}
+use Rattle.roman_joint.specs.Moves.{AreMovesOf, lane_moves_from}
 use Rattle.roman_joint.proofs.GoodLemmas.{state_below}
 use Rattle.roman_joint.proofs.MoveLemmas.{moves_made, ways_few}
 use Rattle.roman_joint.proofs.moves.Moves.add.Goals as goal
@@ -35,7 +35,7 @@ returns c =
     let own = c.requires.rows.sizes k c.requires.seat in
     let some = (AreSizes-index n.seats k c.known.ensures.seats c.requires.seat).0 in
     let size : last + 1 ≡ slice_index n.seats k = omega (arith, own, some) in
-    let made = moves_from c.ways_of-ways.result.lanes last stride (last + last + 1) in
+    let made = lane_moves_from c.ways_of-ways.result.lanes last stride (last + last + 1) in
     let few : length made ≤ last + last + 1 = ways_few c.ways_of-ways.result.lanes last stride (last + last + 1) in
     record {
       added = record {
@@ -46,7 +46,7 @@ returns c =
         few = omega (arith, few, size);
         first = omega (arith, c.len-first.ensures, c.args.self.now.moves.ok.0);
         end = omega (arith, c.len-end.ensures, c.push_ways.new.moves.ok.0);
-        moves_of = subst (λ u. AreMovesOf n k c.args.behaviour.now.beh c.args.e c.args.a c.ways_of-ways.result.some (moves_from c.ways_of-ways.result.lanes last u (last + last + 1))) (sym (c.requires.rows.within k c.requires.within c.requires.seat))
+        moves_of = subst (λ u. AreMovesOf n k c.args.behaviour.now.beh c.args.e c.args.a c.ways_of-ways.result.some (lane_moves_from c.ways_of-ways.result.lanes last u (last + last + 1))) (sym (c.requires.rows.within k c.requires.within c.requires.seat))
             (moves_made n k last c.args.e c.args.a c.args.behaviour.now.beh c.ways_of-ways.result c.known.ensures c.requires.within c.requires.seat c.requires.states size c.ways_of-ways.ensures);
         kept = record { same_envs = refl; same_actions = refl; spans_room = c.push_reserved.ensures.capacity; moves_room = c.push_ways.ensures.capacity };
       };

@@ -4,7 +4,7 @@ use Rattle.std.proofs.lemmas.Nat.{div_below, mod_below, div-add-mod'}
 use Rattle.std.proofs.lemmas.Nat.Bits.{shr_and_one}
 use Rattle.roman_lanes.specs.Rows.{is_on}
 use Rattle.roman_order.specs.Board.{Board, pairs_of, has_entry}
-use Rattle.roman_order.specs.Sound.{list_of}
+use Rattle.roman_order.specs.Sound.{removal_list}
 use Rattle.roman_order.proofs.order.Order.alive.Goals as goal
 
 pub returns : goal.returns
@@ -20,4 +20,4 @@ returns c =
     let read = get_or_read inside.words.items x c.index.result.now row c.index.ensures 0 in
     ap (λ n. eqb n 1) (ap (λ w. bit_and (w / 2 ^ lane) 1) read ∙ shr_and_one (get_or inside.words.items x 0) lane)
     ∙ ((c.self.invariant.alive.each x row).each lane (mod_below p inside.lanes some)
-    ∙ (ap (λ q. not (has_entry (list_of inside) q)) (div-add-mod' p inside.lanes) ∙ ap (λ (b : Board). not (has_entry b.list p)) c.self.view_is))
+    ∙ (ap (λ q. not (has_entry (removal_list inside) q)) (div-add-mod' p inside.lanes) ∙ ap (λ (b : Board). not (has_entry b.list p)) c.self.view_is))

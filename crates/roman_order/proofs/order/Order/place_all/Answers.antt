@@ -1,6 +1,6 @@
 use Rattle.std.proofs.Common.{◌≡◌, ◌<◌, ◌*◌, length, ap, ◌∙◌, arith}
 use Rattle.std.proofs.lemmas.List.{length-map, length-replicate}
-use Rattle.roman_order.specs.Sound.{list_of}
+use Rattle.roman_order.specs.Sound.{removal_list}
 use Rattle.roman_order.proofs.Places.{length-le_from_apart}
 use Rattle.roman_order.proofs.Pushes.{entry_in}
 use Rattle.roman_order.proofs.Stamps.{has_entry-at}
@@ -17,5 +17,5 @@ write_stamps-requires-clause-in_range c k d h =
 pub write_stamps-requires-clause-few : goal.write_stamps-requires-clause-few
 write_stamps-requires-clause-few c =
     let inside = c.self.inside in
-    let bound = length-le_from_apart (inside.rows * inside.lanes) (list_of inside) c.self.invariant.placed.apart c.self.invariant.placed.in_range in
+    let bound = length-le_from_apart (inside.rows * inside.lanes) (removal_list inside) c.self.invariant.placed.apart c.self.invariant.placed.in_range in
     omega (arith, bound, length-map inside.entries.items entry_in, ap length c.deref.ensures.value, c.self.invariant.room, c.self.invariant.few)

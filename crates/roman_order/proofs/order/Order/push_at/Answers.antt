@@ -3,8 +3,8 @@ use Rattle.std.specs.Int.{w64, bit_not}
 use Rattle.std.proofs.Math.ListN.{set}
 use Rattle.std.proofs.lemmas.List.{length-set, get_or_read}
 use Rattle.roman_lanes.specs.Rows.{is_on, AreRows}
-use Rattle.roman_order.specs.Board.{Board, entry_of, has_entry}
-use Rattle.roman_order.specs.Sound.{list_of, entries_of}
+use Rattle.roman_order.specs.Board.{Board, as_entry, has_entry}
+use Rattle.roman_order.specs.Sound.{removal_list, entries_of}
 use Rattle.roman_order.proofs.Lanes.{AreRows-pushed, entries_in-one, one_lane}
 use Rattle.roman_order.proofs.Places.{IsPlaced-push}
 use Rattle.roman_order.proofs.Pushes.{entries_of-push, pair_below, room-push}
@@ -34,11 +34,11 @@ invariant_of-self c =
     let read : c.index_mut.result.now ≡ get_or inside.words.items x 0 = get_or_read inside.words.items x c.index_mut.result.now in_words c.index_mut.ensures.value 0 in
     let within : (l : ℕ) → is_on lost l ≡ true → l < inside.lanes = λ l t. let same : l ≡ lane = one_lane lane l low t in omega arith in
     let alive = subst (λ (b : Board). has_entry b.list (x * b.lanes + lane) ≡ false) (sym c.self.view_is) c.requires.alive in
-    let list : entries_of c.push_reserved.new.self.items ≡ list_of inside ++ entry_of (pair, c.args.reason) ∷ [] = ap entries_of c.push_reserved.ensures.items ∙ entries_of-push inside.entries.items _ in
-    let rows = subst (λ es. AreRows inside.lanes (λ p. not (has_entry (list_of inside ++ es) p)) (set inside.words.items x (bit_and (get_or inside.words.items x 0) (bit_not w64 lost)))) (entries_in-one inside.lanes x lane c.args.reason low)
-    (AreRows-pushed inside.lanes x lost (list_of inside) c.args.reason inside.words.items invariant.few_lanes.1 in_words (omega arith) within invariant.alive) in
+    let list : entries_of c.push_reserved.new.self.items ≡ removal_list inside ++ as_entry (pair, c.args.reason) ∷ [] = ap entries_of c.push_reserved.ensures.items ∙ entries_of-push inside.entries.items _ in
+    let rows = subst (λ es. AreRows inside.lanes (λ p. not (has_entry (removal_list inside ++ es) p)) (set inside.words.items x (bit_and (get_or inside.words.items x 0) (bit_not w64 lost)))) (entries_in-one inside.lanes x lane c.args.reason low)
+    (AreRows-pushed inside.lanes x lost (removal_list inside) c.args.reason inside.words.items invariant.few_lanes.1 in_words (omega arith) within invariant.alive) in
     record {
-      placed = rw list (IsPlaced-push (inside.rows * inside.lanes) (list_of inside) (entry_of (pair, c.args.reason)) invariant.placed (pair_below inside.rows inside.lanes x lane row in_row) alive);
+      placed = rw list (IsPlaced-push (inside.rows * inside.lanes) (removal_list inside) (as_entry (pair, c.args.reason)) invariant.placed (pair_below inside.rows inside.lanes x lane row in_row) alive);
       stamped = rw c.clear.ensures.items (λ p h. absurd (omega arith));
       alive = rw (list, read) rows;
       few_lanes = invariant.few_lanes;

@@ -3,7 +3,7 @@ use Rattle.std.proofs.lemmas.List.{length-set, get_or_read}
 use Rattle.roman_model.specs.Arena.{Entry}
 use Rattle.roman_lanes.specs.Rows.{is_on}
 use Rattle.roman_order.specs.Board.{Board, entries_in, has_entry}
-use Rattle.roman_order.specs.Sound.{board_of, list_of, entries_of}
+use Rattle.roman_order.specs.Sound.{board_of, removal_list, entries_of}
 use Rattle.roman_order.proofs.Lanes.{AreRows-pushed}
 use Rattle.roman_order.proofs.Pushes.{IsPlaced-row, pair_below, room-row}
 use Rattle.roman_order.proofs.order.Order.push_lanes.Goals as goal
@@ -15,7 +15,7 @@ write_lanes-requires c =
     let row : c.args.x < inside.rows = omega (arith, c.requires.row, ap (λ (b : Board). b.rows) c.self.view_is) in
     let within : (lane : ℕ) → is_on c.args.lost lane ≡ true → lane < inside.lanes = λ lane t. omega (arith, c.requires.within lane t, ap (λ (b : Board). b.lanes) c.self.view_is) in
     let alive = subst (λ (b : Board). (lane : ℕ) → is_on c.args.lost lane ≡ true → has_entry b.list (c.args.x * b.lanes + lane) ≡ false) (sym c.self.view_is) c.requires.alive in
-    let placed = IsPlaced-row inside.rows inside.lanes c.args.x c.args.lost c.args.reason (list_of inside) row within alive invariant.placed in
+    let placed = IsPlaced-row inside.rows inside.lanes c.args.x c.args.lost c.args.reason (removal_list inside) row within alive invariant.placed in
     record {
       room = omega (arith, room-row (inside.rows * inside.lanes) inside.lanes c.args.x c.args.lost c.args.reason inside.entries.items placed, invariant.room, invariant.entries_room);
       few = λ lane t. omega (arith, pair_below inside.rows inside.lanes c.args.x lane row (within lane t), invariant.room, invariant.few);
@@ -31,11 +31,11 @@ invariant_of-self c =
     let read : c.index_mut.result.now ≡ get_or inside.words.items x 0 = get_or_read inside.words.items x c.index_mut.result.now in_words c.index_mut.ensures.value 0 in
     let within : (lane : ℕ) → is_on c.args.lost lane ≡ true → lane < inside.lanes = λ lane t. omega (arith, c.requires.within lane t, ap (λ (b : Board). b.lanes) c.self.view_is) in
     let alive = subst (λ (b : Board). (lane : ℕ) → is_on c.args.lost lane ≡ true → has_entry b.list (x * b.lanes + lane) ≡ false) (sym c.self.view_is) c.requires.alive in
-    let list : entries_of c.write_lanes.new.entries.items ≡ list_of inside ++ entries_in inside.lanes x c.args.lost c.args.reason = c.write_lanes.ensures.pushed in
+    let list : entries_of c.write_lanes.new.entries.items ≡ removal_list inside ++ entries_in inside.lanes x c.args.lost c.args.reason = c.write_lanes.ensures.pushed in
     record {
-      placed = rw list (IsPlaced-row inside.rows inside.lanes x c.args.lost c.args.reason (list_of inside) row within alive invariant.placed);
+      placed = rw list (IsPlaced-row inside.rows inside.lanes x c.args.lost c.args.reason (removal_list inside) row within alive invariant.placed);
       stamped = rw c.clear.ensures.items (λ p h. absurd (omega arith));
-      alive = rw (list, read) (AreRows-pushed inside.lanes x c.args.lost (list_of inside) c.args.reason inside.words.items invariant.few_lanes.1 in_words c.ranges.lost.fits within invariant.alive);
+      alive = rw (list, read) (AreRows-pushed inside.lanes x c.args.lost (removal_list inside) c.args.reason inside.words.items invariant.few_lanes.1 in_words c.ranges.lost.fits within invariant.alive);
       few_lanes = invariant.few_lanes;
       room = invariant.room;
       few = invariant.few;

@@ -3,7 +3,7 @@ use Rattle.std.proofs.Math.Nat.{mul-le-mul_left}
 use Rattle.std.proofs.lemmas.List.{length-map}
 use Rattle.roman_model.specs.Arena.{Entry}
 use Rattle.roman_order.specs.Board.{Board}
-use Rattle.roman_order.specs.Sound.{entries_of, list_of}
+use Rattle.roman_order.specs.Sound.{entries_of, removal_list}
 use Rattle.roman_order.proofs.Places.{length-le_from_apart}
 use Rattle.roman_order.proofs.Pushes.{entry_in}
 use Rattle.roman_order.proofs.order.Order.reset_to.Goals as goal
@@ -11,7 +11,7 @@ use Rattle.roman_order.proofs.order.Order.reset_to.Goals as goal
 pub rewrite-requires : goal.rewrite-requires
 rewrite-requires c =
     let caps : c.self.inside.room ≡ c.from.inside.room = ap (λ (b : Board). b.cap_pairs) c.self.view_is ∙ (c.requires.room ∙ sym (ap (λ (b : Board). b.cap_pairs) c.from.view_is)) in
-    let bound = length-le_from_apart (c.from.inside.rows * c.from.inside.lanes) (list_of c.from.inside) c.from.invariant.placed.apart c.from.invariant.placed.in_range in
+    let bound = length-le_from_apart (c.from.inside.rows * c.from.inside.lanes) (removal_list c.from.inside) c.from.invariant.placed.apart c.from.invariant.placed.in_range in
     omega (arith, bound, length-map c.from.inside.entries.items entry_in, ap length c.deref.ensures.value, c.from.invariant.room, c.self.invariant.entries_room)
 
 pub rewrite-requires-2 : goal.rewrite-requires-2

@@ -6,9 +6,9 @@ use Rattle.std.specs.Int.{w64, bit_not}
 use Rattle.roman_model.specs.Arena.{Entry}
 use Rattle.roman_lanes.specs.Rows.{is_on}
 use Rattle.roman_lanes.proofs.RowBits.{on_and}
-use Rattle.roman_order.specs.Board.{entry_of, lanes_in}
+use Rattle.roman_order.specs.Board.{as_entry, set_lanes}
 use Rattle.roman_order.specs.Sound.{entries_of}
-use Rattle.roman_order.proofs.Lanes.{without_lane, without_first, without_first-less, lanes_in-first, lanes_in-zero}
+use Rattle.roman_order.proofs.Lanes.{without_lane, without_first, without_first-less, set_lanes-first, set_lanes-zero}
 use Rattle.roman_order.proofs.Pushes.{entry_in, entries_of-push}
 use Rattle.roman_order.proofs.order.pushes.write_lanes.Goals as goal
 
@@ -19,16 +19,16 @@ pub push_reserved-requires : goal.push_reserved-requires
 push_reserved-requires c =
     let rest = c.rest.rest in
     let lane = c.lowest-lane.result in
-    let f : ℕ → Entry ℕ = λ l. entry_of (c.args.first + l, c.args.reason) in
+    let f : ℕ → Entry ℕ = λ l. as_entry (c.args.first + l, c.args.reason) in
     let is = without_first rest lane c.lowest-lane.ensures.within c.lowest-lane.ensures.on c.lowest-lane.ensures.first in
     omega (
       arith,
       ap length c.rest.invariant.pushed,
-      ap length (lanes_in-first rest (without_lane rest lane) lane is),
-      length-append (entries_of c.rest.entries.items) (map f (lanes_in rest)),
-      length-append (entries_of c.args.entries.now.items) (map f (lanes_in c.args.lost)),
-      length-map (lanes_in rest) f,
-      length-map (lanes_in c.args.lost) f,
+      ap length (set_lanes-first rest (without_lane rest lane) lane is),
+      length-append (entries_of c.rest.entries.items) (map f (set_lanes rest)),
+      length-append (entries_of c.args.entries.now.items) (map f (set_lanes c.args.lost)),
+      length-map (set_lanes rest) f,
+      length-map (set_lanes c.args.lost) f,
       length-map c.rest.entries.items entry_in,
       length-map c.args.entries.now.items entry_in,
       c.requires.room,
@@ -46,19 +46,19 @@ rest-preserved c =
     let rest = c.rest.rest in
     let lane = c.lowest-lane.result in
     let is = without_first rest lane c.lowest-lane.ensures.within c.lowest-lane.ensures.on c.lowest-lane.ensures.first in
-    let f : ℕ → Entry ℕ = λ l. entry_of (c.args.first + l, c.args.reason) in
+    let f : ℕ → Entry ℕ = λ l. as_entry (c.args.first + l, c.args.reason) in
     let before : List (Entry ℕ) = entries_of c.rest.entries.items in
     let now : entries_of c.push_reserved.new.self.items ≡ before ++ f lane ∷ [] = ap entries_of c.push_reserved.ensures.items ∙ entries_of-push c.rest.entries.items _ in
     record {
-      pushed = ap (λ L. L ++ map f (lanes_in (without_lane rest lane))) now
-          ∙ (append_assoc before (f lane ∷ []) (map f (lanes_in (without_lane rest lane)))
-          ∙ (ap (λ ls. before ++ map f ls) (sym (lanes_in-first rest (without_lane rest lane) lane is)) ∙ c.rest.invariant.pushed));
+      pushed = ap (λ L. L ++ map f (set_lanes (without_lane rest lane))) now
+          ∙ (append_assoc before (f lane ∷ []) (map f (set_lanes (without_lane rest lane)))
+          ∙ (ap (λ ls. before ++ map f ls) (sym (set_lanes-first rest (without_lane rest lane) lane is)) ∙ c.rest.invariant.pushed));
       few = λ j t. c.rest.invariant.few j (and_parts (is_on rest j) (is_on (bit_not w64 (1 * 2 ^ lane % 2 ^ 64)) j) (sym (on_and rest _ j) ∙ t)).0;
       room = c.push_reserved.ensures.capacity ∙ c.rest.invariant.room;
     }
 
 pub returns-clause-pushed : goal.returns-clause-pushed
 returns-clause-pushed c =
-    let f : ℕ → Entry ℕ = λ l. entry_of (c.args.first + l, c.args.reason) in
+    let f : ℕ → Entry ℕ = λ l. as_entry (c.args.first + l, c.args.reason) in
     let items : List (Entry ℕ) = entries_of c.rest.entries.items in
-    sym (ap (λ r. items ++ map f (lanes_in r)) c.rest-test.false ∙ (ap (λ ls. items ++ map f ls) lanes_in-zero ∙ append-nil items)) ∙ c.rest.invariant.pushed
+    sym (ap (λ r. items ++ map f (set_lanes r)) c.rest-test.false ∙ (ap (λ ls. items ++ map f ls) set_lanes-zero ∙ append-nil items)) ∙ c.rest.invariant.pushed

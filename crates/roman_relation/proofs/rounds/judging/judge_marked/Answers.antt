@@ -7,7 +7,7 @@ use Rattle.roman_lanes.specs.Flags.{has_flag}
 use Rattle.roman_relation.specs.Settled.{Begins}
 use Rattle.roman_relation.proofs.Playing.{round_marks}
 use Rattle.roman_order.specs.Board.{Board, is_marked}
-use Rattle.roman_relation.specs.Rounds.{IsDone}
+use Rattle.roman_relation.specs.Rounds.{IsPairJudged}
 use Rattle.roman_relation.proofs.Beginnings.{begins_itself, begins_on}
 use Rattle.roman_relation.proofs.Going.{shaped_same}
 use Rattle.roman_relation.proofs.Lanes.{same_rows, row_of}
@@ -63,7 +63,7 @@ rows-preserved g c =
               let row : p / n < b.rows = row_of n b.rows p some (omega (arith, pairs)) in
               let inside : x < mid.rows = omega (arith, row, e, ap (λ (d : Board). d.rows) next, ap (λ (d : Board). d.rows) c.rows.invariant.rest) in
               let place : x * n + p % n ≡ p = ap (λ y. y * n + p % n) (sym e) ∙ div-add-mod' p n in
-              inr (subst (IsDone A start new) place (c.judge_if.ensures.done start (p % n) (round_marks A n start old mid next (c.rows.invariant.round start r)) (mod_below p n some) inside))
+              inr (subst (IsPairJudged A start new) place (c.judge_if.ensures.done start (p % n) (round_marks A n start old mid next (c.rows.invariant.round start r)) (mod_below p n some) inside))
           | inr ne ↦ inl (ap (λ ms. has_flag ms (p / n)) marks ∙ (c.in-Some.ensures.others (p / n) ne ∙ still))
         ]
         | inr done ↦ inr (λ a. judged_on A start p a old new (c.rows.invariant.round start r).begun begins (done a))
@@ -91,5 +91,5 @@ returns-clause-done g c start p round l on =
     let n = g.J.Rules.lanes c.args.joint.now in
     elim (c.rows.invariant.done start p round l on) [
       | inl still ↦ absurd (both_ways (is_marked c.rows.order (p / n)) (c.in_default.ensures.none (p / n)) still)
-      | inr done ↦ subst (λ (d : Board). IsDone A start d p) (sym c.in_default.ensures.same) done
+      | inr done ↦ subst (λ (d : Board). IsPairJudged A start d p) (sym c.in_default.ensures.same) done
     ]

@@ -3,7 +3,7 @@ use Rattle.std.specs.Prelude.{count_by}
 use Rattle.roman_model.specs.Lists.{below}
 use Rattle.roman_order.specs.Board.{is_marked}
 use Rattle.roman_relation.specs.Settled.{Begins}
-use Rattle.roman_relation.specs.Rounds.{InRound, IsDone}
+use Rattle.roman_relation.specs.Rounds.{InRound, IsPairJudged}
 use Rattle.roman_relation.proofs.rounds.judging.judge_marked.Given as goal
 
 -- the pairs of rows that were marked are done, or their row is still marked
@@ -16,7 +16,7 @@ invariant-rows g l =
       begins : Begins l.fn.order.list l.order.list;
       rest : l.order ≡ record l.fn.order { list = l.order.list; marks = l.order.marks };
       done : (start p : ℕ) → InRound A n start l.fn.order → p < length A.nodes → is_marked l.fn.order (p / n) ≡ true →
-          (is_marked l.order (p / n) ≡ true) ⊎ IsDone A start l.order p;
+          (is_marked l.order (p / n) ≡ true) ⊎ IsPairJudged A start l.order p;
     }
 
 -- each turn takes a mark off

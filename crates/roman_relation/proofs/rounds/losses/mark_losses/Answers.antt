@@ -2,7 +2,7 @@ use Rattle.std.proofs.Common.{◌≡◌, ℕ, ◌+◌, ◌<◌, take, drop, leng
 use Rattle.std.proofs.lemmas.List.{take_all}
 use Rattle.roman_model.specs.Arena.{Entry, fall}
 use Rattle.roman_model.proofs.WorkLemmas.{fall_append}
-use Rattle.roman_order.specs.Board.{Board, entry_of, has_entry}
+use Rattle.roman_order.specs.Board.{Board, as_entry, has_entry}
 use Rattle.roman_relation.proofs.Beginnings.{listed_is}
 use Rattle.roman_relation.proofs.Marks.{noted_more, entry_listed, fall_more}
 use Rattle.roman_relation.proofs.rounds.losses.mark_losses.Goals as goal
@@ -18,13 +18,13 @@ loop-i-preserved-then-p-first g c =
     let d = c.loop-i.order in
     let p = c.entry-p.result.0 in
     let same : d.list ≡ b.list = ap (λ (y : Board). y.list) c.loop-i.invariant.rest in
-    let listed = entry_listed A c.known.ensures d.list c.loop-i.i (entry_of c.entry-p.result) c.entry-p.ensures in
+    let listed = entry_listed A c.known.ensures d.list c.loop-i.i (as_entry c.entry-p.result) c.entry-p.ensures in
     let pair : p < length A.nodes = omega (arith, c.len-i-end.ensures.in_range p (sym (ap (λ L. has_entry L p) same) ∙ (sym (listed_is A c.known.ensures d.list p) ∙ listed)), c.requires.shaped.pairs) in
     record {
-      marking = noted_more A c.known.ensures n c.args.start c.loop-i.i d (entry_of c.entry-p.result) c.entry-p.ensures (c.loop-i.invariant.row p pair c.if-first-p.true (omega (arith, c.if-p-first.true, c.lanes-lanes.ensures.value)) listed) c.loop-i.invariant.marking;
+      marking = noted_more A c.known.ensures n c.args.start c.loop-i.i d (as_entry c.entry-p.result) c.entry-p.ensures (c.loop-i.invariant.row p pair c.if-first-p.true (omega (arith, c.if-p-first.true, c.lanes-lanes.ensures.value)) listed) c.loop-i.invariant.marking;
       row = c.loop-i.invariant.row;
       rest = c.loop-i.invariant.rest;
-      cost = omega (arith, c.loop-i.invariant.cost, fall_more A d.list c.loop-i.i (entry_of c.entry-p.result) c.entry-p.ensures);
+      cost = omega (arith, c.loop-i.invariant.cost, fall_more A d.list c.loop-i.i (as_entry c.entry-p.result) c.entry-p.ensures);
     }
 
 pub mark_loss-first-requires-clause-pair : goal.mark_loss-first-requires-clause-pair
@@ -33,12 +33,12 @@ mark_loss-first-requires-clause-pair g c =
     let d = c.loop-i.order in
     let p = c.entry-p.result.0 in
     let same : d.list ≡ c.args.order.now.list = ap (λ (y : Board). y.list) c.loop-i.invariant.rest in
-    let listed = entry_listed A c.known.ensures d.list c.loop-i.i (entry_of c.entry-p.result) c.entry-p.ensures in
+    let listed = entry_listed A c.known.ensures d.list c.loop-i.i (as_entry c.entry-p.result) c.entry-p.ensures in
     omega (arith, c.len-i-end.ensures.in_range p (sym (ap (λ L. has_entry L p) same) ∙ (sym (listed_is A c.known.ensures d.list p) ∙ listed)), c.requires.shaped.pairs)
 
 pub mark_loss-first-requires-clause-listed : goal.mark_loss-first-requires-clause-listed
 mark_loss-first-requires-clause-listed g c =
-    entry_listed (g.J.Rules.arena c.args.joint.now) c.known.ensures c.loop-i.order.list c.loop-i.i (entry_of c.entry-p.result) c.entry-p.ensures
+    entry_listed (g.J.Rules.arena c.args.joint.now) c.known.ensures c.loop-i.order.list c.loop-i.i (as_entry c.entry-p.result) c.entry-p.ensures
 
 pub loop-i-preserved : goal.loop-i-preserved
 loop-i-preserved g c =
@@ -47,7 +47,7 @@ loop-i-preserved g c =
     let b = c.args.order.now in
     let d = c.loop-i.order in
     let new = c.mark_loss-first.new.order in
-    let x : Entry ℕ = entry_of c.entry-p.result in
+    let x : Entry ℕ = as_entry c.entry-p.result in
     let same : new.list ≡ d.list = ap (λ (y : Board). y.list) c.mark_loss-first.ensures.rest in
     let entry : slice_get new.list c.loop-i.i ≡ Some x = ap (λ L. slice_get L c.loop-i.i) same ∙ c.entry-p.ensures in
     let fell = fall_more A d.list c.loop-i.i x c.entry-p.ensures in

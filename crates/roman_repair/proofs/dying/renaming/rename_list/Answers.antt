@@ -7,7 +7,7 @@ use Rattle.roman_model.proofs.Lists.{length-below}
 use Rattle.roman_model.proofs.NumberedChanges.{rename_numbers}
 use Rattle.roman_radix.specs.Rows.{lanes_of}
 use Rattle.roman_joint.specs.NamedSys.{system_of}
-use Rattle.roman_order.specs.Board.{Board, entry_of}
+use Rattle.roman_order.specs.Board.{Board, as_entry}
 use Rattle.roman_relation.proofs.Relating.{listed_numbers}
 use Rattle.roman_repair.specs.Deaths.{list_with}
 use Rattle.roman_repair.proofs.DeathStates.{seat_in_sizes}
@@ -36,12 +36,12 @@ waiting-init c =
 
 pub rename_entry-requires-clause-pair : goal.rename_entry-requires-clause-pair
 rename_entry-requires-clause-pair c =
-    c.waiting.invariant.waiting (entry_of (c.in-Some.p, c.in-Some.reason)) (subst (λ W. IsIn (entry_of (c.in-Some.p, c.in-Some.reason)) W) (sym c.in-Some.ensures.first) (inl refl))
+    c.waiting.invariant.waiting (as_entry (c.in-Some.p, c.in-Some.reason)) (subst (λ W. IsIn (as_entry (c.in-Some.p, c.in-Some.reason)) W) (sym c.in-Some.ensures.first) (inl refl))
 
 pub waiting-preserved : goal.waiting-preserved
 waiting-preserved c =
     let n = sizes_of (system_of c.args.joint.now) in
-    let x = entry_of (c.in-Some.p, c.in-Some.reason) in
+    let x = as_entry (c.in-Some.p, c.in-Some.reason) in
     let mid = c.next_waiting.new.self in
     let new = c.rename_entry.new.order in
     let list : mid.list ≡ c.waiting.order.list = ap (λ (y : Board). y.list) c.next_waiting.ensures.rest in

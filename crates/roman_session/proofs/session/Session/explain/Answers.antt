@@ -2,8 +2,8 @@ use Rattle.std.proofs.Common.{◌≡◌, ℕ, List, sym, ap, ◌∙◌, subst}
 use Rattle.roman_model.specs.Explanation.{explain_text}
 use Rattle.roman_model.specs.Numbers.{sizes_of, number}
 use Rattle.roman_io.specs.Sink.{Puts}
-use Rattle.roman_joint.specs.Names.{names_of}
-use Rattle.roman_session.specs.Situations.{Situation, system_of}
+use Rattle.roman_joint.specs.Names.{names_in}
+use Rattle.roman_session.specs.Situations.{Situation, present_system}
 use Rattle.roman_session.specs.Layout.{situation_in}
 use Rattle.roman_session.proofs.SituationLemmas.{situation_known, parts_shown, here_pair, unrelated_there}
 use Rattle.roman_session.proofs.session.Session.explain.Goals as goal
@@ -19,9 +19,9 @@ returns-clause-puts g c =
     let s = c.args.self.now in
     let a = c.self.inside in
     let t = situation_in a in
-    let here : c.here-here.result ≡ number (sizes_of (system_of t)) t.here =
-    c.here-here.ensures.number ∙ ap (λ (s : Situation). number (sizes_of (system_of s)) s.here) (sym c.self.view_is) in
+    let here : c.here-here.result ≡ number (sizes_of (present_system t)) t.here =
+    c.here-here.ensures.number ∙ ap (λ (s : Situation). number (sizes_of (present_system s)) s.here) (sym c.self.view_is) in
     let same =
-    ap (explain_text (system_of t) (names_of t.parts) t.list) (here_pair t c.here-here.result c.self.invariant.known here)
-    ∙ ap (λ (s : Situation). explain_text (system_of s) (names_of s.parts) s.list s.here) c.self.view_is in
+    ap (explain_text (present_system t) (names_in t.parts) t.list) (here_pair t c.here-here.result c.self.invariant.known here)
+    ∙ ap (λ (s : Situation). explain_text (present_system s) (names_in s.parts) s.list s.here) c.self.view_is in
     subst (λ (text : List ℕ). Puts (g.O.Sink.written c.args.out.now) (g.O.Sink.written c.write_slice.new.out) text c.write_slice.result) same c.write_slice.ensures.text

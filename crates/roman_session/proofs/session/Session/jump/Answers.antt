@@ -4,7 +4,7 @@ use Rattle.roman_radix.specs.Radix.{moved}
 use Rattle.roman_text.specs.Replies.{reply_text}
 use Rattle.roman_text.specs.declared.replies.Reply.{Reply}
 use Rattle.roman_text.specs.declared.replies.Reply.TheVariants as reply
-use Rattle.roman_session.specs.Situations.{Situation, system_of}
+use Rattle.roman_session.specs.Situations.{Situation, present_system}
 use Rattle.roman_session.specs.Steps.{Does, Jumps}
 use Rattle.roman_session.specs.declared.events.Jump.{Jump}
 use Rattle.roman_session.specs.declared.phase.Phase.{Phase}
@@ -21,8 +21,8 @@ move_to-requires-clause-pair c =
     let is = situation_known a s c.move_to.invariant c.move_to.view_is in
     let t = ap (λ (s : Situation). s.here.t) c.move_to.view_is in
     let e = ap (λ (s : Situation). s.here.e) c.move_to.view_is in
-    subst (λ (t : ℕ). IsPair (system_of s) (moved s.here t a.env x.seat x.state)) (sym t)
-    (subst (λ (e : ℕ). IsPair (system_of s) (moved s.here s.here.t e x.seat x.state)) (sym e) (jumped_pair s x.seat x.state is c.in-Ok.ensures.seat c.in-Ok.ensures.state))
+    subst (λ (t : ℕ). IsPair (present_system s) (moved s.here t a.env x.seat x.state)) (sym t)
+    (subst (λ (e : ℕ). IsPair (present_system s) (moved s.here s.here.t e x.seat x.state)) (sym e) (jumped_pair s x.seat x.state is c.in-Ok.ensures.seat c.in-Ok.ensures.state))
 
 pub returns : goal.returns
 returns c =

@@ -2,7 +2,7 @@ use Rattle.std.proofs.Common.{◌++◌, [], length, refl}
 use Rattle.roman_model.proofs.SystemLemmas.{allowed_in_range}
 use Rattle.roman_text.specs.Report.{line_text}
 use Rattle.roman_text.specs.declared.report.ReportLine.TheVariants as line
-use Rattle.roman_session.specs.Situations.{system_of}
+use Rattle.roman_session.specs.Situations.{present_system}
 use Rattle.roman_session.specs.Serving.{seats_set, served_text}
 use Rattle.roman_text.proofs.Filling.{fill_behind, fill_more, fill_failed, fill_last}
 use Rattle.roman_session.proofs.LineLemmas.{offer_line_is}
@@ -12,7 +12,7 @@ use Rattle.roman_session.proofs.session.Session.push_offer.Goals as goal
 pub action_name-requires : goal.action_name-requires
 action_name-requires g c =
     let s = c.args.self.now in
-    allowed_in_range (system_of s) s.here c.args.a c.known.ensures.parts.system c.requires.1
+    allowed_in_range (present_system s) s.here c.args.a c.known.ensures.parts.system c.requires.1
 
 pub returns-in-Err-clause-gathers : goal.returns-in-Err-clause-gathers
 returns-in-Err-clause-gathers g c =

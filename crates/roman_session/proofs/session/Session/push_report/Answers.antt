@@ -1,7 +1,7 @@
 use Rattle.std.proofs.Common.{◌++◌, [], ◌∷◌, refl}
 use Rattle.roman_model.specs.Offers.{is_related}
 use Rattle.roman_text.specs.declared.report.ReportLine.TheVariants as line
-use Rattle.roman_session.specs.Situations.{system_of}
+use Rattle.roman_session.specs.Situations.{present_system}
 use Rattle.roman_session.specs.Reports.{service_lines, offer_lines, lines_text}
 use Rattle.roman_text.proofs.Filling.{fill_behind, fill_more, fill_failed, fill_last}
 use Rattle.roman_session.proofs.LineLemmas.{report_is}
@@ -10,7 +10,7 @@ use Rattle.roman_session.proofs.session.Session.push_report.Goals as goal
 pub returns-in-Err-clause-gathers : goal.returns-in-Err-clause-gathers
 returns-in-Err-clause-gathers g c =
     let s = c.args.self.now in
-    let related = is_related (system_of s) s.here in
+    let related = is_related (present_system s) s.here in
     let all = report_is s.parts s.here c.head_lines.result related c.head_lines.ensures refl in
     let head = lines_text c.head_lines.result in
     let services = lines_text (service_lines s.parts.catalogue s.parts.seats s.here.bs) in
@@ -22,7 +22,7 @@ returns-in-Err-clause-gathers g c =
 pub returns-in-Err-push_services-clause-gathers : goal.returns-in-Err-push_services-clause-gathers
 returns-in-Err-push_services-clause-gathers g c =
     let s = c.args.self.now in
-    let related = is_related (system_of s) s.here in
+    let related = is_related (present_system s) s.here in
     let all = report_is s.parts s.here c.head_lines.result related c.head_lines.ensures refl in
     let head = lines_text c.head_lines.result in
     let services = lines_text (service_lines s.parts.catalogue s.parts.seats s.here.bs) in

@@ -1,7 +1,7 @@
 use Rattle.std.proofs.Common.{◌<◌, ℕ, slice_index, sym, ap, ◌∙◌, subst, arith}
 use Rattle.std.proofs.lemmas.List.{get_or_read}
 use Rattle.roman_generator.proofs.MoveLemmas.{state_within}
-use Rattle.roman_session.specs.Situations.{Situation, system_of}
+use Rattle.roman_session.specs.Situations.{Situation, present_system}
 use Rattle.roman_session.proofs.SituationLemmas.{situation_known, state_there}
 use Rattle.roman_session.proofs.session.Session.state.Goals as goal
 
@@ -23,4 +23,4 @@ returns-clause-within c = λ seat seated.
     let value =
     get_or_read a.states.items _ _ (state_there a s c.args.k c.self.invariant c.self.view_is c.requires) c.index.ensures 0
     ∙ ap (λ (s : Situation). slice_index s.here.bs c.args.k) c.self.view_is in
-    subst (λ (n : ℕ). n < seat.beh.states) (sym value) (state_within (system_of s) s.here c.args.k seat (situation_known a s c.self.invariant c.self.view_is).here seated)
+    subst (λ (n : ℕ). n < seat.beh.states) (sym value) (state_within (present_system s) s.here c.args.k seat (situation_known a s c.self.invariant c.self.view_is).here seated)

@@ -2,9 +2,9 @@ use Rattle.std.proofs.Common.{Bool, not, refl, subst}
 use Rattle.roman_model.specs.Explanation.{explain_text}
 use Rattle.roman_text.specs.Replies.{reply_text}
 use Rattle.roman_text.specs.declared.replies.Reply.TheVariants as reply
-use Rattle.roman_joint.specs.Names.{names_of}
-use Rattle.roman_session.specs.Situations.{system_of}
-use Rattle.roman_session.specs.Rulings.{check, unexplained}
+use Rattle.roman_joint.specs.Names.{names_in}
+use Rattle.roman_session.specs.Situations.{present_system}
+use Rattle.roman_session.specs.Rulings.{demand, unexplained}
 use Rattle.roman_session.specs.Steps.{Does, Explains}
 use Rattle.roman_session.proofs.session.Session.take_question.Goals as goal
 
@@ -12,10 +12,10 @@ pub returns-then-composes-clause-step : goal.returns-then-composes-clause-step
 unfolding unexplained
 returns-then-composes-clause-step c =
     let s = c.args.self.now in
-    subst (λ (r : Bool). Does Explains s (check (not r) reply.ErrorRelated) (reply_text reply.ErrorRelated) s) c.if-composes.ensures (refl, refl)
+    subst (λ (r : Bool). Does Explains s (demand (not r) reply.ErrorRelated) (reply_text reply.ErrorRelated) s) c.if-composes.ensures (refl, refl)
 
 pub returns-clause-step : goal.returns-clause-step
 unfolding unexplained
 returns-clause-step c =
     let s = c.args.self.now in
-    subst (λ (r : Bool). Does Explains s (check (not r) reply.ErrorRelated) (explain_text (system_of s) (names_of s.parts) s.list s.here) s) c.if-composes.ensures (refl, refl)
+    subst (λ (r : Bool). Does Explains s (demand (not r) reply.ErrorRelated) (explain_text (present_system s) (names_in s.parts) s.list s.here) s) c.if-composes.ensures (refl, refl)
