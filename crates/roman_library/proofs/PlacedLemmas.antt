@@ -78,10 +78,10 @@ module _ (document : List ℕ) (d : Data) (version limit : ℕ) (env : NamedEnv)
 
 -- the targets of a document, combined, are its parts
 pub several_parts : (document : List ℕ) (d : Data) (version : ℕ) (env : NamedEnv) (catalogue others : List NamedBeh) (targets named : List Named) (read : Result Combined PartError) (given : Result Combined LoadError)
-    → version ≡ 3 → others ≡ catalogue → named ≡ targets → Gives combining.plain read (combined_of env others named) → Places document part.System read given
+    → version ≡ 3 → others ≡ catalogue → named ≡ targets → Gives combining.plain_combined read (combined_of env others named) → Places document part.System read given
     → (o : Option Texts) → IfSome o (λ texts. targets_in texts document env d ≡ Ok targets)
-    → IfSome o (λ texts. Loads combining.plain given (parts_in texts document version env catalogue d))
+    → IfSome o (λ texts. Loads combining.plain_combined given (parts_in texts document version env catalogue d))
 unfolding parts_in
 several_parts document d version env catalogue others targets named read given third same all gives places None there = tt
 several_parts document d version env catalogue others targets named read given third same all gives places (Some texts) there =
-    rw (third, there, ← same, ← all) (placed_loads combining.plain document part.System read (combined_of env others named) given gives places)
+    rw (third, there, ← same, ← all) (placed_loads combining.plain_combined document part.System read (combined_of env others named) given gives places)

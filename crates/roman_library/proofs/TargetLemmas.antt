@@ -33,13 +33,13 @@ pub targets_known : (env : NamedEnv) (targets : List Named) → All (λ named. I
 targets_known env targets all k d l = target_known env (get_or targets k d) (all k d l)
 
 -- what is made, or why it isn't
-pub made_gives : (env : NamedEnv) (catalogue : List NamedBeh) (targets : List Named) (made : Combined) → combining.plain made ≡ combined_parts env catalogue targets → forbidding env targets ≡ None →
-    combined_of env catalogue targets ≡ Ok (combining.plain made)
+pub made_gives : (env : NamedEnv) (catalogue : List NamedBeh) (targets : List Named) (made : Combined) → combining.plain_combined made ≡ combined_parts env catalogue targets → forbidding env targets ≡ None →
+    combined_of env catalogue targets ≡ Ok (combining.plain_combined made)
 unfolding combined_of
 made_gives env catalogue targets made is allowed = rw allowed (ap Ok (sym is))
 
 pub broken_gives : (env : NamedEnv) (catalogue : List NamedBeh) (targets : List Named) (why : CombineError) → Keeps (Err why) (forbidding env targets) →
-    Gives combining.plain (Err (broken_rule why)) (combined_of env catalogue targets)
+    Gives combining.plain_combined (Err (broken_rule why)) (combined_of env catalogue targets)
 unfolding combined_of
 broken_gives env catalogue targets error.States h = rw h refl
 broken_gives env catalogue targets error.Actions h = rw h refl

@@ -22,7 +22,7 @@ use Rattle.roman_parts.proofs.WrittenLemmas.{is_place, name_said, parts_said, ge
 use Rattle.roman_library.specs.Documents.{version_of, limit_in, limit_of, file_of, part_of, new_name_of, environment_in, new_behaviour_of, behaviour_in, catalogue_in, target_in, parts_in, behaviour_place, state_of, frozen_of, rests_of, service_of, services_of, library_in}
 use Rattle.roman_library.specs.Library.{PlainLibrary, IsService, behaviour_name, service_name}
 use Rattle.roman_library.specs.Refusals.{placed}
-use Rattle.roman_library.specs.Written.{states_at, service_value, library_value, IsSayable, LibrariesAreSaid}
+use Rattle.roman_library.specs.Written.{catalogue_states, service_value, library_value, IsSayable, LibrariesAreSaid}
 use Rattle.roman_library.specs.declared.library.Service.{Service}
 use Rattle.roman_library.specs.declared.refusal.Part.{Part}
 use Rattle.roman_library.specs.declared.refusal.Part.TheVariants as part
@@ -86,7 +86,7 @@ there_is [] k h = absurd (omega (arith, h))
 there_is (x ∷ xs) zero h = (x, refl)
 there_is (x ∷ xs) (suc k) h = there_is xs k (omega (arith, h))
 
-states_there : (catalogue : List NamedBeh) (k : ℕ) (b : NamedBeh) → slice_get catalogue k ≡ Some b → states_at catalogue k ≡ b.states
+states_there : (catalogue : List NamedBeh) (k : ℕ) (b : NamedBeh) → slice_get catalogue k ≡ Some b → catalogue_states catalogue k ≡ b.states
 states_there [] k b h = cc
 states_there (c ∷ cs) zero b h = let same : c ≡ b = cc in ap (λ (b : NamedBeh). b.states) same
 states_there (c ∷ cs) (suc k) b h = states_there cs k b h

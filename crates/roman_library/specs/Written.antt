@@ -13,8 +13,8 @@ use Rattle.roman_library.specs.declared.library.Service.{Service}
 -- ---- the writer
 
 -- the names of the states of the behaviour at place k
-abbrev pub states_at : List NamedBeh → ℕ → List (List ℕ)
-states_at catalogue k = slice_index_or (map (λ b. b.states) catalogue) k []
+abbrev pub catalogue_states : List NamedBeh → ℕ → List (List ℕ)
+catalogue_states catalogue k = slice_index_or (map (λ b. b.states) catalogue) k []
 
 abbrev pub service_value : List NamedBeh → Service → Data
 service_value catalogue x =
@@ -22,7 +22,7 @@ service_value catalogue x =
     (member (codes "frozen") (boolean x.frozen)
     (member (codes "name") (string x.name)
     (member (codes "rests") (boolean x.rests)
-    (member (codes "state") (place_value (states_at catalogue x.behaviour) x.state)
+    (member (codes "state") (place_value (catalogue_states catalogue x.behaviour) x.state)
     no_members)))))
 
 -- a document of version 2

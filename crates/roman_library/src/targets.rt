@@ -46,8 +46,8 @@ pub(crate) fn load_parts<F: Shelf>(
     requires environment { IsEnv environment.env }
     requires catalogue { IsCatalogue environment catalogue.items }
     ensures parts { IfSome (F.texts shelf.old)
-        (λ texts. Loads combining.plain result (parts_in texts document.now version environment catalogue.items (view v.now))) }
-    ensures known { IfOk result (λ made. ArePartsOf catalogue.items (combining.plain made)) }
+        (λ texts. Loads combining.plain_combined result (parts_in texts document.now version environment catalogue.items (view v.now))) }
+    ensures known { IfOk result (λ made. ArePartsOf catalogue.items (combining.plain_combined made)) }
     ensures texts { F.texts shelf.new ≡ F.texts shelf.old }
     ensures cause { CausesLoad (F.faults shelf.old) (F.faults shelf.new) result }
 {
@@ -181,8 +181,8 @@ fn combine_targets(
     requires catalogue { IsCatalogue environment.now catalogue.now }
     requires targets { All (λ named. IsTarget environment.now named.target) targets.now }
     requires count { (2 ≤ length targets.now) × (length targets.now ≤ 4) }
-    ensures parts { Gives combining.plain result (combined_of environment.now catalogue.now targets.now) }
-    ensures known { IfOk result (λ made. ArePartsOf catalogue.now (combining.plain made)) }
+    ensures parts { Gives combining.plain_combined result (combined_of environment.now catalogue.now targets.now) }
+    ensures known { IfOk result (λ made. ArePartsOf catalogue.now (combining.plain_combined made)) }
 {
     match combine(alloc, environment, catalogue, targets) {
         Ok(made) => Ok(made),

@@ -8,8 +8,8 @@ use Rattle.roman_model.specs.declared.limits.TheConstants.{MAX_STATES, MAX_ACTIO
 use Rattle.roman_model.specs.declared.request.Request.{Request}
 use Rattle.roman_model.proofs.Lists.{length-below}
 use Rattle.roman_parts.specs.Named.{NamedEnv, NamedBeh, NamedTarget}
-use Rattle.roman_multi.specs.Combining.{PlainCombined, machines, state_names, request_names, requests_in, has_many_states, has_bad_count, has_long_name, has_one_name, forbidding, Keeps, combined_parts, combined_behaviour}
-use Rattle.roman_multi.specs.Lists.{AreNames}
+use Rattle.roman_multi.specs.Combining.{PlainCombined, machines, combined_state_names, request_names, requests_in, has_many_states, has_bad_count, has_long_name, has_one_name, forbidding, Keeps, combined_parts, combined_behaviour}
+use Rattle.roman_multi.specs.Lists.{AreCombinedNames}
 use Rattle.roman_multi.specs.declared.parts.Named.{Named}
 use Rattle.roman_multi.specs.declared.error.CombineError.{CombineError}
 use Rattle.roman_multi.specs.declared.error.CombineError.TheVariants as error
@@ -38,7 +38,7 @@ unfolding forbidding
 forbids_none env targets few good short apart = rw (few, good, short, apart) refl
 
 -- an error of the names is the first rule that forbids them
-pub names_forbid : (env : NamedEnv) (targets : List Named) (why : CombineError) → IsFalse (has_many_states targets) → IsFalse (has_bad_count (requests_in env targets)) → AreNames env targets (Err why) →
+pub names_forbid : (env : NamedEnv) (targets : List Named) (why : CombineError) → IsFalse (has_many_states targets) → IsFalse (has_bad_count (requests_in env targets)) → AreCombinedNames env targets (Err why) →
     Keeps (Err why) (forbidding env targets)
 names_forbid env targets error.States few good h = absurd h
 names_forbid env targets error.Actions few good h = absurd h
@@ -59,7 +59,7 @@ few_states targets few = le-ltb MAX_STATES (product_of (target_sizes (machines t
 pub many_states : (targets : List Named) → (product_of (target_sizes (machines targets)) ≤ MAX_STATES → ⊥) → IsTrue (has_many_states targets)
 many_states targets many = lt-ltb MAX_STATES (product_of (target_sizes (machines targets))) (omega arith)
 
-pub state_count : (targets : List Named) → length (state_names targets) ≡ product_of (target_sizes (machines targets))
+pub state_count : (targets : List Named) → length (combined_state_names targets) ≡ product_of (target_sizes (machines targets))
 state_count targets = length-map (below (product_of (target_sizes (machines targets)))) _ ∙ length-below (product_of (target_sizes (machines targets)))
 
 pub request_count : (env : NamedEnv) (targets : List Named) → length (request_names env targets) ≡ length (requests_in env targets)
@@ -77,7 +77,7 @@ parts environment catalogue target = record { environment = environment; catalog
 
 -- parts with those names and records are the combined parts
 pub parts_are : (env : NamedEnv) (catalogue : List NamedBeh) (targets : List Named) (requests : List Request) (states actions : List (List ℕ)) (environment : NamedEnv) (made : List NamedBeh) (target : NamedTarget) →
-    requests ≡ requests_in env targets → states ≡ state_names targets → actions ≡ request_names env targets →
+    requests ≡ requests_in env targets → states ≡ combined_state_names targets → actions ≡ request_names env targets →
     environment.env ≡ combined_env requests env.env → (environment.states ≡ env.states) × (environment.actions ≡ actions) →
     made ≡ map (combined_behaviour env requests) catalogue →
     target.states ≡ states → (target.env_states ≡ env.env.states) × (target.actions ≡ length requests) → target.beh ≡ combined_target env.env.states requests (machines targets) →

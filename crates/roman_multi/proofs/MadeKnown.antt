@@ -11,7 +11,7 @@ use Rattle.roman_model.proofs.CombinedLaws.{combined_system}
 use Rattle.std.proofs.lemmas.Bool.{ltb-false}
 use Rattle.roman_parts.specs.Named.{NamedEnv, NamedBeh, IsOver}
 use Rattle.roman_parts.proofs.NormalLemmas.{IsOver-states, IsOver-start}
-use Rattle.roman_multi.specs.Combining.{IsKnown, machines, requests_in, request_names, state_names, has_many_states, has_bad_count, has_long_name, has_one_name, forbidding, combined_parts, combined_behaviour}
+use Rattle.roman_multi.specs.Combining.{IsKnown, machines, requests_in, request_names, combined_state_names, has_many_states, has_bad_count, has_long_name, has_one_name, forbidding, combined_parts, combined_behaviour}
 use Rattle.roman_multi.specs.declared.parts.Named.{Named}
 use Rattle.roman_multi.specs.declared.error.CombineError.{CombineError}
 use Rattle.roman_multi.specs.declared.error.CombineError.TheVariants as error

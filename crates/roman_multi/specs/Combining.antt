@@ -21,8 +21,8 @@ pub record PlainCombined : Type 0 where
   pub target : NamedTarget
 
 -- the combined parts without where they lie in memory
-abbrev pub plain : Combined → PlainCombined
-plain made = record { environment = made.environment; catalogue = made.catalogue.items; target = made.target }
+abbrev pub plain_combined : Combined → PlainCombined
+plain_combined made = record { environment = made.environment; catalogue = made.catalogue.items; target = made.target }
 
 -- a target's name
 abbrev pub target_name : Named → List ℕ
@@ -51,8 +51,8 @@ names_at (named ∷ targets) [] = []
 names_at (named ∷ targets) (t ∷ ts) = slice_index_or named.target.states t [] ∷ names_at targets ts
 
 -- the names of the combined states: each joins those of the targets' states
-abbrev pub state_names : List Named → List (List ℕ)
-state_names targets =
+abbrev pub combined_state_names : List Named → List (List ℕ)
+combined_state_names targets =
     map (λ t. joined (names_at targets (states_at (target_sizes (machines targets)) t))) (below (product_of (target_sizes (machines targets))))
 
 -- the name of a combined action: the action's, a dash, and that of the target that requests it
@@ -87,11 +87,11 @@ has_bad_count requests = is_empty requests || nat_lt MAX_ACTIONS (length request
 
 -- some combined name is too long
 abbrev pub has_long_name : NamedEnv → List Named → Bool
-has_long_name env targets = list_any is_long (state_names targets) || list_any is_long (request_names env targets)
+has_long_name env targets = list_any is_long (combined_state_names targets) || list_any is_long (request_names env targets)
 
 -- two combined states, or two combined actions, have one name
 abbrev pub has_one_name : NamedEnv → List Named → Bool
-has_one_name env targets = has_repeats (state_names targets) || has_repeats (request_names env targets)
+has_one_name env targets = has_repeats (combined_state_names targets) || has_repeats (request_names env targets)
 
 -- the first rule that forbids the combination
 unfoldable pub forbidding : NamedEnv → List Named → Option CombineError
@@ -129,7 +129,7 @@ combined_parts env catalogue targets = record {
   environment = record { states = env.states; actions = request_names env targets; env = combined_env (requests_in env targets) env.env };
   catalogue = map (combined_behaviour env (requests_in env targets)) catalogue;
   target = record {
-    states = state_names targets;
+    states = combined_state_names targets;
     env_states = env.env.states;
     actions = length (requests_in env targets);
     beh = combined_target env.env.states (requests_in env targets) (machines targets);

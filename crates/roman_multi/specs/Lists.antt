@@ -8,7 +8,7 @@ use Rattle.roman_model.specs.Combined.{uses, target_sizes}
 use Rattle.roman_model.specs.declared.request.Request.{Request}
 use Rattle.roman_read.specs.Names.{is_name_byte}
 use Rattle.roman_parts.specs.Named.{NamedEnv}
-use Rattle.roman_multi.specs.Combining.{state_names, request_names, has_repeats, has_long_name, has_one_name}
+use Rattle.roman_multi.specs.Combining.{combined_state_names, request_names, has_repeats, has_long_name, has_one_name}
 use Rattle.roman_multi.specs.declared.parts.Named.{Named}
 use Rattle.roman_multi.specs.declared.error.CombineError.{CombineError}
 use Rattle.roman_multi.specs.declared.error.CombineError.TheVariants as error
@@ -89,11 +89,11 @@ TablesNames names (Err error.Repeated) = IsTrue (has_repeats names)
 TablesNames names (Err error.Memory) = Unit {0}
 
 -- the combined names, which the rules on names allow; or the first of these rules that is broken; want of memory says nothing
-abbrev pub AreNames : NamedEnv → List Named → Result (List (List ℕ) × List (List ℕ)) CombineError → Type 0
-AreNames env targets (Ok names) =
-    (names.0 ≡ state_names targets) × (names.1 ≡ request_names env targets) × IsFalse (has_long_name env targets) × IsFalse (has_one_name env targets)
-AreNames env targets (Err error.States) = ⊥
-AreNames env targets (Err error.Actions) = ⊥
-AreNames env targets (Err error.LongName) = IsTrue (has_long_name env targets)
-AreNames env targets (Err error.Repeated) = IsFalse (has_long_name env targets) × IsTrue (has_one_name env targets)
-AreNames env targets (Err error.Memory) = Unit {0}
+abbrev pub AreCombinedNames : NamedEnv → List Named → Result (List (List ℕ) × List (List ℕ)) CombineError → Type 0
+AreCombinedNames env targets (Ok names) =
+    (names.0 ≡ combined_state_names targets) × (names.1 ≡ request_names env targets) × IsFalse (has_long_name env targets) × IsFalse (has_one_name env targets)
+AreCombinedNames env targets (Err error.States) = ⊥
+AreCombinedNames env targets (Err error.Actions) = ⊥
+AreCombinedNames env targets (Err error.LongName) = IsTrue (has_long_name env targets)
+AreCombinedNames env targets (Err error.Repeated) = IsFalse (has_long_name env targets) × IsTrue (has_one_name env targets)
+AreCombinedNames env targets (Err error.Memory) = Unit {0}

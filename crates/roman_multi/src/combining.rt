@@ -1,7 +1,7 @@
 //! The combination.
 ghost use Rattle.std.specs.Prelude.{◌≡◌, ◌<◌, ◌≤◌, length, All, IfOk};
-ghost use Rattle.roman_multi.specs.Combining.{IsBehaviourOf, IsKnown, IsOf, Keeps, combined_parts, forbidding, has_bad_count, machines, plain, request_names, requests_in, state_names};
-ghost use Rattle.roman_multi.specs.Lists.{AreNames, flat};
+ghost use Rattle.roman_multi.specs.Combining.{IsBehaviourOf, IsKnown, IsOf, Keeps, combined_parts, forbidding, has_bad_count, machines, plain_combined, request_names, requests_in, combined_state_names};
+ghost use Rattle.roman_multi.specs.Lists.{AreCombinedNames, flat};
 ghost use Rattle.roman_model.specs.Combined.{target_sizes};
 ghost use Rattle.roman_model.specs.Lists.{product_of};
 
@@ -32,7 +32,7 @@ pub fn combine(
     requires count { (2 ≤ length targets.now) × (length targets.now ≤ 4) }
     requires catalogue { All (IsBehaviourOf env.now) catalogue.now }
     requires targets { All (λ named. IsOf env.now named.target) targets.now }
-    ensures parts { IfOk result (λ made. plain made ≡ combined_parts env.now catalogue.now targets.now) }
+    ensures parts { IfOk result (λ made. plain_combined made ≡ combined_parts env.now catalogue.now targets.now) }
     ensures rules { Keeps result (forbidding env.now targets.now) }
 {
     let sizes = sizes_of(alloc, env, targets)?;
@@ -75,9 +75,9 @@ fn combine_parts(
     requires few { product_of (target_sizes (machines targets.now)) ≤ MAX_STATES }
     requires requests { requests.now ≡ requests_in env.now targets.now }
     requires some { (0 < length requests.now) × (length requests.now ≤ MAX_ACTIONS) }
-    requires states { states ≡ state_names targets.now }
+    requires states { states ≡ combined_state_names targets.now }
     requires actions { actions ≡ request_names env.now targets.now }
-    ensures { IfOk result (λ made. plain made ≡ combined_parts env.now catalogue.now targets.now) }
+    ensures { IfOk result (λ made. plain_combined made ≡ combined_parts env.now catalogue.now targets.now) }
 {
     let environment = combine_environment(alloc, env, requests, actions)?;
     let catalogue = combine_catalogue(alloc, env, catalogue, requests, &environment)?;
@@ -103,7 +103,7 @@ fn names_of(
     requires states { product_of (target_sizes (machines targets.now)) ≤ MAX_STATES }
     requires requests { requests.now ≡ requests_in env.now targets.now }
     requires actions { length requests.now ≤ MAX_ACTIONS }
-    ensures { AreNames env.now targets.now result }
+    ensures { AreCombinedNames env.now targets.now result }
 {
     let states = state_words(alloc, env, targets, shape)?;
     let actions = request_words(alloc, env, targets, requests)?;

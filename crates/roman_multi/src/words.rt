@@ -6,7 +6,7 @@ ghost use Rattle.roman_model.specs.Lists.{product_of};
 ghost use Rattle.roman_model.specs.Numbers.{states_at};
 ghost use Rattle.roman_model.specs.declared.limits.TheConstants.{MAX_STATES};
 ghost use Rattle.roman_read.specs.Names.{is_name_byte};
-ghost use Rattle.roman_multi.specs.Combining.{IsKnown, is_long, joined, machines, names_at, request_name, state_names};
+ghost use Rattle.roman_multi.specs.Combining.{IsKnown, is_long, joined, machines, names_at, request_name, combined_state_names};
 ghost use Rattle.roman_multi.specs.Lists.{flat, is_word};
 
 use crate::parts::Named;
@@ -66,7 +66,7 @@ pub(crate) fn state_words(
     requires some { (0 < length targets.now) × (length targets.now ≤ 4) }
     requires known { All (λ named. IsKnown env.now named.target) targets.now }
     requires shape { shape.now ≡ flat (target_sizes (machines targets.now)) }
-    ensures words { IfOk result (λ words. map (λ word. word.items) words.items ≡ state_names targets.now) }
+    ensures words { IfOk result (λ words. map (λ word. word.items) words.items ≡ combined_state_names targets.now) }
     ensures bytes { IfOk result (λ words. All (λ word. IsTrue (is_word word.items)) words.items) }
 {
     let mut words = Vec::new(alloc);

@@ -6,7 +6,7 @@ use Rattle.std.proofs.lemmas.List.Splits.{slice_split-cons_yes, slice_split-cons
 use Rattle.std.proofs.lemmas.List.Sums.{passes_at_first}
 use Rattle.std.proofs.Math.Dec.{ltb}
 use Rattle.std.specs.List.{slice_split, onto_first, position, position_or_len}
-use Rattle.roman_text.specs.Shapes.{is_blank, is_part, is_word, words_of}
+use Rattle.roman_text.specs.Shapes.{is_blank, is_part, has_bytes, words_of}
 
 -- ---- places in a list
 
@@ -40,7 +40,7 @@ some_step false m n i e h = absurd (cc)
 -- a blank at the front separates nothing
 words_of-blank : (byte : ℕ) (line : List ℕ) → is_blank byte ≡ true → words_of (byte ∷ line) ≡ words_of line
 unfolding words_of
-words_of-blank byte line e = ap (filter is_word) (slice_split-cons_yes is_blank byte line e)
+words_of-blank byte line e = ap (filter has_bytes) (slice_split-cons_yes is_blank byte line e)
 
 start_step : (b : Bool) (x : ℕ) (xs : List ℕ) (n : ℕ) → is_blank x ≡ b → words_of (drop n xs) ≡ words_of xs
     → words_of (drop (cond (not (not b)) (1 + n) 0) (x ∷ xs)) ≡ words_of (x ∷ xs)
@@ -66,7 +66,7 @@ no_words line h =
 record IsFront (line : List ℕ) (n : ℕ) : Type 0 where
   more : List (List ℕ)
   parts : slice_split is_blank line ≡ take n line ∷ more
-  words : filter is_word more ≡ words_of (drop n line)
+  words : filter has_bytes more ≡ words_of (drop n line)
 
 front_step : (b : Bool) (x : ℕ) (xs : List ℕ) (n : ℕ) → is_blank x ≡ b → IsFront xs n → IsFront (x ∷ xs) (cond (not b) (1 + n) 0)
 unfolding words_of
@@ -87,7 +87,7 @@ front_of : (line : List ℕ) → IsFront line (position_or_len is_blank line)
 front_of [] = record { more = []; parts = refl; words = sym words_of-nil }
 front_of (x ∷ xs) = front_step (is_blank x) x xs (position_or_len is_blank xs) refl (front_of xs)
 
-word_step : (b : Bool) (x : ℕ) (xs : List ℕ) (n : ℕ) → b ≡ false → is_word (take (cond (not b) (1 + n) 0) (x ∷ xs)) ≡ true
+word_step : (b : Bool) (x : ℕ) (xs : List ℕ) (n : ℕ) → b ≡ false → has_bytes (take (cond (not b) (1 + n) 0) (x ∷ xs)) ≡ true
 word_step b x xs n e = let next : 1 + n ≡ suc n = omega arith in rw (e, next)
 
 -- the word at the front of a line that begins with no blank
@@ -97,9 +97,9 @@ unfolding words_of
 word_at x xs e =
     let f = front_of (x ∷ xs) in
     let some = word_step (is_blank x) x xs (position_or_len is_blank xs) e in
-    ap (filter is_word) f.parts ∙ keeps (take (position_or_len is_blank (x ∷ xs)) (x ∷ xs)) f.more some
+    ap (filter has_bytes) f.parts ∙ keeps (take (position_or_len is_blank (x ∷ xs)) (x ∷ xs)) f.more some
     ∙ ap (λ (rest : List (List ℕ)). take (position_or_len is_blank (x ∷ xs)) (x ∷ xs) ∷ rest) f.words where
-      keeps : (word : List ℕ) (more : List (List ℕ)) → is_word word ≡ true → filter is_word (word ∷ more) ≡ word ∷ filter is_word more
+      keeps : (word : List ℕ) (more : List (List ℕ)) → has_bytes word ≡ true → filter has_bytes (word ∷ more) ≡ word ∷ filter has_bytes more
       keeps word more h = rw h
 
 word_in : (line : List ℕ) (x : ℕ) (xs : List ℕ) → line ≡ x ∷ xs → is_blank x ≡ false

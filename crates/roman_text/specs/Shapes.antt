@@ -35,13 +35,13 @@ abbrev pub is_part : ℕ → Bool
 is_part byte = not (is_blank byte)
 
 -- some bytes
-abbrev pub is_word : List ℕ → Bool
-is_word [] = false
-is_word (byte ∷ bytes) = true
+abbrev pub has_bytes : List ℕ → Bool
+has_bytes [] = false
+has_bytes (byte ∷ bytes) = true
 
 -- the words of a line: what stands between its blanks
 unfoldable pub words_of : List ℕ → List (List ℕ)
-words_of line = filter is_word (slice_split is_blank line)
+words_of line = filter has_bytes (slice_split is_blank line)
 
 -- a word that makes the line a comment
 abbrev pub is_comment : List ℕ → Bool

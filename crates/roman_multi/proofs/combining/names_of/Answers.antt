@@ -2,7 +2,7 @@ use Rattle.std.proofs.Common.{◌≡◌, ap, sym, ◌∙◌, length, arith}
 use Rattle.std.proofs.lemmas.List.{length-map}
 use Rattle.roman_model.specs.Lists.{below, product_of}
 use Rattle.roman_model.specs.Combined.{target_sizes}
-use Rattle.roman_multi.specs.Combining.{machines, state_names}
+use Rattle.roman_multi.specs.Combining.{machines, combined_state_names}
 use Rattle.roman_model.proofs.Lists.{length-below}
 use Rattle.roman_multi.proofs.MoveLemmas.{requests_in_range}
 use Rattle.roman_multi.proofs.combining.names_of.Goals as goal
@@ -15,7 +15,7 @@ request_words-requires-clause-actions c = λ k d l. (requests_in_range c.args.en
 
 pub table_of-requires-clause-few : goal.table_of-requires-clause-few
 table_of-requires-clause-few c =
-    let total : length (state_names c.args.targets.now) ≡ product_of (target_sizes (machines c.args.targets.now)) =
+    let total : length (combined_state_names c.args.targets.now) ≡ product_of (target_sizes (machines c.args.targets.now)) =
     length-map (below (product_of (target_sizes (machines c.args.targets.now)))) _ ∙ length-below (product_of (target_sizes (machines c.args.targets.now))) in
     let count : length c.deref-2.result.now ≡ product_of (target_sizes (machines c.args.targets.now)) =
     ap length c.deref-2.ensures.value ∙ sym (length-map c.in_ok-states.states.items (λ word. word.items)) ∙ ap length c.in_ok-states.ensures.words ∙ total in

@@ -20,8 +20,8 @@ build-requires-clause-names c =
     let seats : c.in_ok-seats.seats.items ≡ map seat_of_service library.services = c.in_ok-seats.ensures ∙ ap (map seat_of_service) c.deref.ensures.value in
     subst (λ (seats : List Seat). HasNoRepeats (map (λ seat. seat.name) seats)) (sym seats) (names_once library c.requires)
 
-pub start_pair_of-start-requires : goal.start_of-start-requires
-start_pair_of-start-requires c =
+pub start_of-start-requires : goal.start_of-start-requires
+start_of-start-requires c =
     let library = plain c.args.library in
     let seats : c.in_ok-seats.seats.items ≡ map seat_of_service library.services = c.in_ok-seats.ensures ∙ ap (map seat_of_service) c.deref.ensures.value in
     let joint : c.in-Ok.joint ≡ parts_of library = c.in-Ok.ensures.parts ∙ ap (λ (seats : List Seat). record (parts_of library) { seats = seats }) seats in

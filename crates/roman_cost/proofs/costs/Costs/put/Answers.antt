@@ -1,6 +1,6 @@
 use Rattle.std.proofs.Common.{◌≡◌, ◌<◌, None, refl, sym, subst}
 use Rattle.roman_cost.specs.Tables.{CostTable, listed_cost}
-use Rattle.roman_cost.proofs.CostLemmas.{HasCells-put}
+use Rattle.roman_cost.proofs.CostLemmas.{HoldsCosts-put}
 use Rattle.roman_cost.proofs.costs.Costs.put.Goals as goal
 
 pub invariant_of-self-2 : goal.invariant_of-self-2
@@ -11,4 +11,4 @@ invariant_of-self-2 c =
     let new : listed_cost t.listed.items c.args.item.behaviour c.args.item.action ≡ None =
     subst (λ (t : CostTable). listed_cost t.listed c.args.item.behaviour c.args.item.action ≡ None) (sym c.self.view_is) c.requires.new in
     rw c.in_ok-push.ensures.items
-    (HasCells-put (record { behaviours = t.behaviours; actions = t.actions; listed = t.listed.items }) t.cells.items _ c.args.item c.self.invariant lb la c.requires.small new refl)
+    (HoldsCosts-put (record { behaviours = t.behaviours; actions = t.actions; listed = t.listed.items }) t.cells.items _ c.args.item c.self.invariant lb la c.requires.small new refl)

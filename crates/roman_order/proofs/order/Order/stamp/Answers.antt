@@ -1,7 +1,7 @@
 use Rattle.std.proofs.Common.{◌≡◌, ◌<◌, ◌*◌, ◌^◌, ◌∙◌, ap, sym, length, get_or, arith}
 use Rattle.std.proofs.lemmas.List.{length-map}
 use Rattle.roman_order.specs.Sound.{removal_list}
-use Rattle.roman_order.proofs.Places.{length-le_from_apart, place_of-from_greatest}
+use Rattle.roman_order.proofs.Places.{length-le_from_apart, place_in_list-from_greatest}
 use Rattle.roman_order.proofs.Pushes.{entry_in}
 use Rattle.roman_order.proofs.order.Order.stamp.Goals as goal
 
@@ -19,4 +19,4 @@ returns-then-stamp c =
     let table = c.deref.ensures.value in
     let in_table : c.args.p < length inside.stamps.items = rw table at c.in-Some.ensures.lookup.3.0 in
     let read : c.in-Some.field-0.now ≡ get_or inside.stamps.items c.args.p 0 = rw table at (c.in-Some.ensures.lookup.3.1 0) in
-    rw (← c.self.view_is) (place_of-from_greatest (removal_list inside) c.args.p small (sym (read ∙ c.self.invariant.stamped c.args.p in_table) ∙ c.if-stamp.true))
+    rw (← c.self.view_is) (place_in_list-from_greatest (removal_list inside) c.args.p small (sym (read ∙ c.self.invariant.stamped c.args.p in_table) ∙ c.if-stamp.true))
