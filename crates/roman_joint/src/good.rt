@@ -147,6 +147,9 @@ impl Joint {
         ensures few { result ≤ 2048 }
     {
         self.layout();
+        if (self.row_actions(row) >> a) & 1 == 0 {
+            return 0;
+        }
         let Some(turn) = turn_of(self, row, a) else {
             return 0;
         };
