@@ -10,7 +10,7 @@ use Rattle.roman_model.specs.Arena.{Arena, Entry, is_listed, is_justified}
 use Rattle.roman_model.specs.Certificate as text
 use Rattle.roman_model.specs.Certificate.{head_line, count_line, end_line, reasons, possible_entries, entry_of, entries_on, could_be_listed, unless_over, end_fault, entry_fault, body_fault, line_fault}
 use Rattle.roman_model.proofs.SystemLemmas.{same_numbers_is}
-use Rattle.roman_model.proofs.CertificateLemmas.{AreFew, from_possible, entry_of-is, entry_of_other}
+use Rattle.roman_model.proofs.CertificateLemmas.{AreFew, from_possible, possible_small, entry_is_no_end, entry_of-is, entry_of_other}
 use Rattle.roman_model.proofs.VerdictLemmas.{fault_in_body, fault_after_end}
 use Rattle.roman_model.specs.declared.reason.Reason.{Reason}
 use Rattle.roman_model.specs.declared.reason.Reason.TheVariants.{Final, Act}
@@ -40,48 +40,42 @@ few_numbered A ok =
 pub entry_given : (pairs actions : ℕ) (line : List ℕ) (x : Entry ℕ) → Some x ≡ entry_of pairs actions line → (x.node < pairs) × IsIn x.reason (reasons actions)
 entry_given pairs actions line x e = from_possible pairs actions x (entry_of-is pairs actions line x (sym e)).0
 
-module _ (A : Arena ℕ) (L : List (Entry ℕ)) (x : Entry ℕ) (o : Option (Entry ℕ)) (e : Some x ≡ o) where
+module _ (A : Arena ℕ) (L : List (Entry ℕ)) (x : Entry ℕ) where
   abbrev rest : Option text.Why
   rest = if is_justified A (is_listed A L) x.node x.reason then None else Some text.Unjustified
 
-  pub repeated_entry : false ≡ not (is_listed A L x.node) → Some text.Repeated ≡ entry_fault A L o
-  repeated_entry listed = sym (ap (entry_fault A L) (sym e) ∙ cond-true (is_listed A L x.node) (Some text.Repeated) rest (not-false (is_listed A L x.node) (sym listed)))
+  pub repeated_entry : false ≡ not (is_listed A L x.node) → Some text.Repeated ≡ entry_fault A L (Some x)
+  repeated_entry listed = sym (cond-true (is_listed A L x.node) (Some text.Repeated) rest (not-false (is_listed A L x.node) (sym listed)))
 
-  new_entry : true ≡ not (is_listed A L x.node) → entry_fault A L o ≡ rest
-  new_entry new = ap (entry_fault A L) (sym e) ∙ cond-false (is_listed A L x.node) (Some text.Repeated) rest (not-true (is_listed A L x.node) (sym new))
+  new_entry : true ≡ not (is_listed A L x.node) → entry_fault A L (Some x) ≡ rest
+  new_entry new = cond-false (is_listed A L x.node) (Some text.Repeated) rest (not-true (is_listed A L x.node) (sym new))
 
-  pub unjustified_entry : true ≡ not (is_listed A L x.node) → IsFalse (is_justified A (is_listed A L) x.node x.reason) → Some text.Unjustified ≡ entry_fault A L o
+  pub unjustified_entry : true ≡ not (is_listed A L x.node) → IsFalse (is_justified A (is_listed A L) x.node x.reason) → Some text.Unjustified ≡ entry_fault A L (Some x)
   unjustified_entry new fails = sym (new_entry new ∙ cond-false (is_justified A (is_listed A L) x.node x.reason) None (Some text.Unjustified) fails)
 
-  pub clean_entry : true ≡ not (is_listed A L x.node) → IsTrue (is_justified A (is_listed A L) x.node x.reason) → None ≡ entry_fault A L o
+  pub clean_entry : true ≡ not (is_listed A L x.node) → IsTrue (is_justified A (is_listed A L) x.node x.reason) → None ≡ entry_fault A L (Some x)
   clean_entry new holds = sym (new_entry new ∙ cond-true (is_justified A (is_listed A L) x.node x.reason) None (Some text.Unjustified) holds)
 
 -- the pairs of the entries, with one more
-listed_more : (A : Arena ℕ) → IsNumbered A → (L : List (Entry ℕ)) (x : Entry ℕ) (line : List ℕ) → Some x ≡ entry_of (length A.nodes) A.actions line → (q : ℕ) →
-    is_listed A (L ++ entries_on A (line ∷ [])) q ≡ (is_listed A L q || q == x.node)
-listed_more A ok L x line e q =
-    ap (λ o. is_listed A (L ++ cons_option o []) q) (sym e)
-    ∙ list_any-append (λ y. A.same q y.node) L (x ∷ []) ∙ ap (λ b. is_listed A L q || b) (alone (A.same q x.node) ∙ ok.same q x.node)
+listed_more : (A : Arena ℕ) → IsNumbered A → (L : List (Entry ℕ)) (x : Entry ℕ) (q : ℕ) → is_listed A (L ++ x ∷ []) q ≡ (is_listed A L q || q == x.node)
+listed_more A ok L x q = list_any-append (λ y. A.same q y.node) L (x ∷ []) ∙ ap (λ b. is_listed A L q || b) (alone (A.same q x.node) ∙ ok.same q x.node)
   where
     alone : (b : Bool) → (b || false) ≡ b
     alone true = refl
     alone false = refl
 
 -- an entry was read: its pair is taken out, and what was known of the row that was asked is known still
-pub entry_listed : (A : Arena ℕ) → IsNumbered A → (L : List (Entry ℕ)) (x : Entry ℕ) (line : List ℕ) (new : Audit) → Some x ≡ entry_of (length A.nodes) A.actions line →
-    (((q : ℕ) → is_listed A (L ++ entries_on A (line ∷ [])) q ≡ (is_listed A L q || q == x.node)) → Remain (length A.nodes) (is_listed A (L ++ entries_on A (line ∷ []))) new.left) →
-    HoldsWhereKept A new.left.lanes (is_listed A L) new.asked → HasListed A (L ++ entries_on A (line ∷ [])) new
-entry_listed A ok L x line new e left known = record {
-  left = left (listed_more A ok L x line e);
-  known = known_more A new.left.lanes (is_listed A L) (is_listed A (L ++ entries_on A (line ∷ []))) new.asked (λ q t. listed_more A ok L x line e q ∙ ap (λ b. b || q == x.node) t) known;
+pub entry_listed : (A : Arena ℕ) → IsNumbered A → (L : List (Entry ℕ)) (x : Entry ℕ) (new : Audit) →
+    (((q : ℕ) → is_listed A (L ++ x ∷ []) q ≡ (is_listed A L q || q == x.node)) → Remain (length A.nodes) (is_listed A (L ++ x ∷ [])) new.left) →
+    HoldsWhereKept A new.left.lanes (is_listed A L) new.asked → HasListed A (L ++ x ∷ []) new
+entry_listed A ok L x new left known = record {
+  left = left (listed_more A ok L x);
+  known = known_more A new.left.lanes (is_listed A L) (is_listed A (L ++ x ∷ [])) new.asked (λ q t. listed_more A ok L x q ∙ ap (λ b. b || q == x.node) t) known;
 }
 
 -- what an audit has, by the lanes of the system
 pub listed_rows : (A : Arena ℕ) (L : List (Entry ℕ)) (audit : Audit) (lanes : ℕ) → HasListed A L audit → audit.left.lanes ≡ lanes → (words : List ℕ) → words ≡ audit.left.words.items → AreRows lanes (λ q. not (is_listed A L q)) words
 listed_rows A L audit lanes has shaped words same = subst (AreRows lanes (λ q. not (is_listed A L q))) (sym same) (subst (λ m. AreRows m (λ q. not (is_listed A L q)) audit.left.words.items) shaped has.left.rows)
-
-pub listed_known : (A : Arena ℕ) (L : List (Entry ℕ)) (audit : Audit) (lanes : ℕ) → HasListed A L audit → audit.left.lanes ≡ lanes → HoldsWhereKept A lanes (is_listed A L) audit.asked
-listed_known A L audit lanes has shaped = subst (λ m. HoldsWhereKept A m (is_listed A L) audit.asked) shaped has.known
 
 -- the reason of an entry is one of the system
 pub reason_given : (A : Arena ℕ) (r : Reason) → IsIn r (reasons A.actions) → IsReasonOf A r
@@ -221,6 +215,18 @@ judged_body A old new line fault due named list next = record {
             (list (entries_on A body) (subst (λ ls. HasListed A (entries_on A (drop 2 ls)) old) e read.list) clean);
       });
 }
+
+-- a line whose entry was read
+pub judged_entry : (A : Arena ℕ) → IsNumbered A → (old new : Audit) (line : List ℕ) (x : Entry ℕ) (fault : Option Why) → old.due ≡ Body → entry_of (length A.nodes) A.actions line ≡ Some x →
+    ((L : List (Entry ℕ)) → HasListed A L old → option_map fault_of fault ≡ entry_fault A L (Some x)) →
+    ((L : List (Entry ℕ)) → HasListed A L old → fault ≡ None → HasListed A (L ++ x ∷ []) new) → new.due ≡ old.due → Judges A old new line fault
+judged_entry A ok old new line x fault due is named list same =
+    let (i, e) = entry_of-is (length A.nodes) A.actions line x is in
+    let other : IsFalse (same_numbers end_line line) = subst (λ bs. IsFalse (same_numbers end_line bs)) e (entry_is_no_end x (possible_small (length A.nodes) A.actions x (few_numbered A ok) i)) in
+    judged_body A old new line fault due
+    (λ L has. entry_judged A L line (option_map fault_of fault) (named L has ∙ sym (ap (entry_fault A L) is)) other)
+    (λ L has none. subst (λ o. HasListed A (L ++ cons_option o []) new) (sym is) (list L has none))
+    (same ∙ sym (cond-false (same_numbers end_line line) Nothing old.due other))
 
 pub judged_after_end : (A : Arena ℕ) (old new : Audit) (line : List ℕ) → old.due ≡ Nothing → Judges A old new line (Some Form)
 judged_after_end A old new line due = record {

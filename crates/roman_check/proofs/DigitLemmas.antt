@@ -9,7 +9,7 @@ use Rattle.std.proofs.lemmas.Str.{digit_value_digit}
 use Rattle.std.proofs.lemmas.Str.Parse.{IsNumeralModel, numerals_by_value, tells_digits, digit_at, digits_value_short}
 use Rattle.std.proofs.lemmas.Int.Digits.{digits_more, digits_value_more}
 use Rattle.roman_check.specs.Decimals.{IsTrim, IsNumberTo}
-use Rattle.std.proofs.lemmas.Fmt.{decimal_is_IsNumeral, length-decimal-le, first_decimal, decimal-digits_value, decimal_injective}
+use Rattle.std.proofs.lemmas.Fmt.{decimal_is_IsNumeral, length-decimal-le, first_decimal, decimal-digits_value}
 
 own : IsNumeralModel (AllDigits 10) (digits_value 10)
 own = numerals_by_value (AllDigits 10) tells_digits
@@ -39,30 +39,28 @@ digits_room ds i l few all = digits_value_short own (take i ds) 9 all (omega (ar
 pub digits_below : (ds : List ℕ) (i : ℕ) → i ≤ length ds → i ≤ 10 → AllDigits 10 (take i ds) → digits_value 10 (take i ds) < 10 ^ 10
 digits_below ds i l few all = digits_value_short own (take i ds) 10 all (omega (arith, length-take-le i ds))
 
--- the digits up to the first space, and no others, are those before a space
-
--- a digit is no space
-pub no_space_digit : (line : List ℕ) (i k : ℕ) → i ≤ length line → AllDigits 10 (take i line) → k < i → get_or line k 0 ≢ 32
-no_space_digit line i k within all l space =
+-- a byte below the digits is none
+pub no_stop_digit : (stop : ℕ) (line : List ℕ) (i k : ℕ) → stop < 48 → i ≤ length line → AllDigits 10 (take i line) → k < i → get_or line k 0 ≢ stop
+no_stop_digit stop line i k low_stop within all l stops =
     let short : length (take i line) ≡ i = length-take-le i line within in
     let digit = digit_at (take i line) k all (omega arith) in
     let low : 48 ≤ get_or (take i line) k 0 = digit.0 in
     let same : get_or (take i line) k 0 ≡ get_or line k 0 = get_or-take i line k 0 l in
     omega arith
 
--- where a byte is no digit and no space, none of at most ten digits follow each other up to a space
-pub no_number_past : (line : List ℕ) (i j : ℕ) → i < length line → AllDigits 10 (take i line) → get_or line i 0 ≢ 32 → IsOutOfRange 48 57 (get_or line i 0) → IsNumberTo line j → ⊥
-no_number_past line i j within all other out number = elim (cases_order i j) [
-  | inl same ↦ other (ap (λ k. get_or line k 0) same ∙ number.space)
+-- where a byte is no digit and not the one that stops, none of at most ten digits follow each other up to that one
+pub no_number_past : (stop : ℕ) (line : List ℕ) (i j : ℕ) → stop < 48 → i < length line → AllDigits 10 (take i line) → get_or line i 0 ≢ stop → IsOutOfRange 48 57 (get_or line i 0) → IsNumberTo stop line j → ⊥
+no_number_past stop line i j low within all other out number = elim (cases_order i j) [
+  | inl same ↦ other (ap (λ k. get_or line k 0) same ∙ number.stops)
   | inr (inl less) ↦
       let l : i < length (take j line) = omega (arith, length-take-le j line (omega (arith, number.within))) in
       no_digit (take j line) i l (subst (IsOutOfRange 48 57) (sym (get_or-take j line i 0 less)) out) number.digits
-  | inr (inr more) ↦ no_space_digit line i j (omega arith) all more number.space
+  | inr (inr more) ↦ no_stop_digit stop line i j low (omega arith) all more number.stops
 ]
 
 -- nor where that many bytes are digits, and there is no eleventh
-pub no_number_within : (line : List ℕ) (i : ℕ) → i ≤ length line → AllDigits 10 (take i line) → ((j : ℕ) → j ≤ 10 → j < length line → j < i) → (j : ℕ) → IsNumberTo line j → ⊥
-no_number_within line i within all reach j number = no_space_digit line i j within all (reach j number.few number.within) number.space
+pub no_number_within : (stop : ℕ) (line : List ℕ) (i : ℕ) → stop < 48 → i ≤ length line → AllDigits 10 (take i line) → ((j : ℕ) → j ≤ 10 → j < length line → j < i) → (j : ℕ) → IsNumberTo stop line j → ⊥
+no_number_within stop line i low within all reach j number = no_stop_digit stop line i j low within all (reach j number.few number.within) number.stops
 
 -- A whole number
 
@@ -94,7 +92,3 @@ pub no_small_number : (ds : List ℕ) (value bound n : ℕ) → value ≡ digits
 no_small_number ds value bound n is small large l e =
     let (all, trim, same) = decimal_shape n ds (omega arith) e in
     omega arith
-
--- a text is that of one number
-pub one_number : (ds : List ℕ) (m n : ℕ) → m < 2 ^ 32 → n < 2 ^ 32 → decimal m ≡ ds → decimal n ≡ ds → m ≡ n
-one_number ds m n few small e f = decimal_injective m n (omega arith) (omega arith) (e ∙ sym f)

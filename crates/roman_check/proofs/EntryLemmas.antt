@@ -1,9 +1,10 @@
 -- Lines that are read as entries.
-use Rattle.std.proofs.Common.{◌≡◌, ◌≢◌, ℕ, ◌+◌, ◌-◌, ◌^◌, ◌<◌, Bool, List, ◌∷◌, ◌++◌, length, take, drop, get_or, None, Some, IsTrue, IsFalse, decimal, codes, refl, sym, ap, ap₂, ◌∙◌, subst, inl, inr, arith, length-drop, length-append}
+use Rattle.std.proofs.Common.{◌≡◌, ◌≢◌, ℕ, suc, ◌+◌, ◌-◌, ◌^◌, ◌<◌, ◌≤◌, Bool, List, ◌∷◌, ◌++◌, length, take, drop, get_or, None, Some, IsTrue, IsFalse, decimal, codes, refl, sym, ap, ap₂, ◌∙◌, subst, inl, inr, arith, length-drop, length-append}
 use Rattle.std.specs.Str.Parse.{AllDigits}
 use Rattle.std.proofs.lemmas.Bool.{both_ways, ne_eqb}
-use Rattle.std.proofs.lemmas.List.{take-append-drop, drop_more, take_all, take_at, get_or_at}
+use Rattle.std.proofs.lemmas.List.{drop_more, take_rest, take_all, take_at, get_or_at, get_or-drop}
 use Rattle.roman_model.specs.Lists.{IsIn, below}
+use Rattle.roman_model.specs.Lines.{IsLine}
 use Rattle.roman_model.specs.System.{has, same_numbers}
 use Rattle.roman_model.specs.Arena.{Entry}
 use Rattle.roman_model.specs.declared.reason.Reason.{Reason}
@@ -11,11 +12,11 @@ use Rattle.roman_model.specs.declared.reason.Reason.TheVariants.{Final, Act}
 use Rattle.roman_model.specs.Certificate.{count_line, reason_text, entry_line, reasons, entry_of}
 use Rattle.roman_model.proofs.Lists.{from_map, from_below}
 use Rattle.roman_model.proofs.SystemLemmas.{same_numbers_itself}
-use Rattle.roman_model.proofs.CertificateLemmas.{IsSmall, AreFew, cut_at, decimal_without, act_reason, in_possible, from_possible, possible_small, entry_of-line, entry_of_none}
-use Rattle.roman_check.specs.Readings.{ReadsOff}
+use Rattle.roman_model.proofs.CertificateLemmas.{IsSmall, AreFew, cut_at, decimal_without, act_reason, in_possible, from_possible, possible_small, entry_is_line, entry_of-line, entry_of-is, entry_of_none}
+use Rattle.roman_check.specs.Readings.{IsEndedAt, ReadsOff}
 use Rattle.roman_check.specs.Decimals.{IsNumberTo}
-use Rattle.roman_check.proofs.DigitLemmas.{decimal_shape, no_space_digit}
-use Rattle.roman_check.proofs.Texts.{same_from, clear_before}
+use Rattle.roman_check.proofs.DigitLemmas.{decimal_shape, no_stop_digit}
+use Rattle.roman_check.proofs.Texts.{same_from, clear_before, taken_more}
 
 -- The second line
 
@@ -58,15 +59,20 @@ pub record IsCut (line front back : List ℕ) : Type 0 where
 abbrev pub after : List ℕ → ℕ → List ℕ
 after line i = take (length line - (i + 1)) (drop (i + 1) line)
 
--- a space behind digits cuts a line
-pub cut_from : (line : List ℕ) (i : ℕ) → IsNumberTo line i → IsCut line (take i line) (after line i)
+-- a space behind digits cuts a line, wherever it ends
+pub cut_to : (bytes : List ℕ) (i n : ℕ) → IsNumberTo 32 bytes i → IsCut (take (i + 1 + n) bytes) (take i bytes) (take n (drop (i + 1) bytes))
+cut_to bytes i n number =
+    let l : i < length bytes = number.within in
+    let more : i + 1 + n ≡ i + suc n = omega arith in
+    record {
+      whole = ap (λ m. take m bytes) more ∙ sym (taken_more bytes i (suc n)) ∙ ap (λ bs. take i bytes ++ take (suc n) bs) (drop_more bytes i 0 l) ∙ ap (λ b. take i bytes ++ b ∷ take n (drop (i + 1) bytes)) number.stops;
+      clear = clear_before 32 bytes i (λ k m. ne_eqb (get_or bytes k 0) 32 (no_stop_digit 32 bytes i k (omega arith) (omega arith) number.digits m));
+    }
+
+pub cut_from : (line : List ℕ) (i : ℕ) → IsNumberTo 32 line i → IsCut line (take i line) (after line i)
 cut_from line i number =
     let l : i < length line = number.within in
-    let rest : after line i ≡ drop (i + 1) line = take_all (length line - (i + 1)) (drop (i + 1) line) (omega (arith, length-drop (i + 1) line)) in
-    record {
-      whole = sym (take-append-drop i line) ∙ ap (λ bs. take i line ++ bs) (drop_more line i 0 l ∙ ap₂ (λ b bs. b ∷ bs) number.space (sym rest));
-      clear = clear_before 32 line i (λ k m. ne_eqb (get_or line k 0) 32 (no_space_digit line i k (omega arith) number.digits m));
-    }
+    subst (λ bs. IsCut bs (take i line) (after line i)) (take_all (i + 1 + (length line - (i + 1))) line (omega arith)) (cut_to line i (length line - (i + 1)) number)
 
 -- the parts of an entry's line
 entry_parts : (line front back : List ℕ) (x : Entry ℕ) → IsCut line front back → IsSmall x → entry_line x ≡ line → (decimal x.node ≡ front) × (reason_text x.reason ≡ back)
@@ -74,12 +80,12 @@ entry_parts line front back x cut small e =
     cut_at 32 (decimal x.node) front (reason_text x.reason) back (decimal_without x.node 32 small.0 (inl (omega arith))) cut.clear (e ∙ cut.whole)
 
 -- a line that doesn't begin with digits and a space is no entry's
-pub no_number : (pairs actions : ℕ) (line : List ℕ) → pairs < 2 ^ 32 → ((i : ℕ) → IsNumberTo line i → ⊥) → entry_of pairs actions line ≡ None
+pub no_number : (pairs actions : ℕ) (line : List ℕ) → pairs < 2 ^ 32 → ((i : ℕ) → IsNumberTo 32 line i → ⊥) → entry_of pairs actions line ≡ None
 no_number pairs actions line few none = entry_of_none pairs actions line (λ x i e.
     let l : x.node < pairs = (from_possible pairs actions x i).0 in
-    none (length (decimal x.node)) (subst (λ bs. IsNumberTo bs (length (decimal x.node))) e (begins x (omega arith))))
+    none (length (decimal x.node)) (subst (λ bs. IsNumberTo 32 bs (length (decimal x.node))) e (begins x (omega arith))))
   where
-    begins : (x : Entry ℕ) → x.node < 2 ^ 32 → IsNumberTo (entry_line x) (length (decimal x.node))
+    begins : (x : Entry ℕ) → x.node < 2 ^ 32 → IsNumberTo 32 (entry_line x) (length (decimal x.node))
     begins x small =
         let ds = decimal x.node in
         let (all, trim, value) = decimal_shape x.node ds small refl in
@@ -87,7 +93,7 @@ no_number pairs actions line few none = entry_of_none pairs actions line (λ x i
           few = trim.few;
           within = omega (arith, length-append ds (32 ∷ reason_text x.reason));
           digits = subst (AllDigits 10) (sym (take_at ds (32 ∷ reason_text x.reason) (length ds) refl)) all;
-          space = get_or_at ds 32 (reason_text x.reason) 0 (length ds) refl;
+          stops = get_or_at ds 32 (reason_text x.reason) 0 (length ds) refl;
         }
 
 -- nor is one whose first part is no pair's number
@@ -106,3 +112,32 @@ pub some_entry : (pairs actions : ℕ) (line front back : List ℕ) (n : ℕ) (r
 some_entry pairs actions line front back n r few cut l e i same =
     ap (entry_of pairs actions) (cut.whole ∙ ap₂ (λ bs cs. bs ++ 32 ∷ cs) (sym e) (sym same))
     ∙ entry_of-line pairs actions (record { node = n; reason = r }) few (in_possible pairs actions (record { node = n; reason = r }) l i)
+
+-- Lines at the front of more bytes
+
+-- a line whose first part is a pair's number, and whose second part is a reason's text before a newline
+pub front_line : (pairs actions : ℕ) (bytes : List ℕ) (i end n : ℕ) (r : Reason) → AreFew pairs actions → IsNumberTo 32 bytes i → n < pairs → decimal n ≡ take i bytes →
+    IsIn r (reasons actions) → IsEndedAt (after bytes i) end → reason_text r ≡ take end (after bytes i) → IsEndedAt bytes (i + 1 + end) × (entry_of pairs actions (take (i + 1 + end) bytes) ≡ Some (record { node = n; reason = r }))
+front_line pairs actions bytes i end n r few number l e given ended same =
+    let rest : after bytes i ≡ drop (i + 1) bytes = take_rest bytes (i + 1) in
+    let at : IsEndedAt (drop (i + 1) bytes) end = subst (λ bs. IsEndedAt bs end) rest ended in (
+      record { within = omega (arith, at.within, length-drop (i + 1) bytes); newline = sym (get_or-drop (i + 1) bytes end 0) ∙ at.newline },
+      some_entry pairs actions (take (i + 1 + end) bytes) (take i bytes) (take end (drop (i + 1) bytes)) n r few (cut_to bytes i end number) l e given (same ∙ ap (take end) rest),
+    )
+
+-- such a line from a place on
+pub entry_at : (pairs actions : ℕ) (piece : List ℕ) (start len : ℕ) (x : Entry ℕ) → AreFew pairs actions → IsEndedAt (take (length piece - start) (drop start piece)) len →
+    entry_of pairs actions (take len (take (length piece - start) (drop start piece))) ≡ Some x → (start ≤ start + len) × (start + len < length piece) × IsLine (take (start + len - start) (drop start piece)) ×
+    (get_or piece (start + len) 0 ≡ 10) × (entry_of pairs actions (take (start + len - start) (drop start piece)) ≡ Some x)
+entry_at pairs actions piece start len x few ended is =
+    let rest : take (length piece - start) (drop start piece) ≡ drop start piece = take_rest piece start in
+    let at : IsEndedAt (drop start piece) len = subst (λ bs. IsEndedAt bs len) rest ended in
+    let count : len ≡ start + len - start = omega arith in
+    let same : take len (take (length piece - start) (drop start piece)) ≡ take (start + len - start) (drop start piece) = ap₂ (λ n bs. take n bs) count rest in
+    let (i, e) = entry_of-is pairs actions (take len (take (length piece - start) (drop start piece))) x is in (
+      omega arith,
+      omega (arith, at.within, length-drop start piece),
+      subst IsLine (e ∙ same) (entry_is_line x (possible_small pairs actions x few i)),
+      sym (get_or-drop start piece len 0) ∙ at.newline,
+      sym (ap (entry_of pairs actions) same) ∙ is,
+    )

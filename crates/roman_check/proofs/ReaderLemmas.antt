@@ -1,22 +1,27 @@
 -- Texts that are read byte by byte.
 use Rattle.std.proofs.Common.{◌≡◌, ◌≢◌, ℕ, ◌+◌, ◌-◌, ◌<◌, ◌≤◌, ◌==◌, List, [], ◌∷◌, ◌++◌, length, take, drop, get_or, Option, Some, None, option_map, refl, sym, ap, ap₂, ◌∙◌, subst, inl, inr, arith, append_assoc, append-nil, length-append, length-drop}
 use Rattle.std.specs.List.{position}
-use Rattle.std.proofs.lemmas.List.{take-append-drop, take-take, drop-take, take_more, take_rest, get_or-drop}
+use Rattle.std.proofs.lemmas.List.{take-append-drop, take_more, take_rest, get_or-drop}
 use Rattle.roman_model.specs.Lines.{lines, text_of, IsLine, AreLines}
-use Rattle.roman_model.specs.Arena.{Arena}
+use Rattle.roman_model.specs.Arena.{Arena, Entry}
+use Rattle.roman_model.specs.Certificate.{entry_of, entry_fault}
 use Rattle.roman_model.proofs.Lists.{from_push}
 use Rattle.roman_model.proofs.LineLemmas.{text_of-push, lines-text, lines_last}
 use Rattle.roman_model.proofs.CertificateLemmas.{append_line, clean_push}
 use Rattle.roman_check.specs.declared.reader.Reader.{Reader}
 use Rattle.roman_check.specs.declared.audit.Audit.{Audit}
+use Rattle.roman_check.specs.declared.audit.Due.TheVariants.{Body}
 use Rattle.roman_check.specs.declared.verdict.Why.{Why}
 use Rattle.roman_check.specs.declared.verdict.Why.TheVariants.{Form}
 use Rattle.roman_check.specs.Verdicts.{fault_of}
 use Rattle.roman_check.specs.Lines.{Holds}
-use Rattle.roman_check.specs.Audits.{HasRead, Judges}
+use Rattle.roman_check.specs.Readings.{IsEndedAt}
+use Rattle.roman_check.specs.Audits.{HasListed, HasRead, Judges}
 use Rattle.roman_check.specs.Readers.{HasLines, IsReading, IsAtFault, Feeds, Closes}
 use Rattle.roman_rules.specs.Numbered.{IsNumbered}
-use Rattle.roman_check.proofs.Texts.{found_before, found_nowhere}
+use Rattle.roman_check.proofs.Texts.{taken_more, found_before, found_nowhere}
+use Rattle.roman_check.proofs.EntryLemmas.{entry_at}
+use Rattle.roman_check.proofs.AuditLemmas.{few_numbered, judged_entry}
 use Rattle.roman_check.proofs.LongLines.{long_line}
 
 -- One line
@@ -128,9 +133,6 @@ fault_more A bytes more n why at = record {
   counted = at.counted;
 }
 
-taken_more : (piece : List ℕ) (n m : ℕ) → take n piece ++ take m (drop n piece) ≡ take (n + m) piece
-taken_more piece n m = ap₂ (λ a b. a ++ b) (sym (take-take n (n + m) piece (omega arith))) (sym (drop-take n m piece)) ∙ take-append-drop n (take (n + m) piece)
-
 -- the bytes of a piece up to a place, those of the line that ends behind it, and its newline
 line_more : (piece : List ℕ) (start end : ℕ) → start ≤ end → end < length piece → get_or piece end 0 ≡ 10 → take start piece ++ (take (end - start) (drop start piece) ++ 10 ∷ []) ≡ take (end + 1) piece
 line_more piece start end low high newline =
@@ -161,6 +163,25 @@ stop_in_piece A old mid new piece start end why low high newline so_far fed = re
   where
     whole : (taken : List ℕ) → (taken ++ take (end + 1) piece) ++ drop (end + 1) piece ≡ taken ++ piece
     whole taken = append_assoc taken (take (end + 1) piece) (drop (end + 1) piece) ∙ ap (λ bs. taken ++ bs) (take-append-drop (end + 1) piece)
+
+-- a line of a piece whose entry was read at once, where no bytes of it were read before
+pub entry_in_piece : (A : Arena ℕ) → IsNumbered A → (mid new : Reader) (piece : List ℕ) (start len pairs actions : ℕ) (x : Entry ℕ) (fault : Option Why) → pairs ≡ length A.nodes → actions ≡ A.actions →
+    IsEndedAt (take (length piece - start) (drop start piece)) len → entry_of pairs actions (take len (take (length piece - start) (drop start piece))) ≡ Some x →
+    mid.audit.due ≡ Body → ((bytes : List ℕ) → Holds mid.line bytes → bytes ≡ []) →
+    ((L : List (Entry ℕ)) → HasListed A L mid.audit → option_map fault_of fault ≡ entry_fault A L (Some x)) →
+    ((L : List (Entry ℕ)) → HasListed A L mid.audit → fault ≡ None → HasListed A (L ++ x ∷ []) new.audit) → new.audit.due ≡ mid.audit.due →
+    (start ≤ start + len) × (start + len < length piece) × (get_or piece (start + len) 0 ≡ 10) × IsLine (take (start + len - start) (drop start piece)) ×
+    ((bytes : List ℕ) → Holds mid.line bytes → Judges A mid.audit new.audit (bytes ++ take (start + len - start) (drop start piece)) fault)
+entry_in_piece A ok mid new piece start len pairs actions x fault all some ended is due alone named list same =
+    let whole = sym (ap₂ (λ p a. entry_of p a (take len (take (length piece - start) (drop start piece)))) all some) ∙ is in
+    let (low, below, line, newline, own) = entry_at (length A.nodes) A.actions piece start len x (few_numbered A ok) ended whole in (
+      low,
+      below,
+      newline,
+      line,
+      λ bytes held. subst (λ front. Judges A mid.audit new.audit (front ++ take (start + len - start) (drop start piece)) fault) (sym (alone bytes held))
+          (judged_entry A ok mid.audit new.audit (take (start + len - start) (drop start piece)) x fault due own named list same),
+    )
 
 -- the bytes behind the last newline of a piece
 pub read_rest : (A : Arena ℕ) (old mid new : Reader) (piece rest : List ℕ) (start : ℕ) → rest ≡ drop start piece → IsLine (drop start piece) → ((taken : List ℕ) → IsReading A taken old → IsReading A (taken ++ take start piece) mid) →

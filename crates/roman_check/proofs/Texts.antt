@@ -1,11 +1,11 @@
 -- Equal texts, and texts that don't have a byte.
-use Rattle.std.proofs.Common.{◌≡◌, ℕ, zero, suc, ◌<◌, ◌==◌, Bool, List, [], ◌∷◌, length, take, get_or, None, Some, nat_lt, refl, sym, ◌∙◌, subst, inl, inr, arith, IsTrue, IsFalse}
+use Rattle.std.proofs.Common.{◌≡◌, ℕ, zero, suc, ◌+◌, ◌<◌, ◌==◌, Bool, List, [], ◌∷◌, ◌++◌, length, take, drop, get_or, None, Some, nat_lt, refl, sym, ap₂, ◌∙◌, subst, inl, inr, arith, IsTrue, IsFalse}
 use Rattle.std.specs.List.{position, position_or_len}
 use Rattle.std.specs.Cmp.Lexicographic.{pointwise}
 use Rattle.std.proofs.lemmas.Bool.Decides.{Decides-eqb}
 use Rattle.std.proofs.lemmas.Slice.Eq.{slice_eq-Decides}
 use Rattle.std.proofs.lemmas.Bool.{or_from, eqb-true, cases_lt, cond-true, lt-ltb}
-use Rattle.std.proofs.lemmas.List.{take_all}
+use Rattle.std.proofs.lemmas.List.{take_all, take-take, drop-take, take-append-drop}
 use Rattle.std.proofs.lemmas.List.Sums.{fails_before_first}
 use Rattle.std.proofs.lemmas.List.Quantifiers.{position-Some}
 use Rattle.std.proofs.lemmas.Option.{none-some}
@@ -25,6 +25,10 @@ pub same_as_eq : (xs ys zs : List ℕ) (r : Bool) → r ≡ pointwise (λ x y. x
 same_as_eq xs ys zs r e same =
     let (to, from) = slice_eq-Decides Decides-eqb xs ys r e in
     same_from r zs xs (λ t. sym (to t ∙ same)) (λ e. from (sym e ∙ sym same))
+
+-- the front of a text, and what follows it
+pub taken_more : (xs : List ℕ) (n m : ℕ) → take n xs ++ take m (drop n xs) ≡ take (n + m) xs
+taken_more xs n m = ap₂ (λ a b. a ++ b) (sym (take-take n (n + m) xs (omega arith))) (sym (drop-take n m xs)) ∙ take-append-drop n (take (n + m) xs)
 
 -- a front of a text in which no byte is that one
 pub clear_before : (b : ℕ) (xs : List ℕ) (i : ℕ) → ((k : ℕ) → k < i → IsFalse (get_or xs k 0 == b)) → IsFalse (has (take i xs) b)

@@ -8,9 +8,9 @@ pub record IsTrim (text : List ℕ) : Type 0 where
   pub few : length text ≤ 10
   pub first : 1 < length text → slice_index text 0 ≢ 48
 
--- the line begins with so many digits, at most ten, and a space
-pub record IsNumberTo (line : List ℕ) (i : ℕ) : Type 0 where
+-- the bytes begin with so many digits, at most ten, and that byte
+pub record IsNumberTo (stop : ℕ) (bytes : List ℕ) (i : ℕ) : Type 0 where
   pub few : i ≤ 10
-  pub within : i < length line
-  pub digits : AllDigits 10 (take i line)
-  pub space : slice_index line i ≡ 32
+  pub within : i < length bytes
+  pub digits : AllDigits 10 (take i bytes)
+  pub stops : slice_index bytes i ≡ stop

@@ -1,5 +1,5 @@
 -- What was read of a text, byte by byte.
-use Rattle.std.specs.Prelude.{◌≡◌, ℕ, List, [], ◌∷◌, ◌++◌, length, Option, None, Some}
+use Rattle.std.specs.Prelude.{◌≡◌, ℕ, List, [], ◌∷◌, ◌++◌, length, take, Option, None, Some}
 use Rattle.roman_model.specs.Lines.{lines, text_of, IsLine, AreLines}
 use Rattle.roman_model.specs.Arena.{Arena}
 use Rattle.roman_model.specs.Certificate.{line_fault, IsClean}
@@ -24,6 +24,10 @@ pub record IsReading (A : Arena ℕ) (taken : List ℕ) (reader : Reader) : Type
   pub unended : IsLine partial
   pub has : HasLines A text reader
   pub held : Holds reader.line partial
+
+-- the bytes of the piece up to that place were read after what was read before them
+abbrev pub IsReadTo : Arena ℕ → Reader → Reader → List ℕ → ℕ → Type 0
+IsReadTo A before now piece at = (taken : List ℕ) → IsReading A taken before → IsReading A (taken ++ take at piece) now
 
 -- the text has a whole line at fault after so many clean ones
 pub record IsAtFault (A : Arena ℕ) (bytes : List ℕ) (clean_lines : ℕ) (why : Why) : Type 0 where

@@ -1,5 +1,5 @@
 -- What a text is read as.
-use Rattle.std.specs.Prelude.{◌≡◌, ◌≢◌, ℕ, List, Option, None, Some}
+use Rattle.std.specs.Prelude.{◌≡◌, ◌≢◌, ℕ, ◌<◌, List, Option, None, Some, length, slice_index}
 use Rattle.roman_model.specs.Lists.{IsIn}
 use Rattle.roman_model.specs.Arena.{Entry}
 use Rattle.roman_model.specs.declared.reason.Reason.{Reason}
@@ -15,3 +15,8 @@ IsParse xs text_of line (Some x) = IsIn x xs × (text_of x ≡ line)
 
 pub record ReadsOff {X : Type 0} (xs : List X) (text_of : X → List ℕ) (line : List ℕ) (answer : Option X) : Type 0 where
   pub is : IsParse xs text_of line answer
+
+-- a newline stands behind so many bytes
+pub record IsEndedAt (bytes : List ℕ) (end : ℕ) : Type 0 where
+  pub within : end < length bytes
+  pub newline : slice_index bytes end ≡ 10

@@ -1,17 +1,22 @@
 // What was read of a certificate, and the next line judged by it.
-ghost use Rattle.std.specs.Prelude.{◌≡◌, ℕ, ◌*◌, ◌<◌, ◌++◌, not, List, [], ◌∷◌, None, Some, length, IfOk, if◌then◌else◌};
+ghost use Rattle.std.specs.Prelude.{◌≡◌, ℕ, ◌+◌, ◌*◌, ◌<◌, ◌++◌, Bool, not, List, [], ◌∷◌, None, Some, length, IfOk, if◌then◌else◌};
 ghost use Rattle.std.specs.Option.{option_map};
 ghost use Rattle.roman_model.specs.System.{same_numbers};
-ghost use Rattle.roman_model.specs.Arena.{Arena, Entry, is_listed};
+ghost use Rattle.roman_model.specs.Arena.{Arena, Entry, is_listed, is_justified};
 ghost use Rattle.roman_model.specs.Certificate.{end_line, entry_of, entries_on, entry_fault, body_fault};
+ghost use Rattle.roman_lanes.specs.Rows.{AreRows};
+ghost use Rattle.roman_rules.specs.Asked.{HoldsWhereKept, IsReasonOf};
+ghost use Rattle.roman_check.specs.Readings.{entry_with};
 ghost use Rattle.roman_check.specs.Verdicts.{fault_of};
 ghost use Rattle.roman_check.specs.Audits.{IsInRows, HasListed, HasRead, Judges};
 
 use crate::entries::{entry, is_count, is_end, is_head};
 use crate::missing::first_missing;
+use crate::remaining::has_lane;
 use crate::table::Remaining;
 use crate::verdict::Why;
 use roman_io::Steps;
+use roman_model::Reason;
 use roman_rules::{Asked, Rules};
 use std::alloc::{AllocError, Global};
 use std::sync::ledger::Ledger;
@@ -37,6 +42,36 @@ pub(crate) struct Audit {
     pub(crate) left: Remaining,
     // what a row answered about the reason of an entry
     pub(crate) asked: Asked,
+}
+
+/// Whether a reason holds at the pair `p`, which lies at that row and lane, where those pairs are left.
+/// Nothing is asked where that is known.
+#[inline]
+fn holds<J: Rules, L: Ledger>(
+    asked: &mut Asked,
+    joint: &J,
+    left: &Remaining,
+    p: u32,
+    place: (u32, u32),
+    reason: Reason,
+    steps: &mut Steps<L>,
+) -> bool
+    requires lanes { left.now.lanes ≡ J.lanes joint.now }
+    requires room { length left.now.words.items * J.lanes joint.now ≡ length (J.arena joint.now).nodes }
+    requires pair { p < length (J.arena joint.now).nodes }
+    requires place { place.0 * left.now.lanes + place.1 ≡ p }
+    requires lane { place.1 < left.now.lanes }
+    requires reason { IsReasonOf (J.arena joint.now) reason }
+    ensures justified { let A = J.arena joint.now in
+        (gone : ℕ → Bool) → AreRows left.now.lanes (λ q. not (gone q)) left.now.words.items → HoldsWhereKept A left.now.lanes gone asked.old → result ≡ is_justified A gone p reason }
+    ensures known { let A = J.arena joint.now in
+        (gone : ℕ → Bool) → AreRows left.now.lanes (λ q. not (gone q)) left.now.words.items → HoldsWhereKept A left.now.lanes gone asked.old → HoldsWhereKept A left.now.lanes gone asked.new }
+{
+    let (row, lane) = place;
+    if row == asked.row && reason == asked.reason && has_lane(asked.lanes, lane) {
+        return true;
+    }
+    asked.holds(joint, left.words(), p, reason, steps)
 }
 
 impl Audit {
@@ -66,6 +101,39 @@ impl Audit {
         None
     }
 
+    /// Judges an entry of a pair of the system and one of its reasons, and takes out the pair where it
+    /// has no fault.
+    #[inline(always)]
+    pub(crate) fn take_entry<J: Rules, L: Ledger>(
+        &mut self,
+        joint: &J,
+        pair: u32,
+        reason: Reason,
+        steps: &mut Steps<L>,
+    ) -> Option<Why>
+        requires shaped { IsInRows (J.lanes joint.now) (length (J.arena joint.now).nodes) self.old }
+        requires pair { pair < length (J.arena joint.now).nodes }
+        requires reason { IsReasonOf (J.arena joint.now) reason }
+        ensures fault { let A = J.arena joint.now in
+            (L : List (Entry ℕ)) → HasListed A L self.old → option_map fault_of result ≡ entry_fault A L (Some (entry_with (pair, reason))) }
+        ensures list { let A = J.arena joint.now in
+            (L : List (Entry ℕ)) → HasListed A L self.old → result ≡ None → HasListed A (L ++ entry_with (pair, reason) ∷ []) self.new }
+        ensures shaped { IsInRows (J.lanes joint.now) (length (J.arena joint.now).nodes) self.new }
+        ensures due { self.new.due ≡ self.old.due }
+    {
+        joint.known();
+        let (row, lane) = self.left.place(self.asked.row, pair);
+        if !self.left.has(row, lane) {
+            return Some(Why::Repeated);
+        }
+        let (left, place) = (&self.left, (row, lane));
+        if !holds(&mut self.asked, joint, left, pair, place, reason, steps) {
+            return Some(Why::Unjustified);
+        }
+        self.left.remove(row, lane);
+        None
+    }
+
     /// Judges a line as an entry.
     fn judge_entry<J: Rules, L: Ledger>(
         &mut self,
@@ -82,22 +150,10 @@ impl Audit {
         ensures shaped { IsInRows (J.lanes joint.now) (length (J.arena joint.now).nodes) self.new }
         ensures due { self.new.due ≡ self.old.due }
     {
-        joint.known();
-        let Some((pair, reason)) = entry(line, joint.pairs(), joint.actions()) else {
-            return Some(Why::Form);
-        };
-        let (row, lane) = self.left.place(self.asked.row, pair);
-        if !self.left.has(row, lane) {
-            return Some(Why::Repeated);
+        match entry(line, joint.pairs(), joint.actions()) {
+            Some((pair, reason)) => self.take_entry(joint, pair, reason, steps),
+            None => Some(Why::Form),
         }
-        if !self
-            .asked
-            .holds(joint, self.left.words(), pair, reason, steps)
-        {
-            return Some(Why::Unjustified);
-        }
-        self.left.remove(row, lane);
-        None
     }
 
     /// Judges a line after the first two.

@@ -1,12 +1,17 @@
 // The lines of a certificate.
-ghost use Rattle.std.specs.Prelude.{◌≡◌};
+ghost use Rattle.std.specs.Prelude.{◌≡◌, Some, IfSome, take};
 ghost use Rattle.std.specs.Option.{option_map};
+ghost use Rattle.roman_model.specs.Lists.{IsIn};
 ghost use Rattle.roman_model.specs.System.{same_numbers};
 ghost use Rattle.roman_model.specs.Certificate.{head_line, count_line, end_line, reason_text, reasons, entry_of};
-ghost use Rattle.roman_check.specs.Readings.{entry_with, ReadsOff};
+ghost use Rattle.roman_check.specs.Readings.{entry_with, IsEndedAt, ReadsOff};
 
-use crate::numbers::{is_number, number_below, number_to_space, trim_below};
+use crate::numbers::{is_number, number_below, number_to, trim_below};
 use roman_model::Reason;
+
+/// As many bytes as an entry's line has at most, its newline too, and the bytes at which one is looked
+/// for: past that no test of an index is needed.
+const ROOM: usize = 24;
 
 /// Whether that is the first line of a certificate.
 pub(crate) fn is_head(line: &[u8]) -> bool
@@ -54,8 +59,37 @@ fn reason(text: &[u8], actions: u8) -> Option<Reason>
 pub(crate) fn entry(line: &[u8], pairs: u32, actions: u8) -> Option<(u32, Reason)>
     ensures { option_map entry_with result ≡ entry_of pairs actions line.now }
 {
-    let (value, space) = number_to_space(line)?;
+    let (value, space) = number_to(line, b' ')?;
     let pair = trim_below(value, &line[..space], pairs)?;
     let reason = reason(&line[space + 1..], actions)?;
     Some((pair, reason))
+}
+
+/// The reason at the front of the bytes, and how long its text is, where a newline ends it there;
+/// `None` says nothing.
+#[inline]
+fn front_reason(bytes: &[u8], actions: u8) -> Option<(Reason, usize)>
+    ensures { IfSome result (λ r. IsIn r.0 (reasons actions) × IsEndedAt bytes.now r.1 × (reason_text r.0 ≡ take r.1 bytes.now)) }
+{
+    if bytes.len() > 1 && bytes[0] == b'f' && bytes[1] == b'\n' {
+        return Some((Reason::Final, 1));
+    }
+    let (value, end) = number_to(bytes, b'\n')?;
+    let action = trim_below(value, &bytes[..end], u32::from(actions))?;
+    Some((Reason::Act(action as u8), end))
+}
+
+/// The entry on the line at the front of the bytes, and how long the line is, read in one pass; `None`
+/// says nothing.
+#[inline]
+pub(crate) fn front_entry(bytes: &[u8], pairs: u32, actions: u8) -> Option<(u32, Reason, usize)>
+    ensures { IfSome result (λ r. IsEndedAt bytes.now r.2 × (entry_of pairs actions (take r.2 bytes.now) ≡ Some (entry_with (r.0, r.1)))) }
+{
+    if bytes.len() < ROOM {
+        return None;
+    }
+    let (value, space) = number_to(bytes, b' ')?;
+    let pair = trim_below(value, &bytes[..space], pairs)?;
+    let (reason, end) = front_reason(&bytes[space + 1..], actions)?;
+    Some((pair, reason, space + 1 + end))
 }

@@ -46,7 +46,8 @@ impl Line {
 
     /// Whether there is no byte.
     pub(crate) fn is_empty(&self) -> bool
-        ensures { (bytes : List ℕ) → Holds self.now bytes → IsTrue result ↔ (bytes ≡ []) }
+        ensures told { (bytes : List ℕ) → Holds self.now bytes → IsTrue result ↔ (bytes ≡ []) }
+        ensures none { IsTrue result → Holds self.now [] }
     {
         self.len == 0
     }

@@ -36,8 +36,12 @@ fn missing_in<J: Rules>(joint: &J, words: &[u64], x: u32) -> u64
     ensures within { (lane : ℕ) → J.lanes joint.now ≤ lane → is_on result lane ≡ false }
 {
     let full = u64::MAX >> (64 - joint.lanes());
+    let left = words[x as usize] & full;
+    if left == 0 {
+        return 0;
+    }
     let row = joint.row(x);
-    missing_among(joint, &row, words, words[x as usize] & full)
+    missing_among(joint, &row, words, left)
 }
 
 /// The least pair that isn't listed and at which a reason holds, where the words tell the pairs that

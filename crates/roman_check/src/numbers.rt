@@ -1,5 +1,6 @@
 // Decimal numbers.
-ghost use Rattle.std.specs.Prelude.{◌≡◌, ◌≢◌, ℕ, ◌<◌, ◌≤◌, length, take, decimal, MatchOption, IsTrue, ◌↔◌};
+ghost use Rattle.std.specs.Prelude.{◌≡◌, ◌≢◌, ℕ, ◌-◌, ◌<◌, ◌≤◌, length, take, decimal, MatchOption, IsTrue, ◌↔◌};
+ghost use Rattle.std.specs.Int.{IsInRange, IsOutOfRange};
 ghost use Rattle.std.specs.Str.Parse.{AllDigits, digits_value};
 ghost use Rattle.roman_check.specs.Decimals.{IsTrim, IsNumberTo};
 
@@ -23,23 +24,33 @@ fn digits(text: &[u8]) -> Option<u64>
     Some(value)
 }
 
-/// The number that the digits before the first space of a line are, also where zeros lead, and where
-/// that space stands; `None` exactly where no space follows at most ten digits.
-pub(crate) fn number_to_space(line: &[u8]) -> Option<(u64, usize)>
+/// The value of a digit, or more than 9 where the byte is none.
+fn digit(byte: u8) -> u64
+    ensures digit { result ≤ 9 → IsInRange 48 57 byte × (result ≡ byte - 48) }
+    ensures other { 9 < result → IsOutOfRange 48 57 byte }
+{
+    u64::from(byte).wrapping_sub(u64::from(b'0'))
+}
+
+/// The number that the digits at the front of the bytes are, also where zeros lead, and how many they
+/// are; `None` exactly where the byte `stop` doesn't follow at most ten digits.
+#[inline]
+pub(crate) fn number_to(bytes: &[u8], stop: u8) -> Option<(u64, usize)>
+    requires { stop < 48 }
     ensures { MatchOption result
-        ((i : ℕ) → IsNumberTo line.now i → ⊥)
-        (λ r. IsNumberTo line.now r.1 × (r.0 ≡ digits_value 10 (take r.1 line.now))) }
+        ((i : ℕ) → IsNumberTo stop bytes.now i → ⊥)
+        (λ r. IsNumberTo stop bytes.now r.1 × (r.0 ≡ digits_value 10 (take r.1 bytes.now))) }
 {
     let mut value = 0u64;
-    for i in 0..line.len().min(MOST_DIGITS + 1) {
-        let byte = line[i];
-        if byte == b' ' {
-            return Some((value, i));
-        }
-        if !byte.is_ascii_digit() {
+    for i in 0..bytes.len().min(MOST_DIGITS + 1) {
+        let digit = digit(bytes[i]);
+        if digit > 9 {
+            if bytes[i] == stop {
+                return Some((value, i));
+            }
             return None;
         }
-        value = value * 10 + u64::from(byte - b'0');
+        value = value * 10 + digit;
     }
     None
 }
@@ -48,7 +59,7 @@ pub(crate) fn number_to_space(line: &[u8]) -> Option<(u64, usize)>
 fn is_trim(text: &[u8]) -> bool
     ensures { IsTrue result ↔ IsTrim text.now }
 {
-    !text.is_empty() && text.len() <= MOST_DIGITS && (text.len() == 1 || text[0] != b'0')
+    !text.is_empty() && text.len() <= MOST_DIGITS && (text[0] != b'0' || text.len() == 1)
 }
 
 /// The value of the digits of a text, where it is below the bound and they are its decimal text.

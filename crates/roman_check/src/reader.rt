@@ -1,5 +1,5 @@
 // A certificate that is read line by line, in whatever pieces it comes.
-ghost use Rattle.std.specs.Prelude.{◌≡◌, ℕ, ◌+◌, ◌-◌, ◌*◌, ◌<◌, ◌≤◌, ◌++◌, List, [], ◌∷◌, length, take, drop, slice_index, position, ◌==◌, IfOk, MatchOption};
+ghost use Rattle.std.specs.Prelude.{◌≡◌, ℕ, ◌+◌, ◌-◌, ◌*◌, ◌<◌, ◌≤◌, ◌++◌, List, [], ◌∷◌, length, take, drop, slice_index, position, ◌==◌, Some, IfOk, IfErr, MatchOption};
 ghost use Rattle.roman_model.specs.Lines.{lines, IsLine};
 ghost use Rattle.roman_model.specs.Arena.{Arena};
 ghost use Rattle.roman_model.specs.Certificate.{cert_verdict};
@@ -7,9 +7,10 @@ ghost use Rattle.roman_rules.specs.Numbered.{IsNumbered};
 ghost use Rattle.roman_check.specs.Verdicts.{verdict_of};
 ghost use Rattle.roman_check.specs.Lines.{Holds};
 ghost use Rattle.roman_check.specs.Audits.{IsInRows, Judges};
-ghost use Rattle.roman_check.specs.Readers.{IsReading, HasLines, Feeds, Closes};
+ghost use Rattle.roman_check.specs.Readers.{IsReading, HasLines, IsReadTo, Feeds, Closes};
 
 use crate::audit::{Audit, Due};
+use crate::entries::front_entry;
 use crate::line::Line;
 use crate::verdict::{Verdict, Why};
 use roman_io::Steps;
@@ -117,6 +118,46 @@ impl Reader {
         None
     }
 
+    /// Reads entries from a place on, one after the other, as long as each is read in one pass. Tells
+    /// the place behind them, or names the fault of the last one.
+    fn read_entries<J: Rules, L: Ledger>(
+        &mut self,
+        joint: &J,
+        piece: &[u8],
+        from: usize,
+        steps: &mut Steps<L>,
+    ) -> Result<usize, Why>
+        requires shaped { IsInRows (J.lanes joint.now) (length (J.arena joint.now).nodes) self.old.audit }
+        requires place { from ≤ length piece.now }
+        requires room { self.old.lines + (length piece.now - from) ≤ MAX_CERTIFICATE_BYTES }
+        ensures place { IfOk result (λ start. (from ≤ start) × (start ≤ length piece.now) × (self.new.lines ≤ self.old.lines + (start - from))) }
+        ensures read { IfOk result (λ start. (before : Reader) → IsReadTo (J.arena joint.now) before self.old piece.now from →
+            IsReadTo (J.arena joint.now) before self.new piece.now start) }
+        ensures fault { IfErr result (λ why. (before : Reader) → IsReadTo (J.arena joint.now) before self.old piece.now from →
+            Feeds (J.arena joint.now) before self.new piece.now (Some why)) }
+        ensures lines { self.new.lines ≤ self.old.lines + (length piece.now - from) }
+        ensures shaped { IsInRows (J.lanes joint.now) (length (J.arena joint.now).nodes) self.new.audit }
+    {
+        joint.known();
+        let mut start = from;
+        let Due::Body = self.audit.due else {
+            return Ok(start);
+        };
+        if !self.line.is_empty() {
+            return Ok(start);
+        }
+        let (pairs, actions) = (joint.pairs(), joint.actions());
+        while let Some((pair, reason, len)) = front_entry(&piece[start..], pairs, actions) {
+            let end = start + len;
+            if let Some(why) = self.audit.take_entry(joint, pair, reason, steps) {
+                return Err(why);
+            }
+            self.lines += 1;
+            start = end + 1;
+        }
+        Ok(start)
+    }
+
     /// Reads a piece up to the first line at fault that ends in it, and names that fault.
     pub(crate) fn feed<J: Rules, L: Ledger>(
         &mut self,
@@ -130,15 +171,21 @@ impl Reader {
         ensures shaped { IsInRows (J.lanes joint.now) (length (J.arena joint.now).nodes) self.new.audit }
         ensures lines { self.new.lines ≤ self.old.lines + length piece.now }
     {
-        let mut start = 0;
-        while let Some(end) = next_newline(piece, start) {
+        let mut from = 0;
+        'lines: loop {
+            let start = match self.read_entries(joint, piece, from, steps) {
+                Ok(start) => start,
+                Err(why) => return Some(why),
+            };
+            let Some(end) = next_newline(piece, start) else {
+                self.line.extend(&piece[start..]);
+                return None;
+            };
             if let Some(why) = self.end_line(joint, &piece[start..end], steps) {
                 return Some(why);
             }
-            start = end + 1;
+            from = end + 1;
         }
-        self.line.extend(&piece[start..]);
-        None
     }
 
     /// Reads the last line where its newline is missing, and names its fault.

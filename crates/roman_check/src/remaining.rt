@@ -7,7 +7,7 @@ use crate::table::Remaining;
 use std::alloc::{AllocError, Global};
 
 /// Whether the bit of a lane is set.
-fn has_lane(word: u64, lane: u32) -> bool
+pub(crate) fn has_lane(word: u64, lane: u32) -> bool
     requires { lane < 64 }
     ensures { result ≡ is_on word lane }
 {

@@ -1,10 +1,10 @@
 use Rattle.std.proofs.Common.{◌≡◌, take}
 use Rattle.std.specs.Str.Parse.{AllDigits, digits_value}
-use Rattle.roman_check.proofs.numbers.number_to_space.Given as goal
+use Rattle.roman_check.proofs.numbers.number_to.Given as goal
 
 -- the bytes so far are digits, and their value is known
 abbrev pub invariant-loop-i : goal.invariant-loop-i
 invariant-loop-i l = record {
-  digits : AllDigits 10 (take l.i l.line);
-  value : l.value ≡ digits_value 10 (take l.i l.line);
+  digits : AllDigits 10 (take l.i l.bytes);
+  value : l.value ≡ digits_value 10 (take l.i l.bytes);
 }
