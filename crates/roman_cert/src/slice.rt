@@ -60,6 +60,7 @@ pub fn write_slice<O: Sink, L: Ledger>(
 {
     relation.joint.known();
     relation.order.len();
+    relation.order.place_all();
     mark_slice(&relation.joint, &mut relation.order, p, steps);
     write_marked(&relation.joint, &relation.order, out, steps)
 }

@@ -1,10 +1,11 @@
-use Rattle.std.proofs.Common.{ap, sym, subst, ◌∙◌, arith}
+use Rattle.std.proofs.Common.{◌≡◌, ℕ, length, ap, sym, subst, ◌∙◌, arith}
 use Rattle.roman_model.specs.Arena.{IsOrder}
+use Rattle.roman_model.specs.Explanation.{rests_on}
 use Rattle.roman_model.specs.Numbers.{sizes_of, count}
 use Rattle.roman_model.proofs.Lists.{length-below}
 use Rattle.roman_model.proofs.CertificateLaws.{complete_order}
 use Rattle.roman_joint.specs.NamedSys.{system_of}
-use Rattle.roman_order.specs.Board.{Board, pairs_of}
+use Rattle.roman_order.specs.Board.{Board, pairs_of, is_marked}
 use Rattle.roman_relation.specs.Greatest.{arena_of, IsRelation}
 use Rattle.roman_cert.proofs.Answering.{listed_numbers}
 use Rattle.roman_cert.proofs.Slicing.{explanation_written, unrelated_explained, unrelated_wins, marks_keep}
@@ -14,19 +15,20 @@ pub mark_slice-requires-clause-valid : goal.mark_slice-requires-clause-valid
 mark_slice-requires-clause-valid g c =
     let relation = c.args.relation.now in
     let s = system_of relation.joint in
-    complete_order s relation.order.list c.known.ensures.system (listed_numbers s relation.order c.requires.relation.shaped.pairs c.len.ensures.in_range) c.requires.relation.complete.list
+    subst (λ (b : Board). IsOrder (arena_of relation.joint) b.list) (sym c.place_all.ensures.same)
+    (complete_order s relation.order.list c.known.ensures.system (listed_numbers s relation.order c.requires.relation.shaped.pairs c.len.ensures.in_range) c.requires.relation.complete.list)
 
 pub mark_slice-requires-clause-pair : goal.mark_slice-requires-clause-pair
 mark_slice-requires-clause-pair g c = omega (arith, c.requires.pair, length-below (count (sizes_of (system_of c.args.relation.now.joint))))
 
 pub write_marked-requires-clause-shaped : goal.write_marked-requires-clause-shaped
-write_marked-requires-clause-shaped g c = ap pairs_of c.mark_slice.ensures.rest ∙ c.requires.relation.shaped.pairs
+write_marked-requires-clause-shaped g c = ap pairs_of c.mark_slice.ensures.rest ∙ (ap pairs_of c.place_all.ensures.same ∙ c.requires.relation.shaped.pairs)
 
 pub write_marked-requires-clause-valid : goal.write_marked-requires-clause-valid
 write_marked-requires-clause-valid g c =
     let relation = c.args.relation.now in
     let s = system_of relation.joint in
-    subst (IsOrder (arena_of relation.joint)) (sym (ap (λ (b : Board). b.list) c.mark_slice.ensures.rest))
+    subst (IsOrder (arena_of relation.joint)) (sym (ap (λ (b : Board). b.list) c.mark_slice.ensures.rest ∙ ap (λ (b : Board). b.list) c.place_all.ensures.same))
     (complete_order s relation.order.list c.known.ensures.system (listed_numbers s relation.order c.requires.relation.shaped.pairs c.len.ensures.in_range) c.requires.relation.complete.list)
 
 pub returns-clause-text : goal.returns-clause-text
@@ -34,7 +36,8 @@ returns-clause-text g c =
     let relation = c.args.relation.now in
     let s = system_of relation.joint in
     explanation_written relation.joint c.mark_slice.new.order relation.order.list c.args.p (g.O.Sink.written c.args.out.now) (g.O.Sink.written c.write_marked.new.out) c.write_marked.result c.known.ensures
-    (listed_numbers s relation.order c.requires.relation.shaped.pairs c.len.ensures.in_range) c.requires.pair (ap (λ (b : Board). b.list) c.mark_slice.ensures.rest) c.mark_slice.ensures.marked c.write_marked.ensures.text
+    (listed_numbers s relation.order c.requires.relation.shaped.pairs c.len.ensures.in_range) c.requires.pair (ap (λ (b : Board). b.list) c.mark_slice.ensures.rest ∙ ap (λ (b : Board). b.list) c.place_all.ensures.same)
+    (subst (λ (b : Board). (q : ℕ) → is_marked c.mark_slice.new.order q ≡ rests_on (arena_of relation.joint) b.list (length b.list) c.args.p q) c.place_all.ensures.same c.mark_slice.ensures.marked) c.write_marked.ensures.text
 
 pub returns-clause-explained : goal.returns-clause-explained
 returns-clause-explained g c =
@@ -49,4 +52,4 @@ returns-clause-wins g c =
 pub returns-clause-relation : goal.returns-clause-relation
 returns-clause-relation g c =
     let relation = c.args.relation.now in
-    subst (IsRelation relation.joint) (sym c.mark_slice.ensures.rest) (marks_keep relation.joint relation.order c.mark_slice.new.order.marks c.requires.relation)
+    subst (IsRelation relation.joint) (sym (c.mark_slice.ensures.rest ∙ ap (λ (b : Board). record b { marks = c.mark_slice.new.order.marks }) c.place_all.ensures.same)) (marks_keep relation.joint relation.order c.mark_slice.new.order.marks c.requires.relation)
