@@ -1,8 +1,9 @@
 //! The certificate of a relation.
-ghost use Rattle.std.specs.Prelude.{◌≡◌, ◌++◌, [], ◌∷◌, OnOk, decimal};
+ghost use Rattle.std.specs.Prelude.{◌≡◌, ◌++◌, [], ◌∷◌, OnOk};
 ghost use Rattle.roman_io.specs.Faults.{HasCause};
 ghost use Rattle.roman_io.specs.Sink.{Puts};
 ghost use Rattle.roman_text.specs.Pages.{Gathers};
+ghost use Rattle.roman_model.specs.declared.reason.Reason.TheVariants.{Act};
 ghost use Rattle.roman_model.specs.Lines.{text_of};
 ghost use Rattle.roman_model.specs.Certificate.{head_line, count_line, entry_line, cert_text};
 ghost use Rattle.roman_model.specs.Numbers.{sizes_of, count, IsCompleteList};
@@ -68,20 +69,26 @@ fn push_entry<O: Sink>(
         (page.old ++ text_of (entry_line (as_entry (pair, reason)) ∷ [])) result }
     ensures cause { HasCause (O.faults out.old) (O.faults out.new) result }
 {
-    page.push_number(pair, out)?;
     match reason {
-        Reason::Final => page.push(b" f\n", out),
-        Reason::Act(action) => push_action(action, page, out),
+        Reason::Final => page.push_number_then(pair, b" f\n", out),
+        Reason::Act(action) => push_action(pair, action, page, out),
     }
 }
 
-/// Takes the end of the line of an entry, whose reason is the action.
-fn push_action<O: Sink>(action: u8, page: &mut Page, out: &mut O) -> Result<(), Failed>
+/// Takes the line of an entry whose reason is the action.
+fn push_action<O: Sink>(
+    pair: u32,
+    action: u8,
+    page: &mut Page,
+    out: &mut O,
+) -> Result<(), Failed>
     ensures gathers { Gathers (O.written out.old) (O.written out.new) page.new
-        (page.old ++ 32 ∷ (decimal action ++ 10 ∷ [])) result }
+        (page.old ++ text_of (entry_line (as_entry (pair, Act action)) ∷ [])) result }
     ensures cause { HasCause (O.faults out.old) (O.faults out.new) result }
 {
-    page.push(b" ", out)?;
-    page.push_number(u32::from(action), out)?;
-    page.push(b"\n", out)
+    if action < 10 {
+        return page.push_number_then(pair, &[b' ', b'0' + action, b'\n'], out);
+    }
+    page.push_number_then(pair, b" ", out)?;
+    page.push_number_then(u32::from(action), b"\n", out)
 }

@@ -1,7 +1,7 @@
 -- A page that is being filled: what it has taken so far, and what is left of a whole text.
 use Rattle.std.proofs.Common.{◌≡◌, ℕ, List, [], ◌++◌, Option, Result, Ok, Err, refl, sym, ap, ◌∙◌, subst, append_assoc}
 use Rattle.std.proofs.lemmas.List.{append-nil}
-use Rattle.roman_io.specs.Sink.{Wrote, WroteFront, Puts}
+use Rattle.roman_io.specs.Sink.{WroteFront, Puts}
 use Rattle.roman_io.proofs.SinkLemmas.{Wrote-nil, WroteFront-append}
 use Rattle.roman_text.specs.Pages.{Gathered, Gathers}
 use Rattle.roman_text.proofs.PageLemmas.{Gathered-then, WroteFront-gathered, Puts-after_Gathered}

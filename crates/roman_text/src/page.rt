@@ -8,12 +8,15 @@ ghost use Rattle.roman_text.specs.Report.{line_text};
 
 use crate::replies::{Reply, reply_piece};
 use crate::report::{ReportLine, report_piece};
-use itoa::Buffer;
+use itoa::{Buffer, write_digits};
 use roman_io::{Failed, Sink};
 use std::marker::Model;
 
 // The greatest number of bytes that a page holds.
 const ROOM: usize = 4096;
+
+// The greatest number of digits that a number has.
+const DIGITS: usize = 10;
 
 /// Bytes on their way to a sink, so that many short ones are put as one piece. Contracts see the
 /// bytes that are held: the sink has those before them.
@@ -80,6 +83,27 @@ impl Page {
         self.push(Buffer::new().format(n).as_bytes(), out)
     }
 
+    /// Takes a number, in decimal digits, and the bytes behind it, as [`Page::push`] takes bytes.
+    #[inline(always)]
+    pub fn push_number_then<O: Sink>(
+        &mut self,
+        n: u32,
+        behind: &[u8],
+        out: &mut O,
+    ) -> Result<(), Failed>
+        ensures gathers { Gathers (O.written out.old) (O.written out.new) self.new
+            (self.old ++ (decimal n ++ behind.now)) result }
+        ensures cause { HasCause (O.faults out.old) (O.faults out.new) result }
+    {
+        if self.room() < DIGITS + behind.len() {
+            self.push_number(n, out)?;
+            return self.push(behind, out);
+        }
+        self.add_number(n);
+        self.add(behind);
+        Ok(())
+    }
+
     /// Takes a reply, as [`Page::push`] takes bytes.
     pub fn push_reply<O: Sink>(&mut self, reply: &Reply, out: &mut O) -> Result<(), Failed>
         ensures gathers { Gathers (O.written out.old) (O.written out.new) self.new (self.old ++ reply_text reply.now) result }
@@ -128,5 +152,33 @@ impl Page {
         let end = self.len + bytes.len();
         self.bytes[self.len..end].copy_from_slice(bytes);
         self.len = end;
+    }
+
+    // Adds a number that has room, in decimal digits.
+    fn add_number(&mut self, n: u32)
+        requires { length self.old + length (decimal n) ≤ 4096 }
+        ensures { self.new ≡ self.old ++ decimal n }
+    {
+        let end = self.len + digits(n);
+        write_digits(u64::from(n), &mut self.bytes, end);
+        self.len = end;
+    }
+}
+
+// How many decimal digits a number has.
+fn digits(n: u32) -> usize
+    ensures { result ≡ length (decimal n) }
+{
+    match n {
+        0..=9 => 1,
+        10..=99 => 2,
+        100..=999 => 3,
+        1_000..=9_999 => 4,
+        10_000..=99_999 => 5,
+        100_000..=999_999 => 6,
+        1_000_000..=9_999_999 => 7,
+        10_000_000..=99_999_999 => 8,
+        100_000_000..=999_999_999 => 9,
+        _ => 10,
     }
 }

@@ -1,29 +1,47 @@
-use Rattle.std.proofs.Common.{◌∷◌, ◌++◌, [], codes, decimal, refl, ap}
+use Rattle.std.proofs.Common.{◌≡◌, ℕ, List, [], ◌∷◌, ◌++◌, codes, decimal, refl, sym, ap, ◌∙◌, subst, append_assoc}
+use Rattle.std.proofs.lemmas.Fmt.{decimal_digit}
 use Rattle.std.proofs.lemmas.Result.{err_from_is_err_and}
-use Rattle.roman_text.proofs.Filling.{fill_behind, fill_more, fill_failed, fill_last}
+use Rattle.roman_io.specs.Sink.{WroteFront}
+use Rattle.roman_io.proofs.SinkLemmas.{WroteFront-append}
+use Rattle.roman_model.specs.declared.reason.Reason.TheVariants.{Act}
+use Rattle.roman_model.specs.Lines.{text_of}
+use Rattle.roman_model.specs.Certificate.{entry_line}
+use Rattle.roman_order.specs.Board.{as_entry}
+use Rattle.roman_text.specs.Pages.{Gathers}
+use Rattle.roman_text.proofs.PageLemmas.{Gathers-after}
+use Rattle.roman_cert.proofs.Certificates.{entry_parts}
 use Rattle.roman_cert.proofs.certificate.push_action.Goals as goal
 
-pub returns-in_err-push-clause-gathers : goal.returns-in_err-push-clause-gathers
-returns-in_err-push-clause-gathers g c =
-    let p = err_from_is_err_and c.from_residual.result c.from_residual.ensures.1 in
-    rw p.1 (
-      fill_failed _ _ _ _ (codes " ") (decimal c.args.action ++ codes "\n") _ (fill_behind _ _ (codes " " ++ (decimal c.args.action ++ codes "\n")) _ refl) c.in_err-push.ensures.gathers.0,
-      c.in_err-push.ensures.gathers.1,
-    )
+-- the line in two parts, behind what a page holds
+in_two : (held : List ℕ) (pair action n : ℕ) → n ≡ action →
+    (held ++ (decimal pair ++ codes " ")) ++ (decimal n ++ codes "\n") ≡ held ++ text_of (entry_line (as_entry (pair, Act action)) ∷ [])
+in_two held pair action n e =
+    let line = append_assoc (decimal pair) (codes " ") (decimal n ++ codes "\n") ∙ entry_parts (as_entry (pair, Act n)) in
+    append_assoc held (decimal pair ++ codes " ") (decimal n ++ codes "\n") ∙ ap (λ (bs : List ℕ). held ++ bs) line ∙ ap (λ a. held ++ text_of (entry_line (as_entry (pair, Act a)) ∷ [])) e
 
-pub returns-in_err-push_number-clause-gathers : goal.returns-in_err-push_number-clause-gathers
-returns-in_err-push_number-clause-gathers g c =
-    let n = c.from.result in
-    let begun = fill_behind _ _ (codes " " ++ (decimal n ++ codes "\n")) _ (ap (λ m. 32 ∷ (decimal m ++ 10 ∷ [])) c.from.ensures) in
-    let p = err_from_is_err_and c.from_residual-in_err-push_number.result c.from_residual-in_err-push_number.ensures.1 in
+pub returns-then-action-lt10-clause-gathers : goal.returns-then-action-lt10-clause-gathers
+returns-then-action-lt10-clause-gathers g c =
+    let a = c.args.action in
+    let pushed = c.push_number_then in
+    subst (λ (line : List ℕ). Gathers (g.O.Sink.written c.args.out.now) (g.O.Sink.written pushed.new.out) pushed.new.self (c.args.page.now ++ line) pushed.result)
+        (ap (λ (ds : List ℕ). decimal c.args.pair ++ (32 ∷ (ds ++ 10 ∷ []))) (sym (decimal_digit a c.if-action-lt10.true)) ∙ entry_parts (as_entry (c.args.pair, Act a)))
+        pushed.ensures.gathers
+
+pub returns-in_err-push_number_then-clause-gathers : goal.returns-in_err-push_number_then-clause-gathers
+returns-in_err-push_number_then-clause-gathers g c =
+    let a = c.args.action in
+    let p = err_from_is_err_and c.from_residual.result c.from_residual.ensures.1 in
+    let failed = c.in_err-push_number_then.ensures.gathers in
     rw p.1 (
-      fill_failed _ _ _ _ (decimal n) (codes "\n") _ (fill_more _ _ _ _ _ (codes " ") (decimal n ++ codes "\n") _ begun c.in_ok-push.ensures.gathers) c.in_err-push_number.ensures.gathers.0,
-      c.in_err-push_number.ensures.gathers.1,
+      subst (WroteFront (g.O.Sink.written c.args.out.now) (g.O.Sink.written c.push_number_then-2.new.out)) (in_two c.args.page.now c.args.pair a a refl)
+          (WroteFront-append _ _ _ (decimal a ++ codes "\n") failed.0),
+      failed.1,
     )
 
 pub returns-clause-gathers : goal.returns-clause-gathers
 returns-clause-gathers g c =
     let n = c.from.result in
-    let begun = fill_behind _ _ (codes " " ++ (decimal n ++ codes "\n")) _ (ap (λ m. 32 ∷ (decimal m ++ 10 ∷ [])) c.from.ensures) in
-    let spaced = fill_more _ _ _ _ _ (codes " ") (decimal n ++ codes "\n") _ begun c.in_ok-push.ensures.gathers in
-    fill_last _ _ _ _ _ (codes "\n") _ _ (fill_more _ _ _ _ _ (decimal n) (codes "\n") _ spaced c.in_ok-push_number.ensures.gathers) c.push-2.ensures.gathers
+    let pushed = c.push_number_then-3 in
+    subst (λ (text : List ℕ). Gathers (g.O.Sink.written c.args.out.now) (g.O.Sink.written pushed.new.out) pushed.new.self text pushed.result)
+        (in_two c.args.page.now c.args.pair c.args.action n c.from.ensures)
+        (Gathers-after _ _ _ _ _ _ (decimal n ++ codes "\n") _ c.in_ok-push_number_then.ensures.gathers pushed.ensures.gathers)
