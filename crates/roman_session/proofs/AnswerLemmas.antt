@@ -1,18 +1,20 @@
 -- What follows from the step of an answer.
-use Rattle.std.proofs.Common.{◌≡◌, ℕ, inl, inr, List, Result, Ok, Err, refl, sym, ap, ◌∙◌, subst}
+use Rattle.std.proofs.Common.{◌≡◌, ℕ, inl, inr, List, [], ◌++◌, Option, Result, Ok, Err, refl, sym, ap, ◌∙◌, subst}
+use Rattle.roman_io.specs.Sink.{WroteFront, Puts}
+use Rattle.roman_text.specs.Pages.{Gathered, Gathers}
+use Rattle.roman_text.proofs.PageLemmas.{Puts-after_Gathered, Gathered-put}
 use Rattle.roman_text.specs.Shapes.{LineShape, ask, saw, shape_of}
 use Rattle.roman_text.specs.declared.errors.LineError.{LineError}
 use Rattle.roman_text.specs.Replies.{reply_text}
 use Rattle.roman_text.specs.declared.replies.Reply.{Reply}
 use Rattle.roman_text.specs.declared.replies.Reply.TheVariants as reply
-use Rattle.roman_session.specs.Situations.{Situation, IsOpen, IsSituation}
+use Rattle.roman_session.specs.Situations.{Situation, IsSituation}
 use Rattle.roman_session.specs.Rulings.{asked}
 use Rattle.roman_session.specs.Steps.{Does, Asks, Sees, Step, StepOn, StepBy, offer_text}
-use Rattle.roman_session.specs.Answering.{NamesSome, SeenStaysRelated}
+use Rattle.roman_session.specs.Answering.{Answered, AnsweredOn, NamesSome, SeenStaysRelated}
 use Rattle.roman_session.specs.declared.events.Sight.{Sight}
 use Rattle.roman_session.specs.declared.phase.Phase.{Phase}
 use Rattle.roman_session.specs.declared.phase.Phase.TheVariants.{Offered}
-use Rattle.roman_session.proofs.RulingLemmas.{asked_is}
 use Rattle.roman_session.proofs.StepLemmas.{requests_offered, outcomes_related}
 
 -- the line that offers services doesn't depend on the phase
@@ -25,11 +27,32 @@ pub asks_said : (old new : Situation) (action : List ℕ) (a : ℕ) → asked ol
 asks_said old new action a ok becomes =
     subst (λ (r : Result ℕ Reply). Does Asks old r (offer_text new a) new) (sym ok) (ap (λ (s : Situation). offer_text s a) becomes ∙ offer_kept old (Offered a) a, becomes)
 
--- and is open then
-pub asked_open : (old new : Situation) (action : List ℕ) (a : ℕ) → asked old action ≡ Ok a → new ≡ record old { phase = Offered a } → IsOpen new a
-asked_open old new action a ok becomes =
-    let asked = asked_is old action a ok in
-    subst (λ (s : Situation). IsOpen s a) (sym becomes) (asked.related, asked.allowed)
+-- ---- what a page takes
+
+-- bytes that were put where the page holds nothing
+pub puts_gathered : {T E : Type 0} (old new : Option (List ℕ)) (held bytes : List ℕ) (result : Result T E) → held ≡ [] → Puts old new bytes result → Gathers old new held bytes result
+puts_gathered old new held bytes (Ok x) empty puts = subst (λ (xs : List ℕ). Gathered old new xs bytes) (sym empty) (Gathered-put old new bytes puts)
+puts_gathered old new held bytes (Err e) empty puts = (puts, empty)
+
+-- an answer that was taken on an empty page, which is put then
+pub answered_whole : {T E T' E' : Type 0} (old new : Situation) (line : List ℕ) (before mid after : Option (List ℕ)) (held holds : List ℕ) (x : T) (result : Result T' E') → held ≡ [] →
+    AnsweredOn {T = T} {E = E} old line new before mid held holds (Ok x) → Puts mid after holds result → Answered old line new before after result
+answered_whole old new line before mid after held holds x result empty a puts = record {
+  text = a.text;
+  step = a.step;
+  puts = subst (λ (bs : List ℕ). Puts before after bs result) (ap (λ (bs : List ℕ). bs ++ a.text) empty) (Puts-after_Gathered before mid after holds (held ++ a.text) result a.gathers puts);
+}
+
+-- and one that wasn't taken whole
+pub answered_front : {T E T' E' : Type 0} (old new : Situation) (line : List ℕ) (before after : Option (List ℕ)) (held holds : List ℕ) (e : E) (e' : E') → held ≡ [] → AnsweredOn {T = T} {E = E} old line new before after held holds (Err e) →
+    Answered {T = T'} {E = E'} old line new before after (Err e')
+answered_front old new line before after held holds e e' empty a = record {
+  text = a.text;
+  step = a.step;
+  puts = subst (λ (bs : List ℕ). WroteFront before after bs) (ap (λ (bs : List ℕ). bs ++ a.text) empty) a.gathers.0;
+}
+
+-- ---- what the answer says
 
 -- it names at least one service
 pub names_some : (old : Situation) (line : List ℕ) → IsSituation old → NamesSome old line

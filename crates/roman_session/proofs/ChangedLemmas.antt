@@ -1,15 +1,16 @@
 -- A session after its services changed.
-use Rattle.std.proofs.Common.{◌≡◌, ℕ, ◌<◌, ◌≤◌, ◌+◌, List, [], ◌∷◌, ◌++◌, true, false, Some, Result, IsTrue, IsFalse, not, map, length, take, drop, slice_get, Vec, Global, vec_len, vec_capacity, inl, inr, refl, sym, ap, ap₂, ◌∙◌, subst, arith, take-append-drop, length-drop}
+use Rattle.std.proofs.Common.{◌≡◌, ℕ, ◌<◌, ◌≤◌, ◌+◌, Bool, List, [], ◌∷◌, ◌++◌, true, false, Some, Result, IsTrue, IsFalse, not, map, length, take, drop, slice_get, Vec, Global, vec_len, vec_capacity, inl, inr, refl, sym, ap, ap₂, ◌∙◌, subst, arith, take-append-drop, length-drop}
 use Rattle.std.proofs.lemmas.List.{length-map, length-take}
 use Rattle.std.proofs.lemmas.Option.{get_or_from_slice_get}
 use Rattle.std.specs.List.{remove}
 use Rattle.roman_model.specs.System.{Sys, Seat, Pair, IsPair, is_ready}
 use Rattle.roman_model.specs.Arena.{Entry, replay}
 use Rattle.roman_model.specs.Composition.{arena, IsComplete}
-use Rattle.roman_model.specs.Change.{CanChange, Freeze, Thaw, Join, Die, rename, after}
-use Rattle.roman_model.specs.Numbers.{entry_at}
+use Rattle.roman_model.specs.Change.{CanChange, Freeze, Thaw, Join, Die, rename}
+use Rattle.roman_model.specs.Numbers.{Sizes, sizes_of, number, entry_at}
 use Rattle.roman_model.specs.declared.limits.TheConstants.{MAX_BEHAVIOURS, MAX_SERVICES}
-use Rattle.roman_model.proofs.ChangeLemmas.{IsPair-turned, IsPair-grown, IsPair-without}
+use Rattle.roman_model.proofs.ChangeLemmas.{turned, IsPair-turned, IsPair-grown, IsPair-without}
+use Rattle.roman_model.proofs.NumberedChanges.{sizes-turned}
 use Rattle.roman_joint.specs.NamedSys.{NamedSys, IsNamedSys}
 use Rattle.roman_joint.specs.NamedSys as joint
 use Rattle.roman_relation.specs.declared.relation.Relation.{Relation}
@@ -27,7 +28,7 @@ use Rattle.std.proofs.lemmas.Bool.{cases_lt}
 use Rattle.roman_session.specs.Steps.{Changing, freezing, thawing, dying, growing, parts_after, Does, Joins, Changes}
 use Rattle.roman_session.specs.Layout.{situation_in, IsSession}
 use Rattle.roman_session.specs.declared.phase.Phase.{Phase}
-use Rattle.roman_session.specs.declared.phase.Phase.TheVariants.{Idle}
+use Rattle.roman_session.specs.declared.phase.Phase.TheVariants.{Idle, Offered}
 use Rattle.roman_session.specs.declared.session.Session.TheInside.{Inside}
 use Rattle.roman_session.proofs.RulingLemmas.{cells_with, with_room_is, no_room_is}
 use Rattle.roman_session.proofs.SituationLemmas.{there_is}
@@ -71,6 +72,10 @@ begins_with : (a b : Inside) (x : Changing) (tally : Tally) → IsRepaired x.cha
 begins_with a b x tally repaired =
     subst (λ (s : Sys). take tally.kept (map (entry_at s) b.relation.order.list) ≡ replay (arena s) (rename x.change (list_of a))) (sym repaired.system) repaired.list.begins
 
+-- where no request is open, no service is offered
+none_offered : {X : Type 0} (phase : Phase) (action : ℕ) → phase ≡ Idle → phase ≡ Offered action → X
+none_offered phase action idle offered = absurd (let h : ⊥ = cc in h)
+
 -- the fields after a change are those of a session, and the step is made
 pub record HasChanged (a b : Inside) (x : Changing) (tally : Tally) : Type 0 where
   pub session : IsSession b
@@ -82,9 +87,10 @@ situation_of parts here phase list = record { parts = parts; here = here; phase 
 
 pub changed : (a b : Inside) (x : Changing) (tally : Tally) → IsSession a → a.phase ≡ Idle → b.phase ≡ Idle → b.relation.joint ≡ parts_after (situation_in a) x → (situation_in b).here ≡ x.here →
     IsRepaired x.change a.relation.joint a.relation.order b.relation.joint b.relation.order tally → IsNamedSys b.relation.joint →
-    IsPair (after x.change (joint.system_of a.relation.joint)) x.here → MAX_SERVICES ≤ vec_capacity b.states → HasChanged a b x tally
+    IsPair (joint.system_of b.relation.joint) (situation_in b).here → b.number ≡ number (sizes_of (joint.system_of b.relation.joint)) (situation_in b).here → MAX_SERVICES ≤ vec_capacity b.states →
+    HasChanged a b x tally
 unfolding situation_of
-changed a b x tally ok old_idle new_idle parts here repaired known pair room =
+changed a b x tally ok old_idle new_idle parts here repaired known pair counted room =
     let new = joint.system_of b.relation.joint in
     let L = list_of b in
     let whole : take tally.kept L ++ drop tally.kept L ≡ L = take-append-drop tally.kept L in
@@ -97,12 +103,14 @@ changed a b x tally ok old_idle new_idle parts here repaired known pair room =
         relation = repaired.relation;
         known = record {
           parts = known;
-          here = subst (λ (p : Pair). IsPair new p) (sym here) (subst (λ (s : Sys). IsPair s x.here) (sym repaired.system) pair);
+          here = pair;
           list = repaired.relation.complete.list;
           phase = subst (IsPhase (situation_in b)) (sym new_idle) tt;
         };
         few = subst (λ (n : NamedSys). length n.catalogue ≤ MAX_BEHAVIOURS) (sym parts) ok.few;
         room = room;
+        numbered = counted;
+        offered = λ action. none_offered b.phase action new_idle;
       };
       changes = record {
         kept = take tally.kept L;
@@ -116,45 +124,80 @@ changed a b x tally ok old_idle new_idle parts here repaired known pair room =
 
 -- the fields with another relation, where a service froze or thawed
 abbrev pub turned_fields : Inside → Relation → Inside
-turned_fields a relation = record { relation = relation; target = a.target; env = a.env; states = a.states; phase = a.phase }
+turned_fields a relation = record { relation = relation; target = a.target; env = a.env; states = a.states; number = a.number; phase = a.phase; mask = a.mask }
+
+-- the pair stays, and its number
+turned_pair : (a : Inside) (relation : Relation) (k : ℕ) (frozen : Bool) → IsSession a → joint.system_of relation.joint ≡ turned (joint.system_of a.relation.joint) k frozen →
+    IsPair (joint.system_of relation.joint) (situation_in a).here × (a.number ≡ number (sizes_of (joint.system_of relation.joint)) (situation_in a).here)
+turned_pair a relation k frozen ok same =
+    let s = joint.system_of a.relation.joint in
+    let here = (situation_in a).here in (
+      subst (λ (s : Sys). IsPair s here) (sym same) (IsPair-turned s k frozen here ok.known.here),
+      ok.numbered ∙ ap (λ (n : Sizes). number n here) (sym (sizes-turned s k frozen)) ∙ ap (λ (s : Sys). number (sizes_of s) here) (sym same),
+    )
 
 pub frozen_now : (a : Inside) (relation : Relation) (k : ℕ) (tally : Tally) → IsSession a → a.phase ≡ Idle → relation.joint ≡ parts_after (situation_in a) (freezing (situation_in a) k) →
     IsRepaired (Freeze k) a.relation.joint a.relation.order relation.joint relation.order tally → IsNamedSys relation.joint →
     HasChanged a (turned_fields a relation) (freezing (situation_in a) k) tally
 frozen_now a relation k tally ok idle parts repaired known =
-    changed a (turned_fields a relation) (freezing (situation_in a) k) tally ok idle idle parts refl repaired known
-    (IsPair-turned (joint.system_of a.relation.joint) k true (situation_in a).here ok.known.here) ok.room
+    let (pair, counted) = turned_pair a relation k true ok repaired.system in
+    changed a (turned_fields a relation) (freezing (situation_in a) k) tally ok idle idle parts refl repaired known pair counted ok.room
 
 pub thawed_now : (a : Inside) (relation : Relation) (k : ℕ) (tally : Tally) → IsSession a → a.phase ≡ Idle → relation.joint ≡ parts_after (situation_in a) (thawing (situation_in a) k) →
     IsRepaired (Thaw k) a.relation.joint a.relation.order relation.joint relation.order tally → IsNamedSys relation.joint →
     HasChanged a (turned_fields a relation) (thawing (situation_in a) k) tally
 thawed_now a relation k tally ok idle parts repaired known =
-    changed a (turned_fields a relation) (thawing (situation_in a) k) tally ok idle idle parts refl repaired known
-    (IsPair-turned (joint.system_of a.relation.joint) k false (situation_in a).here ok.known.here) ok.room
+    let (pair, counted) = turned_pair a relation k false ok repaired.system in
+    changed a (turned_fields a relation) (thawing (situation_in a) k) tally ok idle idle parts refl repaired known pair counted ok.room
 
 -- the fields with another relation and other states, where a service joined or died
-abbrev pub moved_fields : Inside → Relation → Vec ℕ Global → Inside
-moved_fields a relation states = record { relation = relation; target = a.target; env = a.env; states = states; phase = a.phase }
+abbrev pub moved_fields : Inside → Relation → Vec ℕ Global → ℕ → Inside
+moved_fields a relation states n = record { relation = relation; target = a.target; env = a.env; states = states; number = n; phase = a.phase; mask = a.mask }
 
-pub joined_now : (a : Inside) (relation : Relation) (states : Vec ℕ Global) (x : Joining) (tally : Tally) → IsSession a → a.phase ≡ Idle → CanJoin a.relation.joint x →
+-- the pair with these states of the services
+abbrev pub with_states : Inside → List ℕ → Pair
+with_states a bs = record { t = a.target; e = a.env; bs = bs }
+
+-- its number, by the states as a slice
+pub counted_now : (a : Inside) (relation : Relation) (states : Vec ℕ Global) (bs : List ℕ) (n : ℕ) → bs ≡ states.items → n ≡ number (sizes_of (joint.system_of relation.joint)) (with_states a bs) →
+    n ≡ number (sizes_of (joint.system_of relation.joint)) (with_states a states.items)
+counted_now a relation states bs n same counted = counted ∙ ap (λ (bs : List ℕ). number (sizes_of (joint.system_of relation.joint)) (with_states a bs)) same
+
+pub joined_pair : (a : Inside) (relation : Relation) (states : List ℕ) (x : Joining) (tally : Tally) → IsSession a → CanJoin a.relation.joint x →
+    IsRepaired (Join (joint.seat_of a.relation.joint.catalogue x.seat)) a.relation.joint a.relation.order relation.joint relation.order tally →
+    states ≡ a.states.items ++ x.state ∷ [] → IsPair (joint.system_of relation.joint) (with_states a states)
+joined_pair a relation states x tally ok can repaired items =
+    subst (λ (bs : List ℕ). IsPair (joint.system_of relation.joint) (with_states a bs)) (sym items)
+    (subst (λ (s : Sys). IsPair s (with_states a (a.states.items ++ x.state ∷ []))) (sym repaired.system)
+    (IsPair-grown (joint.system_of a.relation.joint) (joint.seat_of a.relation.joint.catalogue x.seat) (situation_in a).here x.state ok.known.here can.state))
+
+pub joined_now : (a : Inside) (relation : Relation) (states : Vec ℕ Global) (n : ℕ) (x : Joining) (tally : Tally) → IsSession a → a.phase ≡ Idle → CanJoin a.relation.joint x →
     relation.joint ≡ parts_after (situation_in a) (growing (situation_in a) x) →
     IsRepaired (Join (joint.seat_of a.relation.joint.catalogue x.seat)) a.relation.joint a.relation.order relation.joint relation.order tally → IsNamedSys relation.joint →
-    states.items ≡ a.states.items ++ x.state ∷ [] → MAX_SERVICES ≤ vec_capacity states → HasChanged a (moved_fields a relation states) (growing (situation_in a) x) tally
-joined_now a relation states x tally ok idle can parts repaired known items room =
-    let here = (situation_in a).here in
-    changed a (moved_fields a relation states) (growing (situation_in a) x) tally ok idle idle parts (ap (λ (bs : List ℕ). record { t = here.t; e = here.e; bs = bs }) items) repaired known
-    (IsPair-grown (joint.system_of a.relation.joint) (joint.seat_of a.relation.joint.catalogue x.seat) here x.state ok.known.here can.state) room
+    states.items ≡ a.states.items ++ x.state ∷ [] → n ≡ number (sizes_of (joint.system_of relation.joint)) (with_states a states.items) → MAX_SERVICES ≤ vec_capacity states →
+    HasChanged a (moved_fields a relation states n) (growing (situation_in a) x) tally
+joined_now a relation states n x tally ok idle can parts repaired known items counted room =
+    changed a (moved_fields a relation states n) (growing (situation_in a) x) tally ok idle idle parts (ap (with_states a) items) repaired known
+    (joined_pair a relation states.items x tally ok can repaired items) counted room
 
-pub died_now : (a : Inside) (relation : Relation) (states : Vec ℕ Global) (k : ℕ) (tally : Tally) → IsSession a → a.phase ≡ Idle → k < length a.relation.joint.seats →
+pub died_pair : (a : Inside) (relation : Relation) (states : List ℕ) (k : ℕ) (tally : Tally) → IsSession a → k < length a.relation.joint.seats →
+    ((seat : Seat) → CanChange (Die k seat) (joint.system_of a.relation.joint) → IsRepaired (Die k seat) a.relation.joint a.relation.order relation.joint relation.order tally) →
+    states ≡ remove a.states.items k → IsPair (joint.system_of relation.joint) (with_states a states)
+died_pair a relation states k tally ok l repaired items =
+    let s = situation_in a in
+    subst (λ (bs : List ℕ). IsPair (joint.system_of relation.joint) (with_states a bs)) (sym items)
+    (subst (λ (s : Sys). IsPair s (with_states a (remove a.states.items k))) (sym (repaired (seat_at s k) (seat_is s k l)).system)
+    (IsPair-without (joint.system_of a.relation.joint) k s.here ok.known.here))
+
+pub died_now : (a : Inside) (relation : Relation) (states : Vec ℕ Global) (n k : ℕ) (tally : Tally) → IsSession a → a.phase ≡ Idle → k < length a.relation.joint.seats →
     relation.joint ≡ parts_after (situation_in a) (dying (situation_in a) k) →
     ((seat : Seat) → CanChange (Die k seat) (joint.system_of a.relation.joint) → IsRepaired (Die k seat) a.relation.joint a.relation.order relation.joint relation.order tally) →
-    IsNamedSys relation.joint → states.items ≡ remove a.states.items k → MAX_SERVICES ≤ vec_capacity states →
-    HasChanged a (moved_fields a relation states) (dying (situation_in a) k) tally
-died_now a relation states k tally ok idle l parts repaired known items room =
+    IsNamedSys relation.joint → states.items ≡ remove a.states.items k → n ≡ number (sizes_of (joint.system_of relation.joint)) (with_states a states.items) → MAX_SERVICES ≤ vec_capacity states →
+    HasChanged a (moved_fields a relation states n) (dying (situation_in a) k) tally
+died_now a relation states n k tally ok idle l parts repaired known items counted room =
     let s = situation_in a in
-    let here = s.here in
-    changed a (moved_fields a relation states) (dying s k) tally ok idle idle parts (ap (λ (bs : List ℕ). record { t = here.t; e = here.e; bs = bs }) items)
-    (repaired (seat_at s k) (seat_is s k l)) known (IsPair-without (joint.system_of a.relation.joint) k here ok.known.here) room
+    changed a (moved_fields a relation states n) (dying s k) tally ok idle idle parts (ap (with_states a) items) (repaired (seat_at s k) (seat_is s k l)) known
+    (died_pair a relation states.items k tally ok l repaired items) counted room
 
 -- a service that isn't refused for want of places has one
 pub has_place : (a : Inside) → IsSession a → (length a.relation.joint.seats ≡ MAX_SERVICES → ⊥) → length a.relation.joint.seats < MAX_SERVICES

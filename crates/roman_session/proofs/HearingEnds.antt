@@ -19,6 +19,7 @@ use Rattle.roman_session.specs.declared.hearing.HearError.{HearError}
 use Rattle.roman_session.specs.declared.hearing.HearError.TheVariants.{ReadFault, WriteFault, TooLong}
 use Rattle.roman_session.proofs.HearingLines.{ended_more, lines_more, quit_left, told_stops}
 use Rattle.roman_session.proofs.HearingSteps.{told_more}
+use Rattle.roman_session.proofs.HearingLemmas.{whole_told}
 
 -- ---- what the source had
 
@@ -189,7 +190,7 @@ module _ (old new : Situation) (start mid has : Option (List ℕ)) (taken got : 
   had_after = had_more start has (taken ++ got) (Gave-then start mid has taken got first second)
 
   -- a line `quit` ends there
-  pub out_at_quit : StopsAtQuit (spot old before) taken (take room got) (spot new now) → IsHeardOut (hall old start before) (spot new now)
+  pub out_at_quit : StopsAtQuit (spot old before) taken (take room got) (spot new now) [] → IsHeardOut (hall old start before) (spot new now)
   out_at_quit stops =
       let (after, had) = had_after in
       let heard : List ℕ = taken ++ stops.heard ++ 10 ∷ [] in
@@ -197,19 +198,20 @@ module _ (old new : Situation) (start mid has : Option (List ℕ)) (taken got : 
       let split : taken ++ take room got ≡ heard ++ stops.past = quit_split taken (take room got) stops.heard stops.past stops.split in
       let session : (taken ++ got) ++ after ≡ heard ++ rest = part_split after heard stops.past split in
       let few : length heard ≤ MAX_SESSION_BYTES = omega (arith, part_fits, ap length split, length-append heard stops.past) in
+      let whole = whole_told (spot old before) (spot new now) (ended_lines heard) stops.tells in
       record {
         session = (taken ++ got) ++ after;
         had = had;
         out = subst (λ (bytes : List ℕ). IsTrue (is_heard_out bytes)) (sym session) (quit_out heard rest few stops.quit);
         tells = record {
-          text = stops.tells.text;
-          told = subst (λ (bytes : List ℕ). Told old (lines bytes) stops.tells.text new) (sym session) (told_all old new heard rest stops.tells.text stops.quit stops.tells.told);
-          wrote = stops.tells.wrote;
+          text = whole.text;
+          told = subst (λ (bytes : List ℕ). Told old (lines bytes) whole.text new) (sym session) (told_all old new heard rest whole.text stops.quit whole.told);
+          wrote = whole.wrote;
         };
       }
 
   -- not many bytes follow its newline
-  pub gave_quit : (most : ℕ) → length got ≤ most + 1 → StopsAtQuit (spot old before) taken (take room got) (spot new now) → GaveQuit most start has
+  pub gave_quit : (most : ℕ) → length got ≤ most + 1 → StopsAtQuit (spot old before) taken (take room got) (spot new now) [] → GaveQuit most start has
   gave_quit most l stops =
       let whole : taken ++ got ≡ (taken ++ stops.heard) ++ 10 ∷ (stops.past ++ drop room got) =
       ap (λ (piece : List ℕ). taken ++ piece) (sym (take-append-drop room got) ∙ ap (λ (part : List ℕ). part ++ drop room got) stops.split ∙ append_assoc stops.heard (10 ∷ stops.past) (drop room got))
@@ -224,7 +226,7 @@ module _ (old new : Situation) (start mid has : Option (List ℕ)) (taken got : 
       }
 
   -- there are more bytes than there is room for
-  pub cut_off : (held : List ℕ) → IsHearing (spot old before) (taken ++ take room got) (ear new now held) → room < length got → IsCutOff (hall old start before) (spot new now)
+  pub cut_off : (held : List ℕ) → IsHearing (spot old before) (taken ++ take room got) (ear new now [] held) → room < length got → IsCutOff (hall old start before) (spot new now)
   cut_off held hearing more =
       let (after, had) = had_after in
       let full : length (taken ++ take room got) ≡ MAX_SESSION_BYTES = omega (arith, length-append taken (take room got), length-take room got) in
@@ -236,7 +238,7 @@ module _ (old new : Situation) (start mid has : Option (List ℕ)) (taken got : 
         long = or_from (nat_le (length ((taken ++ got) ++ after)) MAX_SESSION_BYTES) (has_quit (ended_lines (front_of ((taken ++ got) ++ after))))
             (lt-leb (length ((taken ++ got) ++ after)) MAX_SESSION_BYTES (omega (arith, length-append (taken ++ got) after, length-append taken got)))
             (ap (λ (bytes : List ℕ). has_quit (ended_lines bytes)) front ∙ hearing.quitless);
-        tells = subst (λ (bytes : List ℕ). Tells (spot old before) (ended_lines bytes) (spot new now)) (sym front) hearing.tells;
+        tells = subst (λ (bytes : List ℕ). Tells (spot old before) (ended_lines bytes) (spot new now)) (sym front) (whole_told (spot old before) (spot new now) (ended_lines (taken ++ take room got)) hearing.tells);
       }
 
   -- the answer to a line isn't written whole
@@ -278,22 +280,22 @@ module _ (old new : Situation) (start mid has : Option (List ℕ)) (taken got : 
       }
 
   -- by the error of a piece
-  pub piece_cut_off : (held : List ℕ) (error : HearError) → HearsPiece room (spot old before) taken got (ear new now held) (Err error) → error ≡ TooLong → IsCutOff (hall old start before) (spot new now)
+  pub piece_cut_off : (held : List ℕ) (error : HearError) → HearsPiece room (spot old before) taken got (ear new now [] held) (Err error) → error ≡ TooLong → IsCutOff (hall old start before) (spot new now)
   piece_cut_off held ReadFault h is = absurd h
   piece_cut_off held WriteFault h is = absurd (let e : ⊥ = cc in e)
   piece_cut_off held TooLong (hearing, more) is = cut_off held hearing more
 
-  pub piece_stops_short : (held : List ℕ) (error : HearError) → HearsPiece room (spot old before) taken got (ear new now held) (Err error) → error ≡ WriteFault → StopsShort (hall old start before) (hall new has now)
+  pub piece_stops_short : (held : List ℕ) (error : HearError) → HearsPiece room (spot old before) taken got (ear new now [] held) (Err error) → error ≡ WriteFault → StopsShort (hall old start before) (hall new has now)
   piece_stops_short held ReadFault h is = absurd h
   piece_stops_short held WriteFault fails is = stops_short fails
   piece_stops_short held TooLong h is = absurd (let e : ⊥ = cc in e)
 
-  pub piece_fronts : (held : List ℕ) (error : HearError) → HearsPiece room (spot old before) taken got (ear new now held) (Err error) → error ≡ WriteFault → AreBehaviours old.parts → TellsFrontOfAll (hall old start before) now
+  pub piece_fronts : (held : List ℕ) (error : HearError) → HearsPiece room (spot old before) taken got (ear new now [] held) (Err error) → error ≡ WriteFault → AreBehaviours old.parts → TellsFrontOfAll (hall old start before) now
   piece_fronts held ReadFault h is behaviours = absurd h
   piece_fronts held WriteFault fails is behaviours = fronts_all behaviours fails
   piece_fronts held TooLong h is behaviours = absurd (let e : ⊥ = cc in e)
 
-  pub piece_not_read : (held : List ℕ) (error : HearError) → HearsPiece room (spot old before) taken got (ear new now held) (Err error) → error ≡ ReadFault → ⊥
+  pub piece_not_read : (held : List ℕ) (error : HearError) → HearsPiece room (spot old before) taken got (ear new now [] held) (Err error) → error ≡ ReadFault → ⊥
   piece_not_read held ReadFault h is = h
   piece_not_read held WriteFault h is = cc
   piece_not_read held TooLong h is = cc

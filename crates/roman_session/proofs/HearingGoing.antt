@@ -1,14 +1,11 @@
 -- Every line has a step.
-use Rattle.std.proofs.Common.{◌≡◌, ℕ, ◌<◌, Bool, true, ◌==◌, ◌&&◌, List, [], ◌++◌, map, length, Option, None, Some, ok_or, is_none, is_ok, not, false, Result, Ok, Err, IsTrue, IsFalse, inl, inr, nat_lt, nat_le, slice_set, refl, sym, ap, subst, arith, ltb-true, leb-true, eqb-true, eq-eqb}
-use Rattle.std.specs.List.{list_any, position}
-use Rattle.std.specs.Str.{bytes_eq}
+use Rattle.std.proofs.Common.{◌≡◌, ℕ, ◌<◌, Bool, true, ◌==◌, ◌&&◌, List, [], ◌++◌, length, false, Result, Ok, Err, IsTrue, IsFalse, inl, inr, nat_lt, nat_le, slice_set, refl, sym, ap, subst, arith, ltb-true, leb-true, eqb-true, eq-eqb}
+use Rattle.std.specs.List.{list_any}
 use Rattle.std.proofs.lemmas.Bool.{both_ways, and_parts, and_from}
 use Rattle.std.proofs.lemmas.List.{length-map}
-use Rattle.std.proofs.lemmas.List.Quantifiers.{position-Some}
-use Rattle.std.proofs.lemmas.List.Elements.{All-get_or}
 use Rattle.std.proofs.lemmas.Option.{get_or_from_slice_get}
 use Rattle.roman_model.specs.Lists.{IsIn}
-use Rattle.roman_model.specs.System.{Sys, Pair, IsBeh, TStep, SStep, is_allowed, outcomes, same_numbers}
+use Rattle.roman_model.specs.System.{Sys, Pair, TStep, SStep, is_allowed, outcomes, same_numbers}
 use Rattle.roman_model.specs.Arena.{Entry, replay}
 use Rattle.roman_model.specs.Composition.{arena, IsComplete}
 use Rattle.roman_model.specs.Change.{CanChange, rename, after}
@@ -27,12 +24,10 @@ use Rattle.roman_text.specs.declared.replies.Reply.{Reply}
 use Rattle.roman_text.specs.declared.replies.Reply.TheVariants as reply
 use Rattle.roman_joint.specs.NamedSys.{NamedSys, IsNamedSys, beh_at, seat_of}
 use Rattle.roman_joint.specs.NamedSys as joint
-use Rattle.roman_joint.specs.Names.{seat_name, beh_name, states_of_behaviour, names_in}
-use Rattle.roman_joint.proofs.BehaviourLemmas.{beh_read}
+use Rattle.roman_joint.specs.Names.{names_in}
 use Rattle.roman_joint.proofs.SeatChanges.{frozen_system, frozen_known, gone_system, gone_known, joined_system, joined_known}
-use Rattle.roman_library.specs.Library.{IsBehaviour}
-use Rattle.roman_session.specs.Situations.{Situation, present_system, is_idle, IsPhase, IsSituation}
-use Rattle.roman_session.specs.Rulings.{named, service_named, seat_at, asked, handed, seen, aborted, jumped, env_jumped, frozen, thawed, died, joining, join_of, unexplained}
+use Rattle.roman_session.specs.Situations.{Situation, present_system, IsPhase, IsSituation}
+use Rattle.roman_session.specs.Rulings.{seat_at, asked, handed, seen, aborted, jumped, env_jumped, frozen, thawed, died, joining, join_of, unexplained}
 use Rattle.roman_session.specs.Reports.{report_text}
 use Rattle.roman_session.specs.Steps.{Asks, Hands, Sees, Aborts, Jumps, EnvJumps, Changing, Changes, Freezes, Thaws, Dies, Joins, freezing, thawing, dying, growing, Explains, Says, Does, StepOn, StepBy, Step, CanBe, pair_after, offer_text, service_at, parts_after}
 use Rattle.roman_session.specs.Known.{AreBehaviours}

@@ -4,7 +4,9 @@ use Rattle.std.proofs.lemmas.Bool.{cond-true, cond-false}
 use Rattle.std.proofs.lemmas.List.{take_all, take_min, take_more, take-append-drop}
 use Rattle.roman_io.specs.Sink.{Wrote, WroteFront}
 use Rattle.roman_io.specs.declared.failed.Failed.{Failed}
-use Rattle.roman_io.proofs.SinkLemmas.{Wrote-nil, Wrote-then, WroteFront-after}
+use Rattle.roman_io.proofs.SinkLemmas.{Wrote-then, WroteFront-after}
+use Rattle.roman_text.specs.Pages.{Gathered}
+use Rattle.roman_text.proofs.PageLemmas.{Gathered-empty, Gathered-then, Gathered-put, WroteFront-gathered}
 use Rattle.roman_model.specs.Lines.{lines, ended_lines}
 use Rattle.roman_model.proofs.Lists.{by_test}
 use Rattle.roman_text.specs.Lines.{is_newline, unfinished, kept}
@@ -12,9 +14,9 @@ use Rattle.roman_text.specs.Shapes.{shape_of}
 use Rattle.roman_text.proofs.LineLemmas.{ended_lines-newline, ended_lines-other, unfinished-newline, unfinished-nil, unfinished-other, kept-nil, kept-push, lines_rest, lines_none}
 use Rattle.roman_session.specs.Situations.{Situation, IsSituation}
 use Rattle.roman_session.specs.Steps.{Step}
-use Rattle.roman_session.specs.Answering.{Answered, next_of}
-use Rattle.roman_session.specs.Hearing.{ends_session, has_quit, spot, Tells}
-use Rattle.roman_session.specs.HearingBytes.{ear, IsHearing, StopsAtQuit, FallsShort, FailsIn, HearsBytes}
+use Rattle.roman_session.specs.Answering.{Answered, AnsweredOn, next_of}
+use Rattle.roman_session.specs.Hearing.{ends_session, has_quit, Spot, spot, Tells, TellsFront}
+use Rattle.roman_session.specs.HearingBytes.{ear, Takes, IsHearing, StopsAtQuit, FallsShort, FailsIn, HearsBytes}
 use Rattle.roman_session.specs.declared.next.Next.{Next}
 use Rattle.roman_session.specs.declared.next.Next.TheVariants.{More, Quit}
 use Rattle.roman_session.proofs.HearingLines.{quit_last, quitless_last, told_push}
@@ -33,6 +35,14 @@ answered_alike old new line held before now result same answered = record {
   text = answered.text;
   step = step_alike old new line held answered.text same answered.step;
   puts = answered.puts;
+}
+
+pub answered_on_alike : {T E : Type 0} (old new : Situation) (line held : List ℕ) (before now : Option (List ℕ)) (page holds : List ℕ) (result : Result T E) → shape_of held ≡ shape_of line →
+    AnsweredOn old held new before now page holds result → AnsweredOn old line new before now page holds result
+answered_on_alike old new line held before now page holds result same answered = record {
+  text = answered.text;
+  step = step_alike old new line held answered.text same answered.step;
+  gathers = answered.gathers;
 }
 
 -- whether the session goes on
@@ -67,19 +77,63 @@ fails_more old mid new ls line more before wrote now quitless tells step wrote_m
   known = known;
 }
 
+-- the same on a page
+takes_more : (old mid new : Situation) (ls : List (List ℕ)) (line more : List ℕ) (before wrote now : Option (List ℕ)) (page holds : List ℕ) → IsFalse (has_quit ls) →
+    Takes (spot old before) ls (spot mid wrote) page → Step mid line more new → Gathered wrote now holds (page ++ more) → Takes (spot old before) (ls ++ line ∷ []) (spot new now) holds
+takes_more old mid new ls line more before wrote now page holds quitless takes step gathered = record {
+  text = takes.text ++ more;
+  told = told_push old mid new ls line takes.text more quitless takes.told step;
+  gathered = Gathered-then before wrote now page holds takes.text more takes.gathered gathered;
+}
+
+takes_failed : (old mid new : Situation) (ls : List (List ℕ)) (line more : List ℕ) (before wrote now : Option (List ℕ)) (page : List ℕ) → IsFalse (has_quit ls) →
+    Takes (spot old before) ls (spot mid wrote) page → Step mid line more new → WroteFront wrote now (page ++ more) → IsSituation new → FallsShort (spot old before) (ls ++ line ∷ []) (spot new now)
+takes_failed old mid new ls line more before wrote now page quitless takes step front known = record {
+  tells = record {
+    text = takes.text ++ more;
+    told = told_push old mid new ls line takes.text more quitless takes.told step;
+    wrote = WroteFront-gathered before wrote now page takes.text more takes.gathered front;
+  };
+  known = known;
+}
+
+-- where a page holds nothing, all was written
+pub whole_told : (old new : Spot) (ls : List (List ℕ)) → Takes old ls new [] → Tells old ls new
+whole_told old new ls takes = record {
+  text = takes.text;
+  told = takes.told;
+  wrote = subst (Wrote old.written new.written) (sym (takes.gathered.rest ∙ append-nil takes.gathered.front)) takes.gathered.wrote;
+}
+
+-- what a page holds is put
+put_whole : (old : Spot) (mid : Situation) (wrote now : Option (List ℕ)) (ls : List (List ℕ)) (page : List ℕ) → Takes old ls (spot mid wrote) page → Wrote wrote now page → Takes old ls (spot mid now) []
+put_whole old mid wrote now ls page takes put = record {
+  text = takes.text;
+  told = takes.told;
+  gathered = Gathered-put old.written now takes.text
+      (subst (Wrote old.written now) (sym takes.gathered.rest) (Wrote-then old.written wrote now takes.gathered.front page takes.gathered.wrote put));
+}
+
+put_front : (old : Spot) (mid : Situation) (wrote now : Option (List ℕ)) (ls : List (List ℕ)) (page : List ℕ) → Takes old ls (spot mid wrote) page → WroteFront wrote now page → TellsFront old ls (spot mid now)
+put_front old mid wrote now ls page takes front = record {
+  text = takes.text;
+  told = takes.told;
+  wrote = subst (WroteFront old.written now) (sym takes.gathered.rest) (WroteFront-after old.written wrote now takes.gathered.front page takes.gathered.wrote front);
+}
+
 -- ---- one byte
 
 -- before the first byte
-pub hearing_starts : (s : Situation) (told : Option (List ℕ)) (held : List ℕ) → held ≡ [] → IsHearing (spot s told) [] (ear s told held)
+pub hearing_starts : (s : Situation) (told : Option (List ℕ)) (held : List ℕ) → held ≡ [] → IsHearing (spot s told) [] (ear s told [] held)
 hearing_starts s told held empty = record {
   quitless = refl;
-  tells = record { text = []; told = (refl, refl); wrote = Wrote-nil told };
+  tells = record { text = []; told = (refl, refl); gathered = Gathered-empty told [] refl };
   rest = empty ∙ sym (ap kept unfinished-nil ∙ kept-nil);
 }
 
-module _ (old : Situation) (before : Option (List ℕ)) (taken : List ℕ) (mid : Situation) (wrote : Option (List ℕ)) (held : List ℕ) (byte : ℕ) (is : IsHearing (spot old before) taken (ear mid wrote held)) where
+module _ (old : Situation) (before : Option (List ℕ)) (taken : List ℕ) (mid : Situation) (wrote : Option (List ℕ)) (page held : List ℕ) (byte : ℕ) (is : IsHearing (spot old before) taken (ear mid wrote page held)) where
   -- a byte within a line
-  pub hears_other : (after : List ℕ) → is_newline byte ≡ false → after ≡ kept (held ++ byte ∷ []) → IsHearing (spot old before) (taken ++ byte ∷ []) (ear mid wrote after)
+  pub hears_other : (after : List ℕ) → is_newline byte ≡ false → after ≡ kept (held ++ byte ∷ []) → IsHearing (spot old before) (taken ++ byte ∷ []) (ear mid wrote page after)
   hears_other after other e = record {
     quitless = rw (ended_lines-other taken byte other) is.quitless;
     tells = rw (ended_lines-other taken byte other) is.tells;
@@ -87,14 +141,14 @@ module _ (old : Situation) (before : Option (List ℕ)) (taken : List ℕ) (mid 
   }
 
   -- a newline
-  pub hears_line : (new : Situation) (now : Option (List ℕ)) (after : List ℕ) (next : Next) → is_newline byte ≡ true → after ≡ [] → Answered {E = Failed} mid (unfinished taken) new wrote now (Ok next) →
-      next ≡ next_of (unfinished taken) → HearsBytes (spot old before) taken (byte ∷ []) (ear new now after) (Ok next)
-  hears_line new now after More newline empty answered next = record {
+  pub hears_line : (new : Situation) (now : Option (List ℕ)) (holds after : List ℕ) (next : Next) → is_newline byte ≡ true → after ≡ [] → AnsweredOn {E = Failed} mid (unfinished taken) new wrote now page holds (Ok next) →
+      next ≡ next_of (unfinished taken) → HearsBytes (spot old before) taken (byte ∷ []) (ear new now holds after) (Ok next)
+  hears_line new now holds after More newline empty answered next = record {
     quitless = rw (ended_lines-newline taken byte newline) (quitless_last (ended_lines taken) (unfinished taken) is.quitless (next_more (unfinished taken) next));
-    tells = rw (ended_lines-newline taken byte newline) (tells_more old mid new (ended_lines taken) (unfinished taken) answered.text before wrote now is.quitless is.tells answered.step answered.puts);
+    tells = rw (ended_lines-newline taken byte newline) (takes_more old mid new (ended_lines taken) (unfinished taken) answered.text before wrote now page holds is.quitless is.tells answered.step answered.gathers);
     rest = empty ∙ sym (ap kept (unfinished-newline taken byte newline) ∙ kept-nil);
   }
-  hears_line new now after Quit newline empty answered next =
+  hears_line new now holds after Quit newline empty answered next =
       let is_ten : byte ≡ 10 = eqb-true byte 10 newline in
       let whole : ended_lines (taken ++ [] ++ 10 ∷ []) ≡ ended_lines taken ++ unfinished taken ∷ [] = ap (λ (bytes : List ℕ). ended_lines (bytes ++ 10 ∷ [])) (append-nil taken) ∙ ended_lines-newline taken 10 refl in
       record {
@@ -103,32 +157,32 @@ module _ (old : Situation) (before : Option (List ℕ)) (taken : List ℕ) (mid 
         split = ap (λ (b : ℕ). b ∷ []) is_ten;
         first = rw (append-nil taken) is.quitless;
         quit = rw whole (quit_last (ended_lines taken) (unfinished taken) (next_quit (unfinished taken) next));
-        tells = rw whole (tells_more old mid new (ended_lines taken) (unfinished taken) answered.text before wrote now is.quitless is.tells answered.step answered.puts);
+        tells = rw whole (takes_more old mid new (ended_lines taken) (unfinished taken) answered.text before wrote now page holds is.quitless is.tells answered.step answered.gathers);
       }
 
   -- a newline, where the answer to its line isn't written whole
-  pub hears_failed : (new : Situation) (now : Option (List ℕ)) (failed : Failed) → is_newline byte ≡ true → Answered {T = Next} mid (unfinished taken) new wrote now (Err failed) → IsSituation new →
+  pub hears_failed : (new : Situation) (now : Option (List ℕ)) (holds : List ℕ) (failed : Failed) → is_newline byte ≡ true → AnsweredOn {T = Next} mid (unfinished taken) new wrote now page holds (Err failed) → IsSituation new →
       FailsIn (spot old before) (taken ++ byte ∷ []) (spot new now)
-  hears_failed new now failed newline answered known = record {
+  hears_failed new now holds failed newline answered known = record {
     heard = taken ++ byte ∷ [];
     past = [];
     split = sym (append-nil (taken ++ byte ∷ []));
-    fails = rw (ended_lines-newline taken byte newline) (fails_more old mid new (ended_lines taken) (unfinished taken) answered.text before wrote now is.quitless is.tells answered.step answered.puts known);
+    fails = rw (ended_lines-newline taken byte newline) (takes_failed old mid new (ended_lines taken) (unfinished taken) answered.text before wrote now page is.quitless is.tells answered.step answered.gathers.0 known);
   }
 
 -- ---- bytes after bytes
 
 -- a line `quit` in a part of a piece
-pub stops_within : (old : Situation) (before : Option (List ℕ)) (taken front part back piece : List ℕ) (new : Situation) (now : Option (List ℕ)) → piece ≡ front ++ (part ++ back) →
-    StopsAtQuit (spot old before) (taken ++ front) part (spot new now) → StopsAtQuit (spot old before) taken piece (spot new now)
-stops_within old before taken front part back piece new now split stops = record {
+pub stops_within : (old : Situation) (before : Option (List ℕ)) (taken front part back piece : List ℕ) (new : Situation) (now : Option (List ℕ)) (page : List ℕ) → piece ≡ front ++ (part ++ back) →
+    StopsAtQuit (spot old before) (taken ++ front) part (spot new now) page → StopsAtQuit (spot old before) taken piece (spot new now) page
+stops_within old before taken front part back piece new now page split stops = record {
   heard = front ++ stops.heard;
   past = stops.past ++ back;
   split = split ∙ ap (λ (bytes : List ℕ). front ++ (bytes ++ back)) stops.split ∙ ap (λ (bytes : List ℕ). front ++ bytes) (append_assoc stops.heard (10 ∷ stops.past) back)
       ∙ sym (append_assoc front stops.heard (10 ∷ (stops.past ++ back)));
   first = subst (λ (bytes : List ℕ). IsFalse (has_quit (ended_lines bytes))) (append_assoc taken front stops.heard) stops.first;
   quit = subst (λ (bytes : List ℕ). IsTrue (has_quit (ended_lines (bytes ++ 10 ∷ [])))) (append_assoc taken front stops.heard) stops.quit;
-  tells = subst (λ (bytes : List ℕ). Tells (spot old before) (ended_lines (bytes ++ 10 ∷ [])) (spot new now)) (append_assoc taken front stops.heard) stops.tells;
+  tells = subst (λ (bytes : List ℕ). Takes (spot old before) (ended_lines (bytes ++ 10 ∷ [])) (spot new now) page) (append_assoc taken front stops.heard) stops.tells;
 }
 
 -- a fault in a part of them
@@ -149,14 +203,14 @@ at_place bytes i l =
 
 module _ (old : Situation) (before : Option (List ℕ)) (taken bytes : List ℕ) (i : ℕ) (new : Situation) (now : Option (List ℕ)) (l : i < length bytes) where
   -- the byte at place i was heard after those before it
-  pub hears_at : (held : List ℕ) → IsHearing (spot old before) (taken ++ take i bytes ++ get_or bytes i 0 ∷ []) (ear new now held) → IsHearing (spot old before) (taken ++ take (i + 1) bytes) (ear new now held)
-  hears_at held hearing =
-      subst (λ (xs : List ℕ). IsHearing (spot old before) xs (ear new now held))
+  pub hears_at : (page held : List ℕ) → IsHearing (spot old before) (taken ++ take i bytes ++ get_or bytes i 0 ∷ []) (ear new now page held) → IsHearing (spot old before) (taken ++ take (i + 1) bytes) (ear new now page held)
+  hears_at page held hearing =
+      subst (λ (xs : List ℕ). IsHearing (spot old before) xs (ear new now page held))
       (append_assoc taken (take i bytes) (get_or bytes i 0 ∷ []) ∙ ap (λ (xs : List ℕ). taken ++ xs) (sym (take_more bytes i 0 l))) hearing
 
   -- the byte at place i ends a line `quit`
-  pub stops_at : StopsAtQuit (spot old before) (taken ++ take i bytes) (get_or bytes i 0 ∷ []) (spot new now) → StopsAtQuit (spot old before) taken bytes (spot new now)
-  stops_at stops = stops_within old before taken (take i bytes) (get_or bytes i 0 ∷ []) (drop (i + 1) bytes) bytes new now (at_place bytes i l) stops
+  pub stops_at : (page : List ℕ) → StopsAtQuit (spot old before) (taken ++ take i bytes) (get_or bytes i 0 ∷ []) (spot new now) page → StopsAtQuit (spot old before) taken bytes (spot new now) page
+  stops_at page stops = stops_within old before taken (take i bytes) (get_or bytes i 0 ∷ []) (drop (i + 1) bytes) bytes new now page (at_place bytes i l) stops
 
   -- it ends a line whose answer isn't written whole
   pub fails_at : FailsIn (spot old before) (taken ++ take i bytes ++ get_or bytes i 0 ∷ []) (spot new now) → FailsIn (spot old before) (taken ++ bytes) (spot new now)
@@ -167,10 +221,13 @@ module _ (old : Situation) (before : Option (List ℕ)) (taken bytes : List ℕ)
 
 -- ---- the last line
 
-module _ (old : Situation) (before : Option (List ℕ)) (taken : List ℕ) (mid : Situation) (wrote : Option (List ℕ)) (held : List ℕ) (is : IsHearing (spot old before) taken (ear mid wrote held)) where
+module _ (old : Situation) (before : Option (List ℕ)) (taken : List ℕ) (mid : Situation) (wrote : Option (List ℕ)) (held : List ℕ) (is : IsHearing (spot old before) taken (ear mid wrote [] held)) where
+  told : Tells (spot old before) (ended_lines taken) (spot mid wrote)
+  told = whole_told (spot old before) (spot mid wrote) (ended_lines taken) is.tells
+
   -- no bytes of a last line are left
   pub hears_no_rest : nat_lt 0 (length held) ≡ false → Tells (spot old before) (lines taken) (spot mid wrote)
-  hears_no_rest none = rw (lines_none taken (subst (λ (held : List ℕ). nat_lt 0 (length held) ≡ false) is.rest none)) is.tells
+  hears_no_rest none = rw (lines_none taken (subst (λ (held : List ℕ). nat_lt 0 (length held) ≡ false) is.rest none)) told
 
   -- they are its line
   rest_line : nat_lt 0 (length held) ≡ true → ended_lines taken ++ unfinished taken ∷ [] ≡ lines taken
@@ -180,13 +237,45 @@ module _ (old : Situation) (before : Option (List ℕ)) (taken : List ℕ) (mid 
       Tells (spot old before) (lines taken) (spot new now)
   hears_rest new now next some answered =
       subst (λ (ls : List (List ℕ)). Tells (spot old before) ls (spot new now)) (rest_line some)
-      (tells_more old mid new (ended_lines taken) (unfinished taken) answered.text before wrote now is.quitless is.tells answered.step answered.puts)
+      (tells_more old mid new (ended_lines taken) (unfinished taken) answered.text before wrote now is.quitless told answered.step answered.puts)
 
   pub fails_rest : (new : Situation) (now : Option (List ℕ)) (failed : Failed) → nat_lt 0 (length held) ≡ true → Answered {T = Next} mid (unfinished taken) new wrote now (Err failed) → IsSituation new →
       FallsShort (spot old before) (lines taken) (spot new now)
   fails_rest new now failed some answered known =
       subst (λ (ls : List (List ℕ)). FallsShort (spot old before) ls (spot new now)) (rest_line some)
-      (fails_more old mid new (ended_lines taken) (unfinished taken) answered.text before wrote now is.quitless is.tells answered.step answered.puts known)
+      (fails_more old mid new (ended_lines taken) (unfinished taken) answered.text before wrote now is.quitless told answered.step answered.puts known)
+
+-- ---- what a page holds at the end of a piece
+
+module _ (old : Situation) (before : Option (List ℕ)) (taken bytes : List ℕ) (new : Situation) (wrote now : Option (List ℕ)) (page held : List ℕ) where
+  -- it is put
+  pub put_hearing : IsHearing (spot old before) (taken ++ bytes) (ear new wrote page held) → Wrote wrote now page → IsHearing (spot old before) (taken ++ bytes) (ear new now [] held)
+  put_hearing is put = record { quitless = is.quitless; tells = put_whole (spot old before) new wrote now (ended_lines (taken ++ bytes)) page is.tells put; rest = is.rest }
+
+  pub put_quit : StopsAtQuit (spot old before) taken bytes (spot new wrote) page → Wrote wrote now page → StopsAtQuit (spot old before) taken bytes (spot new now) []
+  put_quit stops put = record {
+    heard = stops.heard;
+    past = stops.past;
+    split = stops.split;
+    first = stops.first;
+    quit = stops.quit;
+    tells = put_whole (spot old before) new wrote now (ended_lines (taken ++ stops.heard ++ 10 ∷ [])) page stops.tells put;
+  }
+
+  -- or that failed
+  pub put_failed : (next : Next) → HearsBytes (spot old before) taken bytes (ear new wrote page held) (Ok next) → WroteFront wrote now page → IsSituation new → FailsIn (spot old before) (taken ++ bytes) (spot new now)
+  put_failed More is front known = record {
+    heard = taken ++ bytes;
+    past = [];
+    split = sym (append-nil (taken ++ bytes));
+    fails = record { tells = put_front (spot old before) new wrote now (ended_lines (taken ++ bytes)) page is.tells front; known = known };
+  }
+  put_failed Quit stops front known = record {
+    heard = taken ++ stops.heard ++ 10 ∷ [];
+    past = stops.past;
+    split = ap (λ (part : List ℕ). taken ++ part) stops.split ∙ sym (append_assoc taken stops.heard (10 ∷ stops.past)) ∙ sym (append_assoc (taken ++ stops.heard) (10 ∷ []) stops.past);
+    fails = record { tells = put_front (spot old before) new wrote now (ended_lines (taken ++ stops.heard ++ 10 ∷ [])) page stops.tells front; known = known };
+  }
 
 -- ---- a piece, as far as there is room
 

@@ -1,8 +1,7 @@
 -- In a session of a document with several targets the present system combines them, whatever lines came.
-use Rattle.std.proofs.Common.{◌≡◌, ◌↔◌, ℕ, zero, suc, ◌<◌, ◌≤◌, List, [], ◌∷◌, ◌++◌, map, length, get_or, All, Option, Some, Ok, slice_get, refl, sym, ap, ap₂, ◌∙◌, subst, arith}
+use Rattle.std.proofs.Common.{◌≡◌, ◌↔◌, ℕ, zero, suc, ◌<◌, List, [], ◌∷◌, map, length, get_or, All, refl, sym, ap, ap₂, ◌∙◌, subst, arith}
 use Rattle.std.proofs.lemmas.Bool.{ltb-false}
 use Rattle.std.proofs.lemmas.List.{length-map}
-use Rattle.roman_io.specs.Shelf.{Texts}
 use Rattle.roman_model.specs.Lists.{IsIn, product_of}
 use Rattle.roman_model.specs.System.{Beh, Sys, Pair, IsBeh, IsPair}
 use Rattle.roman_model.specs.System as model
@@ -21,14 +20,12 @@ use Rattle.roman_multi.specs.Combining.{PlainCombined, combined_behaviour, combi
 use Rattle.roman_multi.proofs.CombineLemmas.{good_count}
 use Rattle.roman_multi.proofs.KnownLemmas.{all_in, machines_known}
 use Rattle.roman_multi.proofs.MadeKnown.{are_allowed}
-use Rattle.roman_library.specs.Documents.{library_of}
 use Rattle.roman_library.specs.Library.{PlainLibrary}
-use Rattle.roman_library.specs.Targets.{PlainTargets, NamesTargets, CombinesTargets}
+use Rattle.roman_library.specs.Targets.{PlainTargets, CombinesTargets}
 use Rattle.roman_library.proofs.TargetLemmas.{targets_known}
 use Rattle.roman_library.proofs.KnownLemmas.{libraries_known, behaviour_there}
 use Rattle.roman_library.proofs.CombinedLemmas.{targets_combined}
 use Rattle.roman_session.specs.Situations.{Situation, IsSituation, present_system}
-use Rattle.roman_session.specs.Starts.{IsStart}
 use Rattle.roman_session.specs.Steps.{Answers, until_quit}
 use Rattle.roman_session.specs.Known.{AreNamed, IsKnownSituation}
 use Rattle.roman_session.specs.Several.{several_in, MeansAll, SeveralAreServed}

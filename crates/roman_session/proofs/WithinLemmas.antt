@@ -11,7 +11,6 @@ use Rattle.roman_model.specs.System.{Seat, IsBeh, Beh}
 use Rattle.roman_model.specs.Explanation.{seat_names}
 use Rattle.roman_read.specs.Names.{is_name, place_of}
 use Rattle.roman_read.proofs.Given.{same_ok, bind_ok}
-use Rattle.roman_text.specs.declared.replies.Reply.{Reply}
 use Rattle.roman_text.specs.declared.replies.Reply.TheVariants as reply
 use Rattle.roman_parts.specs.Named.{NamedBeh}
 use Rattle.roman_joint.specs.NamedSys.{beh_at}

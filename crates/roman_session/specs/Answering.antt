@@ -1,19 +1,21 @@
 -- What a session has answered, and what was written of it.
-use Rattle.std.specs.Prelude.{◌≡◌, ◌≢◌, ℕ, List, [], Option, Result, Ok, IsTrue, IsFalse, if◌then◌else◌}
+use Rattle.std.specs.Prelude.{◌≡◌, ◌≢◌, ℕ, List, [], ◌++◌, Option, Result, Ok, IsTrue, IsFalse, if◌then◌else◌}
 use Rattle.roman_model.specs.Explanation.{explain_text}
 use Rattle.roman_model.specs.Offers.{is_related, offers}
 use Rattle.roman_io.specs.Sink.{Puts}
+use Rattle.roman_text.specs.Pages.{Gathers}
 use Rattle.roman_text.specs.Replies.{reply_text}
 use Rattle.roman_text.specs.Shapes.{LineShape, ask, saw, shape_of}
 use Rattle.roman_text.specs.declared.errors.LineError.{LineError}
 use Rattle.roman_joint.specs.Names.{names_in}
-use Rattle.roman_session.specs.Situations.{Situation, present_system, IsOpen}
+use Rattle.roman_session.specs.Situations.{Situation, present_system}
 use Rattle.roman_session.specs.Rulings.{asked, seen}
 use Rattle.roman_session.specs.Reports.{report_text}
 use Rattle.roman_session.specs.Steps.{Step, CanBe, offer_text, is_quit}
 use Rattle.roman_session.specs.declared.answers.Answer.{Answer}
 use Rattle.roman_session.specs.declared.answers.Answer.TheVariants.{Nothing, Line, Offers, Report, Explanation}
 use Rattle.roman_session.specs.declared.events.Sight.{Sight}
+use Rattle.roman_session.specs.declared.phase.Phase.TheVariants.{Offered}
 use Rattle.roman_session.specs.declared.next.Next.{Next}
 use Rattle.roman_session.specs.declared.next.Next.TheVariants.{More, Quit}
 
@@ -25,11 +27,11 @@ answer_text s (Offers a) = offer_text s a
 answer_text s Report = report_text s.parts s.here
 answer_text s Explanation = explain_text (present_system s) (names_in s.parts) s.list s.here
 
--- services are offered only for a request that is open, and only a pair that isn't related is explained
+-- services are offered only for the action that is asked for, and only a pair that isn't related is explained
 abbrev pub CanBeSaid : Situation → Answer → Type 0
 CanBeSaid s Nothing = Unit {0}
 CanBeSaid s (Line reply) = Unit {0}
-CanBeSaid s (Offers a) = IsOpen s a
+CanBeSaid s (Offers a) = s.phase ≡ Offered a
 CanBeSaid s Report = Unit {0}
 CanBeSaid s Explanation = IsFalse (is_related (present_system s) s.here)
 
@@ -38,6 +40,13 @@ pub record Answered {T E : Type 0} (old : Situation) (line : List ℕ) (new : Si
   pub text : List ℕ
   pub step : Step old line text new
   pub puts : Puts before after text result
+
+-- the session went on by one step: its text was taken behind what a page held, or where the sink failed a prefix of both was
+-- written
+pub record AnsweredOn {T E : Type 0} (old : Situation) (line : List ℕ) (new : Situation) (before after : Option (List ℕ)) (held holds : List ℕ) (result : Result T E) : Type 0 where
+  pub text : List ℕ
+  pub step : Step old line text new
+  pub gathers : Gathers before after holds (held ++ text) result
 
 -- where a request isn't refused, at least one service is offered
 abbrev pub NamesSome : Situation → List ℕ → Type 0

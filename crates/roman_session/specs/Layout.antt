@@ -1,10 +1,14 @@
 -- What the fields of a session are.
-use Rattle.std.specs.Prelude.{◌≤◌, length, map, vec_capacity}
-use Rattle.roman_model.specs.Numbers.{entry_at}
+use Rattle.std.specs.Prelude.{◌≡◌, ℕ, ◌≤◌, length, map, vec_capacity}
+use Rattle.roman_model.specs.System.{has}
+use Rattle.roman_model.specs.Numbers.{sizes_of, number, entry_at}
+use Rattle.roman_model.specs.Offers.{offers}
 use Rattle.roman_model.specs.declared.limits.TheConstants.{MAX_BEHAVIOURS, MAX_SERVICES}
+use Rattle.roman_rules.specs.Bits.{HasBits}
 use Rattle.roman_joint.specs.NamedSys.{system_of}
 use Rattle.roman_relation.specs.Greatest.{IsRelation}
 use Rattle.roman_session.specs.Situations.{Situation, IsSituation}
+use Rattle.roman_session.specs.declared.phase.Phase.TheVariants.{Offered}
 use Rattle.roman_session.specs.declared.session.Session.TheInside.{Inside}
 
 -- the situation that the fields show
@@ -16,10 +20,12 @@ situation_in a = record {
   list = map (entry_at (system_of a.relation.joint)) a.relation.order.list;
 }
 
--- the relation's list is complete, the situation is one, the catalogue is a document's, and there is room for the
--- greatest number of services
+-- the relation's list is complete, the situation is one, the catalogue is a document's, there is room for the greatest
+-- number of services, the number is the current pair's, and the mask is of the services that are offered
 pub record IsSession (a : Inside) : Type 0 where
   pub relation : IsRelation a.relation.joint a.relation.order
   pub known : IsSituation (situation_in a)
   pub few : length a.relation.joint.catalogue ≤ MAX_BEHAVIOURS
   pub room : MAX_SERVICES ≤ vec_capacity a.states
+  pub numbered : a.number ≡ number (sizes_of (system_of a.relation.joint)) (situation_in a).here
+  pub offered : (action : ℕ) → a.phase ≡ Offered action → HasBits a.mask (has (offers (system_of a.relation.joint) (situation_in a).here action))

@@ -4,7 +4,7 @@ ghost use Rattle.roman_io.specs.Faults.{HasCause};
 ghost use Rattle.roman_io.specs.Source.{IsAtEnd, GaveAtMost};
 ghost use Rattle.roman_text.specs.Lines.{kept};
 ghost use Rattle.roman_session.specs.Situations.{Situation, IsSituation};
-ghost use Rattle.roman_session.specs.Answering.{Answered, next_of};
+ghost use Rattle.roman_session.specs.Answering.{Answered, AnsweredOn, next_of};
 ghost use Rattle.roman_session.specs.Known.{AreBehaviours};
 ghost use Rattle.roman_session.specs.Hearing.{GaveQuit, spot, hall, IsHeardOut, IsCutOff, GoesOn, StopsShort, TellsFrontOfAll, CausedBy};
 ghost use Rattle.roman_session.specs.HearingBytes.{ear, IsHearing, HearsBytes, HearsPiece, HearsRest};
@@ -13,8 +13,8 @@ use crate::next::Next;
 use crate::session::Session;
 use roman_io::{Failed, Sink, Source, Steps};
 use roman_model::MAX_SESSION_BYTES;
-use roman_text::Splitter;
 use roman_text::laws::keep_shapes;
+use roman_text::{Page, Splitter};
 use std::sync::ledger::Ledger;
 use thiserror::Error;
 
@@ -66,6 +66,7 @@ pub fn hear<S: Source, O: Sink, L: Ledger>(
     ensures texts { S.texts source.new ≡ S.texts source.old }
 {
     let mut splitter = Splitter::new();
+    let mut page = Page::new();
     let mut piece = [0u8; PIECE];
     let mut room = MAX_SESSION_BYTES as usize;
     'takes: loop {
@@ -75,7 +76,15 @@ pub fn hear<S: Source, O: Sink, L: Ledger>(
         if count == 0 {
             return hear_rest(session, &splitter, out, steps);
         }
-        match hear_piece(session, &mut splitter, room, &piece[..count], out, steps) {
+        match hear_piece(
+            session,
+            &mut splitter,
+            room,
+            &piece[..count],
+            &mut page,
+            out,
+            steps,
+        ) {
             Ok(Next::More) => room -= count,
             Ok(Next::Quit) => return Ok(()),
             Err(error) => return Err(error),
@@ -83,23 +92,30 @@ pub fn hear<S: Source, O: Sink, L: Ledger>(
     }
 }
 
-// Hears a piece, as far as there is room for its bytes.
+// Hears a piece, as far as there is room for its bytes. The answers to its lines are put together.
 fn hear_piece<O: Sink, L: Ledger>(
     session: &mut Session,
     splitter: &mut Splitter,
     room: usize,
     piece: &[u8],
+    page: &mut Page,
     out: &mut O,
     steps: &mut Steps<L>,
 ) -> Result<Next, HearError>
-    ensures hears { (old : Situation) (before : Option (List ℕ)) (taken : List ℕ) → IsHearing (spot old before) taken (ear session.old (O.written out.old) splitter.old) →
-        HearsPiece room (spot old before) taken piece.now (ear session.new (O.written out.new) splitter.new) result }
+    requires { page.old ≡ [] }
+    ensures hears { (old : Situation) (before : Option (List ℕ)) (taken : List ℕ) → IsHearing (spot old before) taken (ear session.old (O.written out.old) [] splitter.old) →
+        HearsPiece room (spot old before) taken piece.now (ear session.new (O.written out.new) [] splitter.new) result }
+    ensures empty { IfOk result (λ _. page.new ≡ []) }
     ensures cause { CausedBy HearError.WriteFault (O.faults out.old) (O.faults out.new) result }
 {
     let due = piece.len().min(room);
-    let Ok(next) = hear_bytes(session, splitter, &piece[..due], out, steps) else {
+    let Ok(next) = hear_bytes(session, splitter, &piece[..due], page, out, steps) else {
         return Err(HearError::WriteFault);
     };
+    session.known();
+    if let Err(_failed) = page.flush(out) {
+        return Err(HearError::WriteFault);
+    }
     match next {
         Next::More if due < piece.len() => Err(HearError::TooLong),
         _ => Ok(next),
@@ -111,15 +127,16 @@ fn hear_bytes<O: Sink, L: Ledger>(
     session: &mut Session,
     splitter: &mut Splitter,
     bytes: &[u8],
+    page: &mut Page,
     out: &mut O,
     steps: &mut Steps<L>,
 ) -> Result<Next, Failed>
-    ensures hears { (old : Situation) (before : Option (List ℕ)) (taken : List ℕ) → IsHearing (spot old before) taken (ear session.old (O.written out.old) splitter.old) →
-        HearsBytes (spot old before) taken bytes.now (ear session.new (O.written out.new) splitter.new) result }
+    ensures hears { (old : Situation) (before : Option (List ℕ)) (taken : List ℕ) → IsHearing (spot old before) taken (ear session.old (O.written out.old) page.old splitter.old) →
+        HearsBytes (spot old before) taken bytes.now (ear session.new (O.written out.new) page.new splitter.new) result }
     ensures cause { HasCause (O.faults out.old) (O.faults out.new) result }
 {
     for byte in bytes {
-        if let Next::Quit = hear_byte(session, splitter, *byte, out, steps)? {
+        if let Next::Quit = hear_byte(session, splitter, *byte, page, out, steps)? {
             return Ok(Next::Quit);
         }
     }
@@ -131,17 +148,18 @@ fn hear_byte<O: Sink, L: Ledger>(
     session: &mut Session,
     splitter: &mut Splitter,
     byte: u8,
+    page: &mut Page,
     out: &mut O,
     steps: &mut Steps<L>,
 ) -> Result<Next, Failed>
-    ensures hears { (old : Situation) (before : Option (List ℕ)) (taken : List ℕ) → IsHearing (spot old before) taken (ear session.old (O.written out.old) splitter.old) →
-        HearsBytes (spot old before) taken (byte ∷ []) (ear session.new (O.written out.new) splitter.new) result }
+    ensures hears { (old : Situation) (before : Option (List ℕ)) (taken : List ℕ) → IsHearing (spot old before) taken (ear session.old (O.written out.old) page.old splitter.old) →
+        HearsBytes (spot old before) taken (byte ∷ []) (ear session.new (O.written out.new) page.new splitter.new) result }
     ensures cause { HasCause (O.faults out.old) (O.faults out.new) result }
 {
     if !splitter.push(byte) {
         return Ok(Next::More);
     }
-    let next = hear_line(session, splitter, out, steps)?;
+    let next = hear_line(session, splitter, page, out, steps)?;
     splitter.clear();
     Ok(next)
 }
@@ -153,21 +171,40 @@ fn hear_rest<O: Sink, L: Ledger>(
     out: &mut O,
     steps: &mut Steps<L>,
 ) -> Result<(), HearError>
-    ensures hears { (old : Situation) (before : Option (List ℕ)) (taken : List ℕ) → IsHearing (spot old before) taken (ear session.old (O.written out.old) splitter.now) →
+    ensures hears { (old : Situation) (before : Option (List ℕ)) (taken : List ℕ) → IsHearing (spot old before) taken (ear session.old (O.written out.old) [] splitter.now) →
         HearsRest (spot old before) taken (spot session.new (O.written out.new)) result }
     ensures cause { CausedBy HearError.WriteFault (O.faults out.old) (O.faults out.new) result }
 {
     if !splitter.rest() {
         return Ok(());
     }
-    match hear_line(session, splitter, out, steps) {
+    match hear_last(session, splitter, out, steps) {
         Ok(_) => Ok(()),
         Err(_) => Err(HearError::WriteFault),
     }
 }
 
-// Answers the line that is held. Of a long line as much is held as tells its shape.
+// Answers the line that is held, on a page. Of a long line as much is held as tells its shape.
 fn hear_line<O: Sink, L: Ledger>(
+    session: &mut Session,
+    splitter: &Splitter,
+    page: &mut Page,
+    out: &mut O,
+    steps: &mut Steps<L>,
+) -> Result<Next, Failed>
+    ensures step { (line : List ℕ) → splitter.now ≡ kept line → AnsweredOn session.old line session.new (O.written out.old) (O.written out.new) page.old page.new result }
+    ensures next { (line : List ℕ) → splitter.now ≡ kept line → IfOk result (λ next. next ≡ next_of line) }
+    ensures known { IsSituation session.new }
+    ensures cause { HasCause (O.faults out.old) (O.faults out.new) result }
+{
+    keep_shapes();
+    let answered = session.answer_on(splitter.line(), page, out, steps);
+    session.known();
+    answered
+}
+
+// Answers the last line, and writes the answer.
+fn hear_last<O: Sink, L: Ledger>(
     session: &mut Session,
     splitter: &Splitter,
     out: &mut O,

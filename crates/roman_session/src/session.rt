@@ -1,5 +1,5 @@
 //! Sessions: what they are made of, and what is seen of them.
-ghost use Rattle.std.specs.Prelude.{◌≡◌, ◌<◌, length, map, Some, slice_get, slice_index, IsTrue};
+ghost use Rattle.std.specs.Prelude.{◌≡◌, ◌≢◌, ℕ, ◌<◌, length, map, Some, slice_get, slice_index, IsTrue};
 ghost use Rattle.std.specs.List.{filter};
 ghost use Rattle.roman_model.specs.System.{IsPair, pairs, has, is_allowed};
 ghost use Rattle.roman_model.specs.System as model;
@@ -8,6 +8,7 @@ ghost use Rattle.roman_model.specs.Explanation.{name_at};
 ghost use Rattle.roman_model.specs.Offers.{is_related, offers, related_count};
 ghost use Rattle.roman_radix.specs.Radix.{moved};
 ghost use Rattle.roman_rules.specs.Bits.{HasBits};
+ghost use Rattle.roman_joint.specs.NamedSys as named;
 ghost use Rattle.roman_relation.specs.Greatest.{IsRelation};
 ghost use Rattle.roman_session.specs.Situations.{Situation, present_system, is_idle, IsOpen, IsPhase, IsSituation};
 
@@ -21,6 +22,7 @@ mod rulings;
 
 use crate::phase::Phase;
 use roman_generator::offers;
+use roman_joint::Joint;
 use roman_read::Name;
 use roman_relation::Relation;
 use std::marker::Model;
@@ -34,7 +36,11 @@ pub struct Session {
     env: u8,
     // There is room for the greatest number of services.
     states: Vec<u8>,
+    // the number of the current pair
+    number: u32,
     phase: Phase,
+    // the services that are offered, one bit each, where a request is open that has no delegate
+    mask: u32,
 }
 
 impl Model for Session {
@@ -47,6 +53,14 @@ impl Model for Session {
     ghost view = { situation_in };
 
     ghost invariant = { IsSession };
+}
+
+// The number of a pair of the system.
+fn number_of(joint: &Joint, t: u8, e: u8, states: &[u8]) -> u32
+    requires { IsPair (named.system_of joint.now) (record { t = t; e = e; bs = states.now }) }
+    ensures { result ≡ number (sizes_of (named.system_of joint.now)) (record { t = t; e = e; bs = states.now }) }
+{
+    joint.shape().number(t, e, states)
 }
 
 impl Session {
@@ -101,8 +115,7 @@ impl Session {
         ensures number { result ≡ number (sizes_of (present_system self.now)) self.now.here }
         ensures below { result < count (sizes_of (present_system self.now)) }
     {
-        let shape = self.relation.joint.shape();
-        shape.number(self.target, self.env, &self.states)
+        self.number
     }
 
     // The state of the service at place k.
@@ -129,13 +142,20 @@ impl Session {
         self.relation.joint.allowed(self.here(), a)
     }
 
-    // The services that are offered for the action, one bit each.
-    fn offered(&self, a: u8) -> u32
-        requires related { IsTrue (is_related (present_system self.now) self.now.here) }
-        requires allowed { IsTrue (is_allowed (present_system self.now) self.now.here a) }
+    // The services that may be offered for the action, one bit each.
+    fn offers(&self, a: u8) -> u32
+        requires { IsOpen self.now a }
         ensures { HasBits result (has (offers (present_system self.now) self.now.here a)) }
     {
         offers(&self.relation, self.here(), a)
+    }
+
+    // The services that are offered for the action that is asked for, one bit each.
+    fn offered(&self, a: u8) -> u32
+        requires { self.now.phase ≡ Phase.Offered a }
+        ensures { HasBits result (has (offers (present_system self.now) self.now.here a)) }
+    {
+        self.mask
     }
 
     // Whether no request is open.
@@ -145,9 +165,9 @@ impl Session {
         matches!(self.phase, Phase::Idle)
     }
 
-    // Whether the service at place k is offered for the action.
+    // Whether the service at place k is offered for the action that is asked for.
     fn is_offered(&self, a: u8, k: u8) -> bool
-        requires open { IsOpen self.now a }
+        requires asked { self.now.phase ≡ Phase.Offered a }
         requires seat { k < length self.now.parts.seats }
         ensures { result ≡ has (offers (present_system self.now) self.now.here a) k }
     {
@@ -179,12 +199,23 @@ impl Session {
         *self.relation.joint.environment().actions().at(u32::from(a))
     }
 
-    // Goes on to another phase, which is one at the current pair.
+    // Goes on to another phase, which is one at the current pair, and in which no service is to be
+    // chosen.
     fn set_phase(&mut self, phase: Phase)
-        requires { IsPhase self.old phase }
+        requires phase { IsPhase self.old phase }
+        requires chosen { (a : ℕ) → phase ≢ Phase.Offered a }
         ensures { self.new ≡ record self.old { phase = phase } }
     {
         self.phase = phase;
+    }
+
+    // Offers services for the action from now on.
+    fn offer(&mut self, a: u8)
+        requires { IsOpen self.old a }
+        ensures { self.new ≡ record self.old { phase = Phase.Offered a } }
+    {
+        self.mask = self.offers(a);
+        self.phase = Phase::Offered(a);
     }
 
     // Moves the target, the environment and the service at place k to other states, where no request
@@ -197,6 +228,7 @@ impl Session {
         self.target = t;
         self.env = e;
         self.states[k as usize] = b;
+        self.number = number_of(&self.relation.joint, t, e, &self.states);
         self.phase = Phase::Idle;
     }
 
@@ -207,5 +239,6 @@ impl Session {
         ensures { self.new ≡ record self.old { here = record self.old.here { e = e } } }
     {
         self.env = e;
+        self.number = number_of(&self.relation.joint, self.target, e, &self.states);
     }
 }

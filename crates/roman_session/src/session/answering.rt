@@ -1,21 +1,21 @@
 // Answers to lines.
-ghost use Rattle.std.specs.Prelude.{◌≡◌, Ok, IsFalse, IfOk};
+ghost use Rattle.std.specs.Prelude.{◌≡◌, ◌++◌, Ok, IsFalse, IfOk};
 ghost use Rattle.roman_io.specs.Faults.{HasCause};
-ghost use Rattle.roman_io.specs.Sink.{Puts};
+ghost use Rattle.roman_text.specs.Pages.{Gathers};
 ghost use Rattle.roman_model.specs.Explanation.{explain_text};
 ghost use Rattle.roman_model.specs.Offers.{is_related};
 ghost use Rattle.roman_joint.specs.Names.{names_in};
 ghost use Rattle.roman_text.specs.Shapes.{ask, explain, shape_of_event};
 ghost use Rattle.roman_session.specs.Situations.{present_system, IsPhase};
 ghost use Rattle.roman_session.specs.Steps.{StepOn, Step};
-ghost use Rattle.roman_session.specs.Answering.{answer_text, CanBeSaid, Answered, NamesSome, SeenStaysRelated, next_after, next_of};
+ghost use Rattle.roman_session.specs.Answering.{answer_text, CanBeSaid, Answered, AnsweredOn, NamesSome, SeenStaysRelated, next_after, next_of};
 
 use super::Session;
 use crate::answers::Answer;
 use crate::next::Next;
 use roman_cert::write_slice;
 use roman_io::{Failed, Sink, Steps};
-use roman_text::{Event, Reply, parse_line, put_reply};
+use roman_text::{Event, Page, Reply, parse_line};
 use std::sync::ledger::Ledger;
 
 // Whether the session goes on after an event.
@@ -49,9 +49,34 @@ impl Session {
         ensures phase { IsPhase self.new self.new.phase }
     {
         self.known();
-        let (answer, next) = self.take_line(line, steps);
+        let mut page = Page::new();
+        let answered = self.answer_on(line, &mut page, out, steps);
         self.known();
-        if let Err(failed) = self.put_answer(answer, out, steps) {
+        let next = match answered {
+            Ok(next) => next,
+            Err(failed) => return Err(failed),
+        };
+        if let Err(failed) = page.flush(out) {
+            return Err(failed);
+        }
+        Ok(next)
+    }
+
+    /// Answers a line as [`Session::answer`] does, but on a page: the answer is taken behind what
+    /// it holds.
+    pub(crate) fn answer_on<O: Sink, L: Ledger>(
+        &mut self,
+        line: &[u8],
+        page: &mut Page,
+        out: &mut O,
+        steps: &mut Steps<L>,
+    ) -> Result<Next, Failed>
+        ensures step { AnsweredOn self.old line.now self.new (O.written out.old) (O.written out.new) page.old page.new result }
+        ensures next { IfOk result (λ next. next ≡ next_of line.now) }
+        ensures cause { HasCause (O.faults out.old) (O.faults out.new) result }
+    {
+        let (answer, next) = self.take_line(line, steps);
+        if let Err(failed) = self.push_answer(answer, page, out, steps) {
             return Err(failed);
         }
         Ok(next)
@@ -119,39 +144,44 @@ impl Session {
         Answer::Explanation
     }
 
-    // Writes what is to be said.
-    fn put_answer<O: Sink, L: Ledger>(
+    // Takes what is to be said.
+    fn push_answer<O: Sink, L: Ledger>(
         &mut self,
         answer: Answer,
+        page: &mut Page,
         out: &mut O,
         steps: &mut Steps<L>,
     ) -> Result<(), Failed>
         requires { CanBeSaid self.old answer }
-        ensures puts { Puts (O.written out.old) (O.written out.new) (answer_text self.old answer) result }
+        ensures gathers { Gathers (O.written out.old) (O.written out.new) page.new (page.old ++ answer_text self.old answer) result }
         ensures stays { self.new ≡ self.old }
         ensures cause { HasCause (O.faults out.old) (O.faults out.new) result }
     {
         match answer {
             Answer::Nothing => Ok(()),
-            Answer::Line(reply) => put_reply(out, &reply),
-            Answer::Offers(a) => self.put_offers(a, out),
-            Answer::Report => self.report(out),
-            Answer::Explanation => self.explain(out, steps),
+            Answer::Line(reply) => page.push_reply(&reply, out),
+            Answer::Offers(a) => self.push_offered(a, page, out),
+            Answer::Report => self.push_report(page, out),
+            Answer::Explanation => self.explain(page, out, steps),
         }
     }
 
-    // Writes the explanation of the current pair, which isn't related.
+    // Writes what the page holds, and then the explanation of the current pair, which isn't related.
     fn explain<O: Sink, L: Ledger>(
         &mut self,
+        page: &mut Page,
         out: &mut O,
         steps: &mut Steps<L>,
     ) -> Result<(), Failed>
         requires { IsFalse (is_related (present_system self.old) self.old.here) }
-        ensures puts { let s = self.old in
-            Puts (O.written out.old) (O.written out.new) (explain_text (present_system s) (names_in s.parts) s.list s.here) result }
+        ensures gathers { let s = self.old in
+            Gathers (O.written out.old) (O.written out.new) page.new (page.old ++ explain_text (present_system s) (names_in s.parts) s.list s.here) result }
         ensures stays { self.new ≡ self.old }
         ensures cause { HasCause (O.faults out.old) (O.faults out.new) result }
     {
+        if let Err(failed) = page.flush(out) {
+            return Err(failed);
+        }
         let here = self.here();
         write_slice(&mut self.relation, here, out, steps)
     }

@@ -4,7 +4,7 @@ ghost use Rattle.roman_library.specs.Library.{IsLibrary, plain};
 ghost use Rattle.roman_session.specs.Starts.{parts_of, IsStart};
 ghost use Rattle.roman_session.specs.Building.{IsWithinLimit};
 
-use super::Session;
+use super::{Session, number_of};
 use crate::error::BuildError;
 use crate::phase::Phase;
 use crate::seating::{Seated, seat_library};
@@ -31,13 +31,16 @@ impl Session {
         let target = joint.target().start();
         let env = joint.environment().start();
         joint.known();
+        let number = number_of(&joint, target, env, &states);
         let relation = Relation::build(alloc, joint, steps)?;
         Ok(Session {
             relation,
             target,
             env,
             states,
+            number,
             phase: Phase::Idle,
+            mask: 0,
         })
     }
 }

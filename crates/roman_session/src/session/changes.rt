@@ -8,7 +8,7 @@ ghost use Rattle.roman_session.specs.Rulings.{with_room};
 ghost use Rattle.roman_session.specs.Joins.{CanJoin};
 ghost use Rattle.roman_session.specs.Steps.{Does, Freezes, Thaws, Dies, Joins, StepOn};
 
-use super::Session;
+use super::{Session, number_of};
 use crate::events::Joining;
 use crate::phase::Phase;
 use roman_io::Steps;
@@ -106,6 +106,7 @@ impl Session {
         let tally = die(&mut self.relation, k, steps);
         self.relation.joint.known();
         let _state = self.states.remove(k as usize);
+        self.number = number_of(&self.relation.joint, self.target, self.env, &self.states);
         kept(tally)
     }
 
@@ -119,6 +120,7 @@ impl Session {
             Ok(tally) => {
                 self.relation.joint.known();
                 self.states.push_reserved(joining.state);
+                self.number = number_of(&self.relation.joint, self.target, self.env, &self.states);
                 kept(tally)
             }
             Err(JoinError::Full) => Reply::ErrorFull,

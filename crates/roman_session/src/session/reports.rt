@@ -8,9 +8,10 @@ ghost use Rattle.roman_session.specs.Reports.{report_head, service_lines, offer_
 ghost use Rattle.roman_session.specs.Steps.{offer_text};
 
 use super::Session;
+use crate::phase::Phase;
 use crate::writing::{push_lines, push_served, service_line};
 use roman_io::{Failed, Sink};
-use roman_text::{Page, Reply, ReportLine};
+use roman_text::{Page, ReportLine};
 
 impl Session {
     /// Writes the report: the services now present, the present states, and what may be offered there.
@@ -25,29 +26,31 @@ impl Session {
         page.flush(out)
     }
 
-    // Writes the services that are offered for the action, as the reply to its request.
-    pub(super) fn put_offers<O: Sink>(&self, a: u8, out: &mut O) -> Result<(), Failed>
-        requires { IsOpen self.now a }
-        ensures offers { Puts (O.written out.old) (O.written out.new) (offer_text self.now a) result }
+    // Takes the services that are offered for the action that is asked for, as the reply to its
+    // request.
+    pub(super) fn push_offered<O: Sink>(
+        &self,
+        a: u8,
+        page: &mut Page,
+        out: &mut O,
+    ) -> Result<(), Failed>
+        requires { self.now.phase ≡ Phase.Offered a }
+        ensures gathers { Gathers (O.written out.old) (O.written out.new) page.new (page.old ++ offer_text self.now a) result }
         ensures cause { HasCause (O.faults out.old) (O.faults out.new) result }
     {
         self.known();
         let mask = self.offered(a);
-        let mut page = Page::new();
-        if let Err(failed) = page.push_reply(&Reply::Offer, out) {
+        if let Err(failed) = page.push(b"offer", out) {
             return Err(failed);
         }
-        if let Err(failed) = push_served(&self.relation.joint, mask, &mut page, out) {
+        if let Err(failed) = push_served(&self.relation.joint, mask, page, out) {
             return Err(failed);
         }
-        if let Err(failed) = page.push_reply(&Reply::Stop, out) {
-            return Err(failed);
-        }
-        page.flush(out)
+        page.push(b"\n", out)
     }
 
     // Takes all lines of the report.
-    fn push_report<O: Sink>(&self, page: &mut Page, out: &mut O) -> Result<(), Failed>
+    pub(super) fn push_report<O: Sink>(&self, page: &mut Page, out: &mut O) -> Result<(), Failed>
         ensures gathers { Gathers (O.written out.old) (O.written out.new) page.new (page.old ++ report_text self.now.parts self.now.here) result }
         ensures cause { HasCause (O.faults out.old) (O.faults out.new) result }
     {
@@ -123,7 +126,7 @@ impl Session {
         ensures cause { HasCause (O.faults out.old) (O.faults out.new) result }
     {
         self.known();
-        let mask = self.offered(a);
+        let mask = self.offers(a);
         let line = ReportLine::Offer(self.action_name(a));
         if let Err(failed) = page.push_report_line(&line, out) {
             return Err(failed);

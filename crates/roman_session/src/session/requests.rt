@@ -21,7 +21,7 @@ impl Session {
             (λ refusal. (asked self.old action.now ≡ Err refusal) × (self.new ≡ self.old)) }
     {
         let a = self.asked(action)?;
-        self.set_phase(Phase::Offered(a));
+        self.offer(a);
         Ok(a)
     }
 

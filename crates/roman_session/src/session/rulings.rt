@@ -2,7 +2,7 @@
 ghost use Rattle.std.specs.Prelude.{◌≡◌, ◌<◌, length, map, IfOk, IfSome, slice_get};
 ghost use Rattle.roman_joint.specs.Names.{beh_name};
 ghost use Rattle.roman_session.specs.Joins.{CanJoin};
-ghost use Rattle.roman_session.specs.Situations.{present_system, IsOpen};
+ghost use Rattle.roman_session.specs.Situations.{present_system};
 ghost use Rattle.roman_session.specs.Rulings.{named, service_named, state_named, seat_at, offered_action, delegation, asked, handed, seen, aborted, jumped, env_jumped, frozen, thawed, died, joining};
 
 use super::Session;
@@ -50,7 +50,7 @@ impl Session {
     // The action for which services were offered.
     fn offered_action(&self) -> Result<u8, Reply>
         ensures action { result ≡ offered_action self.now.phase }
-        ensures open { IfOk result (IsOpen self.now) }
+        ensures phase { IfOk result (λ a. self.now.phase ≡ Phase.Offered a) }
     {
         match self.phase {
             Phase::Offered(a) => Ok(a),

@@ -9,6 +9,7 @@ takes-init g c = record {
   taken = [];
   gave = Gave-nil (g.S.Source.rest c.args.source.now);
   hearing = hearing_starts c.args.session.now (g.O.Sink.written c.args.out.now) c.new-splitter.result c.new-splitter.ensures.empty;
+  page = c.new-page.ensures.empty;
   room = refl;
   piece = refl;
   reads = refl;
@@ -28,6 +29,11 @@ returns-then-count-eq0-clause-ok g c =
 pub returns-then-count-eq0-clause-too_long : goal.returns-then-count-eq0-clause-too_long
 returns-then-count-eq0-clause-too_long g c is =
     absurd (rest_not_long c.args.session.now c.hear_rest.new.session c.takes.invariant.taken (g.O.Sink.written c.args.out.now) (g.O.Sink.written c.hear_rest.new.out) c.hear_rest.result
+    (c.hear_rest.ensures.hears c.args.session.now (g.O.Sink.written c.args.out.now) c.takes.invariant.taken c.takes.invariant.hearing) is)
+
+pub returns-then-count-eq0-clause-read_fault : goal.returns-then-count-eq0-clause-read_fault
+returns-then-count-eq0-clause-read_fault g c is =
+    absurd (rest_not_read c.args.session.now c.hear_rest.new.session c.takes.invariant.taken (g.O.Sink.written c.args.out.now) (g.O.Sink.written c.hear_rest.new.out) c.hear_rest.result
     (c.hear_rest.ensures.hears c.args.session.now (g.O.Sink.written c.args.out.now) c.takes.invariant.taken c.takes.invariant.hearing) is)
 
 pub returns-then-count-eq0-clause-write_fault : goal.returns-then-count-eq0-clause-write_fault
@@ -70,6 +76,7 @@ takes-preserved g c =
       gave = Gave-then (g.S.Source.rest c.args.source.now) (g.S.Source.rest c.takes.source) (g.S.Source.rest c.take.new.self) c.takes.invariant.taken (take c.in-Ok.count c.take.new.into)
           c.takes.invariant.gave c.in-Ok.ensures.moves;
       hearing = h.0;
+      page = c.in-Ok-More.ensures.empty;
       room = omega (arith, h.1, c.takes.invariant.room, length-append c.takes.invariant.taken (take c.in-Ok.count c.take.new.into), length-take-le c.in-Ok.count c.take.new.into c.in-Ok.ensures.bound);
       piece = c.take.auto.into ∙ c.takes.invariant.piece;
       reads = c.in-Ok.ensures.cause.stays ∙ c.takes.invariant.reads;

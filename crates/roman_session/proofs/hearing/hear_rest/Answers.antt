@@ -9,10 +9,10 @@ returns-then-not-rest-clause-hears g c old before taken is =
 
 pub returns-in-Ok-clause-hears : goal.returns-in-Ok-clause-hears
 returns-in-Ok-clause-hears g c old before taken is =
-    hears_rest old before taken c.args.session.now (g.O.Sink.written c.args.out.now) c.args.splitter.now is c.hear_line.new.session (g.O.Sink.written c.hear_line.new.out) c.in-Ok.field-0
+    hears_rest old before taken c.args.session.now (g.O.Sink.written c.args.out.now) c.args.splitter.now is c.hear_last.new.session (g.O.Sink.written c.hear_last.new.out) c.in-Ok.field-0
     (sym c.rest.ensures.rest ∙ c.if-not-rest.false) (c.in-Ok.ensures.step (unfinished taken) is.rest)
 
 pub returns-in-Err-clause-hears : goal.returns-in-Err-clause-hears
 returns-in-Err-clause-hears g c old before taken is =
-    fails_rest old before taken c.args.session.now (g.O.Sink.written c.args.out.now) c.args.splitter.now is c.hear_line.new.session (g.O.Sink.written c.hear_line.new.out) c.in-Err.field-0
+    fails_rest old before taken c.args.session.now (g.O.Sink.written c.args.out.now) c.args.splitter.now is c.hear_last.new.session (g.O.Sink.written c.hear_last.new.out) c.in-Err.field-0
     (sym c.rest.ensures.rest ∙ c.if-not-rest.false) (c.in-Err.ensures.step (unfinished taken) is.rest) c.in-Err.ensures.known

@@ -2,7 +2,7 @@ use Rattle.std.proofs.Common.{sym}
 use Rattle.roman_session.proofs.RulingLemmas.{asked_is}
 use Rattle.roman_session.proofs.session.Session.ask.Goals as goal
 
-pub set_phase-requires : goal.set_phase-requires
-set_phase-requires c =
+pub offer-requires : goal.offer-requires
+offer-requires c =
     let asked = asked_is c.args.self.now c.args.action.now c.in_ok-a.a (sym c.in_ok-a.ensures) in
     (asked.related, asked.allowed)

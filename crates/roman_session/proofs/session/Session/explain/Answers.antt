@@ -2,9 +2,11 @@ use Rattle.std.proofs.Common.{◌≡◌, ℕ, List, sym, ap, ◌∙◌, subst}
 use Rattle.roman_model.specs.Explanation.{explain_text}
 use Rattle.roman_model.specs.Numbers.{sizes_of, number}
 use Rattle.roman_io.specs.Sink.{Puts}
+use Rattle.roman_text.proofs.PageLemmas.{Gathers-flushed, Gathers-failed}
 use Rattle.roman_joint.specs.Names.{names_in}
 use Rattle.roman_session.specs.Situations.{Situation, present_system}
 use Rattle.roman_session.specs.Layout.{situation_in}
+use Rattle.roman_session.proofs.AnswerLemmas.{puts_gathered}
 use Rattle.roman_session.proofs.SituationLemmas.{situation_known, parts_shown, here_pair, unrelated_there}
 use Rattle.roman_session.proofs.session.Session.explain.Goals as goal
 
@@ -14,8 +16,11 @@ write_slice-requires-clause-unrelated g c =
     let a = c.self.inside in
     unrelated_there s a.relation.joint c.here-here.result (situation_known a s c.self.invariant c.self.view_is) (parts_shown a s c.self.view_is) c.here-here.ensures.number c.requires
 
-pub returns-clause-puts : goal.returns-clause-puts
-returns-clause-puts g c =
+pub returns-in-Err-clause-gathers : goal.returns-in-Err-clause-gathers
+returns-in-Err-clause-gathers g c = Gathers-failed _ _ _ _ _ c.in-Err.ensures.puts c.in-Err.ensures.empty
+
+pub returns-clause-gathers : goal.returns-clause-gathers
+returns-clause-gathers g c =
     let s = c.args.self.now in
     let a = c.self.inside in
     let t = situation_in a in
@@ -24,4 +29,5 @@ returns-clause-puts g c =
     let same =
     ap (explain_text (present_system t) (names_in t.parts) t.list) (here_pair t c.here-here.result c.self.invariant.known here)
     ∙ ap (λ (s : Situation). explain_text (present_system s) (names_in s.parts) s.list s.here) c.self.view_is in
-    subst (λ (text : List ℕ). Puts (g.O.Sink.written c.args.out.now) (g.O.Sink.written c.write_slice.new.out) text c.write_slice.result) same c.write_slice.ensures.text
+    let put = subst (λ (text : List ℕ). Puts (g.O.Sink.written c.flush.new.out) (g.O.Sink.written c.write_slice.new.out) text c.write_slice.result) same c.write_slice.ensures.text in
+    Gathers-flushed _ _ _ c.args.page.now c.flush.new.self _ _ c.in_default.ensures.puts (puts_gathered _ _ _ _ _ c.flush.ensures.empty put)

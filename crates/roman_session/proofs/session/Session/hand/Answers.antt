@@ -19,8 +19,8 @@ seat-requires c =
     let within = offered_within s x.action x.seat (situation_known a s c.self.invariant c.self.view_is) (has_in (offers (present_system s) s.here x.action) x.seat handed.offered) in
     subst (λ (s : Situation). x.seat < length s.parts.seats) (sym c.self.view_is) within
 
-pub set_phase-requires : goal.set_phase-requires
-set_phase-requires c =
+pub set_phase-requires-clause-phase : goal.set_phase-requires-clause-phase
+set_phase-requires-clause-phase c =
     let s = c.args.self.now in
     let a = c.self.inside in
     let x = c.in-Ok.handing in

@@ -1,14 +1,15 @@
-use Rattle.std.proofs.Common.{ℕ, List, sym, subst}
-use Rattle.roman_model.specs.Numbers.{Sizes, sizes_of, IsPairOf}
-use Rattle.roman_model.proofs.NumberLemmas.{IsPairOf-from}
-use Rattle.roman_joint.specs.NamedSys.{system_of}
-use Rattle.roman_session.specs.Layout.{situation_in}
+use Rattle.std.proofs.Common.{ap, ◌∙◌}
+use Rattle.roman_model.specs.Numbers.{sizes_of, number}
+use Rattle.roman_model.proofs.NumberLemmas.{numbers_are_pairs}
+use Rattle.roman_session.specs.Situations.{Situation, present_system}
+use Rattle.roman_session.proofs.SituationLemmas.{situation_known}
 use Rattle.roman_session.proofs.session.Session.here.Goals as goal
 
-pub number-requires : goal.number-requires
-number-requires c =
-    let a = c.self.inside in
-    let s = situation_in a in
-    subst (λ (m : Sizes). IsPairOf m (record { t = a.target; e = a.env; bs = c.deref.result.now })) (sym c.shape-shape.ensures)
-    (subst (λ (bs : List ℕ). IsPairOf (sizes_of (system_of a.relation.joint)) (record { t = a.target; e = a.env; bs = bs })) (sym c.deref.ensures.value)
-    (IsPairOf-from (system_of a.relation.joint) s.here c.self.invariant.known.here))
+pub returns-clause-number : goal.returns-clause-number
+returns-clause-number c = c.self.invariant.numbered ∙ ap (λ (s : Situation). number (sizes_of (present_system s)) s.here) c.self.view_is
+
+pub returns-clause-below : goal.returns-clause-below
+returns-clause-below c =
+    let s = c.args.self.now in
+    let is = situation_known c.self.inside s c.self.invariant c.self.view_is in
+    rw (c.self.invariant.numbered ∙ ap (λ (s : Situation). number (sizes_of (present_system s)) s.here) c.self.view_is) ((numbers_are_pairs (present_system s)).below s.here is.here)

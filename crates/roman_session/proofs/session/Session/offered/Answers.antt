@@ -1,28 +1,12 @@
-use Rattle.std.proofs.Common.{ℕ, List, ◌∙◌, subst}
-use Rattle.roman_model.specs.System.{has, is_allowed}
-use Rattle.roman_model.specs.Offers.{is_related, offers}
+use Rattle.std.proofs.Common.{ap, ◌∙◌, subst}
+use Rattle.roman_model.specs.System.{has}
+use Rattle.roman_model.specs.Offers.{offers}
 use Rattle.roman_rules.specs.Bits.{HasBits}
-use Rattle.roman_session.proofs.SituationLemmas.{situation_known, parts_shown, at_here}
+use Rattle.roman_session.specs.Situations.{Situation, present_system}
 use Rattle.roman_session.proofs.session.Session.offered.Goals as goal
-
-pub offers-requires-clause-related : goal.offers-requires-clause-related
-offers-requires-clause-related c =
-    let s = c.args.self.now in
-    let a = c.self.inside in
-    at_here is_related s a.relation.joint c.here.result (situation_known a s c.self.invariant c.self.view_is) (parts_shown a s c.self.view_is) c.here.ensures.number
-    ∙ c.requires.related
-
-pub offers-requires-clause-allowed : goal.offers-requires-clause-allowed
-offers-requires-clause-allowed c =
-    let s = c.args.self.now in
-    let a = c.self.inside in
-    at_here (λ s p. is_allowed s p c.args.a) s a.relation.joint c.here.result (situation_known a s c.self.invariant c.self.view_is) (parts_shown a s c.self.view_is) c.here.ensures.number
-    ∙ c.requires.allowed
 
 pub returns : goal.returns
 returns c =
-    let s = c.args.self.now in
     let a = c.self.inside in
-    subst (λ (ks : List ℕ). HasBits c.offers.result (has ks))
-    (at_here (λ s p. offers s p c.args.a) s a.relation.joint c.here.result (situation_known a s c.self.invariant c.self.view_is) (parts_shown a s c.self.view_is) c.here.ensures.number)
-    c.offers.ensures.offers
+    let asked = ap (λ (s : Situation). s.phase) c.self.view_is ∙ c.requires in
+    subst (λ (s : Situation). HasBits a.mask (has (offers (present_system s) s.here c.args.a))) c.self.view_is (c.self.invariant.offered c.args.a asked)

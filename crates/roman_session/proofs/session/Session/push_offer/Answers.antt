@@ -17,19 +17,19 @@ action_name-requires g c =
 pub returns-in-Err-clause-gathers : goal.returns-in-Err-clause-gathers
 returns-in-Err-clause-gathers g c =
     let s = c.args.self.now in
-    let names = served_text s.parts (seats_set c.offered-mask.result (length s.parts.seats)) in
+    let names = served_text s.parts (seats_set c.offers-mask.result (length s.parts.seats)) in
     let first = line_text (line.Offer c.action_name.result) in
-    let all = offer_line_is s.parts s.parts s.here c.args.a c.offered-mask.result c.action_name.result c.known.ensures.parts refl c.action_name.ensures c.requires.1 c.offered-mask.ensures in
+    let all = offer_line_is s.parts s.parts s.here c.args.a c.offers-mask.result c.action_name.result c.known.ensures.parts refl c.action_name.ensures c.requires.1 c.offers-mask.ensures in
     (fill_failed _ _ _ _ first (names ++ (line_text line.Stop ++ [])) _ (fill_behind _ _ _ _ all) c.in-Err.ensures.gathers.0, c.in-Err.ensures.gathers.1)
 
 pub returns-in-Err-push_served-clause-gathers : goal.returns-in-Err-push_served-clause-gathers
 returns-in-Err-push_served-clause-gathers g c =
     let s = c.args.self.now in
     let n = c.self.inside.relation.joint in
-    let names = served_text n (seats_set c.offered-mask.result (length n.seats)) in
+    let names = served_text n (seats_set c.offers-mask.result (length n.seats)) in
     let first = line_text (line.Offer c.action_name.result) in
     let last = line_text line.Stop in
-    let all = offer_line_is s.parts n s.here c.args.a c.offered-mask.result c.action_name.result c.known.ensures.parts (parts_shown c.self.inside s c.self.view_is) c.action_name.ensures c.requires.1 c.offered-mask.ensures in
+    let all = offer_line_is s.parts n s.here c.args.a c.offers-mask.result c.action_name.result c.known.ensures.parts (parts_shown c.self.inside s c.self.view_is) c.action_name.ensures c.requires.1 c.offers-mask.ensures in
     let taken = fill_more _ _ _ _ _ first (names ++ (last ++ [])) _ (fill_behind _ _ _ _ all) c.in_default.ensures.gathers in
     (fill_failed _ _ _ _ names (last ++ []) _ taken c.in-Err-push_served.ensures.gathers.0, c.in-Err-push_served.ensures.gathers.1)
 
@@ -37,10 +37,10 @@ pub returns-clause-gathers : goal.returns-clause-gathers
 returns-clause-gathers g c =
     let s = c.args.self.now in
     let n = c.self.inside.relation.joint in
-    let names = served_text n (seats_set c.offered-mask.result (length n.seats)) in
+    let names = served_text n (seats_set c.offers-mask.result (length n.seats)) in
     let first = line_text (line.Offer c.action_name.result) in
     let last = line_text line.Stop in
-    let all = offer_line_is s.parts n s.here c.args.a c.offered-mask.result c.action_name.result c.known.ensures.parts (parts_shown c.self.inside s c.self.view_is) c.action_name.ensures c.requires.1 c.offered-mask.ensures in
+    let all = offer_line_is s.parts n s.here c.args.a c.offers-mask.result c.action_name.result c.known.ensures.parts (parts_shown c.self.inside s c.self.view_is) c.action_name.ensures c.requires.1 c.offers-mask.ensures in
     let taken = fill_more _ _ _ _ _ first (names ++ (last ++ [])) _ (fill_behind _ _ _ _ all) c.in_default.ensures.gathers in
     let more = fill_more _ _ _ _ _ names (last ++ []) _ taken c.in_default-push_served.ensures.gathers in
     fill_last _ _ _ _ _ last _ _ more c.push_report_line-2.ensures.gathers

@@ -14,8 +14,10 @@ invariant_of-self c =
         parts = known.parts;
         here = known.here;
         list = known.list;
-        phase = phase_kept (situation_in a) c.args.phase c.args.phase (subst (λ (s : Situation). IsPhase s c.args.phase) (sym c.self.view_is) c.requires);
+        phase = phase_kept (situation_in a) c.args.phase c.args.phase (subst (λ (s : Situation). IsPhase s c.args.phase) (sym c.self.view_is) c.requires.phase);
       };
       few = c.self.invariant.few;
       room = c.self.invariant.room;
+      numbered = c.self.invariant.numbered;
+      offered = λ action is. absurd (c.requires.chosen action is);
     }

@@ -1,0 +1,14 @@
+use Rattle.std.proofs.Common.{sym, ap, ◌∙◌, subst}
+use Rattle.roman_model.specs.System.{Pair}
+use Rattle.roman_model.specs.Numbers.{Sizes, IsPairOf, number}
+use Rattle.roman_model.proofs.NumberLemmas.{IsPairOf-from}
+use Rattle.roman_joint.specs.NamedSys.{system_of}
+use Rattle.roman_session.proofs.session.number_of.Goals as goal
+
+pub number-requires : goal.number-requires
+number-requires c =
+    let p : Pair = record { t = c.args.t; e = c.args.e; bs = c.args.states.now } in
+    subst (λ (m : Sizes). IsPairOf m p) (sym c.shape.ensures) (IsPairOf-from (system_of c.args.joint.now) p c.requires)
+
+pub returns : goal.returns
+returns c = c.number.ensures.number ∙ ap (λ (m : Sizes). number m (record { t = c.args.t; e = c.args.e; bs = c.args.states.now })) c.shape.ensures
