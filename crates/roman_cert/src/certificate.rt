@@ -76,12 +76,7 @@ fn push_entry<O: Sink>(
 }
 
 /// Takes the line of an entry whose reason is the action.
-fn push_action<O: Sink>(
-    pair: u32,
-    action: u8,
-    page: &mut Page,
-    out: &mut O,
-) -> Result<(), Failed>
+fn push_action<O: Sink>(pair: u32, action: u8, page: &mut Page, out: &mut O) -> Result<(), Failed>
     ensures gathers { Gathers (O.written out.old) (O.written out.new) page.new
         (page.old ++ text_of (entry_line (as_entry (pair, Act action)) ∷ [])) result }
     ensures cause { HasCause (O.faults out.old) (O.faults out.new) result }

@@ -1,5 +1,5 @@
 -- What is left after a change, and after two.
-use Rattle.std.proofs.Common.{◌≡◌, ℕ, ◌<◌, ◌↔◌, Bool, true, false, not, List, [], ◌∷◌, length, remove, Some, IsTrue, slice_get, refl, sym, ap, ap₂, ◌∙◌, subst, arith}
+use Rattle.std.proofs.Common.{◌≡◌, ℕ, ◌/◌, ◌<◌, ◌↔◌, Bool, true, false, not, List, [], ◌∷◌, length, remove, Some, IsTrue, slice_get, refl, sym, ap, ap₂, ◌∙◌, subst, arith}
 use Rattle.std.proofs.lemmas.List.{length-map}
 use Rattle.roman_model.specs.System.{Seat, Sys, Pair, is_ready}
 use Rattle.roman_model.specs.Composition.{Great}
@@ -22,7 +22,7 @@ use Rattle.roman_joint.specs.declared.seat.Seat as joint
 use Rattle.roman_order.specs.Board.{Board}
 use Rattle.roman_relation.specs.Greatest.{HasCaps, IsRelation}
 use Rattle.roman_relation.specs.declared.relation.Relation.{Relation}
-use Rattle.roman_whatif.specs.Left.{IsLeft, IsScratchOf}
+use Rattle.roman_whatif.specs.Left.{IsLeft, IsScratchOf, IsIdleScratchOf}
 use Rattle.roman_whatif.specs.Losses.{left_of}
 use Rattle.roman_whatif.proofs.LaterFirst.{system_later, pair_later}
 
@@ -169,17 +169,25 @@ great_told way K L base old new order p q composes same these left great =
 pub scratch_again : (way : Way) (K : List ℕ) (base old new : NamedSys) (order : Board) (p q : ℕ) → old ≡ base → IsLeft way K old p new order q → IsScratchOf base new order
 scratch_again way K base old new order p q same left = record { parts = subst (HasSameParts new) same left.parts; caps = left.relation.caps }
 
--- a relation that equals another is a scratch of it
-pub same_scratch : (base scratch : Relation) → scratch ≡ base → HasCaps base.joint base.order → IsScratchOf base.joint scratch.joint scratch.order
-same_scratch base scratch same caps = record {
-  parts = subst (λ (r : Relation). HasSameParts r.joint base.joint) (sym same) (parts_themselves base.joint);
-  caps = subst (λ (r : Relation). HasCaps r.joint r.order) (sym same) caps;
+-- Copies on which failures are tried.
+
+-- there is as much room where only the services are others
+pub caps_for : (m n : NamedSys) (order : Board) → HasSameParts n m → HasCaps m order → HasCaps n order
+caps_for m n order same caps = record { pairs = ap₂ (λ limit actions. limit / actions) same.limit (ap (λ e. e.env.actions) same.environment) ∙ caps.pairs }
+
+-- what is left where seats failed is an idle scratch
+pub left_idle : (way : Way) (K : List ℕ) (base new : NamedSys) (order : Board) (p q : ℕ) → IsLeft way K base p new order q → IsIdleScratchOf base new order
+left_idle way K base new order p q left = record { scratch = record { parts = left.parts; caps = left.relation.caps }; idle = left.relation.complete.idle }
+
+-- an idle scratch is one of what is left, too
+pub idle_on_left : (base mid joint : NamedSys) (order : Board) → HasSameParts mid base → IsIdleScratchOf base joint order → IsIdleScratchOf mid joint order
+idle_on_left base mid joint order same idle = record {
+  scratch = record { parts = parts_on joint base mid idle.scratch.parts (parts_back mid base same); caps = idle.scratch.caps };
+  idle = idle.idle;
 }
 
--- two seats failed, the later one in the relation in the middle
-pub left_both : (way : Way) (k j : ℕ) (base first mid again new : Relation) (p q r : ℕ) → k < j → first ≡ base → again ≡ mid → IsLeft way (j ∷ []) first.joint p mid.joint mid.order q →
-    IsLeft way (k ∷ []) again.joint q new.joint new.order r → IsLeft way (k ∷ j ∷ []) base.joint p new.joint new.order r
-left_both way k j base first mid again new p q r l same reset one two =
-    left_again way k j base.joint mid.joint new.joint mid.order new.order p q r l
-    (subst (λ (x : Relation). IsLeft way (j ∷ []) x.joint p mid.joint mid.order q) same one)
-    (subst (λ (x : Relation). IsLeft way (k ∷ []) x.joint q new.joint new.order r) reset two)
+-- a copy is an idle scratch
+pub idle_copy : (base copy : Relation) → copy ≡ base → IsRelation base.joint base.order → IsIdleScratchOf base.joint copy.joint copy.order
+idle_copy base copy same relation =
+    let first : IsIdleScratchOf base.joint base.joint base.order = record { scratch = record { parts = parts_themselves base.joint; caps = relation.caps }; idle = relation.complete.idle } in
+    subst (λ (r : Relation). IsIdleScratchOf base.joint r.joint r.order) (sym same) first

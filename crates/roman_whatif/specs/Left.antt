@@ -18,6 +18,11 @@ pub record IsScratchOf (base joint : NamedSys) (order : Board) : Type 0 where
   pub parts : HasSameParts joint base
   pub caps : HasCaps joint order
 
+-- it is such a scratch, and nothing waits there
+pub record IsIdleScratchOf (base joint : NamedSys) (order : Board) : Type 0 where
+  pub scratch : IsScratchOf base joint order
+  pub idle : order.waiting ≡ []
+
 -- the relation is that of the system without the seats at the places K of the old one, and q is what is left of the pair p
 pub record IsLeft (way : Way) (K : List ℕ) (old : NamedSys) (p : ℕ) (joint : NamedSys) (order : Board) (q : ℕ) : Type 0 where
   pub relation : IsRelation joint order

@@ -4,15 +4,15 @@ ghost use Rattle.roman_model.specs.Composition.{Great};
 ghost use Rattle.roman_model.specs.Numbers.{sizes_of, count, pair_at};
 ghost use Rattle.roman_model.specs.Without.{system_without, pair_without, outlook};
 ghost use Rattle.roman_joint.specs.NamedSys.{system_of};
-ghost use Rattle.roman_relation.specs.Greatest.{IsRelation};
-ghost use Rattle.roman_whatif.specs.Left.{places, IsScratchOf, IsLeft};
+ghost use Rattle.roman_relation.specs.Greatest.{HasCaps, IsRelation};
+ghost use Rattle.roman_whatif.specs.Left.{places, IsScratchOf, IsIdleScratchOf, IsLeft};
 ghost use Rattle.roman_whatif.specs.Told.{told};
 
 use crate::outlook::{Outlook, now};
 use roman_io::Steps;
 use roman_model::Way;
 use roman_relation::Relation;
-use roman_repair::{die, freeze};
+use roman_repair::freeze;
 use std::sync::ledger::Ledger;
 
 /// What is left where the service at one place of `base`, or those at two, fail: what the pair that is
@@ -54,14 +54,36 @@ pub fn without<L: Ledger>(
     }
 }
 
-/// The service at place k fails. Answers the pair that is left of `p`.
-pub(crate) fn fail<L: Ledger>(
-    relation: &mut Relation,
+/// The service at place k of `from` fails on a scratch, in which nothing waits: all else there becomes
+/// what it is in `from`, but for a list that a death makes afresh. Answers the pair that is left of `p`.
+pub(crate) fn fail_on<L: Ledger>(
+    scratch: &mut Relation,
+    from: &Relation,
     p: u32,
     k: u8,
     way: Way,
     steps: &mut Steps<L>,
 ) -> u32
+    requires scratch { IsIdleScratchOf from.now.joint scratch.old.joint scratch.old.order }
+    requires from { IsRelation from.now.joint from.now.order }
+    requires pair { p < count (sizes_of (system_of from.now.joint)) }
+    requires place { k < length from.now.joint.seats }
+    ensures { IsLeft way (k ∷ []) from.now.joint p scratch.new.joint scratch.new.order result }
+{
+    match way {
+        Way::Freeze => {
+            scratch.reset_to(from);
+            freeze_seat(scratch, p, k, steps)
+        }
+        Way::Die => {
+            scratch.joint.reset_seats_to(&from.joint);
+            lose_seat(scratch, p, k, steps)
+        }
+    }
+}
+
+/// The service at place k fails. Answers the pair that is left of `p`.
+fn fail<L: Ledger>(relation: &mut Relation, p: u32, k: u8, way: Way, steps: &mut Steps<L>) -> u32
     requires relation { IsRelation relation.old.joint relation.old.order }
     requires pair { p < count (sizes_of (system_of relation.old.joint)) }
     requires place { k < length relation.old.joint.seats }
@@ -88,14 +110,17 @@ fn freeze_seat<L: Ledger>(relation: &mut Relation, p: u32, k: u8, steps: &mut St
     p
 }
 
-/// The service at place k dies.
+/// The service at place k dies. The list is made afresh, whatever it was: that costs less than to repair
+/// it, since the system that is left is smaller.
 fn lose_seat<L: Ledger>(relation: &mut Relation, p: u32, k: u8, steps: &mut Steps<L>) -> u32
-    requires relation { IsRelation relation.old.joint relation.old.order }
+    requires caps { HasCaps relation.old.joint relation.old.order }
+    requires idle { relation.old.order.waiting ≡ [] }
     requires pair { p < count (sizes_of (system_of relation.old.joint)) }
     requires place { k < length relation.old.joint.seats }
     ensures { IsLeft Way.Die (k ∷ []) relation.old.joint p relation.new.joint relation.new.order result }
 {
     let left = relation.joint.shape().without(p, k);
-    die(relation, k, steps);
+    relation.joint.drop_seat(k);
+    relation.afresh(steps);
     left
 }

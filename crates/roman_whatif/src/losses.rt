@@ -6,8 +6,9 @@ ghost use Rattle.roman_relation.specs.Greatest.{IsRelation};
 ghost use Rattle.roman_whatif.specs.Left.{places};
 ghost use Rattle.roman_whatif.specs.Told.{told};
 ghost use Rattle.roman_whatif.specs.Losses.{told_at, left_of, MayFail, IsToldOf, AreTold, AreLosses};
+ghost use Rattle.roman_whatif.specs.Trials.{AreTrialsOf};
 
-use crate::failing::fail;
+use crate::failing::fail_on;
 use crate::outlook::{Outlook, now};
 use roman_io::Steps;
 use roman_model::{MAX_SERVICES, Way};
@@ -50,8 +51,9 @@ impl Losses {
         ensures pair { IfOk result (λ losses. losses.pair ≡ p) }
         ensures losses { IfOk result (λ losses. AreLosses base.now.joint losses) }
     {
-        let frozen = try_all(alloc, base, p, Way::Freeze, steps)?;
-        let gone = try_all(alloc, base, p, Way::Die, steps)?;
+        let mut trials = Trials::build(alloc, base)?;
+        let frozen = try_all(alloc, base, p, Way::Freeze, &mut trials, steps)?;
+        let gone = try_all(alloc, base, p, Way::Die, &mut trials, steps)?;
         Ok(Losses {
             pair: p,
             frozen,
@@ -69,6 +71,27 @@ impl Losses {
             Way::Freeze => entry(&self.frozen, first, second),
             Way::Die => entry(&self.gone, first, second),
         }
+    }
+}
+
+/// Two copies of a relation, on which failures are tried.
+#[derive(Drop)]
+struct Trials {
+    /// What is left without one service.
+    middle: Relation,
+    /// What is left without another one besides.
+    scratch: Relation,
+}
+
+impl Trials {
+    /// Copies a relation twice.
+    fn build(alloc: Global, base: &Relation) -> Result<Trials, AllocError>
+        requires { IsRelation base.now.joint base.now.order }
+        ensures { IfOk result (λ trials. AreTrialsOf base.now.joint trials) }
+    {
+        let middle = base.scratch(alloc)?;
+        let scratch = base.scratch(alloc)?;
+        Ok(Trials { middle, scratch })
     }
 }
 
@@ -91,49 +114,49 @@ fn try_all<L: Ledger>(
     base: &Relation,
     p: u32,
     way: Way,
+    trials: &mut Trials,
     steps: &mut Steps<L>,
 ) -> Result<Vec<Outlook>, AllocError>
     requires base { IsRelation base.now.joint base.now.order }
     requires pair { p < count (sizes_of (system_of base.now.joint)) }
-    ensures { IfOk result (λ table. AreTold base.now.joint p way table.items) }
+    requires trials { AreTrialsOf base.now.joint trials.old }
+    ensures told { IfOk result (λ table. AreTold base.now.joint p way table.items) }
+    ensures trials { AreTrialsOf base.now.joint trials.new }
 {
     base.joint.known();
     let seats = base.joint.seats();
     let mut table = vec![in alloc; NOTHING; PLACES * seats as usize]?;
     for j in 0..seats {
-        try_with(alloc, base, p, j, way, &mut table, steps)?;
+        try_with(base, p, j, way, trials, &mut table, steps);
     }
     Ok(table)
 }
 
-/// Tries the failure of the service at place j, and then those of each before it on top of it: `middle` is
-/// the relation without the one, and `scratch` that without both.
+/// Tries the failure of the service at place j, and then those of each before it on top of it.
 fn try_with<L: Ledger>(
-    alloc: Global,
     base: &Relation,
     p: u32,
     j: u8,
     way: Way,
+    trials: &mut Trials,
     table: &mut [Outlook],
     steps: &mut Steps<L>,
-) -> Result<(), AllocError>
+)
     requires base { IsRelation base.now.joint base.now.order }
     requires pair { p < count (sizes_of (system_of base.now.joint)) }
     requires place { (j < length base.now.joint.seats) × (j < 32) }
+    requires trials { AreTrialsOf base.now.joint trials.old }
     requires room { length table.old ≡ 32 * length base.now.joint.seats }
-    ensures told { IfOk result (λ done. IsToldOf base.now.joint p way j table.new) }
+    ensures told { IsToldOf base.now.joint p way j table.new }
     ensures before { (i : ℕ) → i < 32 * j → told_at table.new i ≡ told_at table.old i }
     ensures room { length table.new ≡ length table.old }
+    ensures trials { AreTrialsOf base.now.joint trials.new }
 {
-    let mut middle = base.scratch(alloc)?;
-    let left = fail(&mut middle, p, j, way, steps);
+    let left = fail_on(&mut trials.middle, base, p, j, way, steps);
     let row = PLACES * j as usize;
-    table[row + j as usize] = now(&middle, left);
-    let mut scratch = middle.scratch(alloc)?;
+    table[row + j as usize] = now(&trials.middle, left);
     for k in 0..j {
-        scratch.reset_to(&middle);
-        let last = fail(&mut scratch, left, k, way, steps);
-        table[row + k as usize] = now(&scratch, last);
+        let last = fail_on(&mut trials.scratch, &trials.middle, left, k, way, steps);
+        table[row + k as usize] = now(&trials.scratch, last);
     }
-    Ok(())
 }

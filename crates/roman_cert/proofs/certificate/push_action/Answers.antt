@@ -24,8 +24,8 @@ returns-then-action-lt10-clause-gathers g c =
     let a = c.args.action in
     let pushed = c.push_number_then in
     subst (λ (line : List ℕ). Gathers (g.O.Sink.written c.args.out.now) (g.O.Sink.written pushed.new.out) pushed.new.self (c.args.page.now ++ line) pushed.result)
-        (ap (λ (ds : List ℕ). decimal c.args.pair ++ (32 ∷ (ds ++ 10 ∷ []))) (sym (decimal_digit a c.if-action-lt10.true)) ∙ entry_parts (as_entry (c.args.pair, Act a)))
-        pushed.ensures.gathers
+    (ap (λ (ds : List ℕ). decimal c.args.pair ++ (32 ∷ (ds ++ 10 ∷ []))) (sym (decimal_digit a c.if-action-lt10.true)) ∙ entry_parts (as_entry (c.args.pair, Act a)))
+    pushed.ensures.gathers
 
 pub returns-in_err-push_number_then-clause-gathers : goal.returns-in_err-push_number_then-clause-gathers
 returns-in_err-push_number_then-clause-gathers g c =
@@ -43,5 +43,5 @@ returns-clause-gathers g c =
     let n = c.from.result in
     let pushed = c.push_number_then-3 in
     subst (λ (text : List ℕ). Gathers (g.O.Sink.written c.args.out.now) (g.O.Sink.written pushed.new.out) pushed.new.self text pushed.result)
-        (in_two c.args.page.now c.args.pair c.args.action n c.from.ensures)
-        (Gathers-after _ _ _ _ _ _ (decimal n ++ codes "\n") _ c.in_ok-push_number_then.ensures.gathers pushed.ensures.gathers)
+    (in_two c.args.page.now c.args.pair c.args.action n c.from.ensures)
+    (Gathers-after _ _ _ _ _ _ (decimal n ++ codes "\n") _ c.in_ok-push_number_then.ensures.gathers pushed.ensures.gathers)

@@ -14,6 +14,7 @@ loop-j-preserved g c =
     let few : c.loop-j.j < 32 = omega (arith, c.loop-j-test.true, c.seats-seats.ensures.few) in
     let before = subst (λ xs. (x : ℕ) → x < 32 * c.loop-j.j → told_at new x ≡ told_at xs x) lent c.try_with.ensures.before in
     record {
+      trials = c.try_with.ensures.trials;
       room = ap length back ∙ room ∙ c.loop-j.invariant.room;
-      rows = λ i l. subst (IsToldOf n c.args.p c.args.way i) (sym back) (rows_more n c.args.p c.args.way c.loop-j.j old.items new few before c.loop-j.invariant.rows c.in_ok-try_with.ensures.told i l);
+      rows = λ i l. subst (IsToldOf n c.args.p c.args.way i) (sym back) (rows_more n c.args.p c.args.way c.loop-j.j old.items new few before c.loop-j.invariant.rows c.try_with.ensures.told i l);
     }

@@ -1,12 +1,13 @@
 use Rattle.std.proofs.Common.{◌≡◌, ℕ, ◌+◌, ◌*◌, ◌<◌, [], ◌∷◌, length}
-use Rattle.roman_whatif.specs.Left.{IsScratchOf}
+use Rattle.roman_whatif.specs.Left.{IsIdleScratchOf, IsLeft}
 use Rattle.roman_whatif.specs.Losses.{told_at, left_of}
 use Rattle.roman_whatif.proofs.losses.try_with.Given as goal
 
 -- it is told of the seat alone, and with those before it so far
 abbrev pub invariant-loop-k : goal.invariant-loop-k
 invariant-loop-k g l = record {
-  scratch : IsScratchOf l.middle.joint l.scratch.joint l.scratch.order;
+  middle : IsLeft l.way (l.j ∷ []) l.base.joint l.p l.trials.middle.joint l.trials.middle.order l.left;
+  scratch : IsIdleScratchOf l.base.joint l.trials.scratch.joint l.trials.scratch.order;
   alone : told_at l.table (32 * l.j + l.j) ≡ left_of l.base.joint l.p l.way (l.j ∷ []);
   two : (i : ℕ) → i < l.k → told_at l.table (32 * l.j + i) ≡ left_of l.base.joint l.p l.way (i ∷ l.j ∷ []);
   before : (i : ℕ) → i < 32 * l.j → told_at l.table i ≡ told_at l.fn.table i;
