@@ -198,7 +198,7 @@ pub(crate) enum Text {
     FinalTwice,
     /// LAMP with no behaviours.
     NoBehaviours,
-    /// LAMP with guards that mean all states in other words.
+    /// LAMP with guards that mean all states, or none, in other words.
     OtherGuards,
     /// LAMP with a guard that means no state.
     FalseGuard,
@@ -799,6 +799,7 @@ impl Text {
                 TARGET,
                 br#"{"states":["off","on"],"start":"off","final":["off"],"steps":["#,
                 br#"["off",{"any":[false,["e"]]},"on","on"],"#,
+                br#"["off",{"all":[true,false]},"off","on"],"#,
                 br#"["on",{"all":[true,{"not":[]}]},"off","off"]]}"#,
                 END,
             ],
