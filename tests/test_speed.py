@@ -13,13 +13,18 @@ from . import PROGRAM
 
 LIMIT = 16_777_216
 
-# Millions of instructions of each command on each system, and megabytes of `synth`.
+# Millions of instructions of each command on each system; `talk` is `run` with many requests.
 INSTRUCTIONS = {
-    "workers": {"synth": 23.7, "certify": 65.6, "check": 74.6, "run": 324.5, "shortest": 28.6},
-    "lamps": {"synth": 25.4, "certify": 113.8, "check": 158.5, "run": 550.4, "shortest": 36.7},
-    "cycle": {"synth": 171.5, "shortest": 178.8},
+    "workers": {"synth": 21.7, "certify": 36.8, "check": 46.0, "run": 296.5, "shortest": 26.6, "resilience": 796.0},
+    "lamps": {"synth": 21.6, "certify": 56.0, "check": 93.5, "run": 489.0, "shortest": 32.9, "talk": 45.8},
+    "cycle": {"synth": 163.1, "shortest": 170.4},
 }
-MEGABYTES = {"workers": 4.1, "lamps": 7.5, "cycle": 4.5}
+# Megabytes of each command on each system.
+MEGABYTES = {
+    "workers": {"synth": 3.4, "resilience": 7.3},
+    "lamps": {"synth": 5.7},
+    "cycle": {"synth": 3.5},
+}
 ROOM = 1.1
 
 
@@ -96,10 +101,12 @@ class Speed(unittest.TestCase):
                 subprocess.run([PROGRAM, "certify", f"{name}.json"], cwd=cls.folder, stdout=certificate, check=False)
         (cls.folder / "workers.session").write_text(session([f"w{i}" for i in range(1, 11)], "worker", "idle", "start"))
         (cls.folder / "lamps.session").write_text(session([f"l{i}" for i in range(1, 19)], "lamp", "off", "on"))
+        (cls.folder / "lamps.talk").write_text("do on\nuse l1\nsaw on e\ndo off\nuse l1\nsaw off e\n" * 2000)
 
     def words(self, name: str, command: str) -> List[str]:
-        more = {"check": [f"{name}.cert"], "run": [f"{name}.session"]}
-        return [command, f"{name}.json", *more.get(command, [])]
+        more = {"check": [f"{name}.cert"], "run": [f"{name}.session"], "talk": [f"{name}.talk"]}
+        word = "run" if command == "talk" else command
+        return [word, f"{name}.json", *more.get(command, [])]
 
     def test_instructions(self) -> None:
         for name, commands in INSTRUCTIONS.items():
@@ -114,10 +121,10 @@ class Speed(unittest.TestCase):
                     self.assertLess(int(found[1]) / 1e6, reached * ROOM)
 
     def test_memory(self) -> None:
-        for name, reached in MEGABYTES.items():
-            with self.subTest(system=name):
+        for name, command, reached in ((name, *each) for name, commands in MEGABYTES.items() for each in commands.items()):
+            with self.subTest(system=name, command=command):
                 code = ("import resource, subprocess, sys; subprocess.run(sys.argv[1:], stdout=subprocess.DEVNULL);"
                         "print(resource.getrusage(resource.RUSAGE_CHILDREN).ru_maxrss)")
-                done = subprocess.run(["/usr/bin/python3", "-c", code, PROGRAM, *self.words(name, "synth")],
+                done = subprocess.run(["/usr/bin/python3", "-c", code, PROGRAM, *self.words(name, command)],
                                       cwd=self.folder, stdout=subprocess.PIPE, text=True, timeout=60, check=True)
                 self.assertLess(int(done.stdout) / 1024, reached * ROOM + 8)
