@@ -1,6 +1,7 @@
 // The replay: entries that wait are kept where those kept before justify them.
 ghost use Rattle.std.specs.Prelude.{◌≡◌, ℕ, ◌+◌, ◌*◌, ◌<◌, ◌≤◌, ◌++◌, ◌∷◌, [], if◌then◌else◌};
-ghost use Rattle.std.specs.Prelude.{false, length, flat_map, IsTrue, IsFalse};
+ghost use Rattle.std.specs.Prelude.{true, false, length, flat_map, IsTrue, IsFalse, IfSome};
+ghost use Rattle.roman_lanes.specs.Rows.{is_on};
 ghost use Rattle.roman_model.specs.Arena.{Arena, is_listed, is_justified};
 ghost use Rattle.roman_rules.specs.Asked.{HoldsWhereKept, readings_of_reason};
 ghost use Rattle.roman_order.specs.Board.{as_entry, has_entry};
@@ -13,8 +14,27 @@ use roman_order::Order;
 use roman_rules::{Asked, Rules};
 use std::sync::ledger::Ledger;
 
-/// Lists the pair `p` for that reason, where the list justifies it.
-fn keep<J: Rules, L: Ledger>(
+/// The lane of the pair `p`, where it lies in the row that was asked and the reason is known to hold.
+fn known_lane(asked: &Asked, lanes: u32, p: u32, reason: Reason) -> Option<u32>
+    requires { lanes ≤ 64 }
+    ensures pair { IfSome result (λ lane. (lane < lanes) × (p ≡ asked.now.row * lanes + lane)) }
+    ensures holds { IfSome result (λ lane. (reason ≡ asked.now.reason) × (is_on asked.now.lanes lane ≡ true)) }
+{
+    let first = u64::from(asked.row) * u64::from(lanes);
+    let p = u64::from(p);
+    if p < first || p - first >= u64::from(lanes) {
+        return None;
+    }
+    let lane = (p - first) as u32;
+    if reason == asked.reason && (asked.lanes >> lane) & 1 == 1 {
+        return Some(lane);
+    }
+    None
+}
+
+/// Lists the pair `p` for that reason, where the list justifies it, as its row answers.
+#[inline(never)]
+fn keep_asking<J: Rules, L: Ledger>(
     joint: &J,
     order: &mut Order,
     asked: &mut Asked,
@@ -40,7 +60,37 @@ fn keep<J: Rules, L: Ledger>(
     }
 }
 
-/// Does so for an entry: the `states` neighbouring pairs that it stands for, for its reason.
+/// Lists the pair `p` for that reason, where the list justifies it. Its row is asked only where that isn't
+/// known.
+fn keep<J: Rules, L: Ledger>(
+    joint: &J,
+    order: &mut Order,
+    asked: &mut Asked,
+    p: u32,
+    reason: Reason,
+    steps: &mut Steps<L>,
+)
+    requires shaped { IsShaped (J.arena joint.now) (J.lanes joint.now) order.old }
+    requires pair { p < length (J.arena joint.now).nodes }
+    requires possible { IsTrue (is_possible (J.arena joint.now) p reason) }
+    requires new { has_entry order.old.list p ≡ false }
+    requires known { HoldsWhereKept (J.arena joint.now) (J.lanes joint.now) (is_listed (J.arena joint.now) order.old.list) asked.old }
+    ensures list { let A = J.arena joint.now in
+        order.new.list ≡ (if is_justified A (is_listed A order.old.list) p reason
+        then order.old.list ++ as_entry (p, reason) ∷ [] else order.old.list) }
+    ensures known { HoldsWhereKept (J.arena joint.now) (J.lanes joint.now) (is_listed (J.arena joint.now) order.new.list) asked.new }
+    ensures rest { order.new ≡ record order.old { list = order.new.list } }
+    ensures cost { steps.new ≤ steps.old + readings_of_reason (J.arena joint.now) p reason }
+{
+    joint.known();
+    if let Some(lane) = known_lane(asked, joint.lanes(), p, reason) {
+        order.push_at(asked.row, lane, reason);
+        return;
+    }
+    keep_asking(joint, order, asked, p, reason, steps);
+}
+
+/// Lists the `states` neighbouring pairs that an entry stands for, each where the list justifies its reason.
 fn keep_entry<J: Rules, L: Ledger>(
     joint: &J,
     order: &mut Order,
