@@ -110,7 +110,7 @@ remain_all pairs rows lanes table few shaped words count = record {
 -- one pair is taken out
 pub remain_less : (pairs : ℕ) (gone more : ℕ → Bool) (old new : Remaining) (row lane word : ℕ) → Remain pairs gone old → row < length old.words.items → lane < old.lanes → old.lanes ≤ 64 → row * old.lanes + lane < pairs →
     IsFalse (gone (row * old.lanes + lane)) → ((q : ℕ) → more q ≡ (gone q || q == row * old.lanes + lane)) →
-    new.lanes ≡ old.lanes → new.words.items ≡ set old.words.items row word → length new.words.items ≡ length old.words.items → new.count ≡ old.count - 1 →
+    new.lanes ≡ old.lanes → new.words.items ≡ set old.words.items row word → length new.words.items ≡ length old.words.items → (0 < old.count → new.count + 1 ≡ old.count) →
     is_on word lane ≡ false → ((j : ℕ) → j < 64 → j ≢ lane → is_on word j ≡ is_on (get_or old.words.items row 0) j) → ((j : ℕ) → is_on (get_or old.words.items row 0) j ≡ false → is_on word j ≡ false) →
     Remain pairs more new
 remain_less pairs gone more old new row lane word table in_rows in_lanes few within present more_is lanes words long count own others above = record {
@@ -127,7 +127,7 @@ remain_less pairs gone more old new row lane word table in_rows in_lanes few wit
   counted =
       let less : count_by (λ q. not (more q)) (below pairs) + 1 ≡ count_by (λ q. not (gone q)) (below pairs) =
       count_less (λ q. not (gone q)) (λ q. not (more q)) pairs (row * old.lanes + lane) within (ap not present) (ap not taken) (λ q ne. ap not (elsewhere q ne)) in
-      omega (arith, table.counted, count);
+      omega (arith, table.counted, count (omega (arith, table.counted)));
 }
   where
     elsewhere : (q : ℕ) → q ≢ row * old.lanes + lane → more q ≡ gone q

@@ -44,9 +44,32 @@ pub(crate) struct Audit {
     pub(crate) asked: Asked,
 }
 
+/// Whether a reason holds at the pair `p`, where those pairs are left.
+#[cold]
+#[inline(never)]
+fn ask<J: Rules, L: Ledger>(
+    asked: &mut Asked,
+    joint: &J,
+    left: &Remaining,
+    p: u32,
+    reason: Reason,
+    steps: &mut Steps<L>,
+) -> bool
+    requires lanes { left.now.lanes ≡ J.lanes joint.now }
+    requires room { length left.now.words.items * J.lanes joint.now ≡ length (J.arena joint.now).nodes }
+    requires pair { p < length (J.arena joint.now).nodes }
+    requires reason { IsReasonOf (J.arena joint.now) reason }
+    ensures justified { let A = J.arena joint.now in
+        (gone : ℕ → Bool) → AreRows left.now.lanes (λ q. not (gone q)) left.now.words.items → HoldsWhereKept A left.now.lanes gone asked.old → result ≡ is_justified A gone p reason }
+    ensures known { let A = J.arena joint.now in
+        (gone : ℕ → Bool) → AreRows left.now.lanes (λ q. not (gone q)) left.now.words.items → HoldsWhereKept A left.now.lanes gone asked.old → HoldsWhereKept A left.now.lanes gone asked.new }
+{
+    asked.holds(joint, left.words(), p, reason, steps)
+}
+
 /// Whether a reason holds at the pair `p`, which lies at that row and lane, where those pairs are left.
 /// Nothing is asked where that is known.
-#[inline]
+#[inline(always)]
 fn holds<J: Rules, L: Ledger>(
     asked: &mut Asked,
     joint: &J,
@@ -71,7 +94,7 @@ fn holds<J: Rules, L: Ledger>(
     if row == asked.row && reason == asked.reason && has_lane(asked.lanes, lane) {
         return true;
     }
-    asked.holds(joint, left.words(), p, reason, steps)
+    ask(asked, joint, left, p, reason, steps)
 }
 
 impl Audit {

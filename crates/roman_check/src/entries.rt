@@ -1,5 +1,5 @@
 // The lines of a certificate.
-ghost use Rattle.std.specs.Prelude.{◌≡◌, Some, IfSome, take};
+ghost use Rattle.std.specs.Prelude.{◌≡◌, [], ◌∷◌, Some, IfSome, take};
 ghost use Rattle.std.specs.Option.{option_map};
 ghost use Rattle.roman_model.specs.Lists.{IsIn};
 ghost use Rattle.roman_model.specs.System.{same_numbers};
@@ -65,14 +65,30 @@ pub(crate) fn entry(line: &[u8], pairs: u32, actions: u8) -> Option<(u32, Reason
     Some((pair, reason))
 }
 
+/// The reason whose text is that byte, where there are so many actions.
+#[inline]
+fn reason_of(byte: u8, actions: u8) -> Option<Reason>
+    ensures { IfSome result (λ reason. IsIn reason (reasons actions) × (reason_text reason ≡ byte ∷ [])) }
+{
+    if byte == b'f' {
+        return Some(Reason::Final);
+    }
+    let action = byte.wrapping_sub(b'0');
+    if action >= actions.min(10) {
+        return None;
+    }
+    Some(Reason::Act(action))
+}
+
 /// The reason at the front of the bytes, and how long its text is, where a newline ends it there;
 /// `None` says nothing.
 #[inline]
 fn front_reason(bytes: &[u8], actions: u8) -> Option<(Reason, usize)>
     ensures { IfSome result (λ r. IsIn r.0 (reasons actions) × IsEndedAt bytes.now r.1 × (reason_text r.0 ≡ take r.1 bytes.now)) }
 {
-    if bytes.len() > 1 && bytes[0] == b'f' && bytes[1] == b'\n' {
-        return Some((Reason::Final, 1));
+    if bytes.len() > 1 && bytes[1] == b'\n' {
+        let reason = reason_of(bytes[0], actions)?;
+        return Some((reason, 1));
     }
     let (value, end) = number_to(bytes, b'\n')?;
     let action = trim_below(value, &bytes[..end], u32::from(actions))?;
@@ -80,12 +96,12 @@ fn front_reason(bytes: &[u8], actions: u8) -> Option<(Reason, usize)>
 }
 
 /// The entry on the line at the front of the bytes, and how long the line is, read in one pass; `None`
-/// says nothing.
+/// says nothing. With the first digit known, its number needs no look at leading zeros.
 #[inline]
 pub(crate) fn front_entry(bytes: &[u8], pairs: u32, actions: u8) -> Option<(u32, Reason, usize)>
     ensures { IfSome result (λ r. IsEndedAt bytes.now r.2 × (entry_of pairs actions (take r.2 bytes.now) ≡ Some (entry_with (r.0, r.1)))) }
 {
-    if bytes.len() < ROOM {
+    if bytes.len() < ROOM || !matches!(bytes[0], b'1'..=b'9') {
         return None;
     }
     let (value, space) = number_to(bytes, b' ')?;

@@ -80,7 +80,7 @@ impl Remaining {
     {
         let word = self.words[row as usize];
         self.words[row as usize] = without_lane(word, lane);
-        self.count = self.count.saturating_sub(1);
+        self.count = self.count.wrapping_sub(1);
     }
 
     /// A word for each row, with the bits of those pairs.

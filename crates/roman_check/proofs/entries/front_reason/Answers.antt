@@ -1,14 +1,12 @@
-use Rattle.std.proofs.Common.{arith, sym, ap, ◌∷◌, [], ◌∙◌}
+use Rattle.std.proofs.Common.{arith, sym, ◌∙◌}
 use Rattle.std.proofs.lemmas.List.{take_more}
-use Rattle.roman_model.proofs.CertificateLemmas.{final_reason, act_reason}
+use Rattle.roman_model.proofs.CertificateLemmas.{act_reason}
 use Rattle.roman_check.proofs.entries.front_reason.Goals as goal
 
 pub returns-then-bytes-eq10 : goal.returns-then-bytes-eq10
-returns-then-bytes-eq10 c = (
-  final_reason c.args.actions,
-  record { within = c.if-bytes-gt1.true; newline = c.if-bytes-eq10.true },
-  sym (take_more c.args.bytes.now 0 0 (omega arith) ∙ ap (λ b. b ∷ []) c.if-bytes-eq102.true),
-)
+returns-then-bytes-eq10 c =
+    let (given, text) = c.in_ok-reason.ensures in
+    (given, record { within = c.if-bytes-gt1.true; newline = c.if-bytes-eq10.true }, text ∙ sym (take_more c.args.bytes.now 0 0 (omega arith)))
 
 pub returns : goal.returns
 returns c =
