@@ -1,16 +1,18 @@
--- How many seats the masks of a row's pairs have.
-use Rattle.std.proofs.Common.{◌≡◌, ℕ, zero, suc, ◌+◌, ◌-◌, ◌*◌, ◌%◌, ◌^◌, ◌<◌, ◌≤◌, Bool, true, cond, not, [], length, filter, sum_by, count_ones, IsTrue, IsFalse, inl, inr, refl, sym, ap, ap₂, ◌∙◌, arith, eqb}
+-- The bits of masks, and how many seats the masks of a row's pairs have.
+use Rattle.std.proofs.Common.{◌≡◌, ℕ, zero, suc, ◌+◌, ◌-◌, ◌*◌, ◌%◌, ◌^◌, ◌<◌, ◌≤◌, Bool, true, cond, not, ◌&&◌, [], length, filter, sum_by, count_ones, IsTrue, IsFalse, inl, inr, refl, sym, ap, ap₂, ◌∙◌, subst, arith, eqb}
 use Rattle.std.specs.Int.{bit_at}
 use Rattle.std.proofs.Math.Pow.{pow_pos}
-use Rattle.std.proofs.lemmas.Bool.{cases_eq, cond-true, cond-false, both_ways, not_from_true, eq-eqb, ne_eqb}
+use Rattle.std.proofs.lemmas.Bool.{cases_eq, cases_lt, cond-true, cond-false, both_ways, not_from_true, eq-eqb, ne_eqb}
 use Rattle.std.proofs.lemmas.List.Sums.{sum_by_push, length-filter}
 use Rattle.std.proofs.lemmas.Nat.{ones_cat, ones_le_self, zero_from_ones, mod-pow-add}
-use Rattle.std.proofs.lemmas.Nat.Bits.{bit_at-lt}
+use Rattle.std.proofs.lemmas.Nat.Bits.{bit_at-lt, bit_at-zero}
 use Rattle.roman_model.specs.Lists.{below, is_empty}
+use Rattle.roman_model.specs.System.{has}
 use Rattle.roman_model.specs.Arena.{Arena, is_beaten, mask}
 use Rattle.roman_model.proofs.Lists.{by_test, from_below, sum_by_same, empty_is, not_empty_in}
-use Rattle.roman_model.proofs.ArenaLemmas.{mask_none, beaten_none}
+use Rattle.roman_model.proofs.ArenaLemmas.{mask_none, mask_has, mask_has_past, beaten_none}
 use Rattle.roman_lanes.specs.Rows.{is_on, HasLanes}
+use Rattle.roman_rules.specs.Bits.{HasBits, bit_of}
 use Rattle.roman_rules.specs.Numbered.{IsNumbered}
 
 -- ---- an action that isn't allowed
@@ -20,6 +22,38 @@ pub refused_beaten : (A : Arena ℕ) → IsNumbered A → (gone : ℕ → Bool) 
 refused_beaten A ok gone p a k refused = by_test (is_empty (A.outcomes p a k))
     (λ t. beaten_none A gone p a k (empty_is (A.outcomes p a k) t))
     (λ f. let (q, i) = not_empty_in (A.outcomes p a k) f in absurd (both_ways (A.allows p a) refused (ok.served p a k q i).0))
+
+-- ---- the bits of a mask
+
+-- a seat is in the mask where it isn't beaten
+pub has_good : (A : Arena ℕ) → IsNumbered A → (gone : ℕ → Bool) (p a k : ℕ) → k < A.seats → has (mask A gone p a) k ≡ not (is_beaten A gone p a k)
+has_good A ok gone p a k l = mask_has A gone p a k l ∙ by_test (A.allows p a)
+    (λ t. ap (λ b. b && not (is_beaten A gone p a k)) t)
+    (λ f. ap (λ b. b && not (is_beaten A gone p a k)) f ∙ sym (not_from_true (is_beaten A gone p a k) (refused_beaten A ok gone p a k f)))
+
+-- where an action isn't allowed the mask has no bits
+pub mask_refused : (A : Arena ℕ) (gone : ℕ → Bool) (p a : ℕ) → IsFalse (A.allows p a) → HasBits 0 (has (mask A gone p a))
+mask_refused A gone p a refused = record { each = λ k l. bit_at-zero k ∙ sym (ap (λ ks. bit_of (has ks k)) (mask_none A gone p a refused)) }
+
+-- one seat more
+pub mask_more : (A : Arena ℕ) (gone : ℕ → Bool) (p a k old new : ℕ) (good : Bool) → good ≡ has (mask A gone p a) k →
+    bit_at new k ≡ cond good 1 (bit_at old k) → ((j : ℕ) → (j ≡ k → ⊥) → bit_at new j ≡ bit_at old j) →
+    ((j : ℕ) → j < k → bit_at old j ≡ bit_of (has (mask A gone p a) j)) → ((j : ℕ) → k ≤ j → bit_at old j ≡ 0) →
+    (j : ℕ) → j < k + 1 → bit_at new j ≡ bit_of (has (mask A gone p a) j)
+mask_more A gone p a k old new good is own others before none j m = elim (cases_eq j k) [
+  | inl e ↦ subst (λ i. bit_at new i ≡ bit_of (has (mask A gone p a) i)) (sym e) (own ∙ ap (λ n. cond good 1 n) (none k (omega arith)) ∙ ap bit_of is)
+  | inr other ↦ others j other ∙ before j (omega arith)
+]
+
+-- the seats from n on are beaten, and those before it are told by the bits
+pub mask_all : (A : Arena ℕ) → IsNumbered A → (gone : ℕ → Bool) (p a n bits : ℕ) → ((k : ℕ) → n ≤ k → k < A.seats → IsTrue (is_beaten A gone p a k)) →
+    ((j : ℕ) → j < n → bit_at bits j ≡ bit_of (has (mask A gone p a) j)) → ((j : ℕ) → n ≤ j → bit_at bits j ≡ 0) → HasBits bits (has (mask A gone p a))
+mask_all A ok gone p a n bits beaten read rest = record {
+  each = λ j m. elim (cases_lt j n) [ inl less ↦ read j less | inr past ↦ rest j past ∙ sym (ap bit_of (out j past)) ];
+}
+  where
+    out : (j : ℕ) → n ≤ j → IsFalse (has (mask A gone p a) j)
+    out j past = elim (cases_lt j A.seats) [ inl seat ↦ has_good A ok gone p a j seat ∙ ap not (beaten j past seat) | inr none ↦ mask_has_past A gone p a j none ]
 
 -- ---- sums over numbers below others
 

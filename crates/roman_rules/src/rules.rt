@@ -2,7 +2,8 @@
 ghost use Rattle.std.specs.Prelude.{◌≡◌, ℕ, ◌+◌, ◌*◌, ◌/◌, ◌<◌, ◌≤◌, Bool, true, false, not, ◌&&◌, List, [], ◌∷◌};
 ghost use Rattle.std.specs.Prelude.{length, sum_by, IsTrue, MatchOption};
 ghost use Rattle.roman_model.specs.Lists.{HoldsEachOnce, IsIn, below};
-ghost use Rattle.roman_model.specs.Arena.{Arena, Delegation, is_beaten, is_justified, mask as mask_of, back as predecessors};
+ghost use Rattle.roman_model.specs.System.{has};
+ghost use Rattle.roman_model.specs.Arena.{Arena, Delegation, is_justified, mask as mask_of, back as predecessors};
 ghost use Rattle.roman_model.specs.Numbers.{Sizes};
 ghost use Rattle.roman_lanes.specs.Rows.{is_on, HasLanes, AreRows};
 ghost use Rattle.roman_lanes.specs.Flags.{has_flag};
@@ -107,16 +108,16 @@ pub trait Rules {
         ensures { (x : ℕ) → is_row self.now x row.now →
             HasLanes (lanes self.now) x (λ p. not ((arena self.now).fine p)) result };
 
-    /// The pairs of a row at which seat `k` serves the action `a`: it has an outcome there, and none
-    /// that is gone. The words tell the pairs that aren't gone, row by row.
-    fn good(&self, row: &Self::Row, words: &[u64], a: u8, k: u8) -> u64
+    /// The mask of the pair at a lane of a row and the action `a`: bit k is set exactly where seat k has
+    /// an outcome there, and none that is gone. The words tell the pairs that aren't gone, row by row.
+    fn mask(&self, row: &Self::Row, words: &[u64], a: u8, lane: u32) -> u32
         requires row { (x : ℕ) × is_row self.now x row.now }
         requires action { a < (arena self.now).actions }
-        requires seat { k < (arena self.now).seats }
+        requires lane { lane < lanes self.now }
         requires room { length words.now * lanes self.now ≡ length (arena self.now).nodes }
         ensures { (x : ℕ) (gone : ℕ → Bool) → is_row self.now x row.now →
             AreRows (lanes self.now) (λ q. not (gone q)) words.now →
-            HasLanes (lanes self.now) x (λ p. not (is_beaten (arena self.now) gone p a k)) result };
+            HasBits result (has (mask_of (arena self.now) gone (x * lanes self.now + lane) a)) };
 
     /// How many choices of a seat there are for the action `a` at all pairs of a row together: over the
     /// pairs, the seats of the pair's mask. The words tell the pairs that aren't gone, row by row.
