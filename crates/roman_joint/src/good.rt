@@ -1,12 +1,13 @@
 //! At which pairs of a row a seat serves an action, and how many seats do.
 ghost use Rattle.std.specs.Prelude.{◌≡◌, ℕ, ◌+◌, ◌*◌, ◌<◌, ◌≤◌, Bool, not, ◌&&◌, false, length, slice_get, slice_index, sum_by, All};
 ghost use Rattle.roman_model.specs.Lists.{below};
-ghost use Rattle.roman_model.specs.System.{seat_next};
-ghost use Rattle.roman_model.specs.Arena.{is_beaten, is_justified, mask};
+ghost use Rattle.roman_model.specs.System.{has, seat_next};
+ghost use Rattle.roman_model.specs.Arena.{is_beaten, is_justified, mask as mask_of};
 ghost use Rattle.roman_model.specs.Numbers.{sizes_of, count, numbered};
 ghost use Rattle.roman_model.specs.declared.reason.Reason.TheVariants.{Act};
 ghost use Rattle.roman_radix.specs.Radix.{stride_of};
 ghost use Rattle.roman_lanes.specs.Rows.{is_on, HasLanes, AreRows};
+ghost use Rattle.roman_rules.specs.Bits.{HasBits};
 ghost use Rattle.roman_joint.specs.NamedSys.{system_of};
 ghost use Rattle.roman_joint.specs.Rows.{lanes_in, low_in, lane_has_state, IsRow, IsTurn, AreAlive};
 ghost use Rattle.roman_joint.specs.declared.row.Row.{Row};
@@ -17,6 +18,7 @@ use crate::row::Row;
 use crate::states::next_states;
 use crate::turn::{Turn, turn_of};
 use crate::words::{all_alive, less, moves_alive, rows_alive};
+use roman_rules::with_bit;
 
 /// The lanes at which a seat before the lanes serves the action.
 fn good_before(joint: &Joint, words: &[u64], row: &Row, turn: &Turn<'_>, a: u8, k: u8) -> u64
@@ -135,6 +137,34 @@ impl Joint {
         good_on(self, words, row, &turn, alive, a, k)
     }
 
+    /// The mask of the pair at a lane of a row and the action: bit k is set exactly where seat k serves
+    /// it there, with an outcome and none that is gone. The words tell the pairs that aren't gone, row
+    /// by row.
+    pub fn mask(&self, row: &Row, words: &[u64], a: u8, lane: u32) -> u32
+        requires row { (x : ℕ) × IsRow (system_of self.now) x row.now }
+        requires action { a < (system_of self.now).env.actions }
+        requires lane { lane < lanes_in (system_of self.now) }
+        requires room { length words.now * lanes_in (system_of self.now) ≡ count (sizes_of (system_of self.now)) }
+        ensures { (x : ℕ) (gone : ℕ → Bool) → IsRow (system_of self.now) x row.now →
+            AreRows (lanes_in (system_of self.now)) (λ q. not (gone q)) words.now →
+            HasBits result (has (mask_of (numbered (system_of self.now)) gone (x * lanes_in (system_of self.now) + lane) a)) }
+    {
+        self.layout();
+        if (self.row_actions(row) >> a) & 1 == 0 {
+            return 0;
+        }
+        let Some(turn) = turn_of(self, row, a) else {
+            return 0;
+        };
+        let alive = alive_on(self, words, &turn);
+        let mut mask = 0;
+        for k in 0..serving(self, alive) {
+            let good = good_on(self, words, row, &turn, alive, a, k);
+            mask = with_bit(mask, k, (good >> lane) & 1 == 1);
+        }
+        mask
+    }
+
     /// How many choices of a seat there are for the action at all pairs of a row together: over the
     /// pairs, the seats that serve it.
     pub fn choices(&self, row: &Row, words: &[u64], a: u8) -> u32
@@ -143,7 +173,7 @@ impl Joint {
         requires room { length words.now * lanes_in (system_of self.now) ≡ count (sizes_of (system_of self.now)) }
         ensures counted { (x : ℕ) (gone : ℕ → Bool) → IsRow (system_of self.now) x row.now →
             AreRows (lanes_in (system_of self.now)) (λ q. not (gone q)) words.now →
-            result ≡ sum_by (λ lane. length (mask (numbered (system_of self.now)) gone (x * lanes_in (system_of self.now) + lane) a)) (below (lanes_in (system_of self.now))) }
+            result ≡ sum_by (λ lane. length (mask_of (numbered (system_of self.now)) gone (x * lanes_in (system_of self.now) + lane) a)) (below (lanes_in (system_of self.now))) }
         ensures few { result ≤ 2048 }
     {
         self.layout();

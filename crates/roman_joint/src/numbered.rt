@@ -82,8 +82,8 @@ impl Rules for Joint {
         Joint::unfine(self, row)
     }
 
-    fn good(&self, row: &Row, words: &[u64], a: u8, k: u8) -> u64 {
-        Joint::good(self, row, words, a, k)
+    fn mask(&self, row: &Row, words: &[u64], a: u8, lane: u32) -> u32 {
+        Joint::mask(self, row, words, a, lane)
     }
 
     fn choices(&self, row: &Row, words: &[u64], a: u8) -> u32 {

@@ -1,0 +1,64 @@
+use Rattle.std.proofs.Common.{◌≡◌, ◌+◌, ◌*◌, ◌^◌, ◌/◌, ◌<◌, eqb, bit_and, sym, ap, subst, ◌∙◌, arith}
+use Rattle.std.proofs.lemmas.Nat.Bits.{shr_and_one}
+use Rattle.std.proofs.lemmas.List.{length-map}
+use Rattle.roman_model.specs.System.{has}
+use Rattle.roman_model.specs.Arena.{mask}
+use Rattle.roman_model.specs.Numbers.{sizes_of, numbered}
+use Rattle.roman_radix.proofs.RowLemmas.{lanes_few}
+use Rattle.roman_lanes.specs.Rows.{is_on}
+use Rattle.roman_rules.proofs.Serving.{has_good, mask_refused, mask_more, mask_all}
+use Rattle.roman_rules.proofs.Asking.{bit_off}
+use Rattle.roman_joint.specs.NamedSys.{system_of, seat_of}
+use Rattle.roman_joint.specs.Rows.{lanes_in, AreAlive}
+use Rattle.roman_joint.proofs.ArenaFacts.{joint_numbered}
+use Rattle.roman_joint.proofs.AllowedLemmas.{open_here}
+use Rattle.roman_joint.proofs.GoodLemmas.{known, beaten_dead}
+use Rattle.roman_joint.proofs.joint.Joint.mask.Goals as goal
+
+-- an action that isn't allowed at the row's pairs
+pub returns-then-row_actions-a-eq0 : goal.returns-then-row_actions-a-eq0
+returns-then-row_actions-a-eq0 c x gone ok rows =
+    let s = system_of c.args.self.now in
+    let p = x * lanes_in s + c.args.lane in
+    let bit = (c.row_actions.ensures x c.args.lane ok c.requires.lane).each c.args.a (let few = c.layout.ensures.known.system.env.actions.1 in omega arith) in
+    mask_refused (numbered s) gone p c.args.a (bit_off ((numbered s).allows p c.args.a) (sym bit ∙ sym (shr_and_one c.row_actions.result c.args.a) ∙ c.if-row_actions-a-eq0.true))
+
+pub returns-in_default : goal.returns-in_default
+returns-in_default c x gone ok rows =
+    let s = system_of c.args.self.now in
+    mask_refused (numbered s) gone (x * lanes_in s + c.args.lane) c.args.a (open_here s c.args.row.now x c.args.a c.args.lane ok c.requires.lane ∙ c.in_default.ensures)
+
+pub alive_on-alive-requires-clause-turn : goal.alive_on-alive-requires-clause-turn
+alive_on-alive-requires-clause-turn c = (c.requires.row.0, c.args.row.now, c.args.a, c.requires.row.1, c.in-Some.ensures)
+
+pub overflow_shr-good : goal.overflow_shr-good
+overflow_shr-good c = omega (arith, c.requires.lane, lanes_few (sizes_of (system_of c.args.self.now)).seats)
+
+pub loop-k-preserved : goal.loop-k-preserved
+unfolding is_on
+loop-k-preserved c = record {
+  bits = λ x gone ok rows.
+      let n = c.args.self.now in
+      let A = numbered (system_of n) in
+      let p = x * lanes_in (system_of n) + c.args.lane in
+      let k = c.loop-k.k in
+      let seat : k < A.seats = omega (arith, length-map n.seats (seat_of n.catalogue), c.serving-k-end.ensures.few, c.loop-k-test.true) in
+      let word = c.good_on-good.ensures x gone ok rows (c.alive_on-alive.ensures gone rows) in
+      let good : eqb (bit_and (c.good_on-good.result / 2 ^ c.args.lane) 1) 1 ≡ has (mask A gone p c.args.a) k =
+      ap (λ w. eqb w 1) (shr_and_one c.good_on-good.result c.args.lane) ∙ (word.each c.args.lane c.requires.lane ∙ sym (has_good A (joint_numbered n c.layout.ensures.known) gone p c.args.a k seat)) in
+      mask_more A gone p c.args.a k c.loop-k.mask c.with_bit-mask.result _ good c.with_bit-mask.ensures.own c.with_bit-mask.ensures.others (c.loop-k.invariant.bits x gone ok rows) c.loop-k.invariant.rest;
+  rest = λ j l. c.with_bit-mask.ensures.others j (omega arith) ∙ c.loop-k.invariant.rest j (omega arith);
+}
+
+pub returns : goal.returns
+returns c x gone ok rows =
+    let n = c.args.self.now in
+    let s = system_of n in
+    let seats = length-map n.seats (seat_of n.catalogue) in
+    let h = known n c.layout.result.now x c.args.row.now c.layout.ensures.known c.layout.ensures.rows ok in
+    let living = c.alive_on-alive.ensures gone rows in
+    mask_all (numbered s) (joint_numbered n c.layout.ensures.known) gone (x * lanes_in s + c.args.lane) c.args.a c.loop-k.k c.loop-k.mask
+    (λ k past l.
+    let (within, dead) = c.serving-k-end.ensures.rest k (omega arith) (omega (arith, seats)) in
+    beaten_dead s c.layout.result.now x c.args.a k c.args.lane c.args.row.now c.in-Some.turn gone h c.in-Some.ensures within l (subst (AreAlive s gone c.in-Some.turn) dead living) c.requires.lane)
+    (c.loop-k.invariant.bits x gone ok rows) c.loop-k.invariant.rest

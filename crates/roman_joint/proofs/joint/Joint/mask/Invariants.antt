@@ -1,0 +1,19 @@
+use Rattle.std.proofs.Common.{◌≡◌, ℕ, ◌+◌, ◌*◌, ◌<◌, ◌≤◌, Bool, not}
+use Rattle.std.specs.Int.{bit_at}
+use Rattle.roman_model.specs.System.{has}
+use Rattle.roman_model.specs.Arena.{mask}
+use Rattle.roman_model.specs.Numbers.{numbered}
+use Rattle.roman_lanes.specs.Rows.{AreRows}
+use Rattle.roman_rules.specs.Bits.{bit_of}
+use Rattle.roman_joint.specs.NamedSys.{system_of}
+use Rattle.roman_joint.specs.Rows.{lanes_in, IsRow}
+use Rattle.roman_joint.proofs.joint.Joint.mask.Given as goal
+
+-- the bits of the seats so far are set, and no other
+abbrev pub invariant-loop-k : goal.invariant-loop-k
+invariant-loop-k l =
+    let s = system_of l.self in
+    record {
+      bits : (x : ℕ) (gone : ℕ → Bool) → IsRow s x l.row → AreRows (lanes_in s) (λ q. not (gone q)) l.words → (j : ℕ) → j < l.k → bit_at l.mask j ≡ bit_of (has (mask (numbered s) gone (x * lanes_in s + l.lane) l.a) j);
+      rest : (j : ℕ) → l.k ≤ j → bit_at l.mask j ≡ 0;
+    }
