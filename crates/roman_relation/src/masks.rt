@@ -7,7 +7,7 @@ ghost use Rattle.roman_rules.specs.Bits.{HasBits};
 ghost use Rattle.roman_relation.specs.Shaped.{IsShaped};
 
 use roman_order::Order;
-use roman_rules::{Rules, with_bit};
+use roman_rules::Rules;
 
 /// The mask of the pair `p` and the action `a`: the seats that have an outcome there, and none that is
 /// listed.
@@ -21,15 +21,8 @@ pub(crate) fn mask<J: Rules>(joint: &J, order: &Order, p: u32, a: u8) -> u32
     joint.known();
     order.len();
     let lanes = joint.lanes();
-    let lane = p % lanes;
     let row = joint.row(p / lanes);
-    let words = order.words();
-    let mut mask = 0;
-    for k in 0..joint.seats() {
-        let good = joint.good(&row, words, a, k);
-        mask = with_bit(mask, k, (good >> lane) & 1 == 1);
-    }
-    mask
+    joint.mask(&row, order.words(), a, p % lanes)
 }
 
 /// How many seats the masks of all pairs and actions have together.
