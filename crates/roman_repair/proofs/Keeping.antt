@@ -173,6 +173,12 @@ grown_more states x b l =
 pub grown_end : (states : ℕ) (x : Entry ℕ) (b : ℕ) → states ≤ b → drop b (grown_numbers states x) ≡ []
 grown_end states x b l = drop_all b (grown_numbers states x) (omega (arith, length-map (below states) (grown_number states x), length-below states))
 
+-- in one state an entry is its own candidate
+pub grown_once : (states : ℕ) (x : Entry ℕ) → states ≡ 1 → grown_numbers states x ≡ x ∷ []
+grown_once states x one =
+    let same : x.node * 1 + 0 ≡ x.node = omega arith in
+    ap (λ n. grown_numbers n x) one ∙ ap (λ p. as_entry (p, x.reason) ∷ []) same
+
 -- the candidate at hand, whose number is m, is the first of those that are left
 pub state_first : (A : Arena ℕ) (start now : Board) (states : ℕ) (x : Entry ℕ) (b m : ℕ) → IsReplaying A start now (grown_numbers states x) (drop b (grown_numbers states x)) → b < states →
     m ≡ x.node * states + b → IsReplaying A start now (grown_numbers states x) (as_entry (m, x.reason) ∷ drop (b + 1) (grown_numbers states x))

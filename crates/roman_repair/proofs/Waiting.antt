@@ -1,5 +1,5 @@
 -- Orders that are reopened for a changed system, and what is replayed in them.
-use Rattle.std.proofs.Common.{◌≡◌, ℕ, ◌+◌, ◌*◌, ◌<◌, ◌≤◌, Bool, true, false, List, [], ◌∷◌, flat_map, length, IsTrue, refl, sym, ap, ap₂, ◌∙◌, subst, arith}
+use Rattle.std.proofs.Common.{◌≡◌, ℕ, ◌+◌, ◌*◌, ◌<◌, ◌≤◌, Bool, true, false, List, [], ◌∷◌, ◌++◌, flat_map, length, IsTrue, refl, sym, ap, ap₂, ◌∙◌, subst, arith}
 use Rattle.roman_model.specs.Lists.{below}
 use Rattle.roman_model.specs.System.{Sys}
 use Rattle.roman_model.specs.Arena.{Arena, Entry, is_justified, IsOrder, replay}
@@ -22,6 +22,7 @@ use Rattle.roman_relation.specs.Shaped.{IsShaped}
 use Rattle.roman_relation.specs.Greatest.{arena_of, HasCaps, IsRelation}
 use Rattle.roman_relation.proofs.Relating.{listed_numbers, room_for_pairs}
 use Rattle.roman_repair.specs.Replays.{is_possible, AreCandidates, candidates, grown_numbers, IsReplayable}
+use Rattle.roman_repair.proofs.Keeping.{grown_once}
 use Rattle.roman_repair.proofs.Repairing.{numbers_order, numbers_replayed}
 
 -- Candidates.
@@ -103,6 +104,4 @@ replayable change s joint states old reopened replays system may those empty sha
 -- where a service thaws each entry stands for its own pair
 pub grown_by_one : (L : List (Entry ℕ)) → flat_map (grown_numbers 1) L ≡ L
 grown_by_one [] = refl
-grown_by_one (x ∷ L) =
-    let same : x.node * 1 + 0 ≡ x.node = omega arith in
-    ap₂ (λ (p : ℕ) (M : List (Entry ℕ)). record { node = p; reason = x.reason } ∷ M) same (grown_by_one L)
+grown_by_one (x ∷ L) = ap₂ (λ (M N : List (Entry ℕ)). M ++ N) (grown_once 1 x refl) (grown_by_one L)

@@ -60,8 +60,7 @@ fn keep_asking<J: Rules, L: Ledger>(
     }
 }
 
-/// Lists the pair `p` for that reason, where the list justifies it. Its row is asked only where that isn't
-/// known.
+/// Does so, and asks only where nothing is known.
 fn keep<J: Rules, L: Ledger>(
     joint: &J,
     order: &mut Order,
@@ -90,8 +89,8 @@ fn keep<J: Rules, L: Ledger>(
     keep_asking(joint, order, asked, p, reason, steps);
 }
 
-/// Lists the `states` neighbouring pairs that an entry stands for, each where the list justifies its reason.
-fn keep_entry<J: Rules, L: Ledger>(
+/// Does so for the `states` neighbouring pairs that an entry stands for, for its reason.
+fn keep_grown<J: Rules, L: Ledger>(
     joint: &J,
     order: &mut Order,
     asked: &mut Asked,
@@ -112,6 +111,31 @@ fn keep_entry<J: Rules, L: Ledger>(
     for b in 0..states {
         let p = pair * u32::from(states) + u32::from(b);
         keep(joint, order, asked, p, reason, steps);
+    }
+}
+
+/// Does so for an entry, which stands for its own pair where `states` is 1.
+fn keep_entry<J: Rules, L: Ledger>(
+    joint: &J,
+    order: &mut Order,
+    asked: &mut Asked,
+    states: u8,
+    entry: (u32, Reason),
+    steps: &mut Steps<L>,
+)
+    requires shaped { IsShaped (J.arena joint.now) (J.lanes joint.now) order.old }
+    requires candidates { AreCandidates (J.arena joint.now) order.old.list (grown_numbers states (as_entry entry)) }
+    requires known { HoldsWhereKept (J.arena joint.now) (J.lanes joint.now) (is_listed (J.arena joint.now) order.old.list) asked.old }
+    ensures list { order.new.list ≡ with_replay (J.arena joint.now) order.old.list (grown_numbers states (as_entry entry)) }
+    ensures known { HoldsWhereKept (J.arena joint.now) (J.lanes joint.now) (is_listed (J.arena joint.now) order.new.list) asked.new }
+    ensures rest { order.new ≡ record order.old { list = order.new.list } }
+    ensures cost { steps.new ≤ steps.old + readings_of_entries (J.arena joint.now) (grown_numbers states (as_entry entry)) }
+{
+    let (pair, reason) = entry;
+    if states == 1 {
+        keep(joint, order, asked, pair, reason, steps);
+    } else {
+        keep_grown(joint, order, asked, states, entry, steps);
     }
 }
 

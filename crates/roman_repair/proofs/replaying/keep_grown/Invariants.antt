@@ -4,7 +4,7 @@ use Rattle.roman_rules.specs.Asked.{HoldsWhereKept}
 use Rattle.roman_order.specs.Board.{as_entry}
 use Rattle.roman_repair.specs.Replays.{readings_of_entries, grown_numbers}
 use Rattle.roman_repair.proofs.Keeping.{IsReplaying}
-use Rattle.roman_repair.proofs.replaying.keep_entry.Given as goal
+use Rattle.roman_repair.proofs.replaying.keep_grown.Given as goal
 
 -- the candidates from the state b on are left
 abbrev pub invariant-loop-b : goal.invariant-loop-b
