@@ -60,7 +60,9 @@ fn keep_asking<J: Rules, L: Ledger>(
     }
 }
 
-/// Does so, and asks only where nothing is known.
+/// Lists the pair `p` for that reason, where the list justifies it. Its row is asked only where that isn't
+/// known.
+#[inline(always)]
 fn keep<J: Rules, L: Ledger>(
     joint: &J,
     order: &mut Order,
@@ -89,7 +91,7 @@ fn keep<J: Rules, L: Ledger>(
     keep_asking(joint, order, asked, p, reason, steps);
 }
 
-/// Does so for the `states` neighbouring pairs that an entry stands for, for its reason.
+/// Lists the `states` neighbouring pairs that an entry stands for, each where the list justifies its reason.
 fn keep_grown<J: Rules, L: Ledger>(
     joint: &J,
     order: &mut Order,
@@ -114,7 +116,8 @@ fn keep_grown<J: Rules, L: Ledger>(
     }
 }
 
-/// Does so for an entry, which stands for its own pair where `states` is 1.
+/// Lists the pairs that an entry stands for, its own where `states` is 1, each where the list justifies its
+/// reason.
 fn keep_entry<J: Rules, L: Ledger>(
     joint: &J,
     order: &mut Order,

@@ -1,10 +1,8 @@
-use Rattle.std.proofs.Common.{◌≡◌, ◌*◌, sym, ap, ◌∙◌, subst, remove}
+use Rattle.std.proofs.Common.{sym, ap, ◌∙◌, subst, remove}
 use Rattle.roman_model.specs.System.{Sys}
 use Rattle.roman_model.specs.Change.{Die}
-use Rattle.roman_model.specs.Numbers.{Sizes, sizes_of, numbered, count}
-use Rattle.roman_model.proofs.ChangeLemmas.{left}
-use Rattle.roman_model.proofs.NumberedChanges.{sizes-left, NumbersReplay}
-use Rattle.roman_radix.specs.Rows.{lanes_of}
+use Rattle.roman_model.specs.Numbers.{numbered}
+use Rattle.roman_model.proofs.NumberedChanges.{NumbersReplay}
 use Rattle.roman_joint.specs.NamedSys.{system_of}
 use Rattle.roman_joint.specs.Rows.{lanes_in}
 use Rattle.roman_relation.specs.Shaped.{IsShaped}

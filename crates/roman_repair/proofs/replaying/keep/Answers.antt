@@ -1,5 +1,5 @@
-use Rattle.std.proofs.Common.{◌≡◌, ◌*◌, ◌+◌, ◌++◌, ◌∷◌, [], true, sym, ap, ◌∙◌}
-use Rattle.roman_order.specs.Board.{Board, as_entry}
+use Rattle.std.proofs.Common.{true, ap}
+use Rattle.roman_order.specs.Board.{Board}
 use Rattle.roman_repair.proofs.Keeping.{known_kept}
 use Rattle.roman_repair.proofs.replaying.keep.Goals as goal
 

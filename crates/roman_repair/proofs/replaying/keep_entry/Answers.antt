@@ -1,4 +1,4 @@
-use Rattle.std.proofs.Common.{[], ◌∷◌, inl, refl, sym, ap, ◌∙◌, subst, arith}
+use Rattle.std.proofs.Common.{inl, refl, sym, ap, ◌∙◌, subst, arith}
 use Rattle.roman_order.specs.Board.{as_entry}
 use Rattle.roman_repair.specs.Replays.{AreCandidates, with_replay, readings_of_entries}
 use Rattle.roman_repair.proofs.Keeping.{grown_once, with_replay_one}

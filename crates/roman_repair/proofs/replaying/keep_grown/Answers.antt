@@ -1,7 +1,7 @@
-use Rattle.std.proofs.Common.{◌≡◌, ℕ, List, ◌+◌, ◌*◌, ◌<◌, ◌∷◌, [], drop, length, inl, refl, sym, ap, ◌∙◌, arith}
+use Rattle.std.proofs.Common.{ℕ, List, ◌+◌, ◌*◌, ◌<◌, ◌∷◌, [], drop, length, inl, refl, sym, ap, ◌∙◌, arith}
 use Rattle.roman_model.specs.Arena.{Entry}
 use Rattle.roman_order.specs.Board.{Board, as_entry}
-use Rattle.roman_repair.specs.Replays.{grown_numbers, readings_of_entries}
+use Rattle.roman_repair.specs.Replays.{grown_numbers}
 use Rattle.roman_repair.proofs.Keeping.{state_first, state_number, state_cost, grown_end, replaying_part, replaying_end, with_replay_one}
 use Rattle.roman_repair.proofs.replaying.keep_grown.Goals as goal
 

@@ -1,4 +1,4 @@
-use Rattle.std.proofs.Common.{◌++◌, flat_map, arith}
+use Rattle.std.proofs.Common.{flat_map, arith}
 use Rattle.roman_order.specs.Board.{as_entry}
 use Rattle.roman_repair.specs.Replays.{grown_numbers}
 use Rattle.roman_repair.proofs.Keeping.{candidates_left, entry_first, entry_turn, entry_cost}
