@@ -1,15 +1,16 @@
 //! Output that is gathered in a buffer of fixed size.
-ghost use Rattle.std.specs.Prelude.{◌≡◌, ◌+◌, ◌≤◌, ◌++◌, [], length, decimal};
+ghost use Rattle.std.specs.Prelude.{◌≡◌, ◌+◌, ◌≤◌, ◌∷◌, ◌++◌, [], length, decimal, OnOk};
 ghost use Rattle.roman_io.specs.Faults.{HasCause};
 ghost use Rattle.roman_io.specs.Sink.{Puts};
 ghost use Rattle.roman_text.specs.Pages.{Gathers};
-ghost use Rattle.roman_text.specs.Replies.{reply_text};
 ghost use Rattle.roman_text.specs.Report.{line_text};
 
-use crate::replies::{Reply, reply_piece};
+mod replies;
+
 use crate::report::{ReportLine, report_piece};
 use itoa::{Buffer, write_digits};
 use roman_io::{Failed, Sink};
+use roman_read::Name;
 use std::marker::Model;
 
 // The greatest number of bytes that a page holds.
@@ -17,6 +18,9 @@ const ROOM: usize = 4096;
 
 // The greatest number of digits that a number has.
 const DIGITS: usize = 10;
+
+// The greatest number of bytes of a line, as of each part of one.
+const LONGEST: usize = 128;
 
 /// Bytes on their way to a sink, so that many short ones are put as one piece. Contracts see the
 /// bytes that are held: the sink has those before them.
@@ -49,6 +53,7 @@ impl Page {
 
     /// Takes bytes behind those that are held. Where they have no room, what is held is put first.
     /// A failed call leaves the page empty.
+    #[inline]
     pub fn push<O: Sink>(&mut self, bytes: &[u8], out: &mut O) -> Result<(), Failed>
         ensures gathers { Gathers (O.written out.old) (O.written out.new) self.new (self.old ++ bytes.now) result }
         ensures cause { HasCause (O.faults out.old) (O.faults out.new) result }
@@ -104,12 +109,16 @@ impl Page {
         Ok(())
     }
 
-    /// Takes a reply, as [`Page::push`] takes bytes.
-    pub fn push_reply<O: Sink>(&mut self, reply: &Reply, out: &mut O) -> Result<(), Failed>
-        ensures gathers { Gathers (O.written out.old) (O.written out.new) self.new (self.old ++ reply_text reply.now) result }
+    /// Takes a byte and the name behind it, as [`Page::push`] takes bytes.
+    #[inline]
+    pub fn push_name<O: Sink>(&mut self, before: u8, name: &Name, out: &mut O) -> Result<(), Failed>
+        ensures gathers { Gathers (O.written out.old) (O.written out.new) self.new
+            (self.old ++ (before ∷ name.now)) result }
         ensures cause { HasCause (O.faults out.old) (O.faults out.new) result }
     {
-        self.push(reply_piece(reply).bytes(), out)
+        self.make_room(out)?;
+        self.add_name(&[before], name, b"");
+        Ok(())
     }
 
     /// Takes a report line, as [`Page::push`] takes bytes.
@@ -137,6 +146,18 @@ impl Page {
         Ok(())
     }
 
+    // Puts what is held where the longest line has no room behind it.
+    fn make_room<O: Sink>(&mut self, out: &mut O) -> Result<(), Failed>
+        ensures gathers { Gathers (O.written out.old) (O.written out.new) self.new self.old result }
+        ensures room { OnOk result (length self.new ≤ 3968) }
+        ensures cause { HasCause (O.faults out.old) (O.faults out.new) result }
+    {
+        if self.room() >= LONGEST {
+            return Ok(());
+        }
+        self.flush(out)
+    }
+
     // How many more bytes have room.
     fn room(&self) -> usize
         ensures { result + length self.now ≡ 4096 }
@@ -152,6 +173,17 @@ impl Page {
         let end = self.len + bytes.len();
         self.bytes[self.len..end].copy_from_slice(bytes);
         self.len = end;
+    }
+
+    // Adds a name that has room, with the bytes before it and behind it.
+    fn add_name(&mut self, before: &[u8], name: &Name, behind: &[u8])
+        requires { length self.old + length before.now + length behind.now ≤ 4064 }
+        ensures text { self.new ≡ self.old ++ (before.now ++ (name.now ++ behind.now)) }
+        ensures len { length self.new ≤ length self.old + length before.now + length behind.now + 32 }
+    {
+        self.add(before);
+        self.add(name.bytes());
+        self.add(behind);
     }
 
     // Adds a number that has room, in decimal digits.

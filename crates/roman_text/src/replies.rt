@@ -1,8 +1,7 @@
 //! The replies of a session.
 ghost use Rattle.std.specs.Prelude.{◌≡◌};
-ghost use Rattle.roman_text.specs.Replies.{refusal_number, reply_text};
+ghost use Rattle.roman_text.specs.Replies.{refusal_number};
 
-use crate::piece::Piece;
 use roman_read::Name;
 
 /// A reply to a session line, or a part of one.
@@ -90,52 +89,4 @@ impl Reply {
             _ => None,
         }
     }
-}
-
-/// The bytes of a reply.
-pub fn reply_piece(reply: &Reply) -> Piece
-    ensures { result ≡ reply_text reply.now }
-{
-    let text = Piece::new();
-    match reply {
-        Reply::Offer => text.text(b"offer"),
-        Reply::Serves(service) => text.text(b" ").name(service),
-        Reply::Stop => text.text(b"\n"),
-        Reply::Using(service) => text.text(b"using ").name(service).text(b"\n"),
-        Reply::Now { target, env } => now_piece(target, env),
-        Reply::Aborted => text.text(b"aborted\n"),
-        Reply::Kept { kept, added } => kept_piece(*kept, *added),
-        Reply::Jumped => text.text(b"jumped\n"),
-        Reply::Bye => text.text(b"bye\n"),
-        Reply::ErrorLine => text.text(b"error line\n"),
-        Reply::ErrorName => text.text(b"error name\n"),
-        Reply::ErrorBusy => text.text(b"error busy\n"),
-        Reply::ErrorIdle => text.text(b"error idle\n"),
-        Reply::NoComposition => text.text(b"no composition\n"),
-        Reply::NotAllowed => text.text(b"not allowed\n"),
-        Reply::NotOffered => text.text(b"not offered\n"),
-        Reply::Impossible => text.text(b"impossible\n"),
-        Reply::ErrorFrozen => text.text(b"error frozen\n"),
-        Reply::ErrorReady => text.text(b"error ready\n"),
-        Reply::ErrorTaken => text.text(b"error taken\n"),
-        Reply::ErrorFull => text.text(b"error full\n"),
-        Reply::ErrorLimit => text.text(b"error limit\n"),
-        Reply::ErrorRelated => text.text(b"error related\n"),
-    }
-}
-
-// The line that gives the new state of the target and of the environment.
-fn now_piece(target: &Name, env: &Name) -> Piece
-    ensures { result ≡ reply_text (Reply.Now target.now env.now) }
-{
-    let text = Piece::new().text(b"now ").name(target);
-    text.text(b" ").name(env).text(b"\n")
-}
-
-// The line that counts what the replay kept and what was added.
-fn kept_piece(kept: u32, added: u32) -> Piece
-    ensures { result ≡ reply_text (Reply.Kept kept added) }
-{
-    let text = Piece::new().text(b"kept ").number(kept);
-    text.text(b" added ").number(added).text(b"\n")
 }

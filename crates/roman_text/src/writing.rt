@@ -5,7 +5,8 @@ ghost use Rattle.roman_io.specs.Sink.{Puts};
 ghost use Rattle.roman_text.specs.Replies.{reply_text};
 ghost use Rattle.roman_text.specs.Report.{line_text};
 
-use crate::replies::{Reply, reply_piece};
+use crate::page::Page;
+use crate::replies::Reply;
 use crate::report::{ReportLine, report_piece};
 use roman_io::{Failed, Sink};
 
@@ -14,7 +15,9 @@ pub fn put_reply<O: Sink>(out: &mut O, reply: &Reply) -> Result<(), Failed>
     ensures puts { Puts (O.written out.old) (O.written out.new) (reply_text reply.now) result }
     ensures cause { HasCause (O.faults out.old) (O.faults out.new) result }
 {
-    out.put(reply_piece(reply).bytes())
+    let mut page = Page::new();
+    page.push_reply(reply, out)?;
+    page.flush(out)
 }
 
 /// Writes a report line, as one piece. A failed call writes a prefix of it.

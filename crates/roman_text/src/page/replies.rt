@@ -1,0 +1,84 @@
+// Replies on a page.
+ghost use Rattle.std.specs.Prelude.{◌≡◌, ◌+◌, ◌≤◌, ◌++◌, length, decimal};
+ghost use Rattle.roman_io.specs.Faults.{HasCause};
+ghost use Rattle.roman_text.specs.Pages.{Gathers};
+ghost use Rattle.roman_text.specs.Replies.{reply_text};
+ghost use Rattle.roman_text.specs.declared.replies.Reply.TheVariants as reply;
+
+use super::Page;
+use crate::replies::Reply;
+use roman_io::{Failed, Sink};
+use roman_read::Name;
+
+impl Page {
+    /// Takes a reply, as [`Page::push`] takes bytes.
+    pub fn push_reply<O: Sink>(&mut self, reply: &Reply, out: &mut O) -> Result<(), Failed>
+        ensures gathers { Gathers (O.written out.old) (O.written out.new) self.new (self.old ++ reply_text reply.now) result }
+        ensures cause { HasCause (O.faults out.old) (O.faults out.new) result }
+    {
+        self.make_room(out)?;
+        self.add_reply(reply);
+        Ok(())
+    }
+
+    // Adds a reply that has room.
+    fn add_reply(&mut self, reply: &Reply)
+        requires { length self.old ≤ 3968 }
+        ensures { self.new ≡ self.old ++ reply_text reply.now }
+    {
+        match reply {
+            Reply::Offer => self.add(b"offer"),
+            Reply::Serves(service) => self.add_name(b" ", service, b""),
+            Reply::Stop => self.add(b"\n"),
+            Reply::Using(service) => self.add_name(b"using ", service, b"\n"),
+            Reply::Now { target, env } => self.add_now(target, env),
+            Reply::Aborted => self.add(b"aborted\n"),
+            Reply::Kept { kept, added } => self.add_kept(*kept, *added),
+            Reply::Jumped => self.add(b"jumped\n"),
+            Reply::Bye => self.add(b"bye\n"),
+            Reply::ErrorLine => self.add(b"error line\n"),
+            Reply::ErrorName => self.add(b"error name\n"),
+            Reply::ErrorBusy => self.add(b"error busy\n"),
+            Reply::ErrorIdle => self.add(b"error idle\n"),
+            Reply::NoComposition => self.add(b"no composition\n"),
+            Reply::NotAllowed => self.add(b"not allowed\n"),
+            Reply::NotOffered => self.add(b"not offered\n"),
+            Reply::Impossible => self.add(b"impossible\n"),
+            Reply::ErrorFrozen => self.add(b"error frozen\n"),
+            Reply::ErrorReady => self.add(b"error ready\n"),
+            Reply::ErrorTaken => self.add(b"error taken\n"),
+            Reply::ErrorFull => self.add(b"error full\n"),
+            Reply::ErrorLimit => self.add(b"error limit\n"),
+            Reply::ErrorRelated => self.add(b"error related\n"),
+        }
+    }
+
+    // Adds the line that gives the new state of the target and of the environment.
+    fn add_now(&mut self, target: &Name, env: &Name)
+        requires { length self.old ≤ 3968 }
+        ensures { self.new ≡ self.old ++ reply_text (reply.Now target.now env.now) }
+    {
+        self.add_name(b"now ", target, b" ");
+        self.add_name(b"", env, b"\n");
+    }
+
+    // Adds the line that counts what the replay kept and what was added.
+    fn add_kept(&mut self, kept: u32, added: u32)
+        requires { length self.old ≤ 3968 }
+        ensures { self.new ≡ self.old ++ reply_text (reply.Kept kept added) }
+    {
+        self.add_counted(b"kept ", kept);
+        self.add_counted(b" added ", added);
+        self.add(b"\n");
+    }
+
+    // Adds a number that has room, and the bytes before it.
+    fn add_counted(&mut self, before: &[u8], n: u32)
+        requires { length self.old + length before.now ≤ 4086 }
+        ensures text { self.new ≡ self.old ++ (before.now ++ decimal n) }
+        ensures len { length self.new ≤ length self.old + length before.now + 10 }
+    {
+        self.add(before);
+        self.add_number(n);
+    }
+}
