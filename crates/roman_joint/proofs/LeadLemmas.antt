@@ -81,19 +81,19 @@ target_rows_are n = by n.env (env_rows_of n) (lanes_of n.seats) (env_stride_of n
 
 -- where the numbers begin for a seat before the lanes
 pub start_before : (s : Sys) (row : Row) (x lane k to u : ℕ) → IsSys s → IsRow s x row → lane < lanes_in s → k < low_in s → to < s.target.states → u * lanes_in s ≡ stride_of (sizes_of s) k →
-    StartsAt s (x * lanes_in s + lane) k to (to * target_rows_of (sizes_of s) * lanes_in s + (row.part * lanes_in s + lane)) (slice_index row.states k) (env_rows_of (sizes_of s) * lanes_in s) (u * lanes_in s)
+    StartsAt (sizes_of s) (x * lanes_in s + lane) k to (to * target_rows_of (sizes_of s) * lanes_in s + (row.part * lanes_in s + lane)) (slice_index row.states k) (env_rows_of (sizes_of s) * lanes_in s) (u * lanes_in s)
 start_before s row x lane k to u sys ok in_lanes before in_target stride =
     let n = sizes_of s in
     let w = lanes_in s in
     let p = x * w + lane in
     let R = env_rows_of n in
-    let seat : k < length s.seats = omega (arith, low_of-le n.seats, length-map s.seats (λ (y : Seat). y.beh.states)) in
-    let start : StartsAt s p k to (to * (target_rows_of n * w) + p % (R * w)) (slice_index row.states k) (R * w) (u * w) =
-    starts_at s p k to to (target_rows_of n * w) (slice_index row.states k) (R * w) (u * w) sys (ok.below lane in_lanes) seat in_target refl
+    let seat : k < length n.seats = omega (arith, low_of-le n.seats) in
+    let start : StartsAt n p k to (to * (target_rows_of n * w) + p % (R * w)) (slice_index row.states k) (R * w) (u * w) =
+    starts_at n p k to to (target_rows_of n * w) (slice_index row.states k) (R * w) (u * w) (ok.below lane in_lanes) seat in_target refl
     (target_rows_are n) (sym (ok.states k lane before in_lanes)) (env_rows_are n) stride in
     let within_env : p % (R * w) ≡ row.part * w + lane = row_mod x w lane R in_lanes ∙ ap (λ m. m * w + lane) (sym ok.part) in
     let whole : to * (target_rows_of n * w) + p % (R * w) ≡ to * target_rows_of n * w + (row.part * w + lane) = ap (λ m. to * (target_rows_of n * w) + m) within_env ∙ omega arith in
-    subst (λ m. StartsAt s p k to m (slice_index row.states k) (R * w) (u * w)) whole start
+    subst (λ m. StartsAt n p k to m (slice_index row.states k) (R * w) (u * w)) whole start
 
 -- a seat before the lanes
 pub leads_before : (s : Sys) (row : Row) (x lane a k to base u : ℕ) (envs states : List ℕ) → IsSys s → IsRow s x row → lane < lanes_in s → k < low_in s → u * lanes_in s ≡ stride_of (sizes_of s) k →
@@ -198,8 +198,8 @@ leads_lanes s row x lane a k to base part envs states sys sizes ok in_lanes with
     let seats : k < length n.seats = omega (arith, length-map s.seats (λ (y : Seat). y.beh.states)) in
     let in_target : to < s.target.states = target_in_range s row.target row.env a to sys target in
     let at_part : part ≡ slice_index q.bs k = is_part ∙ sym (lane_part n x lane k sizes inside within seats) in
-    let start : StartsAt s p k to (to * (target_rows_of n * w) + p % (R * w)) part (R * w) st =
-    starts_at s p k to to (target_rows_of n * w) part (R * w) st sys inside seat in_target refl (target_rows_are n) at_part (env_rows_are n) refl in
+    let start : StartsAt n p k to (to * (target_rows_of n * w) + p % (R * w)) part (R * w) st =
+    starts_at n p k to to (target_rows_of n * w) part (R * w) st inside seats in_target refl (target_rows_are n) at_part (env_rows_are n) refl in
     let within_env : p % (R * w) ≡ row.part * w + lane = row_mod x w lane R in_lanes ∙ ap (λ m. m * w + lane) (sym ok.part) in
     let moves = lane_state n k lane sizes within seats in_lanes in
     let taken : part * st ≤ lane = subst (λ y. y * st ≤ lane) (sym is_part) moves.taken in

@@ -100,16 +100,6 @@ put_mark marks x place lane room at is = (
       | inr other ↦ ap (λ w. is_on w (y % 64)) (get_or-set_other marks place (y / 64) word 0 other) ∙ t
     ]
 
--- a row past the table
-pub past_mark : (marks : List ℕ) (x : ℕ) → length marks ≤ x / 64 → IsMarked marks x
-past_mark marks x past l =
-    let split : x / 64 * 64 + x % 64 ≡ x = div-add-mod' x 64 in
-    absurd (omega (arith, split))
-
--- small products
-pub small_product : (a b : ℕ) → a < 2 ^ 8 → b < 2 ^ 32 → a * b < 2 ^ 40
-small_product a b l m = let most : a * b ≤ 255 * 4294967295 = mul-le a b 255 4294967295 (omega arith) (omega arith) in omega arith
-
 -- Rows from which a row is reached
 
 in_frozen : (seat : Seat) (frozen : Bool) (b' e a b : ℕ) → IsFalse frozen → IsIn b (beh_prev seat.beh b' e a) → IsIn b (cond frozen [] (beh_prev seat.beh b' e a))

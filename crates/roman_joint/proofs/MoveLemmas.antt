@@ -371,9 +371,6 @@ place_below envs actions e a lows j in_envs in_actions l =
 
 -- What is kept.
 
-pub kept_itself : (table : Moves) → IsKept table table
-kept_itself table = record { same_envs = refl; same_actions = refl; spans_room = refl; moves_room = refl }
-
 pub kept_on : (a b c : Moves) → IsKept a b → IsKept b c → IsKept a c
 kept_on a b c x y = record {
   same_envs = y.same_envs ∙ x.same_envs;

@@ -201,10 +201,6 @@ pub joined_test : (n : NamedSys) (seat : Seat) (m : Sizes) (size actions : ℕ) 
     (count (grown_sizes m size) ≤ n.limit / actions) ↔ (cells (after (Join (seat_of n.catalogue seat)) (system_of n)) ≤ n.limit)
 joined_test n seat m size actions known is_m is_size is_actions = rw (is_m, is_size, is_actions) (joined_fit n seat known)
 
--- what isn't at most the limit is more
-pub more_than : (cells limit : ℕ) → (cells ≤ limit → ⊥) → limit < cells
-more_than cells limit h = elim (cases_lt limit cells) [ inl l ↦ l | inr l ↦ absurd (h l) ]
-
 -- a service that is frozen or made ready keeps its behaviour
 pub frozen_at : (catalogue : List NamedBeh) (seats : List Seat) (k : ℕ) (frozen : Bool) (j : ℕ) (x : model.Seat) → slice_get (map (seat_of catalogue) (with_frozen seats k frozen)) j ≡ Some x →
     (y : model.Seat) × (slice_get (map (seat_of catalogue) seats) j ≡ Some y) × (y.beh ≡ x.beh)

@@ -1,5 +1,5 @@
 -- Services and their behaviours, one after the other.
-use Rattle.std.proofs.Common.{◌≡◌, ℕ, zero, suc, ◌+◌, ◌*◌, ◌/◌, ◌%◌, ◌<◌, ◌≤◌, Bool, true, false, not, ◌&&◌, ◌||◌, List, [], ◌∷◌, ◌++◌, Some, IsTrue, IsFalse, All, slice_get, get_or, map, length, take, drop, refl, sym, ap, ap₂, ◌∙◌, subst, inl, inr, arith}
+use Rattle.std.proofs.Common.{◌≡◌, ℕ, zero, suc, ◌+◌, ◌*◌, ◌/◌, ◌%◌, ◌^◌, ◌<◌, ◌≤◌, Bool, true, false, not, ◌&&◌, ◌||◌, List, [], ◌∷◌, ◌++◌, Some, IsTrue, IsFalse, All, slice_get, get_or, map, length, take, drop, refl, sym, ap, ap₂, ◌∙◌, subst, inl, inr, arith}
 use Rattle.std.specs.List.{AllByRecursion}
 use Rattle.std.proofs.Math.ListN.{set}
 use Rattle.std.proofs.lemmas.List.{take_more, take_more_set, map_push, drop_more, drop_all, length-set, take_all, get_or-map}
@@ -10,6 +10,8 @@ use Rattle.roman_model.specs.System as model
 use Rattle.roman_model.specs.System.{Env, IsBeh, is_final, all_final}
 use Rattle.roman_model.specs.Numbers.{states_at}
 use Rattle.roman_parts.specs.Named.{NamedEnv, NamedBeh, IsOver}
+use Rattle.roman_radix.specs.Radix.{AreSizes}
+use Rattle.roman_radix.proofs.Strides.{product_positive, product_more, AreSizes-drop, AreSizes-index}
 use Rattle.roman_joint.specs.declared.seat.Seat.{Seat}
 use Rattle.roman_joint.specs.NamedSys.{beh_at, seat_of, IsOverEnv}
 
@@ -25,11 +27,11 @@ seat_there catalogue [] k x l h = absurd (omega arith)
 seat_there catalogue (seat ∷ seats) zero x l h = ap (λ y. Some (seat_of catalogue y)) (sym h)
 seat_there catalogue (seat ∷ seats) (suc k) x l h = seat_there catalogue seats k x (omega arith) h
 
--- a behaviour has few states, whatever environment it is over
-pub few_states : (y : NamedBeh) → IsOver y.env_states y.actions y.beh → y.beh.states ≤ 64
-few_states y known =
+-- a behaviour has some states, and few, whatever environment it is over
+pub states_range : (y : NamedBeh) → IsOver y.env_states y.actions y.beh → (0 < y.beh.states) × (y.beh.states ≤ 64)
+states_range y known =
     let env : Env = record { states = y.env_states; actions = y.actions; start = 0; triples = [] } in
-    (known env refl refl).states.1
+    (known env refl refl).states
 
 pub recursion-push : {X : Type 0} (P : X → Type 0) (xs : List X) (x : X) → AllByRecursion P xs → P x → AllByRecursion P (xs ++ x ∷ [])
 recursion-push P [] x h p = (p, tt)
@@ -88,43 +90,18 @@ seats_known catalogue [] env h x i = absurd i
 seats_known catalogue (seat ∷ seats) env h x (inl e) = subst (λ (y : model.Seat). IsBeh env y.beh) (sym e) h.0
 seats_known catalogue (seat ∷ seats) env h x (inr i) = seats_known catalogue seats env h.1 x i
 
--- one service fewer is left to be in a final state
-pub record FinalStep (catalogue : List NamedBeh) (seats : List Seat) (sizes : List ℕ) (k rest : ℕ) (x : Seat) (whole : Bool) : Type 0 where
-  pub state : rest / product_of (drop (k + 1) sizes) < get_or sizes k 0
-  pub below : rest % product_of (drop (k + 1) sizes) < product_of (drop (k + 1) sizes)
-  pub test : (not x.rests || is_final (beh_at catalogue x.behaviour) (rest / product_of (drop (k + 1) sizes)))
-      && all_final (map (seat_of catalogue) (drop (k + 1) seats)) (states_at (drop (k + 1) sizes) (rest % product_of (drop (k + 1) sizes))) ≡ whole
+-- a number of states is split into the first and those behind it
+pub record Splits (sizes : List ℕ) (k rest stride : ℕ) : Type 0 where
+  pub positive : 0 < stride
+  pub state : rest / stride < get_or sizes k 0
+  pub below : rest % stride < product_of (drop (k + 1) sizes)
+  pub byte : get_or sizes k 0 < 2 ^ 8
 
-pub final_step : (catalogue : List NamedBeh) (seats : List Seat) (sizes : List ℕ) (k rest : ℕ) (x : Seat) (whole : Bool) → k < length seats → k < length sizes → x ≡ get_or seats k x →
-    0 < product_of (drop (k + 1) sizes) → rest < product_of (drop k sizes) → all_final (map (seat_of catalogue) (drop k seats)) (states_at (drop k sizes) rest) ≡ whole →
-    FinalStep catalogue seats sizes k rest x whole
-final_step catalogue seats sizes k rest x whole seat size is positive below so_far =
-    let first : drop k seats ≡ x ∷ drop (k + 1) seats = drop_more seats k x seat ∙ ap (λ y. y ∷ drop (k + 1) seats) (sym is) in
-    let split : drop k sizes ≡ get_or sizes k 0 ∷ drop (k + 1) sizes = drop_more sizes k 0 size in
-    let product : product_of (drop k sizes) ≡ get_or sizes k 0 * product_of (drop (k + 1) sizes) = ap product_of split in
-    record {
-      state = div_below rest (product_of (drop (k + 1) sizes)) (get_or sizes k 0) positive (omega arith);
-      below = mod_below rest (product_of (drop (k + 1) sizes)) positive;
-      test = sym (ap₂ (λ ys ns. all_final (map (seat_of catalogue) ys) (states_at ns rest)) first split) ∙ so_far;
-    }
-
--- no service is left
-pub final_end : (catalogue : List NamedBeh) (seats : List Seat) (bs : List ℕ) (k : ℕ) → length seats ≤ k → all_final (map (seat_of catalogue) (drop k seats)) bs ≡ true
-final_end catalogue seats bs k l = ap (λ ys. all_final (map (seat_of catalogue) ys) bs) (drop_all k seats l)
-
--- a test that decides the first service
-pub not_final : (rests final rest whole : Bool) → (not rests || final) && rest ≡ whole → IsTrue rests → IsFalse final → whole ≡ false
-not_final rests final rest whole h r f = sym h ∙ (ap (λ b. (not b || final) && rest) r ∙ ap (λ b. b && rest) f)
-
-pub final_so_far : (rests final rest whole : Bool) → (not rests || final) && rest ≡ whole → (not rests || final) ≡ true → rest ≡ whole
-final_so_far rests final rest whole h p = sym (ap (λ b. b && rest) p) ∙ h
-
-pub final_passes : (rests final : Bool) → final ≡ true → (not rests || final) ≡ true
-final_passes true final h = h
-final_passes false final h = refl
-
-pub loose_passes : (rests final : Bool) → rests ≡ false → (not rests || final) ≡ true
-loose_passes rests final h = ap (λ b. not b || final) h
+pub splits : (sizes : List ℕ) (k rest stride : ℕ) → AreSizes sizes → k < length sizes → rest < product_of (drop k sizes) → stride ≡ product_of (drop (k + 1) sizes) → Splits sizes k rest stride
+splits sizes k rest stride ok within below is =
+    let positive : 0 < stride = subst (λ m. 0 < m) (sym is) (product_positive (drop (k + 1) sizes) (AreSizes-drop (k + 1) sizes ok)) in
+    let product : stride * get_or sizes k 0 ≡ product_of (drop k sizes) = product_more sizes k (k + 1) stride (get_or sizes k 0) refl within refl is in
+    record { positive = positive; state = div_below rest stride (get_or sizes k 0) positive (omega arith); below = omega (arith, is, mod_below rest stride positive); byte = (AreSizes-index sizes k ok within).1 }
 
 -- the size at a place is how many states the service's behaviour has
 pub size_read : (catalogue : List NamedBeh) (seats : List Seat) (sizes : List ℕ) (k : ℕ) (x : Seat) (y : NamedBeh) → sizes ≡ map (λ seat. (beh_at catalogue seat.behaviour).states) seats →

@@ -89,31 +89,6 @@ rows_made n r h is_low is_lanes full rows env target strides sizes firsts = reco
         whole_rows : (a m w : ℕ) → 0 < w → a ≡ m * w → a / w ≡ m
         whole_rows a m w pos is = factor (a / w) m w pos (exact a m w pos is ∙ is)
 
--- one service more
-pub sizes_more : (n : Sizes) (sizes : List ℕ) (k size : ℕ) → k < length sizes → size ≡ slice_index n.seats k → ((j : ℕ) → j < k → slice_index sizes j ≡ slice_index n.seats j) →
-    (j : ℕ) → j < k + 1 → slice_index (set sizes k size) j ≡ slice_index n.seats j
-sizes_more n sizes k size room is before j l = elim (cases_eq j k) [
-  | inl e ↦ subst (λ x. slice_index (set sizes k size) x ≡ slice_index n.seats x) (sym e) (get_or-set_same sizes k size 0 room ∙ is)
-  | inr other ↦ get_or-set_other sizes k j size 0 other ∙ before j (omega arith)
-]
-
-pub strides_more : (n : Sizes) (strides : List ℕ) (low w k value : ℕ) → k < length strides → value ≡ cond (ltb k low) (stride_of n k / w) (stride_of n k) →
-    ((j : ℕ) → j < k → slice_index strides j ≡ cond (ltb j low) (stride_of n j / w) (stride_of n j)) →
-    (j : ℕ) → j < k + 1 → slice_index (set strides k value) j ≡ cond (ltb j low) (stride_of n j / w) (stride_of n j)
-strides_more n strides low w k value room is before j l = elim (cases_eq j k) [
-  | inl e ↦ subst (λ x. slice_index (set strides k value) x ≡ cond (ltb x low) (stride_of n x / w) (stride_of n x)) (sym e) (get_or-set_same strides k value 0 room ∙ is)
-  | inr other ↦ get_or-set_other strides k j value 0 other ∙ before j (omega arith)
-]
-
-pub firsts_more : (n : Sizes) (firsts : List ℕ) (k word : ℕ) → k < length firsts → ((lane : ℕ) → lane < 64 → is_on word lane ≡ lane_has_state (stride_of n k) (slice_index n.seats k) 0 lane) →
-    ((j lane : ℕ) → j < k → lane < 64 → is_on (slice_index firsts j) lane ≡ lane_has_state (stride_of n j) (slice_index n.seats j) 0 lane) →
-    (j lane : ℕ) → j < k + 1 → lane < 64 → is_on (slice_index (set firsts k word) j) lane ≡ lane_has_state (stride_of n j) (slice_index n.seats j) 0 lane
-firsts_more n firsts k word room is before j lane l m = elim (cases_eq j k) [
-  | inl e ↦ subst (λ x. is_on (slice_index (set firsts k word) x) lane ≡ lane_has_state (stride_of n x) (slice_index n.seats x) 0 lane) (sym e)
-      (ap (λ w. is_on w lane) (get_or-set_same firsts k word 0 room) ∙ is lane m)
-  | inr other ↦ ap (λ w. is_on w lane) (get_or-set_other firsts k j word 0 other) ∙ before j lane (omega arith) m
-]
-
 -- what a seat before the lanes adds to a row's number
 pub row_stride : (n : Sizes) (r : Rows) (k : ℕ) → IsSizes n → AreRowsOf n r → k < low_of n.seats → slice_index r.strides k ≡ stride_of n k / lanes_of n.seats
 row_stride n r k h rows l = factor (slice_index r.strides k) (stride_of n k / lanes_of n.seats) (lanes_of n.seats) (lanes_positive n.seats h.seats) (rows.before k l ∙ sym (stride_rows n k h l))

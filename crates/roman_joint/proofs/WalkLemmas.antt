@@ -1,5 +1,5 @@
 -- One step of a walk backwards: what is left, and where the walk then is.
-use Rattle.std.proofs.Common.{◌≡◌, ◌⊎◌, ℕ, zero, suc, ◌+◌, ◌<◌, ◌≤◌, cond, List, [], ◌∷◌, ◌++◌, length, take, drop, get_or, Option, Some, IsTrue, IsFalse, slice_get, slice_index, slice_set, inl, inr, refl, sym, ap, ◌∙◌, subst, arith}
+use Rattle.std.proofs.Common.{◌≡◌, ◌⊎◌, ℕ, zero, suc, ◌+◌, ◌<◌, ◌≤◌, Bool, true, false, cond, List, [], ◌∷◌, ◌++◌, length, take, drop, get_or, Option, None, Some, slice_get, slice_index, slice_set, inl, inr, refl, sym, ap, ◌∙◌, subst, arith}
 use Rattle.std.specs.Int.{bit_at}
 use Rattle.std.specs.List.{flat_map}
 use Rattle.std.proofs.lemmas.Bool.{cases_lt}
@@ -16,7 +16,7 @@ use Rattle.roman_model.proofs.SystemLemmas.{seat_in}
 use Rattle.roman_joint.specs.declared.walk.Walk.{Walk}
 use Rattle.roman_joint.proofs.BackwardLemmas.{found_backwards}
 use Rattle.roman_joint.specs.Backward.{seat_prev, from_states, from_seat, from_target, from_env, from_action, from_all}
-use Rattle.roman_joint.specs.Walks.{goal_of, IsWalk, left_of_seat, left_of_target, left_of_env, left_of_action, left_of_all, left, WalkGoesOn}
+use Rattle.roman_joint.specs.Walks.{goal_of, IsWalk, states_before, left_of_seat, left_of_target, left_of_env, left_of_action, left_of_all, left, WalkGoesOn}
 
 -- the first of some lists, and the rest
 flat_map-drop : {X Y : Type 0} (f : X → List Y) (xs : List X) (i : ℕ) (d : X) → i < length xs → flat_map f (drop i xs) ≡ f (get_or xs i d) ++ flat_map f (drop (i + 1) xs)
@@ -232,12 +232,6 @@ module _ (s : Sys) (sys : IsSys s) (w : Walk) (ok : IsWalk s w) where
   pub no_actions : s.env.actions ≤ w.action + 1 → left_of_all s w ≡ []
   no_actions past = below-past (from_action s (goal_of s w)) s.env.actions (w.action + 1) past
 
-  -- nothing is left in any part
-  pub none_left : left_of_seat s w ≡ [] → left_of_target s w ≡ [] → left_of_env s w ≡ [] → left_of_action s w ≡ [] → left_of_all s w ≡ [] → left s w ≡ []
-  none_left x y z u v =
-      after_none (left_of_seat s w) (left_of_target s w) (left_of_env s w ++ (left_of_action s w ++ left_of_all s w)) x y
-      ∙ (after_none (left_of_env s w) (left_of_action s w) (left_of_all s w) z u ∙ v)
-
   -- the same, where the number of seats has another name
   pub goes_env_at : (e row m : ℕ) → left_of_seat s w ≡ [] → left_of_target s w ≡ [] → left_of_env s w ≡ [] → w.envs_taken < length (env_prev s.env (goal_of s w).e w.action) →
       e ≡ get_or (env_prev s.env (goal_of s w).e w.action) w.envs_taken 0 → e < s.env.states →
@@ -318,12 +312,17 @@ leads_on s w v m sys on none first = elim first [
     few : length envs ≤ 64
     few = few_prev s.env (goal_of s v).e v.action sys.env
 
--- the states before of a seat that is ready are its behaviour's
-ready_prev : (o : Option Seat) (seat : Seat) (b' e a : ℕ) → o ≡ Some seat → IsFalse seat.frozen → seat_prev o b' e a ≡ beh_prev seat.beh b' e a
-ready_prev o seat b' e a is ready = ap (λ x. seat_prev x b' e a) is ∙ ap (λ f. cond f [] (beh_prev seat.beh b' e a)) ready
-
-frozen_prev : (o : Option Seat) (seat : Seat) (b' e a : ℕ) → o ≡ Some seat → IsTrue seat.frozen → seat_prev o b' e a ≡ []
-frozen_prev o seat b' e a is frozen = ap (λ x. seat_prev x b' e a) is ∙ ap (λ f. cond f [] (beh_prev seat.beh b' e a)) frozen
+-- a seat's states before are few
+pub few_seat_prev : (s : Sys) (k b' e a : ℕ) → IsSys s → length (seat_prev (slice_get s.seats k) b' e a) ≤ 64
+few_seat_prev s k b' e a sys = by (slice_get s.seats k) (λ seat there. sys.seats seat (seat_in s.seats k seat there))
+  where
+    by : (o : Option Seat) → ((seat : Seat) → o ≡ Some seat → IsBeh s.env seat.beh) → length (seat_prev o b' e a) ≤ 64
+    by None ok = omega arith
+    by (Some seat) ok = of seat.frozen (few_beh_prev s.env seat.beh b' e a (ok seat refl))
+      where
+        of : (f : Bool) → length (beh_prev seat.beh b' e a) ≤ 64 → length (cond f [] (beh_prev seat.beh b' e a)) ≤ 64
+        of true few = omega arith
+        of false few = few
 
 -- a state of the present seat is taken
 pub record Takes (s : Sys) (old new : Walk) (node : ℕ) : Type 0 where
@@ -331,28 +330,18 @@ pub record Takes (s : Sys) (old new : Walk) (node : ℕ) : Type 0 where
   pub left : left s old ≡ record { node = node; action = old.action; seat = old.seat } ∷ left s new
 
 module _ (s : Sys) (sys : IsSys s) (w : Walk) (ok : IsWalk s w) where
-  pub takes_state : (seat : Seat) (node : ℕ) → slice_get s.seats w.seat ≡ Some seat → IsFalse seat.frozen →
-      w.states_taken < length (beh_prev seat.beh (slice_index (goal_of s w).bs w.seat) w.env w.action) →
-      node ≡ number (sizes_of s) (record {
-        t = w.target;
-        e = w.env;
-        bs = slice_set (goal_of s w).bs w.seat (get_or (beh_prev seat.beh (slice_index (goal_of s w).bs w.seat) w.env w.action) w.states_taken 0);
-      }) →
+  takes_state : (node : ℕ) → w.states_taken < length (states_before s w) →
+      node ≡ number (sizes_of s) (record { t = w.target; e = w.env; bs = slice_set (goal_of s w).bs w.seat (get_or (states_before s w) w.states_taken 0) }) →
       Takes s w (record w { states_taken = w.states_taken + 1 }) node
-  takes_state seat node seated ready more is =
+  takes_state node more is =
       let q = goal_of s w in
-      let states = beh_prev seat.beh (slice_index q.bs w.seat) w.env w.action in
-      let b = get_or states w.states_taken 0 in
       let f = from_states s q w.action w.env w.target w.seat in
       let new : Walk = record w { states_taken = w.states_taken + 1 } in
-      let few : length states ≤ 64 = few_beh_prev s.env seat.beh (slice_index q.bs w.seat) w.env w.action (sys.seats seat (seat_in s.seats w.seat seat seated)) in
-      let prev : seat_prev (slice_get s.seats w.seat) (slice_index q.bs w.seat) w.env w.action ≡ states = ready_prev (slice_get s.seats w.seat) seat (slice_index q.bs w.seat) w.env w.action seated ready in
-      let now : left_of_seat s w ≡ f (drop w.states_taken states) = ap (λ bs. f (drop w.states_taken bs)) prev in
-      let then : left_of_seat s new ≡ f (drop (w.states_taken + 1) states) = ap (λ bs. f (drop (w.states_taken + 1) bs)) prev in
-      let first : Delegation ℕ = record { node = number (sizes_of s) (record { t = w.target; e = w.env; bs = slice_set q.bs w.seat b }); action = w.action; seat = w.seat } in
-      let split : left_of_seat s w ≡ first ∷ left_of_seat s new = now ∙ (ap f (drop_more states w.states_taken 0 more) ∙ ap (λ xs. first ∷ xs) (sym then)) in
+      let few : length (states_before s w) ≤ 64 = few_seat_prev s w.seat (slice_index q.bs w.seat) w.env w.action sys in
+      let first : Delegation ℕ = delegation_of (number (sizes_of s) (record { t = w.target; e = w.env; bs = slice_set q.bs w.seat (get_or (states_before s w) w.states_taken 0) })) w.action w.seat in
+      let split : left_of_seat s w ≡ first ∷ left_of_seat s new = ap f (drop_more (states_before s w) w.states_taken 0 more) in
       let rest = left_of_target s w ++ (left_of_env s w ++ (left_of_action s w ++ left_of_all s w)) in
-      let given : ◌≡◌ {A = Delegation ℕ} first (record { node = node; action = w.action; seat = w.seat }) = ap (λ x. delegation_of x w.action w.seat) (sym is) in
+      let given : first ≡ delegation_of node w.action w.seat = ap (λ x. delegation_of x w.action w.seat) (sym is) in
       record {
         walk = record {
           pair = ok.pair;
@@ -375,25 +364,13 @@ module _ (s : Sys) (sys : IsSys s) (w : Walk) (ok : IsWalk s w) where
       delegation_of : ℕ → ℕ → ℕ → Delegation ℕ
       delegation_of node a k = record { node = node; action = a; seat = k }
 
+  pub no_state_left : length (states_before s w) ≤ w.states_taken → left_of_seat s w ≡ []
+  no_state_left past = ap (from_states s (goal_of s w) w.action w.env w.target w.seat) (drop_all w.states_taken (states_before s w) past)
+
   pub no_state_there : length s.seats ≤ w.seat → left_of_seat s w ≡ []
   no_state_there past =
-      let q = goal_of s w in
-      ap (λ bs. from_states s q w.action w.env w.target w.seat (drop w.states_taken bs)) (no_seat s.seats w.seat (slice_index q.bs w.seat) w.env w.action past)
-      ∙ ap (from_states s q w.action w.env w.target w.seat) (drop_all w.states_taken [] (omega arith))
-
-  pub no_state_frozen : (seat : Seat) → slice_get s.seats w.seat ≡ Some seat → IsTrue seat.frozen → left_of_seat s w ≡ []
-  no_state_frozen seat seated frozen =
-      let q = goal_of s w in
-      ap (λ bs. from_states s q w.action w.env w.target w.seat (drop w.states_taken bs)) (frozen_prev (slice_get s.seats w.seat) seat (slice_index q.bs w.seat) w.env w.action seated frozen)
-      ∙ ap (from_states s q w.action w.env w.target w.seat) (drop_all w.states_taken [] (omega arith))
-
-  pub no_state_left : (seat : Seat) → slice_get s.seats w.seat ≡ Some seat → IsFalse seat.frozen →
-      length (beh_prev seat.beh (slice_index (goal_of s w).bs w.seat) w.env w.action) ≤ w.states_taken → left_of_seat s w ≡ []
-  no_state_left seat seated ready past =
-      let q = goal_of s w in
-      let states = beh_prev seat.beh (slice_index q.bs w.seat) w.env w.action in
-      ap (λ bs. from_states s q w.action w.env w.target w.seat (drop w.states_taken bs)) (ready_prev (slice_get s.seats w.seat) seat (slice_index q.bs w.seat) w.env w.action seated ready)
-      ∙ ap (from_states s q w.action w.env w.target w.seat) (drop_all w.states_taken states past)
+      let none : states_before s w ≡ [] = no_seat s.seats w.seat (slice_index (goal_of s w).bs w.seat) w.env w.action past in
+      no_state_left (omega (arith, ap length none))
 
 -- a state of the present seat is taken, and the walk goes past it
 pub record Passes (s : Sys) (old new : Walk) (node : ℕ) : Type 0 where
@@ -431,22 +408,16 @@ module _ (s : Sys) (sys : IsSys s) (w : Walk) (ok : IsWalk s w) where
   ]
 
 module _ (s : Sys) (sys : IsSys s) (w : Walk) (ok : IsWalk s w) where
-  pub passes_state : (seat : Seat) (node : ℕ) (new : Walk) → slice_get s.seats w.seat ≡ Some seat → IsFalse seat.frozen →
-      w.states_taken < length (beh_prev seat.beh (slice_index (goal_of s w).bs w.seat) w.env w.action) →
-      node ≡ number (sizes_of s) (record {
-        t = w.target;
-        e = w.env;
-        bs = slice_set (goal_of s w).bs w.seat (get_or (beh_prev seat.beh (slice_index (goal_of s w).bs w.seat) w.env w.action) w.states_taken 0);
-      }) →
-      (w.states_taken + 1 < length (beh_prev seat.beh (slice_index (goal_of s w).bs w.seat) w.env w.action) → new ≡ record w { states_taken = w.states_taken + 1 }) →
-      (length (beh_prev seat.beh (slice_index (goal_of s w).bs w.seat) w.env w.action) ≤ w.states_taken + 1 → new ≡ record w { seat = w.seat + 1; states_taken = 0 }) →
+  pub passes_state : (node : ℕ) (new : Walk) → w.seat < length s.seats → w.states_taken < length (states_before s w) →
+      node ≡ number (sizes_of s) (record { t = w.target; e = w.env; bs = slice_set (goal_of s w).bs w.seat (get_or (states_before s w) w.states_taken 0) }) →
+      (w.states_taken + 1 < length (states_before s w) → new ≡ record w { states_taken = w.states_taken + 1 }) →
+      (length (states_before s w) ≤ w.states_taken + 1 → new ≡ record w { seat = w.seat + 1; states_taken = 0 }) →
       Passes s w new node
-  passes_state seat node new seated ready left is more last =
-      elim (cases_lt (w.states_taken + 1) (length (beh_prev seat.beh (slice_index (goal_of s w).bs w.seat) w.env w.action))) [
+  passes_state node new within left is more last =
+      elim (cases_lt (w.states_taken + 1) (length (states_before s w))) [
         | inl less ↦ subst (λ v. Passes s w v node) (sym (more less)) (record { walk = takes.walk; action = refl; left = takes.left })
         | inr past ↦
-            let none : left_of_seat s v ≡ [] = no_state_left s sys v takes.walk seat seated ready past in
-            let on = next_place s sys v takes.walk none (slice_get_within s.seats w.seat seat seated) in
+            let on = next_place s sys v takes.walk (no_state_left s sys v takes.walk past) within in
             subst (λ u. Passes s w u node) (sym (last past))
             (record { walk = on.0; action = refl; left = takes.left ∙ ap (λ ds. record { node = node; action = w.action; seat = w.seat } ∷ ds) (sym on.1) })
       ]
@@ -455,7 +426,7 @@ module _ (s : Sys) (sys : IsSys s) (w : Walk) (ok : IsWalk s w) where
       v = record w { states_taken = w.states_taken + 1 }
 
       takes : Takes s w v node
-      takes = takes_state s sys w ok seat node seated ready left is
+      takes = takes_state s sys w ok node left is
 
 -- a walk that begins: all that leads to the pair is left
 pub record Begins (s : Sys) (p : ℕ) (w : Walk) : Type 0 where

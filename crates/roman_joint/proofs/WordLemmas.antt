@@ -14,10 +14,6 @@ pub on_zero : (i : ℕ) → is_on zero i ≡ false
 unfolding is_on
 on_zero i = ap (λ n. eqb n 1) (bit_at-zero i)
 
-pub on_ones : (i : ℕ) → i < 64 → is_on (2 ^ 64 - 1) i ≡ true
-unfolding is_on
-on_ones i h = ap (λ n. eqb n 1) (bit_at_ones 64 i h)
-
 -- the first lanes
 pub on_first : (k i : ℕ) → is_on (2 ^ k - 1) i ≡ ltb i k
 unfolding is_on

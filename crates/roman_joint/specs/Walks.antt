@@ -29,11 +29,13 @@ pub record IsWalk (s : Sys) (walk : Walk) : Type 0 where
   pub targets_taken : walk.targets_taken ≤ 64
   pub envs_taken : walk.envs_taken ≤ 64
 
+-- the states from which the present service goes to the pair's
+abbrev pub states_before : Sys → Walk → List ℕ
+states_before s walk = seat_prev (slice_get s.seats walk.seat) (slice_index (goal_of s walk).bs walk.seat) walk.env walk.action
+
 -- what is left of the present service at these states of the environment and the target
 abbrev pub left_of_seat : Sys → Walk → List (Delegation ℕ)
-left_of_seat s walk =
-    from_states s (goal_of s walk) walk.action walk.env walk.target walk.seat
-    (drop walk.states_taken (seat_prev (slice_get s.seats walk.seat) (slice_index (goal_of s walk).bs walk.seat) walk.env walk.action))
+left_of_seat s walk = from_states s (goal_of s walk) walk.action walk.env walk.target walk.seat (drop walk.states_taken (states_before s walk))
 
 -- of the other services at these states
 abbrev pub left_of_target : Sys → Walk → List (Delegation ℕ)

@@ -2,6 +2,7 @@
 ghost use Rattle.std.specs.Prelude.{◌≡◌, ℕ, ◌+◌, ◌*◌, ◌^◌, ◌<◌, Bool, not, map, All, IfSome};
 ghost use Rattle.std.specs.List.{find, flat_map};
 ghost use Rattle.roman_model.specs.Lists.{IsIn};
+ghost use Rattle.roman_joint.specs.Outcomes.{outcome_number};
 
 /// The pairs to which an action may lead that is delegated to a service: the one with the
 /// environment's state e and the service's state b has the number
@@ -18,6 +19,16 @@ pub struct Outcomes<'a> {
     pub states: &'a [u8],
     /// What one state of the service adds.
     pub stride: u32,
+}
+
+impl Outcomes<'_> {
+    /// The number of the pair with these states of the environment and the service.
+    pub(crate) fn number(&self, env: u8, state: u8) -> u32
+        requires { outcome_number self.now env state < 2 ^ 32 }
+        ensures { result ≡ outcome_number self.now env state }
+    {
+        self.base + u32::from(env) * self.env_stride + u32::from(state) * self.stride
+    }
 }
 
 /// The first of the states, by a service's state, whose pair isn't alive. The pair with state b has

@@ -1,7 +1,8 @@
 //! The behaviours of services, one after the other.
-ghost use Rattle.std.specs.Prelude.{◌≡◌, ◌≤◌, ◌<◌, ◌↔◌, All, length, map, take, IsSome, IfSome};
+ghost use Rattle.std.specs.Prelude.{◌≡◌, ◌+◌, ◌/◌, ◌%◌, ◌≤◌, ◌<◌, ◌↔◌, ◌||◌, not, All, length, map, take, drop, slice_index, IsSome, IfSome};
 ghost use Rattle.std.specs.List.{AllByRecursion};
-ghost use Rattle.roman_model.specs.System.{IsSys, IsBeh, all_final};
+ghost use Rattle.roman_model.specs.Lists.{product_of};
+ghost use Rattle.roman_model.specs.System.{IsSys, IsBeh, is_final, all_final};
 ghost use Rattle.roman_model.specs.Numbers.{sizes_of, count, pair_at};
 ghost use Rattle.roman_model.specs.declared.limits.TheConstants.{MAX_SERVICES};
 ghost use Rattle.roman_parts.specs.Named.{NamedEnv};
@@ -67,12 +68,39 @@ pub(crate) fn are_final(catalogue: &[Behaviour], seats: &[Seat], shape: &Shape, 
     shape.known();
     let mut rest = p % shape.env_stride();
     for (k, seat) in seats.iter().enumerate() {
-        let stride = shape.stride(k as u8);
-        let state = (rest / stride) as u8;
-        rest %= stride;
-        if seat.rests && !catalogue[seat.behaviour as usize].is_final(state) {
+        let (state, behind) = split(shape, k as u8, rest);
+        if !may_rest(catalogue, seat, state) {
             return false;
         }
+        rest = behind;
     }
     true
+}
+
+/// The state of component k in a number of states from this component's on, and the number of those
+/// behind it.
+fn split(shape: &Shape, k: u8, rest: u32) -> (u8, u32)
+    requires component { k < length shape.now.seats }
+    requires rest { rest < product_of (drop k shape.now.seats) }
+    ensures state { result.0 ≡ rest / product_of (drop (k + 1) shape.now.seats) }
+    ensures within { result.0 < slice_index shape.now.seats k }
+    ensures behind { result.1 ≡ rest % product_of (drop (k + 1) shape.now.seats) }
+    ensures below { result.1 < product_of (drop (k + 1) shape.now.seats) }
+{
+    shape.known();
+    let stride = shape.stride(k);
+    ((rest / stride) as u8, rest % stride)
+}
+
+/// Whether a service may rest in a state: it is final there, or needn't be.
+fn may_rest(catalogue: &[Behaviour], seat: &Seat, state: u8) -> bool
+    requires behaviour { seat.now.behaviour < length catalogue.now }
+    requires state { state < (beh_at catalogue.now seat.now.behaviour).states }
+    ensures { result ≡ (not seat.now.rests || is_final (beh_at catalogue.now seat.now.behaviour) state) }
+{
+    if !seat.rests {
+        return true;
+    }
+    let behaviour = &catalogue[seat.behaviour as usize];
+    behaviour.is_final(state)
 }

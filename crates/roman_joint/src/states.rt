@@ -55,7 +55,9 @@ pub(crate) fn prev_states<'a>(joint: &'a Joint, k: u8, b: u8, e: u8, a: u8) -> &
     requires state { b < slice_index (sizes_of (system_of joint.now)).seats k }
     requires env { e < (system_of joint.now).env.states }
     requires action { a < (system_of joint.now).env.actions }
-    ensures { result.now ≡ seat_prev (slice_get (system_of joint.now).seats k) b e a }
+    ensures prev { result.now ≡ seat_prev (slice_get (system_of joint.now).seats k) b e a }
+    ensures below { All (λ c. c < slice_index (sizes_of (system_of joint.now)).seats k) result.now }
+    ensures few { length result.now ≤ 64 }
 {
     joint.known();
     let seat = joint.seat(k);

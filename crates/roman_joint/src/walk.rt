@@ -1,5 +1,5 @@
 //! Walks backwards from a pair.
-ghost use Rattle.std.specs.Prelude.{◌≡◌, ◌⊎◌, ℕ, ◌+◌, ◌<◌, ◌≤◌, List, length, drop};
+ghost use Rattle.std.specs.Prelude.{◌≡◌, ◌⊎◌, ℕ, ◌+◌, ◌-◌, ◌*◌, ◌^◌, ◌<◌, ◌≤◌, List, length, drop};
 ghost use Rattle.std.specs.Int.{bit_at};
 
 use roman_model::{MAX_SERVICES, MAX_STATES};
@@ -50,6 +50,14 @@ impl Walk {
             self.states_taken = 0;
         }
     }
+}
+
+/// The number of a pair, moved from a state to another of which one more adds `stride`.
+pub(crate) fn moved(row: u32, from: u8, to: u8, stride: u32) -> u32
+    requires { (from * stride ≤ row) × (row - from * stride + to * stride < 2 ^ 32) }
+    ensures { result ≡ row - from * stride + to * stride }
+{
+    row - u32::from(from) * stride + u32::from(to) * stride
 }
 
 /// How many of `count` states are taken with one more. With the last one it is the greatest number of

@@ -1,11 +1,12 @@
 //! Changes of the services.
-ghost use Rattle.std.specs.Prelude.{◌≡◌, ◌<◌, ◌++◌, ◌∷◌, [], ◌↔◌, length, map, Err, OnOk, OnErr, if◌then◌else◌};
+ghost use Rattle.std.specs.Prelude.{◌≡◌, ◌<◌, ◌≤◌, ◌++◌, ◌∷◌, [], ◌↔◌, length, map, Err, OnOk, OnErr, IsSome, IfSome, if◌then◌else◌};
 ghost use Rattle.std.specs.List.{remove};
 ghost use Rattle.roman_model.specs.Lists.{IsIn};
 ghost use Rattle.roman_model.specs.Change.{Freeze, Thaw, Join, Die, after};
 ghost use Rattle.roman_model.specs.System as model;
+ghost use Rattle.roman_model.specs.Numbers.{sizes_of};
 ghost use Rattle.roman_model.specs.declared.limits.TheConstants.{MAX_SERVICES};
-ghost use Rattle.roman_joint.specs.NamedSys.{system_of, seat_of, cells};
+ghost use Rattle.roman_joint.specs.NamedSys.{system_of, seat_of, cells, IsNamedSys};
 ghost use Rattle.roman_joint.specs.Changes.{with_frozen};
 
 use super::Joint;
@@ -13,6 +14,7 @@ use crate::error::SeatError;
 use crate::layout::rows_of;
 use crate::seat::Seat;
 use roman_model::MAX_SERVICES;
+use roman_radix::Shape;
 
 impl Joint {
     /// Freezes the service at place k, or makes it ready.
@@ -55,9 +57,7 @@ impl Joint {
         if self.seats.len() == MAX_SERVICES as usize {
             return Err(SeatError::Full);
         }
-        let size = self.catalogue[seat.behaviour as usize].states().len() as u8;
-        let cap = self.limit / self.environment.actions().len();
-        let Some(shape) = self.shape.grow(size, cap) else {
+        let Some(shape) = self.shape_with(&seat) else {
             return Err(SeatError::Limit);
         };
         self.rows = rows_of(&shape);
@@ -66,5 +66,24 @@ impl Joint {
         self.moves
             .fill(&self.catalogue, &self.seats, &self.shape, &self.rows);
         Ok(())
+    }
+
+    // The numbering with one more service, whose name is new; `None` exactly where the system with it
+    // has more cells than the limit.
+    fn shape_with(&self, seat: &Seat) -> Option<Shape>
+        requires room { length self.now.seats < MAX_SERVICES }
+        requires behaviour { seat.now.behaviour < length self.now.catalogue }
+        requires name { IsIn seat.now.name (map (λ other. other.name) self.now.seats) → ⊥ }
+        ensures fits { IsSome result
+            ↔ (cells (after (Join (seat_of self.now.catalogue seat.now)) (system_of self.now)) ≤ self.now.limit) }
+        ensures shape { IfSome result (λ shape. shape
+            ≡ sizes_of (system_of (record self.now { seats = self.now.seats ++ seat.now ∷ [] }))) }
+        ensures known { IsSome result → IsNamedSys (record self.now { seats = self.now.seats ++ seat.now ∷ [] }) }
+    {
+        self.known();
+        let behaviour = &self.catalogue()[seat.behaviour as usize];
+        let size = behaviour.states().len() as u8;
+        let cap = self.limit() / self.environment().actions().len();
+        self.shape().grow(size, cap)
     }
 }

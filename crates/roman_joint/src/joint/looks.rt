@@ -1,8 +1,10 @@
 //! What the system does at a pair.
-ghost use Rattle.std.specs.Prelude.{◌≡◌, ℕ, ◌+◌, ◌<◌, ◌≤◌, Bool, not, length, IsTrue, IsFalse};
+ghost use Rattle.std.specs.Prelude.{◌≡◌, ℕ, ◌+◌, ◌*◌, ◌<◌, ◌≤◌, ◌∷◌, [], Bool, not, length, slice_index, IsTrue, IsFalse};
 ghost use Rattle.roman_model.specs.Lists.{IsIn, is_empty};
-ghost use Rattle.roman_model.specs.Numbers.{sizes_of, count, pair_at, numbered};
+ghost use Rattle.roman_model.specs.System.{beh_next};
+ghost use Rattle.roman_model.specs.Numbers.{sizes_of, count, number, pair_at, numbered};
 ghost use Rattle.roman_model.specs.declared.limits.TheConstants.{MAX_CELLS};
+ghost use Rattle.roman_radix.specs.Radix.{stride_of, env_stride_of, moved};
 ghost use Rattle.roman_rules.specs.Bits.{HasBits};
 ghost use Rattle.roman_joint.specs.NamedSys.{system_of};
 ghost use Rattle.roman_joint.specs.Scenes.{IsScene};
@@ -14,6 +16,7 @@ use crate::outcomes::{Outcomes, outcome_gone};
 use crate::scene::Scene;
 use crate::seats::are_final;
 use roman_io::Steps;
+use roman_radix::Shape;
 use roman_rules::Finding;
 use std::sync::ledger::Ledger;
 
@@ -95,7 +98,7 @@ impl Joint {
             Some((env, state)) => Finding::Leaves {
                 env,
                 state,
-                pair: base + u32::from(env) * env_stride + u32::from(state) * stride,
+                pair: outcomes.number(env, state),
             },
         }
     }
@@ -113,20 +116,45 @@ impl Joint {
         ensures some { IsFalse (is_empty result.envs.now) }
         ensures few { count (sizes_of (system_of self.now)) ≤ MAX_CELLS }
     {
-        let t = self.shape.target_of(p);
-        let e = self.shape.env_of(p);
-        let b = self.shape.part_of(p, k);
-        let to = self.target.step(t, e, a).unwrap();
-        let behaviour = &self.catalogue[self.seats[k as usize].behaviour as usize];
-        let env_stride = self.shape.env_stride();
-        let stride = self.shape.stride(k);
-        let row = u32::from(to) * self.shape.target_stride() + p % env_stride;
+        self.known();
+        let shape = self.shape();
+        let e = shape.env_of(p);
+        let b = shape.part_of(p, k);
+        let to = self.target_after(p, e, a);
         Outcomes {
-            base: row - u32::from(b) * stride,
-            envs: self.environment.next(e, a),
-            env_stride,
-            states: behaviour.out(b, e, a),
-            stride,
+            base: first_outcome(shape, p, to, k, b),
+            envs: self.environment().next(e, a),
+            env_stride: shape.env_stride(),
+            states: self.behaviour(k).out(b, e, a),
+            stride: shape.stride(k),
         }
     }
+
+    // The target's state after an action that is allowed at a pair, where the environment is in e.
+    fn target_after(&self, p: u32, e: u8, a: u8) -> u8
+        requires pair { p < count (sizes_of (system_of self.now)) }
+        requires env { e ≡ (pair_at (sizes_of (system_of self.now)) p).e }
+        requires allowed { IsTrue ((numbered (system_of self.now)).allows p a) }
+        ensures next { beh_next (system_of self.now).target (pair_at (sizes_of (system_of self.now)) p).t e a ≡ result ∷ [] }
+        ensures below { result < (system_of self.now).target.states }
+        ensures action { a < (system_of self.now).env.actions }
+    {
+        let t = self.shape.target_of(p);
+        self.target.step(t, e, a).unwrap()
+    }
+}
+
+/// The number of pair p with the target in state `to`, and the environment and component k, which is
+/// in state b, in their first states.
+fn first_outcome(shape: &Shape, p: u32, to: u8, k: u8, b: u8) -> u32
+    requires pair { p < count shape.now }
+    requires target { to < shape.now.target }
+    requires component { k < length shape.now.seats }
+    requires state { b ≡ slice_index (pair_at shape.now p).bs k }
+    ensures { (e b : ℕ) → result + e * env_stride_of shape.now + b * stride_of shape.now k
+        ≡ number shape.now (moved (pair_at shape.now p) to e k b) }
+{
+    shape.known();
+    let row = u32::from(to) * shape.target_stride() + p % shape.env_stride();
+    row - u32::from(b) * shape.stride(k)
 }

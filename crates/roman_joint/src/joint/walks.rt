@@ -1,13 +1,15 @@
 //! Walks backwards from a pair.
-ghost use Rattle.std.specs.Prelude.{◌≡◌, ◌+◌, ◌<◌, ◌∷◌, [], MatchBool, MatchOption};
+ghost use Rattle.std.specs.Prelude.{◌≡◌, ◌+◌, ◌<◌, ◌≤◌, ◌∷◌, [], All, length, MatchBool, MatchOption};
 ghost use Rattle.roman_model.specs.Lists.{HoldsEachOnce};
+ghost use Rattle.roman_model.specs.System.{env_prev, beh_prev};
 ghost use Rattle.roman_model.specs.Arena.{back};
 ghost use Rattle.roman_model.specs.Numbers.{sizes_of, count, numbered};
 ghost use Rattle.roman_joint.specs.NamedSys.{system_of};
-ghost use Rattle.roman_joint.specs.Walks.{IsWalk, WalkGoesOn, left, left_of_seat, left_of_target, left_of_env, left_of_action, left_of_all};
+ghost use Rattle.roman_joint.specs.Walks.{goal_of, IsWalk, WalkGoesOn, left, left_of_seat, left_of_target, left_of_env, left_of_action, left_of_all};
 
 use super::Joint;
-use crate::walk::{Walk, first_env, one_more};
+use crate::states::prev_states;
+use crate::walk::{Walk, first_env, moved, one_more};
 use roman_io::Steps;
 use roman_model::MAX_STATES;
 use std::sync::ledger::Ledger;
@@ -70,24 +72,18 @@ impl Joint {
         ensures taken { MatchOption result ((walk.new ≡ walk.old) × (left_of_seat (system_of self.now) walk.old ≡ []))
             (λ x. left (system_of self.now) walk.old ≡ record { node = x.0; action = walk.old.action; seat = x.1 } ∷ left (system_of self.now) walk.new) }
     {
-        let k = walk.seat as usize;
-        if k >= self.seats.len() {
+        self.known();
+        let place = walk.seat;
+        if place >= self.seats() {
             return None;
         }
-        let seat = &self.seats[k];
-        if seat.frozen {
-            return None;
-        }
-        let behaviour = &self.catalogue[seat.behaviour as usize];
-        let to = walk.to_states[k];
-        let states = behaviour.into(to, walk.env, walk.action);
+        let to = walk.to_states[place as usize];
+        let states = prev_states(self, place, to, walk.env, walk.action);
         let taken = walk.states_taken as usize;
         if taken >= states.len() {
             return None;
         }
-        let stride = self.shape.stride(walk.seat);
-        let pair = walk.row - u32::from(to) * stride + u32::from(states[taken]) * stride;
-        let place = walk.seat;
+        let pair = moved(walk.row, to, states[taken], self.shape().stride(place));
         walk.pass_state(states.len());
         Some((pair, place))
     }
@@ -113,7 +109,8 @@ impl Joint {
         ensures { MatchBool result (WalkGoesOn (system_of self.now) walk.old walk.new)
             ((walk.new ≡ walk.old) × (left_of_target (system_of self.now) walk.old ≡ [])) }
     {
-        if walk.seat as usize + 1 >= self.seats.len() {
+        self.known();
+        if walk.seat + 1 >= self.seats() {
             return false;
         }
         walk.seat += 1;
@@ -129,23 +126,33 @@ impl Joint {
         ensures { MatchBool result (WalkGoesOn (system_of self.now) walk.old walk.new)
             ((walk.new ≡ walk.old) × (left_of_env (system_of self.now) walk.old ≡ [])) }
     {
-        let target = &self.target;
+        self.known();
         if walk.targets_taken >= MAX_STATES {
             return false;
         }
-        let targets = target.into(walk.to_target, walk.env, walk.action);
+        let targets = self.targets_before(walk);
         let taken = walk.targets_taken as usize;
         if taken >= targets.len() {
             return false;
         }
         let next = targets[taken];
-        let stride = self.shape.target_stride();
-        walk.row = walk.row - u32::from(walk.target) * stride + u32::from(next) * stride;
+        walk.row = moved(walk.row, walk.target, next, self.shape().target_stride());
         walk.target = next;
         walk.targets_taken = one_more(walk.targets_taken, targets.len());
         walk.seat = 0;
         walk.states_taken = 0;
         true
+    }
+
+    // The states from which the target goes to the pair's, rising.
+    fn targets_before(&self, walk: &Walk) -> &[u8]
+        requires { IsWalk (system_of self.now) walk.now }
+        ensures prev { result.now ≡ beh_prev (system_of self.now).target (goal_of (system_of self.now) walk.now).t walk.now.env walk.now.action }
+        ensures below { All (λ t. t < (system_of self.now).target.states) result.now }
+        ensures few { length result.now ≤ 64 }
+    {
+        let target = &self.target;
+        target.into(walk.to_target, walk.env, walk.action)
     }
 
     // Goes on to the environment's next state before, where no state of the target is taken yet.
@@ -157,24 +164,33 @@ impl Joint {
         ensures { MatchBool result (WalkGoesOn (system_of self.now) walk.old walk.new)
             ((walk.new ≡ walk.old) × (left_of_action (system_of self.now) walk.old ≡ [])) }
     {
-        let environment = &self.environment;
+        self.known();
         if walk.envs_taken >= MAX_STATES {
             return false;
         }
-        let envs = environment.prev(walk.to_env, walk.action);
+        let envs = self.envs_before(walk);
         let taken = walk.envs_taken as usize;
         if taken >= envs.len() {
             return false;
         }
         let next = envs[taken];
-        let stride = self.shape.env_stride();
-        walk.row = walk.row - u32::from(walk.env) * stride + u32::from(next) * stride;
+        walk.row = moved(walk.row, walk.env, next, self.shape().env_stride());
         walk.env = next;
         walk.envs_taken = one_more(walk.envs_taken, envs.len());
         walk.targets_taken = 0;
-        walk.seat = self.seats.len() as u8;
+        walk.seat = self.seats();
         walk.states_taken = 0;
         true
+    }
+
+    // The states from which the environment goes to the pair's, rising.
+    fn envs_before(&self, walk: &Walk) -> &[u8]
+        requires { IsWalk (system_of self.now) walk.now }
+        ensures prev { result.now ≡ env_prev (system_of self.now).env (goal_of (system_of self.now) walk.now).e walk.now.action }
+        ensures below { All (λ e. e < (system_of self.now).env.states) result.now }
+        ensures few { length result.now ≤ 64 }
+    {
+        self.environment.prev(walk.to_env, walk.action)
     }
 
     // Goes on to the next action, where no state of the environment is taken yet, or all are where the
@@ -188,13 +204,14 @@ impl Joint {
         ensures { MatchBool result (WalkGoesOn (system_of self.now) walk.old walk.new)
             ((walk.new ≡ walk.old) × (left_of_all (system_of self.now) walk.old ≡ [])) }
     {
-        if u32::from(walk.action) + 1 >= self.environment.actions().len() {
+        self.known();
+        if u32::from(walk.action) + 1 >= self.environment().actions().len() {
             return false;
         }
         walk.action += 1;
         walk.envs_taken = first_env(walk.leading, walk.action);
         walk.targets_taken = MAX_STATES;
-        walk.seat = self.seats.len() as u8;
+        walk.seat = self.seats();
         walk.states_taken = 0;
         true
     }

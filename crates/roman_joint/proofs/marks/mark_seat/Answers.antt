@@ -47,11 +47,11 @@ returns-clause-marks g c =
       moved = λ u b x h i is.
           let same : u ≡ v = factor u v (lanes_in s) (width_positive s (joint_sizes n c.layout-rows.ensures.known)) (h ∙ sym (c.layout-rows.ensures.rows.before c.args.k c.requires.seat)) in
           each_in c.prev_states-states.result.now (λ (d : ℕ). x + c.times-taken.result ≡ c.args.base + d * v → IsMarked c.loop-b.marks x)
-          (λ j l e. c.loop-b.invariant.moved j x (omega (arith, c.loop-b-test.false)) e) b (subst (λ xs. IsIn b xs) (sym c.prev_states-states.ensures) i)
+          (λ j l e. c.loop-b.invariant.moved j x (omega (arith, c.loop-b-test.false)) e) b (subst (λ xs. IsIn b xs) (sym c.prev_states-states.ensures.prev) i)
           (ap (λ m. x + m) c.times-taken.ensures.value ∙ subst (λ (m : ℕ). x + own * m ≡ c.args.base + b * m) same is);
     }
 
 pub returns-clause-cost : goal.returns-clause-cost
 returns-clause-cost g c q t at =
     let s = system_of c.args.joint.now in
-    omega (arith, count_seat s q c.args.a c.args.e t c.args.k c.args.row.now at c.requires.seat, ap length c.prev_states-states.ensures, c.loop-b.invariant.cost)
+    omega (arith, count_seat s q c.args.a c.args.e t c.args.k c.args.row.now at c.requires.seat, ap length c.prev_states-states.ensures.prev, c.loop-b.invariant.cost)

@@ -1,6 +1,6 @@
 use Rattle.std.proofs.Common.{◌<◌, length, refl, sym, ap, ◌∙◌, subst, arith}
 use Rattle.roman_joint.specs.declared.seat.Seat.{Seat}
-use Rattle.roman_joint.proofs.SeatLemmas.{AllRead, few_states, one_read, all_read}
+use Rattle.roman_joint.proofs.SeatLemmas.{AllRead, one_read, all_read, states_range}
 use Rattle.roman_joint.proofs.seats.sizes_of_seats.Goals as goal
 
 pub loop-k-init : goal.loop-k-init
@@ -8,7 +8,7 @@ loop-k-init c = record { sizes = refl; long = refl; known = λ environment are. 
 
 pub overflow_cast-sizes : goal.overflow_cast-sizes
 overflow_cast-sizes c =
-    let few = few_states c.index-catalogue-seat.result c.states.ensures.known in
+    let few = (states_range c.index-catalogue-seat.result c.states.ensures.known).1 in
     omega (arith, c.len.ensures.len, ap length c.states.ensures.names, c.states.ensures.count)
 
 pub loop-k-preserved : goal.loop-k-preserved

@@ -1,11 +1,11 @@
 use Rattle.std.proofs.Common.{length, ap, ◌∙◌, arith}
 use Rattle.roman_model.specs.System.{Beh}
-use Rattle.roman_joint.proofs.SeatLemmas.{beh_read, few_states}
+use Rattle.roman_joint.proofs.SeatLemmas.{beh_read, states_range}
 use Rattle.roman_repair.proofs.joining.states_of.Goals as goal
 
 pub overflow_cast-result : goal.overflow_cast-result
 overflow_cast-result c =
-    omega (arith, few_states c.index-catalogue-seat.result c.states.ensures.known, c.len.ensures.len, ap length c.states.ensures.names, c.states.ensures.count)
+    omega (arith, (states_range c.index-catalogue-seat.result c.states.ensures.known).1, c.len.ensures.len, ap length c.states.ensures.names, c.states.ensures.count)
 
 pub returns : goal.returns
 returns c =

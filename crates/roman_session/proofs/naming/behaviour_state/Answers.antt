@@ -2,11 +2,11 @@ use Rattle.std.proofs.Common.{◌<◌, length, ap, arith}
 use Rattle.std.proofs.lemmas.Result.{IfOk-weaker}
 use Rattle.roman_model.specs.System.{Beh}
 use Rattle.roman_joint.specs.NamedSys.{beh_at}
-use Rattle.roman_joint.proofs.SeatLemmas.{beh_read, few_states}
+use Rattle.roman_joint.proofs.SeatLemmas.{beh_read, states_range}
 use Rattle.roman_session.proofs.naming.behaviour_state.Goals as goal
 
 pub place-requires : goal.place-requires
-place-requires c = omega (arith, few_states c.index-catalogue-i.result c.states.ensures.known, c.states.ensures.count, ap length c.states.ensures.names)
+place-requires c = omega (arith, (states_range c.index-catalogue-i.result c.states.ensures.known).1, c.states.ensures.count, ap length c.states.ensures.names)
 
 pub returns-clause-within : goal.returns-clause-within
 returns-clause-within c =
