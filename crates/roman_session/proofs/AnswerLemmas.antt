@@ -11,7 +11,7 @@ use Rattle.roman_text.specs.declared.replies.Reply.TheVariants as reply
 use Rattle.roman_session.specs.Situations.{Situation, IsSituation}
 use Rattle.roman_session.specs.Rulings.{asked}
 use Rattle.roman_session.specs.Steps.{Does, Asks, Sees, Step, StepOn, StepBy, offer_text}
-use Rattle.roman_session.specs.Answering.{Answered, AnsweredOn, NamesSome, SeenStaysRelated}
+use Rattle.roman_session.specs.Answering.{Answered, AnsweredOn, DoneOn, NamesSome, SeenStaysRelated}
 use Rattle.roman_session.specs.declared.events.Sight.{Sight}
 use Rattle.roman_session.specs.declared.phase.Phase.{Phase}
 use Rattle.roman_session.specs.declared.phase.Phase.TheVariants.{Offered}
@@ -28,6 +28,11 @@ asks_said old new action a ok becomes =
     subst (λ (r : Result ℕ Reply). Does Asks old r (offer_text new a) new) (sym ok) (ap (λ (s : Situation). offer_text s a) becomes ∙ offer_kept old (Offered a) a, becomes)
 
 -- ---- what a page takes
+
+-- an event was taken, and its answer was
+pub done : {T E : Type 0} (old new : Situation) (shape : LineShape) (before after : Option (List ℕ)) (held holds text : List ℕ) (result : Result T E) → Gathers before after holds (held ++ text) result → StepOn old shape text new →
+    DoneOn old shape new before after held holds result
+done old new shape before after held holds text result gathers step = record { text = text; step = step; gathers = gathers }
 
 -- bytes that were put where the page holds nothing
 pub puts_gathered : {T E : Type 0} (old new : Option (List ℕ)) (held bytes : List ℕ) (result : Result T E) → held ≡ [] → Puts old new bytes result → Gathers old new held bytes result

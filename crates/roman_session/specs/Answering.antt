@@ -1,39 +1,16 @@
 -- What a session has answered, and what was written of it.
-use Rattle.std.specs.Prelude.{◌≡◌, ◌≢◌, ℕ, List, [], ◌++◌, Option, Result, Ok, IsTrue, IsFalse, if◌then◌else◌}
-use Rattle.roman_model.specs.Explanation.{explain_text}
+use Rattle.std.specs.Prelude.{◌≡◌, ◌≢◌, ℕ, List, [], ◌++◌, Option, Result, Ok, IsTrue, if◌then◌else◌}
 use Rattle.roman_model.specs.Offers.{is_related, offers}
 use Rattle.roman_io.specs.Sink.{Puts}
 use Rattle.roman_text.specs.Pages.{Gathers}
-use Rattle.roman_text.specs.Replies.{reply_text}
 use Rattle.roman_text.specs.Shapes.{LineShape, ask, saw, shape_of}
 use Rattle.roman_text.specs.declared.errors.LineError.{LineError}
-use Rattle.roman_joint.specs.Names.{names_in}
 use Rattle.roman_session.specs.Situations.{Situation, present_system}
 use Rattle.roman_session.specs.Rulings.{asked, seen}
-use Rattle.roman_session.specs.Reports.{report_text}
-use Rattle.roman_session.specs.Steps.{Step, CanBe, offer_text, is_quit}
-use Rattle.roman_session.specs.declared.answers.Answer.{Answer}
-use Rattle.roman_session.specs.declared.answers.Answer.TheVariants.{Nothing, Line, Offers, Report, Explanation}
+use Rattle.roman_session.specs.Steps.{Step, StepOn, CanBe, is_quit}
 use Rattle.roman_session.specs.declared.events.Sight.{Sight}
-use Rattle.roman_session.specs.declared.phase.Phase.TheVariants.{Offered}
 use Rattle.roman_session.specs.declared.next.Next.{Next}
 use Rattle.roman_session.specs.declared.next.Next.TheVariants.{More, Quit}
-
--- the text of an answer
-abbrev pub answer_text : Situation → Answer → List ℕ
-answer_text s Nothing = []
-answer_text s (Line reply) = reply_text reply
-answer_text s (Offers a) = offer_text s a
-answer_text s Report = report_text s.parts s.here
-answer_text s Explanation = explain_text (present_system s) (names_in s.parts) s.list s.here
-
--- services are offered only for the action that is asked for, and only a pair that isn't related is explained
-abbrev pub CanBeSaid : Situation → Answer → Type 0
-CanBeSaid s Nothing = Unit {0}
-CanBeSaid s (Line reply) = Unit {0}
-CanBeSaid s (Offers a) = s.phase ≡ Offered a
-CanBeSaid s Report = Unit {0}
-CanBeSaid s Explanation = IsFalse (is_related (present_system s) s.here)
 
 -- the session went on by one step: its text was written, or a prefix of it where the sink failed
 pub record Answered {T E : Type 0} (old : Situation) (line : List ℕ) (new : Situation) (before after : Option (List ℕ)) (result : Result T E) : Type 0 where
@@ -46,6 +23,12 @@ pub record Answered {T E : Type 0} (old : Situation) (line : List ℕ) (new : Si
 pub record AnsweredOn {T E : Type 0} (old : Situation) (line : List ℕ) (new : Situation) (before after : Option (List ℕ)) (held holds : List ℕ) (result : Result T E) : Type 0 where
   pub text : List ℕ
   pub step : Step old line text new
+  pub gathers : Gathers before after holds (held ++ text) result
+
+-- the same of an event of this shape
+pub record DoneOn {T E : Type 0} (old : Situation) (shape : LineShape) (new : Situation) (before after : Option (List ℕ)) (held holds : List ℕ) (result : Result T E) : Type 0 where
+  pub text : List ℕ
+  pub step : StepOn old shape text new
   pub gathers : Gathers before after holds (held ++ text) result
 
 -- where a request isn't refused, at least one service is offered

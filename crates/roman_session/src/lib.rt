@@ -5,7 +5,6 @@
 //! step from a situation to another (`specs/Steps`).
 #![tactic(auto)]
 
-mod answers;
 mod error;
 mod events;
 mod hearing;

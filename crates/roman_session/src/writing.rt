@@ -1,5 +1,5 @@
 //! Names and lines, written one after the other.
-ghost use Rattle.std.specs.Prelude.{◌≡◌, ◌<◌, ◌++◌, length, codes, Some, slice_get};
+ghost use Rattle.std.specs.Prelude.{◌≡◌, ◌<◌, ◌++◌, length, Some, slice_get};
 ghost use Rattle.roman_model.specs.System as model;
 ghost use Rattle.roman_io.specs.Faults.{HasCause};
 ghost use Rattle.roman_text.specs.Pages.{Gathers};
@@ -10,7 +10,6 @@ ghost use Rattle.roman_session.specs.Serving.{is_set, seats_set, served_text};
 
 use roman_io::{Failed, Sink};
 use roman_joint::Joint;
-use roman_read::Name;
 use roman_text::{Page, ReportLine};
 
 /// Whether bit k is set.
@@ -35,22 +34,11 @@ pub(crate) fn push_served<O: Sink>(
         if !is_set(mask, k) {
             continue;
         }
-        if let Err(failed) = push_name(&joint.seat(k).name, page, out) {
+        if let Err(failed) = page.push_name(b' ', &joint.seat(k).name, out) {
             return Err(failed);
         }
     }
     Ok(())
-}
-
-/// Takes a name after a space.
-fn push_name<O: Sink>(name: &Name, page: &mut Page, out: &mut O) -> Result<(), Failed>
-    ensures gathers { Gathers (O.written out.old) (O.written out.new) page.new (page.old ++ (codes " " ++ name.now)) result }
-    ensures cause { HasCause (O.faults out.old) (O.faults out.new) result }
-{
-    if let Err(failed) = page.push(b" ", out) {
-        return Err(failed);
-    }
-    page.push(name.bytes(), out)
 }
 
 /// The report line of the service at place k, which is in that state.

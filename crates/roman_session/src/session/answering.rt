@@ -7,11 +7,9 @@ ghost use Rattle.roman_model.specs.Offers.{is_related};
 ghost use Rattle.roman_joint.specs.Names.{names_in};
 ghost use Rattle.roman_text.specs.Shapes.{ask, explain, shape_of_event};
 ghost use Rattle.roman_session.specs.Situations.{present_system, IsPhase};
-ghost use Rattle.roman_session.specs.Steps.{StepOn, Step};
-ghost use Rattle.roman_session.specs.Answering.{answer_text, CanBeSaid, Answered, AnsweredOn, NamesSome, SeenStaysRelated, next_after, next_of};
+ghost use Rattle.roman_session.specs.Answering.{Answered, AnsweredOn, DoneOn, NamesSome, SeenStaysRelated, next_after, next_of};
 
 use super::Session;
-use crate::answers::Answer;
 use crate::next::Next;
 use roman_cert::write_slice;
 use roman_io::{Failed, Sink, Steps};
@@ -75,95 +73,86 @@ impl Session {
         ensures next { IfOk result (λ next. next ≡ next_of line.now) }
         ensures cause { HasCause (O.faults out.old) (O.faults out.new) result }
     {
-        let (answer, next) = self.take_line(line, steps);
-        if let Err(failed) = self.push_answer(answer, page, out, steps) {
+        let event = match parse_line(line) {
+            Ok(event) => event,
+            Err(_) => {
+                if let Err(failed) = page.push_reply(&Reply::ErrorLine, out) {
+                    return Err(failed);
+                }
+                return Ok(Next::More);
+            }
+        };
+        if let Err(failed) = self.answer_event(event, page, out, steps) {
             return Err(failed);
         }
-        Ok(next)
+        Ok(next_after(event))
     }
 
-    // Takes the event of a line, and tells what is to be said and whether the session goes on.
-    fn take_line<L: Ledger>(&mut self, line: &[u8], steps: &mut Steps<L>) -> (Answer, Next)
-        ensures step { Step self.old line.now (answer_text self.new result.0) self.new }
-        ensures can { CanBeSaid self.new result.0 }
-        ensures next { result.1 ≡ next_of line.now }
-    {
-        match parse_line(line) {
-            Ok(event) => (self.take(event, steps), next_after(event)),
-            Err(_) => (Answer::Line(Reply::ErrorLine), Next::More),
-        }
-    }
-
-    // Takes an event, and tells what is to be said.
-    fn take<L: Ledger>(&mut self, event: Event<'_>, steps: &mut Steps<L>) -> Answer
-        ensures step { StepOn self.old (shape_of_event event.entry) (answer_text self.new result) self.new }
-        ensures can { CanBeSaid self.new result }
+    #[tactic(auto, using(crate::proofs::AnswerLemmas::done))]
+    // Answers an event, on a page.
+    fn answer_event<O: Sink, L: Ledger>(
+        &mut self,
+        event: Event<'_>,
+        page: &mut Page,
+        out: &mut O,
+        steps: &mut Steps<L>,
+    ) -> Result<(), Failed>
+        ensures step { DoneOn self.old (shape_of_event event.entry) self.new (O.written out.old) (O.written out.new) page.old page.new result }
+        ensures cause { HasCause (O.faults out.old) (O.faults out.new) result }
     {
         match event {
-            Event::Nothing => Answer::Nothing,
-            Event::Ask(action) => self.take_request(action),
-            Event::Hand(service) => Answer::Line(self.hand(service)),
-            Event::Saw { state, env } => Answer::Line(self.see(state, env)),
-            Event::Abort => Answer::Line(self.abort()),
-            Event::Jump { service, state } => Answer::Line(self.jump(service, state)),
-            Event::JumpEnv(env) => Answer::Line(self.jump_env(env)),
-            Event::Report => Answer::Report,
-            Event::Quit => Answer::Line(Reply::Bye),
-            Event::Freeze(service) => Answer::Line(self.freeze(service, steps)),
-            Event::Thaw(service) => Answer::Line(self.thaw(service, steps)),
-            Event::Die(service) => Answer::Line(self.die(service, steps)),
+            Event::Nothing => Ok(()),
+            Event::Ask(action) => self.answer_request(action, page, out),
+            Event::Hand(service) => page.push_reply(&self.hand(service), out),
+            Event::Saw { state, env } => page.push_reply(&self.see(state, env), out),
+            Event::Abort => page.push_reply(&self.abort(), out),
+            Event::Jump { service, state } => page.push_reply(&self.jump(service, state), out),
+            Event::JumpEnv(env) => page.push_reply(&self.jump_env(env), out),
+            Event::Report => self.push_report(page, out),
+            Event::Quit => page.push_reply(&Reply::Bye, out),
+            Event::Freeze(service) => page.push_reply(&self.freeze(service, steps), out),
+            Event::Thaw(service) => page.push_reply(&self.thaw(service, steps), out),
+            Event::Die(service) => page.push_reply(&self.die(service, steps), out),
             Event::Join {
                 service,
                 behaviour,
                 state,
                 loose,
-            } => Answer::Line(self.join(service, behaviour, state, loose, steps)),
-            Event::Explain => self.take_question(),
+            } => page.push_reply(&self.join(service, behaviour, state, loose, steps), out),
+            Event::Explain => self.answer_question(page, out, steps),
         }
     }
 
-    // Takes a request, and tells what is to be said.
-    fn take_request(&mut self, action: &[u8]) -> Answer
-        ensures step { StepOn self.old (ask action.now) (answer_text self.new result) self.new }
-        ensures can { CanBeSaid self.new result }
+    // Answers a request, on a page.
+    fn answer_request<O: Sink>(
+        &mut self,
+        action: &[u8],
+        page: &mut Page,
+        out: &mut O,
+    ) -> Result<(), Failed>
+        ensures step { DoneOn self.old (ask action.now) self.new (O.written out.old) (O.written out.new) page.old page.new result }
+        ensures cause { HasCause (O.faults out.old) (O.faults out.new) result }
     {
         match self.ask(action) {
-            Ok(a) => Answer::Offers(a),
-            Err(refusal) => Answer::Line(refusal),
+            Ok(a) => self.push_offered(a, page, out),
+            Err(refusal) => page.push_reply(&refusal, out),
         }
     }
 
-    // Tells what is to be said where it is asked why there is no composition.
-    fn take_question(&self) -> Answer
-        ensures step { StepOn self.now explain (answer_text self.now result) self.now }
-        ensures can { CanBeSaid self.now result }
-    {
-        if self.composes() {
-            return Answer::Line(Reply::ErrorRelated);
-        }
-        Answer::Explanation
-    }
-
-    // Takes what is to be said.
-    fn push_answer<O: Sink, L: Ledger>(
+    // Answers why there is no composition, on a page.
+    fn answer_question<O: Sink, L: Ledger>(
         &mut self,
-        answer: Answer,
         page: &mut Page,
         out: &mut O,
         steps: &mut Steps<L>,
     ) -> Result<(), Failed>
-        requires { CanBeSaid self.old answer }
-        ensures gathers { Gathers (O.written out.old) (O.written out.new) page.new (page.old ++ answer_text self.old answer) result }
-        ensures stays { self.new ≡ self.old }
+        ensures step { DoneOn self.old explain self.new (O.written out.old) (O.written out.new) page.old page.new result }
         ensures cause { HasCause (O.faults out.old) (O.faults out.new) result }
     {
-        match answer {
-            Answer::Nothing => Ok(()),
-            Answer::Line(reply) => page.push_reply(&reply, out),
-            Answer::Offers(a) => self.push_offered(a, page, out),
-            Answer::Report => self.push_report(page, out),
-            Answer::Explanation => self.explain(page, out, steps),
+        if self.composes() {
+            return page.push_reply(&Reply::ErrorRelated, out);
         }
+        self.explain(page, out, steps)
     }
 
     // Writes what the page holds, and then the explanation of the current pair, which isn't related.

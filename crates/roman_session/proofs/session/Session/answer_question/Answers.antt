@@ -1,0 +1,26 @@
+use Rattle.std.proofs.Common.{Bool, not, refl, subst}
+use Rattle.roman_model.specs.Explanation.{explain_text}
+use Rattle.roman_text.specs.Replies.{reply_text}
+use Rattle.roman_text.specs.declared.replies.Reply.TheVariants as reply
+use Rattle.roman_joint.specs.Names.{names_in}
+use Rattle.roman_session.specs.Situations.{present_system}
+use Rattle.roman_session.specs.Rulings.{demand, unexplained}
+use Rattle.roman_session.specs.Steps.{Does, Explains}
+use Rattle.roman_session.proofs.AnswerLemmas.{done}
+use Rattle.roman_session.proofs.session.Session.answer_question.Goals as goal
+
+pub returns-then-composes-clause-step : goal.returns-then-composes-clause-step
+unfolding unexplained
+returns-then-composes-clause-step g c =
+    let s = c.args.self.now in
+    let text = reply_text reply.ErrorRelated in
+    done _ _ _ _ _ _ _ text _ c.push_reply.ensures.gathers
+    (subst (λ (r : Bool). Does Explains s (demand (not r) reply.ErrorRelated) text s) c.if-composes.ensures (refl, refl))
+
+pub returns-clause-step : goal.returns-clause-step
+unfolding unexplained
+returns-clause-step g c =
+    let s = c.args.self.now in
+    let text = explain_text (present_system s) (names_in s.parts) s.list s.here in
+    done _ _ _ _ _ _ _ text _ c.explain.ensures.gathers
+    (subst (λ (r : Bool). Does Explains s (demand (not r) reply.ErrorRelated) text c.explain.new.self) c.if-composes.ensures (refl, c.explain.ensures.stays))
