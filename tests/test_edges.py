@@ -1,6 +1,7 @@
 """The program's edges: standard input and output in pieces of any size, files and folders, and the greatest
 lengths of what is read."""
 import os
+import select
 import shutil
 import subprocess
 import tempfile
@@ -55,6 +56,8 @@ class Outside(unittest.TestCase):
             for line, reply in ((b"do on\n", b"offer l1\n"), (b"use l1\n", b"using l1\n"),
                                 (b"saw on e\n", b"now on e\n"), (b"quit\n", b"bye\n")):
                 roman.stdin.write(line)
+                ready, _, _ = select.select([roman.stdout], [], [], 10)
+                self.assertTrue(ready, line)
                 self.assertEqual(roman.stdout.readline(), reply)
             self.assertEqual(roman.wait(timeout=60), program.DONE)
 
