@@ -65,7 +65,9 @@ class Outside(unittest.TestCase):
         lines = 5_000
         with self.start("run", self.file("reports.json", self.lamp), self.file("reports", b"report\n" * lines)) as roman:
             text, _ = roman.communicate(timeout=60)
-        self.assertEqual((roman.returncode, text), (program.DONE, self.report.text * lines))
+        self.assertEqual(roman.returncode, program.DONE)
+        # Not assertEqual: to show how texts of this length differ takes it many minutes.
+        self.assertTrue(text == self.report.text * lines)
 
     def test_output_that_is_closed(self):
         for session in (b"do on\n", b"report\n" * 5_000):
