@@ -1,4 +1,4 @@
-// The answers that defeat the seats: the entries on which an entry rests.
+//! The answers that defeat the seats: the entries on which an entry rests.
 ghost use Rattle.std.specs.Prelude.{◌≡◌, ◌<◌, length, take, slice_get, Some, IfSome};
 ghost use Rattle.roman_model.specs.Arena.{IsOrder};
 ghost use Rattle.roman_model.specs.Explanation.{answer as answer_of};

@@ -1,4 +1,4 @@
-// The lines of an explanation.
+//! The lines of an explanation.
 ghost use Rattle.std.specs.Prelude.{◌≡◌, ◌<◌, ◌≤◌, ◌++◌, [], ◌∷◌, length, codes, slice_index, IfSome};
 ghost use Rattle.std.specs.Option.{ForSome, option_map};
 ghost use Rattle.roman_io.specs.Faults.{HasCause};

@@ -1,4 +1,4 @@
-// The entries on which an entry rests, as marks of their pairs.
+//! The entries on which an entry rests, as marks of their pairs.
 ghost use Rattle.std.specs.Prelude.{◌≡◌, ℕ, ◌<◌, ◌&&◌, ◌||◌, length, slice_get, Some};
 ghost use Rattle.roman_model.specs.Arena.{Entry, is_among, IsOrder};
 ghost use Rattle.roman_model.specs.Explanation.{answers, rests_on};

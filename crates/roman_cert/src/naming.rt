@@ -1,4 +1,4 @@
-// The names of states, actions and services, as they stand in explanations.
+//! The names of states, actions and services, as they stand in explanations.
 ghost use Rattle.std.specs.Prelude.{◌≡◌, ◌<◌, length, slice_index};
 ghost use Rattle.roman_model.specs.Explanation.{name_at, seat_names};
 ghost use Rattle.roman_model.specs.Numbers.{sizes_of, count, pair_at};

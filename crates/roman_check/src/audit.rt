@@ -1,4 +1,4 @@
-// What was read of a certificate, and the next line judged by it.
+//! What was read of a certificate, and the next line judged by it.
 ghost use Rattle.std.specs.Prelude.{◌≡◌, ℕ, ◌+◌, ◌*◌, ◌<◌, ◌++◌, Bool, not, List, [], ◌∷◌, None, Some, length, IfOk, if◌then◌else◌};
 ghost use Rattle.std.specs.Option.{option_map};
 ghost use Rattle.roman_model.specs.System.{same_numbers};

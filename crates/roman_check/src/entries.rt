@@ -1,4 +1,4 @@
-// The lines of a certificate.
+//! The lines of a certificate.
 ghost use Rattle.std.specs.Prelude.{◌≡◌, [], ◌∷◌, Some, IfSome, take};
 ghost use Rattle.std.specs.Option.{option_map};
 ghost use Rattle.roman_model.specs.Lists.{IsIn};

@@ -1,4 +1,4 @@
-// A line that isn't read to its end yet.
+//! A line that isn't read to its end yet.
 ghost use Rattle.std.specs.Prelude.{ℕ, ◌≡◌, ◌<◌, [], ◌∷◌, ◌++◌, List, length, IsTrue, ◌↔◌, MatchOption};
 ghost use Rattle.roman_check.specs.Lines.{Holds};
 

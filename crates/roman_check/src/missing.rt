@@ -1,4 +1,4 @@
-// Which pairs are missing in a list: they aren't listed, and a reason holds there.
+//! Which pairs are missing in a list: they aren't listed, and a reason holds there.
 ghost use Rattle.std.specs.Prelude.{◌≡◌, ℕ, ◌+◌, ◌*◌, ◌<◌, ◌≤◌, Bool, false, not, ◌&&◌, List, length};
 ghost use Rattle.std.specs.List.{find, list_any};
 ghost use Rattle.roman_model.specs.Arena.{Entry, is_listed, is_justified};

@@ -1,4 +1,4 @@
-// Decimal numbers.
+//! Decimal numbers.
 ghost use Rattle.std.specs.Prelude.{◌≡◌, ◌≢◌, ℕ, ◌-◌, ◌<◌, ◌≤◌, length, take, decimal, MatchOption, IsTrue, ◌↔◌};
 ghost use Rattle.std.specs.Int.{IsInRange, IsOutOfRange};
 ghost use Rattle.std.specs.Str.Parse.{AllDigits, digits_value};

@@ -1,4 +1,4 @@
-// A certificate that is read line by line, in whatever pieces it comes.
+//! A certificate that is read line by line, in whatever pieces it comes.
 ghost use Rattle.std.specs.Prelude.{◌≡◌, ℕ, ◌+◌, ◌-◌, ◌*◌, ◌<◌, ◌≤◌, ◌++◌, List, [], ◌∷◌, length, take, drop, slice_index, position, ◌==◌, Some, IfOk, IfErr, MatchOption};
 ghost use Rattle.roman_model.specs.Lines.{lines, IsLine};
 ghost use Rattle.roman_model.specs.Arena.{Arena};

@@ -1,4 +1,4 @@
-// The pairs that no entry names yet, row by row.
+//! The pairs that no entry names yet, row by row.
 ghost use Rattle.std.specs.Prelude.{◌≡◌, ◌≢◌, ℕ, ◌+◌, ◌*◌, ◌<◌, ◌≤◌, ◌==◌, Bool, false, not, ◌||◌, length, IfOk, IsFalse};
 ghost use Rattle.roman_lanes.specs.Rows.{is_on};
 ghost use Rattle.roman_check.specs.Remain.{Remain};

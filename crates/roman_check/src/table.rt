@@ -1,4 +1,4 @@
-// Tables with a bit for each pair.
+//! Tables with a bit for each pair.
 ghost use Rattle.std.specs.Prelude.{◌<◌, ◌≤◌};
 
 /// The pairs that no entry names yet: a bit for each, and how many there are.

@@ -1,3 +1,4 @@
+//! The calls of an object in memory, counted, with those that are to fail.
 ghost use Rattle.std.specs.Prelude.{◌≡◌, ◌≤◌};
 ghost use Rattle.std.specs.Bool.{OnTrue, OnFalse};
 ghost use Rattle.roman_io.specs.Calls.{no_calls, is_failing, after_call, after_failed, after_fault};

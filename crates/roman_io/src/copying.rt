@@ -1,3 +1,4 @@
+//! How the objects in memory copy bytes from the texts that they hold.
 ghost use Rattle.std.specs.Prelude.{◌≡◌, ℕ, ◌+◌, ◌/◌, ◌⊎◌, ◌^◌, ◌<◌, ◌≤◌, ◌++◌, length, take, drop, min, option_copied, IfSome};
 ghost use Rattle.roman_io.specs.Memory.{texts_of};
 ghost use Rattle.roman_io.specs.Shelf.{Fetches, text_at};

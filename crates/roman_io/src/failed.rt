@@ -1,3 +1,4 @@
+//! The one error of the outside.
 use std::error::Error;
 use std::fmt;
 

@@ -1,3 +1,4 @@
+//! A source in memory whose calls can be made to fail.
 ghost use Rattle.std.specs.Prelude.{◌≡◌, ◌+◌, ◌<◌, ◌≤◌, not, min, length, is_ok, Some, drop, IfOk, OnOk, OnErr};
 ghost use Rattle.roman_io.specs.Calls.{no_calls, is_failing, after_call, after_failed};
 ghost use Rattle.roman_io.specs.Faults.{HasCause};

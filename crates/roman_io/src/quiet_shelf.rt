@@ -1,3 +1,4 @@
+//! A shelf in memory that never fails.
 ghost use Rattle.std.specs.Prelude.{◌≡◌, ◌≤◌, min, length, drop, Some, IfOk, IfSome, IsOk};
 ghost use Rattle.roman_io.specs.Faults.{HasCause};
 ghost use Rattle.roman_io.specs.Memory.{texts_of};

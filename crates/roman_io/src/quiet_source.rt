@@ -1,3 +1,4 @@
+//! A source in memory that never fails.
 ghost use Rattle.std.specs.Prelude.{◌≡◌, ℕ, ◌<◌, ◌≤◌, List, min, length, drop, Some, IfOk, IsOk};
 ghost use Rattle.roman_io.specs.Faults.{HasCause};
 ghost use Rattle.roman_io.specs.Source.{EndsAt, Takes};

@@ -1,3 +1,4 @@
+//! A text of a shelf, read as a source.
 ghost use Rattle.std.specs.Prelude.{◌≡◌};
 ghost use Rattle.roman_io.specs.Shelf.{rest_from};
 

@@ -1,3 +1,4 @@
+//! What the engine asks of a place that bytes are written to.
 ghost use Rattle.std.specs.Prelude.{ℕ, List, Option};
 ghost use Rattle.roman_io.specs.Faults.{HasCause};
 ghost use Rattle.roman_io.specs.Sink.{Puts};

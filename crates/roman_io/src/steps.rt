@@ -1,3 +1,4 @@
+//! The counter of steps, in which bounds on work are said.
 ghost use Rattle.std.specs.Prelude.{◌≡◌, ℕ, ◌+◌, ◌<◌};
 
 use std::marker::Model;

@@ -1,3 +1,4 @@
+//! Each object in memory once, with calls that fail, and what a caller knows through a source over a shelf.
 ghost use Rattle.std.specs.Prelude.{◌≡◌, ◌<◌};
 ghost use Rattle.roman_io.specs.Faults.{HasCause};
 

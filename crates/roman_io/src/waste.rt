@@ -1,3 +1,4 @@
+//! A sink that keeps nothing.
 ghost use Rattle.std.specs.Prelude.{None, IsOk};
 ghost use Rattle.roman_io.specs.Faults.{HasCause};
 ghost use Rattle.roman_io.specs.Sink.{Puts};

@@ -1,3 +1,4 @@
+//! The words of a command.
 ghost use Rattle.std.specs.Prelude.{◌≡◌, ℕ, ◌<◌, List, [], ◌∷◌, ◌++◌, length, map, slice_get, string_bytes, OnOk, OnErr};
 
 use std::alloc::{AllocError, Global};

@@ -1,4 +1,4 @@
-// Blocks of neighbouring words or numbers, as vectors.
+//! Blocks of neighbouring words or numbers, as vectors.
 ghost use Rattle.std.specs.Prelude.{◌≡◌, ℕ, ◌+◌, ◌<◌, ◌≤◌, length, slice_index, count_by, ◌==◌, IsTrue};
 ghost use Rattle.std.specs.Simd.Lanes.{chunk, zip2};
 ghost use Rattle.roman_lanes.specs.Words.{AreClear};

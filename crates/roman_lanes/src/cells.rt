@@ -1,4 +1,4 @@
-// Numbers that are counted.
+//! Numbers that are counted.
 ghost use Rattle.std.specs.Prelude.{◌≡◌, ◌-◌, ◌^◌, ◌≤◌, length, count_by, ◌==◌};
 
 use crate::block::{LANES, equal_in};

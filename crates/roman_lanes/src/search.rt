@@ -1,4 +1,4 @@
-// Words that are searched for one with a bit.
+//! Words that are searched for one with a bit.
 ghost use Rattle.std.specs.Prelude.{◌≡◌, ◌≢◌, ℕ, ◌<◌, ◌≤◌, length, slice_index, IfSome, IfNone};
 
 use crate::block::{WORDS, is_clear};

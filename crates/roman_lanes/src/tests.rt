@@ -1,3 +1,4 @@
+//! Each kernel beside its plain definition, at lengths around a whole number of blocks.
 use crate::{count_equal, count_max, first_set};
 use std::test::*;
 

@@ -1,3 +1,4 @@
+//! The numbers that a system is made from, and the end of the script.
 use crate::{MakeError, make, script};
 use std::test::Fail;
 

@@ -1,4 +1,4 @@
-// A flag for each number, sixty-four of them to a word.
+//! A flag for each number, sixty-four of them to a word.
 ghost use Rattle.std.specs.Prelude.{◌≡◌, ◌≢◌, ℕ, ◌+◌, ◌*◌, ◌/◌, ◌^◌, ◌<◌, ◌≤◌, true, false, nat_lt, length, slice_index, IfSome, IfNone};
 ghost use Rattle.roman_lanes.specs.Rows.{is_on};
 ghost use Rattle.roman_lanes.specs.Flags.{has_flag};

@@ -1,4 +1,4 @@
-// An entry of a removal list, as the tables hold it.
+//! An entry of a removal list, as the tables hold it.
 use roman_model::Reason;
 use std::mem::size_of;
 

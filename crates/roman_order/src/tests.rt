@@ -1,3 +1,4 @@
+//! A list that is pushed, placed, marked and reopened, and a copy that becomes equal again.
 use crate::{Order, Reason};
 use std::test::Fail;
 

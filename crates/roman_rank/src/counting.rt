@@ -1,4 +1,4 @@
-// How often each depth stands in a table.
+//! How often each depth stands in a table.
 ghost use Rattle.std.specs.Prelude.{◌-◌, ◌^◌, ◌<◌, length, slice_index, IfOk, OnOk};
 ghost use Rattle.roman_rank.specs.Ranking.{AreCounts, HasOneMore};
 

@@ -1,4 +1,4 @@
-// The levels of a removal list, given to its pairs.
+//! The levels of a removal list, given to its pairs.
 ghost use Rattle.std.specs.Prelude.{◌≡◌, ◌-◌, ◌^◌, ◌<◌, ◌≤◌, length, IfOk};
 ghost use Rattle.roman_relation.specs.Shaped.{IsShaped};
 ghost use Rattle.roman_relation.specs.Settled.{AreLevels};

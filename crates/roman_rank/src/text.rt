@@ -1,4 +1,4 @@
-// The text of depths.
+//! The text of depths.
 ghost use Rattle.std.specs.Prelude.{◌≡◌, ℕ, ◌^◌, ◌<◌, ◌++◌, length};
 ghost use Rattle.roman_io.specs.Faults.{HasCause};
 ghost use Rattle.roman_text.specs.Pages.{Gathers};

@@ -1,4 +1,4 @@
-// A service dies.
+//! A service dies.
 ghost use Rattle.std.specs.Prelude.{◌≡◌, ◌+◌, ◌<◌, ◌≤◌, length};
 ghost use Rattle.std.specs.List.{remove};
 ghost use Rattle.roman_model.specs.System.{Seat};

@@ -1,4 +1,4 @@
-// A service freezes.
+//! A service freezes.
 ghost use Rattle.std.specs.Prelude.{◌≡◌, ◌+◌, ◌≤◌, length, slice_get, IsTrue, true};
 ghost use Rattle.roman_model.specs.System.{is_ready};
 ghost use Rattle.roman_model.specs.Change.{Freeze};

@@ -1,4 +1,4 @@
-// A service joins.
+//! A service joins.
 ghost use Rattle.std.specs.Prelude.{◌≡◌, ◌<◌, ◌++◌, ◌∷◌, [], ◌↔◌, length, map, Err, IfOk, OnOk, OnErr, IsFalse};
 ghost use Rattle.roman_model.specs.Lists.{IsIn};
 ghost use Rattle.roman_model.specs.Change.{Join, after};

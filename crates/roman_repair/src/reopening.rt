@@ -1,4 +1,4 @@
-// A list that waits to be replayed.
+//! A list that waits to be replayed.
 ghost use Rattle.std.specs.Prelude.{◌≡◌, []};
 ghost use Rattle.roman_joint.specs.NamedSys.{system_of, IsNamedSys};
 ghost use Rattle.roman_joint.specs.Rows.{lanes_in};

@@ -1,4 +1,4 @@
-// The replay: entries that wait are kept where those kept before justify them.
+//! The replay: entries that wait are kept where those kept before justify them.
 ghost use Rattle.std.specs.Prelude.{◌≡◌, ℕ, ◌+◌, ◌*◌, ◌<◌, ◌≤◌, ◌++◌, ◌∷◌, [], if◌then◌else◌};
 ghost use Rattle.std.specs.Prelude.{true, false, length, flat_map, IsTrue, IsFalse, IfSome};
 ghost use Rattle.roman_lanes.specs.Rows.{is_on};

@@ -1,4 +1,4 @@
-// The end of every repair: the list is completed, and counted.
+//! The end of every repair: the list is completed, and counted.
 ghost use Rattle.std.specs.Prelude.{◌≡◌, ◌+◌, ◌≤◌, length};
 ghost use Rattle.roman_model.specs.Arena.{replay as replay_of};
 ghost use Rattle.roman_relation.specs.Settled.{Begins};

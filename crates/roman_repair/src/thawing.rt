@@ -1,4 +1,4 @@
-// A service thaws.
+//! A service thaws.
 ghost use Rattle.std.specs.Prelude.{◌≡◌, ◌<◌, length, slice_get, IsFalse, false};
 ghost use Rattle.roman_model.specs.System.{is_ready};
 ghost use Rattle.roman_model.specs.Change.{Thaw};

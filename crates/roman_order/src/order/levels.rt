@@ -1,4 +1,4 @@
-// How long the list was when each of its levels ended.
+//! How long the list was when each of its levels ended.
 ghost use Rattle.std.specs.Prelude.{◌≡◌, ◌<◌, ◌≤◌, [], ◌∷◌, ◌++◌, length};
 
 use super::Order;

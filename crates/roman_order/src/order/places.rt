@@ -1,4 +1,4 @@
-// The places of pairs in the list.
+//! The places of pairs in the list.
 ghost use Rattle.std.specs.Prelude.{◌≡◌, ℕ, ◌-◌, ◌^◌, ◌<◌, length, All, slice_index};
 ghost use Rattle.roman_order.specs.Board.{pairs_of, place_in_list};
 ghost use Rattle.roman_order.specs.Sound.{entries_of, AreStamps};

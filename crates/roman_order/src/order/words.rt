@@ -1,4 +1,4 @@
-// The pairs that aren't listed, as words, and what was kept of them.
+//! The pairs that aren't listed, as words, and what was kept of them.
 ghost use Rattle.std.specs.Prelude.{◌≡◌, ◌≢◌, ℕ, ◌<◌, not, length, slice_index};
 ghost use Rattle.roman_lanes.specs.Rows.{HasLanes, AreRows};
 ghost use Rattle.roman_order.specs.Board.{has_entry};

@@ -1,4 +1,4 @@
-// The rows that are marked, judged against the words that were kept.
+//! The rows that are marked, judged against the words that were kept.
 ghost use Rattle.std.specs.Prelude.{◌≡◌, ℕ, ◌+◌, ◌*◌, ◌/◌, ◌<◌, nat_lt, true, false};
 ghost use Rattle.std.specs.Prelude.{length};
 ghost use Rattle.roman_order.specs.Board.{is_marked};

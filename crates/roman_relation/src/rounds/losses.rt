@@ -1,4 +1,4 @@
-// The rows before what a round has listed.
+//! The rows before what a round has listed.
 ghost use Rattle.std.specs.Prelude.{◌≡◌, ℕ, ◌+◌, ◌*◌, ◌/◌, ◌<◌, ◌≤◌, true, false};
 ghost use Rattle.std.specs.Prelude.{Bool, not, ◌&&◌, length, drop, IsTrue};
 ghost use Rattle.roman_lanes.specs.Rows.{is_on};

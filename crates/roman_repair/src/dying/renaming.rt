@@ -1,4 +1,4 @@
-// The entries of a removal list after a service's death.
+//! The entries of a removal list after a service's death.
 ghost use Rattle.std.specs.Prelude.{◌≡◌, ℕ, ◌*◌, ◌<◌, [], length};
 ghost use Rattle.roman_model.specs.System.{Seat};
 ghost use Rattle.roman_model.specs.Change.{Die, CanChange};

@@ -1,4 +1,4 @@
-// What a service may leave behind when it dies.
+//! What a service may leave behind when it dies.
 ghost use Rattle.std.specs.Prelude.{◌≡◌, ◌<◌, ◌||◌, not, length, slice_index};
 ghost use Rattle.roman_model.specs.System.{Seat, is_final};
 ghost use Rattle.roman_model.specs.Change.{Die, CanChange};

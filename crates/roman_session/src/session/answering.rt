@@ -1,4 +1,4 @@
-// Answers to lines.
+//! Answers to lines.
 ghost use Rattle.std.specs.Prelude.{◌≡◌, ◌++◌, Ok, IsFalse, IfOk};
 ghost use Rattle.roman_io.specs.Faults.{HasCause};
 ghost use Rattle.roman_text.specs.Pages.{Gathers};

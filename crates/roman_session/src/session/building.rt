@@ -1,4 +1,4 @@
-// How a session begins.
+//! How a session begins.
 ghost use Rattle.std.specs.Prelude.{IfOk};
 ghost use Rattle.roman_library.specs.Library.{IsLibrary, plain};
 ghost use Rattle.roman_session.specs.Starts.{parts_of, IsStart};

@@ -1,4 +1,4 @@
-// Changes of the services.
+//! Changes of the services.
 ghost use Rattle.std.specs.Prelude.{◌≡◌, ◌<◌, length, slice_get, IsTrue, IsFalse};
 ghost use Rattle.roman_model.specs.System.{is_ready};
 ghost use Rattle.roman_text.specs.Replies.{reply_text};

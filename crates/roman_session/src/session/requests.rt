@@ -1,4 +1,4 @@
-// Requests, and what comes of them.
+//! Requests, and what comes of them.
 ghost use Rattle.std.specs.Prelude.{◌≡◌, IfSome, IfNone, MatchResult, Ok, Err};
 ghost use Rattle.roman_text.specs.Replies.{reply_text};
 ghost use Rattle.roman_text.specs.Shapes.{hand, saw, abort};

@@ -1,4 +1,4 @@
-// What events name, or the first refusal of their row.
+//! What events name, or the first refusal of their row.
 ghost use Rattle.std.specs.Prelude.{◌≡◌, ◌<◌, length, map, IfOk, IfSome, slice_get};
 ghost use Rattle.roman_joint.specs.Names.{beh_name};
 ghost use Rattle.roman_session.specs.Joins.{CanJoin};
