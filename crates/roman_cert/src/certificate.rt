@@ -18,8 +18,9 @@ use roman_relation::Relation;
 use roman_rules::Rules;
 use roman_text::{Page, Piece};
 
-/// Writes the certificate of a relation: its removal list. Where the list is complete, a checker
-/// accepts what was written. A failed call wrote a prefix of the certificate.
+/// Writes the certificate of a relation: its removal list, one entry a line. Where the list is
+/// complete, a checker accepts what was written. The error comes only where the sink's count of faults
+/// rose; a prefix of the certificate was then written.
 pub fn write_order<O: Sink>(relation: &Relation, out: &mut O) -> Result<(), Failed>
     ensures text { let s = system_of relation.now.joint in
         Puts (O.written out.old) (O.written out.new)

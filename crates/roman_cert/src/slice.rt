@@ -26,12 +26,13 @@ use roman_rules::Rules;
 use roman_text::Page;
 use std::sync::ledger::Ledger;
 
-/// Writes the explanation of the pair `p`, which isn't related: the part of the removal list on
-/// which its entry rests, each entry with the answers that defeat the services.
+/// Writes the explanation of the pair `p`, which isn't related: the part of the removal list on which
+/// its entry rests, each entry with the answers that defeat the services. The list is complete.
 ///
 /// What is printed is a removal list by itself and ends with the entry of `p`, and the opponent who
-/// plays by it wins within as many requests as it has entries. The marks may change, and nothing
-/// else of the relation. A failed call wrote a prefix of the explanation.
+/// plays by it wins within as many requests as it has entries. The marks may change, and nothing else
+/// of the relation. The error comes only where the sink's count of faults rose; a prefix of the
+/// explanation was then written.
 pub fn write_slice<O: Sink, L: Ledger>(
     relation: &mut Relation,
     p: u32,

@@ -57,13 +57,16 @@ fn read<J: Rules, S: Source, L: Ledger>(
     }
 }
 
-/// Checks a certificate against a system, where `start` is the start pair: the verdict says whether
-/// it is the certificate of a complete removal list, and how many pairs are then related.
+/// Checks a certificate against a system, where `start` is the number of the start pair: the verdict
+/// says whether it is the certificate of a complete removal list, and how many pairs are then related.
 ///
-/// The certificate is read line by line, and nothing past the first line at fault but the rest of
-/// one piece; it may come in any pieces, and without an end. At
-/// [`Memory`](CheckError::Memory) nothing was taken from the source. Where the source tells nothing
-/// of its bytes, the clauses speak of some bytes that it may have had.
+/// The certificate is read line by line in pieces of 4,096 bytes, in whatever pieces it comes, and
+/// nothing past the first line at fault but the rest of one piece. `Fault` comes only where the
+/// source's count of faults rose, and then no line that was read whole is at fault. `TooLong` comes
+/// exactly where the certificate gave byte 268,435,457 before a line at fault. `Memory` comes only
+/// where there is none; nothing was then taken from the source.
+///
+/// Where the source tells nothing of its bytes, the clauses speak of some bytes that it may have had.
 pub fn check<J: Rules, S: Source, L: Ledger>(
     alloc: Global,
     joint: &J,

@@ -10,7 +10,7 @@ use thiserror::Error;
 /// Why a check comes to no verdict.
 #[derive(Clone, Copy, Debug, PartialEq, Eq, Error)]
 pub enum CheckError {
-    /// The source failed.
+    /// The source of the certificate failed, and its count of faults rose.
     #[error("the source of the certificate failed")]
     Fault,
     /// The certificate has more than

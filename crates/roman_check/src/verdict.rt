@@ -2,14 +2,14 @@
 ghost use Rattle.std.specs.Prelude.{◌≡◌};
 ghost use Rattle.roman_check.specs.Verdicts.{why_number};
 
-/// The verdict on a certificate.
+/// The verdict on a certificate, exactly as the certificate format gives it.
 #[derive(Clone, Copy, Debug, PartialEq, Eq)]
 pub enum Verdict {
     /// The certificate was read to its end, and its list is complete.
     Greatest {
-        /// How many pairs are related.
+        /// How many pairs are related: those that aren't listed.
         related: u32,
-        /// Whether the start pair is.
+        /// Whether the start pair is related.
         start: bool,
     },
     /// A line is at fault, and none before it.
@@ -21,7 +21,7 @@ pub enum Verdict {
     },
 }
 
-/// What is wrong with a line of a certificate.
+/// What is wrong with a line of a certificate, by the number that the format gives it.
 #[derive(Clone, Copy, Debug, PartialEq, Eq)]
 pub enum Why {
     /// It isn't the line that is due there, or it is missing.

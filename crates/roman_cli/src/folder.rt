@@ -7,7 +7,7 @@ use std::io::{Read, Seek, SeekFrom};
 use std::rt::Files;
 
 /// The files by their names, which begin in the working folder where they are relative. It tells
-/// nothing of what a file holds.
+/// nothing of what a file holds. A fetch fails at the first error of the system.
 #[derive(Drop)]
 pub struct FolderShelf<'a, R: Files> {
     rt: &'a R,

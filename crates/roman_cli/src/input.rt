@@ -4,7 +4,7 @@ ghost use Rattle.std.specs.Prelude.{None};
 use roman_io::{Failed, Source};
 use std::io::{Read, Stdin};
 
-/// Standard input. It tells nothing of what comes in.
+/// Standard input. It tells nothing of what comes in. A take fails at the first error of the system.
 #[derive(Drop)]
 pub struct StdSource {
     input: Stdin,

@@ -4,7 +4,8 @@ ghost use Rattle.std.specs.Prelude.{None};
 use roman_io::{Failed, Sink};
 use std::io::{Stdout, Write};
 
-/// Standard output. It tells nothing of what was written.
+/// Standard output. It tells nothing of what was written. A put fails at the first error of the system,
+/// or where nothing is taken of a piece that isn't empty.
 #[derive(Drop)]
 pub struct StdSink {
     out: Stdout,

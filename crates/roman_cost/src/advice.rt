@@ -52,10 +52,10 @@ impl Model for Advice {
 
 impl Advice {
     /// Advice for up to `h` requests, from 1 to [`MAX_REQUESTS`], by costs that were read for the
-    /// relation's system.
+    /// relation's system, whose list is complete.
     ///
-    /// `Limit` comes exactly where the related pairs times `h` are more than [`MAX_VALUES`], before
-    /// any memory is taken.
+    /// `Limit` comes exactly where the related pairs times `h` are more than [`MAX_VALUES`], before any
+    /// memory is taken; `Memory` comes only where there is none.
     pub fn build(
         alloc: Global,
         relation: &Relation,
@@ -112,8 +112,8 @@ impl Advice {
         &self.pairs
     }
 
-    /// The least that `h` requests cost at worst at a related pair `p`, for `h` up to the number that
-    /// was built.
+    /// The least that `h` requests cost at worst at a related pair `p`, for `h` from 0 to the number
+    /// that was built: over all plans for them, whatever the target asks for and whatever comes of it.
     pub fn value(&self, h: u8, p: u32) -> u32
         requires requests { h ≤ self.now.requests }
         requires related { IsIn p self.now.pairs }
@@ -123,9 +123,10 @@ impl Advice {
         self.values[h as usize * self.pairs.len() + rank as usize]
     }
 
-    /// The least of the services that may be offered for action `a` at a related pair `p` through
-    /// which it costs least, with `h - 1` requests after it, and that cost. The relation and the
-    /// costs are those of [`build`](Advice::build).
+    /// Of the services that may be offered for the action `a` at a related pair `p` the least one
+    /// through which it costs least, with `h - 1` requests after it, and that cost. The relation and
+    /// the costs are those of [`build`](Advice::build), and `h` is from 1 to the number that was built.
+    /// No memory is taken.
     pub fn choice(&self, relation: &Relation, costs: &Costs, h: u8, p: u32, a: u8) -> (u8, u32)
         requires relation { IsRelation relation.now.joint relation.now.order }
         requires costs { AreOf relation.now.joint costs.now }

@@ -92,14 +92,15 @@ impl Costs {
         Ok(())
     }
 
-    /// Says what holds of all costs: none is greater than [`MAX_COST`].
+    /// Tells a prover what holds of all costs: none is greater than [`MAX_COST`]. It does nothing.
     pub fn known(&self)
         ensures { All (λ x. x.cost ≤ MAX_COST) self.now.listed }
     {
         let _listed = &self.listed;
     }
 
-    /// What a behaviour costs for an action: what is listed for both, else 0.
+    /// What a behaviour, by its place in the catalogue, costs for the action `a`: what is listed for
+    /// both, else 0.
     pub fn cost(&self, behaviour: u8, a: u8) -> u32
         requires behaviour { behaviour < self.now.behaviours }
         requires action { a < self.now.actions }

@@ -11,7 +11,7 @@ use thiserror::Error;
 /// Why a text gives no costs.
 #[derive(Clone, Copy, Debug, PartialEq, Eq, Error)]
 pub enum CostError {
-    /// The shelf failed.
+    /// The shelf failed, and its count of faults rose.
     #[error("the shelf failed")]
     Fault,
     /// The text breaks a rule, and none before it in the order in which it is read.

@@ -20,8 +20,12 @@ use serde_json::Value;
 use std::alloc::Global;
 
 #[tactic(auto, unfolding(crate::specs::Costs::costs_of))]
-/// The costs that the text of this name lists, by the names of the behaviours and actions of a
-/// system; or the first rule that it breaks.
+/// The costs that the text of this name lists, by the names of the behaviours and actions of a system,
+/// whose catalogue has at most 32 behaviours.
+///
+/// `Refused` comes exactly where the text breaks a rule, with the first one in the order of the format;
+/// `Fault` only where the shelf failed, and its count of faults rose; `Memory` only where there is
+/// none.
 pub fn read_costs<F: Shelf>(
     alloc: Global,
     shelf: &mut F,

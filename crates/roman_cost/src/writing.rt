@@ -22,9 +22,10 @@ use roman_read::Name;
 use roman_relation::Relation;
 use roman_text::{Page, Piece};
 
-/// Puts the text of advice from a related pair on: what the requests for which it was built cost at
-/// worst, the service to take for each of them, and all values. The relation and the costs are those
-/// of [`build`](Advice::build). A failed call wrote a prefix of the text.
+/// Puts the text of advice from the related pair `start` on: what the requests for which it was built
+/// cost at worst, the service to take for each of them, and all values. The relation and the costs are
+/// those of [`build`](Advice::build). The error comes only where the sink's count of faults rose; a
+/// prefix of the text was then written.
 pub fn put_advice<O: Sink>(
     advice: &Advice,
     relation: &Relation,

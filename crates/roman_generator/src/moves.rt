@@ -7,9 +7,10 @@ ghost use Rattle.roman_generator.specs.Moves.{CanMove, Becomes};
 
 use roman_joint::Joint;
 
-/// The pair after an action that is allowed at pair p and that service k serves, where the service
-/// is then in state `b2` and the environment in `e2`. `None` comes exactly where no step of the
-/// system leads there.
+/// The number of the pair after the action `a`, which is allowed at the pair `p`, served by the service
+/// `k`, which is ready, where the service is then in state `b2` and the environment in `e2`. The two
+/// states may be any numbers: `None` comes exactly where no step of the system leads there. No memory
+/// is taken.
 pub fn next_pair(joint: &Joint, p: u32, a: u8, k: u8, b2: u8, e2: u8) -> Option<u32>
     requires pair { p < count (sizes_of (system_of joint.now)) }
     requires allowed { IsTrue (is_allowed (system_of joint.now) (pair_at (sizes_of (system_of joint.now)) p) a) }

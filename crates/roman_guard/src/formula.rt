@@ -2,7 +2,7 @@
 ghost use Rattle.std.specs.Prelude.{◌≡◌, map};
 ghost use Rattle.roman_guard.specs.Meaning.{holds, is_among, intersection, union};
 
-/// A formula over the numbers of environment states, which stands for the states that it holds in.
+/// A formula over the numbers of environment states, which stands for the states in which it holds.
 #[derive(Debug, Drop)]
 pub enum Guard {
     /// It holds in every state.

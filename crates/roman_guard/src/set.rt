@@ -5,8 +5,8 @@ ghost use Rattle.roman_guard.specs.Meaning.{holds, means, has_state, states_of, 
 use crate::formula::{Guard, holds_at};
 use std::marker::Model;
 
-/// A set of environment states below 64. Contracts see the word whose bit `e` is 1 exactly where
-/// state `e` is in the set.
+/// A set of environment states below 64, `Copy`. Contracts see the word whose bit `e` is 1 exactly
+/// where state `e` is in the set.
 #[derive(Clone, Copy, Debug, PartialEq, Eq)]
 pub struct StateSet {
     bits: u64,
@@ -23,7 +23,7 @@ impl Model for StateSet {
 }
 
 impl StateSet {
-    /// The set of state `e` alone.
+    /// The set of state `e` alone, for `e` below 64.
     pub fn single(e: u8) -> StateSet
         requires { e < 64 }
         ensures states { states_of result ≡ e ∷ [] }
@@ -32,7 +32,7 @@ impl StateSet {
         StateSet { bits: 1 << e }
     }
 
-    /// Whether state `e` is in the set.
+    /// Whether state `e`, below 64, is in the set.
     pub fn has(&self, e: u8) -> bool
         requires { e < 64 }
         ensures has { result ≡ has_state self.now e }
@@ -53,7 +53,7 @@ impl StateSet {
         Some(common.trailing_zeros() as u8)
     }
 
-    /// The word.
+    /// The set as a word: bit `e` is 1 exactly where state `e` is in it.
     pub fn bits(&self) -> u64
         ensures bits { result ≡ self.now }
     {
@@ -61,7 +61,8 @@ impl StateSet {
     }
 }
 
-/// The states below `states` in which the guard holds. It takes no memory.
+/// The states below `states`, at most 64, in which the guard holds. A number in the guard that is no
+/// such state holds nowhere. Each state asks for one walk of the guard; no memory is taken.
 pub fn compile(guard: &Guard, states: u8) -> StateSet
     requires { states ≤ 64 }
     ensures has { (e : ℕ) → IsTrue (has_state result e) ↔ Contains (means guard.now states) e }

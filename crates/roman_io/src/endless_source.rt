@@ -7,7 +7,8 @@ use crate::failed::Failed;
 use crate::source::Source;
 use std::marker::Model;
 
-/// A source of one byte, again and again without an end. It fills every piece.
+/// A source of one byte, again and again without an end. It fills every piece, and its count of faults
+/// is always 0.
 #[derive(Drop)]
 pub struct EndlessSource {
     byte: u8,

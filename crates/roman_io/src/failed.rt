@@ -2,7 +2,7 @@
 use std::error::Error;
 use std::fmt;
 
-/// An object of the outside failed, and its count of faults rose.
+/// An object of the outside failed: a shelf, a source or a sink. Its count of faults rose in that call.
 #[derive(Clone, Copy, Debug, PartialEq, Eq)]
 pub struct Failed;
 

@@ -12,7 +12,8 @@ use crate::sink::Sink;
 use std::alloc::Global;
 use std::marker::Model;
 
-/// A sink in memory, some of whose calls fail.
+/// A sink in memory, some of whose calls fail: those that are listed, and those for whose bytes there
+/// is no memory.
 #[derive(Drop)]
 pub struct MemSink {
     written: Vec<u8>,
@@ -26,8 +27,8 @@ impl Model for MemSink {
 }
 
 impl MemSink {
-    /// An empty sink, which takes no memory. `failing` lists the puts that are to fail, the first put
-    /// being number 0.
+    /// An empty sink, which takes no memory. `failing` lists the numbers of the puts that are to fail,
+    /// the first put being number 0.
     pub fn new(alloc: Global, failing: Vec<u64>) -> MemSink
         ensures { result ≡ record { written = []; calls = no_calls failing.items } }
     {

@@ -24,7 +24,7 @@ impl Model for QuietSource {
 }
 
 impl QuietSource {
-    /// A source of these bytes.
+    /// A source of these bytes. Its count of faults is always 0.
     pub fn new(bytes: Vec<u8>) -> QuietSource
         ensures { result ≡ bytes.items }
     {

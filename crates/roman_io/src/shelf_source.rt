@@ -6,13 +6,14 @@ use crate::failed::Failed;
 use crate::shelf::Shelf;
 use crate::source::Source;
 
-/// One text of a shelf, as a source. A fault of the source is one of the shelf.
+/// One text of a shelf, as a source: each take is a fetch at the place to which the takes before have
+/// come. A fault of the source is one of the shelf, and the counts are one.
 pub struct ShelfSource<'a, F: Shelf> {
     /// The shelf that it reads.
     pub shelf: &'a mut F,
     /// The text's name.
     pub name: &'a str,
-    /// How many bytes of the text were taken.
+    /// How many bytes of the text were taken; the next take begins there.
     pub at: u64,
 }
 

@@ -6,12 +6,14 @@ ghost use Rattle.roman_io.specs.Source.{EndsAt, Takes};
 
 use crate::failed::Failed;
 
-/// A source of bytes.
+/// A source of bytes, each of which is given once. A source in memory tells contracts which bytes it
+/// has left; an adapter to the input tells nothing of them, and contracts on content are then silent.
 pub trait Source {
     /// The bytes that it has not given yet, where they are told.
     ghost rest: { Self → Option (List ℕ) };
 
-    /// How often the source has failed, at most `u64::MAX`.
+    /// How often the source has failed, at most `u64::MAX`. The count never falls, and rises exactly in
+    /// the calls that answer [`Failed`]; a full one stays full.
     ghost faults: { Self → ℕ };
 
     /// The name, in proofs, of the borrow through which it reads, or 0 where it borrows nothing.
@@ -20,9 +22,11 @@ pub trait Source {
     /// The texts of the shelf that it reads, where it reads one that tells them.
     ghost texts: { Self → Option Texts } = { λ _. None };
 
-    /// Moves bytes from the front of the rest to the front of `into`, and answers how many. Into a
-    /// place that isn't empty it moves none exactly at the end of the rest. A failed call leaves the
-    /// rest as it was. What stands in `into` past that number is left open.
+    /// Moves bytes from the beginning of the rest to the beginning of `into`, and answers how many: at
+    /// most as many as `into` has places. Into a place that isn't empty it moves none exactly at the
+    /// end of the rest. What stands in `into` past that number is left open.
+    ///
+    /// The error comes only where the count of faults rises, and leaves the rest as it was.
     fn take(&mut self, into: &mut [u8]) -> Result<usize, Failed>
         ensures bound { IfOk result (λ n. n ≤ length into.new) }
         ensures moves { Takes (rest self.old) (rest self.new) into.new result }

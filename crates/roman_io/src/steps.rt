@@ -21,7 +21,7 @@ impl<L: Ledger> Model for Steps<L> {
 }
 
 impl<L: Ledger> Steps<L> {
-    /// No steps yet, counted on a ledger of its own.
+    /// No steps yet, counted on a ledger of its own: the blank has as many parts as the ledger L.
     pub fn new(blank: Blank) -> Steps<L>
         requires name { blank.name ≡ L.name }
         requires parts { blank.parts ≡ L.parts }

@@ -6,12 +6,12 @@ ghost use Rattle.roman_io.specs.Sink.{Puts};
 use crate::failed::Failed;
 use crate::sink::Sink;
 
-/// A sink that drops whatever is put into it, and never fails.
+/// A sink that drops whatever is put into it, and tells nothing of it. Its count of faults is always 0.
 #[derive(Drop)]
 pub struct Waste {}
 
 impl Waste {
-    /// A sink.
+    /// A sink that has nothing to make.
     pub fn new() -> Waste {
         Waste {}
     }

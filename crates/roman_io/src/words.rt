@@ -28,7 +28,7 @@ impl Words {
         }
     }
 
-    /// Appends one word. Where memory is refused, the words are as before.
+    /// Appends one word. The one error is that there is no memory; the words are then as before.
     pub fn push(&mut self, word: &str) -> Result<(), AllocError>
         ensures ok { OnOk result (self.new ≡ self.old ++ word.now ∷ []) }
         ensures err { OnErr result (self.new ≡ self.old) }

@@ -45,8 +45,9 @@ fn rests_on(joint: &Joint, row: &Row, k: u8) -> u64
 }
 
 impl Joint {
-    /// The pairs of a row that don't meet clause 2: the target is final there, and some seat that must
-    /// be isn't.
+    /// The pairs of a row that don't meet clause 2 of an ND-simulation: the target is final there, and
+    /// some service that rests isn't. Bit l is for the pair at lane l, and no bit is set past the
+    /// lanes.
     pub fn unfine(&self, row: &Row) -> u64
         requires { (x : ℕ) × IsRow (system_of self.now) x row.now }
         ensures { (x : ℕ) → IsRow (system_of self.now) x row.now →

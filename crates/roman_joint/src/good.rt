@@ -118,8 +118,10 @@ fn serving(joint: &Joint, alive: u64) -> u8
 }
 
 impl Joint {
-    /// The pairs of a row at which seat `k` serves the action: it has an outcome there, and none that
-    /// is gone. The words tell the pairs that aren't gone, row by row.
+    /// The pairs of a row at which the service `k` serves the action `a`: it is ready, and has an
+    /// outcome there and none that is gone. The words tell the pairs that aren't gone, row by row. Bit
+    /// l is for the pair at lane l; no bit is set past the lanes, nor where the target doesn't allow
+    /// the action.
     pub fn good(&self, row: &Row, words: &[u64], a: u8, k: u8) -> u64
         requires row { (x : ℕ) × IsRow (system_of self.now) x row.now }
         requires action { a < (system_of self.now).env.actions }
@@ -137,9 +139,9 @@ impl Joint {
         good_on(self, words, row, &turn, alive, a, k)
     }
 
-    /// The mask of the pair at a lane of a row and the action: bit k is set exactly where seat k serves
-    /// it there, with an outcome and none that is gone. The words tell the pairs that aren't gone, row
-    /// by row.
+    /// The mask of the pair at a lane of a row and the action `a`: bit k is set exactly where the
+    /// service k is ready and has an outcome there, and none that is gone. The words tell the pairs
+    /// that aren't gone, row by row. It is empty where the target doesn't allow the action.
     pub fn mask(&self, row: &Row, words: &[u64], a: u8, lane: u32) -> u32
         requires row { (x : ℕ) × IsRow (system_of self.now) x row.now }
         requires action { a < (system_of self.now).env.actions }
@@ -165,8 +167,9 @@ impl Joint {
         mask
     }
 
-    /// How many choices of a seat there are for the action at all pairs of a row together: over the
-    /// pairs, the seats that serve it.
+    /// How many choices of a service there are for the action `a` at all pairs of a row together, at
+    /// most 2,048: over the pairs, the services that serve it. The words tell the pairs that aren't
+    /// gone, row by row.
     pub fn choices(&self, row: &Row, words: &[u64], a: u8) -> u32
         requires row { (x : ℕ) × IsRow (system_of self.now) x row.now }
         requires action { a < (system_of self.now).env.actions }
@@ -191,7 +194,9 @@ impl Joint {
         count
     }
 
-    /// Those of the pairs `wanted` of a row at which the action `a` is allowed and no seat serves it.
+    /// Those of the pairs `wanted` of a row at which the action `a` is allowed and no service serves
+    /// it. The words tell the pairs that aren't gone, row by row; no bit is set that `wanted` doesn't
+    /// have.
     pub fn unserved(&self, row: &Row, words: &[u64], a: u8, wanted: u64) -> u64
         requires row { (x : ℕ) × IsRow (system_of self.now) x row.now }
         requires action { a < (system_of self.now).env.actions }

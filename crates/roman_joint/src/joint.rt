@@ -28,11 +28,13 @@ use roman_radix::Shape;
 use std::alloc::Global;
 use std::marker::Model;
 
-/// An environment, a catalogue of behaviours, a target and the services, as one system.
+/// An environment, a catalogue of behaviours, a target and the services, as one system: the enacted
+/// system of the Roman model (De Giacomo, Patrizi and Sardina, "Automatic Behavior Composition
+/// Synthesis", Artificial Intelligence 196, 2013).
 ///
 /// The numbers of the system's pairs are those of its [shape](Joint::shape). Services are named by
-/// their places, and actions and states by their numbers. Where nothing else is said, the numbers
-/// that are passed are in range.
+/// their places, and actions and states by their numbers. Where nothing else is said, the numbers that
+/// are passed are in range, and no call takes memory.
 #[derive(Drop)]
 pub struct Joint {
     environment: Environment,
@@ -61,10 +63,12 @@ impl Model for Joint {
 }
 
 impl Joint {
-    /// The joint of these parts. The services' places are taken at once, so that later calls take no
-    /// memory. The limit is on cells: pairs times actions.
+    /// The joint of these parts: a catalogue and a target that were made over this environment, and at
+    /// most 32 services with distinct names, whose behaviours are places of the catalogue. The limit, 1
+    /// to 16,777,216, is on cells: pairs times actions. Places for 32 services are taken at once, so
+    /// that later changes take no memory.
     ///
-    /// `Limit` comes exactly where the cells exceed the limit.
+    /// `Limit` comes exactly where the cells exceed the limit, and `Memory` only where there is none.
     pub fn build(
         alloc: Global,
         environment: Environment,
@@ -104,28 +108,28 @@ impl Joint {
         })
     }
 
-    /// The environment.
+    /// The environment that all services share.
     pub fn environment(&self) -> &Environment
         ensures { result.now ≡ self.now.environment }
     {
         &self.environment
     }
 
-    /// The behaviours that services may have.
+    /// The behaviours that services may have, by their places.
     pub fn catalogue(&self) -> &[Behaviour]
         ensures { result.now ≡ self.now.catalogue }
     {
         &self.catalogue
     }
 
-    /// The target.
+    /// The target that is to be composed.
     pub fn target(&self) -> &Target
         ensures { result.now ≡ self.now.target }
     {
         &self.target
     }
 
-    /// The number of services.
+    /// The number of services, at most 32.
     pub fn seats(&self) -> u8
         ensures count { result ≡ length self.now.seats }
         ensures few { result ≤ MAX_SERVICES }
@@ -133,7 +137,7 @@ impl Joint {
         self.seats.len() as u8
     }
 
-    /// The service at place k.
+    /// The service at place k, from 0.
     pub fn seat(&self, k: u8) -> &Seat
         requires { k < length self.now.seats }
         ensures { slice_get self.now.seats k ≡ Some result.now }
@@ -141,7 +145,7 @@ impl Joint {
         &self.seats[k as usize]
     }
 
-    /// The behaviour of the service at place k.
+    /// The behaviour of the service at place k, from the catalogue.
     pub fn behaviour(&self, k: u8) -> &Behaviour
         requires { k < length self.now.seats }
         ensures { IsSeatBehaviour self.now k result.now }
@@ -151,7 +155,7 @@ impl Joint {
         &self.catalogue()[seat.behaviour as usize]
     }
 
-    /// The numbering of the system's pairs.
+    /// The numbering of the system's pairs, with the services as its components.
     pub fn shape(&self) -> &Shape
         ensures { result.now ≡ sizes_of (system_of self.now) }
     {
@@ -183,14 +187,15 @@ impl Joint {
         (span.some, part(&table.moves, span.first, span.end))
     }
 
-    /// The greatest number of cells that the system may have.
+    /// The greatest number of cells, pairs times actions, that the system may have.
     pub fn limit(&self) -> u32
         ensures { result ≡ self.now.limit }
     {
         self.limit
     }
 
-    /// Says what holds of every joint: its parts are those of a system within the limit.
+    /// Tells a prover what holds of every joint: its parts are those of a system within the limit. It
+    /// does nothing.
     pub fn known(&self)
         ensures { IsNamedSys self.now }
     {

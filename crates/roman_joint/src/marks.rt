@@ -150,9 +150,10 @@ fn mark_action<L: Ledger>(joint: &Joint, row: &Row, marks: &mut [u64], a: u8, st
 }
 
 impl Joint {
-    /// Marks each row with a pair that has one of the pairs `lost` of a row as an outcome. The marks
-    /// are flags, one for each row. Each move of a seat before the lanes counts as one step: they are
-    /// at most as many as delegations lead to any of the pairs that are lost.
+    /// Marks each row with a pair that has one of the pairs `lost` of a row as an outcome; other rows
+    /// may be marked as well. The marks are flags, 64 to a word, with one for each row, and those that
+    /// are set stay. Each move of a service before the lanes counts as one step: they are at most as
+    /// many as delegations lead to any one of the pairs that are lost.
     pub fn mark_before<L: Ledger>(
         &self,
         row: &Row,

@@ -4,20 +4,20 @@ ghost use Rattle.std.specs.List.{find, flat_map};
 ghost use Rattle.roman_model.specs.Lists.{IsIn};
 ghost use Rattle.roman_joint.specs.Outcomes.{outcome_number};
 
-/// The pairs to which an action may lead that is delegated to a service: the one with the
-/// environment's state e and the service's state b has the number
-/// `base + e * env_stride + b * stride`.
+/// The pairs to which an action may lead that is delegated to a service: for each state e of `envs` and
+/// each state b of `states` the one with the number `base + e * env_stride + b * stride`. There is none
+/// where `states` is empty.
 #[derive(Clone, Copy)]
 pub struct Outcomes<'a> {
-    /// The number of the pair with both states 0, where there is one.
+    /// The number of the pair with both states 0, where there is an outcome.
     pub base: u32,
     /// The environment's next states, rising.
     pub envs: &'a [u8],
-    /// What one state of the environment adds.
+    /// What one more state of the environment adds to a pair's number.
     pub env_stride: u32,
     /// The service's next states, rising.
     pub states: &'a [u8],
-    /// What one state of the service adds.
+    /// What one more state of the service adds to a pair's number.
     pub stride: u32,
 }
 

@@ -3,7 +3,9 @@ ghost use Rattle.std.specs.Prelude.{◌≡◌, ◌≢◌, ℕ, ◌<◌, ◌≤�
 
 use crate::block::{WORDS, is_clear};
 
-/// The place of the first word from `from` on that has a bit. `None` comes exactly where none has.
+/// The place of the first word from the place `from` on that has a bit, where `from` may be the words'
+/// end. `None` comes exactly where no word from there on has one. Blocks of 32 words without a bit are
+/// passed over at once.
 pub fn first_set(words: &[u64], from: usize) -> Option<usize>
     requires from { from ≤ length words.now }
     ensures none { IfNone result ((i : ℕ) → from ≤ i → i < length words.now → slice_index words.now i ≡ 0) }

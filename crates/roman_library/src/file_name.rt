@@ -19,7 +19,7 @@ impl Model for FileName {
 }
 
 impl FileName {
-    /// A copy of the name.
+    /// A copy of the name. The one error is that there is no memory.
     pub fn new(alloc: Global, name: &str) -> Result<FileName, AllocError>
         ensures name { IfOk result (λ made. made ≡ name.now) }
     {

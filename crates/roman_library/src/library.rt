@@ -3,18 +3,19 @@
 use roman_parts::{Behaviour, Environment, Target};
 use roman_read::Name;
 
-/// What a system document says.
+/// What a system document says: the parts of a system, the services with the states in which they
+/// begin, and the limit. A document with several targets gives the parts that combine them.
 #[derive(Drop)]
 pub struct Library {
     /// The environment, which all services share.
     pub environment: Environment,
-    /// The behaviours that services may have.
+    /// The behaviours that services may have, at most 32, in the order in which they stand.
     pub catalogue: Vec<Behaviour>,
-    /// The services, in the order in which they stand.
+    /// The services, at most 32, in the order in which they stand.
     pub services: Vec<Service>,
     /// What is to be composed from the services.
     pub target: Target,
-    /// The greatest number of cells, pairs times actions, that the system may have.
+    /// The greatest number of cells, pairs times actions, that the system may have: 1 to 16,777,216.
     pub limit: u32,
 }
 
@@ -25,7 +26,7 @@ pub struct Service {
     pub name: Name,
     /// The place of its behaviour in the catalogue.
     pub behaviour: u8,
-    /// The state in which it begins.
+    /// The number of the state in which it begins.
     pub state: u8,
     /// Whether it takes no delegations at first.
     pub frozen: bool,

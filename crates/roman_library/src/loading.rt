@@ -19,8 +19,11 @@ use serde_json::Value;
 use std::alloc::Global;
 
 #[tactic(auto, unfolding(crate::specs::Documents::library_of))]
-/// The library that the system document of this name is, with the part files that it names; or the
-/// first rule that it breaks, in the order in which documents are read.
+/// The library that the system document of this name is, with the part files that it names.
+///
+/// `Refused` comes exactly where the document breaks a rule, with the first one in the order of the
+/// format; `Fault` only where the shelf failed, and its count of faults rose; `Memory` only where there
+/// is none. The shelf's texts stay as they are.
 pub fn load<F: Shelf>(alloc: Global, shelf: &mut F, name: &str) -> Result<Library, LoadError>
     ensures meaning { IfSome (F.texts shelf.old) (λ texts. Loads plain result (library_of texts name.now)) }
     ensures known { IfOk result (λ library. IsLibrary (plain library)) }

@@ -15,17 +15,17 @@ pub enum Part {
     System,
     /// The environment.
     Environment,
-    /// The behaviour with this number.
+    /// The behaviour with this number, from 0.
     Behaviour(u32),
-    /// The service with this number.
+    /// The service with this number, from 0.
     Service(u32),
-    /// The target with this number; 0 where there is only one.
+    /// The target with this number, from 0; 0 also where there is only one.
     Target(u32),
     /// The costs of a request for advice, which stand in a document of their own.
     Costs,
 }
 
-/// The first rule that a document breaks.
+/// The first rule that a document breaks, and where. A refusal line tells it.
 #[derive(Debug, Drop)]
 pub struct Refusal {
     /// The name of the document, or of the part file, in which the rule is broken.

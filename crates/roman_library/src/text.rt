@@ -12,7 +12,7 @@ use thiserror::Error;
 /// How many bytes a fetch asks for.
 const PIECE_BYTES: usize = 4096;
 
-/// Why a text gives no value.
+/// Why a text on a shelf gives no JSON value.
 #[derive(Clone, Copy, Debug, PartialEq, Eq, Error)]
 pub enum DocError {
     /// The shelf failed.
@@ -54,8 +54,12 @@ impl From<AllocError> for DocError {
     }
 }
 
-/// The value that `serde_json` reads from the text of that name, which is fetched to its end, or to
-/// the first bytes past the greatest number that a document may have.
+/// The JSON value (RFC 8259) of the text of that name, which is fetched in pieces of 4,096 bytes, to
+/// its end or to the first bytes past the greatest number that a document may have.
+///
+/// `Fault` comes only where the shelf failed, and its count of faults rose; `TooLong` exactly where the
+/// text gave byte 1,048,577; `NotJson` exactly where it was read to its end and `serde_json` reads no
+/// value from it; `Memory` only where there is none.
 pub fn document<F: Shelf>(alloc: Global, shelf: &mut F, name: &str) -> Result<Value, DocError>
     ensures value { IsValueOf (F.texts shelf.old) name.now result }
     ensures texts { F.texts shelf.new ≡ F.texts shelf.old }

@@ -14,7 +14,8 @@ const MOST: u8 = 10;
 /// The limit on cells, which leaves room for ten workers.
 const LIMIT: u32 = 4_194_304;
 
-/// The system with `n` workers, for `n` from 1 to 10; `Range` comes exactly for any other number.
+/// The system with `n` workers, for `n` from 1 to 10. `Range` comes exactly for any other number, and
+/// `Memory` only where there is no memory.
 pub fn make(alloc: Global, n: u8) -> Result<Library, MakeError>
     ensures library { IfOk result (λ library. plain library ≡ made n) }
     ensures known { IfOk result (λ library. IsLibrary (plain library)) }

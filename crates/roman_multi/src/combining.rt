@@ -20,9 +20,12 @@ use roman_radix::Shape;
 use roman_read::NameTable;
 use std::alloc::{AllocError, Global};
 
-/// The targets as one, with the environment and the catalogue over its actions: target by target,
-/// the actions that stand in its steps, each named by the action and the target. The first rule that
-/// forbids it is the error.
+/// The 2 to 4 targets as one, with the environment and the catalogue over its actions. All of them are
+/// over `env`. The actions are, target by target, those that stand in some step of the target, each
+/// named by the action and the target; the states are those of the targets together.
+///
+/// `States`, `Actions`, `LongName` and `Repeated` come exactly where their rules are broken, the first
+/// of them in this order, and `Memory` only where there is none.
 pub fn combine(
     alloc: Global,
     env: &Environment,

@@ -3,7 +3,7 @@
 use roman_parts::{Behaviour, Environment, Target};
 use roman_read::Name;
 
-/// A target with a name.
+/// A target with the name that the document gives it.
 #[derive(Drop)]
 pub struct Named {
     /// Its name, which stands behind a dash in the names of its actions.

@@ -21,11 +21,12 @@ use std::mem;
 // How many items of a table are copied at once.
 const PIECE: usize = 256;
 
-/// The removal list of a system's pairs, each pair's place in it where that is asked for, the pairs that
-/// aren't listed as words, and marks.
+/// The removal list of a system's pairs, the pairs that aren't listed as words, marks, and each pair's
+/// place in the list where that is asked for.
 ///
-/// Pairs and rows are numbers below those that the order was last shaped for: pair p is lane `p % lanes`
-/// of row `p / lanes`.
+/// Pairs and rows are numbers below those that the order was last shaped for: pair p is lane `p %
+/// lanes` of row `p / lanes`. The numbers that are passed are in range, and within the greatest number
+/// of pairs that the order has room for nothing is refused.
 #[derive(Drop)]
 pub struct Order {
     // the greatest number of pairs
@@ -61,8 +62,10 @@ impl Model for Order {
 }
 
 impl Order {
-    /// Makes an order with room for `cap_pairs` pairs, which is shaped for no rows. The room is reserved
-    /// and not written. No other call but `copy` takes memory.
+    /// Makes an order for at most `cap_pairs` pairs, which is shaped for no rows. It reserves places
+    /// for as many entries, for as many again that wait, and for words, marks and levels; none of them
+    /// is written, so the pages of what isn't used stay untouched. No other call but
+    /// [`copy`](Order::copy) takes memory. The one error is that there is none.
     pub fn build(alloc: Global, cap_pairs: u32) -> Result<Order, AllocError>
         ensures { IfOk result (λ order. order ≡ record {
           cap_pairs = cap_pairs;
@@ -92,7 +95,8 @@ impl Order {
         })
     }
 
-    /// Makes an equal order, with tables of its own and the same room.
+    /// Makes an equal order with tables of its own and the same room, in one pass over what the tables
+    /// hold. The one error is that there is no memory.
     pub fn copy(&self, alloc: Global) -> Result<Order, AllocError>
         ensures { IfOk result (λ order. order ≡ self.now) }
     {
@@ -113,8 +117,8 @@ impl Order {
         })
     }
 
-    /// Becomes equal to an order with the same room in which nothing waits. What is written is what that
-    /// order's tables hold, not what they have room for, and no memory is taken.
+    /// Becomes equal to an order with the same room in which nothing waits, in one pass over what that
+    /// order's tables hold, whatever they have room for. No memory is taken.
     pub fn reset_to(&mut self, from: &Order)
         requires room { self.old.cap_pairs ≡ from.now.cap_pairs }
         requires idle { from.now.waiting ≡ [] }
@@ -133,8 +137,9 @@ impl Order {
         self.lanes = from.lanes;
     }
 
-    /// Empties the order, and shapes it for that many rows of so many pairs: no pair is listed, and
-    /// nothing is marked.
+    /// Empties the order, and shapes it for `rows` rows of `lanes` pairs each, 1 to 64, in one pass
+    /// over the rows. No pair is then listed, and nothing is marked. Nothing may wait, and the pairs
+    /// are at most those that there is room for.
     pub fn shape_to(&mut self, rows: u32, lanes: u32)
         requires pairs { rows * lanes ≤ self.old.cap_pairs }
         requires lanes { (0 < lanes) × (lanes ≤ 64) }
@@ -160,8 +165,10 @@ impl Order {
         self.lanes = lanes;
     }
 
-    /// Turns the entries into those that wait, in their order, and begins an empty list for that many
-    /// rows of so many pairs; nothing is marked.
+    /// Turns the entries into those that wait, in their order, and begins an empty list for `rows` rows
+    /// of `lanes` pairs each, 1 to 64. No pair is then listed, and nothing is marked. The entries
+    /// aren't moved: the one pass is over the rows. Nothing may wait before, and the pairs are at most
+    /// those that there is room for.
     pub fn reopen(&mut self, rows: u32, lanes: u32)
         requires pairs { rows * lanes ≤ self.old.cap_pairs }
         requires lanes { (0 < lanes) × (lanes ≤ 64) }
@@ -192,7 +199,8 @@ impl Order {
         self.lanes = lanes;
     }
 
-    /// Takes the first entry that waits, or `None` where none does.
+    /// Takes the first entry that waits, a pair of the shape before the order was reopened, with its
+    /// reason. `None` comes exactly where none waits.
     pub fn next_waiting(&mut self) -> Option<(u32, Reason)>
         ensures none { IfNone result ((self.old.waiting ≡ []) × (self.new ≡ self.old)) }
         ensures first { IfSome result (λ x. self.old.waiting ≡ as_entry x ∷ self.new.waiting) }
@@ -206,7 +214,7 @@ impl Order {
         Some((entry.pair, entry.reason))
     }
 
-    /// How many entries the list has.
+    /// How many entries the list has: at most as many as pairs. The entries aren't counted.
     pub fn len(&self) -> u32
         ensures value { result ≡ length self.now.list }
         ensures distinct { IsDistinct (λ x y. x == y) (nodes_of self.now.list) }
@@ -220,7 +228,7 @@ impl Order {
         self.entries.len() as u32
     }
 
-    /// How many pairs aren't listed.
+    /// How many pairs aren't listed: the pairs less the entries, with no pass over them.
     pub fn unlisted(&self) -> u32
         ensures counted { result ≡ count_by (λ p. not (has_entry self.now.list p)) (below (pairs_of self.now)) }
         ensures rest { result + length self.now.list ≡ pairs_of self.now }
@@ -228,7 +236,7 @@ impl Order {
         self.rows * self.lanes - self.len()
     }
 
-    /// The entry at place `i` of the list: the pair, and why it was removed.
+    /// The entry at place `i` of the list, from 0: the pair, and why it was removed.
     pub fn entry(&self, i: u32) -> (u32, Reason)
         requires { i < length self.now.list }
         ensures { slice_get self.now.list i ≡ Some (as_entry result) }
@@ -237,7 +245,7 @@ impl Order {
         (entry.pair, entry.reason)
     }
 
-    /// Whether the pair `p` isn't listed.
+    /// Whether the pair `p` isn't listed, by the bit of its lane in its row's word.
     pub fn alive(&self, p: u32) -> bool
         requires { p < pairs_of self.now }
         ensures { result ≡ not (has_entry self.now.list p) }

@@ -14,9 +14,12 @@ use roman_read::{Name, NameTable};
 use std::alloc::{AllocError, Global};
 use std::marker::Model;
 
-/// A behaviour over an environment: a finite set of states, a start state, final states, in which it
-/// may safely be stopped, and steps (b, G, a, b') for the environment states in the guard G. Contracts
-/// see its names, its record in normal form, and how many states and actions its environment has.
+/// A behaviour over an environment, as in the Roman model: a finite set of states, a start state, final
+/// states, in which it may safely be stopped, and steps (b, G, a, b') for the environment states in the
+/// guard G. An action may lead to several states. Contracts see its names, its record in normal form,
+/// and how many states and actions its environment has.
+///
+/// Numbers of states and actions that are passed are in range, and the look-ups take no memory.
 #[derive(Drop)]
 pub struct Behaviour {
     name: Name,
@@ -42,8 +45,10 @@ impl Model for Behaviour {
 }
 
 impl Behaviour {
-    /// The behaviour over `env` with these names, start state, final states and steps (b, G, a, b').
-    /// Final states and steps may repeat.
+    /// The behaviour over `env` with this name, 1 to 64 states of these names, a start state, final
+    /// states and steps (b, G, a, b') over their numbers, where b' follows b on action a while the
+    /// environment is in a state of G. Final states and steps may come in any order and repeat: what is
+    /// made is in normal form. The one error is that there is no memory.
     pub fn from_lists(
         alloc: Global,
         name: Name,
@@ -72,7 +77,7 @@ impl Behaviour {
         })
     }
 
-    /// An equal behaviour.
+    /// An equal behaviour. The one error is that there is no memory.
     pub fn copy(&self, alloc: Global) -> Result<Behaviour, AllocError>
         ensures same { IfOk result (λ copy. copy ≡ self.now) }
     {
@@ -99,7 +104,7 @@ impl Behaviour {
         &self.states
     }
 
-    /// The start state.
+    /// The number of the start state.
     pub fn start(&self) -> u8
         ensures start { result ≡ self.now.beh.start }
         ensures within { result < self.now.beh.states }
@@ -107,7 +112,7 @@ impl Behaviour {
         self.automaton.start()
     }
 
-    /// Whether `b` is a final state.
+    /// Whether `b` is a final state, in which the behaviour may safely be stopped.
     pub fn is_final(&self, b: u8) -> bool
         requires { b < self.now.beh.states }
         ensures { result ≡ is_final self.now.beh b }
@@ -115,7 +120,7 @@ impl Behaviour {
         self.automaton.is_final(b)
     }
 
-    /// The states to which action `a` goes from state `b` in environment state `e`, rising.
+    /// The states to which action `a` goes from state `b` in environment state `e`, rising, each once.
     pub fn out(&self, b: u8, e: u8, a: u8) -> &[u8]
         requires state { b < self.now.beh.states }
         requires env_state { e < self.now.env_states }
@@ -126,7 +131,7 @@ impl Behaviour {
         self.automaton.next(b, e, a)
     }
 
-    /// The states from which action `a` goes to state `b2` in environment state `e`, rising.
+    /// The states from which action `a` goes to state `b2` in environment state `e`, rising, each once.
     pub fn into(&self, b2: u8, e: u8, a: u8) -> &[u8]
         requires state { b2 < self.now.beh.states }
         requires env_state { e < self.now.env_states }

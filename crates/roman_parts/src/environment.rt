@@ -11,9 +11,11 @@ use roman_read::NameTable;
 use std::alloc::{AllocError, Global};
 use std::marker::Model;
 
-/// An environment: finite sets of states and actions, a start state and steps (e, a, e'). An action
-/// may lead from a state to several states, or to none. Contracts see its names, and its record in
-/// normal form.
+/// An environment of the Roman model: finite sets of states and actions, a start state and steps (e, a,
+/// e'). An action may lead from a state to several states, or to none. Contracts see its names, and its
+/// record in normal form.
+///
+/// Numbers of states and actions that are passed are in range, and the look-ups take no memory.
 #[derive(Drop)]
 pub struct Environment {
     states: NameTable,
@@ -51,7 +53,9 @@ impl Model for Environment {
 }
 
 impl Environment {
-    /// The environment with these names, start state and steps (e, a, e'). Steps may repeat.
+    /// The environment with 1 to 64 states and 1 to 32 actions of these names, a start state and steps
+    /// (e, a, e') over their numbers. Steps may come in any order and repeat: what is made is in normal
+    /// form, with each step once. The one error is that there is no memory.
     pub fn from_lists(
         alloc: Global,
         states: NameTable,
@@ -80,7 +84,7 @@ impl Environment {
         })
     }
 
-    /// An equal environment.
+    /// An equal environment. The one error is that there is no memory.
     pub fn copy(&self, alloc: Global) -> Result<Environment, AllocError>
         ensures same { IfOk result (λ copy. copy ≡ self.now) }
     {
@@ -111,7 +115,7 @@ impl Environment {
         &self.actions
     }
 
-    /// The start state.
+    /// The number of the start state.
     pub fn start(&self) -> u8
         ensures start { result ≡ self.now.env.start }
         ensures within { result < self.now.env.states }
@@ -119,7 +123,7 @@ impl Environment {
         self.start
     }
 
-    /// The states to which action `a` leads from state `e`, rising.
+    /// The states to which action `a` leads from state `e`, rising, each once.
     pub fn next(&self, e: u8, a: u8) -> &[u8]
         requires state { e < self.now.env.states }
         requires action { a < self.now.env.actions }
@@ -130,7 +134,7 @@ impl Environment {
         self.next.row(e as usize * width + a as usize)
     }
 
-    /// The states from which action `a` leads to state `e`, rising.
+    /// The states from which action `a` leads to state `e`, rising, each once.
     pub fn prev(&self, e: u8, a: u8) -> &[u8]
         requires state { e < self.now.env.states }
         requires action { a < self.now.env.actions }

@@ -6,7 +6,7 @@ use roman_read::Kind;
 use std::alloc::{AllocError, AllocFailed};
 use thiserror::Error;
 
-/// The member or the list of a document at which a rule is broken.
+/// The member or the list of a document at which a rule is broken. A refusal line names it.
 #[derive(Clone, Copy, Debug, PartialEq, Eq)]
 pub enum List {
     /// The whole value.

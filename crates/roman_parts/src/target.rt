@@ -15,9 +15,11 @@ use roman_read::NameTable;
 use std::alloc::{AllocError, Global};
 use std::marker::Model;
 
-/// A target over an environment: a behaviour that goes to at most one state from any state, by any
-/// action, in any environment state. Contracts see the names of its states, its record in normal
-/// form, and how many states and actions its environment has.
+/// A target over an environment, as in the Roman model: a behaviour that goes to at most one state from
+/// any state, by any action, in any environment state. Contracts see the names of its states, its
+/// record in normal form, and how many states and actions its environment has.
+///
+/// Numbers of states and actions that are passed are in range, and the look-ups take no memory.
 #[derive(Drop)]
 pub struct Target {
     states: NameTable,
@@ -41,8 +43,11 @@ impl Model for Target {
 }
 
 impl Target {
-    /// The target over `env` with these names, start state, final states and steps (t, G, a, t').
-    /// Final states and steps may repeat.
+    /// The target over `env` with 1 to 64 states of these names, a start state, final states and steps
+    /// (t, G, a, t') over their numbers, where t' follows t on action a while the environment is in a
+    /// state of G. Steps with one state and action but different successors share no environment state.
+    /// Final states and steps may come in any order and repeat: what is made is in normal form. The one
+    /// error is that there is no memory.
     pub fn from_lists(
         alloc: Global,
         states: NameTable,
@@ -68,7 +73,7 @@ impl Target {
         Ok(Target { states, automaton })
     }
 
-    /// An equal target.
+    /// An equal target. The one error is that there is no memory.
     pub fn copy(&self, alloc: Global) -> Result<Target, AllocError>
         ensures same { IfOk result (λ copy. copy ≡ self.now) }
     {
@@ -88,7 +93,7 @@ impl Target {
         &self.states
     }
 
-    /// The start state.
+    /// The number of the start state.
     pub fn start(&self) -> u8
         ensures start { result ≡ self.now.beh.start }
         ensures within { result < self.now.beh.states }
@@ -96,7 +101,7 @@ impl Target {
         self.automaton.start()
     }
 
-    /// Whether `t` is a final state.
+    /// Whether `t` is a final state, in which the target may rest.
     pub fn is_final(&self, t: u8) -> bool
         requires { t < self.now.beh.states }
         ensures { result ≡ is_final self.now.beh t }
@@ -104,7 +109,8 @@ impl Target {
         self.automaton.is_final(t)
     }
 
-    /// The state to which action `a` goes from state `t` in environment state `e`, if it goes to one.
+    /// The state to which action `a` goes from state `t` in environment state `e`; `None` exactly where
+    /// it goes to none.
     pub fn step(&self, t: u8, e: u8, a: u8) -> Option<u8>
         requires state { t < self.now.beh.states }
         requires env_state { e < self.now.env_states }
@@ -117,7 +123,7 @@ impl Target {
         self.automaton.next(t, e, a).first().copied()
     }
 
-    /// The states from which action `a` goes to state `t2` in environment state `e`, rising.
+    /// The states from which action `a` goes to state `t2` in environment state `e`, rising, each once.
     pub fn into(&self, t2: u8, e: u8, a: u8) -> &[u8]
         requires state { t2 < self.now.beh.states }
         requires env_state { e < self.now.env_states }
@@ -128,8 +134,8 @@ impl Target {
         self.automaton.prev(t2, e, a)
     }
 
-    /// Whether the target allows action `a` in its state `t` and the state `e` of its environment
-    /// `env`: both go somewhere by it.
+    /// Whether the target allows action `a` in its state `t` and the state `e` of `env`, over which it
+    /// was made: both the target and the environment go somewhere by it.
     pub fn allows(&self, env: &Environment, t: u8, e: u8, a: u8) -> bool
         requires env_states { env.now.env.states ≡ self.now.env_states }
         requires actions { env.now.env.actions ≡ self.now.actions }

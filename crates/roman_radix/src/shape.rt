@@ -53,7 +53,8 @@ impl Model for Shape {
 }
 
 impl Shape {
-    /// The shape of these sizes; `None` exactly where its pairs are more than `cap`.
+    /// The shape of these sizes, each at least 1, with at most 32 components; `None` exactly where its
+    /// pairs are more than `cap`. The product is formed only as long as it fits.
     pub fn new(target: u8, env: u8, sizes: &[u8], cap: u32) -> Option<Shape>
         requires target { 0 < target }
         requires env { 0 < env }
@@ -70,14 +71,15 @@ impl Shape {
         Some(lay_out(target, env, sizes.len() as u8, places))
     }
 
-    /// The number of pairs.
+    /// The number of pairs: the product of all sizes.
     pub fn pairs(&self) -> u32
         ensures { result ≡ count self.now }
     {
         self.pairs
     }
 
-    /// Says what holds of every shape: nothing has no states, and the pairs have numbers of 32 bits.
+    /// Tells a prover what holds of every shape: no size is 0, and the pairs have numbers of 32 bits.
+    /// It does nothing.
     pub fn known(&self)
         ensures { IsSizes self.now }
     {
@@ -190,7 +192,8 @@ impl Shape {
         state
     }
 
-    /// The states of the components at pair p, in their order, at the front of a table.
+    /// The states of the components at pair p, in their order, in the first places of a table; what
+    /// stands in the other places is left open.
     pub fn parts_of(&self, p: u32) -> [u8; PLACES]
         requires { p < count self.now }
         ensures { take (length self.now.seats) result ≡ (pair_at self.now p).bs }
@@ -207,7 +210,7 @@ impl Shape {
         parts
     }
 
-    /// The number of pair p with component k in state b.
+    /// The number of pair p with component k in state b instead of its own.
     pub fn with_part(&self, p: u32, k: u8, b: u8) -> u32
         requires pair { p < count self.now }
         requires component { k < length self.now.seats }
@@ -219,7 +222,8 @@ impl Shape {
         p - u32::from(self.part_of(p, k)) * stride + u32::from(b) * stride
     }
 
-    /// The number of pair p with the target in state t, the environment in e and component k in b.
+    /// The number of pair p with the target in state t, the environment in e and component k in b
+    /// instead of their own; the other components stay.
     pub fn moved(&self, p: u32, t: u8, e: u8, k: u8, b: u8) -> u32
         requires pair { p < count self.now }
         requires t { t < self.now.target }
@@ -233,8 +237,8 @@ impl Shape {
         (u32::from(t) * u32::from(self.env) + u32::from(e)) * self.env_stride + states
     }
 
-    /// The shape with one more component, which goes last; `None` exactly where its pairs are more
-    /// than `cap`.
+    /// The shape with one more component of that size, at least 1, which goes last; `None` exactly
+    /// where its pairs are more than `cap`. There are fewer than 32 components before.
     pub fn grow(&self, size: u8, cap: u32) -> Option<Shape>
         requires size { 0 < size }
         requires few { length self.now.seats < MAX_SERVICES }
@@ -249,7 +253,7 @@ impl Shape {
         Some(lay_out(self.target, self.env, self.components + 1, places))
     }
 
-    /// The shape without component k.
+    /// The shape without component k: later components move up by one place.
     pub fn shrink(&self, k: u8) -> Shape
         requires { k < length self.now.seats }
         ensures { result ≡ sizes_without k self.now }
@@ -260,7 +264,8 @@ impl Shape {
         lay_out(self.target, self.env, self.components - 1, places)
     }
 
-    /// The number that pair p has after a last component of that size is added, in state b.
+    /// The number that pair p has after a last component of that size is added, in state b. There are
+    /// fewer than 32 components before, and the grown pairs have numbers of 32 bits.
     pub fn grown(&self, p: u32, size: u8, b: u8) -> u32
         requires pair { p < count self.now }
         requires state { b < size }
@@ -272,7 +277,7 @@ impl Shape {
         p * u32::from(size) + u32::from(b)
     }
 
-    /// The number that pair p has after component k is dropped.
+    /// The number that pair p has after component k is dropped, whatever state it is in.
     pub fn without(&self, p: u32, k: u8) -> u32
         requires pair { p < count self.now }
         requires component { k < length self.now.seats }

@@ -42,9 +42,9 @@ impl Model for Ranks {
 }
 
 impl Ranks {
-    /// The depths of a relation's system. Where the removal list rises by depth, level by level, one
-    /// pass over it gives them; else the rounds are run anew, on a list that is given up at the end.
-    /// No other call takes memory.
+    /// The depths of a relation's system, whose list is complete. Where the removal list rises by
+    /// depth, level by level, one pass over it gives them; else the rounds are run anew, on a list that
+    /// is given up at the end. The one error is that there is no memory; no other call takes any.
     pub fn build<L: Ledger>(
         alloc: Global,
         relation: &Relation,
@@ -67,8 +67,8 @@ impl Ranks {
         self.depths.len() as u32
     }
 
-    /// The least number of requests within which the opponent wins from the pair `p`. `None` comes
-    /// exactly where the pair is related.
+    /// The least number of requests within which the opponent wins from the pair `p`; 0 where clause 2
+    /// of an ND-simulation fails there. `None` comes exactly where the pair is related.
     pub fn depth(&self, p: u32) -> Option<u32>
         requires { p < length self.now }
         ensures value { result ≡ depth_in self.now p }
@@ -89,7 +89,7 @@ impl Ranks {
         if levels == 0 { None } else { Some(levels - 1) }
     }
 
-    /// How many pairs have the depth `n`.
+    /// How many pairs have the depth `n`, which is below `u32::MAX`.
     pub fn level(&self, n: u32) -> u32
         requires { n < u32.MAX }
         ensures { (s : Sys) → AreDepths s self.now → result ≡ depth_count s n }

@@ -11,8 +11,9 @@ use crate::ranks::Ranks;
 use roman_io::{Failed, Sink};
 use roman_text::{Page, Piece};
 
-/// Writes how many pairs there are and how many are related, how many have each depth, and how deep
-/// the start pair `p` is. A failed call wrote a prefix of that.
+/// Writes how many pairs there are and how many are related, how many have each depth, and how deep the
+/// start pair `p` is. The error comes only where the sink's count of faults rose; a prefix of the text
+/// was then written.
 pub fn write_depths<O: Sink>(ranks: &Ranks, p: u32, out: &mut O) -> Result<(), Failed>
     requires { p < length ranks.now }
     ensures tells { (s : Sys) → AreDepths s ranks.now →

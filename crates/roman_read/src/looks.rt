@@ -6,8 +6,8 @@ ghost use Rattle.roman_read.specs.Json.{Finds, member_of, text_of, list_of, numb
 use crate::rules::Miss;
 use serde_json::Value;
 
-/// The member of an object with this name: `Form` where the value is no object, `Missing` where it
-/// has no such member.
+/// The member of an object with this name: `Form` comes exactly where the value is no object, `Missing`
+/// exactly where it is one and has no such member.
 pub fn member<'a>(v: &'a Value, name: &str) -> Result<&'a Value, Miss>
     ensures member { Finds (λ x. view x.now) result (member_of (view v.now) name.now) }
 {
@@ -17,14 +17,14 @@ pub fn member<'a>(v: &'a Value, name: &str) -> Result<&'a Value, Miss>
     v.get(name).ok_or(Miss::Missing)
 }
 
-/// The bytes of a string: `Form` where the value is none.
+/// The bytes of a string: `Form` comes exactly where the value is none.
 pub fn text(v: &Value) -> Result<&str, Miss>
     ensures text { Finds (λ x. x.now) result (text_of (view v.now)) }
 {
     v.as_str().ok_or(Miss::Form)
 }
 
-/// The items of an array: `Form` where the value is none.
+/// The items of an array: `Form` comes exactly where the value is none.
 pub fn list(v: &Value) -> Result<&[Value], Miss>
     ensures list { Finds (λ x. items_view x.now) result (list_of (view v.now)) }
 {
@@ -34,14 +34,15 @@ pub fn list(v: &Value) -> Result<&[Value], Miss>
     }
 }
 
-/// A whole number from 0 to 2^64 - 1, written in digits alone: `Form` where the value is none.
+/// A whole number from 0 to 2^64 - 1, written in digits alone: `Form` comes exactly where the value is
+/// none.
 pub fn number(v: &Value) -> Result<u64, Miss>
     ensures number { Finds (λ x. x) result (number_of (view v.now)) }
 {
     v.as_u64().ok_or(Miss::Form)
 }
 
-/// A truth value: `Form` where the value is none.
+/// A truth value: `Form` comes exactly where the value is none.
 pub fn truth(v: &Value) -> Result<bool, Miss>
     ensures truth { Finds (λ x. x) result (truth_of (view v.now)) }
 {

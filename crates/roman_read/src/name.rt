@@ -18,7 +18,7 @@ use std::marker::Model;
 const LONGEST: usize = 32;
 
 /// The name of a state, an action, a behaviour or a service: 1 to 32 bytes, each an ASCII letter, a
-/// digit, `_` or `-`. Contracts see the list of its bytes.
+/// digit, `_` or `-`. It is `Copy` and kept in place. Contracts see the list of its bytes.
 #[derive(Clone, Copy)]
 pub struct Name {
     bytes: [u8; LONGEST],
@@ -41,7 +41,8 @@ impl Model for Name {
 }
 
 impl Name {
-    /// The name with these bytes; `None` where they break the rule of names.
+    /// The name with these bytes; `None` exactly where they break the rule of names. No memory is
+    /// taken.
     pub fn new(bytes: &[u8]) -> Option<Name>
         ensures name { SomeIff result (IsTrue (is_name bytes.now)) bytes.now }
     {
@@ -54,7 +55,7 @@ impl Name {
         })
     }
 
-    /// The name's bytes.
+    /// The name's bytes, 1 to 32 of them.
     pub fn bytes(&self) -> &[u8]
         ensures bytes { result.now ≡ self.now }
         ensures rule { IsTrue (is_name self.now) }

@@ -5,7 +5,7 @@ ghost use Rattle.roman_read.specs.Kinds.{kind_number, miss_number, kind_of};
 use crate::name::Name;
 use thiserror::Error;
 
-/// A rule of a document that is broken.
+/// A rule of a document that is broken, by the name and the number that refusal lines give it.
 #[derive(Clone, Copy, Debug, PartialEq, Eq)]
 pub enum Kind {
     /// A member isn't there.
@@ -23,9 +23,9 @@ pub enum Kind {
     /// Two transitions of a target go from one state by one action to different successors, in an
     /// environment state that the guards of both have.
     Choice {
-        /// The number of the earlier transition.
+        /// The number of the earlier transition in the list, from 0.
         first: u32,
-        /// The environment state.
+        /// The first environment state that both guards have.
         state: Name,
     },
     /// The document is of no known version.

@@ -9,8 +9,8 @@ use std::alloc::{AllocError, Global};
 use std::marker::Model;
 use thiserror::Error;
 
-/// Names that are numbered from 0 in the order in which they were added, none of them twice.
-/// Contracts see the list of them.
+/// Names that are numbered from 0 in the order in which they were added, none of them twice. They are
+/// looked up by hash, with the fixed seed of `indexmap`. Contracts see the list of them.
 #[derive(Drop)]
 pub struct NameTable {
     names: IndexSet<Name>,
@@ -28,7 +28,7 @@ impl Model for NameTable {
     ghost invariant = { λ t. (length t.names.keys < 2 ^ 32) × IsTrue (list_all is_name t.names.keys) };
 }
 
-/// Why a name isn't added.
+/// Why a name isn't added. The table stays as it was.
 #[derive(Clone, Copy, Debug, PartialEq, Eq, Error)]
 pub enum AddError {
     /// The table has the name, at this place.
@@ -61,7 +61,7 @@ impl NameTable {
         }
     }
 
-    /// A table with the same names.
+    /// A table with the same names, in the same order. The one error is that there is no memory.
     pub fn copy(&self, alloc: Global) -> Result<NameTable, AllocError>
         ensures same { IfOk result (λ copy. copy ≡ self.now) }
     {
@@ -72,7 +72,7 @@ impl NameTable {
         Ok(copy)
     }
 
-    /// The number of names.
+    /// The number of names, below 2^32.
     pub fn len(&self) -> u32
         ensures len { result ≡ length self.now }
         ensures distinct { AreDistinct self.now }
@@ -89,8 +89,9 @@ impl NameTable {
     }
 
     #[tactic(auto, using(crate::proofs::PlaceLemmas::places))]
-    /// Adds a name as the last one, and gives its place. Where the table has the name already it is
-    /// refused with its place, and at every refusal the table stays as it was.
+    /// Adds a name as the last one, and gives its place. There are fewer than 2^32 - 1 names before.
+    /// `Repeated` comes exactly where the table has the name already, with its place, and `Memory` only
+    /// where there is none; at every refusal the table stays as it was.
     pub fn add(&mut self, name: Name) -> Result<u32, AddError>
         requires { length self.old < 2 ^ 32 - 1 }
         ensures add { Adds self.old self.new name result }
@@ -109,7 +110,7 @@ impl NameTable {
     }
 
     #[tactic(auto, using(crate::proofs::PlaceLemmas::places))]
-    /// The place of the name with these bytes; `None` where no name has them.
+    /// The place of the name with these bytes, which may be any; `None` exactly where no name has them.
     pub fn find(&self, bytes: &[u8]) -> Option<u32>
         ensures place { result ≡ place_of self.now bytes.now }
         ensures within { IfSome result (λ i. i < length self.now) }
@@ -120,7 +121,7 @@ impl NameTable {
         Some(place as u32)
     }
 
-    /// The name at a place.
+    /// The name at the place `i`, from 0.
     pub fn at(&self, i: u32) -> &Name
         requires { i < length self.now }
         ensures name { slice_get self.now i ≡ Some result.now }

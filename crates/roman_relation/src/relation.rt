@@ -23,8 +23,9 @@ use roman_rules::Rules;
 use std::alloc::{AllocError, Global};
 use std::sync::ledger::Ledger;
 
-/// A joint, and the removal list that tells which of its pairs the greatest ND-simulation holds: a
-/// pair is related where it isn't listed.
+/// A joint, and the removal list that tells which of its pairs the greatest ND-simulation holds: a pair
+/// is related where it isn't listed. The notion is that of De Giacomo, Patrizi and Sardina, "Automatic
+/// Behavior Composition Synthesis" (Artificial Intelligence 196, 2013).
 ///
 /// The two fields can be lent apart. What the calls say of the greatest ND-simulation they say where
 /// the list is [complete](Relation::build): it holds exactly the pairs that aren't related, and nothing
@@ -39,8 +40,8 @@ pub struct Relation {
 
 impl Relation {
     /// The greatest relation of a joint, with a complete removal list whose entries rise by depth,
-    /// level by level, and room for every system within the joint's limit. No other call but
-    /// [`scratch`](Relation::scratch) takes memory.
+    /// level by level, and room for every system within the joint's limit. The one error is that there
+    /// is no memory. No other call but [`scratch`](Relation::scratch) takes any.
     pub fn build<L: Ledger>(
         alloc: Global,
         joint: Joint,
@@ -61,7 +62,8 @@ impl Relation {
         Ok(relation)
     }
 
-    /// An equal relation with tables of its own and the same room: changes can be tried on it.
+    /// An equal relation with tables of its own and the same room, so that changes can be tried on it.
+    /// The one error is that there is no memory.
     pub fn scratch(&self, alloc: Global) -> Result<Relation, AllocError>
         ensures { IfOk result (λ scratch. scratch ≡ self.now) }
     {
@@ -85,7 +87,7 @@ impl Relation {
         self.order.reset_to(&from.order);
     }
 
-    /// Whether the pair `p` is related.
+    /// Whether the pair `p` is related: one bit is looked up.
     pub fn related(&self, p: u32) -> bool
         requires shaped { IsShaped (arena_of self.now.joint) (row_lanes self.now.joint) self.now.order }
         requires pair { p < count (sizes_of (system_of self.now.joint)) }
@@ -99,7 +101,7 @@ impl Relation {
         self.order.alive(p)
     }
 
-    /// How many pairs are related.
+    /// How many pairs are related, with no pass over them.
     pub fn count(&self) -> u32
         requires { IsShaped (arena_of self.now.joint) (row_lanes self.now.joint) self.now.order }
         ensures listed { result + length self.now.order.list
@@ -113,7 +115,8 @@ impl Relation {
     }
 
     /// The mask of the pair `p` and the action `a`, whether the pair is related or not: bit k is set
-    /// exactly where service k has an outcome there, and none that is listed.
+    /// exactly where the service k is ready and has an outcome there, and none that is listed. It is
+    /// empty where the target doesn't allow the action. It is asked of the services, and not stored.
     pub fn mask(&self, p: u32, a: u8) -> u32
         requires shaped { IsShaped (arena_of self.now.joint) (row_lanes self.now.joint) self.now.order }
         requires pair { p < count (sizes_of (system_of self.now.joint)) }
@@ -125,21 +128,22 @@ impl Relation {
         masks::mask(&self.joint, &self.order, p, a)
     }
 
-    /// The system.
+    /// The system, lent for reading alone.
     pub fn joint(&self) -> &Joint
         ensures { result.now ≡ self.now.joint }
     {
         &self.joint
     }
 
-    /// The removal list.
+    /// The removal list with its tables, lent for reading alone.
     pub fn order(&self) -> &Order
         ensures { result.now ≡ self.now.order }
     {
         &self.order
     }
 
-    /// How many seats the masks of all pairs, related or not, have together.
+    /// How many services the masks of all pairs and actions have together, whether the pairs are
+    /// related or not. The masks are counted anew, row by row.
     pub fn choices(&self) -> u64
         requires { IsShaped (arena_of self.now.joint) (row_lanes self.now.joint) self.now.order }
         ensures { HasCompleteList self.now.joint self.now.order
@@ -150,7 +154,9 @@ impl Relation {
         masks::choices(&self.joint, &self.order)
     }
 
-    /// Empties the list, and settles. The order is shaped for the joint. The entries rise by depth.
+    /// Shapes the order for the joint, empties the list, and makes it complete by rounds, as
+    /// [`build`](Relation::build) does but without taking memory. The entries then rise by depth, level
+    /// by level. Nothing may wait.
     pub fn afresh<L: Ledger>(&mut self, steps: &mut Steps<L>)
         requires caps { HasCaps self.old.joint self.old.order }
         requires idle { self.old.order.waiting ≡ [] }
@@ -167,8 +173,9 @@ impl Relation {
         settle_list(&self.joint, &mut self.order, steps);
     }
 
-    /// Goes on from a removal list to a complete one. The steps are at most as many as delegations lead to
-    /// the pairs that are added.
+    /// Goes on from a removal list, each entry of which is justified by those before it, to a complete
+    /// one that begins with it. Nothing may wait. The steps are at most as many as delegations lead to
+    /// the pairs that are added; levels are kept only where the list was empty.
     pub fn settle<L: Ledger>(&mut self, steps: &mut Steps<L>)
         requires shaped { IsShaped (arena_of self.old.joint) (row_lanes self.old.joint) self.old.order }
         requires valid { IsOrder (arena_of self.old.joint) self.old.order.list }

@@ -18,7 +18,8 @@ use roman_rules::Rules;
 use std::sync::ledger::Ledger;
 use unfine::list_unfine;
 
-/// Begins rounds on a removal list: lists the pairs that don't meet clause 2, and marks all rows.
+/// Begins rounds on a removal list: lists the pairs that don't meet clause 2 of an ND-simulation, keeps
+/// the words of all rows, and marks all rows for the first round.
 pub fn begin_rounds<J: Rules>(joint: &J, order: &mut Order)
     requires shaped { IsShaped (J.arena joint.now) (J.lanes joint.now) order.old }
     requires valid { IsOrder (J.arena joint.now) order.old.list }
@@ -33,9 +34,10 @@ pub fn begin_rounds<J: Rules>(joint: &J, order: &mut Order)
     order.mark_front(joint.rows());
 }
 
-/// One round: lists each pair at which some action is a reason where the pairs are gone that were listed
-/// before the round, with the least such action. Only the pairs of marked rows are judged, and the rows
-/// of those that the next round has to judge are marked. The list is complete when a round adds nothing.
+/// One round, after [`begin_rounds`] or another round: lists each pair at which some allowed action is
+/// served by no service that keeps to the pairs that were left before the round, with the least such
+/// action. Only the pairs of marked rows are judged, and the rows of those that the next round has to
+/// judge are marked. The list is complete when a round adds nothing.
 ///
 /// The steps are at most as many as delegations lead to the pairs that are added.
 pub fn play_round<J: Rules, L: Ledger>(joint: &J, order: &mut Order, steps: &mut Steps<L>)
@@ -56,11 +58,11 @@ pub fn play_round<J: Rules, L: Ledger>(joint: &J, order: &mut Order, steps: &mut
     order.len();
 }
 
-/// Goes on from a removal list to one to which no reason adds a pair, by rounds.
+/// Goes on from a removal list to a complete one, to which no reason adds a pair, by rounds.
 ///
-/// The steps are at most as many as delegations lead to the pairs that are added. From an empty list the
-/// entries rise by depth, and the order keeps where its levels ended: level n has the pairs at which the
-/// opponent wins within n requests. From another list no levels are kept.
+/// The steps are at most as many as delegations lead to the pairs that are added. From an empty list
+/// the entries rise by depth, and the order keeps where its levels ended: level n has the pairs at
+/// which the opponent wins within n requests. From another list no levels are kept.
 pub fn settle_list<J: Rules, L: Ledger>(joint: &J, order: &mut Order, steps: &mut Steps<L>)
     requires shaped { IsShaped (J.arena joint.now) (J.lanes joint.now) order.old }
     requires valid { IsOrder (J.arena joint.now) order.old.list }

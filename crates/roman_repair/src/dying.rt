@@ -17,9 +17,10 @@ use roman_io::Steps;
 use roman_relation::Relation;
 use std::sync::ledger::Ledger;
 
-/// Takes service `k` out of the system, whatever its state. Of the entries in which it may leave
-/// its state behind, since it doesn't rest or the state is final, the list keeps the first of each
-/// pair that is left. None of them is asked about: they are justified as they are.
+/// Takes the service `k` out of the system, whatever its state; later services move up by one place. Of
+/// the entries in which it may leave its state behind, since it doesn't rest or the state is final, the
+/// list keeps the first of each pair that is left. None of them is asked about: they are justified as
+/// they are. No memory is taken.
 ///
 /// The steps are at most as many as delegations lead to the pairs that are added.
 pub fn die<L: Ledger>(relation: &mut Relation, k: u8, steps: &mut Steps<L>) -> Tally

@@ -4,7 +4,7 @@ ghost use Rattle.roman_repair.specs.Errors.{join_error_number};
 
 use thiserror::Error;
 
-/// Why a service doesn't join.
+/// Why a service doesn't join. Nothing has changed then.
 #[derive(Clone, Copy, Debug, PartialEq, Eq, Error)]
 pub enum JoinError {
     /// There are as many services as there may be.

@@ -13,8 +13,9 @@ use roman_io::Steps;
 use roman_relation::Relation;
 use std::sync::ledger::Ledger;
 
-/// Freezes the service at place k, which is ready. The old list stays whole. The steps are at most
-/// as many as delegations lead to the pairs that are added.
+/// Freezes the service at place k, which is ready, so that it takes no delegations. The old list stays
+/// whole, and the new one begins with it. No memory is taken. The steps are at most as many as
+/// delegations lead to the pairs that are added.
 pub fn freeze<L: Ledger>(relation: &mut Relation, k: u8, steps: &mut Steps<L>) -> Tally
     requires relation { IsRelation relation.old.joint relation.old.order }
     requires ready { IsTrue (is_ready (slice_get (system_of relation.old.joint).seats k)) }

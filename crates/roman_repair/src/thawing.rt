@@ -14,8 +14,9 @@ use roman_io::Steps;
 use roman_relation::Relation;
 use std::sync::ledger::Ledger;
 
-/// Makes the service at place k ready, which is frozen. The steps are at most as many as delegations
-/// lead to the pairs that are added, and a reading of the new system.
+/// Makes the service at place k ready, which is frozen. The old list is replayed: an entry is kept
+/// exactly where those kept before it still justify it. No memory is taken. The steps are at most as
+/// many as delegations lead to the pairs that are added, and one reading of the new system.
 pub fn thaw<L: Ledger>(relation: &mut Relation, k: u8, steps: &mut Steps<L>) -> Tally
     requires relation { IsRelation relation.old.joint relation.old.order }
     requires place { k < length relation.old.joint.seats }

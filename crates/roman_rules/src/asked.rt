@@ -18,11 +18,11 @@ use std::sync::ledger::Ledger;
 /// asked about anew.
 #[derive(Clone, Copy, Debug)]
 pub struct Asked {
-    /// The row.
+    /// The row that was asked.
     pub row: u32,
-    /// The reason.
+    /// The reason about which it was asked.
     pub reason: Reason,
-    /// The lanes of the pairs at which it is known to hold.
+    /// The lanes of the pairs at which the reason is known to hold, one bit each.
     pub lanes: u64,
 }
 
@@ -100,7 +100,7 @@ fn ask_row<J: Rules, L: Ledger>(
 }
 
 impl Asked {
-    /// No row was asked: nothing is known.
+    /// No row was asked, and nothing is known.
     pub fn nothing() -> Asked
         ensures { (A : Arena ℕ) (lanes : ℕ) (gone : ℕ → Bool) → HoldsWhereKept A lanes gone result }
     {
@@ -157,12 +157,12 @@ impl Asked {
         has_lane(lanes, lane)
     }
 
-    /// Whether a reason holds at the pair `p`, where the words tell the pairs that aren't gone. Nothing
-    /// is asked where that is known: the row was asked about the reason before, when it held there. The
-    /// row is then that of the pair.
+    /// Whether a reason, with an action of the system, holds at the pair `p`, where the words tell the
+    /// pairs that aren't gone, row by row. Nothing is asked where that is known: the row was asked
+    /// about the same reason before, and it held there. Afterwards the row is that of the pair.
     ///
-    /// The action of the reason is one of the system. A step is counted for each seat that is asked, and
-    /// none is asked where the action isn't allowed.
+    /// A step is counted for each ready seat where the row is asked, and none where the action isn't
+    /// allowed.
     pub fn holds<J: Rules, L: Ledger>(
         &mut self,
         joint: &J,

@@ -18,8 +18,10 @@ use std::sync::ledger::Ledger;
 
 /// A system over the numbers of its pairs, for the algorithms that need no more of it.
 ///
-/// Pairs, actions and seats are numbers below [`pairs`](Rules::pairs), [`actions`](Rules::actions)
-/// and [`seats`](Rules::seats).
+/// Pairs, actions and seats are numbers below [`pairs`](Rules::pairs), [`actions`](Rules::actions) and
+/// [`seats`](Rules::seats); those that are passed are in range. Pairs lie in [`rows`](Rules::rows) of
+/// [`lanes`](Rules::lanes) neighbours each, and a word of a row has bit l for the pair at lane l. No
+/// call takes memory.
 pub trait Rules {
     /// A walk backwards from a pair: plain data.
     type Walk: Drop;
@@ -45,7 +47,7 @@ pub trait Rules {
     /// The delegations that are left of a walk.
     ghost left: { Self → Self.Walk → List (Delegation ℕ) };
 
-    /// What all arenas of systems have in common.
+    /// Tells a prover what all systems have in common. It does nothing.
     fn known(&self)
         ensures { IsNumbered (arena self.now) };
 
@@ -61,7 +63,7 @@ pub trait Rules {
     fn seats(&self) -> u8
         ensures { result ≡ (arena self.now).seats };
 
-    /// Whether seat `k` is ready.
+    /// Whether seat `k` is ready: it isn't frozen, and takes delegations.
     fn is_ready(&self, k: u8) -> bool
         requires { k < (arena self.now).seats }
         ensures { result ≡ (arena self.now).ready k };
@@ -77,7 +79,8 @@ pub trait Rules {
         requires { p < length (arena self.now).nodes }
         ensures { HasBits result ((arena self.now).allows p) };
 
-    /// Whether the pair `p` meets clause 2: where its target part is final, its system part is.
+    /// Whether the pair `p` meets clause 2 of an ND-simulation: where its target part is final, its
+    /// system part is.
     fn final_ok(&self, p: u32) -> bool
         requires { p < length (arena self.now).nodes }
         ensures { result ≡ (arena self.now).fine p };
@@ -91,18 +94,19 @@ pub trait Rules {
     fn rows(&self) -> u32
         ensures { result * lanes self.now ≡ length (arena self.now).nodes };
 
-    /// Looks up what holds of the row `x`.
+    /// Looks up what holds of all pairs of the row `x`, for the calls that take a row. It is good as
+    /// long as the system doesn't change.
     fn row(&self, x: u32) -> Self::Row
         requires { x * lanes self.now < length (arena self.now).nodes }
         ensures { is_row self.now x result };
 
-    /// The actions that the target allows at the pairs of a row: the same at each. Bit a is set exactly
-    /// where it allows a.
+    /// The actions that the target allows at the pairs of a row, which are the same at each: bit a is
+    /// set exactly where it allows a.
     fn row_actions(&self, row: &Self::Row) -> u32
         ensures { (x lane : ℕ) → is_row self.now x row.now → lane < lanes self.now →
             HasBits result ((arena self.now).allows (x * lanes self.now + lane)) };
 
-    /// The pairs of a row that don't meet clause 2.
+    /// The pairs of a row that don't meet clause 2 of an ND-simulation. No bit is set past the lanes.
     fn unfine(&self, row: &Self::Row) -> u64
         requires row { (x : ℕ) × is_row self.now x row.now }
         ensures { (x : ℕ) → is_row self.now x row.now →
@@ -141,9 +145,10 @@ pub trait Rules {
             is_on result lane ≡ (is_on wanted lane && is_justified (arena self.now) gone (x * lanes self.now + lane) (Reason.Act a)) }
         ensures within { (lane : ℕ) → is_on wanted lane ≡ false → is_on result lane ≡ false };
 
-    /// Marks each row with a pair that has one of the pairs `lost` of a row as an outcome. The marks are
-    /// flags, one for each row. The steps are at most as many as delegations lead to any of the pairs
-    /// that are lost.
+    /// Marks each row with a pair that has one of the pairs `lost` of a row as an outcome; other rows
+    /// may be marked as well. The marks are flags, 64 to a word, one for each row, and those that are
+    /// set stay. The steps are at most as many as delegations lead to any one of the pairs that are
+    /// lost.
     fn mark_before<L: Ledger>(
         &self,
         row: &Self::Row,
@@ -181,7 +186,8 @@ pub trait Rules {
             → HasFinding (sizes self.now) k gone ((arena self.now).outcomes p a k) result }
         ensures step { steps.new ≡ steps.old + 1 };
 
-    /// Begins a walk through all delegations of which the pair `p2` is an outcome.
+    /// Begins a walk backwards, through all delegations of which the pair `p2` is an outcome, each
+    /// once.
     fn walk(&self, p2: u32) -> Self::Walk
         requires { p2 < length (arena self.now).nodes }
         ensures walk { is_walk self.now result }

@@ -24,24 +24,26 @@ const PIECE: usize = 4096;
 /// Why a session isn't heard to its end.
 #[derive(Clone, Copy, Debug, PartialEq, Eq, Error)]
 pub enum HearError {
-    /// The source failed.
+    /// The source failed, and its count of faults rose. The replies to all lines that were taken whole
+    /// stand in the sink.
     #[error("the source of the session failed")]
     ReadFault,
-    /// The sink failed.
+    /// The sink failed, and its count of faults rose. A prefix of the replies stands in it.
     #[error("the sink of the session failed")]
     WriteFault,
-    /// The session has more than [`MAX_SESSION_BYTES`], and no line `quit` that ends within them.
+    /// The session has more than [`MAX_SESSION_BYTES`], and no line `quit` that ends within them. The
+    /// replies to the lines that end within them stand in the sink.
     #[error("the session is too long")]
     TooLong,
 }
 
-/// Hears a session line by line, to its end or to its first line `quit`. A line is answered before
-/// the next bytes are taken. The last line may lack its newline.
+/// Hears a session line by line, to its end or to its first line `quit`, and writes the reply to each.
+/// It takes 4,096 bytes at a time, and answers the lines that end in them before it takes more. The
+/// last line may lack its newline.
 ///
-/// The bytes may come in any pieces, and without an end: no more than the greatest number is heard,
-/// and where the session goes on past it, the lines that end by then are answered. No memory is
-/// taken. Where the source tells nothing of its bytes, the clauses speak of some bytes that it may
-/// have had.
+/// The bytes may come in any pieces, and without an end: no more than the greatest number of a session
+/// is heard. No memory is taken. Where the source tells nothing of its bytes, the clauses speak of some
+/// bytes that it may have had.
 pub fn hear<S: Source, O: Sink, L: Ledger>(
     session: &mut Session,
     source: &mut S,

@@ -1,13 +1,14 @@
 //! What a session waits for.
 
-/// What is asked for at present. Actions are numbered as in the document, and services by their
-/// seats.
+/// What a session waits for. Actions have the numbers of the document, and services are named by their
+/// places.
 #[derive(Clone, Copy, Debug, PartialEq, Eq)]
 pub enum Phase {
-    /// Nothing is asked for.
+    /// No request is open.
     Idle,
-    /// The action was requested, and services were offered.
+    /// This action was requested, and services were offered for it.
     Offered(u8),
-    /// The request of the action was delegated to the service.
+    /// The request of the action, which stands first, was delegated to the service, which stands
+    /// second.
     Delegated(u8, u8),
 }

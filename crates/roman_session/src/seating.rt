@@ -14,7 +14,7 @@ use roman_library::{Library, Service};
 use roman_model::MAX_SERVICES;
 use std::alloc::{AllocError, Global};
 
-/// The system of a library, and where it begins.
+/// The system of a library, and where it begins: what a session, a certificate and a check start from.
 #[derive(Drop)]
 pub struct Seated {
     /// The system. Its services are the library's, in their order.
@@ -26,8 +26,8 @@ pub struct Seated {
     pub start: u32,
 }
 
-/// The system of a library, and where it begins. `Limit` comes where the system has more cells than
-/// the library's limit.
+/// The system of a library, and where it begins. `Limit` comes exactly where the system has more cells,
+/// pairs times actions, than the library's limit, and `Memory` only where there is none.
 pub fn seat_library(alloc: Global, library: Library) -> Result<Seated, BuildError>
     requires { IsLibrary (plain library) }
     ensures seated { IfOk result (IsSeated (plain library)) }

@@ -27,7 +27,9 @@ use roman_read::Name;
 use roman_relation::Relation;
 use std::marker::Model;
 
-/// One session: the services now present, the present states, and what is asked for.
+/// One session: the services now present with the greatest relation of their system, the present
+/// states, and the request that is open. Contracts see it as a situation, whose removal list is
+/// complete.
 #[derive(Drop)]
 pub struct Session {
     relation: Relation,
@@ -64,28 +66,28 @@ fn number_of(joint: &Joint, t: u8, e: u8, states: &[u8]) -> u32
 }
 
 impl Session {
-    /// The number of pairs.
+    /// The number of pairs of the system with the services now present.
     pub fn pairs(&self) -> u32
         ensures { result ≡ length (pairs (present_system self.now)) }
     {
         self.relation.joint.shape().pairs()
     }
 
-    /// The number of related pairs.
+    /// The number of those pairs that are related.
     pub fn related(&self) -> u32
         ensures { result ≡ related_count (present_system self.now) }
     {
         self.relation.count()
     }
 
-    /// Whether a composition exists from the current pair: it is related.
+    /// Whether a composition exists from the current pair: the pair is related.
     pub fn composes(&self) -> bool
         ensures { result ≡ is_related (present_system self.now) self.now.here }
     {
         self.relation.related(self.here())
     }
 
-    /// What is asked for. Where a request is open, the current pair is related and the target allows
+    /// What is waited for. Where a request is open, the current pair is related and the target allows
     /// the action there; and a delegate is one of the services that are offered for it.
     pub fn phase(&self) -> Phase
         ensures phase { result ≡ self.now.phase }
@@ -103,7 +105,7 @@ impl Session {
         &self.relation
     }
 
-    /// Says what holds of every session.
+    /// Tells a prover what holds of every session. It does nothing.
     pub fn known(&self)
         ensures { IsSituation self.now }
     {

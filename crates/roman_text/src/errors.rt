@@ -4,7 +4,7 @@ ghost use Rattle.roman_text.specs.Shapes.{line_error_number};
 
 use thiserror::Error;
 
-/// A session line that has no shape.
+/// Why a session line is no event. The session answers either with `error line`.
 #[derive(Clone, Copy, Debug, PartialEq, Eq, Error)]
 pub enum LineError {
     /// The words are those of no event.

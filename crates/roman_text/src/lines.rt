@@ -38,8 +38,9 @@ impl Splitter {
         }
     }
 
-    /// Takes the next byte of the stream, and answers whether it ended a line. The line is then held
-    /// until [`Splitter::clear`], which is due before the next byte.
+    /// Takes the next byte of the stream, and answers whether it ended a line: whether it is byte 10.
+    /// The line is then held, without that byte, until [`Splitter::clear`], which is due before the
+    /// next byte.
     pub fn push(&mut self, byte: u8) -> bool
         ensures ends { result ≡ is_newline byte }
         ensures whole { OnTrue result (self.new ≡ self.old) }
@@ -55,7 +56,7 @@ impl Splitter {
         false
     }
 
-    /// The first 257 bytes of the current line.
+    /// The first 257 bytes of the current line, or all of them where it has fewer.
     pub fn line(&self) -> &[u8]
         ensures line { result.now ≡ self.now }
     {

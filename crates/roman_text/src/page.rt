@@ -22,8 +22,9 @@ const DIGITS: usize = 10;
 // The greatest number of bytes of a line, as of each part of one.
 const LONGEST: usize = 128;
 
-/// Bytes on their way to a sink, so that many short ones are put as one piece. Contracts see the
-/// bytes that are held: the sink has those before them.
+/// A buffer of 4,096 bytes on their way to a sink, so that many short texts are put as one piece.
+/// Contracts see the bytes that are held: the sink has those before them. Where a call fails, the
+/// sink's count of faults rose.
 #[derive(Drop)]
 pub struct Page {
     bytes: [u8; ROOM],
@@ -51,8 +52,8 @@ impl Page {
         }
     }
 
-    /// Takes bytes behind those that are held. Where they have no room, what is held is put first.
-    /// A failed call leaves the page empty.
+    /// Takes bytes behind those that are held. Where they have no room, what is held is put first. A
+    /// failed call leaves the page empty, and a prefix of all those bytes in the sink.
     #[inline]
     pub fn push<O: Sink>(&mut self, bytes: &[u8], out: &mut O) -> Result<(), Failed>
         ensures gathers { Gathers (O.written out.old) (O.written out.new) self.new (self.old ++ bytes.now) result }
@@ -66,7 +67,8 @@ impl Page {
         self.begin(bytes, out)
     }
 
-    /// Puts what is held, as one piece. The page is empty then, whatever the answer.
+    /// Puts what is held, as one piece, or nothing where nothing is held. The page is empty then,
+    /// whatever the answer.
     pub fn flush<O: Sink>(&mut self, out: &mut O) -> Result<(), Failed>
         ensures puts { Puts (O.written out.old) (O.written out.new) self.old result }
         ensures empty { self.new ≡ [] }

@@ -8,10 +8,14 @@ use crate::events::Event;
 use crate::words::{first_word, is_comment, without_return};
 use roman_model::MAX_LINE_BYTES;
 
-/// The event that a line is. The words of the event are parts of the line.
+/// The event that a line, without its newline, is. The words of the event are parts of the line, and
+/// not looked up.
 ///
-/// A byte 13 at the end of the line is dropped. Words are separated by spaces and tabs. A line
+/// One byte 13 at the end of the line is dropped. Words are separated by spaces and tabs. A line
 /// without words, and one whose first word begins with `#`, are [`Event::Nothing`].
+///
+/// `TooLong` comes exactly where the line has more than 256 bytes, and `Form` exactly where it has no
+/// more and its words have no shape.
 pub fn parse_line(line: &[u8]) -> Result<Event<'_>, LineError>
     ensures shape { Shapes (shape_of line.now) result }
     ensures too_long { (result ≡ Err LineError.TooLong) ↔ (256 < length line.now) }

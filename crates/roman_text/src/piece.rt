@@ -43,7 +43,7 @@ impl Piece {
         &self.bytes[..self.len]
     }
 
-    /// Adds a text.
+    /// Adds a text, for which there must be room.
     pub fn text(mut self, text: &[u8]) -> Piece
         requires { length self + length text.now ≤ 128 }
         ensures text { result ≡ self ++ text.now }
@@ -53,7 +53,7 @@ impl Piece {
         self
     }
 
-    /// Adds a name.
+    /// Adds a name, with room for 32 bytes.
     pub fn name(self, name: &Name) -> Piece
         requires { length self ≤ 96 }
         ensures text { result ≡ self ++ name.now }
@@ -62,7 +62,7 @@ impl Piece {
         self.text(name.bytes())
     }
 
-    /// Adds a number, in decimal digits.
+    /// Adds a number, in decimal digits, with room for ten.
     pub fn number(self, n: u32) -> Piece
         requires { length self ≤ 118 }
         ensures text { result ≡ self ++ decimal n }
@@ -71,7 +71,7 @@ impl Piece {
         self.text(Buffer::new().format(n).as_bytes())
     }
 
-    /// Adds a number of up to twenty decimal digits.
+    /// Adds a number, in decimal digits, with room for twenty.
     pub fn long_number(self, n: u64) -> Piece
         requires { length self ≤ 108 }
         ensures text { result ≡ self ++ decimal n }

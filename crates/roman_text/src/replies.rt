@@ -4,12 +4,13 @@ ghost use Rattle.roman_text.specs.Replies.{refusal_number};
 
 use roman_read::Name;
 
-/// A reply to a session line, or a part of one.
+/// A reply to a session line: one whole line each, but for `Offer`, `Serves` and `Stop`, which together
+/// make the line that offers services. The last fourteen are refusals.
 #[derive(Clone, Copy, Debug, PartialEq, Eq)]
 pub enum Reply {
     /// The beginning of the line that offers services.
     Offer,
-    /// A service that is offered.
+    /// A space and the name of a service that is offered.
     Serves(Name),
     /// The end of the line that offers services.
     Stop,
@@ -66,8 +67,8 @@ pub enum Reply {
 }
 
 impl Reply {
-    /// The number of a refusal, from 1 to 14 in the order of the last fourteen variants; `None` of
-    /// any other reply.
+    /// The number of a refusal, from 1 to 14 in the order of the last fourteen variants; `None` for any
+    /// other reply.
     pub fn number(&self) -> Option<u8>
         ensures number { result ≡ refusal_number self.now }
     {

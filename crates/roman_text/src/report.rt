@@ -6,7 +6,8 @@ ghost use Rattle.roman_text.specs.Report.{line_text};
 use crate::piece::Piece;
 use roman_read::Name;
 
-/// A line of a report, or a part of one.
+/// A line of a report, each whole, but for `Offer`, `Serves` and `Stop`, which together make a line
+/// that lists services.
 #[derive(Clone, Copy, Debug, PartialEq, Eq)]
 pub enum ReportLine {
     /// How many pairs there are.
@@ -39,7 +40,7 @@ pub enum ReportLine {
     Answer(bool),
     /// The beginning of the line that lists the services offered for this action.
     Offer(Name),
-    /// A service that is offered.
+    /// A space and the name of a service that is offered.
     Serves(Name),
     /// The end of the line that lists services.
     Stop,
@@ -47,7 +48,7 @@ pub enum ReportLine {
     End,
 }
 
-/// The bytes of a report line.
+/// The bytes of a report line, or of the part of one, with the newline at its end.
 pub fn report_piece(line: &ReportLine) -> Piece
     ensures { result ≡ line_text line.now }
 {

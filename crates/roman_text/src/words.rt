@@ -34,7 +34,8 @@ fn word_end(line: &[u8]) -> usize
     first_blank(line).unwrap_or(line.len())
 }
 
-/// The first word of a line, and what follows it; `None` where the line has no word.
+/// The first word of a line, and what follows it; `None` exactly where the line has no word. Words are
+/// separated by spaces and tabs.
 pub fn first_word(line: &[u8]) -> Option<(&[u8], &[u8])>
     ensures { IsFirstWord line.now result }
 {
@@ -43,7 +44,7 @@ pub fn first_word(line: &[u8]) -> Option<(&[u8], &[u8])>
     Some(words.split_at(word_end(words)))
 }
 
-/// Whether a first word makes its line a comment.
+/// Whether a first word makes its line a comment: it begins with `#`.
 pub fn is_comment(word: &[u8]) -> bool
     ensures { result ≡ is_comment word.now }
 {

@@ -24,23 +24,25 @@ use std::alloc::Global;
 use std::sync::ledger::Ledger;
 
 /// Does what the words, those after the program's name, ask for, and answers how it ended. All text
-/// goes to `out`.
+/// goes to `out`; each [`Status`] says what stands there then.
 ///
-/// `synth SYSTEM` writes the report on the starting states of the system document of that name on
-/// the shelf; the status says whether the start pair is related. `run SYSTEM` answers a session of
-/// that system line by line, to its end or to its line `quit`; the lines come from `input`, and
-/// those of `run SYSTEM SESSION` from the shelf. `certify SYSTEM` writes a certificate of which pairs
-/// are related, and `check SYSTEM CERT` the verdict on the certificate on the shelf. `resilience
-/// SYSTEM` writes whether the start pair is related, how many pairs are and how many services may be
-/// offered, and the same where one service freezes or dies, or two do. `make N`, for N
-/// from 1 to 10, asks the shelf for nothing: it makes a system of N workers, runs its script on a
-/// session, and writes a summary of how the session stands at the start, after each of the script's
-/// first four lines, and at its end.
+/// - `synth SYSTEM` writes the report on the starting states of the system document of that name on the
+///   shelf; the status says whether the start pair is related.
+/// - `run SYSTEM` answers a session of that system line by line, to its end or to its line `quit`; the
+///   lines come from `input`, and those of `run SYSTEM SESSION` from the shelf.
+/// - `certify SYSTEM` writes a certificate of which pairs are related, and `check SYSTEM CERT` the
+///   verdict on the certificate on the shelf.
+/// - `make N`, for N from 1 to 10, asks the shelf for nothing: it makes a system of N workers, runs its
+///   script on a session, and writes a summary of how the session stands at the start, after each of
+///   the script's first four lines, and at its end.
+/// - `resilience SYSTEM` writes whether the start pair is related, how many pairs are and how many
+///   services may be offered, and the same where one service freezes or dies, or two do.
+/// - `shortest SYSTEM` writes within how many requests the opponent wins.
+/// - `advise SYSTEM COSTS H`, for H from 1 to 64, writes the least that H requests cost at worst by the
+///   costs on the shelf, the service to take for each of them, and these values for each related pair;
+///   or that the start pair isn't related, or that there are too many of them.
 ///
-/// `shortest SYSTEM` writes within how many requests the opponent wins. `advise SYSTEM COSTS H`, for H from 1 to 64, writes the least
-/// that H requests cost at worst by the costs on the shelf, the service to take for each of them, and
-/// these values for each related pair; or that the start pair isn't related, or that there are too
-/// many of them.
+/// The call returns on every input, and takes bytes from `input` for `run SYSTEM` alone.
 pub fn serve<F: Shelf, I: Source, O: Sink, L: Ledger>(
     alloc: Global,
     words: &Words,

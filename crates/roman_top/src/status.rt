@@ -8,32 +8,36 @@ use roman_io::Failed;
 /// How a run of the program ended. The variants are in the order of their exit statuses, from 0 to 9.
 #[derive(Clone, Copy, Debug, PartialEq, Eq)]
 pub enum Status {
-    /// The whole text of the command was written. Of `synth` it says that the start pair is related, of
-    /// `check` that the certificate is valid and complete, and of `run` that the session was read to its
-    /// end or to its line `quit`.
+    /// 0: The whole text of the command was written. Of `synth` it says that the start pair is related,
+    /// of `check` that the certificate is valid and complete, and of `run` that the session was read to
+    /// its end or to its line `quit`.
     Done,
-    /// The start pair isn't related, with the report (`synth`) or the line `answer none` (`advise`); or the
-    /// certificate is rejected, with the line that says so (`check`).
+    /// 1: The start pair isn't related, with the report (`synth`) or the line `answer none` (`advise`)
+    /// in the sink; or the certificate is rejected, with the line that says so (`check`).
     No,
-    /// The words have none of the shapes. The line that tells the shapes was written, and nothing was read.
+    /// 2: The words have none of the shapes. The line that tells the shapes was written, and nothing
+    /// was read.
     Usage,
-    /// The document, or the text of costs, isn't accepted. The line of the first rule that it breaks was
-    /// written.
+    /// 3: The document, or the text of costs, isn't accepted. The line of the first rule that it breaks
+    /// was written.
     Refused,
-    /// The cells of the system exceed the document's limit, or the values of `advise` theirs. The line
-    /// `limit` with that limit was written.
+    /// 4: The cells of the system exceed the document's limit, or the values of `advise` theirs. The
+    /// line `limit` with that limit was written.
     Limit,
-    /// A call of the shelf failed. Nothing was written but the replies to those lines of a session that were
-    /// read whole.
+    /// 5: A call of the shelf failed, and its count of faults rose; never of `make` or of words without
+    /// a shape. Of a session on the shelf the replies to those lines stand in the sink that were read
+    /// whole, and else nothing was written. Nothing was taken from the input.
     ShelfFault,
-    /// A take from the input failed. The replies to all lines that were taken whole were written.
+    /// 6: A take from the input failed, and its count of faults rose; only of `run SYSTEM`. The replies
+    /// to all lines that were taken whole stand in the sink.
     ReadFault,
-    /// A put into the sink failed. A prefix of the text was written.
+    /// 7: A put into the sink failed, and its count of faults rose. A prefix of the text was written.
     WriteFault,
-    /// The session has more than 16,777,216 bytes before a line `quit`, with the replies to the lines that
-    /// end within them; or the certificate has more than 268,435,456 before a line at fault, with nothing.
+    /// 8: The session has more than 16,777,216 bytes before a line `quit` ends, with the replies to the
+    /// lines that end within them in the sink; or the certificate has more than 268,435,456 before a
+    /// line at fault ends, and nothing was written.
     TooLong,
-    /// There is no memory. Nothing was written, and nothing was taken from the input.
+    /// 9: There is no memory. Nothing was written, and nothing was taken from the input.
     Memory,
 }
 

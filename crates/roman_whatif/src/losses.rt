@@ -39,7 +39,8 @@ pub struct Losses {
 }
 
 impl Losses {
-    /// Tries all failures on copies of `base`, and keeps what is left after each.
+    /// Tries all failures on two copies of `base`, and keeps what is left after each. The one error is
+    /// that there is no memory.
     pub fn build<L: Ledger>(
         alloc: Global,
         base: &Relation,
@@ -61,7 +62,8 @@ impl Losses {
         })
     }
 
-    /// What is left where the service at one place fails so, or those at two.
+    /// What is left where the service at the place `first` fails so, or those at the places `first` and
+    /// `second`, which is the greater.
     pub fn left(&self, first: u8, second: Option<u8>, way: Way) -> Outlook
         requires { (parts : NamedSys) × AreLosses parts self.now × MayFail parts first second }
         ensures { (parts : NamedSys) → AreLosses parts self.now → MayFail parts first second →

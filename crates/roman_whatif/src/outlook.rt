@@ -16,11 +16,12 @@ pub struct Outlook {
     pub composes: bool,
     /// How many pairs of the system are related.
     pub related: u32,
-    /// How many services may be offered, over all pairs and actions.
+    /// How many services may be offered, over all pairs and actions: the sum of the masks' sizes.
     pub choices: u64,
 }
 
-/// What the pair `p` can look forward to as the system stands.
+/// What the pair `p` can look forward to as the system of a relation stands, whose list is complete. No
+/// memory is taken.
 pub fn now(relation: &Relation, p: u32) -> Outlook
     requires relation { IsRelation relation.now.joint relation.now.order }
     requires pair { p < count (sizes_of (system_of relation.now.joint)) }

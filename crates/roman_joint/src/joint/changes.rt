@@ -17,7 +17,8 @@ use roman_model::MAX_SERVICES;
 use roman_radix::Shape;
 
 impl Joint {
-    /// Freezes the service at place k, or makes it ready.
+    /// Freezes the service at place k, so that it takes no delegations, or makes it ready. Nothing else
+    /// changes.
     pub fn set_frozen(&mut self, k: u8, frozen: bool)
         requires { k < length self.old.seats }
         ensures seats { self.new ≡ record self.old { seats = with_frozen self.old.seats k frozen } }
@@ -26,7 +27,8 @@ impl Joint {
         self.seats[k as usize].frozen = frozen;
     }
 
-    /// Takes the service at place k out of the system. The later services move up by one place.
+    /// Takes the service at place k out of the system. Later services move up by one place, and pairs
+    /// are numbered anew; nothing else changes.
     pub fn drop_seat(&mut self, k: u8)
         requires { k < length self.old.seats }
         ensures seats { self.new ≡ record self.old { seats = remove self.old.seats k } }
@@ -39,11 +41,11 @@ impl Joint {
             .fill(&self.catalogue, &self.seats, &self.shape, &self.rows);
     }
 
-    /// Adds a service, whose name is new, at the last place.
+    /// Adds a service, whose name is new and whose behaviour is a place of the catalogue, at the last
+    /// place. Pairs are numbered anew, and nothing else changes.
     ///
-    /// `Full` comes exactly where there are as many services as there may be, and `Limit` exactly
-    /// where there are fewer and the system with the service has more cells than the limit. The
-    /// joint then stays as it is.
+    /// `Full` comes exactly where there are 32 services, and `Limit` exactly where there are fewer and
+    /// the system with the service has more cells than the limit. The joint then stays as it is.
     pub fn push_seat(&mut self, seat: Seat) -> Result<(), SeatError>
         requires behaviour { seat.behaviour < length self.old.catalogue }
         requires name { IsIn seat.name (map (λ other. other.name) self.old.seats) → ⊥ }

@@ -11,7 +11,7 @@ use roman_parts::Behaviour;
 use std::alloc::{AllocError, Global};
 
 impl Joint {
-    /// An equal joint, with room for as many services.
+    /// An equal joint, with places for as many services. The one error is that there is no memory.
     pub fn copy(&self, alloc: Global) -> Result<Joint, AllocError>
         ensures same { IfOk result (λ copy. copy ≡ self.now) }
     {
@@ -35,7 +35,8 @@ impl Joint {
         })
     }
 
-    /// Becomes equal to a joint that differs in its services alone. No memory is taken.
+    /// Becomes equal to a joint with the same environment, catalogue, target and limit, which may
+    /// differ in its services. No memory is taken.
     pub fn reset_seats_to(&mut self, from: &Joint)
         requires { HasSameParts self.old from.now }
         ensures { self.new ≡ from.now }

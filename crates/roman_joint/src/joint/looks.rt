@@ -21,7 +21,8 @@ use roman_rules::Finding;
 use std::sync::ledger::Ledger;
 
 impl Joint {
-    /// Whether the target allows an action at a pair.
+    /// Whether the target allows the action `a` at the pair `p`: the target has a step by it there, and
+    /// so has the environment.
     pub fn allowed(&self, p: u32, a: u8) -> bool
         requires pair { p < count (sizes_of (system_of self.now)) }
         requires action { a < (system_of self.now).env.actions }
@@ -50,8 +51,8 @@ impl Joint {
         self.scenes[(p / self.shape.env_stride()) as usize]
     }
 
-    /// Whether the services that rest are in final states where the target is: clause 2 of an
-    /// ND-simulation.
+    /// Whether all services that rest are in final states at the pair `p`, where the target's state is
+    /// final: clause 2 of an ND-simulation. It holds where the target's isn't.
     pub fn final_ok(&self, p: u32) -> bool
         requires { p < count (sizes_of (system_of self.now)) }
         ensures { result ≡ (numbered (system_of self.now)).fine p }
@@ -62,8 +63,10 @@ impl Joint {
         are_final(&self.catalogue, &self.seats, &self.shape, p)
     }
 
-    /// Looks for an outcome of an action at a pair, delegated to a service, whose pair isn't alive.
-    /// The action must be allowed there, and the service ready. One step is counted.
+    /// Looks for an outcome of the action `a` at the pair `p`, delegated to the service `k`, whose pair
+    /// isn't alive: outcomes are gone through by the environment's next state and then by the
+    /// service's. The action must be allowed there, the service ready, and `alive` may be called at
+    /// every pair. Exactly one step is counted, however many outcomes there are.
     pub fn examine<A: Fn(u32) -> bool, L: Ledger>(
         &self,
         alive: &A,
@@ -103,8 +106,9 @@ impl Joint {
         }
     }
 
-    /// The pairs to which an action may lead from a pair, delegated to a service. The action must be
-    /// allowed there, and the service ready.
+    /// The pairs to which the action `a` may lead from the pair `p`, delegated to the service `k`, as
+    /// the lists of states from which their numbers are made. The action must be allowed there, and the
+    /// service ready. No state of the service is listed where it has no step.
     pub fn outcomes(&self, p: u32, a: u8, k: u8) -> Outcomes<'_>
         requires pair { p < count (sizes_of (system_of self.now)) }
         requires seat { k < length self.now.seats }

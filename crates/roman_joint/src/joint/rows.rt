@@ -26,7 +26,8 @@ impl Joint {
         self.rows.rows
     }
 
-    /// Looks up what holds of the row `x`.
+    /// Looks up what holds of all pairs of the row `x`, for the calls that take a row. It is good until
+    /// the services change.
     pub fn row(&self, x: u32) -> Row
         requires { x * lanes_in (system_of self.now) < count (sizes_of (system_of self.now)) }
         ensures { IsRow (system_of self.now) x result }
@@ -45,7 +46,8 @@ impl Joint {
         }
     }
 
-    /// The actions that the target allows at the pairs of a row: bit a is set exactly where it allows a.
+    /// The actions that the target allows at the pairs of a row, which are the same at each: bit a is
+    /// set exactly where it allows a.
     pub fn row_actions(&self, row: &Row) -> u32
         ensures { (x lane : ℕ) → IsRow (system_of self.now) x row.now → lane < lanes_in (system_of self.now) →
             HasBits result ((numbered (system_of self.now)).allows (x * lanes_in (system_of self.now) + lane)) }

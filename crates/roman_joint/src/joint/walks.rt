@@ -15,8 +15,8 @@ use roman_model::MAX_STATES;
 use std::sync::ledger::Ledger;
 
 impl Joint {
-    /// Begins to go backwards from a pair. The delegations that are left are all those of an action
-    /// that is allowed at a pair, to a ready service, that may lead to the pair `p2`, each once.
+    /// Begins to go backwards from the pair `p2`. The delegations that are left are all those of an
+    /// action that is allowed at a pair, to a ready service, that may lead to `p2`, each once.
     pub fn walk(&self, p2: u32) -> Walk
         requires { p2 < count (sizes_of (system_of self.now)) }
         ensures walk { IsWalk (system_of self.now) result }
@@ -42,9 +42,9 @@ impl Joint {
         }
     }
 
-    /// Gives a delegation that is left: the pair that it leads from, the action and the service.
-    /// `None` comes exactly where none is left. A delegation that is given counts as one step. The
-    /// walk must be one of this joint, which hasn't changed since.
+    /// Gives a delegation that is left: the pair that it leads from, the action and the service. `None`
+    /// comes exactly where none is left. A delegation that is given counts as one step, and the end as
+    /// none. The walk must be one of this joint, whose services haven't changed since.
     pub fn back<L: Ledger>(&self, walk: &mut Walk, steps: &mut Steps<L>) -> Option<(u32, u8, u8)>
         requires { IsWalk (system_of self.now) walk.old }
         ensures walk { IsWalk (system_of self.now) walk.new }

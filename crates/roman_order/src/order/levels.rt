@@ -4,7 +4,8 @@ ghost use Rattle.std.specs.Prelude.{◌≡◌, ◌<◌, ◌≤◌, [], ◌∷◌
 use super::Order;
 
 impl Order {
-    /// Ends a level at the list's present end. There are at most as many levels as pairs and one.
+    /// Ends a level at the list's present end. There is room for one level more than for pairs, and the
+    /// caller sees to it that there are no more.
     pub fn end_level(&mut self)
         requires { length self.old.levels ≤ self.old.cap_pairs }
         ensures { self.new ≡ record self.old { levels = self.old.levels ++ length self.old.list ∷ [] } }
@@ -13,14 +14,15 @@ impl Order {
         self.levels.push_reserved(end);
     }
 
-    /// How long the list was when each of its levels ended.
+    /// How long the list was when each of its levels ended, the first level first. It is empty where
+    /// levels aren't kept.
     pub fn levels(&self) -> &[u32]
         ensures { result.now ≡ self.now.levels }
     {
         &self.levels
     }
 
-    /// Forgets where levels ended.
+    /// Forgets where levels ended; the list stays.
     pub fn forget_levels(&mut self)
         ensures { self.new ≡ record self.old { levels = [] } }
     {

@@ -8,7 +8,7 @@ use super::Order;
 use crate::flags;
 
 impl Order {
-    /// Marks the number `p`, of a pair or of a row.
+    /// Marks the number `p`, of a pair or of a row; which of the two is the caller's affair.
     pub fn mark(&mut self, p: u32)
         requires { p < pairs_of self.old }
         ensures marked { is_marked self.new p ≡ true }
@@ -19,7 +19,7 @@ impl Order {
         flags::set(&mut self.marks, p);
     }
 
-    /// Whether the number `p` is marked.
+    /// Whether the number `p`, of a pair or of a row, is marked.
     pub fn marked(&self, p: u32) -> bool
         requires { p < pairs_of self.now }
         ensures { result ≡ is_marked self.now p }
@@ -37,7 +37,9 @@ impl Order {
         flags::set_front(&mut self.marks, end);
     }
 
-    /// Takes a mark off, and gives its number. `None` comes exactly where nothing is marked.
+    /// Takes a mark off, and gives its number. `None` comes exactly where nothing is marked. The search
+    /// goes on from where the last mark was found, and once round, so that marks are given in turns,
+    /// not by size.
     pub fn next_marked(&mut self) -> Option<u32>
         ensures none { IfNone result ((p : ℕ) → is_marked self.old p ≡ false) }
         ensures some { IfSome result (λ p. is_marked self.old p ≡ true) }
@@ -55,7 +57,7 @@ impl Order {
         Some(flags::take_first(&mut self.marks, i))
     }
 
-    /// The marks as words of flags, to be written.
+    /// The marks as words of 64 flags, to be written: number p is bit `p % 64` of word `p / 64`.
     pub fn marks_mut(&mut self) -> &mut [u64]
         ensures* lends { sem 𝓛 (LendsMarks self.entry result) }
         ensures value { result.now ≡ self.old.marks }
@@ -64,7 +66,7 @@ impl Order {
         &mut self.marks
     }
 
-    /// Takes all marks off.
+    /// Takes all marks off, in one pass over their words.
     pub fn clear_marks(&mut self)
         ensures unmarked { (p : ℕ) → is_marked self.new p ≡ false }
         ensures long { length self.new.marks ≡ length self.old.marks }

@@ -7,7 +7,9 @@ use super::{Order, refill};
 use crate::removal::Removal;
 
 impl Order {
-    /// The place of the pair `p` in the list, or `None` where it isn't listed.
+    /// The place of the pair `p` in the list, from 0, or `None` where it isn't listed. It is looked up
+    /// where [`place_all`](Order::place_all) was called since the list last changed, and else searched
+    /// for entry by entry.
     pub fn stamp(&self, p: u32) -> Option<u32>
         requires { p < pairs_of self.now }
         ensures { result ≡ place_in_list self.now.list p }
@@ -18,8 +20,8 @@ impl Order {
         if stamp == u32::MAX { None } else { Some(stamp) }
     }
 
-    /// Makes each pair's place in the list be found at once, until the list next changes. It takes no
-    /// memory, since the room is reserved.
+    /// Makes each pair's place in the list be found at once, until the list next changes: one pass over
+    /// the pairs and one over the entries. It takes no memory, since the room is reserved.
     pub fn place_all(&mut self)
         ensures same { self.new ≡ self.old }
     {

@@ -10,7 +10,7 @@ use crate::removal::Removal;
 use roman_model::Reason;
 
 impl Order {
-    /// Adds an entry for a pair that is alive.
+    /// Adds an entry for the pair `p`, which isn't listed yet, as the last one.
     pub fn push(&mut self, p: u32, reason: Reason)
         requires in_range { p < pairs_of self.old }
         requires alive { has_entry self.old.list p ≡ false }
@@ -20,7 +20,7 @@ impl Order {
         self.push_at(x, p % self.lanes, reason);
     }
 
-    /// Adds an entry for the pair at a lane of the row `x`, which is alive.
+    /// Adds an entry for the pair at a lane of the row `x`, which isn't listed yet, as the last one.
     pub fn push_at(&mut self, x: u32, lane: u32, reason: Reason)
         requires row { x < self.old.rows }
         requires lane { lane < self.old.lanes }
@@ -34,8 +34,8 @@ impl Order {
         self.entries.push_reserved(Removal { pair, reason });
     }
 
-    /// Adds an entry for each pair of the row `x` whose lane is in `lost`, the lanes rising, all for one
-    /// reason. All of them are alive.
+    /// Adds an entry for each pair of the row `x` whose lane is a bit of `lost`, the lanes rising, all
+    /// for one reason. None of them is listed yet.
     pub fn push_lanes(&mut self, x: u32, lost: u64, reason: Reason)
         requires row { x < self.old.rows }
         requires within { (lane : ℕ) → is_on lost lane ≡ true → lane < self.old.lanes }

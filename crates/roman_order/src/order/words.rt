@@ -6,7 +6,7 @@ ghost use Rattle.roman_order.specs.Board.{has_entry};
 use super::Order;
 
 impl Order {
-    /// The pairs that aren't listed: a word for each row, with the bits of its pairs.
+    /// The pairs that aren't listed: a word for each row, with bit l for the pair at lane l.
     pub fn words(&self) -> &[u64]
         ensures alive { AreRows self.now.lanes (λ p. not (has_entry self.now.list p)) result.now }
         ensures long { length result.now ≡ self.now.rows }
@@ -14,7 +14,7 @@ impl Order {
         &self.words
     }
 
-    /// The words as they were when they were last kept.
+    /// The words of the rows as they were when each was last kept.
     pub fn before(&self) -> &[u64]
         ensures value { result.now ≡ self.now.before }
         ensures long { length result.now ≡ self.now.rows }
@@ -22,7 +22,7 @@ impl Order {
         &self.before
     }
 
-    /// Keeps all words as they are.
+    /// Keeps the words of all rows as they are, in one pass over them.
     pub fn keep_before(&mut self)
         ensures kept { AreRows self.old.lanes (λ p. not (has_entry self.old.list p)) self.new.before }
         ensures long { length self.new.before ≡ self.old.rows }
@@ -31,7 +31,7 @@ impl Order {
         self.before.copy_from_slice(&self.words);
     }
 
-    /// Keeps the word of the row `x` as it is.
+    /// Keeps the word of the row `x` as it is; what was kept of other rows stays.
     pub fn keep_row(&mut self, x: u32)
         requires { x < self.old.rows }
         ensures kept { HasLanes self.old.lanes x (λ p. not (has_entry self.old.list p)) (slice_index self.new.before x) }

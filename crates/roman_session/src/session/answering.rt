@@ -27,10 +27,12 @@ fn next_after(event: Event<'_>) -> Next
 }
 
 impl Session {
-    /// Answers a line: the session takes its event, and the answer is written before the call
-    /// returns. A failed call has taken the event as well, and wrote a prefix of the answer.
-    ///
+    /// Answers a line, which comes without its newline: the session takes its event, and the answer is
+    /// written before the call returns. Any bytes are a line; one that is refused changes nothing.
     /// `Quit` comes exactly at `quit`. No memory is taken.
+    ///
+    /// The error comes only where the sink's count of faults rose. The event was then taken all the
+    /// same, and a prefix of the answer was written.
     pub fn answer<O: Sink, L: Ledger>(
         &mut self,
         line: &[u8],

@@ -17,7 +17,8 @@ use std::sync::ledger::Ledger;
 impl Session {
     /// The session of a library, at its start. No other call of a session takes memory.
     ///
-    /// `Limit` comes where the system has more cells than the library's limit.
+    /// `Limit` comes exactly where the system has more cells, pairs times actions, than the library's
+    /// limit, and `Memory` only where there is none.
     pub fn build<L: Ledger>(
         alloc: Global,
         library: Library,

@@ -15,6 +15,8 @@ use roman_text::{Page, ReportLine};
 
 impl Session {
     /// Writes the report: the services now present, the present states, and what may be offered there.
+    /// The error comes only where the sink's count of faults rose; a prefix of the report was then
+    /// written.
     pub fn report<O: Sink>(&self, out: &mut O) -> Result<(), Failed>
         ensures report { Puts (O.written out.old) (O.written out.new) (report_text self.now.parts self.now.here) result }
         ensures cause { HasCause (O.faults out.old) (O.faults out.new) result }
