@@ -105,7 +105,7 @@ impl Advice {
         self.requests
     }
 
-    /// The related pairs, rising.
+    /// The numbers of the related pairs, rising.
     pub fn pairs(&self) -> &[u32]
         ensures { result.now ≡ self.now.pairs }
     {

@@ -1,5 +1,5 @@
-//! The orchestrator generator: the services that may be offered for a request, and the pair that
-//! follows when one of them has served it.
+//! The orchestrator generator: the services that may be offered for a request ([`offers`]), and the
+//! pair that follows when one of them has served it ([`next_pair`]).
 #![tactic(auto)]
 
 mod moves;

@@ -38,7 +38,7 @@ impl MemSink {
         }
     }
 
-    /// The bytes that were written.
+    /// The bytes that were written, those of failed calls among them.
     pub fn bytes(&self) -> &[u8]
         ensures { result.now ≡ self.now.written }
     {

@@ -7,10 +7,10 @@ use roman_parts::Name;
 pub struct Seat {
     /// The service's name.
     pub name: Name,
-    /// The place of its behaviour in the catalogue.
+    /// The place of the service's behaviour in the catalogue.
     pub behaviour: u8,
-    /// Whether it takes no delegations for now.
+    /// Whether the service takes no delegations for now.
     pub frozen: bool,
-    /// Whether its state must be final where the target's is. Else it is loose.
+    /// Whether the service's state must be final where the target's is. Else the service is loose.
     pub rests: bool,
 }

@@ -22,14 +22,14 @@ pub struct Library {
 /// A service: a named instance of a behaviour.
 #[derive(Clone, Copy)]
 pub struct Service {
-    /// Its name.
+    /// The service's name.
     pub name: Name,
-    /// The place of its behaviour in the catalogue.
+    /// The place of the service's behaviour in the catalogue.
     pub behaviour: u8,
-    /// The number of the state in which it begins.
+    /// The number of the state in which the service begins.
     pub state: u8,
-    /// Whether it takes no delegations at first.
+    /// Whether the service takes no delegations at first.
     pub frozen: bool,
-    /// Whether its state must be final where the target's is. Else it is loose.
+    /// Whether the service's state must be final where the target's is. Else the service is loose.
     pub rests: bool,
 }

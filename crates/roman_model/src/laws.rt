@@ -14,8 +14,8 @@ ghost use Rattle.roman_model.specs.Plans.{PlansCostLeast};
 ghost use Rattle.roman_model.specs.Play.{DepthIsLeast, DepthWins, OrderWins};
 ghost use Rattle.roman_model.specs.Without.{WithoutByChanges};
 
-/// The related pairs, as couples, meet the three clauses of an ND-simulation, each
-/// ND-simulation is part of them, and a finite one holds them all.
+/// The related pairs, as couples, meet the three clauses of an ND-simulation, each ND-simulation is
+/// part of them, and a finite one holds them all: theirs is the greatest ND-simulation.
 pub fn greatest_is_greatest()
     ensures greatest { GreatestIsGreatest }
 {}

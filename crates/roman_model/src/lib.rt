@@ -1,13 +1,15 @@
-//! The definitions of behaviour composition in the Roman model, and the laws over them alone.
+//! The definitions of behaviour composition in the Roman model, and the laws over them alone. The model
+//! is that of De Giacomo, Patrizi and Sardina, "Automatic Behavior Composition Synthesis" (Artificial
+//! Intelligence 196, 2013).
 //!
-//! `specs/` has the definitions. `System` has environments, behaviours, systems, pairs and their
-//! steps; `Composition` has ND-simulations and the greatest one; `Arena` has removal lists, masks
-//! and depths over any set of nodes; `Numbers` has the numbers of pairs, `Shapes` those of any
-//! sizes; `Outcomes` says the tests of a system by its steps; `Change` has what becomes of removal
-//! lists where the services change; `Certificate` and `Explanation` have their texts; `Plans` has
-//! what delegations cost at worst, and `Without` systems that lack some of their seats; `Several`
-//! has the simulations of several targets, and `Combined` the one system that stands for them. Each
-//! law is the contract of a function with an empty body.
+//! `specs/` has the definitions. `System` has environments, behaviours, systems, pairs and their steps;
+//! `Composition` has ND-simulations and the greatest one; `Arena` has removal lists, masks and depths
+//! over any set of nodes; `Numbers` has the numbers of pairs, `Shapes` those of any sizes; `Outcomes`
+//! says the tests of a system by its steps; `Change` has what becomes of removal lists where the
+//! services change; `Certificate` and `Explanation` have their texts; `Plans` has what delegations cost
+//! at worst, and `Without` systems that lack some of their seats; `Several` has the simulations of
+//! several targets, and `Combined` the one system that stands for them. Each law is the contract of a
+//! function with an empty body.
 #![tactic(auto)]
 
 mod certificates;

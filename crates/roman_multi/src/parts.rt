@@ -6,7 +6,7 @@ use roman_read::Name;
 /// A target with the name that the document gives it.
 #[derive(Drop)]
 pub struct Named {
-    /// Its name, which stands behind a dash in the names of its actions.
+    /// The target's name, which stands behind a dash in the names of its actions.
     pub name: Name,
     /// The target.
     pub target: Target,

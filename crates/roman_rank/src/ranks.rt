@@ -60,7 +60,7 @@ impl Ranks {
         Ok(Ranks { depths, counts })
     }
 
-    /// How many pairs there are.
+    /// How many pairs the system has.
     pub fn pairs(&self) -> u32
         ensures { result ≡ length self.now }
     {
@@ -97,7 +97,7 @@ impl Ranks {
         count_equal(&self.depths, n) as u32
     }
 
-    /// How many pairs are related.
+    /// How many pairs of the system are related.
     pub fn related(&self) -> u32
         ensures { (s : Sys) → AreDepths s self.now → result ≡ related_count s }
     {

@@ -6,6 +6,6 @@
 pub struct Tally {
     /// The length of the replay of the renamed old list, with which the new list begins.
     pub kept: u32,
-    /// How many entries the new list has after those.
+    /// How many entries the new list has behind the replay.
     pub added: u32,
 }

@@ -42,8 +42,8 @@ pub enum HearError {
 /// last line may lack its newline.
 ///
 /// The bytes may come in any pieces, and without an end: no more than the greatest number of a session
-/// is heard. No memory is taken. Where the source tells nothing of its bytes, the clauses speak of some
-/// bytes that it may have had.
+/// is heard, and each variant of [`HearError`] says when it comes. No memory is taken. Where the source
+/// tells nothing of its bytes, the clauses speak of some bytes that it may have had.
 pub fn hear<S: Source, O: Sink, L: Ledger>(
     session: &mut Session,
     source: &mut S,

@@ -73,7 +73,7 @@ impl Session {
         self.relation.joint.shape().pairs()
     }
 
-    /// The number of those pairs that are related.
+    /// The number of related pairs of the system with the services now present.
     pub fn related(&self) -> u32
         ensures { result ≡ related_count (present_system self.now) }
     {

@@ -32,7 +32,7 @@ pub enum Event<'a> {
         behaviour: &'a [u8],
         /// The state in which it joins.
         state: &'a [u8],
-        /// Its finality is never asked for.
+        /// Whether the service's finality is never asked for.
         loose: bool,
     },
     /// `jump S STATE`: the service is in this state, whatever its transitions say.

@@ -68,7 +68,7 @@ impl Page {
     }
 
     /// Puts what is held, as one piece, or nothing where nothing is held. The page is empty then,
-    /// whatever the answer.
+    /// whatever the answer; where the sink failed, a prefix of the piece was put.
     pub fn flush<O: Sink>(&mut self, out: &mut O) -> Result<(), Failed>
         ensures puts { Puts (O.written out.old) (O.written out.new) self.old result }
         ensures empty { self.new ≡ [] }

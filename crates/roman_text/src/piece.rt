@@ -26,7 +26,7 @@ impl Model for Piece {
 }
 
 impl Piece {
-    /// No bytes.
+    /// A piece of no bytes.
     pub fn new() -> Piece
         ensures { result ≡ [] }
     {
@@ -36,7 +36,7 @@ impl Piece {
         }
     }
 
-    /// The bytes.
+    /// The bytes that were put together.
     pub fn bytes(&self) -> &[u8]
         ensures { result.now ≡ self.now }
     {

@@ -20,7 +20,7 @@ pub enum ReportLine {
     Target {
         /// The state.
         state: Name,
-        /// The target may rest there.
+        /// Whether the target may rest there.
         is_final: bool,
     },
     /// A service.
@@ -31,9 +31,9 @@ pub enum ReportLine {
         behaviour: Name,
         /// Its present state.
         state: Name,
-        /// It takes no delegations.
+        /// Whether the service takes no delegations.
         frozen: bool,
-        /// Its finality is never asked for.
+        /// Whether the service's finality is never asked for.
         loose: bool,
     },
     /// Whether a composition exists from the present pair.

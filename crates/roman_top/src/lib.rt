@@ -1,4 +1,6 @@
-//! The program as one call.
+//! The program as one call: [`serve`] reads the words of a command, does what they ask for with a
+//! shelf, an input and an output, and answers a [`Status`]. `specs/Run` says what a run writes and how
+//! it ends, `specs/Headline` what a session keeps by the greatest ND-simulation alone.
 #![tactic(auto)]
 
 mod advise;

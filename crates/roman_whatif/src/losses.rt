@@ -29,12 +29,12 @@ const NOTHING: Outlook = Outlook {
 /// What is left of a pair of a relation where one service fails, or two, in either way.
 #[derive(Drop)]
 pub struct Losses {
-    /// The pair.
+    /// The number of the pair in the relation from which the losses were built.
     pub pair: u32,
     /// What is left where services freeze, `32 * j + k` for those at the places k and j, k being less than
     /// j, and `32 * j + j` for the one at place j.
     pub frozen: Vec<Outlook>,
-    /// What is left where they die.
+    /// What is left where services die, at the same places as where they freeze.
     pub gone: Vec<Outlook>,
 }
 
