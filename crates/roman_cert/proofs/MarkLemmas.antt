@@ -65,7 +65,7 @@ module _ {N : Type 0} (A : Arena N) (same : IsSame A) (L : List (Entry N)) (orde
             | inr late ↦ any_from (leads_to A L p x.node) y (drop (i + 1) L) late t
           ])
 
-  -- one entry more, towards the front
+  -- one entry more, towards the beginning
   pub rests_next : (i : ℕ) (x : Entry N) (old new : N → Bool) → slice_get L i ≡ Some x → ((q : N) → old q ≡ rests_from A L p (i + 1) q) →
       ((q : N) → new q ≡ (old q || (old x.node && is_among A (answers A L x.node x.reason) q))) → (q : N) → new q ≡ rests_from A L p i q
   rests_next i x old new e was now q =

@@ -113,7 +113,7 @@ some_entry pairs actions line front back n r few cut l e i same =
     ap (entry_of pairs actions) (cut.whole ∙ ap₂ (λ bs cs. bs ++ 32 ∷ cs) (sym e) (sym same))
     ∙ entry_of-line pairs actions (record { node = n; reason = r }) few (in_possible pairs actions (record { node = n; reason = r }) l i)
 
--- Lines at the front of more bytes
+-- Lines with which more bytes begin
 
 -- a line whose first part is a pair's number, and whose second part is a reason's text before a newline
 pub front_line : (pairs actions : ℕ) (bytes : List ℕ) (i end n : ℕ) (r : Reason) → AreFew pairs actions → IsNumberTo 32 bytes i → n < pairs → decimal n ≡ take i bytes →

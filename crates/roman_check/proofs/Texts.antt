@@ -26,11 +26,11 @@ same_as_eq xs ys zs r e same =
     let (to, from) = slice_eq-Decides Decides-eqb xs ys r e in
     same_from r zs xs (λ t. sym (to t ∙ same)) (λ e. from (sym e ∙ sym same))
 
--- the front of a text, and what follows it
+-- a prefix of a text, and what follows it
 pub taken_more : (xs : List ℕ) (n m : ℕ) → take n xs ++ take m (drop n xs) ≡ take (n + m) xs
 taken_more xs n m = ap₂ (λ a b. a ++ b) (sym (take-take n (n + m) xs (omega arith))) (sym (drop-take n m xs)) ∙ take-append-drop n (take (n + m) xs)
 
--- a front of a text in which no byte is that one
+-- a prefix of a text in which no byte is that one
 pub clear_before : (b : ℕ) (xs : List ℕ) (i : ℕ) → ((k : ℕ) → k < i → IsFalse (get_or xs k 0 == b)) → IsFalse (has (take i xs) b)
 clear_before b xs zero none = refl
 clear_before b [] (suc i) none = refl

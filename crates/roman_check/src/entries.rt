@@ -80,7 +80,7 @@ fn reason_of(byte: u8, actions: u8) -> Option<Reason>
     Some(Reason::Act(action))
 }
 
-/// The reason at the front of the bytes, and how long its text is, where a newline ends it there;
+/// The reason with which the bytes begin, and how long its text is, where a newline ends it there;
 /// `None` says nothing.
 #[inline]
 fn front_reason(bytes: &[u8], actions: u8) -> Option<(Reason, usize)>
@@ -95,7 +95,7 @@ fn front_reason(bytes: &[u8], actions: u8) -> Option<(Reason, usize)>
     Some((Reason::Act(action as u8), end))
 }
 
-/// The entry on the line at the front of the bytes, and how long the line is, read in one pass; `None`
+/// The entry on the line with which the bytes begin, and how long the line is, read in one pass; `None`
 /// says nothing. With the first digit known, its number needs no look at leading zeros.
 #[inline]
 pub(crate) fn front_entry(bytes: &[u8], pairs: u32, actions: u8) -> Option<(u32, Reason, usize)>

@@ -32,7 +32,7 @@ fn digit(byte: u8) -> u64
     u64::from(byte).wrapping_sub(u64::from(b'0'))
 }
 
-/// The number that the digits at the front of the bytes are, also where zeros lead, and how many they
+/// The number of the digits with which the bytes begin, also where zeros lead, and how many they
 /// are; `None` exactly where the byte `stop` doesn't follow at most ten digits.
 #[inline]
 pub(crate) fn number_to(bytes: &[u8], stop: u8) -> Option<(u64, usize)>

@@ -13,7 +13,7 @@ abbrev pub place_of_rule : Bool → Place
 place_of_rule true = list.Whole
 place_of_rule false = list.Steps
 
--- a refusal is the one that the definition gives; a fault and want of memory say nothing of it
+-- a refusal is the one that the definition gives; a fault and running out of memory say nothing of it
 abbrev pub IsRefusedBy : {Y : Type 0} → CostError → Result Y PartError → Type 0
 IsRefusedBy error.Fault reading = Unit {0}
 IsRefusedBy (error.Refused kind whole index) reading = reading ≡ Err (part_error.Refused kind (place_of_rule whole) index)

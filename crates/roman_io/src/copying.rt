@@ -3,7 +3,7 @@ ghost use Rattle.std.specs.Prelude.{◌≡◌, ℕ, ◌+◌, ◌/◌, ◌⊎◌,
 ghost use Rattle.roman_io.specs.Memory.{texts_of};
 ghost use Rattle.roman_io.specs.Shelf.{Fetches, text_at};
 
-/// Copies as many bytes as there is room for from the front of `from` to the front of `into`, and
+/// Copies as many bytes as there is room for from the beginning of `from` to that of `into`, and
 /// answers how many.
 pub fn copy_front(from: &[u8], into: &mut [u8]) -> usize
     ensures count { result ≡ min (length from.now) (length into.new) }
@@ -14,7 +14,7 @@ pub fn copy_front(from: &[u8], into: &mut [u8]) -> usize
     count
 }
 
-/// Copies as many bytes as there is room for from place `at` of a text to the front of `into`, and
+/// Copies as many bytes as there is room for from place `at` of a text to the beginning of `into`, and
 /// answers how many.
 pub fn copy_from(text: &[u8], at: u64, into: &mut [u8]) -> usize
     requires { length text.now < 2 ^ 63 }

@@ -16,7 +16,7 @@ use roman_radix::Shape;
 /// How many services' sizes a table has room for.
 const PLACES: usize = MAX_SERVICES as usize;
 
-/// How many states each service has, at the front of a table.
+/// How many states each service has, in the first places of a table.
 pub(crate) fn sizes_of_seats(catalogue: &[Behaviour], seats: &[Seat]) -> [u8; PLACES]
     requires few { length seats.now ≤ MAX_SERVICES }
     requires behaviours { All (λ seat. seat.behaviour < length catalogue.now) seats.now }

@@ -17,7 +17,7 @@ use roman_radix::Shape;
 /// How many services' states a table has room for.
 const PLACES: usize = MAX_SERVICES as usize;
 
-/// The states of the services before the lanes at the pairs of a row, at the front of a table.
+/// The states of the services before the lanes at the pairs of a row, in the first places of a table.
 pub(crate) fn row_states(joint: &Joint, x: u32) -> [u8; PLACES]
     ensures { (k : ℕ) → k < low_in (system_of joint.now) → slice_index result k
         ≡ x / (stride_of (sizes_of (system_of joint.now)) k / lanes_in (system_of joint.now)) % slice_index (sizes_of (system_of joint.now)).seats k }

@@ -1,4 +1,4 @@
--- Loops that go over a list from the front, some places at a time.
+-- Loops that go over a list from its beginning, some places at a time.
 use Rattle.std.proofs.Common.{◌≡◌, ℕ, ◌+◌, ◌-◌, List, length, take, drop, sum_by, ap, ◌∙◌}
 use Rattle.std.specs.Simd.Lanes.{chunk}
 use Rattle.std.proofs.Math.Seq.{take-add}

@@ -1,15 +1,15 @@
--- How the front of a text grows.
+-- How the prefix of a text grows.
 use Rattle.std.proofs.Common.{◌≡◌, ℕ, ◌+◌, ◌≤◌, List, [], ◌++◌, length, take, drop, sym, ◌∙◌, ap, subst, arith, append-nil, length-append, Option, None, Some, IfSome}
 use Rattle.std.proofs.lemmas.List.{take-append-drop, length-take-le}
 use Rattle.std.proofs.Math.Seq.{take-append-add}
 use Rattle.roman_io.specs.Shelf.{Texts, Fetches, text_of}
 use Rattle.roman_library.specs.Texts.{IsFront}
 
--- the text is its front and what is left behind it
+-- the text is its prefix and what is left behind it
 front_rest : (bytes text : List ℕ) → IsFront bytes text → bytes ++ drop (length bytes) text ≡ text
 front_rest bytes text front = ap (λ xs. xs ++ drop (length bytes) text) (sym front.same) ∙ take-append-drop (length bytes) text
 
--- the next bytes of the text, behind its front
+-- the next bytes of the text, behind its prefix
 front_more : (bytes piece text : List ℕ) (n : ℕ) → IsFront bytes text → take n piece ≡ take n (drop (length bytes) text) →
     n ≤ length (drop (length bytes) text) → IsFront (bytes ++ take n piece) text
 front_more bytes piece text n front same within =
@@ -19,12 +19,12 @@ front_more bytes piece text n front same within =
     take-append-add bytes (drop (length bytes) text) n ∙ ap (λ xs. bytes ++ xs) (sym same) in
     record { same = rw size (subst (λ t. take (length bytes + n) t ≡ bytes ++ take n piece) (front_rest bytes text front) taken) }
 
--- where nothing is left behind the front, it is the text
+-- where nothing is left behind the prefix, it is the text
 pub front_all : (bytes text : List ℕ) → IsFront bytes text → drop (length bytes) text ≡ [] → text ≡ bytes
 front_all bytes text front end =
     sym (front_rest bytes text front) ∙ ap (λ xs. bytes ++ xs) end ∙ append-nil bytes
 
--- a front is no longer than its text
+-- a prefix is no longer than its text
 pub front_short : (bytes text : List ℕ) → IsFront bytes text → length bytes ≤ length text
 front_short bytes text front =
     let e = ap length (front_rest bytes text front) in

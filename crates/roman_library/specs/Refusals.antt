@@ -10,7 +10,7 @@ use Rattle.roman_library.specs.declared.refusal.Refusal.{Refusal}
 use Rattle.roman_library.specs.declared.refusal.LoadError.{LoadError}
 use Rattle.roman_library.specs.declared.refusal.LoadError.TheVariants as error
 
--- a part's refusal, with the document and the part in which it stands (no definition wants memory: the last case stands for nothing)
+-- a part's refusal, with the document and the part in which it stands (no definition runs out of memory: the last case stands for nothing)
 abbrev pub refusal_of : List ℕ → Part → PartError → Refusal
 refusal_of document part (part_error.Refused kind list index) = record { document = document; kind = kind; part = part; list = list; index = index }
 refusal_of document part part_error.Memory = record { document = document; kind = Form; part = part; list = Whole; index = 0 }
@@ -20,7 +20,7 @@ abbrev pub placed : {X : Type 0} → List ℕ → Part → Result X PartError �
 placed document part (Ok x) = Ok x
 placed document part (Err e) = Err (refusal_of document part e)
 
--- a refusal is the one that the definition gives; a fault and want of memory say nothing of it
+-- a refusal is the one that the definition gives; a fault and running out of memory say nothing of it
 abbrev pub Stops : {Y : Type 0} → LoadError → Result Y Refusal → Type 0
 Stops error.Fault reading = Unit {0}
 Stops (error.Refused refusal) reading = reading ≡ Err refusal

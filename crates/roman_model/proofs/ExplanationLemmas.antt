@@ -122,7 +122,7 @@ module _ {N : Type 0} (A : Arena N) (L : List (Entry N)) (p : N) where
         inr (x, i, r, among_in A same (answers A L x.node x.reason) q m)
   ]
 
-  -- as many steps as are needed lead so far towards the front of the list
+  -- as many steps as are needed lead so far towards the beginning of the list
   pub rests_falls : (n : ℕ) (q : N) → IsSame A → IsTrue (rests_on A L n p q) → (k : ℕ) × IsTrue (rests_on A L k p q) × (length (entries_before A L q) + k ≤ length (entries_before A L p))
   rests_falls zero q same h = (0, h, subst (λ r. length (entries_before A L r) + 0 ≤ length (entries_before A L p)) (sym (same.is q p h)) (omega arith))
   rests_falls (suc n) q same h = by_last (rests_cases n q same h) (λ g. rests_falls n q same g) (λ r g. rests_falls n r same g)

@@ -40,7 +40,7 @@ pub order_from_left : {N : Type 0} (A : Arena N) (before : List N) (L M : List (
 order_from_left A before [] M order = tt
 order_from_left A before (x ∷ L) M order = (order.0, order.1, order_from_left A (x.node ∷ before) L M order.2)
 
--- the front of a removal list is one
+-- a prefix of a removal list is one
 pub order_left : {N : Type 0} (A : Arena N) (L M : List (Entry N)) → IsOrder A (L ++ M) → IsOrder A L
 order_left A L M order = order_from_left A [] L M order
 

@@ -60,7 +60,7 @@ abbrev pub AreNew : {N : Type 0} → Arena N → List N → List (Entry N) → T
 AreNew A before [] = Unit {0}
 AreNew A before (x ∷ L) = IsFalse (is_among A before x.node) × AreNew A (x.node ∷ before) L
 
--- goes through the list from the front, and keeps an entry where those kept so far justify it
+-- goes through the list from its beginning, and keeps an entry where those kept so far justify it
 abbrev pub replay_from : {N : Type 0} → Arena N → List N → List (Entry N) → List (Entry N)
 replay_from A kept [] = []
 replay_from A kept (x ∷ L) =

@@ -102,7 +102,7 @@ forbidding env targets =
     else (if has_one_name env targets then Some error.Repeated
     else None)))
 
--- what is answered keeps to the rules: they allow what is made, and an error is the first that forbids; want of memory says nothing
+-- what is answered keeps to the rules: they allow what is made, and an error is the first that forbids; running out of memory says nothing
 abbrev pub Keeps : Result Combined CombineError → Option CombineError → Type 0
 Keeps (Ok made) rule = rule ≡ None
 Keeps (Err error.States) rule = rule ≡ Some error.States

@@ -79,7 +79,7 @@ next_of_all targets ts e None = []
 next_of_all targets ts e (Some r) =
     map (λ t'. states_number (target_sizes targets) (slice_set ts r.target t')) (member_next (slice_get targets r.target) (slice_index ts r.target) e r.action)
 
--- the table has the names, no two of which are the same, or two are; want of memory says nothing
+-- the table has the names, no two of which are the same, or two are; running out of memory says nothing
 abbrev pub TablesNames : List (List ℕ) → Result (List (List ℕ)) CombineError → Type 0
 TablesNames names (Ok table) = (table ≡ names) × IsFalse (has_repeats names)
 TablesNames names (Err error.States) = ⊥
@@ -88,7 +88,7 @@ TablesNames names (Err error.LongName) = ⊥
 TablesNames names (Err error.Repeated) = IsTrue (has_repeats names)
 TablesNames names (Err error.Memory) = Unit {0}
 
--- the combined names, which the rules on names allow; or the first of these rules that is broken; want of memory says nothing
+-- the combined names, which the rules on names allow; or the first of these rules that is broken; running out of memory says nothing
 abbrev pub AreCombinedNames : NamedEnv → List Named → Result (List (List ℕ) × List (List ℕ)) CombineError → Type 0
 AreCombinedNames env targets (Ok names) =
     (names.0 ≡ combined_state_names targets) × (names.1 ≡ request_names env targets) × IsFalse (has_long_name env targets) × IsFalse (has_one_name env targets)

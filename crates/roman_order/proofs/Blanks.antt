@@ -3,7 +3,7 @@ use Rattle.std.proofs.Common.{◌≡◌, ℕ, ◌+◌, ◌-◌, ◌≤◌, List,
 use Rattle.std.proofs.lemmas.Bool.{cases_lt}
 use Rattle.std.proofs.lemmas.List.{get_or-append_right, get_or-drop, get_or_past, get_or-replicate, length-replicate}
 
--- past a front that was overwritten the table is as it was
+-- past a prefix that was overwritten the table is as it was
 pub get_or-overwritten : {X : Type 0} (xs ys : List X) (n i : ℕ) (d : X) → length xs ≡ n → n ≤ i → get_or (xs ++ drop n ys) i d ≡ get_or ys i d
 get_or-overwritten xs ys n i d e h =
     get_or-append_right xs (drop n ys) n i d e h ∙ (get_or-drop n ys (i - n) d ∙ (let same : n + (i - n) ≡ i = omega arith in ap (λ j. get_or ys j d) same))

@@ -4,7 +4,7 @@ use Rattle.std.specs.Borrow.{Lends, MutBor, Fml, Array, u64}
 use Rattle.roman_order.specs.Board.{Board}
 use Rattle.roman_order.specs.contracts.order.Order.{the_row}
 
--- the table with its front written over, as long as before
+-- the table with its prefix written over, as long as before
 abbrev pub rewritten : List ℕ → List ℕ → List ℕ
 rewritten xs ys = take (length xs) (ys ++ drop (length ys) xs)
 

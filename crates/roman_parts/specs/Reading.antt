@@ -36,7 +36,7 @@ counted_items list name least most d = do
   items ← items_at list name d
   check (nat_le least (items_len items) && nat_le (items_len items) most) kind.Count list 0 items
 
--- a refusal is the one that the definition gives; want of memory says nothing of it
+-- a refusal is the one that the definition gives; running out of memory says nothing of it
 abbrev pub Fails : {Y : Type 0} → PartError → Result Y PartError → Type 0
 Fails Memory reading = Unit {0}
 Fails (Refused rule list i) reading = reading ≡ Err (Refused rule list i)

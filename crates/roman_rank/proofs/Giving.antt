@@ -19,7 +19,7 @@ use Rattle.roman_rank.specs.Ranking.{IsRank, AreRanks, loses_before, AreRanksBel
 
 -- ---- places in a list
 
--- what the front has an entry for stands at a place there
+-- what the prefix has an entry for stands at a place there
 pub entry_place : (L : List (Entry ℕ)) (m p : ℕ) → has_entry (take m L) p ≡ true → (i : ℕ) × (i < m) × (i < length L) × (slice_index (nodes_of L) i ≡ p)
 entry_place [] zero p t = absurd (false≢true t)
 entry_place [] (suc m) p t = absurd (false≢true t)
@@ -72,7 +72,7 @@ gives_all L start end i n old new past within gives = record {
   others = λ q apart. gives.others q (λ j f t. apart j f (omega arith));
 }
 
--- the front of what is written back
+-- a prefix of what is written back
 pub front_is : (n : ℕ) (xs ys : List ℕ) → length xs ≡ n → take n (xs ++ ys) ≡ xs
 front_is n xs ys e = ap (λ m. take m (xs ++ ys)) (sym e) ∙ take-append_seam xs ys
 

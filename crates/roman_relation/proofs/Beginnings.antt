@@ -33,7 +33,7 @@ begins_on L M N b c = begins_same M N (length L) c (begins_length L M b) ∙ b
 pub begins_get : (L M : List (Entry ℕ)) (i : ℕ) (d : Entry ℕ) → Begins L M → i < length L → get_or M i d ≡ get_or L i d
 begins_get L M i d b l = sym (get_or-take (length L) M i d l) ∙ ap (λ N. get_or N i d) b
 
--- what is listed in the front of a list is listed in it
+-- what is listed in a prefix of a list is listed in it
 pub take_listed : (A : Arena ℕ) (i : ℕ) (L : List (Entry ℕ)) (p : ℕ) → IsTrue (is_listed A (take i L) p) → IsTrue (is_listed A L p)
 take_listed A i L p t =
     subst (λ M. IsTrue (is_listed A M p)) (take-append-drop i L)

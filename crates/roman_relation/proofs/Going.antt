@@ -29,7 +29,7 @@ shaped_on A lanes b c s g = record {
   lanes = ap (λ (x : Board). x.lanes) g.rest ∙ s.lanes;
 }
 
--- the front of a list that goes on stays
+-- the prefix of a list that goes on stays
 pub front_kept : (start : ℕ) (L M : List (Entry ℕ)) → start ≤ length L → take start (L ++ M) ≡ take start L
 front_kept start L M l = take-append-le start L M l
 

@@ -13,11 +13,11 @@ use Rattle.roman_relation.specs.Settled.{Begins, HoldsLost, RisesByDepth, AreLev
 use Rattle.roman_relation.proofs.Beginnings.{listed_is, begins_get, begins_length, begins_same, begins_listed}
 use Rattle.roman_relation.proofs.Marks.{entry_listed}
 
--- an entry of the front is one of the list
+-- an entry of the prefix is one of the list
 front_entry : (L M : List (Entry ℕ)) (i : ℕ) (x : Entry ℕ) → Begins L M → i < length L → slice_get M i ≡ Some x → slice_get L i ≡ Some x
 front_entry L M i x b l e = slice_get-get_or L i x l ∙ ap Some (sym (begins_get L M i x b l) ∙ get_or_from_slice_get M i x x e)
 
--- an entry past the front is of a node that the front doesn't list
+-- an entry past the prefix is of a node that the prefix doesn't list
 new_entry : (A : Arena ℕ) → IsNumbered A → (L M : List (Entry ℕ)) (j : ℕ) (y : Entry ℕ) → Begins L M → IsOrder A M → length L ≤ j → slice_get M j ≡ Some y → IsFalse (is_listed A L y.node)
 new_entry A ok L M j y begins order past e =
     let front : take (length L) M ≡ L = begins in

@@ -48,7 +48,7 @@ seat_ready s k l ready = ap is_ready (seat_is s k l) ∙ ap not ready
 pub seat_unready : (s : Situation) (k : ℕ) → k < length s.parts.seats → IsTrue (seat_at s k).frozen → IsFalse (is_ready (slice_get (present_system s).seats k))
 seat_unready s k l frozen = ap is_ready (seat_is s k l) ∙ ap not frozen
 
--- a front of a list and the rest have as many entries as they are counted
+-- a prefix of a list and the rest have as many entries as they are counted
 pub record IsSplit (k n : ℕ) (L : List (Entry Pair)) : Type 0 where
   pub front : length (take k L) ≡ k
   pub rest : length (drop k L) ≡ n

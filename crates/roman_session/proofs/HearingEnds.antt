@@ -182,7 +182,7 @@ module _ (old new : Situation) (start mid has : Option (List ℕ)) (taken got : 
   part_fits : length (taken ++ take room got) ≤ MAX_SESSION_BYTES
   part_fits = omega (arith, length-append taken (take room got), length-take room got)
 
-  -- the bytes that go on after a front of that
+  -- the bytes that go on after a prefix of that
   part_split : (after heard past : List ℕ) → taken ++ take room got ≡ heard ++ past → (taken ++ got) ++ after ≡ heard ++ (past ++ (drop room got ++ after))
   part_split after heard past split = whole_part after ∙ ap (λ (bytes : List ℕ). bytes ++ (drop room got ++ after)) split ∙ append_assoc heard past (drop room got ++ after)
 

@@ -66,7 +66,7 @@ pub record Tells (old : Spot) (lines : List (List ℕ)) (new : Spot) : Type 0 wh
   pub told : Told old.situation lines text new.situation
   pub wrote : Wrote old.written new.written text
 
--- a front of what the session is told of those lines, where it stands there then, was written
+-- a prefix of what the session is told of those lines, where it stands there then, was written
 pub record TellsFront (old : Spot) (lines : List (List ℕ)) (new : Spot) : Type 0 where
   pub text : List ℕ
   pub told : Told old.situation lines text new.situation
@@ -110,7 +110,7 @@ pub record StopsShort (old new : Hall) : Type 0 where
   pub ends : AreWhole heard ⊎ Had old.rest heard
   pub tells : TellsFront old.spot (lines heard) new.spot
 
--- a front of what may be told of the whole session was written
+-- a prefix of what may be told of the whole session was written
 pub record TellsFrontOfAll (old : Hall) (now : Option (List ℕ)) : Type 0 where
   pub session : List ℕ
   pub had : Had old.rest session

@@ -22,7 +22,7 @@ pub record Ear : Type 0 where
 abbrev pub ear : Situation → Option (List ℕ) → List ℕ → List ℕ → Ear
 ear situation written page held = record { spot = spot situation written; page = page; held = held }
 
--- of what the session is told of those lines, where it stands there then, a front was written, and the page holds the rest
+-- of what the session is told of those lines, where it stands there then, a prefix was written, and the page holds the rest
 pub record Takes (old : Spot) (lines : List (List ℕ)) (new : Spot) (page : List ℕ) : Type 0 where
   pub text : List ℕ
   pub told : Told old.situation lines text new.situation
@@ -48,7 +48,7 @@ pub record FallsShort (old : Spot) (lines : List (List ℕ)) (new : Spot) : Type
   pub tells : TellsFront old lines new
   pub known : IsSituation new.situation
 
--- some front of the bytes ends with a line whose answer wasn't written whole
+-- some prefix of the bytes ends with a line whose answer wasn't written whole
 pub record FailsIn (old : Spot) (bytes : List ℕ) (new : Spot) : Type 0 where
   pub heard : List ℕ
   pub past : List ℕ

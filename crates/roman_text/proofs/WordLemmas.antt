@@ -37,7 +37,7 @@ some_step false m n i e h = absurd (cc)
 
 -- ---- words
 
--- a blank at the front separates nothing
+-- a blank at the beginning separates nothing
 words_of-blank : (byte : ℕ) (line : List ℕ) → is_blank byte ≡ true → words_of (byte ∷ line) ≡ words_of line
 unfolding words_of
 words_of-blank byte line e = ap (filter has_bytes) (slice_split-cons_yes is_blank byte line e)
@@ -47,7 +47,7 @@ start_step : (b : Bool) (x : ℕ) (xs : List ℕ) (n : ℕ) → is_blank x ≡ b
 start_step true x xs n e h = let next : 1 + n ≡ suc n = omega arith in rw next (h ∙ sym (words_of-blank x xs e))
 start_step false x xs n e h = refl
 
--- the blanks at the front have no words
+-- the blanks at the beginning have no words
 words_of-start : (line : List ℕ) → words_of (drop (position_or_len is_part line) line) ≡ words_of line
 words_of-start [] = refl
 words_of-start (x ∷ xs) = start_step (is_blank x) x xs (position_or_len is_part xs) refl (words_of-start xs)
@@ -62,7 +62,7 @@ no_words line h =
     let end = none_step (ltb (position_or_len is_part line) (length line)) (position_or_len is_part line) (length line) refl h in
     sym (words_of-start line) ∙ (ap words_of (drop_all (position_or_len is_part line) line end) ∙ words_of-nil)
 
--- the parts of a line after the one at its front
+-- the parts of a line after its first one
 record IsFront (line : List ℕ) (n : ℕ) : Type 0 where
   more : List (List ℕ)
   parts : slice_split is_blank line ≡ take n line ∷ more
@@ -90,7 +90,7 @@ front_of (x ∷ xs) = front_step (is_blank x) x xs (position_or_len is_blank xs)
 word_step : (b : Bool) (x : ℕ) (xs : List ℕ) (n : ℕ) → b ≡ false → has_bytes (take (cond (not b) (1 + n) 0) (x ∷ xs)) ≡ true
 word_step b x xs n e = let next : 1 + n ≡ suc n = omega arith in rw (e, next)
 
--- the word at the front of a line that begins with no blank
+-- the first word of a line that begins with no blank
 word_at : (x : ℕ) (xs : List ℕ) → is_blank x ≡ false
     → words_of (x ∷ xs) ≡ take (position_or_len is_blank (x ∷ xs)) (x ∷ xs) ∷ words_of (drop (position_or_len is_blank (x ∷ xs)) (x ∷ xs))
 unfolding words_of

@@ -25,7 +25,7 @@ fn first_blank(line: &[u8]) -> Option<usize>
     line.iter().position(|&byte| is_blank(byte))
 }
 
-// Where the word at the front ends.
+// Where the first word ends.
 #[tactic(auto, using(crate::proofs::WordLemmas::places))]
 fn word_end(line: &[u8]) -> usize
     ensures end { result ≡ position_or_len is_blank line.now }

@@ -26,7 +26,7 @@ pub told_all : {X : Type 0} (o : Option X) (P : X → Type 0) → ((x : X) → P
 told_all None P all = tt
 told_all (Some x) P all = all x
 
--- a text that was put, or a front of it
+-- a text that was put, or a prefix of it
 pub writes_put : {T E : Type 0} (IsRun : List ℕ → Status → Type 0) (old new : Option (List ℕ)) (text : List ℕ) (ends result : Status) (r : Result T E) → Puts old new text r → Finishes r ends result →
     IsRun text ends → (WritesText IsRun old new ends → Writes IsRun old new ends) → Writes IsRun old new result
 writes_put IsRun old new text ends result (Ok x) puts finishes run whole = subst (Writes IsRun old new) (sym finishes) (whole (record { text = text; run = run; wrote = puts }))

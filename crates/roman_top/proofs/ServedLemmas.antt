@@ -25,7 +25,7 @@ served_as asked other old new result same served = subst (λ (a : Option Command
 
 -- By the status
 
--- the whole text was written where no fault and no want of memory ended the run
+-- the whole text was written where neither a fault nor running out of memory ended the run
 pub free_text : (IsRun : List ℕ → Status → Type 0) (old new : Option (List ℕ)) (result : Status) → IsFree result → Writes IsRun old new result → WritesText IsRun old new result
 free_text IsRun old new status.Done free w = w
 free_text IsRun old new status.No free w = w
@@ -105,7 +105,7 @@ aside Resilience = record { given = λ texts system rest. ([], tt); shelf = λ s
 
 -- Documents that aren't document_opening
 
--- a front of the line of such a document is one of a run of any job
+-- a prefix of the line of such a document is one of a run of any job
 away_front : (texts : Texts) (system : List ℕ) (job : Job) (rest : Option (List ℕ)) (old new : World) (result : Status) → Writes (TurnsAway (document_opening texts system)) old.written new.written result → result ≡ status.WriteFault →
     HasRunFront (Some (On system job)) texts rest old new
 away_front texts system job rest old new result writes is =

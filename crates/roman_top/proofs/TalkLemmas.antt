@@ -45,7 +45,7 @@ pub record Heard (old new : Hall) (result : Result (Unit {0}) HearError) : Type 
 -- Sessions of accepted documents
 
 module _ (texts : Texts) (system : List ℕ) (start : Situation) (accepts : Accepts (document_opening texts system) (λ library. IsStart library start)) where
-  -- what is told of a whole session, or of its front, is a run
+  -- what is told of a whole session, or of its prefix, is a run
   talked : (name : Option (List ℕ)) (session text : List ℕ) (ends : Status) → Talks session accepts.library text ends → Runs (Some (On system (Run name))) texts session text ends
   talked name session text ends talks = on_accepted (Talks session) (document_opening texts system) accepts.library text ends accepts.accepted talks
 
@@ -76,7 +76,7 @@ module _ (texts : Texts) (system : List ℕ) (start : Situation) (accepts : Acce
       wrote = h.tells.wrote;
     }
 
-    -- a front of what may be told of it
+    -- a prefix of what may be told of it
     runs_front : TellsFrontOfAll (hall start from old.written) new.written → HasRunFront (Some (On system (Run name))) texts old.rest old new
     runs_front h = by_test (is_heard_out h.session)
         (λ out. record {

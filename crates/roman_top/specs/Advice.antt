@@ -53,7 +53,7 @@ pub record Affords (name : List ℕ) (requests : ℕ) (texts : Texts) (library :
 
 -- ---- parts of a run
 
--- what is told of costs that were read, or refused; a fault and want of memory tell nothing
+-- what is told of costs that were read, or refused; a fault and running out of memory tell nothing
 abbrev pub TellsRead : List ℕ → NamedSys → ℕ → Pair → Result CostTable CostError → List ℕ → Status → Type 0
 TellsRead name n requests p (Ok costs) out result = SaysAdvice (advised_by n costs.listed requests p) out result
 TellsRead name n requests p (Err cost.Fault) out result = ⊥

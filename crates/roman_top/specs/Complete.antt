@@ -37,7 +37,7 @@ Suffices Shortest texts rest library = Unit {0}
 Suffices (Advise costs requests) texts rest library = Affords costs requests texts library
 Suffices Resilience texts rest library = Unit {0}
 
--- nothing but a fault or want of memory keeps the command from its answer
+-- nothing but a fault or running out of memory keeps the command from its answer
 abbrev pub CanAnswer : Option Command → Texts → Option (List ℕ) → Type 0
 CanAnswer None texts rest = ⊥
 CanAnswer (Some (On system job)) texts rest = (library : PlainLibrary) × (document_opening texts system ≡ Accepted library) × Suffices job texts rest library

@@ -31,14 +31,14 @@ pub record WritesText (IsRun : List ℕ → Status → Type 0) (old new : Option
   pub run : IsRun text result
   pub wrote : Wrote old new text
 
--- a front of the text of such a run was written
+-- a prefix of the text of such a run was written
 pub record WritesFront (IsRun : List ℕ → Status → Type 0) (old new : Option (List ℕ)) : Type 0 where
   pub text : List ℕ
   pub ends : Status
   pub run : IsRun text ends
   pub wrote : WroteFront old new text
 
--- the text of such a run, or a front of one where the sink failed; other faults and want of memory say nothing of it
+-- the text of such a run, or a prefix of one where the sink failed; other faults and running out of memory say nothing of it
 abbrev pub Writes : (List ℕ → Status → Type 0) → Option (List ℕ) → Option (List ℕ) → Status → Type 0
 Writes IsRun old new status.ShelfFault = Unit {0}
 Writes IsRun old new status.ReadFault = Unit {0}
@@ -89,7 +89,7 @@ abbrev pub StopsIn : {X : Type 0} → Option (List ℕ) → Option (List ℕ) �
 StopsIn old new (Ok x) = new ≡ old
 StopsIn old new (Err result) = EndsBare old new result
 
--- such a document, a fault or want of memory kept a document from being document_opening
+-- such a document, a fault or running out of memory kept a document from being document_opening
 abbrev pub IsAway : Status → Type 0
 IsAway status.Refused = Unit {0}
 IsAway status.Limit = Unit {0}
@@ -168,7 +168,7 @@ heard_status fault (Err hear.TooLong) = status.TooLong
 
 -- ---- certificates
 
--- the verdict on a certificate, or that it is too long; a fault and want of memory say nothing of it
+-- the verdict on a certificate, or that it is too long; a fault and running out of memory say nothing of it
 abbrev pub FindsVerdict : Arena ℕ → ℕ → List ℕ → Result Verdict CheckError → Type 0
 FindsVerdict A start certificate (Ok verdict) = cert_verdict A start certificate ≡ verdict_of verdict
 FindsVerdict A start certificate (Err check.Fault) = Unit {0}

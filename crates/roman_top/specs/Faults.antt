@@ -1,4 +1,4 @@
--- Runs that a fault or want of memory has ended: what was written and taken by then.
+-- Runs that a fault or running out of memory has ended: what was written and taken by then.
 use Rattle.std.specs.Prelude.{◌≡◌, ℕ, ◌+◌, ◌⊎◌, List, ◌++◌, Option, None, Some, IfSome, IsSome}
 use Rattle.roman_io.specs.Shelf.{Texts, text_of}
 use Rattle.roman_io.specs.Sink.{Wrote, WroteFront}
@@ -14,7 +14,7 @@ use Rattle.roman_top.specs.World.{World, IsUnwritten}
 use Rattle.roman_top.specs.declared.status.Status.{Status}
 use Rattle.roman_top.specs.declared.status.Status.TheVariants as status
 
--- neither a fault nor want of memory ended the run
+-- neither a fault nor running out of memory ended the run
 abbrev pub IsFree : Status → Type 0
 IsFree status.ShelfFault = ⊥
 IsFree status.ReadFault = ⊥
@@ -56,7 +56,7 @@ abbrev pub AtReadFault : Option Command → World → World → Type 0
 AtReadFault (Some (On system (Run None))) old new = IfSome old.texts (λ texts. HasAnsweredInput texts system old new)
 AtReadFault _ old new = ⊥
 
--- a front of the text of a run was written, where the input had that rest
+-- a prefix of the text of a run was written, where the input had that rest
 pub record HasRunFront (asked : Option Command) (texts : Texts) (rest : Option (List ℕ)) (old new : World) : Type 0 where
   pub session : List ℕ
   pub given : IsSessionText asked texts rest session
@@ -65,7 +65,7 @@ pub record HasRunFront (asked : Option Command) (texts : Texts) (rest : Option (
   pub run : Runs asked texts session text ends
   pub wrote : WroteFront old.written new.written text
 
--- a front of what a session is told of whole lines that the input gave, or of all that it had, was written
+-- a prefix of what a session is told of whole lines that the input gave, or of all that it had, was written
 pub record HasFrontOfTaken (texts : Texts) (system : List ℕ) (old new : World) : Type 0 where
   pub taken : List ℕ
   pub more : List ℕ

@@ -73,6 +73,6 @@ KeepsPromise (Some (On system (Run name))) texts old new =
 KeepsPromise (Some (On system Synth)) texts old new = (library : PlainLibrary) → document_opening texts system ≡ Accepted library → HasReported library old new
 KeepsPromise _ texts old new = Unit {0}
 
--- so it is where neither a fault nor want of memory ended the run
+-- so it is where neither a fault nor running out of memory ended the run
 abbrev pub HasHeadline : Option Command → World → World → Status → Type 0
 HasHeadline asked old new result = IsFree result → WithTexts asked old.texts (λ texts. KeepsPromise asked texts old new)

@@ -8,7 +8,7 @@ use Rattle.roman_top.specs.World.{World, Desk, beside}
 use Rattle.roman_top.specs.declared.status.Status.{Status}
 use Rattle.roman_top.specs.declared.status.Status.TheVariants as status
 
--- a run, where neither a fault nor want of memory ended it; else what stands in the sink then; which counts of faults rose;
+-- a run, where neither a fault nor running out of memory ended it; else what stands in the sink then; which counts of faults rose;
 -- what was taken from the input; and the shelf's texts stay
 pub record Served (asked : Option Command) (old new : World) (result : Status) : Type 0 where
   pub run : IsFree result → WithTexts asked old.texts (λ texts. HasRun asked texts old new result)

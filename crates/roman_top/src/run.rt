@@ -51,7 +51,7 @@ pub fn serve<F: Shelf, I: Source, O: Sink, L: Ledger>(
     out: &mut O,
     steps: &mut Steps<L>,
 ) -> Status
-    // What was written and the status are a run, where neither a fault nor want of memory ended it;
+    // What was written and the status are a run, where neither a fault nor running out of memory ended it;
     // else this stands in the sink, that count of faults rose, and that was taken from the input.
     ensures served { Served (command_of words.now)
         (world (F.texts shelf.old) (F.faults shelf.old) (I.rest input.old) (I.faults input.old) (O.written out.old) (O.faults out.old))

@@ -36,7 +36,7 @@ impl Order {
     }
 }
 
-// The place of the first entry of the pair `p`, which is looked for from the front.
+// The place of the first entry of the pair `p`, which is looked for from the first entry on.
 fn place_in(entries: &[Removal], p: u32) -> Option<u32>
     requires { length entries.now < 2 ^ 32 }
     ensures { result ≡ place_in_list (entries_of entries.now) p }
