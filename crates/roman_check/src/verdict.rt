@@ -21,7 +21,7 @@ pub enum Verdict {
     },
 }
 
-/// What is wrong with a line of a certificate, by the number that the format gives it.
+/// What is wrong with a line of a certificate. The line of the verdict names it.
 #[derive(Clone, Copy, Debug, PartialEq, Eq)]
 pub enum Why {
     /// It isn't the line that is due there, or it is missing.

@@ -22,8 +22,8 @@ use std::alloc::Global;
 /// The library that the system document of this name is, with the part files that it names.
 ///
 /// `Refused` comes exactly where the document breaks a rule, with the first one in the order of the
-/// format; `Fault` only where the shelf failed, and its count of faults rose; `Memory` only where there
-/// is none. The shelf's texts stay as they are.
+/// format; `Fault` only where the shelf failed, and its count of faults rose; `Memory` where there is
+/// no memory for it. The shelf's texts stay as they are.
 pub fn load<F: Shelf>(alloc: Global, shelf: &mut F, name: &str) -> Result<Library, LoadError>
     ensures meaning { IfSome (F.texts shelf.old) (λ texts. Loads plain result (library_of texts name.now)) }
     ensures known { IfOk result (λ library. IsLibrary (plain library)) }

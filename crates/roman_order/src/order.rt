@@ -62,9 +62,9 @@ impl Model for Order {
 }
 
 impl Order {
-    /// Makes an order for at most `cap_pairs` pairs, which is shaped for no rows. It reserves places
-    /// for as many entries, for as many again that wait, and for words, marks and levels; none of them
-    /// is written, so the pages of what isn't used stay untouched. No other call but
+    /// Makes an order for at most `cap_pairs` pairs, which is shaped for no rows. It reserves room for
+    /// as many entries, for as many again that wait, and for words, places, marks and levels; none of
+    /// it is written, so the pages of what isn't used stay untouched. No other call but
     /// [`copy`](Order::copy) takes memory. The one error is that there is none.
     pub fn build(alloc: Global, cap_pairs: u32) -> Result<Order, AllocError>
         ensures { IfOk result (λ order. order ≡ record {

@@ -20,8 +20,8 @@ use std::alloc::Global;
 
 #[tactic(auto, unfolding(crate::specs::Parts::environment_of))]
 /// The environment that a JSON value is, as system documents write it. `Refused` comes exactly where
-/// the value breaks a rule, with the first one in the order of the format, and `Memory` only where
-/// there is none.
+/// the value breaks a rule, with the first one in the order of the format, and `Memory` where there is
+/// no memory for it.
 pub fn read_environment(alloc: Global, v: &Value) -> Result<Environment, PartError>
     ensures environment { Gives (λ x. x) result (environment_of (view v.now)) }
 {
@@ -38,7 +38,7 @@ pub fn read_environment(alloc: Global, v: &Value) -> Result<Environment, PartErr
 #[tactic(auto, unfolding(crate::specs::Parts::behaviour_of))]
 /// The behaviour over `env` that a JSON value is, as system documents write it. Whether another
 /// behaviour has its name isn't looked at. `Refused` comes exactly where the value breaks a rule, with
-/// the first one in the order of the format, and `Memory` only where there is none.
+/// the first one in the order of the format, and `Memory` where there is no memory for it.
 pub fn read_behaviour(alloc: Global, v: &Value, env: &Environment) -> Result<Behaviour, PartError>
     ensures behaviour { Gives (λ x. x) result (behaviour_of env.now (view v.now)) }
 {
@@ -56,7 +56,7 @@ pub fn read_behaviour(alloc: Global, v: &Value, env: &Environment) -> Result<Beh
 #[tactic(auto, using(crate::proofs::SingleLemmas::single_steps), unfolding(crate::specs::Parts::target_of))]
 /// The target over `env` that a JSON value is, as system documents write it. A member `name` isn't
 /// looked at. `Refused` comes exactly where the value breaks a rule, with the first one in the order of
-/// the format, and `Memory` only where there is none.
+/// the format, and `Memory` where there is no memory for it.
 pub fn read_target(alloc: Global, v: &Value, env: &Environment) -> Result<Target, PartError>
     ensures target { Gives (λ x. x) result (target_of env.now (view v.now)) }
 {

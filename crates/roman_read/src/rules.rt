@@ -5,7 +5,7 @@ ghost use Rattle.roman_read.specs.Kinds.{kind_number, miss_number, kind_of};
 use crate::name::Name;
 use thiserror::Error;
 
-/// A rule of a document that is broken, by the name and the number that refusal lines give it.
+/// A rule of a document that is broken. The line of a refusal names it.
 #[derive(Clone, Copy, Debug, PartialEq, Eq)]
 pub enum Kind {
     /// A member isn't there.
