@@ -19,11 +19,14 @@ const MAX_LANES: u32 = 64;
 
 /// How many states the target, the environment and each component of a pair have.
 ///
-/// The number of the pair with the target's state t, the environment's state e and the states b1,
-/// b2, .. of the components is `((t * E + e) * s1 + b1) * s2 + b2` and so on, where E is the
-/// environment's size and s1, s2, .. are those of the components. A shape keeps beside the sizes
-/// what each state adds to a number, so that a pair's number moves with one of its states by one
-/// product.
+/// The number of the pair with the target's state t, the environment's state e and the states b1, b2,
+/// .. of the components is `((t * E + e) * s1 + b1) * s2 + b2` and so on, where E is the environment's
+/// size and s1, s2, .. are those of the components. A shape keeps beside the sizes what each state adds
+/// to a number, so that a pair's number moves with one of its states by one product.
+///
+/// It is `Copy`, and no call takes memory. Numbers that are passed are in range: pairs below
+/// [`pairs`](Shape::pairs), components below [`components`](Shape::components), and states below their
+/// sizes.
 #[derive(Clone, Copy, Debug)]
 pub struct Shape {
     target: u8,
@@ -86,9 +89,9 @@ impl Shape {
         let _pairs = &self.pairs;
     }
 
-    /// How many components stand before the lanes: the last components, as many of them as have at
-    /// most 64 states together, are a pair's lane in its row. The others are in one state at all pairs
-    /// of a row, and so are the target and the environment.
+    /// How many components stand before the lanes, which are the last components, as many of them as
+    /// have at most 64 states together. At all pairs of a row the target, the environment and the
+    /// components before the lanes are in one state.
     pub fn low(&self) -> u8
         ensures value { result ≡ low_of self.now.seats }
         ensures within { result ≤ length self.now.seats }
@@ -96,7 +99,7 @@ impl Shape {
         self.low
     }
 
-    /// How many pairs a row has: pair p is lane `p % lanes` of row `p / lanes`.
+    /// How many pairs a row has, from 1 to 64: pair p is lane `p % lanes` of row `p / lanes`.
     pub fn lanes(&self) -> u32
         ensures value { result ≡ lanes_of self.now.seats }
         ensures few { (0 < result) × (result ≤ 64) }
@@ -104,7 +107,7 @@ impl Shape {
         self.lanes
     }
 
-    /// How many rows there are.
+    /// How many rows there are: the pairs divided by the lanes, with no rest.
     pub fn rows(&self) -> u32
         ensures { result * lanes_of self.now.seats ≡ count self.now }
     {
@@ -133,14 +136,14 @@ impl Shape {
         self.strides[k as usize]
     }
 
-    /// How many components there are.
+    /// How many components there are, at most 32.
     pub fn components(&self) -> u8
         ensures { result ≡ length self.now.seats }
     {
         self.components
     }
 
-    /// How many states component k has.
+    /// How many states component k has, at least 1.
     pub fn size(&self, k: u8) -> u8
         requires { k < length self.now.seats }
         ensures { result ≡ slice_index self.now.seats k }
@@ -148,7 +151,8 @@ impl Shape {
         self.sizes[k as usize]
     }
 
-    /// The number of the pair with these states.
+    /// The number of the pair with these states of the target, the environment and, in their order, the
+    /// components.
     pub fn number(&self, t: u8, e: u8, states: &[u8]) -> u32
         requires { IsPairOf self.now (record { t = t; e = e; bs = states.now }) }
         ensures number { result ≡ number self.now (record { t = t; e = e; bs = states.now }) }

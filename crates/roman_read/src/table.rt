@@ -9,8 +9,8 @@ use std::alloc::{AllocError, Global};
 use std::marker::Model;
 use thiserror::Error;
 
-/// Names that are numbered from 0 in the order in which they were added, none of them twice. They are
-/// looked up by hash, with the fixed seed of `indexmap`. Contracts see the list of them.
+/// Names that are numbered from 0 in the order in which they were added, none of them twice. Contracts
+/// see the list of them.
 #[derive(Drop)]
 pub struct NameTable {
     names: IndexSet<Name>,
