@@ -1,5 +1,5 @@
 -- The lanes of a word, and the entries of the pairs at them.
-use Rattle.std.proofs.Common.{◌≡◌, ◌≢◌, ℕ, zero, suc, ◌+◌, ◌-◌, ◌*◌, ◌%◌, ◌^◌, ◌<◌, ◌≤◌, Bool, true, false, cond, not, ◌&&◌, ◌||◌, eqb, List, [], ◌∷◌, ◌++◌, map, length, get_or, IsTrue, refl, ap, ap₂, sym, ◌∙◌, subst, inl, inr, arith, filter, bit_and}
+use Rattle.std.proofs.Common.{◌≡◌, ◌≢◌, ℕ, zero, suc, ◌+◌, ◌-◌, ◌*◌, ◌%◌, ◌^◌, ◌<◌, ◌≤◌, Bool, true, false, not, ◌&&◌, ◌||◌, eqb, List, [], ◌∷◌, ◌++◌, map, length, get_or, IsTrue, refl, ap, sym, ◌∙◌, subst, inl, inr, arith, filter, bit_and}
 use Rattle.std.specs.List.{list_any}
 use Rattle.std.specs.Int.{w64, bit_not}
 use Rattle.std.proofs.Math.ListN.{set}
@@ -16,15 +16,14 @@ use Rattle.roman_model.proofs.Lists.{filter_below_more, list_any-map, any_true, 
 use Rattle.roman_lanes.specs.Rows.{is_on, HasLanes, AreRows}
 use Rattle.roman_lanes.proofs.RowBits.{on_and, on_less, on_zero, on_ones, on_ones_above, on_pow_same, on_pow_other}
 use Rattle.roman_order.specs.Board.{as_entry, set_lanes, entries_in, has_entry}
+use Rattle.roman_order.proofs.Places.{or_off}
 
 -- ---- the lanes of a word, the first apart
 
 -- up to t there are none
 none_before : (n t m : ℕ) → ((i : ℕ) → i < t → is_on n i ≡ false) → m ≤ t → filter (is_on n) (below m) ≡ []
 none_before n t zero off h = refl
-none_before n t (suc m) off h =
-    filter_below_more (is_on n) m
-    ∙ (ap₂ (λ xs b. xs ++ cond b (m ∷ []) []) (none_before n t m off (omega arith)) (off m (omega arith)))
+none_before n t (suc m) off h = rw (filter_below_more (is_on n) m, none_before n t m off (omega arith), off m (omega arith)) refl
 
 -- word n is the word m with the lane t before all others
 pub record IsFirstOf (n m t : ℕ) : Type 0 where
@@ -36,19 +35,12 @@ pub record IsFirstOf (n m t : ℕ) : Type 0 where
 
 first_then : (n m t k : ℕ) → IsFirstOf n m t → t < k → k ≤ 64 → filter (is_on n) (below k) ≡ t ∷ filter (is_on m) (below k)
 first_then n m t zero is h l = absurd (omega arith)
-first_then n m t (suc k) is h l =
-    elim (cases_eq k t) [
-      | inl e ↦
-          let low : k ≤ t = omega arith in
-          let none_m = none_before m t k (λ i b. is.same i (omega (arith, is.low)) (λ s. omega arith) ∙ is.before i b) low in
-          filter_below_more (is_on n) k
-          ∙ (ap₂ (λ xs b. xs ++ cond b (k ∷ []) []) (none_before n t k is.before low) (ap (is_on n) e ∙ is.on)
-          ∙ (ap (λ j. j ∷ []) e ∙ ap (λ xs. t ∷ xs) (sym (filter_below_more (is_on m) k ∙ ap₂ (λ xs b. xs ++ cond b (k ∷ []) []) none_m (ap (is_on m) e ∙ is.off)))))
-      | inr ne ↦
-          filter_below_more (is_on n) k
-          ∙ (ap₂ (λ xs b. xs ++ cond b (k ∷ []) []) (first_then n m t k is (omega arith) (omega arith)) (sym (is.same k (omega arith) ne))
-          ∙ ap (λ xs. t ∷ xs) (sym (filter_below_more (is_on m) k)))
-    ]
+first_then n m t (suc k) is h l = elim (cases_eq k t) [
+  | inl e ↦
+      let none_m = none_before m t k (λ i b. is.same i (omega (arith, is.low)) (λ s. omega arith) ∙ is.before i b) (omega arith) in
+      rw (filter_below_more (is_on n) k, filter_below_more (is_on m) k, none_before n t k is.before (omega arith), none_m, e, is.on, is.off) refl
+  | inr ne ↦ rw (filter_below_more (is_on n) k, filter_below_more (is_on m) k, first_then n m t k is (omega arith) (omega arith), is.same k (omega arith) ne) refl
+]
 
 pub set_lanes-first : (n m t : ℕ) → IsFirstOf n m t → set_lanes n ≡ t ∷ set_lanes m
 unfolding set_lanes
@@ -75,10 +67,14 @@ without_first n t low on before = record {
 pub without_first-less : (n m t : ℕ) → IsFirstOf n m t → m ≤ n → m < n
 without_first-less n m t is h = elim (cases_eq m n) [ inl e ↦ absurd (both_ways (is_on n t) (sym (ap (λ w. is_on w t) e) ∙ is.off) is.on) | inr ne ↦ omega arith ]
 
--- a word of one lane
-set_lanes-one : (k : ℕ) → k < 64 → set_lanes (2 ^ k) ≡ k ∷ []
+-- a word of one lane, as it is computed
+one_pow : (k : ℕ) → k < 64 → 1 * 2 ^ k % 2 ^ 64 ≡ 2 ^ k
+one_pow k l = let below : 2 ^ k < 2 ^ 64 = pow-lt l in omega arith
+
+pub set_lanes-one : (k : ℕ) → k < 64 → set_lanes (1 * 2 ^ k % 2 ^ 64) ≡ k ∷ []
 set_lanes-one k l =
-    set_lanes-first (2 ^ k) 0 k (record {
+    ap set_lanes (one_pow k l)
+    ∙ set_lanes-first (2 ^ k) 0 k (record {
       low = l;
       on = on_pow_same k;
       before = λ i h. on_pow_other k i (λ e. omega arith);
@@ -87,16 +83,8 @@ set_lanes-one k l =
     })
     ∙ ap (λ xs. k ∷ xs) set_lanes-zero
 
--- the word as it is computed
-one_pow : (k : ℕ) → k < 64 → 1 * 2 ^ k % 2 ^ 64 ≡ 2 ^ k
-one_pow k l = let below : 2 ^ k < 2 ^ 64 = pow-lt l in omega arith
-
 pub one_lane : (k lane : ℕ) → k < 64 → is_on (1 * 2 ^ k % 2 ^ 64) lane ≡ true → lane ≡ k
-one_lane k lane l t = elim (cases_eq lane k) [ inl e ↦ e | inr ne ↦ absurd (both_ways (is_on (2 ^ k) lane) (on_pow_other k lane ne) (sym (ap (λ w. is_on w lane) (one_pow k l)) ∙ t)) ]
-
--- the entry of one lane
-pub entries_in-one : (lanes x lane : ℕ) (reason : Reason) → lane < 64 → entries_in lanes x (1 * 2 ^ lane % 2 ^ 64) reason ≡ as_entry (x * lanes + lane, reason) ∷ []
-entries_in-one lanes x lane reason low = ap (λ ls. map (λ l. as_entry (x * lanes + l, reason)) ls) (ap set_lanes (one_pow lane low) ∙ set_lanes-one lane low)
+one_lane k lane l t = elim (cases_eq lane k) [ inl e ↦ e | inr ne ↦ absurd (both_ways (is_on (2 ^ k) lane) (on_pow_other k lane ne) (rw one_pow at t)) ]
 
 pub in_lanes : (word lane : ℕ) → IsIn lane (set_lanes word) → (lane < 64) × (is_on word lane ≡ true)
 unfolding set_lanes
@@ -108,14 +96,19 @@ lanes_once word = HasNoRepeats-filter (is_on word) (below 64) (HasNoRepeats-belo
 
 -- ---- which pairs are listed after entries for the lanes of a row
 
+-- a pair is listed where it was, or where it is one of those
+has_entry-lanes : (L : List (Entry ℕ)) (first lost p : ℕ) (reason : Reason) →
+    has_entry (L ++ map (λ l. as_entry (first + l, reason)) (set_lanes lost)) p ≡ (has_entry L p || list_any (λ l. eqb p (first + l)) (set_lanes lost))
+has_entry-lanes L first lost p reason =
+    list_any-append (λ (x : Entry ℕ). eqb p x.node) L _ ∙ ap (λ b. has_entry L p || b) (list_any-map (λ l. as_entry (first + l, reason)) (λ (x : Entry ℕ). eqb p x.node) (set_lanes lost))
+
 -- the pair at a lane of the row is listed where it was, or where its lane is one of them
 pub has_entry-lane : (L : List (Entry ℕ)) (first lost lane : ℕ) (reason : Reason) → lane < 64 →
     has_entry (L ++ map (λ l. as_entry (first + l, reason)) (set_lanes lost)) (first + lane) ≡ (has_entry L (first + lane) || is_on lost lane)
 unfolding set_lanes
 has_entry-lane L first lost lane reason low =
-    list_any-append (λ (x : Entry ℕ). eqb (first + lane) x.node) L (map (λ l. as_entry (first + l, reason)) (set_lanes lost))
-    ∙ ap (λ b. has_entry L (first + lane) || b) (list_any-map (λ l. as_entry (first + l, reason)) (λ (x : Entry ℕ). eqb (first + lane) x.node) (set_lanes lost)
-    ∙ same_test (list_any (λ l. eqb (first + lane) (first + l)) (set_lanes lost)) (is_on lost lane)
+    has_entry-lanes L first lost (first + lane) reason
+    ∙ ap (λ b. has_entry L (first + lane) || b) (same_test (list_any (λ l. eqb (first + lane) (first + l)) (set_lanes lost)) (is_on lost lane)
     (λ t.
     let (l, i, e) = any_true (λ l. eqb (first + lane) (first + l)) (set_lanes lost) t in
     let equal = eqb-true (first + lane) (first + l) e in
@@ -124,19 +117,11 @@ has_entry-lane L first lost lane reason low =
     (λ t. any_from (λ l. eqb (first + lane) (first + l)) lane (set_lanes lost) (in_filter (is_on lost) lane (below 64) (in_below 64 lane low) t) (eq-eqb (first + lane) (first + lane) refl)))
 
 -- another pair is listed where it was
-pub has_entry-elsewhere : (L : List (Entry ℕ)) (first lost p : ℕ) (reason : Reason) → ((lane : ℕ) → lane < 64 → is_on lost lane ≡ true → p ≢ first + lane) →
+has_entry-elsewhere : (L : List (Entry ℕ)) (first lost p : ℕ) (reason : Reason) → ((lane : ℕ) → lane < 64 → is_on lost lane ≡ true → p ≢ first + lane) →
     has_entry (L ++ map (λ l. as_entry (first + l, reason)) (set_lanes lost)) p ≡ has_entry L p
-unfolding set_lanes
 has_entry-elsewhere L first lost p reason apart =
-    list_any-append (λ (x : Entry ℕ). eqb p x.node) L (map (λ l. as_entry (first + l, reason)) (set_lanes lost))
-    ∙ (ap (λ b. has_entry L p || b) (list_any-map (λ l. as_entry (first + l, reason)) (λ (x : Entry ℕ). eqb p x.node) (set_lanes lost)
-    ∙ none_from (λ l. eqb p (first + l)) (set_lanes lost)
-    (λ l i. let (j, t) = filter_in (is_on lost) l (below 64) i in ne_eqb p (first + l) (apart l (from_below 64 l j) t)))
-    ∙ or_off (has_entry L p))
-  where
-    or_off : (b : Bool) → (b || false) ≡ b
-    or_off true = refl
-    or_off false = refl
+    has_entry-lanes L first lost p reason
+    ∙ or_off (has_entry L p) _ (none_from (λ l. eqb p (first + l)) (set_lanes lost) (λ l i. let (low, t) = in_lanes lost l i in ne_eqb p (first + l) (apart l low t)))
 
 -- ---- the words of the pairs that aren't listed
 
@@ -149,10 +134,8 @@ pub AreRows-pushed : (lanes x lost : ℕ) (L : List (Entry ℕ)) (reason : Reaso
     AreRows lanes (λ p. not (has_entry (L ++ entries_in lanes x lost reason) p)) (set words x (bit_and (get_or words x 0) (bit_not w64 lost)))
 AreRows-pushed lanes x lost L reason words few room fits within rows = record {
   each = λ y h. elim (cases_eq y x) [
-    | inl e ↦ subst (λ z. HasLanes lanes z (λ p. not (has_entry after p)) (get_or (set words x word) z 0)) (sym e)
-        (subst (HasLanes lanes x (λ p. not (has_entry after p))) (sym (get_or-set_same words x word 0 room)) own)
-    | inr ne ↦ subst (HasLanes lanes y (λ p. not (has_entry after p))) (sym (get_or-set_other words x y word 0 ne))
-        (other y ne (rows.each y (omega (arith, h, length-set words x word))))
+    | inl e ↦ rw (e, get_or-set_same words x word 0 room) own
+    | inr ne ↦ rw (get_or-set_other words x y word 0 ne) (other y ne (rows.each y (omega (arith, h, length-set words x word))))
   ];
 }
   where

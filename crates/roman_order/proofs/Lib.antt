@@ -7,3 +7,4 @@ pub mod Stamps
 pub mod Counts
 pub mod Distinct
 pub mod Lent
+pub mod Tables

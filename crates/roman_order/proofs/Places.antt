@@ -1,12 +1,14 @@
 -- Lists of entries, one entry more.
-use Rattle.std.proofs.Common.{◌≡◌, ◌≢◌, ℕ, ◌+◌, ◌-◌, ◌^◌, ◌<◌, ◌≤◌, Bool, true, false, List, [], ◌∷◌, ◌++◌, length, Option, Some, None, refl, ap, sym, ◌∙◌, subst, inl, inr, arith, eqb, ◌||◌, ◌⊎◌, is_some, unwrap_or}
+use Rattle.std.proofs.Common.{◌≡◌, ◌≢◌, ℕ, ◌+◌, ◌-◌, ◌^◌, ◌<◌, ◌≤◌, Bool, true, false, List, [], ◌∷◌, ◌++◌, length, Option, Some, None, refl, ap, sym, ◌∙◌, subst, inl, inr, arith, eqb, ◌||◌, is_some, unwrap_or}
 use Rattle.std.specs.List.{list_any, position_from, IsDistinct}
 use Rattle.std.proofs.lemmas.Bool.{cases_eq, cases_Bool, ne_eqb, false≢true}
 use Rattle.std.proofs.lemmas.Cmp.{nat_eq_equiv}
 use Rattle.std.proofs.lemmas.List.{map_push, length-map}
 use Rattle.std.proofs.lemmas.Map.Keys.{IsDistinct-push}
 use Rattle.std.proofs.lemmas.Map.Steps.{length-le_from_distinct_below}
+use Rattle.std.proofs.lemmas.List.Folds.{list_any-append}
 use Rattle.roman_model.specs.Arena.{Entry}
+use Rattle.roman_model.proofs.Lists.{list_any-map}
 use Rattle.roman_order.specs.Board.{nodes_of, has_entry, place_in_list}
 use Rattle.roman_order.specs.Sound.{IsPlaced, stamp_of}
 
@@ -30,17 +32,15 @@ position_from-bound test i (x ∷ xs) j e =
 
 -- a pair is listed where it is among the pairs of the list
 pub has_entry-nodes : (L : List (Entry ℕ)) (p : ℕ) → list_any (eqb p) (nodes_of L) ≡ has_entry L p
-has_entry-nodes [] p = refl
-has_entry-nodes (x ∷ L) p = ap (λ b. eqb p x.node || b) (has_entry-nodes L p)
+has_entry-nodes L p = list_any-map (λ (x : Entry ℕ). x.node) (eqb p) L
+
+pub or_off : (b c : Bool) → c ≡ false → (b || c) ≡ b
+or_off true c h = refl
+or_off false c h = h
 
 -- after a push of x the list has the pair of x and those that it had
 pub has_entry-push : (L : List (Entry ℕ)) (x : Entry ℕ) (p : ℕ) → has_entry (L ++ x ∷ []) p ≡ (has_entry L p || eqb p x.node)
-has_entry-push [] x p = elim (cases_Bool (eqb p x.node)) [ inl t ↦ rw t | inr f ↦ rw f ]
-has_entry-push (y ∷ L) x p = elim (cases_Bool (eqb p y.node)) [ inl t ↦ rw t | inr f ↦ rw f (has_entry-push L x p) ]
-
-or_off : (b c : Bool) → c ≡ false → (b || c) ≡ b
-or_off true c h = refl
-or_off false c h = h
+has_entry-push L x p = list_any-append (λ (y : Entry ℕ). eqb p y.node) L (x ∷ []) ∙ ap (λ b. has_entry L p || b) (or_off (eqb p x.node) false refl)
 
 pub has_entry-push_other : (L : List (Entry ℕ)) (x : Entry ℕ) (p : ℕ) → p ≢ x.node → has_entry (L ++ x ∷ []) p ≡ has_entry L p
 has_entry-push_other L x p ne = rw has_entry-push (or_off (has_entry L p) (eqb p x.node) (ne_eqb p x.node ne))
@@ -79,21 +79,13 @@ length-le_from_apart n L apart below =
 
 -- ---- stamps
 
--- an optional number is there or not
-cases_Option : (o : Option ℕ) → (o ≡ None) ⊎ ((j : ℕ) × (o ≡ Some j))
-cases_Option None = inl refl
-cases_Option (Some j) = inr (j, refl)
-
 -- the greatest stamp says that the pair isn't listed
 pub place_in_list-from_greatest : (L : List (Entry ℕ)) (p : ℕ) → length L < 2 ^ 32 → stamp_of L p ≡ 2 ^ 32 - 1 → None ≡ place_in_list L p
-place_in_list-from_greatest L p few e =
-    elim (cases_Option (place_in_list L p)) [
-      | inl n ↦ sym n
-      | inr w ↦
-          let bound = position_from-bound (λ (x : Entry ℕ). eqb p x.node) 0 L w.0 w.1 in
-          let stamp : w.0 ≡ 2 ^ 32 - 1 = sym (ap (λ o. unwrap_or o (2 ^ 32 - 1)) w.1) ∙ e in
-          absurd (omega arith)
-    ]
+place_in_list-from_greatest L p few e = none (place_in_list L p) (λ j is. omega (arith, position_from-bound (λ (x : Entry ℕ). eqb p x.node) 0 L j is)) e
+  where
+    none : (place : Option ℕ) → ((j : ℕ) → place ≡ Some j → j < length L) → unwrap_or place (2 ^ 32 - 1) ≡ 2 ^ 32 - 1 → None ≡ place
+    none None within stamp = refl
+    none (Some j) within stamp = absurd (omega (arith, within j refl))
 
 -- ---- what a place says
 

@@ -1,16 +1,14 @@
 -- More entries in a table.
-use Rattle.std.proofs.Common.{◌≡◌, ℕ, ◌+◌, ◌*◌, ◌<◌, ◌≤◌, true, false, List, [], ◌∷◌, ◌++◌, map, length, sym, ◌∙◌, subst, inl, inr, refl, arith, append_assoc, append-nil, length-append}
-use Rattle.std.proofs.lemmas.List.{map_push, length_push, length-map}
+use Rattle.std.proofs.Common.{◌≡◌, ℕ, ◌+◌, ◌*◌, ◌<◌, false, List, [], ◌∷◌, ◌++◌, map, sym, ◌∙◌, subst, inl, inr, refl, arith, append_assoc, append-nil}
+use Rattle.std.proofs.lemmas.List.{map_push}
 use Rattle.std.proofs.lemmas.Nat.{mul-add-lt}
 use Rattle.roman_model.specs.Arena.{Entry}
 use Rattle.roman_model.specs.Lists.{IsIn, HasNoRepeats}
 use Rattle.roman_model.specs.declared.reason.Reason.{Reason}
-use Rattle.roman_lanes.specs.Rows.{is_on}
-use Rattle.roman_order.specs.Board.{as_entry, set_lanes, entries_in, has_entry}
+use Rattle.roman_order.specs.Board.{as_entry, has_entry}
 use Rattle.roman_order.specs.Sound.{IsPlaced, entries_of}
 use Rattle.roman_order.specs.declared.removal.Removal.{Removal}
-use Rattle.roman_order.proofs.Lanes.{in_lanes, lanes_once}
-use Rattle.roman_order.proofs.Places.{IsPlaced-push, has_entry-push_other, length-le_from_apart}
+use Rattle.roman_order.proofs.Places.{IsPlaced-push, has_entry-push_other}
 
 -- the entry of what a table holds at a place
 abbrev pub entry_in : Removal → Entry ℕ
@@ -19,12 +17,6 @@ entry_in y = record { node = y.pair; reason = y.reason }
 pub entries_of-push : (items : List Removal) (y : Removal) → entries_of (items ++ y ∷ []) ≡ entries_of items ++ entry_in y ∷ []
 entries_of-push items y = map_push entry_in items y
 
--- there is room for a pair that isn't listed
-pub room-push : (n : ℕ) (items : List Removal) (y : Removal) → IsPlaced n (entries_of items) → y.pair < n → has_entry (entries_of items) y.pair ≡ false → length items < n
-room-push n items y placed here new =
-    let more = IsPlaced-push n (entries_of items) (entry_in y) placed here new in
-    omega (arith, length-le_from_apart n _ more.apart more.in_range, length_push (entries_of items) (entry_in y), length-map items entry_in)
-
 -- a pair of a row is in range
 pub pair_below : (rows lanes x lane : ℕ) → x < rows → lane < lanes → x * lanes + lane < rows * lanes
 pair_below rows lanes x lane row in_row = omega (arith, mul-add-lt x lanes lane rows row in_row)
@@ -32,7 +24,7 @@ pair_below rows lanes x lane row in_row = omega (arith, mul-add-lt x lanes lane 
 -- ---- the entries of pairs from a first one on
 
 -- all of them may be added that aren't listed, each once
-IsPlaced-lanes : (n first : ℕ) (reason : Reason) (lanes : List ℕ) (L : List (Entry ℕ)) → HasNoRepeats lanes → ((lane : ℕ) → IsIn lane lanes → (first + lane < n) × (has_entry L (first + lane) ≡ false)) → IsPlaced n L →
+pub IsPlaced-lanes : (n first : ℕ) (reason : Reason) (lanes : List ℕ) (L : List (Entry ℕ)) → HasNoRepeats lanes → ((lane : ℕ) → IsIn lane lanes → (first + lane < n) × (has_entry L (first + lane) ≡ false)) → IsPlaced n L →
     IsPlaced n (L ++ map (λ lane. as_entry (first + lane, reason)) lanes)
 IsPlaced-lanes n first reason [] L once free placed = subst (IsPlaced n) (sym (append-nil L)) placed
 IsPlaced-lanes n first reason (lane ∷ lanes) L once free placed =
@@ -41,14 +33,3 @@ IsPlaced-lanes n first reason (lane ∷ lanes) L once free placed =
     let other = λ (other : ℕ) (i : IsIn other lanes). has_entry-push_other L x (first + other) (λ e. let same : other ≡ lane = omega arith in once.0 (subst (λ l. IsIn l lanes) same i)) in
     subst (IsPlaced n) (append_assoc L (x ∷ []) (map (λ lane. as_entry (first + lane, reason)) lanes))
     (IsPlaced-lanes n first reason lanes (L ++ x ∷ []) once.1 (λ l i. ((free l (inr i)).0, other l i ∙ (free l (inr i)).1)) (IsPlaced-push n L x placed here.0 here.1))
-
-pub IsPlaced-row : (rows lanes x lost : ℕ) (reason : Reason) (L : List (Entry ℕ)) → x < rows → ((lane : ℕ) → is_on lost lane ≡ true → lane < lanes) → ((lane : ℕ) → is_on lost lane ≡ true → has_entry L (x * lanes + lane) ≡ false) → IsPlaced (rows * lanes) L →
-    IsPlaced (rows * lanes) (L ++ entries_in lanes x lost reason)
-IsPlaced-row rows lanes x lost reason L row within alive placed =
-    IsPlaced-lanes (rows * lanes) (x * lanes) reason (set_lanes lost) L (lanes_once lost) (λ lane i. let on = (in_lanes lost lane i).1 in (pair_below rows lanes x lane row (within lane on), alive lane on)) placed
-
--- there is room for them
-pub room-row : (n lanes x lost : ℕ) (reason : Reason) (items : List Removal) → IsPlaced n (entries_of items ++ entries_in lanes x lost reason) → length items + length (set_lanes lost) ≤ n
-room-row n lanes x lost reason items placed =
-    let f = λ (lane : ℕ). as_entry (x * lanes + lane, reason) in
-    omega (arith, length-le_from_apart n _ placed.apart placed.in_range, length-append (entries_of items) (map f (set_lanes lost)), length-map (set_lanes lost) f, length-map items entry_in)

@@ -40,11 +40,8 @@ pub record IsPlaced (pairs : ℕ) (L : List (Entry ℕ)) : Type 0 where
 abbrev pub AreStamps : List (Entry ℕ) → List ℕ → Type 0
 AreStamps L stamps = (p : ℕ) → p < length stamps → slice_index stamps p ≡ stamp_of L p
 
--- the tables are as long as the shape needs but for the stamps, say what the list does, and have room for the greatest number of pairs
-pub record IsSound (a : Inside) : Type 0 where
-  pub placed : IsPlaced (a.rows * a.lanes) (removal_list a)
-  pub stamped : AreStamps (removal_list a) a.stamps.items
-  pub alive : AreRows a.lanes (λ p. not (has_entry (removal_list a) p)) a.words.items
+-- the tables are as long as the shape needs, and have room for the greatest number of pairs
+pub record IsSized (a : Inside) : Type 0 where
   pub few_lanes : (0 < a.lanes) × (a.lanes ≤ 64)
   pub room : a.rows * a.lanes ≤ a.room
   pub few : a.room < 2 ^ 32
@@ -60,3 +57,10 @@ pub record IsSound (a : Inside) : Type 0 where
   pub marks_room : a.room ≤ 64 * vec_capacity a.marks
   pub levels_room : a.room < vec_capacity a.levels
   pub few_levels : length a.levels.items ≤ a.room + 1
+
+-- the tables say what the list does, and are sized for it
+pub record IsSound (a : Inside) : Type 0 where
+  pub placed : IsPlaced (a.rows * a.lanes) (removal_list a)
+  pub stamped : AreStamps (removal_list a) a.stamps.items
+  pub alive : AreRows a.lanes (λ p. not (has_entry (removal_list a) p)) a.words.items
+  pub sized : IsSized a

@@ -214,7 +214,22 @@ impl Order {
         Some((entry.pair, entry.reason))
     }
 
+    /// Says what holds of every order: the pairs of the list differ and are in range, and each table is as
+    /// long as the shape needs.
+    pub fn known(&self)
+        ensures distinct { IsDistinct (λ x y. x == y) (nodes_of self.now.list) }
+        ensures in_range { (p : ℕ) → has_entry self.now.list p ≡ true → p < pairs_of self.now }
+        ensures bound { length self.now.list ≤ pairs_of self.now }
+        ensures room { pairs_of self.now ≤ self.now.cap_pairs }
+        ensures lanes { (0 < self.now.lanes) × (self.now.lanes ≤ 64) }
+        ensures marks { length self.now.marks ≡ (pairs_of self.now + 63) / 64 }
+        ensures before { length self.now.before ≡ self.now.rows }
+    {
+        let _entries = &self.entries;
+    }
+
     /// How many entries the list has: at most as many as pairs. The entries aren't counted.
+    #[tactic(auto, using(crate::proofs::Tables::few_entries))]
     pub fn len(&self) -> u32
         ensures value { result ≡ length self.now.list }
         ensures distinct { IsDistinct (λ x y. x == y) (nodes_of self.now.list) }
@@ -225,6 +240,7 @@ impl Order {
         ensures marks { length self.now.marks ≡ (pairs_of self.now + 63) / 64 }
         ensures before { length self.now.before ≡ self.now.rows }
     {
+        self.known();
         self.entries.len() as u32
     }
 

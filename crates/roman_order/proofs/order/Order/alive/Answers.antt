@@ -14,9 +14,9 @@ returns c =
     let p = c.args.p in
     let x = p / inside.lanes in
     let lane = p % inside.lanes in
-    let some : 0 < inside.lanes = c.self.invariant.few_lanes.0 in
+    let some : 0 < inside.lanes = c.self.invariant.sized.few_lanes.0 in
     let below : p < inside.rows * inside.lanes = omega (arith, c.requires, ap (λ (b : Board). pairs_of b) c.self.view_is) in
-    let row : x < length inside.words.items = omega (arith, c.self.invariant.words_long, div_below p inside.lanes inside.rows some below) in
+    let row : x < length inside.words.items = omega (arith, c.self.invariant.sized.words_long, div_below p inside.lanes inside.rows some below) in
     let read = get_or_read inside.words.items x c.index.result.now row c.index.ensures 0 in
     ap (λ n. eqb n 1) (ap (λ w. bit_and (w / 2 ^ lane) 1) read ∙ shr_and_one (get_or inside.words.items x 0) lane)
     ∙ ((c.self.invariant.alive.each x row).each lane (mod_below p inside.lanes some)

@@ -1,9 +1,7 @@
 use Rattle.std.proofs.Common.{◌≡◌, ◌<◌, ◌*◌, length, ap, ◌∙◌, arith}
-use Rattle.std.proofs.lemmas.List.{length-map, length-replicate}
-use Rattle.roman_order.specs.Sound.{removal_list}
-use Rattle.roman_order.proofs.Places.{length-le_from_apart}
-use Rattle.roman_order.proofs.Pushes.{entry_in}
+use Rattle.std.proofs.lemmas.List.{length-replicate}
 use Rattle.roman_order.proofs.Stamps.{has_entry-at}
+use Rattle.roman_order.proofs.Tables.{few_entries}
 use Rattle.roman_order.proofs.order.Order.place_all.Goals as goal
 
 pub write_stamps-requires-clause-in_range : goal.write_stamps-requires-clause-in_range
@@ -15,7 +13,4 @@ write_stamps-requires-clause-in_range c k d h =
     rw (items, long) (c.self.invariant.placed.in_range _ (has_entry-at inside.entries.items k d within))
 
 pub write_stamps-requires-clause-few : goal.write_stamps-requires-clause-few
-write_stamps-requires-clause-few c =
-    let inside = c.self.inside in
-    let bound = length-le_from_apart (inside.rows * inside.lanes) (removal_list inside) c.self.invariant.placed.apart c.self.invariant.placed.in_range in
-    omega (arith, bound, length-map inside.entries.items entry_in, ap length c.deref.ensures.value, c.self.invariant.room, c.self.invariant.few)
+write_stamps-requires-clause-few c = rw c.deref.ensures.value (few_entries c.self.inside c.self.invariant)

@@ -4,7 +4,7 @@ use Rattle.roman_order.proofs.Counts.{count_by-unlisted}
 use Rattle.roman_order.proofs.order.Order.unlisted.Goals as goal
 
 pub overflow_mul-result : goal.overflow_mul-result
-overflow_mul-result c = omega (arith, c.self.invariant.room, c.self.invariant.few)
+overflow_mul-result c = omega (arith, c.self.invariant.sized.room, c.self.invariant.sized.few)
 
 pub returns-clause-counted : goal.returns-clause-counted
 returns-clause-counted c =

@@ -1,4 +1,4 @@
-use Rattle.std.proofs.Common.{◌≡◌, ℕ, ◌+◌, ◌*◌, ◌%◌, ◌^◌, List, [], ◌∷◌, ◌++◌, map, length, sym, ap, ◌∙◌, arith, append_assoc, append-nil, length-append}
+use Rattle.std.proofs.Common.{◌≡◌, ℕ, ◌+◌, ◌%◌, ◌*◌, ◌^◌, List, [], ◌∷◌, ◌++◌, map, length, sym, ap, ◌∙◌, arith, append_assoc, append-nil, length-append}
 use Rattle.std.proofs.lemmas.Bool.{and_parts}
 use Rattle.std.proofs.lemmas.List.{length-map}
 use Rattle.std.proofs.lemmas.Nat.{and_le_l}
@@ -8,8 +8,8 @@ use Rattle.roman_lanes.specs.Rows.{is_on}
 use Rattle.roman_lanes.proofs.RowBits.{on_and}
 use Rattle.roman_order.specs.Board.{as_entry, set_lanes}
 use Rattle.roman_order.specs.Sound.{entries_of}
-use Rattle.roman_order.proofs.Lanes.{without_lane, without_first, without_first-less, set_lanes-first, set_lanes-zero}
-use Rattle.roman_order.proofs.Pushes.{entry_in, entries_of-push}
+use Rattle.roman_order.proofs.Lanes.{IsFirstOf, without_lane, without_first, without_first-less, set_lanes-first, set_lanes-zero}
+use Rattle.roman_order.proofs.Pushes.{entries_of-push}
 use Rattle.roman_order.proofs.order.pushes.write_lanes.Goals as goal
 
 pub overflow_add-pair : goal.overflow_add-pair
@@ -17,42 +17,28 @@ overflow_add-pair c = omega (arith, c.rest.invariant.few c.lowest-lane.result c.
 
 pub push_reserved-requires : goal.push_reserved-requires
 push_reserved-requires c =
-    let rest = c.rest.rest in
-    let lane = c.lowest-lane.result in
-    let f : ℕ → Entry ℕ = λ l. as_entry (c.args.first + l, c.args.reason) in
-    let is = without_first rest lane c.lowest-lane.ensures.within c.lowest-lane.ensures.on c.lowest-lane.ensures.first in
-    omega (
-      arith,
-      ap length c.rest.invariant.pushed,
-      ap length (set_lanes-first rest (without_lane rest lane) lane is),
-      length-append (entries_of c.rest.entries.items) (map f (set_lanes rest)),
-      length-append (entries_of c.args.entries.now.items) (map f (set_lanes c.args.lost)),
-      length-map (set_lanes rest) f,
-      length-map (set_lanes c.args.lost) f,
-      length-map c.rest.entries.items entry_in,
-      length-map c.args.entries.now.items entry_in,
-      c.requires.room,
-      c.rest.invariant.room,
-    )
+    let is = without_first c.rest.rest c.lowest-lane.result c.lowest-lane.ensures.within c.lowest-lane.ensures.on c.lowest-lane.ensures.first in
+    let long = simp (length-append, length-map) at (ap length c.rest.invariant.pushed) in
+    omega (arith, long, ap length (set_lanes-first c.rest.rest _ c.lowest-lane.result is), c.requires.room, c.rest.invariant.room)
+
+-- the lane that is taken is the first of those that are left
+first : (c : goal.After-push_reserved) → IsFirstOf c.rest.rest (without_lane c.rest.rest c.lowest-lane.result) c.lowest-lane.result
+first c = without_first c.rest.rest c.lowest-lane.result c.lowest-lane.ensures.within c.lowest-lane.ensures.on c.lowest-lane.ensures.first
 
 pub rest-smaller : goal.rest-smaller
-rest-smaller c =
-    let rest = c.rest.rest in
-    let lane = c.lowest-lane.result in
-    without_first-less rest (without_lane rest lane) lane (without_first rest lane c.lowest-lane.ensures.within c.lowest-lane.ensures.on c.lowest-lane.ensures.first) (and_le_l rest _)
+rest-smaller c = without_first-less c.rest.rest _ c.lowest-lane.result (first c) (and_le_l c.rest.rest _)
 
 pub rest-preserved : goal.rest-preserved
 rest-preserved c =
     let rest = c.rest.rest in
     let lane = c.lowest-lane.result in
-    let is = without_first rest lane c.lowest-lane.ensures.within c.lowest-lane.ensures.on c.lowest-lane.ensures.first in
     let f : ℕ → Entry ℕ = λ l. as_entry (c.args.first + l, c.args.reason) in
     let before : List (Entry ℕ) = entries_of c.rest.entries.items in
     let now : entries_of c.push_reserved.new.self.items ≡ before ++ f lane ∷ [] = ap entries_of c.push_reserved.ensures.items ∙ entries_of-push c.rest.entries.items _ in
     record {
       pushed = ap (λ L. L ++ map f (set_lanes (without_lane rest lane))) now
           ∙ (append_assoc before (f lane ∷ []) (map f (set_lanes (without_lane rest lane)))
-          ∙ (ap (λ ls. before ++ map f ls) (sym (set_lanes-first rest (without_lane rest lane) lane is)) ∙ c.rest.invariant.pushed));
+          ∙ (ap (λ ls. before ++ map f ls) (sym (set_lanes-first rest (without_lane rest lane) lane (first c))) ∙ c.rest.invariant.pushed));
       few = λ j t. c.rest.invariant.few j (and_parts (is_on rest j) (is_on (bit_not w64 (1 * 2 ^ lane % 2 ^ 64)) j) (sym (on_and rest _ j) ∙ t)).0;
       room = c.push_reserved.ensures.capacity ∙ c.rest.invariant.room;
     }
