@@ -4,7 +4,7 @@ use Rattle.std.proofs.Math.Seq.{take-append_seam, take-length}
 use Rattle.std.proofs.lemmas.List.{take-append-le}
 use Rattle.roman_model.specs.Arena.{Arena, Entry, IsOrder, fall}
 use Rattle.roman_model.proofs.WorkLemmas.{fall_append}
-use Rattle.roman_order.specs.Board.{Board, pairs_of}
+use Rattle.roman_order.specs.Board.{Board}
 use Rattle.roman_relation.specs.Shaped.{IsShaped}
 use Rattle.roman_relation.specs.Settled.{Begins, SettlesOn}
 use Rattle.roman_relation.proofs.Beginnings.{begins_itself, begins_on}
@@ -22,12 +22,16 @@ goes_on_on A a b c p q = record {
   rest = q.rest ∙ ap (λ (x : Board). record x { list = c.list; marks = c.marks; before = c.before }) p.rest;
 }
 
+-- the second order has the room and the shape of the first, and the same entries wait
+abbrev pub SameFrame : Board → Board → Type 0
+SameFrame b c = (c.cap_pairs ≡ b.cap_pairs) × (c.rows ≡ b.rows) × (c.lanes ≡ b.lanes) × (c.waiting ≡ b.waiting)
+
+pub shaped_like : (A : Arena ℕ) (lanes : ℕ) (b c : Board) → SameFrame b c → IsShaped A lanes b → IsShaped A lanes c
+shaped_like A lanes b c same s = record { pairs = ap₂ (λ x y. x * y) same.1 same.2 ∙ s.pairs; lanes = same.2 ∙ s.lanes }
+
 -- what has the shape and has gone on has the shape
 pub shaped_on : (A : Arena ℕ) (lanes : ℕ) (b c : Board) → IsShaped A lanes b → SettlesOn A b c → IsShaped A lanes c
-shaped_on A lanes b c s g = record {
-  pairs = ap (λ (x : Board). pairs_of x) g.rest ∙ s.pairs;
-  lanes = ap (λ (x : Board). x.lanes) g.rest ∙ s.lanes;
-}
+shaped_on A lanes b c s g = shaped_like A lanes b c (subst (SameFrame b) (sym g.rest) (refl, refl, refl, refl)) s
 
 -- the prefix of a list that goes on stays
 pub front_kept : (start : ℕ) (L M : List (Entry ℕ)) → start ≤ length L → take start (L ++ M) ≡ take start L
@@ -40,10 +44,6 @@ goes_on_added A b c M order e = subst (λ (d : Board). SettlesOn A b d) (sym e) 
 pub begins_added : (b c : Board) (M : List (Entry ℕ)) → c ≡ record b { list = b.list ++ M } → Begins b.list c.list
 begins_added b c M e = subst (λ (d : Board). Begins b.list d.list) (sym e) (begins_append b.list M)
 
--- what has the same shape
-pub shaped_same : (A : Arena ℕ) (lanes : ℕ) (b c : Board) → IsShaped A lanes b → c.rows ≡ b.rows → c.lanes ≡ b.lanes → IsShaped A lanes c
-shaped_same A lanes b c s e f = record { pairs = ap₂ (λ x y. x * y) e f ∙ s.pairs; lanes = f ∙ s.lanes }
-
 -- a longer list is a fall of more
 pub fall_added : (A : Arena ℕ) (L M : List (Entry ℕ)) → Begins L M → fall A M ≡ fall A L + fall A (drop (length L) M)
 fall_added A L M b =
@@ -53,11 +53,10 @@ fall_added A L M b =
 pub same_list : (L M : List (Entry ℕ)) → Begins L M → length M ≡ length L → M ≡ L
 same_list L M b e = sym (take-length M) ∙ (ap (λ n. take n M) e ∙ b)
 
--- an order of the same room and shape, in which the same entries wait, differs in nothing but what rounds change
-pub rest_from : (b c : Board) → c.cap_pairs ≡ b.cap_pairs → c.rows ≡ b.rows → c.lanes ≡ b.lanes → c.waiting ≡ b.waiting → c ≡ record b { list = c.list; marks = c.marks; before = c.before; levels = c.levels }
-rest_from b c room rows lanes waiting =
-    ap (λ k. record c { cap_pairs = k }) room ∙ (ap (λ k. record c { cap_pairs = b.cap_pairs; rows = k }) rows
-    ∙ (ap (λ k. record c { cap_pairs = b.cap_pairs; rows = b.rows; lanes = k }) lanes ∙ ap (λ k. record c { cap_pairs = b.cap_pairs; rows = b.rows; lanes = b.lanes; waiting = k }) waiting))
+-- such an order differs in nothing but what rounds change
+pub rest_from : (b c : Board) → SameFrame b c → c ≡ record b { list = c.list; marks = c.marks; before = c.before; levels = c.levels }
+rest_from b c (room, rows, lanes, waiting) =
+    λ i. record { cap_pairs = room i; rows = rows i; lanes = lanes i; list = c.list; waiting = waiting i; marks = c.marks; before = c.before; levels = c.levels }
 
 pub no_entries : (L : List (Entry ℕ)) → length L ≡ 0 → L ≡ []
 no_entries [] e = refl

@@ -5,6 +5,7 @@ use Rattle.roman_model.specs.Arena.{Arena, Entry, is_listed}
 use Rattle.roman_lanes.specs.Rows.{is_on, HasLanes, AreRows}
 use Rattle.roman_rules.specs.Numbered.{IsNumbered}
 use Rattle.roman_order.specs.Board.{Board, has_entry}
+use Rattle.roman_relation.specs.Shaped.{IsShaped}
 use Rattle.roman_relation.specs.Rounds.{AreUnlisted, on_at}
 use Rattle.roman_relation.proofs.Beginnings.{listed_is}
 
@@ -48,11 +49,21 @@ each_pair lanes rows p P some l h = subst P (div-add-mod' p lanes) (h (p / lanes
 pub row_within : (lanes rows row : ℕ) → 0 < lanes → row < rows → row * lanes < rows * lanes
 row_within lanes rows row some l = let h = mul-le (row + 1) lanes rows lanes (omega arith) (omega arith) in omega (arith, h)
 
--- the word of a row tells which of its pairs aren't listed
-pub words_row : (A : Arena ℕ) → IsNumbered A → (lanes row : ℕ) (b : Board) (words : List ℕ) → b.lanes ≡ lanes → row < length words → AreRows b.lanes (λ p. not (has_entry b.list p)) words →
-    HasLanes lanes row (λ p. not (is_listed A b.list p)) (slice_index words row)
-words_row A ok lanes row b words e l are = unlisted_row A ok lanes row b.list (slice_index words row) ((subst (λ n. AreRows n (λ p. not (has_entry b.list p)) words) e are).each row l)
+-- the words tell which pairs aren't listed
+pub words_rows : (A : Arena ℕ) → IsNumbered A → (lanes : ℕ) (b : Board) (words : List ℕ) → IsShaped A lanes b → AreRows b.lanes (λ p. not (has_entry b.list p)) words → AreUnlisted A lanes b.list words
+words_rows A ok lanes b words shaped are = unlisted_rows A ok lanes b.list words (subst (λ n. AreRows n (λ p. not (has_entry b.list p)) words) shaped.lanes are)
 
--- rows of the same lanes that have as many pairs are as many
-pub same_rows : (a b lanes : ℕ) → 0 < lanes → a * lanes ≡ b * lanes → a ≡ b
-same_rows a b lanes some e = (same_from_place a 0 b 0 lanes some some (ap (λ n. n + 0) e)).0
+-- the word of a row tells which of its pairs aren't listed
+pub words_row : (A : Arena ℕ) → IsNumbered A → (lanes row : ℕ) (b : Board) (words : List ℕ) → IsShaped A lanes b → length words ≡ b.rows → row < b.rows → AreRows b.lanes (λ p. not (has_entry b.list p)) words →
+    HasLanes lanes row (λ p. not (is_listed A b.list p)) (slice_index words row)
+words_row A ok lanes row b words shaped long inside are = (words_rows A ok lanes b words shaped are).each row (omega arith)
+
+-- an order that is shaped for the arena has its rows
+pub shaped_pairs : (A : Arena ℕ) (lanes : ℕ) (b : Board) → IsShaped A lanes b → b.rows * lanes ≡ length A.nodes
+shaped_pairs A lanes b shaped = ap (λ m. b.rows * m) (sym shaped.lanes) ∙ shaped.pairs
+
+pub shaped_row : (A : Arena ℕ) (lanes p : ℕ) (b : Board) → IsShaped A lanes b → 0 < lanes → p < length A.nodes → p / lanes < b.rows
+shaped_row A lanes p b shaped some l = row_of lanes b.rows p some (omega (arith, shaped_pairs A lanes b shaped))
+
+pub shaped_rows : (A : Arena ℕ) (lanes rows : ℕ) (b : Board) → IsShaped A lanes b → 0 < lanes → rows * lanes ≡ length A.nodes → rows ≡ b.rows
+shaped_rows A lanes rows b shaped some e = (same_from_place rows 0 b.rows 0 lanes some some (ap (λ n. n + 0) (e ∙ sym (shaped_pairs A lanes b shaped)))).0

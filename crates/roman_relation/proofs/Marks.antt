@@ -1,5 +1,5 @@
 -- Marks that are taken off one by one, and rows that are noted.
-use Rattle.std.proofs.Common.{◌≡◌, ◌≢◌, ℕ, zero, suc, ◌+◌, ◌*◌, ◌/◌, ◌%◌, ◌<◌, ◌==◌, Bool, true, false, cond, not, List, [], ◌∷◌, ◌++◌, length, take, Some, slice_get, slice_index, IsTrue, IsFalse, inl, inr, refl, sym, ap, ◌∙◌, subst, arith}
+use Rattle.std.proofs.Common.{◌≡◌, ◌≢◌, ℕ, zero, suc, ◌+◌, ◌*◌, ◌/◌, ◌%◌, ◌<◌, ◌==◌, Bool, true, false, cond, not, List, [], ◌∷◌, ◌++◌, length, take, Some, slice_get, slice_index, IsTrue, inl, inr, refl, sym, ap, ◌∙◌, subst, arith}
 use Rattle.std.specs.Prelude.{count_by}
 use Rattle.std.proofs.lemmas.Bool.{cases_eq, cases_lt, both_ways, cond-true, cond-false, not_from_true, not_from_false, not-true, false_from_ne_true, or_cases, eqb-true}
 use Rattle.std.proofs.lemmas.List.Sums.{sum_by_push}
@@ -17,9 +17,10 @@ use Rattle.roman_lanes.specs.Rows.{is_on, HasLanes}
 use Rattle.roman_lanes.specs.Flags.{has_flag}
 use Rattle.roman_rules.specs.Numbered.{IsNumbered}
 use Rattle.roman_rules.proofs.NumberedFacts.{numbered_same}
-use Rattle.roman_order.specs.Board.{Board, is_marked}
+use Rattle.roman_order.specs.Board.{Board, pairs_of, has_entry, is_marked}
+use Rattle.roman_relation.specs.Shaped.{IsShaped}
 use Rattle.roman_relation.specs.Rounds.{IsMarking, on_at}
-use Rattle.roman_relation.proofs.Beginnings.{take_listed}
+use Rattle.roman_relation.proofs.Beginnings.{listed_is, take_listed}
 
 -- ---- fewer marks
 
@@ -86,47 +87,35 @@ noted_own A lanes row b c p is e =
 pub noted_other : (A : Arena ℕ) (lanes row : ℕ) (b c : Board) (p : ℕ) → IsNoted A lanes row b c → p / lanes ≢ row → on_at lanes c.before p ≡ on_at lanes b.before p
 noted_other A lanes row b c p is ne = ap (λ w. is_on w (p % lanes)) (is.others (p / lanes) ne)
 
-pub noted_marking : (A : Arena ℕ) (lanes row start end : ℕ) (b c : Board) → IsNoted A lanes row b c → ((p : ℕ) → IsTrue (is_listed A b.list p) → p < length A.nodes) → IsMarking A lanes start end b → IsMarking A lanes start end c
-noted_marking A lanes row start end b c is in_range marking = record {
+pub noted_marking : (A : Arena ℕ) (lanes row start end : ℕ) (b c : Board) → IsNoted A lanes row b c → IsMarking A lanes start end b → IsMarking A lanes start end c
+noted_marking A lanes row start end b c is marking = subst (IsMarking A lanes start end) (sym (ap (λ L. record c { list = L }) is.same)) (record {
   old = λ p l on. elim (cases_eq (p / lanes) row) [
-    | inl e ↦ list (λ L. IsFalse (is_listed A (take start L) p))
-        (false_from_ne_true (is_listed A (take start b.list) p)
-        (λ t. both_ways (is_listed A b.list p) (not-true (is_listed A b.list p) (sym (noted_own A lanes row b c p is e) ∙ on)) (take_listed A start b.list p t)))
-    | inr ne ↦ list (λ L. IsFalse (is_listed A (take start L) p)) (marking.old p l (sym (noted_other A lanes row b c p is ne) ∙ on))
+    | inl e ↦ false_from_ne_true (is_listed A (take start b.list) p)
+        (λ t. both_ways (is_listed A b.list p) (not-true (is_listed A b.list p) (sym (noted_own A lanes row b c p is e) ∙ on)) (take_listed A start b.list p t))
+    | inr ne ↦ marking.old p l (sym (noted_other A lanes row b c p is ne) ∙ on)
   ];
   alive = λ p l off. elim (cases_eq (p / lanes) row) [
-    | inl e ↦ noted_own A lanes row b c p is e ∙ not_from_false (is_listed A b.list p) (was (λ L. IsFalse (is_listed A L p)) off)
-    | inr ne ↦ noted_other A lanes row b c p is ne ∙ marking.alive p l (was (λ L. IsFalse (is_listed A L p)) off)
+    | inl e ↦ noted_own A lanes row b c p is e ∙ not_from_false (is_listed A b.list p) off
+    | inr ne ↦ noted_other A lanes row b c p is ne ∙ marking.alive p l off
   ];
   past = λ y lane h l. elim (cases_eq y row) [
     | inl e ↦ ap (λ z. is_on (slice_index c.before z) lane) e ∙ is.kept.rest lane l
     | inr ne ↦ ap (λ w. is_on w lane) (is.others y ne) ∙ marking.past y lane (omega (arith, is.long)) l
   ];
-  noted = λ p t f.
-      let there : IsTrue (is_listed A (take end b.list) p) = was (λ L. IsTrue (is_listed A (take end L) p)) t in
-      elim (cases_eq (p / lanes) row) [
-        | inl e ↦ noted_own A lanes row b c p is e ∙ not_from_true (is_listed A b.list p) (take_listed A end b.list p there)
-        | inr ne ↦ noted_other A lanes row b c p is ne ∙ marking.noted p there (was (λ L. IsFalse (is_listed A (take start L) p)) f)
-      ];
-  marked = λ p q a k l m i t f off.
-      let listed : IsTrue (is_listed A b.list q) = was (λ L. IsTrue (is_listed A L q)) t in
-      let new : IsFalse (is_listed A (take start b.list) q) = was (λ L. IsFalse (is_listed A (take start L) q)) f in
-      by_test (on_at lanes b.before q)
+  noted = λ p t f. elim (cases_eq (p / lanes) row) [
+    | inl e ↦ noted_own A lanes row b c p is e ∙ not_from_true (is_listed A b.list p) (take_listed A end b.list p t)
+    | inr ne ↦ noted_other A lanes row b c p is ne ∙ marking.noted p t f
+  ];
+  marked = λ p q a k l m i t f off. by_test (on_at lanes b.before q)
       (λ on. elim (cases_eq (q / lanes) row) [
         | inl e ↦
             let place : row * lanes + q % lanes ≡ q = ap (λ x. x * lanes + q % lanes) (sym e) ∙ div-add-mod' q lanes in
-            is.marked (q % lanes) p a k (mod_below q lanes is.some) (ap (λ x. is_on (slice_index b.before x) (q % lanes)) (sym e) ∙ on) (subst (λ r. IsTrue (is_listed A b.list r)) (sym place) listed) l
+            is.marked (q % lanes) p a k (mod_below q lanes is.some) (ap (λ x. is_on (slice_index b.before x) (q % lanes)) (sym e) ∙ on) (subst (λ r. IsTrue (is_listed A b.list r)) (sym place) t) l
             (subst (λ r. IsIn r (A.outcomes p a k)) (sym place) i)
         | inr ne ↦ absurd (both_ways (on_at lanes b.before q) (sym (noted_other A lanes row b c q is ne) ∙ off) on)
       ])
-      (λ was_off. is.still (p / lanes) (marking.marked p q a k l m i listed new was_off));
-}
-  where
-    list : (P : List (Entry ℕ) → Type 0) → P b.list → P c.list
-    list P h = subst P (sym is.same) h
-
-    was : (P : List (Entry ℕ) → Type 0) → P c.list → P b.list
-    was P h = subst P is.same h
+      (λ was_off. is.still (p / lanes) (marking.marked p q a k l m i t f was_off));
+})
 
 -- one entry further
 pub noted_more : (A : Arena ℕ) → IsNumbered A → (lanes start i : ℕ) (b : Board) (x : Entry ℕ) → slice_get b.list i ≡ Some x → on_at lanes b.before x.node ≡ false → IsMarking A lanes start i b → IsMarking A lanes start (i + 1) b
@@ -147,6 +136,12 @@ noted_more A ok lanes start i b x e off marking =
 -- an entry's node is listed
 pub entry_listed : (A : Arena ℕ) → IsNumbered A → (L : List (Entry ℕ)) (i : ℕ) (x : Entry ℕ) → slice_get L i ≡ Some x → IsTrue (is_listed A L x.node)
 entry_listed A ok L i x e = in_listed A (numbered_same A ok) L x (contains_in L x (i, slice_get_within L i x e, get_or_from_slice_get L i x x e))
+
+-- and a pair of the order
+pub entry_within : (A : Arena ℕ) → IsNumbered A → (lanes i : ℕ) (b d : Board) (x : Entry ℕ) → IsShaped A lanes b → ((p : ℕ) → has_entry b.list p ≡ true → p < pairs_of b) → d.list ≡ b.list → slice_get d.list i ≡ Some x →
+    x.node < length A.nodes
+entry_within A ok lanes i b d x shaped in_range same e =
+    omega (arith, in_range x.node (sym (ap (λ L. has_entry L x.node) same) ∙ (sym (listed_is A ok d.list x.node) ∙ entry_listed A ok d.list i x e)), shaped.pairs)
 
 -- one entry further the fall has what leads to its node
 pub fall_more : (A : Arena ℕ) (L : List (Entry ℕ)) (i : ℕ) (x : Entry ℕ) → slice_get L i ≡ Some x → fall A (take (i + 1) L) ≡ fall A (take i L) + length (back A x.node)

@@ -1,24 +1,27 @@
 -- Lists with entries for the lanes of a row.
-use Rattle.std.proofs.Common.{◌≡◌, ℕ, ◌+◌, ◌*◌, ◌<◌, ◌≤◌, ◌⊎◌, Bool, true, false, not, ◌&&◌, ◌||◌, List, [], ◌∷◌, ◌++◌, map, length, take, IsTrue, IsFalse, inl, inr, refl, sym, ap, ap₂, ◌∙◌, subst, arith, bit_and, append_assoc, length-append}
-use Rattle.std.proofs.lemmas.Bool.{both_ways, cases_lt, or_cases, or_parts, or_left, or_from, and_parts, and_from, not_from_false, not-true, ne_eqb}
+use Rattle.std.proofs.Common.{◌≡◌, ℕ, ◌+◌, ◌*◌, ◌<◌, ◌≤◌, ◌⊎◌, Bool, true, false, not, ◌&&◌, ◌||◌, List, [], ◌∷◌, ◌++◌, map, length, take, slice_index, IsTrue, IsFalse, inl, inr, refl, sym, ap, ◌∙◌, subst, arith, bit_and, append_assoc, length-append}
+use Rattle.std.proofs.lemmas.Bool.{both_ways, cases_lt, false_from_ne_true, or_cases, or_parts, or_left, or_from, and_parts, and_from, not_from_false, not-true, ne_eqb}
+use Rattle.std.proofs.Math.Bool.{and_comm}
 use Rattle.std.proofs.lemmas.List.{append-nil}
 use Rattle.roman_model.specs.Lists.{IsIn, HasNoRepeats, below}
 use Rattle.roman_model.specs.Arena.{Arena, Entry, is_listed, is_justified, IsOrder}
 use Rattle.roman_model.specs.declared.reason.Reason.{Reason}
 use Rattle.roman_model.specs.declared.reason.Reason.TheVariants.{Final, Act}
-use Rattle.roman_model.proofs.Lists.{by_test, from_map, any_from, in_below}
+use Rattle.roman_model.proofs.Lists.{from_map, any_from, in_below}
 use Rattle.roman_model.proofs.ArenaLemmas.{listed_append, listed_push, listed_in, justified_more, unallowed_unjustified}
 use Rattle.roman_model.proofs.OrderLemmas.{order_push}
-use Rattle.roman_lanes.specs.Rows.{is_on, HasLanes}
+use Rattle.roman_lanes.specs.Rows.{is_on, HasLanes, AreRows}
 use Rattle.roman_lanes.proofs.RowBits.{on_and}
 use Rattle.roman_rules.specs.Numbered.{IsNumbered}
 use Rattle.roman_rules.proofs.NumberedFacts.{numbered_same}
-use Rattle.roman_order.specs.Board.{Board, as_entry, set_lanes, entries_in}
+use Rattle.roman_order.specs.Board.{Board, as_entry, set_lanes, entries_in, has_entry}
 use Rattle.roman_order.proofs.Lanes.{in_lanes, lanes_once, has_entry-lane}
+use Rattle.roman_relation.specs.Shaped.{IsShaped}
 use Rattle.roman_relation.specs.Settled.{Begins}
 use Rattle.roman_relation.specs.Rounds.{AreUnlisted, InRound, IsJudged, falls}
 use Rattle.roman_relation.proofs.Beginnings.{listed_is, begins_same, begins_unlisted, take_listed}
 use Rattle.roman_relation.proofs.Going.{front_kept}
+use Rattle.roman_relation.proofs.Lanes.{words_row}
 
 -- ---- a removal list with the entries of some lanes, for one reason that held before them
 
@@ -54,121 +57,105 @@ pushed_lane A ok L lanes row lost lane reason low =
     listed_is A ok (L ++ entries_in lanes row lost reason) (row * lanes + lane) ∙ (has_entry-lane L (row * lanes) lost lane reason low
     ∙ ap (λ b. b || is_on lost lane) (sym (listed_is A ok L (row * lanes + lane))))
 
--- ---- clause 2
+-- ---- the lanes that a row loses for a reason
 
--- what a row that is looked at for clause 2 knows of its words
-pub record IsUnfine (A : Arena ℕ) (L : List (Entry ℕ)) (lanes row lost : ℕ) : Type 0 where
+-- they are those of its pairs that aren't listed, and at which the reason holds where those nodes are gone
+pub record IsLost (A : Arena ℕ) (gone : ℕ → Bool) (L : List (Entry ℕ)) (lanes row : ℕ) (reason : Reason) (lost : ℕ) : Type 0 where
   pub few : lanes ≤ 64
   pub within : (lane : ℕ) → is_on lost lane ≡ true → lane < lanes
-  pub is : (lane : ℕ) → lane < lanes → is_on lost lane ≡ (not (A.fine (row * lanes + lane)) && not (is_listed A L (row * lanes + lane)))
+  pub is : (lane : ℕ) → lane < lanes → is_on lost lane ≡ (not (is_listed A L (row * lanes + lane)) && is_justified A gone (row * lanes + lane) reason)
 
-pub unfine_word : (A : Arena ℕ) (L : List (Entry ℕ)) (lanes row bits word : ℕ) → lanes ≤ 64 → HasLanes lanes row (λ p. not (A.fine p)) bits → HasLanes lanes row (λ p. not (is_listed A L p)) word →
-    IsUnfine A L lanes row (bit_and bits word)
-unfine_word A L lanes row bits word few fails left = record {
-  few = few;
-  within = λ lane on. elim (cases_lt lane lanes) [
-    | inl l ↦ l
-    | inr past ↦ absurd (both_ways (is_on (bit_and bits word) lane) (on_and bits word lane ∙ ap (λ b. b && is_on word lane) (fails.rest lane past)) on)
-  ];
-  is = λ lane l. on_and bits word lane ∙ ap₂ (λ x y. x && y) (fails.each lane l) (left.each lane l);
-}
-
-pub unfine_order : (A : Arena ℕ) → IsNumbered A → (L : List (Entry ℕ)) (lanes row lost : ℕ) → IsUnfine A L lanes row lost → IsOrder A L → IsOrder A (L ++ entries_in lanes row lost Final)
-unfine_order A ok L lanes row lost is order =
-    order_lanes A ok (is_listed A L) (row * lanes) Final L (set_lanes lost) order (lanes_once lost) (λ q t. t)
-    (λ lane i.
-    let (low, on) = in_lanes lost lane i in
+lost_parts : (A : Arena ℕ) (gone : ℕ → Bool) (L : List (Entry ℕ)) (lanes row : ℕ) (reason : Reason) (lost lane : ℕ) → IsLost A gone L lanes row reason lost → is_on lost lane ≡ true →
+    IsFalse (is_listed A L (row * lanes + lane)) × IsTrue (is_justified A gone (row * lanes + lane) reason)
+lost_parts A gone L lanes row reason lost lane is on =
     let p = row * lanes + lane in
-    let (unfine, new) = and_parts (not (A.fine p)) (not (is_listed A L p)) (sym (is.is lane (is.within lane on)) ∙ on) in
-    (not-true (is_listed A L p) new, unfine))
+    let (new, holds) = and_parts (not (is_listed A L p)) (is_justified A gone p reason) (sym (is.is lane (is.within lane on)) ∙ on) in
+    (not-true (is_listed A L p) new, holds)
 
-pub unfine_fine : (A : Arena ℕ) → IsNumbered A → (L : List (Entry ℕ)) (lanes row lost lane : ℕ) → IsUnfine A L lanes row lost → lane < lanes →
-    IsFalse (is_listed A (L ++ entries_in lanes row lost Final) (row * lanes + lane)) → IsTrue (A.fine (row * lanes + lane))
-unfine_fine A ok L lanes row lost lane is l off =
+-- they aren't listed yet
+pub lost_free : (A : Arena ℕ) → IsNumbered A → (gone : ℕ → Bool) (b : Board) (lanes row : ℕ) (reason : Reason) (lost lane : ℕ) → b.lanes ≡ lanes → IsLost A gone b.list lanes row reason lost → is_on lost lane ≡ true →
+    has_entry b.list (row * b.lanes + lane) ≡ false
+lost_free A ok gone b lanes row reason lost lane same is on =
+    ap (λ m. has_entry b.list (row * m + lane)) same ∙ (sym (listed_is A ok b.list (row * lanes + lane)) ∙ (lost_parts A gone b.list lanes row reason lost lane is on).0)
+
+pub lost_order : (A : Arena ℕ) → IsNumbered A → (gone : ℕ → Bool) (L : List (Entry ℕ)) (lanes row : ℕ) (reason : Reason) (lost : ℕ) → IsLost A gone L lanes row reason lost → ((q : ℕ) → IsTrue (gone q) → IsTrue (is_listed A L q)) →
+    IsOrder A L → IsOrder A (L ++ entries_in lanes row lost reason)
+lost_order A ok gone L lanes row reason lost is less order =
+    order_lanes A ok gone (row * lanes) reason L (set_lanes lost) order (lanes_once lost) less (λ lane i. lost_parts A gone L lanes row reason lost lane is (in_lanes lost lane i).1)
+
+-- where a pair of the row is still left, the reason doesn't hold
+pub lost_left : (A : Arena ℕ) → IsNumbered A → (gone : ℕ → Bool) (L : List (Entry ℕ)) (lanes row : ℕ) (reason : Reason) (lost lane : ℕ) → IsLost A gone L lanes row reason lost → lane < lanes →
+    IsFalse (is_listed A (L ++ entries_in lanes row lost reason) (row * lanes + lane)) → IsFalse (is_justified A gone (row * lanes + lane) reason)
+lost_left A ok gone L lanes row reason lost lane is l off =
     let p = row * lanes + lane in
     let low : lane < 64 = omega (arith, is.few) in
-    by_test (A.fine p) (λ t. t)
-    (λ f.
-    let parts = or_parts (is_listed A L p) (is_on lost lane) (sym (pushed_lane A ok L lanes row lost lane Final low) ∙ off) in
-    let on : is_on lost lane ≡ true = is.is lane l ∙ and_from (not (A.fine p)) (not (is_listed A L p)) (not_from_false (A.fine p) f) (not_from_false (is_listed A L p) parts.0) in
-    absurd (both_ways (is_on lost lane) parts.1 on))
+    let parts = or_parts (is_listed A L p) (is_on lost lane) (sym (pushed_lane A ok L lanes row lost lane reason low) ∙ off) in
+    false_from_ne_true (is_justified A gone p reason)
+    (λ t. both_ways (is_on lost lane) parts.1 (is.is lane l ∙ and_from (not (is_listed A L p)) (is_justified A gone p reason) (not_from_false (is_listed A L p) parts.0) t))
 
-pub unfine_because : (A : Arena ℕ) → IsNumbered A → (L : List (Entry ℕ)) (lanes row lost : ℕ) → IsUnfine A L lanes row lost → (q : ℕ) →
-    IsTrue (is_listed A (L ++ entries_in lanes row lost Final) q) → IsTrue (is_listed A L q) ⊎ IsFalse (A.fine q)
-unfine_because A ok L lanes row lost is q t =
-    elim (or_cases (is_listed A L q) (is_listed A (entries_in lanes row lost Final) q) (sym (listed_append A L (entries_in lanes row lost Final) q) ∙ t)) [
+-- a pair that is listed then was listed, or the reason holds there
+pub lost_because : (A : Arena ℕ) → IsNumbered A → (gone : ℕ → Bool) (L : List (Entry ℕ)) (lanes row : ℕ) (reason : Reason) (lost q : ℕ) → IsLost A gone L lanes row reason lost →
+    IsTrue (is_listed A (L ++ entries_in lanes row lost reason) q) → IsTrue (is_listed A L q) ⊎ IsTrue (is_justified A gone q reason)
+lost_because A ok gone L lanes row reason lost q is t =
+    elim (or_cases (is_listed A L q) (is_listed A (entries_in lanes row lost reason) q) (sym (listed_append A L (entries_in lanes row lost reason) q) ∙ t)) [
       | inl old ↦ inl old
       | inr new ↦
-          let (lane, low, on, e) = listed_lane A ok lanes row lost Final q new in
-          let parts = and_parts (not (A.fine (row * lanes + lane))) (not (is_listed A L (row * lanes + lane))) (sym (is.is lane (is.within lane on)) ∙ on) in
-          inr (subst (λ r. IsFalse (A.fine r)) (sym e) (not-true (A.fine (row * lanes + lane)) parts.0))
+          let (lane, low, on, e) = listed_lane A ok lanes row lost reason q new in
+          inr (subst (λ r. IsTrue (is_justified A gone r reason)) (sym e) (lost_parts A gone L lanes row reason lost lane is on).1)
     ]
+
+-- by the word of the row and what is found of it
+lost_word : (A : Arena ℕ) (gone : ℕ → Bool) (L : List (Entry ℕ)) (lanes row : ℕ) (reason : Reason) (lost word : ℕ) → lanes ≤ 64 → HasLanes lanes row (λ p. not (is_listed A L p)) word →
+    ((lane : ℕ) → lane < lanes → is_on lost lane ≡ (is_on word lane && is_justified A gone (row * lanes + lane) reason)) → ((lane : ℕ) → is_on word lane ≡ false → is_on lost lane ≡ false) →
+    IsLost A gone L lanes row reason lost
+lost_word A gone L lanes row reason lost word few left is none = record {
+  few = few;
+  within = λ lane on. elim (cases_lt lane lanes) [ inl l ↦ l | inr past ↦ absurd (both_ways (is_on lost lane) (none lane (left.rest lane past)) on) ];
+  is = λ lane l. is lane l ∙ ap (λ b. b && is_justified A gone (row * lanes + lane) reason) (left.each lane l);
+}
+
+pub lost_unfine : (A : Arena ℕ) → IsNumbered A → (lanes row bits : ℕ) (b : Board) (words : List ℕ) → IsShaped A lanes b → length words ≡ b.rows → row < b.rows → b.lanes ≤ 64 → AreRows b.lanes (λ p. not (has_entry b.list p)) words →
+    HasLanes lanes row (λ p. not (A.fine p)) bits → IsLost A (is_listed A b.list) b.list lanes row Final (bit_and bits (slice_index words row))
+lost_unfine A ok lanes row bits b words shaped long inside few alive fails =
+    let word = slice_index words row in
+    let turned = λ (lane : ℕ). on_and bits word lane ∙ and_comm (is_on bits lane) (is_on word lane) in
+    lost_word A (is_listed A b.list) b.list lanes row Final (bit_and bits word) word (omega (arith, few, shaped.lanes)) (words_row A ok lanes row b words shaped long inside alive)
+    (λ lane l. turned lane ∙ ap (λ x. is_on word lane && x) (fails.each lane l))
+    (λ lane off. turned lane ∙ ap (λ x. x && is_on bits lane) off)
+
+pub lost_action : (A : Arena ℕ) → IsNumbered A → (gone : ℕ → Bool) (lanes row a lost : ℕ) (b : Board) (words : List ℕ) → IsShaped A lanes b → length words ≡ b.rows → row < b.rows → b.lanes ≤ 64 →
+    AreRows b.lanes (λ p. not (has_entry b.list p)) words → ((lane : ℕ) → lane < lanes → is_on lost lane ≡ (is_on (slice_index words row) lane && is_justified A gone (row * lanes + lane) (Act a))) →
+    ((lane : ℕ) → is_on (slice_index words row) lane ≡ false → is_on lost lane ≡ false) → IsLost A gone b.list lanes row (Act a) lost
+lost_action A ok gone lanes row a lost b words shaped long inside few alive is none =
+    lost_word A gone b.list lanes row (Act a) lost (slice_index words row) (omega (arith, few, shaped.lanes)) (words_row A ok lanes row b words shaped long inside alive) is none
+
+-- the order with their entries, by the lanes of the system
+pub pushed_as : (A : Arena ℕ) (lanes row lost : ℕ) (reason : Reason) (b c : Board) → IsShaped A lanes b → c ≡ record b { list = b.list ++ entries_in b.lanes row lost reason } → c ≡ record b { list = b.list ++ entries_in lanes row lost reason }
+pushed_as A lanes row lost reason b c shaped e = e ∙ ap (λ m. record b { list = b.list ++ entries_in m row lost reason }) shaped.lanes
 
 -- ---- an action
 
--- what a row that is judged for an action knows of its words
-pub record IsLost (A : Arena ℕ) (start : ℕ) (L : List (Entry ℕ)) (lanes row a lost : ℕ) : Type 0 where
-  pub few : lanes ≤ 64
-  pub action : a < A.actions
-  pub within : (lane : ℕ) → is_on lost lane ≡ true → lane < lanes
-  pub is : (lane : ℕ) → lane < lanes →
-      is_on lost lane ≡ (not (is_listed A L (row * lanes + lane)) && is_justified A (is_listed A (take start L)) (row * lanes + lane) (Act a))
-
-pub lost_word : (A : Arena ℕ) (start : ℕ) (L : List (Entry ℕ)) (lanes row a lost word : ℕ) → lanes ≤ 64 → a < A.actions → HasLanes lanes row (λ p. not (is_listed A L p)) word →
-    ((lane : ℕ) → lane < lanes → is_on lost lane ≡ (is_on word lane && is_justified A (is_listed A (take start L)) (row * lanes + lane) (Act a))) →
-    ((lane : ℕ) → is_on word lane ≡ false → is_on lost lane ≡ false) → IsLost A start L lanes row a lost
-lost_word A start L lanes row a lost word few action left is none = record {
-  few = few;
-  action = action;
-  within = λ lane on. elim (cases_lt lane lanes) [ inl l ↦ l | inr past ↦ absurd (both_ways (is_on lost lane) (none lane (left.rest lane past)) on) ];
-  is = λ lane l. is lane l ∙ ap (λ b. b && is_justified A (is_listed A (take start L)) (row * lanes + lane) (Act a)) (left.each lane l);
-}
-
-pub lost_round : (A : Arena ℕ) → IsNumbered A → (lanes start row a lost : ℕ) (b c : Board) → IsLost A start b.list lanes row a lost → c ≡ record b { list = b.list ++ entries_in lanes row lost (Act a) } →
-    InRound A lanes start b → InRound A lanes start c
-lost_round A ok lanes start row a lost b c is e round = subst (InRound A lanes start) (sym e) (record {
-  valid = order_lanes A ok (is_listed A (take start b.list)) (row * lanes) (Act a) b.list (set_lanes lost) round.valid (lanes_once lost) (λ q t. take_listed A start b.list q t) each;
-  begun = omega (arith, round.begun, length-append b.list more);
+pub lost_round : (A : Arena ℕ) → IsNumbered A → (lanes start row a lost : ℕ) (b c : Board) → a < A.actions → IsLost A (is_listed A (take start b.list)) b.list lanes row (Act a) lost →
+    c ≡ record b { list = b.list ++ entries_in lanes row lost (Act a) } → InRound A lanes start b → InRound A lanes start c
+lost_round A ok lanes start row a lost b c action is e round = subst (InRound A lanes start) (sym e) (record {
+  valid = lost_order A ok (is_listed A (take start b.list)) b.list lanes row (Act a) lost is (λ q t. take_listed A start b.list q t) round.valid;
+  begun = omega (arith, round.begun, length-append b.list (entries_in lanes row lost (Act a)));
   kept = subst (λ L. AreUnlisted A lanes L b.before) (sym front) round.kept;
   because = λ q t. subst (λ L. IsTrue (is_listed A L q) ⊎ IsTrue (falls A L q)) (sym front)
-      (elim (or_cases (is_listed A b.list q) (is_listed A more q) (sym (listed_append A b.list more q) ∙ t)) [
+      (elim (lost_because A ok (is_listed A (take start b.list)) b.list lanes row (Act a) lost q is t) [
         | inl old ↦ round.because q old
-        | inr new ↦
-            let (lane, low, on, f) = listed_lane A ok lanes row lost (Act a) q new in
-            let falls_here = (parts lane on).1 in
-            inr (any_from (λ d. is_justified A (is_listed A (take start b.list)) q (Act d)) a (below A.actions) (in_below A.actions a is.action)
-            (subst (λ r. IsTrue (is_justified A (is_listed A (take start b.list)) r (Act a))) (sym f) falls_here))
+        | inr here ↦ inr (any_from (λ d. is_justified A (is_listed A (take start b.list)) q (Act d)) a (below A.actions) (in_below A.actions a action) here)
       ]);
 })
   where
-    more : List (Entry ℕ)
-    more = entries_in lanes row lost (Act a)
+    front : take start (b.list ++ entries_in lanes row lost (Act a)) ≡ take start b.list
+    front = front_kept start b.list (entries_in lanes row lost (Act a)) round.begun
 
-    front : take start (b.list ++ more) ≡ take start b.list
-    front = front_kept start b.list more round.begun
-
-    parts : (lane : ℕ) → is_on lost lane ≡ true → IsTrue (not (is_listed A b.list (row * lanes + lane))) × IsTrue (is_justified A (is_listed A (take start b.list)) (row * lanes + lane) (Act a))
-    parts lane on = and_parts (not (is_listed A b.list (row * lanes + lane))) (is_justified A (is_listed A (take start b.list)) (row * lanes + lane) (Act a)) (sym (is.is lane (is.within lane on)) ∙ on)
-
-    each : (lane : ℕ) → IsIn lane (set_lanes lost) → IsFalse (is_listed A b.list (row * lanes + lane)) × IsTrue (is_justified A (is_listed A (take start b.list)) (row * lanes + lane) (Act a))
-    each lane i = let (low, on) = in_lanes lost lane i in (not-true (is_listed A b.list (row * lanes + lane)) (parts lane on).0, (parts lane on).1)
-
-pub lost_judged : (A : Arena ℕ) → IsNumbered A → (lanes start row a lost lane : ℕ) (b c : Board) → IsLost A start b.list lanes row a lost → c ≡ record b { list = b.list ++ entries_in lanes row lost (Act a) } →
-    start ≤ length b.list → lane < lanes → IsJudged A start c (row * lanes + lane) a
+pub lost_judged : (A : Arena ℕ) → IsNumbered A → (lanes start row a lost lane : ℕ) (b c : Board) → IsLost A (is_listed A (take start b.list)) b.list lanes row (Act a) lost →
+    c ≡ record b { list = b.list ++ entries_in lanes row lost (Act a) } → start ≤ length b.list → lane < lanes → IsJudged A start c (row * lanes + lane) a
 lost_judged A ok lanes start row a lost lane b c is e begun l = subst (λ (d : Board). IsJudged A start d (row * lanes + lane) a) (sym e)
-    (λ off.
-    subst (λ L. IsFalse (is_justified A (is_listed A L) (row * lanes + lane) (Act a))) (sym (front_kept start b.list more begun))
-    (by_test (is_justified A (is_listed A (take start b.list)) (row * lanes + lane) (Act a))
-    (λ t.
-    let low : lane < 64 = omega (arith, is.few) in
-    let parts = or_parts (is_listed A b.list (row * lanes + lane)) (is_on lost lane) (sym (pushed_lane A ok b.list lanes row lost lane (Act a) low) ∙ off) in
-    let on : is_on lost lane ≡ true = is.is lane l
-    ∙ and_from (not (is_listed A b.list (row * lanes + lane))) (is_justified A (is_listed A (take start b.list)) (row * lanes + lane) (Act a)) (not_from_false (is_listed A b.list (row * lanes + lane)) parts.0) t in
-    absurd (both_ways (is_on lost lane) parts.1 on))
-    (λ f. f)))
-  where
-    more : List (Entry ℕ)
-    more = entries_in lanes row lost (Act a)
+    (λ off. subst (λ L. IsFalse (is_justified A (is_listed A L) (row * lanes + lane) (Act a))) (sym (front_kept start b.list _ begun))
+    (lost_left A ok (is_listed A (take start b.list)) b.list lanes row (Act a) lost lane is l off))
 
 -- an action that isn't allowed is no reason
 pub judged_unallowed : (A : Arena ℕ) (start p a : ℕ) (b : Board) → IsFalse (A.allows p a) → IsJudged A start b p a

@@ -19,7 +19,7 @@ pub(crate) fn mask<J: Rules>(joint: &J, order: &Order, p: u32, a: u8) -> u32
         HasBits result (has (mask_of A (is_listed A order.now.list) p a)) }
 {
     joint.known();
-    order.len();
+    order.known();
     let lanes = joint.lanes();
     let row = joint.row(p / lanes);
     joint.mask(&row, order.words(), a, p % lanes)
@@ -51,7 +51,7 @@ fn row_choices<J: Rules>(joint: &J, order: &Order, x: u32) -> u64
 {
     joint.known();
     joint.lanes();
-    order.len();
+    order.known();
     let row = joint.row(x);
     let words = order.words();
     let mut count = 0;

@@ -97,7 +97,7 @@ impl Relation {
             → (IsTrue result ↔ Great s (pair_at (sizes_of s) p)) }
     {
         self.joint.known();
-        self.order.len();
+        self.order.known();
         self.order.alive(p)
     }
 
@@ -150,7 +150,7 @@ impl Relation {
             → result ≡ choice_count (system_of self.now.joint) }
     {
         self.joint.known();
-        self.order.len();
+        self.order.known();
         masks::choices(&self.joint, &self.order)
     }
 

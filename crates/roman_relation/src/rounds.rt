@@ -55,7 +55,7 @@ pub fn play_round<J: Rules, L: Ledger>(joint: &J, order: &mut Order, steps: &mut
     let start = order.len();
     judge_marked(joint, order);
     mark_losses(joint, order, start, steps);
-    order.len();
+    order.known();
 }
 
 /// Goes on from a removal list to a complete one, to which no reason adds a pair, by rounds.
@@ -84,7 +84,7 @@ pub fn settle_list<J: Rules, L: Ledger>(joint: &J, order: &mut Order, steps: &mu
     let is_fresh = order.len() == 0;
     order.forget_levels();
     begin_rounds(joint, order);
-    order.len();
+    order.known();
     end_level(order, is_fresh);
     'rounds: loop {
         let start = order.len();

@@ -60,7 +60,7 @@ fn judge<J: Rules>(joint: &J, order: &mut Order, x: u32)
 {
     joint.known();
     joint.lanes();
-    order.len();
+    order.known();
     if order.words()[x as usize] == 0 {
         return;
     }
@@ -89,7 +89,7 @@ fn judge_on<J: Rules>(joint: &J, order: &mut Order, row: &J::Row, x: u32, a: u8,
 {
     joint.known();
     joint.lanes();
-    order.len();
+    order.known();
     if !is_allowed {
         return;
     }

@@ -55,7 +55,7 @@ fn mark_loss<J: Rules, L: Ledger>(joint: &J, order: &mut Order, p: u32, steps: &
     ensures cost { steps.new ≤ steps.old + length (predecessors (J.arena joint.now) p) }
 {
     joint.known();
-    order.len();
+    order.known();
     let lanes = joint.lanes();
     let x = p / lanes;
     let before = order.before()[x as usize];

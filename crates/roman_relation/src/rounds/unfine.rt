@@ -42,7 +42,7 @@ fn list_unfine_row<J: Rules>(joint: &J, order: &mut Order, x: u32)
 {
     joint.known();
     joint.lanes();
-    order.len();
+    order.known();
     let row = joint.row(x);
     let lost = joint.unfine(&row) & order.words()[x as usize];
     order.push_lanes(x, lost, Reason::Final);

@@ -1,11 +1,9 @@
-use Rattle.std.proofs.Common.{◌≡◌, ◌+◌, ◌*◌, ◌/◌, ◌%◌, not, sym, ap, ◌∙◌, subst, arith}
+use Rattle.std.proofs.Common.{◌≡◌, ◌+◌, ◌*◌, ◌/◌, ◌%◌, sym, ap, ◌∙◌, subst, arith}
 use Rattle.std.proofs.lemmas.Nat.{mod_below, div-add-mod'}
 use Rattle.roman_model.specs.System.{has}
 use Rattle.roman_model.specs.Arena.{is_listed, mask}
-use Rattle.roman_lanes.specs.Rows.{AreRows}
-use Rattle.roman_order.specs.Board.{has_entry}
 use Rattle.roman_rules.specs.Bits.{HasBits}
-use Rattle.roman_relation.proofs.Lanes.{unlisted_rows}
+use Rattle.roman_relation.proofs.Lanes.{words_rows}
 use Rattle.roman_relation.proofs.masks.mask.Goals as goal
 
 pub mask-requires-clause-lane : goal.mask-requires-clause-lane
@@ -19,6 +17,6 @@ returns g c =
     let p = c.args.p in
     let m = c.lanes-lanes.result in
     let words = c.words.result.now in
-    let rows = unlisted_rows A c.known.ensures n b.list words (subst (λ j. AreRows j (λ q. not (has_entry b.list q)) words) c.requires.shaped.lanes c.words.ensures.alive) in
+    let rows = words_rows A c.known.ensures n b words c.requires.shaped c.words.ensures.alive in
     let place : p / m * n + p % m ≡ p = ap (λ j. p / m * j + p % m) (sym c.lanes-lanes.ensures.value) ∙ div-add-mod' p m in
     subst (λ q. HasBits c.mask.result (has (mask A (is_listed A b.list) q c.args.a))) place (c.mask.ensures (p / m) (is_listed A b.list) c.row-row.ensures rows)

@@ -1,10 +1,8 @@
-use Rattle.std.proofs.Common.{◌≡◌, ◌+◌, ◌*◌, length, not, sum_by, ap, subst, ◌∙◌, arith}
+use Rattle.std.proofs.Common.{◌≡◌, ◌+◌, ◌*◌, length, sum_by, ap, ◌∙◌, arith}
 use Rattle.roman_model.specs.Lists.{below}
 use Rattle.roman_model.specs.Arena.{is_listed, mask}
-use Rattle.roman_lanes.specs.Rows.{AreRows}
-use Rattle.roman_order.specs.Board.{has_entry}
 use Rattle.roman_rules.proofs.Serving.{sum_below_more, sum_turned}
-use Rattle.roman_relation.proofs.Lanes.{unlisted_rows}
+use Rattle.roman_relation.proofs.Lanes.{words_rows}
 use Rattle.roman_relation.proofs.masks.row_choices.Goals as goal
 
 pub loop-a-preserved : goal.loop-a-preserved
@@ -13,7 +11,7 @@ loop-a-preserved g c =
     let n = g.J.Rules.lanes c.args.joint.now in
     let b = c.args.order.now in
     let words = c.words-words.result.now in
-    let rows = unlisted_rows A c.known.ensures n b.list words (subst (λ j. AreRows j (λ q. not (has_entry b.list q)) words) c.requires.shaped.lanes c.words-words.ensures.alive) in
+    let rows = words_rows A c.known.ensures n b words c.requires.shaped c.words-words.ensures.alive in
     let counted = c.choices.ensures.counted c.args.x (is_listed A b.list) c.row-row.ensures rows in
     let more = sum_below_more (λ a. sum_by (λ lane. length (mask A (is_listed A b.list) (c.args.x * n + lane) a)) (below n)) c.loop-a.a in
     record {

@@ -1,12 +1,11 @@
-use Rattle.std.proofs.Common.{◌≡◌, ◌/◌, ◌<◌, not, IsFalse, sym, ap, ◌∙◌, subst, arith}
+use Rattle.std.proofs.Common.{◌≡◌, ◌/◌, ◌<◌, IsFalse, refl, sym, ap, ◌∙◌, subst, arith}
 use Rattle.std.proofs.lemmas.Bool.{both_ways, lt-ltb}
 use Rattle.std.proofs.lemmas.Nat.{mul-le}
 use Rattle.roman_model.specs.Arena.{IsOrder, is_listed}
-use Rattle.roman_lanes.specs.Rows.{AreRows}
-use Rattle.roman_order.specs.Board.{Board, pairs_of, has_entry, is_marked}
+use Rattle.roman_order.specs.Board.{Board, pairs_of, is_marked}
 use Rattle.roman_relation.specs.Rounds.{AreUnlisted}
-use Rattle.roman_relation.proofs.Going.{shaped_on, shaped_same}
-use Rattle.roman_relation.proofs.Lanes.{unlisted_rows, row_of}
+use Rattle.roman_relation.proofs.Going.{SameFrame, shaped_on, shaped_like}
+use Rattle.roman_relation.proofs.Lanes.{words_rows, row_of}
 use Rattle.roman_relation.proofs.rounds.begin_rounds.Goals as goal
 
 pub mark_front-requires : goal.mark_front-requires
@@ -27,9 +26,9 @@ returns-clause-ready g c =
     let shaped = shaped_on A n c.args.order.now mid c.requires.shaped c.list_unfine.ensures.goes_on in
     let list : d.list ≡ mid.list = ap (λ (y : Board). y.list) c.mark_front.ensures.rest ∙ ap (λ (y : Board). y.list) c.keep_before.ensures.rest in
     let before : d.before ≡ kept.before = ap (λ (y : Board). y.before) c.mark_front.ensures.rest in
-    let words : AreUnlisted A n mid.list kept.before = unlisted_rows A c.known.ensures n mid.list kept.before (subst (λ m. AreRows m (λ p. not (has_entry mid.list p)) kept.before) shaped.lanes c.keep_before.ensures.kept) in
+    let words = words_rows A c.known.ensures n mid kept.before shaped c.keep_before.ensures.kept in
     record {
-      shaped = shaped_same A n mid d shaped (ap (λ (y : Board). y.rows) c.mark_front.ensures.rest ∙ ap (λ (y : Board). y.rows) c.keep_before.ensures.rest) (ap (λ (y : Board). y.lanes) c.mark_front.ensures.rest ∙ ap (λ (y : Board). y.lanes) c.keep_before.ensures.rest);
+      shaped = shaped_like A n mid d (subst (SameFrame mid) (sym c.mark_front.ensures.rest) (subst (SameFrame mid) (sym c.keep_before.ensures.rest) (refl, refl, refl, refl))) shaped;
       valid = subst (IsOrder A) (sym list) c.list_unfine.ensures.goes_on.valid;
       kept = subst (λ L. AreUnlisted A n L d.before) (sym list) (subst (AreUnlisted A n mid.list) (sym before) words);
       fine = λ p l off. c.list_unfine.ensures.fine p l (subst (λ L. IsFalse (is_listed A L p)) list off);

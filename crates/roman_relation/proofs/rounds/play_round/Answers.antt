@@ -1,11 +1,12 @@
-use Rattle.std.proofs.Common.{◌≡◌, ℕ, ◌*◌, ◌<◌, suc, List, length, take, IsFalse, sym, ap, ◌∙◌, subst, arith}
+use Rattle.std.proofs.Common.{◌≡◌, ℕ, ◌*◌, ◌<◌, suc, List, length, take, IsFalse, refl, sym, ap, ◌∙◌, subst, arith}
 use Rattle.roman_model.specs.Arena.{Entry, IsOrder, is_listed, is_justified}
 use Rattle.roman_model.specs.declared.reason.Reason.TheVariants.{Act}
 use Rattle.roman_order.specs.Board.{Board, has_entry}
 use Rattle.roman_relation.specs.Settled.{Begins, IsSettled, HoldsLost}
 use Rattle.roman_relation.specs.Rounds.{InRound, IsPairJudged}
 use Rattle.roman_relation.proofs.Beginnings.{begins_unlisted}
-use Rattle.roman_relation.proofs.Going.{shaped_same, same_list}
+use Rattle.roman_relation.proofs.Going.{SameFrame, shaped_like, same_list}
+use Rattle.roman_relation.proofs.Lanes.{shaped_pairs}
 use Rattle.roman_relation.proofs.Playing.{round_begins, all_done, marking_starts, kept_ends, served_next, lost_more, settled_round}
 use Rattle.roman_relation.proofs.rounds.play_round.Given.{Over}
 use Rattle.roman_relation.proofs.rounds.play_round.Goals as goal
@@ -18,17 +19,16 @@ mark_losses-requires-clause-marking g c =
     let m = c.judge_marked.new.order in
     let start = c.len-start.result in
     let some : 0 < n = omega (arith, c.requires.ready.shaped.lanes, c.len-start.ensures.lanes.0) in
-    let long : length m.before * n ≡ length A.nodes = ap (λ (ws : List ℕ). length ws * n) (ap (λ (y : Board). y.before) c.judge_marked.ensures.rest) ∙ (ap (λ k. k * n) c.len-start.ensures.before
-    ∙ (ap (λ k. b.rows * k) (sym c.requires.ready.shaped.lanes) ∙ c.requires.ready.shaped.pairs)) in
+    let long = ap (λ (y : Board). length y.before * n) c.judge_marked.ensures.rest ∙ (ap (λ k. k * n) c.len-start.ensures.before ∙ shaped_pairs A n b c.requires.ready.shaped) in
     marking_starts A n start m some (omega (arith, long)) (c.judge_marked.ensures.round start (round_begins A n start b c.len-start.ensures.value c.requires.ready))
 
 -- the rows were judged
-round : (g : Over) (c : goal.After-len g) → InRound (g.J.Rules.arena c.args.joint.now) (g.J.Rules.lanes c.args.joint.now) c.len-start.result c.judge_marked.new.order
+round : (g : Over) (c : goal.After-known-2 g) → InRound (g.J.Rules.arena c.args.joint.now) (g.J.Rules.lanes c.args.joint.now) c.len-start.result c.judge_marked.new.order
 round g c =
     c.judge_marked.ensures.round c.len-start.result
     (round_begins (g.J.Rules.arena c.args.joint.now) (g.J.Rules.lanes c.args.joint.now) c.len-start.result c.args.order.now c.len-start.ensures.value c.requires.ready)
 
-done : (g : Over) (c : goal.After-len g) → (p : ℕ) → p < length (g.J.Rules.arena c.args.joint.now).nodes → IsPairJudged (g.J.Rules.arena c.args.joint.now) c.len-start.result c.judge_marked.new.order p
+done : (g : Over) (c : goal.After-known-2 g) → (p : ℕ) → p < length (g.J.Rules.arena c.args.joint.now).nodes → IsPairJudged (g.J.Rules.arena c.args.joint.now) c.len-start.result c.judge_marked.new.order p
 done g c =
     let A = g.J.Rules.arena c.args.joint.now in
     let n = g.J.Rules.lanes c.args.joint.now in
@@ -36,7 +36,7 @@ done g c =
     all_done A n c.len-start.result b c.judge_marked.new.order c.len-start.ensures.value c.requires.ready c.judge_marked.ensures.begins
     (λ p l on. c.judge_marked.ensures.done c.len-start.result p (round_begins A n c.len-start.result b c.len-start.ensures.value c.requires.ready) l on)
 
-list : (g : Over) (c : goal.After-len g) → c.mark_losses.new.order.list ≡ c.judge_marked.new.order.list
+list : (g : Over) (c : goal.After-known-2 g) → c.mark_losses.new.order.list ≡ c.judge_marked.new.order.list
 list g c = ap (λ (y : Board). y.list) c.mark_losses.ensures.rest
 
 pub returns-clause-ready : goal.returns-clause-ready
@@ -49,10 +49,9 @@ returns-clause-ready g c =
     let same = list g c in
     let ready = c.requires.ready in
     let some : 0 < n = omega (arith, ready.shaped.lanes, c.len-start.ensures.lanes.0) in
-    let rows : d.rows ≡ b.rows = ap (λ (y : Board). y.rows) c.mark_losses.ensures.rest ∙ ap (λ (y : Board). y.rows) c.judge_marked.ensures.rest in
-    let lanes : d.lanes ≡ b.lanes = ap (λ (y : Board). y.lanes) c.mark_losses.ensures.rest ∙ ap (λ (y : Board). y.lanes) c.judge_marked.ensures.rest in
-    let shaped = shaped_same A n b d ready.shaped rows lanes in
-    let long : length d.before * n ≡ length A.nodes = ap (λ k. k * n) c.len.ensures.before ∙ (ap (λ k. d.rows * k) (sym shaped.lanes) ∙ shaped.pairs) in
+    let frame : SameFrame b d = subst (SameFrame b) (sym c.mark_losses.ensures.rest) (subst (SameFrame b) (sym c.judge_marked.ensures.rest) (refl, refl, refl, refl)) in
+    let shaped = shaped_like A n b d frame ready.shaped in
+    let long : length d.before * n ≡ length A.nodes = ap (λ k. k * n) c.known-2.ensures.before ∙ shaped_pairs A n d shaped in
     record {
       shaped = shaped;
       valid = subst (IsOrder A) (sym same) (round g c).valid;

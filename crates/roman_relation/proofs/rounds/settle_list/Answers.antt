@@ -1,4 +1,4 @@
-use Rattle.std.proofs.Common.{◌≡◌, ℕ, suc, ◌+◌, ◌<◌, ◌≤◌, Bool, true, false, cond, [], ◌∷◌, ◌++◌, length, sym, ap, ◌∙◌, subst, arith}
+use Rattle.std.proofs.Common.{◌≡◌, ℕ, suc, ◌+◌, ◌<◌, ◌≤◌, Bool, true, false, cond, [], ◌∷◌, ◌++◌, length, refl, sym, ap, ◌∙◌, subst, arith}
 use Rattle.std.proofs.lemmas.Bool.{cond-true, cond-false, eqb-true}
 use Rattle.std.proofs.lemmas.List.{length_push}
 use Rattle.roman_model.specs.Arena.{fall}
@@ -6,7 +6,7 @@ use Rattle.roman_model.proofs.Lists.{by_test}
 use Rattle.roman_order.specs.Board.{Board, has_entry}
 use Rattle.roman_relation.specs.Settled.{Begins, HoldsLost, RisesByDepth, AreLevels}
 use Rattle.roman_relation.proofs.Beginnings.{begins_on, begins_length}
-use Rattle.roman_relation.proofs.Going.{fall_added, rest_from, no_entries}
+use Rattle.roman_relation.proofs.Going.{SameFrame, fall_added, rest_from, no_entries}
 use Rattle.roman_relation.proofs.Playing.{awaits_levels}
 use Rattle.roman_relation.proofs.Rising.{rises_start, rises_more, levels_first, levels_more}
 use Rattle.roman_relation.proofs.rounds.settle_list.Goals as goal
@@ -38,15 +38,11 @@ rounds-init g c =
     let begins : Begins b.list d.list = subst (λ L. Begins L d.list) of_f goes.begins in
     let fell = fall_added A b.list d.list begins in
     let same_fall : fall A e.list ≡ fall A d.list = ap (fall A) list in
-    let in_range : (p : ℕ) → has_entry d.list p ≡ true → p < length A.nodes = λ p t. omega (arith, c.len.ensures.in_range p t, c.begin_rounds.ensures.ready.shaped.pairs) in
+    let in_range : (p : ℕ) → has_entry d.list p ≡ true → p < length A.nodes = λ p t. omega (arith, c.known-2.ensures.in_range p t, c.begin_rounds.ensures.ready.shaped.pairs) in
     record {
       ready = awaits_levels A (g.J.Rules.lanes c.args.joint.now) d e _ is c.begin_rounds.ensures.ready;
       begins = subst (Begins b.list) (sym list) begins;
-      rest = rest_from b e
-          (ap (λ (y : Board). y.cap_pairs) is ∙ (ap (λ (y : Board). y.cap_pairs) goes.rest ∙ ap (λ (y : Board). y.cap_pairs) c.forget_levels.ensures))
-          (ap (λ (y : Board). y.rows) is ∙ (ap (λ (y : Board). y.rows) goes.rest ∙ ap (λ (y : Board). y.rows) c.forget_levels.ensures))
-          (ap (λ (y : Board). y.lanes) is ∙ (ap (λ (y : Board). y.lanes) goes.rest ∙ ap (λ (y : Board). y.lanes) c.forget_levels.ensures))
-          (ap (λ (y : Board). y.waiting) is ∙ (ap (λ (y : Board). y.waiting) goes.rest ∙ ap (λ (y : Board). y.waiting) c.forget_levels.ensures));
+      rest = rest_from b e (subst (SameFrame b) (sym is) (subst (SameFrame b) (sym goes.rest) (subst (SameFrame b) (sym c.forget_levels.ensures) (refl, refl, refl, refl))));
       fresh = λ t.
           let empty : b.list ≡ [] = no_entries b.list (omega (arith, eqb-true c.len-is_fresh.result 0 t, c.len-is_fresh.ensures.value)) in
           let lost = c.begin_rounds.ensures.lost (of_f ∙ empty) in
@@ -76,16 +72,12 @@ rounds-preserved g c =
     let fell = fall_added A old.list d.list goes.begins in
     let same_fall : fall A e.list ≡ fall A d.list = ap (fall A) list in
     let same_length : length e.list ≡ length d.list = ap length list in
-    let longer : length old.list < length d.list = omega (arith, begins_length old.list d.list goes.begins, c.len-start.ensures.value, c.len-in-rounds.ensures.value, c.if-len-start.false) in
-    let in_range : (p : ℕ) → has_entry d.list p ≡ true → p < length A.nodes = λ p t. omega (arith, c.len-in-rounds.ensures.in_range p t, c.play_round.ensures.ready.shaped.pairs) in
+    let longer : length old.list < length d.list = omega (arith, begins_length old.list d.list goes.begins, c.len-start.ensures.value, c.len.ensures.value, c.if-len-start.false) in
+    let in_range : (p : ℕ) → has_entry d.list p ≡ true → p < length A.nodes = λ p t. omega (arith, c.len.ensures.in_range p t, c.play_round.ensures.ready.shaped.pairs) in
     record {
       ready = awaits_levels A (g.J.Rules.lanes c.args.joint.now) d e _ is c.play_round.ensures.ready;
       begins = subst (Begins b.list) (sym list) (begins_on b.list old.list d.list c.rounds.invariant.begins goes.begins);
-      rest = rest_from b e
-          (ap (λ (y : Board). y.cap_pairs) is ∙ (ap (λ (y : Board). y.cap_pairs) goes.rest ∙ ap (λ (y : Board). y.cap_pairs) c.rounds.invariant.rest))
-          (ap (λ (y : Board). y.rows) is ∙ (ap (λ (y : Board). y.rows) goes.rest ∙ ap (λ (y : Board). y.rows) c.rounds.invariant.rest))
-          (ap (λ (y : Board). y.lanes) is ∙ (ap (λ (y : Board). y.lanes) goes.rest ∙ ap (λ (y : Board). y.lanes) c.rounds.invariant.rest))
-          (ap (λ (y : Board). y.waiting) is ∙ (ap (λ (y : Board). y.waiting) goes.rest ∙ ap (λ (y : Board). y.waiting) c.rounds.invariant.rest));
+      rest = rest_from b e (subst (SameFrame b) (sym is) (subst (SameFrame b) (sym goes.rest) (subst (SameFrame b) (sym c.rounds.invariant.rest) (refl, refl, refl, refl))));
       fresh = λ t.
           let (n, long, lost, rises, are) = c.rounds.invariant.fresh t in
           let more = c.play_round.ensures.lost n lost in

@@ -7,7 +7,7 @@ use Rattle.roman_relation.proofs.Lanes.{words_row}
 use Rattle.roman_order.specs.Board.{Board}
 use Rattle.roman_relation.specs.Rounds.{IsJudged}
 use Rattle.roman_relation.proofs.Beginnings.{begins_itself, begins_on}
-use Rattle.roman_relation.proofs.Going.{shaped_same}
+use Rattle.roman_relation.proofs.Going.{SameFrame, shaped_like}
 use Rattle.roman_relation.proofs.Pushing.{judged_on}
 use Rattle.roman_relation.proofs.Playing.{done_all}
 use Rattle.roman_relation.proofs.rounds.judging.judge.Goals as goal
@@ -22,8 +22,8 @@ loop-a-init g c = record {
 
 pub judge_on-requires-clause-shaped : goal.judge_on-requires-clause-shaped
 judge_on-requires-clause-shaped g c =
-    shaped_same (g.J.Rules.arena c.args.joint.now) (g.J.Rules.lanes c.args.joint.now) c.args.order.now c.loop-a.order c.requires.shaped
-    (ap (λ (d : Board). d.rows) c.loop-a.invariant.rest) (ap (λ (d : Board). d.lanes) c.loop-a.invariant.rest)
+    shaped_like (g.J.Rules.arena c.args.joint.now) (g.J.Rules.lanes c.args.joint.now) c.args.order.now c.loop-a.order
+    (subst (SameFrame c.args.order.now) (sym c.loop-a.invariant.rest) (refl, refl, refl, refl)) c.requires.shaped
 
 pub judge_on-requires-clause-inside : goal.judge_on-requires-clause-inside
 judge_on-requires-clause-inside g c = omega (arith, c.requires.row, ap (λ (d : Board). d.rows) c.loop-a.invariant.rest)
@@ -58,6 +58,6 @@ returns-then-words-x-eq0-clause-done g c start lane round l a off =
     let n = g.J.Rules.lanes c.args.joint.now in
     let b = c.args.order.now in
     let words = c.words.result.now in
-    let row = words_row A c.known.ensures n c.args.x b words c.requires.shaped.lanes (omega (arith, c.words.ensures.long, c.requires.row)) c.words.ensures.alive in
+    let row = words_row A c.known.ensures n c.args.x b words c.requires.shaped c.words.ensures.long c.requires.row c.words.ensures.alive in
     let none : is_on (slice_index words c.args.x) lane ≡ false = ap (λ w. is_on w lane) c.if-words-x-eq0.true ∙ on_zero lane in
     absurd (both_ways (is_on (slice_index words c.args.x) lane) none (row.each lane l ∙ not_from_false (is_listed A b.list (c.args.x * n + lane)) off))

@@ -9,8 +9,8 @@ use Rattle.roman_relation.proofs.Playing.{round_marks}
 use Rattle.roman_order.specs.Board.{Board, is_marked}
 use Rattle.roman_relation.specs.Rounds.{IsPairJudged}
 use Rattle.roman_relation.proofs.Beginnings.{begins_itself, begins_on}
-use Rattle.roman_relation.proofs.Going.{shaped_same}
-use Rattle.roman_relation.proofs.Lanes.{same_rows, row_of}
+use Rattle.roman_relation.proofs.Going.{SameFrame, shaped_like}
+use Rattle.roman_relation.proofs.Lanes.{shaped_row, shaped_rows}
 use Rattle.roman_relation.proofs.Marks.{count_falls, marked_within}
 use Rattle.roman_relation.proofs.Pushing.{judged_on}
 use Rattle.roman_relation.proofs.rounds.judging.judge_marked.Goals as goal
@@ -23,19 +23,17 @@ rows-init g c = record {
   done = λ start p round l on. inl on;
 }
 
-pub judge_if-requires-clause-shaped : goal.judge_if-requires-clause-shaped
-judge_if-requires-clause-shaped g c =
-    let mid = c.next_marked.new.self in
-    shaped_same (g.J.Rules.arena c.args.joint.now) (g.J.Rules.lanes c.args.joint.now) c.args.order.now mid c.requires.shaped
-    (ap (λ (d : Board). d.rows) c.in-Some.ensures.rest ∙ ap (λ (d : Board). d.rows) c.rows.invariant.rest) (ap (λ (d : Board). d.lanes) c.in-Some.ensures.rest ∙ ap (λ (d : Board). d.lanes) c.rows.invariant.rest)
-
-pub judge_if-requires-clause-row : goal.judge_if-requires-clause-row
-judge_if-requires-clause-row g c =
+pub judge_if-requires : goal.judge_if-requires
+judge_if-requires g c =
+    let A = g.J.Rules.arena c.args.joint.now in
     let n = g.J.Rules.lanes c.args.joint.now in
     let b = c.args.order.now in
+    let same : SameFrame b c.next_marked.new.self = subst (SameFrame b) (sym c.in-Some.ensures.rest) (subst (SameFrame b) (sym c.rows.invariant.rest) (refl, refl, refl, refl)) in
     let some : 0 < n = omega (arith, c.lanes.ensures.value, c.lanes.ensures.few.0) in
-    let rows : c.rows-rows.result ≡ b.rows = same_rows c.rows-rows.result b.rows n some (c.rows-rows.ensures ∙ sym (ap (λ m. b.rows * m) (sym c.requires.shaped.lanes) ∙ c.requires.shaped.pairs)) in
-    ap (nat_lt c.in-Some.x) (rows ∙ sym (ap (λ (d : Board). d.rows) c.in-Some.ensures.rest ∙ ap (λ (d : Board). d.rows) c.rows.invariant.rest))
+    record {
+      shaped = shaped_like A n b c.next_marked.new.self same c.requires.shaped;
+      row = ap (nat_lt c.in-Some.x) (shaped_rows A n c.rows-rows.result b c.requires.shaped some c.rows-rows.ensures ∙ sym same.1);
+    }
 
 pub rows-preserved : goal.rows-preserved
 rows-preserved g c =
@@ -59,8 +57,7 @@ rows-preserved g c =
       done = λ start p r l on. elim (c.rows.invariant.done start p r l on) [
         | inl still ↦ elim (cases_eq (p / n) x) [
           | inl e ↦
-              let pairs : b.rows * n ≡ length A.nodes = ap (λ m. b.rows * m) (sym c.requires.shaped.lanes) ∙ c.requires.shaped.pairs in
-              let row : p / n < b.rows = row_of n b.rows p some (omega (arith, pairs)) in
+              let row = shaped_row A n p b c.requires.shaped some l in
               let inside : x < mid.rows = omega (arith, row, e, ap (λ (d : Board). d.rows) next, ap (λ (d : Board). d.rows) c.rows.invariant.rest) in
               let place : x * n + p % n ≡ p = ap (λ y. y * n + p % n) (sym e) ∙ div-add-mod' p n in
               inr (subst (IsPairJudged A start new) place (c.judge_if.ensures.done start (p % n) (round_marks A n start old mid next (c.rows.invariant.round start r)) (mod_below p n some) inside))

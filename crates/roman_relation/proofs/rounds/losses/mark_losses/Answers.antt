@@ -1,10 +1,9 @@
-use Rattle.std.proofs.Common.{◌≡◌, ℕ, ◌+◌, ◌<◌, take, drop, length, slice_get, Some, sym, ap, ◌∙◌, arith, take-append-drop}
+use Rattle.std.proofs.Common.{◌≡◌, ℕ, ◌+◌, take, drop, length, slice_get, Some, sym, ap, ◌∙◌, arith, take-append-drop}
 use Rattle.std.proofs.lemmas.List.{take_all}
 use Rattle.roman_model.specs.Arena.{Entry, fall}
 use Rattle.roman_model.proofs.WorkLemmas.{fall_append}
-use Rattle.roman_order.specs.Board.{Board, as_entry, has_entry}
-use Rattle.roman_relation.proofs.Beginnings.{listed_is}
-use Rattle.roman_relation.proofs.Marks.{noted_more, entry_listed, fall_more}
+use Rattle.roman_order.specs.Board.{Board, as_entry}
+use Rattle.roman_relation.proofs.Marks.{noted_more, entry_listed, fall_more, entry_within}
 use Rattle.roman_relation.proofs.rounds.losses.mark_losses.Goals as goal
 
 pub entry-p-requires : goal.entry-p-requires
@@ -17,9 +16,8 @@ loop-i-preserved-then-p-first g c =
     let b = c.args.order.now in
     let d = c.loop-i.order in
     let p = c.entry-p.result.0 in
-    let same : d.list ≡ b.list = ap (λ (y : Board). y.list) c.loop-i.invariant.rest in
     let listed = entry_listed A c.known.ensures d.list c.loop-i.i (as_entry c.entry-p.result) c.entry-p.ensures in
-    let pair : p < length A.nodes = omega (arith, c.len-i-end.ensures.in_range p (sym (ap (λ L. has_entry L p) same) ∙ (sym (listed_is A c.known.ensures d.list p) ∙ listed)), c.requires.shaped.pairs) in
+    let pair = entry_within A c.known.ensures n c.loop-i.i b d (as_entry c.entry-p.result) c.requires.shaped c.len-i-end.ensures.in_range (ap (λ (y : Board). y.list) c.loop-i.invariant.rest) c.entry-p.ensures in
     record {
       marking = noted_more A c.known.ensures n c.args.start c.loop-i.i d (as_entry c.entry-p.result) c.entry-p.ensures (c.loop-i.invariant.row p pair c.if-first-p.true (omega (arith, c.if-p-first.true, c.lanes-lanes.ensures.value)) listed) c.loop-i.invariant.marking;
       row = c.loop-i.invariant.row;
@@ -29,12 +27,8 @@ loop-i-preserved-then-p-first g c =
 
 pub mark_loss-first-requires-clause-pair : goal.mark_loss-first-requires-clause-pair
 mark_loss-first-requires-clause-pair g c =
-    let A = g.J.Rules.arena c.args.joint.now in
-    let d = c.loop-i.order in
-    let p = c.entry-p.result.0 in
-    let same : d.list ≡ c.args.order.now.list = ap (λ (y : Board). y.list) c.loop-i.invariant.rest in
-    let listed = entry_listed A c.known.ensures d.list c.loop-i.i (as_entry c.entry-p.result) c.entry-p.ensures in
-    omega (arith, c.len-i-end.ensures.in_range p (sym (ap (λ L. has_entry L p) same) ∙ (sym (listed_is A c.known.ensures d.list p) ∙ listed)), c.requires.shaped.pairs)
+    entry_within (g.J.Rules.arena c.args.joint.now) c.known.ensures (g.J.Rules.lanes c.args.joint.now) c.loop-i.i c.args.order.now c.loop-i.order (as_entry c.entry-p.result)
+    c.requires.shaped c.len-i-end.ensures.in_range (ap (λ (y : Board). y.list) c.loop-i.invariant.rest) c.entry-p.ensures
 
 pub mark_loss-first-requires-clause-listed : goal.mark_loss-first-requires-clause-listed
 mark_loss-first-requires-clause-listed g c =

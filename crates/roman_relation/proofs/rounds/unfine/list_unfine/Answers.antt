@@ -4,7 +4,7 @@ use Rattle.roman_model.specs.Arena.{is_listed}
 use Rattle.roman_order.specs.Board.{Board}
 use Rattle.roman_relation.proofs.Beginnings.{begins_unlisted}
 use Rattle.roman_relation.proofs.Going.{goes_on_itself, goes_on_on, shaped_on}
-use Rattle.roman_relation.proofs.Lanes.{same_rows}
+use Rattle.roman_relation.proofs.Lanes.{shaped_rows}
 use Rattle.roman_relation.proofs.rounds.unfine.list_unfine.Goals as goal
 
 pub loop-x-init : goal.loop-x-init
@@ -14,20 +14,18 @@ loop-x-init g c = record {
   because = λ p t. inl t;
 }
 
-pub list_unfine_row-requires-clause-shaped : goal.list_unfine_row-requires-clause-shaped
-list_unfine_row-requires-clause-shaped g c =
-    shaped_on (g.J.Rules.arena c.args.joint.now) (g.J.Rules.lanes c.args.joint.now) c.args.order.now c.loop-x.order c.requires.shaped c.loop-x.invariant.goes_on
-
-pub list_unfine_row-requires-clause-row : goal.list_unfine_row-requires-clause-row
-list_unfine_row-requires-clause-row g c =
+pub list_unfine_row-requires : goal.list_unfine_row-requires
+list_unfine_row-requires g c =
+    let A = g.J.Rules.arena c.args.joint.now in
     let n = g.J.Rules.lanes c.args.joint.now in
     let b = c.args.order.now in
     let some : 0 < n = omega (arith, c.lanes.ensures.value, c.lanes.ensures.few.0) in
-    let rows : c.rows-x-end.result ≡ b.rows = same_rows c.rows-x-end.result b.rows n some (c.rows-x-end.ensures ∙ sym (ap (λ m. b.rows * m) (sym c.requires.shaped.lanes) ∙ c.requires.shaped.pairs)) in
-    omega (arith, rows, c.loop-x-test.true, ap (λ (d : Board). d.rows) c.loop-x.invariant.goes_on.rest)
-
-pub list_unfine_row-requires-clause-valid : goal.list_unfine_row-requires-clause-valid
-list_unfine_row-requires-clause-valid g c = c.loop-x.invariant.goes_on.valid
+    let rows = shaped_rows A n c.rows-x-end.result b c.requires.shaped some c.rows-x-end.ensures in
+    record {
+      shaped = shaped_on A n b c.loop-x.order c.requires.shaped c.loop-x.invariant.goes_on;
+      row = omega (arith, rows, c.loop-x-test.true, ap (λ (d : Board). d.rows) c.loop-x.invariant.goes_on.rest);
+      valid = c.loop-x.invariant.goes_on.valid;
+    }
 
 pub loop-x-preserved : goal.loop-x-preserved
 loop-x-preserved g c =
