@@ -18,13 +18,7 @@ use Rattle.roman_rules.specs.Asked.{HoldsWhereKept, IsReasonOf, readings_of, rea
 use Rattle.roman_rules.specs.declared.asked.Asked.{Asked}
 use Rattle.roman_rules.proofs.Asking.{known_more, readings_of-allowed}
 use Rattle.roman_order.specs.Board.{Board, nodes_of, has_entry, as_entry}
-use Rattle.roman_relation.proofs.Lanes.{unlisted_rows}
 use Rattle.roman_repair.specs.Replays.{is_possible, AreCandidates, with_replay, readings_of_entries, grown_numbers}
-
--- the words of an order of so many lanes tell what its list doesn't hold
-pub unlisted_words : (A : Arena ℕ) → IsNumbered A → (lanes wide : ℕ) (L : List (Entry ℕ)) (words : List ℕ) → wide ≡ lanes → AreRows wide (λ p. not (has_entry L p)) words →
-    AreRows lanes (λ p. not (is_listed A L p)) words
-unlisted_words A ok lanes wide L words same rows = subst (λ m. AreRows m (λ p. not (is_listed A L p)) words) same (unlisted_rows A ok wide L words rows)
 
 -- a reason that may hold names an action of the system
 pub possible_reason : (A : Arena ℕ) → IsNumbered A → (p : ℕ) (reason : Reason) → IsTrue (is_possible A p reason) → IsReasonOf A reason
@@ -89,21 +83,15 @@ candidates_left A kept L M are = record {
 
 -- the candidates after one that is kept or not
 candidates_step : (A : Arena ℕ) (kept : List (Entry ℕ)) (x : Entry ℕ) (L : List (Entry ℕ)) → AreCandidates A kept (x ∷ L) → AreCandidates A (with_one A kept x) L
-candidates_step A kept x L are = by_answer (is_justified A (is_listed A kept) x.node x.reason)
+candidates_step A kept x L are =
+    record { once = are.once.1; new = new (is_justified A (is_listed A kept) x.node x.reason); nodes = λ y i. are.nodes y (inr i); possible = λ y i. are.possible y (inr i) }
   where
     other : (y : Entry ℕ) → IsIn y L → IsFalse (y.node == x.node)
     other y i = false_from_ne_true (y.node == x.node) (λ t. are.once.0 (subst (λ p. IsIn p (nodes_of L)) (eqb-true y.node x.node t) (in_map (λ (z : Entry ℕ). z.node) y L i)))
 
-    by_answer : (b : Bool) → AreCandidates A (if b then kept ++ x ∷ [] else kept) L
-    by_answer true = record {
-      once = are.once.1;
-      new = λ y i.
-          list_any-append (λ (z : Entry ℕ). y.node == z.node) kept (x ∷ [])
-          ∙ or_from (has_entry kept y.node) (has_entry (x ∷ []) y.node) (are.new y (inr i)) (or_from (y.node == x.node) false (other y i) refl);
-      nodes = λ y i. are.nodes y (inr i);
-      possible = λ y i. are.possible y (inr i);
-    }
-    by_answer false = record { once = are.once.1; new = λ y i. are.new y (inr i); nodes = λ y i. are.nodes y (inr i); possible = λ y i. are.possible y (inr i) }
+    new : (b : Bool) (y : Entry ℕ) → IsIn y L → IsFalse (has_entry (if b then kept ++ x ∷ [] else kept) y.node)
+    new true y i = list_any-append (λ (z : Entry ℕ). y.node == z.node) kept (x ∷ []) ∙ or_from (has_entry kept y.node) (has_entry (x ∷ []) y.node) (are.new y (inr i)) (or_from (y.node == x.node) false (other y i) refl)
+    new false y i = are.new y (inr i)
 
 -- and after several
 candidates_replayed : (A : Arena ℕ) (kept L M : List (Entry ℕ)) → AreCandidates A kept (L ++ M) → AreCandidates A (with_replay A kept L) M
@@ -185,6 +173,11 @@ pub state_first : (A : Arena ℕ) (start now : Board) (states : ℕ) (x : Entry 
 state_first A start now states x b m so_far l is =
     subst (λ (y : Entry ℕ). IsReplaying A start now (grown_numbers states x) (y ∷ drop (b + 1) (grown_numbers states x))) (ap (λ i. as_entry (i, x.reason)) (sym is))
     (subst (IsReplaying A start now (grown_numbers states x)) (grown_more states x b l) so_far)
+
+-- so that number is a node
+pub state_within : (A : Arena ℕ) (start now : Board) (states : ℕ) (x : Entry ℕ) (b m : ℕ) → IsReplaying A start now (grown_numbers states x) (drop b (grown_numbers states x)) → b < states →
+    m ≡ x.node * states + b → m < length A.nodes
+state_within A start now states x b m so_far l is = (state_first A start now states x b m so_far l is).candidates.nodes (as_entry (m, x.reason)) (inl refl)
 
 -- the number that is computed
 pub state_number : (i states b wide small : ℕ) → wide ≡ states → small ≡ b → i * wide + small ≡ i * states + b

@@ -1,5 +1,5 @@
 -- Orders that are reopened for a changed system, and what is replayed in them.
-use Rattle.std.proofs.Common.{◌≡◌, ℕ, ◌*◌, ◌<◌, ◌≤◌, Bool, true, List, [], ◌∷◌, ◌++◌, flat_map, length, IsTrue, refl, sym, ap, ap₂, ◌∙◌, subst, arith}
+use Rattle.std.proofs.Common.{◌≡◌, ℕ, ◌+◌, ◌*◌, ◌<◌, ◌≤◌, Bool, true, List, [], ◌∷◌, ◌++◌, flat_map, length, IsTrue, refl, sym, ap, ap₂, ◌∙◌, subst, arith}
 use Rattle.roman_model.specs.Lists.{below}
 use Rattle.roman_model.specs.System.{Sys}
 use Rattle.roman_model.specs.Arena.{Arena, Entry, is_justified, IsOrder, replay}
@@ -21,9 +21,12 @@ use Rattle.roman_order.specs.Board.{Board, pairs_of, has_entry}
 use Rattle.roman_relation.specs.Shaped.{IsShaped}
 use Rattle.roman_relation.specs.Greatest.{arena_of, HasCaps, IsRelation}
 use Rattle.roman_relation.proofs.Relating.{listed_numbers, room_for_pairs}
+use Rattle.roman_relation.specs.Settled.{Begins}
+use Rattle.roman_repair.specs.declared.tally.Tally.{Tally}
+use Rattle.roman_repair.specs.Repairs.{IsRepaired}
 use Rattle.roman_repair.specs.Replays.{is_possible, AreCandidates, candidates, grown_numbers, IsReplayable}
 use Rattle.roman_repair.proofs.Keeping.{grown_once}
-use Rattle.roman_repair.proofs.Repairing.{numbers_order, numbers_replayed}
+use Rattle.roman_repair.proofs.Repairing.{numbers_order, numbers_replayed, repaired_from}
 
 -- Candidates.
 
@@ -78,28 +81,34 @@ shaped_for s shape new is whole wide = record {
   lanes = wide ∙ ap (λ (n : Sizes). lanes_of n.seats) is;
 }
 
--- the candidates for which the whole list stands are those of the renamed one
-pub those_renamed : (change : Change) (s : Sys) (states : ℕ) (old : List (Entry ℕ)) (reopened : Board) → reopened.waiting ≡ old → flat_map (grown_numbers states) old ≡ rename_numbers change (sizes_of s) old →
-    candidates states reopened ≡ rename_numbers change (sizes_of s) old
-those_renamed change s states old reopened waiting renamed = ap (flat_map (grown_numbers states)) waiting ∙ renamed
+-- the whole list waits for the changed system, and stands for the renamed one
+pub record IsReopened (change : Change) (s : Sys) (joint : NamedSys) (states : ℕ) (old : List (Entry ℕ)) (reopened : Board) : Type 0 where
+  pub replays : NumbersReplay change s old
+  pub system : system_of joint ≡ after change s
+  pub those : candidates states reopened ≡ rename_numbers change (sizes_of s) old
 
--- so their replay is that of the renamed list
-pub replay_renamed : (change : Change) (s : Sys) (joint : NamedSys) (states : ℕ) (old : List (Entry ℕ)) (reopened : Board) → system_of joint ≡ after change s →
-    candidates states reopened ≡ rename_numbers change (sizes_of s) old → replay (arena_of joint) (candidates states reopened) ≡ numbers_replayed change s old
-replay_renamed change s joint states old reopened system those = ap (replay (arena_of joint)) those ∙ ap (λ (t : Sys). replay (numbered t) (rename_numbers change (sizes_of s) old)) system
+-- so its replay is that of the renamed list
+replay_renamed : (change : Change) (s : Sys) (joint : NamedSys) (states : ℕ) (old : List (Entry ℕ)) (reopened : Board) → IsReopened change s joint states old reopened →
+    replay (arena_of joint) (candidates states reopened) ≡ numbers_replayed change s old
+replay_renamed change s joint states old reopened is = ap (replay (arena_of joint)) is.those ∙ ap (λ (t : Sys). replay (numbered t) (rename_numbers change (sizes_of s) old)) is.system
 
 -- and can go on
-pub replayable : (change : Change) (s : Sys) (joint : NamedSys) (states : ℕ) (old : List (Entry ℕ)) (reopened : Board) → NumbersReplay change s old → system_of joint ≡ after change s →
-    AreCandidates (numbered (after change s)) [] (rename_numbers change (sizes_of s) old) → candidates states reopened ≡ rename_numbers change (sizes_of s) old → reopened.list ≡ [] →
-    IsShaped (arena_of joint) (lanes_in (system_of joint)) reopened → HasCaps joint reopened → IsReplayable joint states reopened
-replayable change s joint states old reopened replays system may those empty shaped caps = record {
+pub replayable : (change : Change) (s : Sys) (joint : NamedSys) (states : ℕ) (old : List (Entry ℕ)) (reopened : Board) → IsReopened change s joint states old reopened →
+    AreCandidates (numbered (after change s)) [] (rename_numbers change (sizes_of s) old) → reopened.list ≡ [] → IsShaped (arena_of joint) (lanes_in (system_of joint)) reopened → HasCaps joint reopened →
+    IsReplayable joint states reopened
+replayable change s joint states old reopened is may empty shaped caps = record {
   shaped = shaped;
   caps = caps;
   empty = empty;
-  may = subst (λ (t : Sys). AreCandidates (numbered t) [] (candidates states reopened)) (sym system) (subst (AreCandidates (numbered (after change s)) []) (sym those) may);
-  valid = subst (IsOrder (arena_of joint)) (sym (replay_renamed change s joint states old reopened system those))
-      (subst (λ (t : Sys). IsOrder (numbered t) (numbers_replayed change s old)) (sym system) replays.order);
+  may = subst (λ (t : Sys). AreCandidates (numbered t) [] (candidates states reopened)) (sym is.system) (subst (AreCandidates (numbered (after change s)) []) (sym is.those) may);
+  valid = subst (IsOrder (arena_of joint)) (sym (replay_renamed change s joint states old reopened is)) (subst (λ (t : Sys). IsOrder (numbered t) (numbers_replayed change s old)) (sym is.system) is.replays.order);
 }
+
+-- to what the repair should end in
+pub reopened_repaired : (change : Change) (n mid joint : NamedSys) (states : ℕ) (old reopened new : Board) (tally : Tally) → IsReopened change (system_of n) mid states old.list reopened → joint ≡ mid → IsRelation joint new →
+    Begins (replay (arena_of mid) (candidates states reopened)) new.list → tally.kept ≡ length (replay (arena_of mid) (candidates states reopened)) → tally.kept + tally.added ≡ length new.list → IsRepaired change n old joint new tally
+reopened_repaired change n mid joint states old reopened new tally is same relation begins kept added =
+    repaired_from change n old (replay (arena_of mid) (candidates states reopened)) joint new tally is.replays (replay_renamed change (system_of n) mid states old.list reopened is) (ap system_of same ∙ is.system) relation begins kept added
 
 -- where a service thaws each entry stands for its own pair
 pub grown_by_one : (L : List (Entry ℕ)) → flat_map (grown_numbers 1) L ≡ L

@@ -34,9 +34,9 @@ pub fn die<L: Ledger>(relation: &mut Relation, k: u8, steps: &mut Steps<L>) -> T
     ensures cost { steps.new ≤ steps.old + fall_of relation.new.joint relation.new.order result }
 {
     relation.joint.known();
-    relation.order.len();
+    relation.order.known();
     rename_list(&relation.joint, &mut relation.order, k);
-    relation.order.len();
+    relation.order.known();
     relation.joint.drop_seat(k);
     settle_on(relation, steps)
 }

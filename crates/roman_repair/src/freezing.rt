@@ -25,7 +25,7 @@ pub fn freeze<L: Ledger>(relation: &mut Relation, k: u8, steps: &mut Steps<L>) -
     ensures cost { steps.new ≤ steps.old + fall_of relation.new.joint relation.new.order result }
 {
     relation.joint.known();
-    relation.order.len();
+    relation.order.known();
     relation.joint.set_frozen(k, true);
     settle_on(relation, steps)
 }

@@ -42,7 +42,7 @@ pub fn join<L: Ledger>(
     ensures refused { OnErr result ((relation.new ≡ relation.old) × (steps.new ≡ steps.old)) }
 {
     relation.joint.known();
-    relation.order.len();
+    relation.order.known();
     let states = states_of(&relation.joint, &seat);
     match relation.joint.push_seat(seat) {
         Ok(()) => {}

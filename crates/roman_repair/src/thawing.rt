@@ -26,7 +26,7 @@ pub fn thaw<L: Ledger>(relation: &mut Relation, k: u8, steps: &mut Steps<L>) -> 
     ensures cost { IsWithinReading relation.new.joint relation.new.order result steps.old steps.new }
 {
     relation.joint.known();
-    relation.order.len();
+    relation.order.known();
     relation.joint.set_frozen(k, false);
     reopen(relation);
     replay_and_settle_on(relation, 1, steps)

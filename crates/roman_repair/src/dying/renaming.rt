@@ -53,7 +53,7 @@ pub(crate) fn rename_list(joint: &Joint, order: &mut Order, k: u8)
     joint.known();
     let shape = joint.shape();
     shape.known();
-    order.len();
+    order.known();
     let small = shape.shrink(k);
     order.reopen(small.rows(), small.lanes());
     'waiting: while let Some((p, reason)) = order.next_waiting() {

@@ -4,20 +4,11 @@ use Rattle.roman_repair.specs.Replays.{AreCandidates, with_replay, readings_of_e
 use Rattle.roman_repair.proofs.Keeping.{grown_once, with_replay_one}
 use Rattle.roman_repair.proofs.replaying.keep_entry.Goals as goal
 
-pub keep-requires-clause-pair : goal.keep-requires-clause-pair
-keep-requires-clause-pair g c =
+pub keep-requires : goal.keep-requires
+keep-requires g c =
     let x = as_entry c.args.entry in
-    (subst (AreCandidates (g.J.Rules.arena c.args.joint.now) c.args.order.now.list) (grown_once c.args.states x c.if-states-eq1.true) c.requires.candidates).nodes x (inl refl)
-
-pub keep-requires-clause-possible : goal.keep-requires-clause-possible
-keep-requires-clause-possible g c =
-    let x = as_entry c.args.entry in
-    (subst (AreCandidates (g.J.Rules.arena c.args.joint.now) c.args.order.now.list) (grown_once c.args.states x c.if-states-eq1.true) c.requires.candidates).possible x (inl refl)
-
-pub keep-requires-clause-new : goal.keep-requires-clause-new
-keep-requires-clause-new g c =
-    let x = as_entry c.args.entry in
-    (subst (AreCandidates (g.J.Rules.arena c.args.joint.now) c.args.order.now.list) (grown_once c.args.states x c.if-states-eq1.true) c.requires.candidates).new x (inl refl)
+    let are = subst (AreCandidates (g.J.Rules.arena c.args.joint.now) c.args.order.now.list) (grown_once c.args.states x c.if-states-eq1.true) c.requires.candidates in
+    record { shaped = c.requires.shaped; pair = are.nodes x (inl refl); possible = are.possible x (inl refl); new = are.new x (inl refl); known = c.requires.known }
 
 pub returns-then-states-eq1-clause-list : goal.returns-then-states-eq1-clause-list
 returns-then-states-eq1-clause-list g c =

@@ -21,7 +21,7 @@ reopen-requires-clause-pairs c =
     let small : c.rows.result * c.lanes.result ≡ count (sizes_without c.args.k (sizes_of (system_of n))) =
     small_pairs n shape c.shrink-small.result c.args.k c.rows.result c.lanes.result c.shape-shape.ensures c.shrink-small.ensures c.rows.ensures c.lanes.ensures.value in
     let fewer : count (sizes_without c.args.k (sizes_of (system_of n))) ≤ count (sizes_of (system_of n)) = fewer_pairs n shape c.args.k c.shape-shape.ensures c.known-2.ensures c.requires.seat in
-    omega (arith, small, fewer, c.len.ensures.room, c.requires.shaped.pairs, length-below (count (sizes_of (system_of n))))
+    omega (arith, small, fewer, c.known-3.ensures.room, c.requires.shaped.pairs, length-below (count (sizes_of (system_of n))))
 
 pub waiting-init : goal.waiting-init
 waiting-init c =
@@ -30,13 +30,20 @@ waiting-init c =
     record {
       list = λ seat seated. subst (λ L. IsRenaming (sizes_of (system_of c.args.joint.now)) c.args.k seat (rename_numbers (Die c.args.k seat) (sizes_of (system_of c.args.joint.now)) c.args.order.now.list) L c.reopen.new.self.waiting)
           (sym list) (ap (rename_numbers (Die c.args.k seat) (sizes_of (system_of c.args.joint.now))) waiting);
-      waiting = λ x i. listed_numbers (system_of c.args.joint.now) c.args.order.now c.requires.shaped.pairs c.len.ensures.in_range x (subst (λ W. IsIn x W) waiting i);
+      waiting = λ x i. listed_numbers (system_of c.args.joint.now) c.args.order.now c.requires.shaped.pairs c.known-3.ensures.in_range x (subst (λ W. IsIn x W) waiting i);
       rest = refl;
     }
 
-pub rename_entry-requires-clause-pair : goal.rename_entry-requires-clause-pair
-rename_entry-requires-clause-pair c =
-    c.waiting.invariant.waiting (as_entry (c.in-Some.p, c.in-Some.reason)) (subst (λ W. IsIn (as_entry (c.in-Some.p, c.in-Some.reason)) W) (sym c.in-Some.ensures.first) (inl refl))
+pub rename_entry-requires : goal.rename_entry-requires
+rename_entry-requires c =
+    let x = as_entry (c.in-Some.p, c.in-Some.reason) in
+    let same = c.next_waiting.ensures.rest ∙ ap (λ (y : Board). record y { waiting = c.next_waiting.new.self.waiting }) c.waiting.invariant.rest in
+    record {
+      seat = c.requires.seat;
+      pair = c.waiting.invariant.waiting x (subst (λ W. IsIn x W) (sym c.in-Some.ensures.first) (inl refl));
+      shaped = ap (λ (y : Board). y.rows * y.lanes) same ∙ ap (λ (y : Board). y.rows * y.lanes) c.reopen.ensures.moved
+          ∙ small_pairs c.args.joint.now c.shape-shape.result.now c.shrink-small.result c.args.k c.rows.result c.lanes.result c.shape-shape.ensures c.shrink-small.ensures c.rows.ensures c.lanes.ensures.value;
+    }
 
 pub waiting-preserved : goal.waiting-preserved
 waiting-preserved c =
@@ -63,30 +70,19 @@ waiting-preserved c =
           ∙ ap (λ (W : List (Entry ℕ)). record c.reopen.new.self { list = new.list; waiting = W }) (sym waiting);
     }
 
-pub rename_entry-requires-clause-shaped : goal.rename_entry-requires-clause-shaped
-rename_entry-requires-clause-shaped c =
-    let same = c.next_waiting.ensures.rest ∙ ap (λ (y : Board). record y { waiting = c.next_waiting.new.self.waiting }) c.waiting.invariant.rest in
-    ap (λ (y : Board). y.rows * y.lanes) same ∙ ap (λ (y : Board). y.rows * y.lanes) c.reopen.ensures.moved
-    ∙ small_pairs c.args.joint.now c.shape-shape.result.now c.shrink-small.result c.args.k c.rows.result c.lanes.result c.shape-shape.ensures c.shrink-small.ensures c.rows.ensures c.lanes.ensures.value
-
-pub returns-clause-list : goal.returns-clause-list
-returns-clause-list c seat seated =
+pub returns : goal.returns
+returns c =
     let n = sizes_of (system_of c.args.joint.now) in
-    let whole = rename_numbers (Die c.args.k seat) n c.args.order.now.list in
-    ap (λ (x : Board). x.list) c.in_default.ensures.none.1
-    ∙ renaming_end n c.args.k seat whole c.waiting.order.list (subst (λ W. IsRenaming n c.args.k seat whole c.waiting.order.list W) c.in_default.ensures.none.0 (c.waiting.invariant.list seat seated))
-
-pub returns-clause-pairs : goal.returns-clause-pairs
-returns-clause-pairs c =
     let same = c.in_default.ensures.none.1 ∙ c.waiting.invariant.rest in
-    ap (λ (y : Board). y.rows * y.lanes) same ∙ ap (λ (y : Board). y.rows * y.lanes) c.reopen.ensures.moved
-    ∙ small_pairs c.args.joint.now c.shape-shape.result.now c.shrink-small.result c.args.k c.rows.result c.lanes.result c.shape-shape.ensures c.shrink-small.ensures c.rows.ensures c.lanes.ensures.value
-
-pub returns-clause-lanes : goal.returns-clause-lanes
-returns-clause-lanes c =
-    let same = c.in_default.ensures.none.1 ∙ c.waiting.invariant.rest in
-    ap (λ (y : Board). y.lanes) same ∙ ap (λ (y : Board). y.lanes) c.reopen.ensures.moved ∙ c.lanes.ensures.value
-    ∙ ap (λ (m : Sizes). lanes_of m.seats) (c.shrink-small.ensures ∙ ap (sizes_without c.args.k) c.shape-shape.ensures)
-
-pub returns-clause-caps : goal.returns-clause-caps
-returns-clause-caps c = ap (λ (y : Board). y.cap_pairs) (c.in_default.ensures.none.1 ∙ c.waiting.invariant.rest) ∙ ap (λ (y : Board). y.cap_pairs) c.reopen.ensures.moved
+    record {
+      list = λ seat seated.
+          let whole = rename_numbers (Die c.args.k seat) n c.args.order.now.list in
+          ap (λ (x : Board). x.list) c.in_default.ensures.none.1
+          ∙ renaming_end n c.args.k seat whole c.waiting.order.list (subst (λ W. IsRenaming n c.args.k seat whole c.waiting.order.list W) c.in_default.ensures.none.0 (c.waiting.invariant.list seat seated));
+      pairs = ap (λ (y : Board). y.rows * y.lanes) same ∙ ap (λ (y : Board). y.rows * y.lanes) c.reopen.ensures.moved
+          ∙ small_pairs c.args.joint.now c.shape-shape.result.now c.shrink-small.result c.args.k c.rows.result c.lanes.result c.shape-shape.ensures c.shrink-small.ensures c.rows.ensures c.lanes.ensures.value;
+      lanes = ap (λ (y : Board). y.lanes) same ∙ ap (λ (y : Board). y.lanes) c.reopen.ensures.moved ∙ c.lanes.ensures.value
+          ∙ ap (λ (m : Sizes). lanes_of m.seats) (c.shrink-small.ensures ∙ ap (sizes_without c.args.k) c.shape-shape.ensures);
+      caps = ap (λ (y : Board). y.cap_pairs) same ∙ ap (λ (y : Board). y.cap_pairs) c.reopen.ensures.moved;
+      idle = ap (λ (y : Board). y.waiting) c.in_default.ensures.none.1 ∙ c.in_default.ensures.none.0;
+    }
