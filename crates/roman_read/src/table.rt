@@ -9,8 +9,11 @@ use std::alloc::{AllocError, Global};
 use std::marker::Model;
 use thiserror::Error;
 
-/// Names that are numbered from 0 in the order in which they were added, none of them twice. Contracts
-/// see the list of them.
+// How many names are sought one after the other, which is quicker than by their hashes.
+const FEW: usize = 8;
+
+/// Names that are numbered from 0 in the order in which they were added, none of them twice.
+/// Contracts see the list of them.
 #[derive(Drop)]
 pub struct NameTable {
     names: IndexSet<Name>,
@@ -109,16 +112,38 @@ impl NameTable {
         Ok(place)
     }
 
-    #[tactic(auto, using(crate::proofs::PlaceLemmas::places))]
     /// The place of the name with these bytes, which may be any; `None` exactly where no name has them.
     pub fn find(&self, bytes: &[u8]) -> Option<u32>
         ensures place { result ≡ place_of self.now bytes.now }
         ensures within { IfSome result (λ i. i < length self.now) }
     {
         let names = &self.names;
-        let name = Name::new(bytes)?;
-        let place = names.get_index_of(&name)?;
+        let place = if names.len() <= FEW {
+            self.sought(bytes)?
+        } else {
+            self.looked_up(bytes)?
+        };
         Some(place as u32)
+    }
+
+    // The place of the name with these bytes, by a look at one name after the other.
+    fn sought(&self, bytes: &[u8]) -> Option<usize>
+        ensures place { result ≡ place_of self.now bytes.now }
+        ensures within { IfSome result (λ i. i < length self.now) }
+    {
+        let names = self.names.as_slice();
+        names.iter().position(|name| bytes == name.bytes())
+    }
+
+    #[tactic(auto, using(crate::proofs::PlaceLemmas::places))]
+    // The place of the name with these bytes, by its hash.
+    fn looked_up(&self, bytes: &[u8]) -> Option<usize>
+        ensures place { result ≡ place_of self.now bytes.now }
+        ensures within { IfSome result (λ i. i < length self.now) }
+    {
+        let names = &self.names;
+        let name = Name::new(bytes)?;
+        names.get_index_of(&name)
     }
 
     /// The name at the place `i`, from 0.
