@@ -1,8 +1,8 @@
 -- What the fields of a session and the calls of its parts say of the situation.
-use Rattle.std.proofs.Common.{◌≡◌, ℕ, zero, suc, ◌<◌, Bool, ◌↔◌, List, [], ◌∷◌, Option, Some, IfSome, IsTrue, IsFalse, map, length, slice_get, slice_set, slice_index_or, refl, sym, ap, ◌∙◌, subst, arith}
+use Rattle.std.proofs.Common.{◌≡◌, ℕ, zero, suc, ◌<◌, Bool, ◌↔◌, List, [], ◌∷◌, Option, Some, IfSome, IsTrue, IsFalse, map, length, slice_get, slice_set, slice_index, slice_index_or, refl, sym, ap, ◌∙◌, subst, arith}
 use Rattle.std.specs.Option.{option_map}
 use Rattle.std.proofs.lemmas.Option.{slice_get-map, get_or_from_slice_get}
-use Rattle.std.proofs.lemmas.List.{length-map}
+use Rattle.std.proofs.lemmas.List.{length-map, get_or-set_same}
 use Rattle.std.proofs.lemmas.Bool.{both_ways}
 use Rattle.roman_model.specs.System.{Sys, Pair, IsPair, outcomes, is_ready}
 use Rattle.roman_model.specs.System.{Seat as Seat'}
@@ -15,7 +15,8 @@ use Rattle.roman_model.proofs.Lists.{not_empty_in, ne_not_empty, by_test}
 use Rattle.roman_model.proofs.CompositionLemmas.{related_great, great_related}
 use Rattle.roman_model.proofs.SystemLemmas.{outcome_seat, states_set}
 use Rattle.roman_model.proofs.OfferLemmas.{offer_is}
-use Rattle.roman_model.proofs.NumberLemmas.{numbers_are_pairs}
+use Rattle.roman_model.proofs.NumberLemmas.{numbers_are_pairs, states_below, AreBelow-index}
+use Rattle.roman_radix.specs.Radix.{moved}
 use Rattle.roman_parts.specs.Named.{NamedBeh}
 use Rattle.roman_joint.specs.NamedSys.{NamedSys}
 use Rattle.roman_joint.specs.NamedSys as joint
@@ -50,6 +51,14 @@ state_there a s k ok view l =
     let t = situation_in a in
     let long = states_long (present_system t) t.here ok.known.here in
     omega (arith, l, long, length-map t.parts.seats (joint.seat_of t.parts.catalogue), ap (λ (s : Situation). length s.parts.seats) view)
+
+-- a state to which a service goes is one of its behaviour
+pub moved_within : (s : Sys) (p : Pair) (t e k b : ℕ) → IsPair s p → IsPair s (moved p t e k b) → k < length s.seats → b < slice_index (sizes_of s).seats k
+moved_within s p t e k b is ok l =
+    let bs = slice_set p.bs k b in
+    let there : slice_index bs k ≡ b = get_or-set_same p.bs k b 0 (omega (arith, l, states_long s p is)) in
+    subst (λ (n : ℕ). n < slice_index (sizes_of s).seats k) there
+    (AreBelow-index (sizes_of s).seats bs k (states_below s.seats bs ok.bs) (omega (arith, l, length-map s.seats (λ (x : Seat'). x.beh.states))))
 
 -- the pair with the number of the current one is the current one
 pub here_pair : (s : Situation) (p : ℕ) → IsSituation s → p ≡ number (sizes_of (present_system s)) s.here → pair_at (sizes_of (present_system s)) p ≡ s.here

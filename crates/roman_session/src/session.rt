@@ -120,6 +120,16 @@ impl Session {
         self.number
     }
 
+    // The number of the current pair with the target, the environment and the service at place k in
+    // other states.
+    fn number_moved(&self, t: u8, e: u8, k: u8, b: u8) -> u32
+        requires pair { IsPair (present_system self.now) (moved self.now.here t e k b) }
+        requires seat { k < length self.now.parts.seats }
+        ensures { result ≡ number (sizes_of (present_system self.now)) (moved self.now.here t e k b) }
+    {
+        self.relation.joint.shape().moved(self.here(), t, e, k, b)
+    }
+
     // The state of the service at place k.
     fn state(&self, k: u8) -> u8
         requires { k < length self.now.parts.seats }
@@ -227,10 +237,10 @@ impl Session {
         requires seat { k < length self.old.parts.seats }
         ensures { self.new ≡ record self.old { here = moved self.old.here t e k b; phase = Phase.Idle } }
     {
+        self.number = self.number_moved(t, e, k, b);
         self.target = t;
         self.env = e;
         self.states[k as usize] = b;
-        self.number = number_of(&self.relation.joint, t, e, &self.states);
         self.phase = Phase::Idle;
     }
 
