@@ -16,7 +16,7 @@ use Rattle.roman_session.specs.Situations.{Situation, IsSituation}
 use Rattle.roman_session.specs.Steps.{Step}
 use Rattle.roman_session.specs.Answering.{Answered, AnsweredOn, next_of}
 use Rattle.roman_session.specs.Hearing.{ends_session, has_quit, Spot, spot, Tells, TellsFront}
-use Rattle.roman_session.specs.HearingBytes.{ear, Takes, IsHearing, StopsAtQuit, FallsShort, FailsIn, HearsBytes}
+use Rattle.roman_session.specs.HearingBytes.{ear, TellsOnPage, IsHearing, StopsAtQuit, FallsShort, FailsIn, HearsBytes}
 use Rattle.roman_session.specs.declared.next.Next.{Next}
 use Rattle.roman_session.specs.declared.next.Next.TheVariants.{More, Quit}
 use Rattle.roman_session.proofs.HearingLines.{quit_last, quitless_last, told_push}
@@ -79,7 +79,7 @@ fails_more old mid new ls line more before wrote now quitless tells step wrote_m
 
 -- the same on a page
 takes_more : (old mid new : Situation) (ls : List (List ℕ)) (line more : List ℕ) (before wrote now : Option (List ℕ)) (page holds : List ℕ) → IsFalse (has_quit ls) →
-    Takes (spot old before) ls (spot mid wrote) page → Step mid line more new → Gathered wrote now holds (page ++ more) → Takes (spot old before) (ls ++ line ∷ []) (spot new now) holds
+    TellsOnPage (spot old before) ls (spot mid wrote) page → Step mid line more new → Gathered wrote now holds (page ++ more) → TellsOnPage (spot old before) (ls ++ line ∷ []) (spot new now) holds
 takes_more old mid new ls line more before wrote now page holds quitless takes step gathered = record {
   text = takes.text ++ more;
   told = told_push old mid new ls line takes.text more quitless takes.told step;
@@ -87,7 +87,7 @@ takes_more old mid new ls line more before wrote now page holds quitless takes s
 }
 
 takes_failed : (old mid new : Situation) (ls : List (List ℕ)) (line more : List ℕ) (before wrote now : Option (List ℕ)) (page : List ℕ) → IsFalse (has_quit ls) →
-    Takes (spot old before) ls (spot mid wrote) page → Step mid line more new → WroteFront wrote now (page ++ more) → IsSituation new → FallsShort (spot old before) (ls ++ line ∷ []) (spot new now)
+    TellsOnPage (spot old before) ls (spot mid wrote) page → Step mid line more new → WroteFront wrote now (page ++ more) → IsSituation new → FallsShort (spot old before) (ls ++ line ∷ []) (spot new now)
 takes_failed old mid new ls line more before wrote now page quitless takes step front known = record {
   tells = record {
     text = takes.text ++ more;
@@ -98,7 +98,7 @@ takes_failed old mid new ls line more before wrote now page quitless takes step 
 }
 
 -- where a page holds nothing, all was written
-pub whole_told : (old new : Spot) (ls : List (List ℕ)) → Takes old ls new [] → Tells old ls new
+pub whole_told : (old new : Spot) (ls : List (List ℕ)) → TellsOnPage old ls new [] → Tells old ls new
 whole_told old new ls takes = record {
   text = takes.text;
   told = takes.told;
@@ -106,7 +106,7 @@ whole_told old new ls takes = record {
 }
 
 -- what a page holds is put
-put_whole : (old : Spot) (mid : Situation) (wrote now : Option (List ℕ)) (ls : List (List ℕ)) (page : List ℕ) → Takes old ls (spot mid wrote) page → Wrote wrote now page → Takes old ls (spot mid now) []
+put_whole : (old : Spot) (mid : Situation) (wrote now : Option (List ℕ)) (ls : List (List ℕ)) (page : List ℕ) → TellsOnPage old ls (spot mid wrote) page → Wrote wrote now page → TellsOnPage old ls (spot mid now) []
 put_whole old mid wrote now ls page takes put = record {
   text = takes.text;
   told = takes.told;
@@ -114,7 +114,7 @@ put_whole old mid wrote now ls page takes put = record {
       (subst (Wrote old.written now) (sym takes.gathered.rest) (Wrote-then old.written wrote now takes.gathered.front page takes.gathered.wrote put));
 }
 
-put_front : (old : Spot) (mid : Situation) (wrote now : Option (List ℕ)) (ls : List (List ℕ)) (page : List ℕ) → Takes old ls (spot mid wrote) page → WroteFront wrote now page → TellsFront old ls (spot mid now)
+put_front : (old : Spot) (mid : Situation) (wrote now : Option (List ℕ)) (ls : List (List ℕ)) (page : List ℕ) → TellsOnPage old ls (spot mid wrote) page → WroteFront wrote now page → TellsFront old ls (spot mid now)
 put_front old mid wrote now ls page takes front = record {
   text = takes.text;
   told = takes.told;
@@ -182,7 +182,7 @@ stops_within old before taken front part back piece new now page split stops = r
       ∙ sym (append_assoc front stops.heard (10 ∷ (stops.past ++ back)));
   first = subst (λ (bytes : List ℕ). IsFalse (has_quit (ended_lines bytes))) (append_assoc taken front stops.heard) stops.first;
   quit = subst (λ (bytes : List ℕ). IsTrue (has_quit (ended_lines (bytes ++ 10 ∷ [])))) (append_assoc taken front stops.heard) stops.quit;
-  tells = subst (λ (bytes : List ℕ). Takes (spot old before) (ended_lines (bytes ++ 10 ∷ [])) (spot new now) page) (append_assoc taken front stops.heard) stops.tells;
+  tells = subst (λ (bytes : List ℕ). TellsOnPage (spot old before) (ended_lines (bytes ++ 10 ∷ [])) (spot new now) page) (append_assoc taken front stops.heard) stops.tells;
 }
 
 -- a fault in a part of them

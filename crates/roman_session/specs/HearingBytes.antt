@@ -23,7 +23,7 @@ abbrev pub ear : Situation → Option (List ℕ) → List ℕ → List ℕ → E
 ear situation written page held = record { spot = spot situation written; page = page; held = held }
 
 -- of what the session is told of those lines, where it stands there then, a prefix was written, and the page holds the rest
-pub record Takes (old : Spot) (lines : List (List ℕ)) (new : Spot) (page : List ℕ) : Type 0 where
+pub record TellsOnPage (old : Spot) (lines : List (List ℕ)) (new : Spot) (page : List ℕ) : Type 0 where
   pub text : List ℕ
   pub told : Told old.situation lines text new.situation
   pub gathered : Gathered old.written new.written page text
@@ -31,7 +31,7 @@ pub record Takes (old : Spot) (lines : List (List ℕ)) (new : Spot) (page : Lis
 -- the whole lines of those bytes are answered, none of which is `quit`, and as much of the next is held as tells its shape
 pub record IsHearing (old : Spot) (taken : List ℕ) (new : Ear) : Type 0 where
   pub quitless : IsFalse (has_quit (ended_lines taken))
-  pub tells : Takes old (ended_lines taken) new.spot new.page
+  pub tells : TellsOnPage old (ended_lines taken) new.spot new.page
   pub rest : new.held ≡ kept (unfinished taken)
 
 -- after those bytes a first line `quit` ends in the piece, and is answered
@@ -41,7 +41,7 @@ pub record StopsAtQuit (old : Spot) (taken piece : List ℕ) (new : Spot) (page 
   pub split : piece ≡ heard ++ 10 ∷ past
   pub first : IsFalse (has_quit (ended_lines (taken ++ heard)))
   pub quit : IsTrue (has_quit (ended_lines (taken ++ heard ++ 10 ∷ [])))
-  pub tells : Takes old (ended_lines (taken ++ heard ++ 10 ∷ [])) new page
+  pub tells : TellsOnPage old (ended_lines (taken ++ heard ++ 10 ∷ [])) new page
 
 -- the answer to the last of those lines wasn't written whole, and lines may follow
 pub record FallsShort (old : Spot) (lines : List (List ℕ)) (new : Spot) : Type 0 where
