@@ -1,5 +1,5 @@
 -- A session begins where its library does.
-use Rattle.std.proofs.Common.{◌≡◌, ℕ, ◌≤◌, List, length, refl, sym, ap, ap₂, ◌∙◌, subst}
+use Rattle.std.proofs.Common.{◌≡◌, ℕ, ◌≤◌, List, length, refl, sym, ap₂, ◌∙◌, subst}
 use Rattle.roman_model.specs.System.{Pair, IsPair}
 use Rattle.roman_model.specs.Numbers.{sizes_of, number}
 use Rattle.roman_model.specs.declared.limits.TheConstants.{MAX_BEHAVIOURS}
@@ -7,10 +7,11 @@ use Rattle.roman_joint.specs.NamedSys.{NamedSys, system_of, IsNamedSys}
 use Rattle.roman_relation.specs.Greatest.{IsRelation}
 use Rattle.roman_relation.specs.declared.relation.Relation.{Relation}
 use Rattle.roman_library.specs.Library.{PlainLibrary}
-use Rattle.roman_session.specs.Starts.{start_pair_of, IsStart}
-use Rattle.roman_session.specs.Building.{starting, IsSeated}
+use Rattle.roman_start.specs.Starts.{parts_of, start_pair_of, starting}
+use Rattle.roman_start.specs.Seating.{IsSeated}
+use Rattle.roman_start.specs.declared.seating.Seated.{Seated}
+use Rattle.roman_session.specs.Starts.{IsStart}
 use Rattle.roman_session.specs.Layout.{situation_in, IsSession}
-use Rattle.roman_session.specs.declared.seating.Seated.{Seated}
 use Rattle.roman_session.specs.declared.phase.Phase.TheVariants.{Idle}
 use Rattle.roman_session.specs.declared.session.Session.TheInside.{Inside}
 
@@ -34,27 +35,24 @@ pub begins_in : (library : PlainLibrary) (x : Seated) (t e : ℕ) → IsSeated l
 begins_in library x t e seated is_t is_e =
     subst (λ (p : Pair). IsPair (system_of x.joint) p) (sym (begins_at library x t e seated is_t is_e)) (subst (λ (n : NamedSys). IsPair (system_of n) (start_pair_of library)) (sym seated.parts) seated.pair)
 
--- its number, by the states as a slice
-pub counted_from : (x : Seated) (t e : ℕ) (bs : List ℕ) (n : ℕ) → bs ≡ x.states.items → n ≡ number (sizes_of (system_of x.joint)) (record { t = t; e = e; bs = bs }) → n ≡ number (sizes_of (system_of x.joint)) (first_pair x t e)
-counted_from x t e bs n same counted = counted ∙ ap (λ (bs : List ℕ). number (sizes_of (system_of x.joint)) (record { t = t; e = e; bs = bs })) same
-
 -- the fields at the start
-abbrev pub first_fields : Seated → Relation → ℕ → ℕ → ℕ → Inside
-first_fields x relation t e n = record { relation = relation; target = t; env = e; states = x.states; number = n; phase = Idle; mask = 0 }
+abbrev pub first_fields : Seated → Relation → ℕ → ℕ → Inside
+first_fields x relation t e = record { relation = relation; target = t; env = e; states = x.states; number = x.start; phase = Idle; mask = 0 }
 
-pub begun : (library : PlainLibrary) (x : Seated) (relation : Relation) (t e n : ℕ) → IsSeated library x → length library.catalogue ≤ MAX_BEHAVIOURS → IsNamedSys x.joint → relation.joint ≡ x.joint → IsRelation relation.joint relation.order →
-    t ≡ x.joint.target.beh.start → e ≡ x.joint.environment.env.start → n ≡ number (sizes_of (system_of x.joint)) (first_pair x t e) → HasBegun library (first_fields x relation t e n)
-begun library x relation t e n seated few known joint ok is_t is_e counted =
+pub begun : (library : PlainLibrary) (x : Seated) (relation : Relation) (t e : ℕ) → IsSeated library x → length library.catalogue ≤ MAX_BEHAVIOURS → IsNamedSys x.joint → relation.joint ≡ x.joint → IsRelation relation.joint relation.order →
+    t ≡ x.joint.target.beh.start → e ≡ x.joint.environment.env.start → HasBegun library (first_fields x relation t e)
+begun library x relation t e seated few known joint ok is_t is_e =
     let here = begins_at library x t e seated is_t is_e in
+    let parts : relation.joint ≡ parts_of library = joint ∙ seated.parts in
     let pair = subst (λ (n : NamedSys). IsPair (system_of n) (first_pair x t e)) (sym joint) (begins_in library x t e seated is_t is_e) in
     record {
       session = record {
         relation = ok;
         known = record { parts = subst IsNamedSys (sym joint) known; here = pair; list = ok.complete.list; phase = tt };
-        few = subst (λ (n : NamedSys). length n.catalogue ≤ MAX_BEHAVIOURS) (sym (joint ∙ seated.parts)) few;
+        few = subst (λ (n : NamedSys). length n.catalogue ≤ MAX_BEHAVIOURS) (sym parts) few;
         room = seated.room;
-        numbered = counted ∙ ap (λ (n : NamedSys). number (sizes_of (system_of n)) (first_pair x t e)) (sym joint);
+        numbered = seated.start ∙ ap₂ (λ (n : NamedSys) (p : Pair). number (sizes_of (system_of n)) p) (sym parts) (sym here);
         offered = λ action is. let h : ⊥ = cc in absurd h;
       };
-      start = record { parts = joint ∙ seated.parts; here = here; phase = refl; list = ok.complete.list };
+      start = record { parts = parts; here = here; phase = refl; list = ok.complete.list };
     }

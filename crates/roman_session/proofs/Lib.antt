@@ -5,7 +5,6 @@ pub mod SituationLemmas
 pub mod NameLemmas
 pub mod ServingLemmas
 pub mod LineLemmas
-pub mod StartLemmas
 pub mod BeginLemmas
 pub mod AnswerLemmas
 pub mod ChangedLemmas

@@ -6,7 +6,8 @@ use Rattle.roman_joint.specs.NamedSys.{NamedSys, seat_of}
 use Rattle.roman_joint.specs.declared.seat.Seat.{Seat}
 use Rattle.roman_session.specs.Situations.{Situation}
 use Rattle.roman_session.specs.Reports.{lines_text, report_text}
-use Rattle.roman_session.specs.Starts.{seat_of_service, services_in, parts_of, afresh}
+use Rattle.roman_start.specs.Starts.{seat_of_service, parts_of}
+use Rattle.roman_session.specs.Starts.{services_in, afresh}
 use Rattle.roman_session.specs.Laws.{ReportsAreAfresh}
 
 -- the services that are present take the same seats again

@@ -8,7 +8,8 @@ use Rattle.roman_session.specs.Rulings.{asked, seen}
 use Rattle.roman_session.specs.declared.events.Sight.{Sight}
 use Rattle.roman_session.specs.Steps.{Moves}
 use Rattle.roman_session.specs.Reports.{report_text}
-use Rattle.roman_session.specs.Starts.{parts_of, start_pair_of, afresh}
+use Rattle.roman_start.specs.Starts.{parts_of, start_pair_of}
+use Rattle.roman_session.specs.Starts.{afresh}
 
 -- a request that isn't refused is offered to some service
 abbrev pub RequestsAreOffered : Type 0

@@ -5,7 +5,6 @@ pub mod Serving
 pub mod Reports
 pub mod Steps
 pub mod Starts
-pub mod Building
 pub mod Laws
 pub mod Layout
 pub mod Answering

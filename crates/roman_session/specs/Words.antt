@@ -12,7 +12,8 @@ use Rattle.roman_session.specs.Situations.{Situation, present_system, IsSituatio
 use Rattle.roman_session.specs.Steps.{Step, service_at}
 use Rattle.roman_session.specs.Rulings.{named, service_named}
 use Rattle.roman_session.specs.Reports.{lines_text, report_text, service_lines}
-use Rattle.roman_session.specs.Starts.{parts_of, start_pair_of, afresh}
+use Rattle.roman_start.specs.Starts.{parts_of, start_pair_of}
+use Rattle.roman_session.specs.Starts.{afresh}
 use Rattle.roman_session.specs.declared.phase.Phase.{Phase}
 use Rattle.roman_session.specs.declared.phase.Phase.TheVariants.{Idle, Offered, Delegated}
 

@@ -5,20 +5,17 @@
 //! step from a situation to another (`specs/Steps`).
 #![tactic(auto)]
 
-mod error;
 mod events;
 mod hearing;
 mod laws;
 mod naming;
 mod next;
 mod phase;
-mod seating;
 mod session;
 #[cfg(test)]
 mod tests;
 mod writing;
 
-pub use error::BuildError;
 pub use hearing::{HearError, hear};
 pub use laws::{
     answers_are_great, open_is_great, outcomes_are_related, reports_are_afresh,
@@ -26,5 +23,5 @@ pub use laws::{
 };
 pub use next::Next;
 pub use phase::Phase;
-pub use seating::{Seated, seat_library};
+pub use roman_start::BuildError;
 pub use session::Session;

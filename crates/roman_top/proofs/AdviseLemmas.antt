@@ -18,9 +18,9 @@ use Rattle.roman_joint.specs.NamedSys.{NamedSys, system_of}
 use Rattle.roman_library.specs.Library.{PlainLibrary}
 use Rattle.roman_library.specs.Refusals.{refusal_of}
 use Rattle.roman_library.specs.declared.refusal.Part.TheVariants as part
-use Rattle.roman_session.specs.Starts.{parts_of, start_pair_of}
-use Rattle.roman_session.specs.Building.{IsSeated}
-use Rattle.roman_session.specs.declared.seating.Seated.{Seated}
+use Rattle.roman_start.specs.Starts.{parts_of, start_pair_of}
+use Rattle.roman_start.specs.Seating.{IsSeated}
+use Rattle.roman_start.specs.declared.seating.Seated.{Seated}
 use Rattle.roman_cost.specs.AdviceText.{Advising, Unrelated, TooMany, Told, advice_text, advised_by}
 use Rattle.roman_cost.specs.Costs.{costs_of}
 use Rattle.roman_cost.specs.Refusals.{ReadsAs, HasCostCause, place_of_rule}

@@ -8,8 +8,8 @@ use Rattle.roman_model.specs.Certificate.{cert_text}
 use Rattle.roman_joint.specs.NamedSys.{NamedSys, system_of}
 use Rattle.roman_order.specs.Board.{Board}
 use Rattle.roman_relation.specs.Greatest.{HasCompleteList}
-use Rattle.roman_session.specs.Building.{IsSeated}
-use Rattle.roman_session.specs.declared.seating.Seated.{Seated}
+use Rattle.roman_start.specs.Seating.{IsSeated}
+use Rattle.roman_start.specs.declared.seating.Seated.{Seated}
 use Rattle.roman_top.specs.Causes.{ShelfCause, SinkCause}
 use Rattle.roman_top.specs.Command.{Certify, On}
 use Rattle.roman_top.specs.Endings.{Accepts, Opens, Finishes, IsDone, EndsBare, Writes}

@@ -7,9 +7,9 @@ use Rattle.roman_model.specs.Arena.{Arena}
 use Rattle.roman_model.specs.Numbers.{sizes_of, number, numbered}
 use Rattle.roman_model.specs.Certificate.{TooLong, cert_verdict}
 use Rattle.roman_joint.specs.NamedSys.{NamedSys, system_of}
-use Rattle.roman_session.specs.Starts.{start_pair_of}
-use Rattle.roman_session.specs.Building.{IsSeated}
-use Rattle.roman_session.specs.declared.seating.Seated.{Seated}
+use Rattle.roman_start.specs.Starts.{start_pair_of}
+use Rattle.roman_start.specs.Seating.{IsSeated}
+use Rattle.roman_start.specs.declared.seating.Seated.{Seated}
 use Rattle.roman_check.specs.Checks.{HaveVerdict}
 use Rattle.roman_check.specs.Verdicts.{verdict_of, fault_of}
 use Rattle.roman_check.specs.declared.verdict.Why.{Why}

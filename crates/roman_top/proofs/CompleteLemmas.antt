@@ -7,7 +7,7 @@ use Rattle.roman_model.specs.System.{Sys, Pair}
 use Rattle.roman_model.specs.Numbers.{sizes_of, number, numbered}
 use Rattle.roman_model.specs.Certificate.{Verdict, Greatest, Rejected, TooLong, cert_verdict}
 use Rattle.roman_library.specs.Library.{PlainLibrary}
-use Rattle.roman_session.specs.Starts.{start_pair_of}
+use Rattle.roman_start.specs.Starts.{start_pair_of}
 use Rattle.roman_session.specs.Hearing.{front_of, is_heard_out}
 use Rattle.roman_top.specs.Command.{Job, Synth, Run, Certify, Check, Shortest, Advise, Resilience, Command, On, Make}
 use Rattle.roman_top.specs.Complete.{Suffices, CanAnswer, IsAnswered, IsUndisturbed, AnswersWherePossible}

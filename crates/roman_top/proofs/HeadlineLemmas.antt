@@ -8,7 +8,8 @@ use Rattle.roman_joint.specs.NamedSys.{NamedSys}
 use Rattle.roman_library.specs.Library.{PlainLibrary}
 use Rattle.roman_session.specs.Situations.{Situation}
 use Rattle.roman_session.specs.Reports.{report_text}
-use Rattle.roman_session.specs.Starts.{parts_of, start_pair_of, IsStart}
+use Rattle.roman_start.specs.Starts.{parts_of, start_pair_of}
+use Rattle.roman_session.specs.Starts.{IsStart}
 use Rattle.roman_session.specs.Words.{ReportsGreat}
 use Rattle.roman_session.specs.Steps.{until_quit, Answers}
 use Rattle.roman_session.specs.Hearing.{front_of, is_heard_out, heard_lines}

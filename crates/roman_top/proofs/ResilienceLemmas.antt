@@ -5,9 +5,9 @@ use Rattle.roman_io.specs.Sink.{Puts}
 use Rattle.roman_model.specs.Numbers.{sizes_of, pair_at}
 use Rattle.roman_model.proofs.NumberLemmas.{numbers_are_pairs}
 use Rattle.roman_joint.specs.NamedSys.{NamedSys, system_of}
-use Rattle.roman_session.specs.Building.{IsSeated}
-use Rattle.roman_session.specs.Starts.{parts_of, start_pair_of}
-use Rattle.roman_session.specs.declared.seating.Seated.{Seated}
+use Rattle.roman_start.specs.Seating.{IsSeated}
+use Rattle.roman_start.specs.Starts.{parts_of, start_pair_of}
+use Rattle.roman_start.specs.declared.seating.Seated.{Seated}
 use Rattle.roman_top.specs.Causes.{SinkCause}
 use Rattle.roman_top.specs.Command.{Resilience, On}
 use Rattle.roman_top.specs.Endings.{Accepts, Opens, Finishes, IsDone, Writes}

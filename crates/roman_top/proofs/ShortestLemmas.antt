@@ -7,9 +7,9 @@ use Rattle.roman_model.proofs.NumberLemmas.{numbers_are_pairs}
 use Rattle.roman_joint.specs.NamedSys.{NamedSys, system_of}
 use Rattle.roman_library.specs.Library.{PlainLibrary}
 use Rattle.roman_rank.specs.DepthText.{PutsDepths}
-use Rattle.roman_session.specs.Building.{IsSeated}
-use Rattle.roman_session.specs.Starts.{parts_of, start_pair_of}
-use Rattle.roman_session.specs.declared.seating.Seated.{Seated}
+use Rattle.roman_start.specs.Seating.{IsSeated}
+use Rattle.roman_start.specs.Starts.{parts_of, start_pair_of}
+use Rattle.roman_start.specs.declared.seating.Seated.{Seated}
 use Rattle.roman_top.specs.Causes.{SinkCause}
 use Rattle.roman_top.specs.Command.{Shortest, On}
 use Rattle.roman_top.specs.Endings.{Accepts, Opens, Finishes, IsDone, Writes}

@@ -13,11 +13,12 @@ use Rattle.roman_library.specs.Library.{PlainLibrary, IsService, IsLibrary}
 use Rattle.roman_library.specs.declared.library.Service.{Service}
 use Rattle.roman_session.specs.Situations.{Situation, IsPhase}
 use Rattle.roman_session.specs.Situations as situation
-use Rattle.roman_session.specs.Starts.{seat_of_service, parts_of, start_pair_of, IsStart}
+use Rattle.roman_start.specs.Starts.{seat_of_service, parts_of, start_pair_of}
+use Rattle.roman_session.specs.Starts.{IsStart}
 use Rattle.roman_session.specs.Known.{AreNamed, IsKnownSituation}
 use Rattle.roman_session.proofs.ChangedLemmas.{is_within}
 use Rattle.roman_session.proofs.SituationLemmas.{there_is}
-use Rattle.roman_session.proofs.StartLemmas.{behaviours_within, names_once, start_pair}
+use Rattle.roman_start.proofs.CallerLemmas.{behaviours_within, names_once, start_pair}
 use Rattle.roman_top.specs.Accepted.{StartsAreKnown}
 use Rattle.roman_top.specs.Opening.{is_past_limit}
 use Rattle.roman_top.proofs.EndingLemmas.{accepted_is}

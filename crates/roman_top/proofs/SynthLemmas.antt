@@ -10,7 +10,8 @@ use Rattle.roman_joint.specs.NamedSys.{NamedSys}
 use Rattle.roman_joint.specs.NamedSys as joint
 use Rattle.roman_session.specs.Situations.{Situation, present_system, IsSituation}
 use Rattle.roman_session.specs.Reports.{report_text}
-use Rattle.roman_session.specs.Starts.{parts_of, IsStart}
+use Rattle.roman_start.specs.Starts.{parts_of}
+use Rattle.roman_session.specs.Starts.{IsStart}
 use Rattle.roman_top.specs.Causes.{ShelfCause, SinkCause}
 use Rattle.roman_top.specs.Command.{Synth, On}
 use Rattle.roman_top.specs.Endings.{Accepts, Opens, Finishes, IsTold, Reports, EndsBare, Writes, status_of}

@@ -10,7 +10,7 @@ use Rattle.roman_joint.specs.NamedSys.{NamedSys}
 use Rattle.roman_library.specs.Library.{PlainLibrary}
 use Rattle.roman_library.specs.Refusals.{refusal_of}
 use Rattle.roman_library.specs.declared.refusal.Part.TheVariants as part
-use Rattle.roman_session.specs.Starts.{parts_of, start_pair_of}
+use Rattle.roman_start.specs.Starts.{parts_of, start_pair_of}
 use Rattle.roman_cost.specs.AdviceText.{Advising, Unrelated, TooMany, Told, advised_by}
 use Rattle.roman_cost.specs.Costs.{costs_of}
 use Rattle.roman_cost.specs.Refusals.{HasCostCause, place_of_rule}

@@ -6,7 +6,7 @@ use Rattle.roman_library.specs.Documents.{library_of}
 use Rattle.roman_library.specs.Library.{PlainLibrary}
 use Rattle.roman_library.specs.declared.refusal.Refusal.{Refusal}
 use Rattle.roman_joint.specs.NamedSys.{system_of, cells}
-use Rattle.roman_session.specs.Starts.{parts_of}
+use Rattle.roman_start.specs.Starts.{parts_of}
 use Rattle.roman_top.specs.RefusalLine.{refusal_line}
 use Rattle.roman_top.specs.declared.status.Status.{Status}
 use Rattle.roman_top.specs.declared.status.Status.TheVariants as status

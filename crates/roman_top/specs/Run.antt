@@ -11,7 +11,7 @@ use Rattle.roman_model.specs.Numbers.{sizes_of, count, number, numbered, IsCompl
 use Rattle.roman_model.specs.Certificate.{Verdict, Greatest, Rejected, TooLong, cert_text, cert_verdict}
 use Rattle.roman_library.specs.Library.{PlainLibrary}
 use Rattle.roman_session.specs.Reports.{report_text}
-use Rattle.roman_session.specs.Starts.{parts_of, start_pair_of}
+use Rattle.roman_start.specs.Starts.{parts_of, start_pair_of}
 use Rattle.roman_session.specs.Hearing.{front_of, is_heard_out}
 use Rattle.roman_rank.specs.DepthText.{TellsDepths}
 use Rattle.roman_top.specs.Command.{Job, Synth, Run, Certify, Check, Shortest, Advise, Resilience, Command, On, Make, usage_line}

@@ -32,7 +32,7 @@ use roman_library::{FileName, Part, Refusal};
 use roman_parts::List;
 use roman_read::Kind;
 use roman_relation::Relation;
-use roman_session::Seated;
+use roman_start::Seated;
 use std::alloc::Global;
 use std::sync::ledger::Ledger;
 

@@ -16,7 +16,7 @@ use crate::status::{Status, finish};
 use crate::verdicts::{put_greatest, put_rejected};
 use roman_check::{CheckError, Verdict, check};
 use roman_io::{Shelf, ShelfSource, Sink, Steps};
-use roman_session::Seated;
+use roman_start::Seated;
 use std::alloc::Global;
 use std::sync::ledger::Ledger;
 

@@ -2,7 +2,7 @@
 ghost use Rattle.std.specs.Prelude.{◌≤◌, length, IfOk};
 ghost use Rattle.roman_model.specs.declared.limits.TheConstants.{MAX_BEHAVIOURS};
 ghost use Rattle.roman_library.specs.Library.{PlainLibrary, IsLibrary, plain};
-ghost use Rattle.roman_session.specs.Building.{IsSeated};
+ghost use Rattle.roman_start.specs.Seating.{IsSeated};
 ghost use Rattle.roman_session.specs.Known.{AreBehaviours};
 ghost use Rattle.roman_session.specs.Starts.{IsStart};
 ghost use Rattle.roman_top.specs.Endings.{Opens, OpensLibrary};
@@ -13,7 +13,8 @@ use crate::refusals::put_refusal;
 use crate::status::{Status, finish};
 use roman_io::{Shelf, Sink, Steps};
 use roman_library::{Library, LoadError, load};
-use roman_session::{BuildError, Seated, Session, seat_library};
+use roman_session::Session;
+use roman_start::{BuildError, Seated, seat_library};
 use std::alloc::Global;
 use std::sync::ledger::Ledger;
 

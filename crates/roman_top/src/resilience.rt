@@ -17,7 +17,7 @@ use crate::status::{Status, finish};
 use roman_io::{Shelf, Sink, Steps};
 use roman_joint::Joint;
 use roman_relation::Relation;
-use roman_session::Seated;
+use roman_start::Seated;
 use roman_whatif::Losses;
 use std::alloc::Global;
 use std::sync::ledger::Ledger;

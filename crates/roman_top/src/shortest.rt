@@ -15,7 +15,7 @@ use roman_io::{Shelf, Sink, Steps};
 use roman_joint::Joint;
 use roman_rank::{Ranks, write_depths};
 use roman_relation::Relation;
-use roman_session::Seated;
+use roman_start::Seated;
 use std::alloc::Global;
 use std::sync::ledger::Ledger;
 

@@ -1,16 +1,16 @@
 //! How a session begins.
 ghost use Rattle.std.specs.Prelude.{IfOk};
 ghost use Rattle.roman_library.specs.Library.{IsLibrary, plain};
-ghost use Rattle.roman_session.specs.Starts.{parts_of, IsStart};
-ghost use Rattle.roman_session.specs.Building.{IsWithinLimit};
+ghost use Rattle.roman_start.specs.Starts.{parts_of};
+ghost use Rattle.roman_session.specs.Starts.{IsStart};
+ghost use Rattle.roman_start.specs.Seating.{IsWithinLimit};
 
-use super::{Session, number_of};
-use crate::error::BuildError;
+use super::Session;
 use crate::phase::Phase;
-use crate::seating::{Seated, seat_library};
 use roman_io::Steps;
 use roman_library::Library;
 use roman_relation::Relation;
+use roman_start::{BuildError, Seated, seat_library};
 use std::alloc::Global;
 use std::sync::ledger::Ledger;
 
@@ -28,18 +28,21 @@ impl Session {
         ensures start { IfOk result (IsStart (plain library)) }
         ensures limit { IsWithinLimit (parts_of (plain library)) result }
     {
-        let Seated { joint, states, .. } = seat_library(alloc, library)?;
+        let Seated {
+            joint,
+            states,
+            start,
+        } = seat_library(alloc, library)?;
         let target = joint.target().start();
         let env = joint.environment().start();
         joint.known();
-        let number = number_of(&joint, target, env, &states);
         let relation = Relation::build(alloc, joint, steps)?;
         Ok(Session {
             relation,
             target,
             env,
             states,
-            number,
+            number: start,
             phase: Phase::Idle,
             mask: 0,
         })

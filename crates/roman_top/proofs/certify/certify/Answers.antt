@@ -1,4 +1,4 @@
-use Rattle.roman_session.specs.Building.{IsSeated}
+use Rattle.roman_start.specs.Seating.{IsSeated}
 use Rattle.roman_top.specs.Command.{Certify}
 use Rattle.roman_top.proofs.CertifyLemmas.{certify_served}
 use Rattle.roman_top.proofs.ServedLemmas.{away_served}

@@ -1,8 +1,6 @@
-use Rattle.std.proofs.Common.{ℕ, List, sym, ap, ◌∙◌, subst}
-use Rattle.roman_model.specs.System.{IsPair}
-use Rattle.roman_joint.specs.NamedSys.{system_of}
+use Rattle.std.proofs.Common.{ap, ◌∙◌}
 use Rattle.roman_library.specs.Library.{plain}
-use Rattle.roman_session.proofs.BeginLemmas.{begins_in, begun, counted_from}
+use Rattle.roman_session.proofs.BeginLemmas.{begun}
 use Rattle.roman_session.proofs.session.Session.build.Goals as goal
 
 pub invariant_of-result : goal.invariant_of-result
@@ -12,8 +10,8 @@ invariant_of-result g c =
     let made = c.in_ok-relation.ensures in
     let t = c.start-target.ensures.start ∙ ap (λ t. t.beh.start) c.target.ensures in
     let e = c.start-env.ensures.start ∙ ap (λ e. e.env.start) c.environment.ensures in
-    (begun (plain c.args.library) x relation c.start-target.result c.start-env.result c.number_of-number.result c.in_ok-joint.ensures.seated c.requires.few_behaviours c.known.ensures made.joint
-    (record { complete = made.complete; shaped = made.shaped; caps = made.caps }) t e (counted_from x c.start-target.result c.start-env.result c.deref.result.now c.number_of-number.result c.deref.ensures.value c.number_of-number.ensures)).session
+    (begun (plain c.args.library) x relation c.start-target.result c.start-env.result c.in_ok-joint.ensures.seated c.requires.few_behaviours c.known.ensures made.joint
+    (record { complete = made.complete; shaped = made.shaped; caps = made.caps }) t e).session
 
 pub returns-clause-start : goal.returns-clause-start
 returns-clause-start g c =
@@ -22,13 +20,5 @@ returns-clause-start g c =
     let made = c.in_ok-relation.ensures in
     let t = c.start-target.ensures.start ∙ ap (λ t. t.beh.start) c.target.ensures in
     let e = c.start-env.ensures.start ∙ ap (λ e. e.env.start) c.environment.ensures in
-    (begun (plain c.args.library) x relation c.start-target.result c.start-env.result c.number_of-number.result c.in_ok-joint.ensures.seated c.requires.few_behaviours c.known.ensures made.joint
-    (record { complete = made.complete; shaped = made.shaped; caps = made.caps }) t e (counted_from x c.start-target.result c.start-env.result c.deref.result.now c.number_of-number.result c.deref.ensures.value c.number_of-number.ensures)).start
-
-pub number_of-number-requires : goal.number_of-number-requires
-number_of-number-requires g c =
-    let x = c.in_ok-joint.field-0 in
-    let t = c.start-target.ensures.start ∙ ap (λ t. t.beh.start) c.target.ensures in
-    let e = c.start-env.ensures.start ∙ ap (λ e. e.env.start) c.environment.ensures in
-    subst (λ (bs : List ℕ). IsPair (system_of x.joint) (record { t = c.start-target.result; e = c.start-env.result; bs = bs })) (sym c.deref.ensures.value)
-    (begins_in (plain c.args.library) x c.start-target.result c.start-env.result c.in_ok-joint.ensures.seated t e)
+    (begun (plain c.args.library) x relation c.start-target.result c.start-env.result c.in_ok-joint.ensures.seated c.requires.few_behaviours c.known.ensures made.joint
+    (record { complete = made.complete; shaped = made.shaped; caps = made.caps }) t e).start

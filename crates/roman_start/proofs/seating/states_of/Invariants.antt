@@ -1,7 +1,7 @@
 use Rattle.std.proofs.Common.{◌≡◌, ◌≤◌, map, take, vec_capacity}
 use Rattle.roman_model.specs.declared.limits.TheConstants.{MAX_SERVICES}
-use Rattle.roman_session.specs.Starts.{state_of_service}
-use Rattle.roman_session.proofs.seating.states_of.Given as goal
+use Rattle.roman_start.specs.Starts.{state_of_service}
+use Rattle.roman_start.proofs.seating.states_of.Given as goal
 
 -- the states so far
 abbrev pub invariant-loop-service : goal.invariant-loop-service

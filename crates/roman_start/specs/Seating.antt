@@ -1,18 +1,14 @@
 -- How a library is seated, and why it isn't.
-use Rattle.std.specs.Prelude.{◌≡◌, ℕ, ◌<◌, ◌≤◌, List, Result, Ok, Err, vec_capacity}
-use Rattle.roman_model.specs.System.{Pair, IsPair}
+use Rattle.std.specs.Prelude.{◌≡◌, ℕ, ◌<◌, ◌≤◌, Result, Ok, Err, vec_capacity}
+use Rattle.roman_model.specs.System.{IsPair}
 use Rattle.roman_model.specs.Numbers.{sizes_of, count, number}
 use Rattle.roman_model.specs.declared.limits.TheConstants.{MAX_SERVICES}
 use Rattle.roman_joint.specs.NamedSys.{NamedSys, system_of, cells}
 use Rattle.roman_library.specs.Library.{PlainLibrary}
-use Rattle.roman_session.specs.Starts.{parts_of, start_pair_of}
-use Rattle.roman_session.specs.declared.error.BuildError.{BuildError}
-use Rattle.roman_session.specs.declared.error.BuildError.TheVariants.{Limit, Memory}
-use Rattle.roman_session.specs.declared.seating.Seated.{Seated}
-
--- the pair at which the parts begin, where the services are in these states
-abbrev pub starting : NamedSys → List ℕ → Pair
-starting parts bs = record { t = parts.target.beh.start; e = parts.environment.env.start; bs = bs }
+use Rattle.roman_start.specs.Starts.{parts_of, start_pair_of}
+use Rattle.roman_start.specs.declared.error.BuildError.{BuildError}
+use Rattle.roman_start.specs.declared.error.BuildError.TheVariants.{Limit, Memory}
+use Rattle.roman_start.specs.declared.seating.Seated.{Seated}
 
 -- the library's parts, its services' states and the number of its start pair, with room for the states of as many
 -- services as there may be

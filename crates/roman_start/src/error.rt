@@ -1,12 +1,12 @@
-//! Why a session isn't built.
+//! Why a library isn't seated, and so no session is built.
 ghost use Rattle.std.specs.Prelude.{◌≡◌};
-ghost use Rattle.roman_session.specs.Building.{build_error_number};
-ghost use Rattle.roman_session.specs.declared.error.BuildError.TheVariants.{Memory};
+ghost use Rattle.roman_start.specs.Seating.{build_error_number};
+ghost use Rattle.roman_start.specs.declared.error.BuildError.TheVariants.{Memory};
 
 use std::alloc::AllocError;
 use thiserror::Error;
 
-/// Why a session isn't built.
+/// Why a library isn't seated, and so no session is built.
 #[derive(Clone, Copy, Debug, PartialEq, Eq, Error)]
 pub enum BuildError {
     /// The system has more cells, pairs times actions, than the library's limit.

@@ -5,8 +5,8 @@ ghost use Rattle.roman_model.specs.Numbers.{sizes_of, count, number};
 ghost use Rattle.roman_model.specs.declared.limits.TheConstants.{MAX_SERVICES};
 ghost use Rattle.roman_joint.specs.NamedSys.{system_of};
 ghost use Rattle.roman_library.specs.Library.{IsLibrary, plain};
-ghost use Rattle.roman_session.specs.Starts.{seat_of_service, state_of_service, parts_of};
-ghost use Rattle.roman_session.specs.Building.{starting, IsSeated, IsWithinLimit};
+ghost use Rattle.roman_start.specs.Starts.{seat_of_service, state_of_service, parts_of, starting};
+ghost use Rattle.roman_start.specs.Seating.{IsSeated, IsWithinLimit};
 
 use crate::error::BuildError;
 use roman_joint::{Joint, JointError, Seat};

@@ -3,8 +3,8 @@ use Rattle.roman_model.specs.System.{Pair}
 use Rattle.roman_model.specs.Numbers.{Sizes, sizes_of, IsPairOf}
 use Rattle.roman_model.proofs.NumberLemmas.{IsPairOf-from}
 use Rattle.roman_joint.specs.NamedSys.{system_of}
-use Rattle.roman_session.specs.Building.{starting}
-use Rattle.roman_session.proofs.seating.start_of.Goals as goal
+use Rattle.roman_start.specs.Starts.{starting}
+use Rattle.roman_start.proofs.seating.start_of.Goals as goal
 
 pub number-requires : goal.number-requires
 number-requires c =

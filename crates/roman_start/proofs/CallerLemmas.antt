@@ -1,20 +1,16 @@
 -- A library's services take their places, and begin in states of their behaviours.
-use Rattle.std.proofs.Common.{◌≡◌, ℕ, ◌<◌, ◌≤◌, List, [], ◌∷◌, Option, Some, IfSome, All, map, length, get_or, slice_get, vec_capacity, refl, sym, ap, ap₂, ◌∙◌, subst}
+use Rattle.std.proofs.Common.{◌≡◌, ℕ, ◌<◌, List, [], ◌∷◌, Option, Some, IfSome, All, map, length, get_or, slice_get, refl, sym, ap, subst}
 use Rattle.std.specs.List.{AllByRecursion, AllZip}
 use Rattle.std.proofs.lemmas.List.Elements.{All-from_recursion, recursion_from_All}
 use Rattle.std.proofs.lemmas.Option.{slice_get-get_or}
 use Rattle.roman_model.specs.Lists.{HasNoRepeats}
 use Rattle.roman_model.specs.System.{Beh, IsPair}
-use Rattle.roman_model.specs.Numbers.{sizes_of, count, number}
-use Rattle.roman_model.specs.declared.limits.TheConstants.{MAX_SERVICES}
 use Rattle.roman_parts.specs.Named.{NamedBeh}
-use Rattle.roman_joint.specs.NamedSys.{NamedSys, beh_at, seat_of, still, system_of}
+use Rattle.roman_joint.specs.NamedSys.{beh_at, seat_of, still, system_of}
 use Rattle.roman_joint.proofs.BehaviourLemmas.{beh_read}
 use Rattle.roman_library.specs.Library.{PlainLibrary, IsService, IsLibrary, service_name}
 use Rattle.roman_library.specs.declared.library.Service.{Service}
-use Rattle.roman_session.specs.Starts.{seat_of_service, state_of_service, parts_of, start_pair_of}
-use Rattle.roman_session.specs.Building.{starting, IsSeated}
-use Rattle.roman_session.specs.declared.seating.Seated.{Seated}
+use Rattle.roman_start.specs.Starts.{seat_of_service, state_of_service, parts_of, start_pair_of}
 
 -- the services' behaviours are those of their places
 seats_within : (catalogue : List NamedBeh) (services : List Service) → AllByRecursion (IsService catalogue) services →
@@ -55,23 +51,4 @@ start_pair library is = record {
   t = (is.target.known library.environment.env (sym is.target.env_states) (sym is.target.actions)).start;
   e = is.environment.start;
   bs = states_within library.catalogue library.services (recursion_from_All (IsService library.catalogue) library.services is.services.known);
-}
-
--- the same of a system and states that are the library's
-pub seated_pair : (library : PlainLibrary) (parts : NamedSys) (bs : List ℕ) → IsLibrary library → parts ≡ parts_of library → bs ≡ (start_pair_of library).bs →
-    IsPair (system_of parts) (starting parts bs)
-seated_pair library parts bs is same states =
-    subst (λ (n : NamedSys). IsPair (system_of n) (starting n bs)) (sym same)
-    (subst (λ (bs : List ℕ). IsPair (system_of (parts_of library)) (starting (parts_of library) bs)) (sym states) (start_pair library is))
-
--- the library is seated
-pub seated : (library : PlainLibrary) (x : Seated) (bs : List ℕ) → IsLibrary library → x.joint ≡ parts_of library → x.states.items ≡ (start_pair_of library).bs → bs ≡ (start_pair_of library).bs →
-    x.start ≡ number (sizes_of (system_of x.joint)) (starting x.joint bs) → x.start < count (sizes_of (system_of x.joint)) → MAX_SERVICES ≤ vec_capacity x.states → IsSeated library x
-seated library x bs is same states given start below room = record {
-  parts = same;
-  states = states;
-  pair = start_pair library is;
-  start = start ∙ ap₂ (λ (n : NamedSys) (bs : List ℕ). number (sizes_of (system_of n)) (starting n bs)) same given;
-  below = subst (λ (n : NamedSys). x.start < count (sizes_of (system_of n))) same below;
-  room = room;
 }

@@ -1,0 +1,30 @@
+-- A library is seated.
+use Rattle.std.proofs.Common.{◌≡◌, ℕ, ◌<◌, ◌≤◌, List, vec_capacity, ap₂, ◌∙◌, sym, subst}
+use Rattle.roman_model.specs.System.{IsPair}
+use Rattle.roman_model.specs.Numbers.{sizes_of, count, number}
+use Rattle.roman_model.specs.declared.limits.TheConstants.{MAX_SERVICES}
+use Rattle.roman_joint.specs.NamedSys.{NamedSys, system_of}
+use Rattle.roman_library.specs.Library.{PlainLibrary, IsLibrary}
+use Rattle.roman_start.specs.Starts.{parts_of, start_pair_of, starting}
+use Rattle.roman_start.specs.Seating.{IsSeated}
+use Rattle.roman_start.specs.declared.seating.Seated.{Seated}
+use Rattle.roman_start.proofs.CallerLemmas.{start_pair}
+
+-- the same of a system and states that are the library's
+pub seated_pair : (library : PlainLibrary) (parts : NamedSys) (bs : List ℕ) → IsLibrary library → parts ≡ parts_of library → bs ≡ (start_pair_of library).bs →
+    IsPair (system_of parts) (starting parts bs)
+seated_pair library parts bs is same states =
+    subst (λ (n : NamedSys). IsPair (system_of n) (starting n bs)) (sym same)
+    (subst (λ (bs : List ℕ). IsPair (system_of (parts_of library)) (starting (parts_of library) bs)) (sym states) (start_pair library is))
+
+-- the library is seated
+pub seated : (library : PlainLibrary) (x : Seated) (bs : List ℕ) → IsLibrary library → x.joint ≡ parts_of library → x.states.items ≡ (start_pair_of library).bs → bs ≡ (start_pair_of library).bs →
+    x.start ≡ number (sizes_of (system_of x.joint)) (starting x.joint bs) → x.start < count (sizes_of (system_of x.joint)) → MAX_SERVICES ≤ vec_capacity x.states → IsSeated library x
+seated library x bs is same states given start below room = record {
+  parts = same;
+  states = states;
+  pair = start_pair library is;
+  start = start ∙ ap₂ (λ (n : NamedSys) (bs : List ℕ). number (sizes_of (system_of n)) (starting n bs)) same given;
+  below = subst (λ (n : NamedSys). x.start < count (sizes_of (system_of n))) same below;
+  room = room;
+}

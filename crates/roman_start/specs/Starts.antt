@@ -1,0 +1,37 @@
+-- The system of a library, and the pair at which it begins.
+use Rattle.std.specs.Prelude.{ℕ, List, map}
+use Rattle.roman_model.specs.System.{Pair}
+use Rattle.roman_joint.specs.NamedSys.{NamedSys}
+use Rattle.roman_joint.specs.declared.seat.Seat.{Seat}
+use Rattle.roman_library.specs.Library.{PlainLibrary}
+use Rattle.roman_library.specs.declared.library.Service.{Service}
+
+-- the place that a service takes in a system
+abbrev pub seat_of_service : Service → Seat
+seat_of_service x = record { name = x.name; behaviour = x.behaviour; frozen = x.frozen; rests = x.rests }
+
+-- the state in which a service begins
+abbrev pub state_of_service : Service → ℕ
+state_of_service x = x.state
+
+-- the library's parts, with its services
+abbrev pub parts_of : PlainLibrary → NamedSys
+parts_of library = record {
+  environment = library.environment;
+  catalogue = library.catalogue;
+  target = library.target;
+  seats = map seat_of_service library.services;
+  limit = library.limit;
+}
+
+-- the states in which the library's parts and services begin
+abbrev pub start_pair_of : PlainLibrary → Pair
+start_pair_of library = record {
+  t = library.target.beh.start;
+  e = library.environment.env.start;
+  bs = map state_of_service library.services;
+}
+
+-- the pair at which a system's parts begin, where the services are in these states
+abbrev pub starting : NamedSys → List ℕ → Pair
+starting parts bs = record { t = parts.target.beh.start; e = parts.environment.env.start; bs = bs }
