@@ -1,7 +1,8 @@
 //! Advice, and costs that are refused.
 ghost use Rattle.std.specs.Prelude.{◌≡◌, ◌<◌};
 
-use crate::case::{USAGE, has_lines, words_of};
+use crate::case::Outcome::{self, Done, Gone, Limit, No, Refused, Usage};
+use crate::case::{told, words_of};
 use crate::texts::Text;
 use roman_io::{MemShelf, MemSink, QuietSource, Sink, Steps, Waste};
 use roman_top::{Status, serve};
@@ -10,52 +11,24 @@ use std::marker::Brand;
 use std::sync::ledger::{Blank, Ledger};
 use std::test::Fail;
 
-/// LAMP with a further behaviour, the same machine, and a second service of it.
-const SPARE: &str =
-    r#"{"roman":1,"environment":{"states":["e"],"start":"e","actions":["on","off"],"steps":[["e","on","e"],["e","off","e"]]},"behaviours":[{"name":"lamp","states":["off","on"],"start":"off","final":["off"],"steps":[["off",true,"on","on"],["on",true,"off","off"]]},{"name":"spare","states":["off","on"],"start":"off","final":["off"],"steps":[["off",true,"on","on"],["on",true,"off","off"]]}],"services":[{"name":"l1","behaviour":"lamp"},{"name":"s1","behaviour":"spare"}],"target":{"states":["off","on"],"start":"off","final":["off"],"steps":[["off",true,"on","on"],["on",true,"off","off"]]}}"#;
+/// What a request for advice shows, the document, on the shelf as `s.json`, the text of the costs, there
+/// as `c.json`, the words behind `advise`, and what it must come to.
+type Asked = (
+    &'static str,
+    Text,
+    &'static str,
+    &'static [&'static str],
+    Outcome,
+);
 
-/// Fourteen services of two states, and a target that asks for nothing: 16,384 related pairs with the
-/// target state `a`, and with `b`, which is final, none.
-const MANY: &str =
-    r#"{"roman":1,"environment":{"states":["e"],"start":"e","actions":["on"],"steps":[]},"behaviours":[{"name":"two","states":["s","t"],"start":"s","final":[],"steps":[]}],"services":[{"name":"a","behaviour":"two"},{"name":"b","behaviour":"two"},{"name":"c","behaviour":"two"},{"name":"d","behaviour":"two"},{"name":"e","behaviour":"two"},{"name":"f","behaviour":"two"},{"name":"g","behaviour":"two"},{"name":"h","behaviour":"two"},{"name":"i","behaviour":"two"},{"name":"j","behaviour":"two"},{"name":"k","behaviour":"two"},{"name":"l","behaviour":"two"},{"name":"m","behaviour":"two"},{"name":"n","behaviour":"two"}],"target":{"states":["a","b"],"start":"a","final":["b"],"steps":[]}}"#;
-
-/// The same, with one related pair more: that with `b` in which all services are final.
-const ONE_MORE: &str =
-    r#"{"roman":1,"environment":{"states":["e"],"start":"e","actions":["on"],"steps":[]},"behaviours":[{"name":"two","states":["s","t"],"start":"s","final":["t"],"steps":[]}],"services":[{"name":"a","behaviour":"two"},{"name":"b","behaviour":"two"},{"name":"c","behaviour":"two"},{"name":"d","behaviour":"two"},{"name":"e","behaviour":"two"},{"name":"f","behaviour":"two"},{"name":"g","behaviour":"two"},{"name":"h","behaviour":"two"},{"name":"i","behaviour":"two"},{"name":"j","behaviour":"two"},{"name":"k","behaviour":"two"},{"name":"l","behaviour":"two"},{"name":"m","behaviour":"two"},{"name":"n","behaviour":"two"}],"target":{"states":["a","b"],"start":"a","final":["b"],"steps":[]}}"#;
-
-/// A system.
-#[derive(Clone, Copy)]
-enum System {
-    /// One that other examples have too.
-    Known(Text),
-    /// One of these.
-    Own(&'static str),
-}
-
-/// One request for advice, and what it must come to.
-#[derive(Clone, Copy)]
-struct Asked {
-    /// What it shows.
-    name: &'static str,
-    /// The document, on the shelf as `s.json`.
-    system: System,
-    /// The text of the costs, on the shelf as `c.json`.
-    costs: &'static str,
-    /// The words behind `advise`.
-    words: &'static [&'static str],
-    /// The lines that are written.
-    output: &'static [&'static str],
-    /// How the run ends.
-    status: Status,
-}
-
+/// Requests for advice whose costs are there.
 static ASKED: [Asked; 11] = [
-    Asked {
-        name: "three requests of a lamp",
-        system: System::Known(Text::Lamp),
-        costs: r#"[["lamp","on",3],["lamp","off",1]]"#,
-        words: &["s.json", "c.json", "3"],
-        output: &[
+    (
+        "three requests of a lamp",
+        Text::Lamp,
+        r#"[["lamp","on",3],["lamp","off",1]]"#,
+        &["s.json", "c.json", "3"],
+        Done(&[
             "worst 7",
             "for on: l1 7",
             "value 1 0 3",
@@ -65,30 +38,28 @@ static ASKED: [Asked; 11] = [
             "value 3 0 7",
             "value 3 3 5",
             "end",
-        ],
-        status: Status::Done,
-    },
-    Asked {
-        name: "one request, a spare lamp",
-        system: System::Own(SPARE),
-        costs: r#"[["lamp","on",3],["lamp","off",1],["spare","on",1],["spare","off",9]]"#,
-        words: &["s.json", "c.json", "1"],
-        output: &[
+        ]),
+    ),
+    (
+        "one request, a spare lamp",
+        Text::Spare,
+        r#"[["lamp","on",3],["lamp","off",1],["spare","on",1],["spare","off",9]]"#,
+        &["s.json", "c.json", "1"],
+        Done(&[
             "worst 1",
             "for on: s1 1",
             "value 1 0 1",
             "value 1 5 9",
             "value 1 6 1",
             "end",
-        ],
-        status: Status::Done,
-    },
-    Asked {
-        name: "two requests, a spare lamp",
-        system: System::Own(SPARE),
-        costs: r#"[["lamp","on",3],["lamp","off",1],["spare","on",1],["spare","off",9]]"#,
-        words: &["s.json", "c.json", "2"],
-        output: &[
+        ]),
+    ),
+    (
+        "two requests, a spare lamp",
+        Text::Spare,
+        r#"[["lamp","on",3],["lamp","off",1],["spare","on",1],["spare","off",9]]"#,
+        &["s.json", "c.json", "2"],
+        Done(&[
             "worst 4",
             "for on: l1 4",
             "value 1 0 1",
@@ -98,129 +69,116 @@ static ASKED: [Asked; 11] = [
             "value 2 5 10",
             "value 2 6 2",
             "end",
-        ],
-        status: Status::Done,
-    },
-    Asked {
-        name: "services that cost as much",
-        system: System::Own(SPARE),
-        costs: r#"[["spare","off",2],["lamp","off",2]]"#,
-        words: &["s.json", "c.json", "1"],
-        output: &[
+        ]),
+    ),
+    (
+        "services that cost as much",
+        Text::Spare,
+        r#"[["spare","off",2],["lamp","off",2]]"#,
+        &["s.json", "c.json", "1"],
+        Done(&[
             "worst 0",
             "for on: l1 0",
             "value 1 0 0",
             "value 1 5 2",
             "value 1 6 2",
             "end",
-        ],
-        status: Status::Done,
-    },
-    Asked {
-        name: "the greatest cost",
-        system: System::Known(Text::Lamp),
-        costs: r#"[["lamp","on",1000000]]"#,
-        words: &["s.json", "c.json", "1"],
-        output: &[
+        ]),
+    ),
+    (
+        "the greatest cost",
+        Text::Lamp,
+        r#"[["lamp","on",1000000]]"#,
+        &["s.json", "c.json", "1"],
+        Done(&[
             "worst 1000000",
             "for on: l1 1000000",
             "value 1 0 1000000",
             "value 1 3 0",
             "end",
-        ],
-        status: Status::Done,
-    },
-    Asked {
-        name: "nothing asked",
-        system: System::Known(Text::NoOn),
-        costs: "[]",
-        words: &["s.json", "c.json", "1"],
-        output: &["worst 0", "value 1 0 0", "value 1 3 0", "end"],
-        status: Status::Done,
-    },
-    Asked {
-        name: "no composition",
-        system: System::Known(Text::Flaky),
-        costs: "[]",
-        words: &["s.json", "c.json", "1"],
-        output: &["answer none"],
-        status: Status::No,
-    },
-    Asked {
-        name: "a behaviour that no service has",
-        system: System::Known(Text::Flaky),
-        costs: r#"[["lamp","off",4],["flaky","on",1]]"#,
-        words: &["s.json", "c.json", "64"],
-        output: &["answer none"],
-        status: Status::No,
-    },
-    Asked {
-        name: "costs before the start pair",
-        system: System::Known(Text::Flaky),
-        costs: "{}",
-        words: &["s.json", "c.json", "1"],
-        output: &["refused c.json form costs 0 whole 0"],
-        status: Status::Refused,
-    },
-    Asked {
-        name: "requests named by their target",
-        system: System::Known(Text::Two),
-        costs: r#"[["lamp","on-a",1],["lamp","off-b",2],["lamp","on",3]]"#,
-        words: &["s.json", "c.json", "1"],
-        output: &["refused c.json unknown costs 0 steps 2"],
-        status: Status::Refused,
-    },
-    Asked {
-        name: "too many values",
-        system: System::Own(ONE_MORE),
-        costs: "[]",
-        words: &["s.json", "c.json", "64"],
-        output: &["limit 1048576"],
-        status: Status::Limit,
-    },
+        ]),
+    ),
+    (
+        "nothing asked",
+        Text::NoOn,
+        "[]",
+        &["s.json", "c.json", "1"],
+        Done(&["worst 0", "value 1 0 0", "value 1 3 0", "end"]),
+    ),
+    (
+        "no composition",
+        Text::Flaky,
+        "[]",
+        &["s.json", "c.json", "1"],
+        No(&["answer none"]),
+    ),
+    (
+        "a behaviour that no service has",
+        Text::Flaky,
+        r#"[["lamp","off",4],["flaky","on",1]]"#,
+        &["s.json", "c.json", "64"],
+        No(&["answer none"]),
+    ),
+    (
+        "costs before the start pair",
+        Text::Flaky,
+        "{}",
+        &["s.json", "c.json", "1"],
+        Refused("c.json form costs 0 whole 0"),
+    ),
+    (
+        "requests named by their target",
+        Text::Two,
+        r#"[["lamp","on-a",1],["lamp","off-b",2],["lamp","on",3]]"#,
+        &["s.json", "c.json", "1"],
+        Refused("c.json unknown costs 0 steps 2"),
+    ),
+    (
+        "too many values",
+        Text::OneMore,
+        "[]",
+        &["s.json", "c.json", "64"],
+        Limit("1048576"),
+    ),
 ];
 
+/// Requests that end before costs are read.
 static BEFORE_COSTS: [Asked; 5] = [
-    Asked {
-        name: "the document before its costs",
-        system: System::Known(Text::Limit0),
-        costs: "",
-        words: &["s.json", "gone.json", "1"],
-        output: &["refused s.json count system 0 limit 0"],
-        status: Status::Refused,
-    },
-    Asked {
-        name: "the cells before the costs",
-        system: System::Known(Text::Limit7),
-        costs: "",
-        words: &["s.json", "gone.json", "1"],
-        output: &["limit 7"],
-        status: Status::Limit,
-    },
-    Asked {
-        name: "costs that are not there",
-        system: System::Known(Text::Lamp),
-        costs: "[]",
-        words: &["s.json", "gone.json", "1"],
-        output: &[],
-        status: Status::ShelfFault,
-    },
-    Asked {
-        name: "a word short",
-        system: System::Known(Text::Lamp),
-        costs: "[]",
-        words: &["s.json", "c.json"],
-        output: &[USAGE],
-        status: Status::Usage,
-    },
-    Asked {
-        name: "a word more",
-        system: System::Known(Text::Lamp),
-        costs: "[]",
-        words: &["s.json", "c.json", "1", "1"],
-        output: &[USAGE],
-        status: Status::Usage,
-    },
+    (
+        "the document before its costs",
+        Text::Limit0,
+        "",
+        &["s.json", "gone.json", "1"],
+        Refused("s.json count system 0 limit 0"),
+    ),
+    (
+        "the cells before the costs",
+        Text::Limit7,
+        "",
+        &["s.json", "gone.json", "1"],
+        Limit("7"),
+    ),
+    (
+        "costs that are not there",
+        Text::Lamp,
+        "[]",
+        &["s.json", "gone.json", "1"],
+        Gone,
+    ),
+    (
+        "a word short",
+        Text::Lamp,
+        "[]",
+        &["s.json", "c.json"],
+        Usage,
+    ),
+    (
+        "a word more",
+        Text::Lamp,
+        "[]",
+        &["s.json", "c.json", "1", "1"],
+        Usage,
+    ),
 ];
 
 /// Words that are no number of requests.
@@ -288,25 +246,17 @@ static ITEMS: [(&str, &str); 20] = [
 /// Items that are taken.
 static GOOD: [&str; 2] = [r#"["lamp","on",1]"#, r#"["lamp","off",1]"#];
 
-/// The bytes of a system's document.
-fn document(alloc: Global, system: System) -> Result<Vec<u8>, AllocError> {
-    match system {
-        System::Known(text) => text.bytes(alloc),
-        System::Own(text) => Vec::from_slice(alloc, text.as_bytes()),
-    }
-}
-
 /// The status of `advise` and these words on those texts; what is written goes to a sink.
 fn advise<O: Sink, L: Ledger>(
     alloc: Global,
-    system: System,
+    system: Text,
     costs: Vec<u8>,
     words: &[&str],
     out: &mut O,
     steps: &mut Steps<L>,
 ) -> Result<Status, AllocError> {
     let mut files = Vec::new(alloc);
-    files.push((String::from_str(alloc, "s.json")?, document(alloc, system)?))?;
+    files.push((String::from_str(alloc, "s.json")?, system.bytes(alloc)?))?;
     files.push((String::from_str(alloc, "c.json")?, costs))?;
     let mut shelf = MemShelf::new(files, Vec::new(alloc));
     let mut input = QuietSource::new(Vec::new(alloc));
@@ -317,6 +267,22 @@ fn advise<O: Sink, L: Ledger>(
     Ok(serve(alloc, &all, &mut shelf, &mut input, out, steps))
 }
 
+/// What a request for advice comes to where that isn't what it must, with its name; nothing where it
+/// is.
+fn unadvised<L: Ledger>(
+    alloc: Global,
+    name: &str,
+    system: Text,
+    costs: Vec<u8>,
+    words: &[&str],
+    comes_to: Outcome,
+    steps: &mut Steps<L>,
+) -> Result<String, AllocError> {
+    let mut out = MemSink::new(alloc, Vec::new(alloc));
+    let status = advise(alloc, system, costs, words, &mut out, steps)?;
+    told(alloc, name, comes_to, status, out.bytes())
+}
+
 /// What the first request comes to that doesn't come to what it must, with its name; nothing where
 /// each one does.
 fn first_wrong<L: Ledger>(alloc: Global, rows: &[Asked], blank: Blank) -> Result<String, AllocError>
@@ -325,13 +291,11 @@ fn first_wrong<L: Ledger>(alloc: Global, rows: &[Asked], blank: Blank) -> Result
     requires some { 0 < L.parts }
 {
     let mut steps = Steps::<L>::new(blank);
-    for row in rows {
-        let mut out = MemSink::new(alloc, Vec::new(alloc));
-        let costs = Vec::from_slice(alloc, row.costs.as_bytes())?;
-        let status = advise(alloc, row.system, costs, row.words, &mut out, &mut steps)?;
-        let written = str::from_utf8(out.bytes()).unwrap_or("no text");
-        if status != row.status || !has_lines(written, row.output) {
-            return format!(in alloc; "{}: status {}\n{}", row.name, status.number(), written);
+    for (name, system, costs, words, comes_to) in rows {
+        let costs = Vec::from_slice(alloc, costs.as_bytes())?;
+        let wrong = unadvised(alloc, name, *system, costs, words, *comes_to, &mut steps)?;
+        if !wrong.is_empty() {
+            return Ok(wrong);
         }
     }
     Ok(String::new(alloc))
@@ -354,14 +318,11 @@ fn first_number<L: Ledger>(alloc: Global, blank: Blank) -> Result<String, AllocE
 {
     let mut steps = Steps::<L>::new(blank);
     for word in &NO_NUMBERS {
-        let mut out = MemSink::new(alloc, Vec::new(alloc));
         let costs = Vec::from_slice(alloc, b"[]")?;
         let words = ["s.json", "c.json", word];
-        let system = System::Known(Text::Lamp);
-        let status = advise(alloc, system, costs, &words, &mut out, &mut steps)?;
-        let written = str::from_utf8(out.bytes()).unwrap_or("no text");
-        if status != Status::Usage || !has_lines(written, &[USAGE]) {
-            return format!(in alloc; "{}: status {}\n{}", word, status.number(), written);
+        let wrong = unadvised(alloc, word, Text::Lamp, costs, &words, Usage, &mut steps)?;
+        if !wrong.is_empty() {
+            return Ok(wrong);
         }
     }
     Ok(String::new(alloc))
@@ -383,7 +344,7 @@ fn unrefused<L: Ledger>(
 ) -> Result<String, AllocError> {
     let mut out = MemSink::new(alloc, Vec::new(alloc));
     let words = ["s.json", "c.json", "1"];
-    let status = advise(alloc, System::Own(SPARE), costs, &words, &mut out, steps)?;
+    let status = advise(alloc, Text::Spare, costs, &words, &mut out, steps)?;
     let written = str::from_utf8(out.bytes()).unwrap_or("no text");
     let line = format!(in alloc; "refused c.json {}\n", rule)?;
     if status == Status::Refused && written == line.as_str() {
@@ -514,14 +475,7 @@ fn most_values<L: Ledger>(alloc: Global, blank: Blank) -> Result<Status, AllocEr
     let costs = Vec::from_slice(alloc, b"[]")?;
     let words = ["s.json", "c.json", "64"];
     let mut out = Waste::new();
-    advise(
-        alloc,
-        System::Own(MANY),
-        costs,
-        &words,
-        &mut out,
-        &mut steps,
-    )
+    advise(alloc, Text::Many, costs, &words, &mut out, &mut steps)
 }
 
 #[test]

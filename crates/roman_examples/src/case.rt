@@ -11,36 +11,109 @@ use std::sync::ledger::{Blank, Ledger};
 pub(crate) const USAGE: &str =
     "usage: roman synth SYSTEM | run SYSTEM [SESSION] | certify SYSTEM | check SYSTEM CERT | make N | resilience SYSTEM | shortest SYSTEM | advise SYSTEM COSTS H";
 
-/// The report on the lamp's starting states.
+/// What comes of a lamp, and of a target that is one.
+pub(crate) const LAMP_LINES: &[&str] = &[
+    "pairs 4",
+    "related 2",
+    "environment e",
+    "target off final",
+    "service l1 lamp off ready",
+    "answer composition",
+    "offer on: l1",
+    "end",
+];
+
+/// The same as a text.
 pub(crate) const LAMP_REPORT: &[u8] =
     b"pairs 4\nrelated 2\nenvironment e\ntarget off final\nservice l1 lamp off ready\nanswer composition\noffer on: l1\nend\n";
 
 /// A text with its name.
 pub(crate) type File = (&'static str, Text);
 
+/// What a run must come to.
+#[derive(Clone, Copy)]
+pub(crate) enum Outcome {
+    /// These lines are written, and all is done. A line `tally N` stands for any line `kept K added M`
+    /// with K and M that add up to N.
+    Done(&'static [&'static str]),
+    /// These lines are written and then those of a report, and all is done.
+    Reports(&'static [&'static str], &'static [&'static str]),
+    /// These lines are written, and the answer is no.
+    No(&'static [&'static str]),
+    /// A text is refused: which one, and by which rule.
+    Refused(&'static str),
+    /// There are more cells than this limit.
+    Limit(&'static str),
+    /// The words have no shape.
+    Usage,
+    /// A text is not there, and nothing is written.
+    Gone,
+}
+
+impl Outcome {
+    /// Whether a run that ends so, with that text written, comes to this.
+    pub(crate) fn is(self, status: Status, text: &str) -> bool {
+        match self {
+            Outcome::Done(lines) => status == Status::Done && has_lines(text, lines, &[]),
+            Outcome::Reports(lines, report) => {
+                status == Status::Done && has_lines(text, lines, report)
+            }
+            Outcome::No(lines) => status == Status::No && has_lines(text, lines, &[]),
+            Outcome::Refused(rest) => status == Status::Refused && is_line(text, "refused ", rest),
+            Outcome::Limit(rest) => status == Status::Limit && is_line(text, "limit ", rest),
+            Outcome::Usage => status == Status::Usage && is_line(text, USAGE, ""),
+            Outcome::Gone => status == Status::ShelfFault && text.is_empty(),
+        }
+    }
+}
+
 /// One run, and what it must come to.
 #[derive(Clone, Copy)]
-pub(crate) struct Case {
+pub(crate) struct Case<'a> {
     /// What the run shows.
-    pub(crate) name: &'static str,
+    pub(crate) name: &'a str,
     /// The texts on the shelf.
-    pub(crate) files: &'static [File],
+    pub(crate) files: &'a [File],
     /// The words after the program's name.
-    pub(crate) words: &'static [&'static str],
+    pub(crate) words: &'a [&'a str],
     /// The lines that come in.
-    pub(crate) input: &'static [&'static str],
-    /// The lines that are written. A line `tally N` stands for any line `kept K added M` with K and M
-    /// that add up to N.
-    pub(crate) output: &'static [&'static str],
-    /// How the run ends.
-    pub(crate) status: Status,
+    pub(crate) input: &'a [&'a str],
+    /// What the run must come to.
+    pub(crate) comes_to: Outcome,
 }
+
+/// What a run shows, the text in which it differs from others, and what it must come to.
+pub(crate) type Row = (&'static str, Text, Outcome);
+
+/// Runs that differ in one text.
+#[derive(Clone, Copy)]
+pub(crate) struct Runs<'a> {
+    /// The words after the program's name.
+    pub(crate) words: &'a [&'a str],
+    /// The name of the text in which they differ.
+    pub(crate) file: &'static str,
+    /// The other texts on the shelf.
+    pub(crate) beside: &'a [File],
+    /// The runs.
+    pub(crate) rows: &'a [Row],
+}
+
+/// Runs of `synth` on a document.
+pub(crate) const SYNTH: Runs<'static> = Runs {
+    words: &["synth", "lamp.json"],
+    file: "lamp.json",
+    beside: &[],
+    rows: &[],
+};
+
+/// What a session shows, its document, the lines that come in, and what it must come to.
+pub(crate) type Talk = (&'static str, Text, &'static [&'static str], Outcome);
 
 /// What the first run comes to that doesn't come to what it must, with its name; nothing where each
 /// one does.
 pub(crate) fn first_wrong<L: Ledger>(
     alloc: Global,
-    cases: &[Case],
+    cases: &[Case<'_>],
     blank: Blank,
 ) -> Result<String, AllocError>
     requires name { blank.name ≡ L.name }
@@ -49,17 +122,97 @@ pub(crate) fn first_wrong<L: Ledger>(
 {
     let mut steps = Steps::<L>::new(blank);
     for case in cases {
-        let mut input = QuietSource::new(text_of(alloc, case.input)?);
-        let mut out = MemSink::new(alloc, Vec::new(alloc));
-        let status = run(
-            alloc, case.files, case.words, &mut input, &mut out, &mut steps,
-        )?;
-        let written = str::from_utf8(out.bytes()).unwrap_or("no text");
-        if status != case.status || !has_lines(written, case.output) {
-            return format!(in alloc; "{}: status {}\n{}", case.name, status.number(), written);
+        let wrong = wrong(alloc, case, &mut steps)?;
+        if !wrong.is_empty() {
+            return Ok(wrong);
         }
     }
     Ok(String::new(alloc))
+}
+
+/// The same, of runs that differ in one text.
+pub(crate) fn first_row<L: Ledger>(
+    alloc: Global,
+    runs: &Runs<'_>,
+    blank: Blank,
+) -> Result<String, AllocError>
+    requires name { blank.name ≡ L.name }
+    requires parts { blank.parts ≡ L.parts }
+    requires some { 0 < L.parts }
+{
+    let mut steps = Steps::<L>::new(blank);
+    for (name, text, comes_to) in runs.rows {
+        let mut files = Vec::from_slice(alloc, runs.beside)?;
+        files.push((runs.file, *text))?;
+        let case = Case {
+            name,
+            files: &files,
+            words: runs.words,
+            input: &[],
+            comes_to: *comes_to,
+        };
+        let wrong = wrong(alloc, &case, &mut steps)?;
+        if !wrong.is_empty() {
+            return Ok(wrong);
+        }
+    }
+    Ok(String::new(alloc))
+}
+
+/// The same, of sessions.
+pub(crate) fn first_talk<L: Ledger>(
+    alloc: Global,
+    talks: &[Talk],
+    blank: Blank,
+) -> Result<String, AllocError>
+    requires name { blank.name ≡ L.name }
+    requires parts { blank.parts ≡ L.parts }
+    requires some { 0 < L.parts }
+{
+    let mut steps = Steps::<L>::new(blank);
+    for (name, text, input, comes_to) in talks {
+        let files = [("lamp.json", *text)];
+        let case = Case {
+            name,
+            files: &files,
+            words: &["run", "lamp.json"],
+            input,
+            comes_to: *comes_to,
+        };
+        let wrong = wrong(alloc, &case, &mut steps)?;
+        if !wrong.is_empty() {
+            return Ok(wrong);
+        }
+    }
+    Ok(String::new(alloc))
+}
+
+/// What a run comes to where that isn't what it must, with its name; nothing where it is.
+fn wrong<L: Ledger>(
+    alloc: Global,
+    case: &Case<'_>,
+    steps: &mut Steps<L>,
+) -> Result<String, AllocError> {
+    let mut input = QuietSource::new(text_of(alloc, case.input)?);
+    let mut out = MemSink::new(alloc, Vec::new(alloc));
+    let status = run(alloc, case.files, case.words, &mut input, &mut out, steps)?;
+    told(alloc, case.name, case.comes_to, status, out.bytes())
+}
+
+/// How a run ends and what it writes where that isn't what it must be, with its name; nothing where it
+/// is.
+pub(crate) fn told(
+    alloc: Global,
+    name: &str,
+    comes_to: Outcome,
+    status: Status,
+    written: &[u8],
+) -> Result<String, AllocError> {
+    let written = str::from_utf8(written).unwrap_or("no text");
+    if comes_to.is(status, written) {
+        return Ok(String::new(alloc));
+    }
+    format!(in alloc; "{}: status {}\n{}", name, status.number(), written)
 }
 
 /// A run over those files.
@@ -108,16 +261,24 @@ pub(crate) fn text_of(alloc: Global, lines: &[&str]) -> Result<Vec<u8>, AllocErr
     Ok(text)
 }
 
-/// Whether the text has just the lines that are wanted.
-pub(crate) fn has_lines(text: &str, wanted: &[&str]) -> bool {
+/// Whether the text has just the lines that are wanted, and then those of a report.
+fn has_lines(text: &str, wanted: &[&str], report: &[&str]) -> bool {
     let mut lines = text.split('\n');
-    for wanted in wanted {
+    for wanted in wanted.iter().chain(report) {
         match lines.next() {
             Some(line) if line == *wanted || has_tally(line, wanted) => {}
             _ => return false,
         }
     }
     lines.next() == Some("") && lines.next().is_none()
+}
+
+/// Whether the text is just the line of those two parts.
+fn is_line(text: &str, first: &str, rest: &str) -> bool {
+    match text.strip_prefix(first) {
+        Some(text) => text.strip_suffix("\n") == Some(rest),
+        None => false,
+    }
 }
 
 /// Whether the two numbers of a reply to a change add up to what is wanted.

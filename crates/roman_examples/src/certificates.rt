@@ -1,7 +1,8 @@
 //! Certificates that are checked.
 ghost use Rattle.std.specs.Prelude.{◌≡◌, ◌<◌};
 
-use crate::case::{Case, files_of, first_wrong, run, words_of};
+use crate::case::Outcome::{Done, No};
+use crate::case::{Row, Runs, SYNTH, files_of, first_row, run, words_of};
 use crate::texts::Text;
 use roman_io::{MemShelf, MemSink, QuietSource, Steps};
 use roman_top::{Status, serve};
@@ -10,60 +11,42 @@ use std::marker::Brand;
 use std::sync::ledger::{Blank, Ledger};
 use std::test::Fail;
 
-static CASES: [Case; 6] = [
-    Case {
-        name: "accepted",
-        files: &[("flaky.json", Text::Flaky), ("c.txt", Text::Order)],
-        words: &["check", "flaky.json", "c.txt"],
-        input: &[],
-        output: &["greatest 0", "answer none"],
-        status: Status::Done,
-    },
-    Case {
-        name: "two entries exchanged",
-        files: &[("flaky.json", Text::Flaky), ("c.txt", Text::OrderExchanged)],
-        words: &["check", "flaky.json", "c.txt"],
-        input: &[],
-        output: &["rejected 6 unjustified"],
-        status: Status::No,
-    },
-    Case {
-        name: "an entry missing",
-        files: &[("flaky.json", Text::Flaky), ("c.txt", Text::OrderShort)],
-        words: &["check", "flaky.json", "c.txt"],
-        input: &[],
-        output: &["rejected 8 unlisted 4"],
-        status: Status::No,
-    },
-    Case {
-        name: "no end",
-        files: &[("flaky.json", Text::Flaky), ("c.txt", Text::OrderUnended)],
-        words: &["check", "flaky.json", "c.txt"],
-        input: &[],
-        output: &["rejected 9 form"],
-        status: Status::No,
-    },
-    Case {
-        name: "an entry twice",
-        files: &[("flaky.json", Text::Flaky), ("c.txt", Text::OrderTwice)],
-        words: &["check", "flaky.json", "c.txt"],
-        input: &[],
-        output: &["rejected 4 repeated"],
-        status: Status::No,
-    },
-    Case {
-        name: "empty",
-        files: &[("flaky.json", Text::Flaky), ("c.txt", Text::Nothing)],
-        words: &["check", "flaky.json", "c.txt"],
-        input: &[],
-        output: &["rejected 1 form"],
-        status: Status::No,
-    },
+/// Certificates of the flaky lamp.
+static ROWS: [Row; 6] = [
+    (
+        "accepted",
+        Text::Order,
+        Done(&["greatest 0", "answer none"]),
+    ),
+    (
+        "two entries exchanged",
+        Text::OrderExchanged,
+        No(&["rejected 6 unjustified"]),
+    ),
+    (
+        "an entry missing",
+        Text::OrderShort,
+        No(&["rejected 8 unlisted 4"]),
+    ),
+    ("no end", Text::OrderUnended, No(&["rejected 9 form"])),
+    (
+        "an entry twice",
+        Text::OrderTwice,
+        No(&["rejected 4 repeated"]),
+    ),
+    ("empty", Text::Nothing, No(&["rejected 1 form"])),
 ];
 
 #[test]
 fn certificates_are_checked(rt: HostRuntime) -> Result<(), Fail> {
-    let wrong = first_wrong::<Brand>(rt.alloc(), &CASES, Blank::new(1))?;
+    let runs = Runs {
+        words: &["check", "flaky.json", "c.txt"],
+        file: "c.txt",
+        beside: &[("flaky.json", Text::Flaky)],
+        rows: &ROWS,
+        ..SYNTH
+    };
+    let wrong = first_row::<Brand>(rt.alloc(), &runs, Blank::new(1))?;
     assert_eq!(rt; wrong.as_str(), "");
     Ok(())
 }

@@ -1,8 +1,8 @@
 //! Within how many requests pairs are lost.
 
-use crate::case::{Case, USAGE, first_wrong};
+use crate::case::Outcome::{Done, Gone, Limit, Usage};
+use crate::case::{Case, first_wrong};
 use crate::texts::Text;
-use roman_top::Status;
 use std::marker::Brand;
 use std::sync::ledger::Blank;
 use std::test::Fail;
@@ -13,7 +13,7 @@ static CASES: [Case; 6] = [
         files: &[("flaky.json", Text::Flaky)],
         words: &["shortest", "flaky.json"],
         input: &[],
-        output: &[
+        comes_to: Done(&[
             "pairs 6",
             "related 0",
             "depth 0: 1",
@@ -22,55 +22,49 @@ static CASES: [Case; 6] = [
             "depth 3: 1",
             "start depth 2",
             "end",
-        ],
-        status: Status::Done,
+        ]),
     },
     Case {
         name: "lamp",
         files: &[("lamp.json", Text::Lamp)],
         words: &["shortest", "lamp.json"],
         input: &[],
-        output: &[
+        comes_to: Done(&[
             "pairs 4",
             "related 2",
             "depth 0: 1",
             "depth 1: 1",
             "start related",
             "end",
-        ],
-        status: Status::Done,
+        ]),
     },
     Case {
         name: "a document that isn't there",
         files: &[],
         words: &["shortest", "lamp.json"],
         input: &[],
-        output: &[],
-        status: Status::ShelfFault,
+        comes_to: Gone,
     },
     Case {
         name: "past its limit",
         files: &[("lamp.json", Text::Limit7)],
         words: &["shortest", "lamp.json"],
         input: &[],
-        output: &["limit 7"],
-        status: Status::Limit,
+        comes_to: Limit("7"),
     },
     Case {
         name: "no system",
         files: &[],
         words: &["shortest"],
         input: &[],
-        output: &[USAGE],
-        status: Status::Usage,
+        comes_to: Usage,
     },
     Case {
         name: "two systems",
         files: &[],
         words: &["shortest", "lamp.json", "flaky.json"],
         input: &[],
-        output: &[USAGE],
-        status: Status::Usage,
+        comes_to: Usage,
     },
 ];
 

@@ -1,7 +1,10 @@
 //! Documents that are accepted and refused.
 ghost use Rattle.std.specs.Prelude.{◌≡◌, ◌<◌};
 
-use crate::case::{Case, LAMP_REPORT, first_wrong, words_of};
+use crate::case::Outcome::{Done, Gone, Limit, Refused};
+use crate::case::{
+    Case, LAMP_LINES, LAMP_REPORT, Row, Runs, SYNTH, first_row, first_wrong, words_of,
+};
 use crate::texts::Text;
 use roman_io::{MemShelf, MemSink, QuietSource, Steps};
 use roman_top::{Status, serve};
@@ -10,21 +13,17 @@ use std::marker::Brand;
 use std::sync::ledger::{Blank, Ledger};
 use std::test::Fail;
 
-static CASES: [Case; 24] = [
-    Case {
-        name: "choice",
-        files: &[("lamp.json", Text::Choice)],
-        words: &["synth", "lamp.json"],
-        input: &[],
-        output: &["refused lamp.json choice target 0 steps 1 0 e2"],
-        status: Status::Refused,
-    },
-    Case {
-        name: "no choice",
-        files: &[("lamp.json", Text::NoChoice)],
-        words: &["synth", "lamp.json"],
-        input: &[],
-        output: &[
+/// Documents that are composed or refused.
+static ROWS: [Row; 20] = [
+    (
+        "choice",
+        Text::Choice,
+        Refused("lamp.json choice target 0 steps 1 0 e2"),
+    ),
+    (
+        "no choice",
+        Text::NoChoice,
+        Done(&[
             "pairs 12",
             "related 4",
             "environment e1",
@@ -33,231 +32,116 @@ static CASES: [Case; 24] = [
             "answer composition",
             "offer on: l1",
             "end",
-        ],
-        status: Status::Done,
-    },
-    Case {
-        name: "repeated",
-        files: &[("lamp.json", Text::OnTwice)],
-        words: &["synth", "lamp.json"],
-        input: &[],
-        output: &["refused lamp.json repeated environment 0 actions 1"],
-        status: Status::Refused,
-    },
-    Case {
-        name: "missing",
-        files: &[("lamp.json", Text::NoTarget)],
-        words: &["synth", "lamp.json"],
-        input: &[],
-        output: &["refused lamp.json missing target 0 whole 0"],
-        status: Status::Refused,
-    },
-    Case {
-        name: "no guard",
-        files: &[("lamp.json", Text::NoGuard)],
-        words: &["synth", "lamp.json"],
-        input: &[],
-        output: &["refused lamp.json form target 0 steps 0"],
-        status: Status::Refused,
-    },
-    Case {
-        name: "version",
-        files: &[("lamp.json", Text::Roman9)],
-        words: &["synth", "lamp.json"],
-        input: &[],
-        output: &["refused lamp.json version system 0 roman 0"],
-        status: Status::Refused,
-    },
-    Case {
-        name: "version 2",
-        files: &[("lamp.json", Text::Roman2)],
-        words: &["synth", "lamp.json"],
-        input: &[],
-        output: &[
-            "pairs 4",
-            "related 2",
-            "environment e",
-            "target off final",
-            "service l1 lamp off ready",
-            "answer composition",
-            "offer on: l1",
-            "end",
-        ],
-        status: Status::Done,
-    },
-    Case {
-        name: "a part file with an unknown action",
-        files: &[
-            ("lamp.json", Text::TargetByFile),
-            ("t.json", Text::TargetDim),
-        ],
-        words: &["synth", "lamp.json"],
-        input: &[],
-        output: &["refused t.json unknown target 0 steps 1"],
-        status: Status::Refused,
-    },
-    Case {
-        name: "a part file",
-        files: &[("lamp.json", Text::TargetByFile), ("t.json", Text::Target)],
-        words: &["synth", "lamp.json"],
-        input: &[],
-        output: &[
-            "pairs 4",
-            "related 2",
-            "environment e",
-            "target off final",
-            "service l1 lamp off ready",
-            "answer composition",
-            "offer on: l1",
-            "end",
-        ],
-        status: Status::Done,
-    },
-    Case {
-        name: "a part file that names another",
-        files: &[
-            ("lamp.json", Text::TargetByFile),
-            ("t.json", Text::FileAgain),
-        ],
-        words: &["synth", "lamp.json"],
-        input: &[],
-        output: &["refused t.json missing target 0 states 0"],
-        status: Status::Refused,
-    },
-    Case {
-        name: "a hundred levels",
-        files: &[("lamp.json", Text::Not100)],
-        words: &["synth", "lamp.json"],
-        input: &[],
-        output: &[
-            "pairs 4",
-            "related 2",
-            "environment e",
-            "target off final",
-            "service l1 lamp off ready",
-            "answer composition",
-            "offer on: l1",
-            "end",
-        ],
-        status: Status::Done,
-    },
-    Case {
-        name: "two hundred levels",
-        files: &[("lamp.json", Text::Not200)],
-        words: &["synth", "lamp.json"],
-        input: &[],
-        output: &["refused lamp.json notjson system 0 whole 0"],
-        status: Status::Refused,
-    },
-    Case {
-        name: "no UTF-8",
-        files: &[("lamp.json", Text::Lamp255)],
-        words: &["synth", "lamp.json"],
-        input: &[],
-        output: &["refused lamp.json notjson system 0 whole 0"],
-        status: Status::Refused,
-    },
-    Case {
-        name: "a final state twice",
-        files: &[("lamp.json", Text::FinalTwice)],
-        words: &["synth", "lamp.json"],
-        input: &[],
-        output: &[
-            "pairs 4",
-            "related 2",
-            "environment e",
-            "target off final",
-            "service l1 lamp off ready",
-            "answer composition",
-            "offer on: l1",
-            "end",
-        ],
-        status: Status::Done,
-    },
-    Case {
-        name: "wide services",
-        files: &[("lamp.json", Text::Wide16)],
-        words: &["synth", "lamp.json"],
-        input: &[],
-        output: &["limit 262144"],
-        status: Status::Limit,
-    },
-    Case {
-        name: "no behaviours",
-        files: &[("lamp.json", Text::NoBehaviours)],
-        words: &["synth", "lamp.json"],
-        input: &[],
-        output: &["refused lamp.json unknown service 0 behaviour 0"],
-        status: Status::Refused,
-    },
-    Case {
-        name: "a limit that is no u64",
-        files: &[("lamp.json", Text::LimitHuge)],
-        words: &["synth", "lamp.json"],
-        input: &[],
-        output: &["refused lamp.json form system 0 limit 0"],
-        status: Status::Refused,
-    },
-    Case {
-        name: "the limit 0",
-        files: &[("lamp.json", Text::Limit0)],
-        words: &["synth", "lamp.json"],
-        input: &[],
-        output: &["refused lamp.json count system 0 limit 0"],
-        status: Status::Refused,
-    },
-    Case {
-        name: "a limit below the cells",
-        files: &[("lamp.json", Text::Limit7)],
-        words: &["synth", "lamp.json"],
-        input: &[],
-        output: &["limit 7"],
-        status: Status::Limit,
-    },
-    Case {
-        name: "too many services",
-        files: &[("lamp.json", Text::Overfull)],
-        words: &["synth", "lamp.json"],
-        input: &[],
-        output: &["refused lamp.json count system 0 services 0"],
-        status: Status::Refused,
-    },
-    Case {
-        name: "a number for rests",
-        files: &[("lamp.json", Text::Rests1)],
-        words: &["synth", "lamp.json"],
-        input: &[],
-        output: &["refused lamp.json form service 1 rests 0"],
-        status: Status::Refused,
-    },
-    Case {
-        name: "a file that is not there",
-        files: &[("lamp.json", Text::TargetGone)],
-        words: &["synth", "lamp.json"],
-        input: &[],
-        output: &[],
-        status: Status::ShelfFault,
-    },
-    Case {
-        name: "a limit before a file that is not there",
-        files: &[("lamp.json", Text::TargetGoneLimit0)],
-        words: &["synth", "lamp.json"],
-        input: &[],
-        output: &["refused lamp.json count system 0 limit 0"],
-        status: Status::Refused,
-    },
-    Case {
-        name: "a document that is not there",
-        files: &[("lamp.json", Text::Lamp)],
-        words: &["synth", "gone.json"],
-        input: &[],
-        output: &[],
-        status: Status::ShelfFault,
-    },
+        ]),
+    ),
+    (
+        "repeated",
+        Text::OnTwice,
+        Refused("lamp.json repeated environment 0 actions 1"),
+    ),
+    (
+        "missing",
+        Text::NoTarget,
+        Refused("lamp.json missing target 0 whole 0"),
+    ),
+    (
+        "no guard",
+        Text::NoGuard,
+        Refused("lamp.json form target 0 steps 0"),
+    ),
+    (
+        "version",
+        Text::Roman9,
+        Refused("lamp.json version system 0 roman 0"),
+    ),
+    ("version 2", Text::Roman2, Done(LAMP_LINES)),
+    ("a hundred levels", Text::Not100, Done(LAMP_LINES)),
+    (
+        "two hundred levels",
+        Text::Not200,
+        Refused("lamp.json notjson system 0 whole 0"),
+    ),
+    (
+        "no UTF-8",
+        Text::Lamp255,
+        Refused("lamp.json notjson system 0 whole 0"),
+    ),
+    ("a final state twice", Text::FinalTwice, Done(LAMP_LINES)),
+    ("wide services", Text::Wide16, Limit("262144")),
+    (
+        "no behaviours",
+        Text::NoBehaviours,
+        Refused("lamp.json unknown service 0 behaviour 0"),
+    ),
+    (
+        "a limit that is no u64",
+        Text::LimitHuge,
+        Refused("lamp.json form system 0 limit 0"),
+    ),
+    (
+        "the limit 0",
+        Text::Limit0,
+        Refused("lamp.json count system 0 limit 0"),
+    ),
+    ("a limit below the cells", Text::Limit7, Limit("7")),
+    (
+        "too many services",
+        Text::Overfull,
+        Refused("lamp.json count system 0 services 0"),
+    ),
+    (
+        "a number for rests",
+        Text::Rests1,
+        Refused("lamp.json form service 1 rests 0"),
+    ),
+    ("a file that is not there", Text::TargetGone, Gone),
+    (
+        "a limit before a file that is not there",
+        Text::TargetGoneLimit0,
+        Refused("lamp.json count system 0 limit 0"),
+    ),
 ];
+
+/// Targets in a file of their own.
+static TARGETS: [Row; 3] = [
+    (
+        "a part file with an unknown action",
+        Text::TargetDim,
+        Refused("t.json unknown target 0 steps 1"),
+    ),
+    ("a part file", Text::Target, Done(LAMP_LINES)),
+    (
+        "a part file that names another",
+        Text::FileAgain,
+        Refused("t.json missing target 0 states 0"),
+    ),
+];
+
+/// A document that is not there.
+static CASES: [Case; 1] = [Case {
+    name: "a document that is not there",
+    files: &[("lamp.json", Text::Lamp)],
+    words: &["synth", "gone.json"],
+    input: &[],
+    comes_to: Gone,
+}];
 
 #[test]
 fn documents_are_read(rt: HostRuntime) -> Result<(), Fail> {
+    let runs = Runs {
+        rows: &ROWS,
+        ..SYNTH
+    };
+    let wrong = first_row::<Brand>(rt.alloc(), &runs, Blank::new(1))?;
+    assert_eq!(rt; wrong.as_str(), "");
+    let runs = Runs {
+        file: "t.json",
+        beside: &[("lamp.json", Text::TargetByFile)],
+        rows: &TARGETS,
+        ..SYNTH
+    };
+    let wrong = first_row::<Brand>(rt.alloc(), &runs, Blank::new(1))?;
+    assert_eq!(rt; wrong.as_str(), "");
     let wrong = first_wrong::<Brand>(rt.alloc(), &CASES, Blank::new(1))?;
     assert_eq!(rt; wrong.as_str(), "");
     Ok(())

@@ -1,7 +1,7 @@
 //! Systems that are made from a number.
 
-use crate::case::{Case, USAGE, first_wrong};
-use roman_top::Status;
+use crate::case::Outcome::{Done, Usage};
+use crate::case::{Case, first_wrong};
 use std::marker::Brand;
 use std::sync::ledger::Blank;
 use std::test::Fail;
@@ -12,7 +12,7 @@ static CASES: [Case; 8] = [
         files: &[],
         words: &["make", "1"],
         input: &[],
-        output: &[
+        comes_to: Done(&[
             "made 1",
             "start pairs 12 related 5 composition",
             "freeze pairs 12 related 0 none",
@@ -21,15 +21,14 @@ static CASES: [Case; 8] = [
             "join pairs 12 related 5 composition",
             "round pairs 12 related 5 composition",
             "end",
-        ],
-        status: Status::Done,
+        ]),
     },
     Case {
         name: "make 2",
         files: &[],
         words: &["make", "2"],
         input: &[],
-        output: &[
+        comes_to: Done(&[
             "made 2",
             "start pairs 36 related 15 composition",
             "freeze pairs 36 related 10 composition",
@@ -38,15 +37,14 @@ static CASES: [Case; 8] = [
             "join pairs 36 related 15 composition",
             "round pairs 36 related 15 composition",
             "end",
-        ],
-        status: Status::Done,
+        ]),
     },
     Case {
         name: "make 5",
         files: &[],
         words: &["make", "5"],
         input: &[],
-        output: &[
+        comes_to: Done(&[
             "made 5",
             "start pairs 972 related 223 composition",
             "freeze pairs 972 related 190 composition",
@@ -55,15 +53,14 @@ static CASES: [Case; 8] = [
             "join pairs 972 related 223 composition",
             "round pairs 972 related 223 composition",
             "end",
-        ],
-        status: Status::Done,
+        ]),
     },
     Case {
         name: "make 10",
         files: &[],
         words: &["make", "10"],
         input: &[],
-        output: &[
+        comes_to: Done(&[
             "made 10",
             "start pairs 236196 related 12287 composition",
             "freeze pairs 236196 related 11262 composition",
@@ -72,40 +69,35 @@ static CASES: [Case; 8] = [
             "join pairs 236196 related 12287 composition",
             "round pairs 236196 related 12287 composition",
             "end",
-        ],
-        status: Status::Done,
+        ]),
     },
     Case {
         name: "make 11",
         files: &[],
         words: &["make", "11"],
         input: &[],
-        output: &[USAGE],
-        status: Status::Usage,
+        comes_to: Usage,
     },
     Case {
         name: "make 0",
         files: &[],
         words: &["make", "0"],
         input: &[],
-        output: &[USAGE],
-        status: Status::Usage,
+        comes_to: Usage,
     },
     Case {
         name: "make 01",
         files: &[],
         words: &["make", "01"],
         input: &[],
-        output: &[USAGE],
-        status: Status::Usage,
+        comes_to: Usage,
     },
     Case {
         name: "make",
         files: &[],
         words: &["make"],
         input: &[],
-        output: &[USAGE],
-        status: Status::Usage,
+        comes_to: Usage,
     },
 ];
 

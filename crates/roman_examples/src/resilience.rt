@@ -1,7 +1,8 @@
 //! What is left where services fail.
 ghost use Rattle.std.specs.Prelude.{◌≡◌, ◌<◌};
 
-use crate::case::{Case, File, first_wrong, run};
+use crate::case::Outcome::{Done, Limit, Refused};
+use crate::case::{File, Row, Runs, SYNTH, first_row, run};
 use crate::texts::Text;
 use roman_io::{MemSink, QuietSource, Steps};
 use roman_top::Status;
@@ -10,27 +11,36 @@ use std::marker::Brand;
 use std::sync::ledger::{Blank, Ledger};
 use std::test::Fail;
 
-static CASES: [Case; 9] = [
-    Case {
-        name: "lamp",
-        files: &[("lamp.json", Text::Lamp)],
-        words: &["resilience", "lamp.json"],
-        input: &[],
-        output: &[
+/// What is left of a lamp beside a loose service.
+const LOOSE_LINES: &[&str] = &[
+    "services 2",
+    "start composition related 4 choices 4",
+    "without l1 freeze none related 0 choices 0",
+    "without l1 die none related 0 choices 0",
+    "without x freeze composition related 4 choices 4",
+    "without x die composition related 2 choices 2",
+    "without l1 x freeze none related 0 choices 0",
+    "without l1 x die none related 0 choices 0",
+    "end",
+];
+
+/// Systems, and what is left of each.
+static ROWS: [Row; 9] = [
+    (
+        "lamp",
+        Text::Lamp,
+        Done(&[
             "services 1",
             "start composition related 2 choices 2",
             "without l1 freeze none related 0 choices 0",
             "without l1 die none related 0 choices 0",
             "end",
-        ],
-        status: Status::Done,
-    },
-    Case {
-        name: "two lamps",
-        files: &[("lamp.json", Text::TwoLamps)],
-        words: &["resilience", "lamp.json"],
-        input: &[],
-        output: &[
+        ]),
+    ),
+    (
+        "two lamps",
+        Text::TwoLamps,
+        Done(&[
             "services 2",
             "start composition related 3 choices 4",
             "without l1 freeze composition related 2 choices 2",
@@ -40,73 +50,34 @@ static CASES: [Case; 9] = [
             "without l1 l2 freeze none related 0 choices 0",
             "without l1 l2 die none related 0 choices 0",
             "end",
-        ],
-        status: Status::Done,
-    },
-    Case {
-        name: "a frozen service",
-        files: &[("lamp.json", Text::LampFrozen)],
-        words: &["resilience", "lamp.json"],
-        input: &[],
-        output: &[
+        ]),
+    ),
+    (
+        "a frozen service",
+        Text::LampFrozen,
+        Done(&[
             "services 1",
             "start none related 0 choices 0",
             "without l1 freeze none related 0 choices 0",
             "without l1 die none related 0 choices 0",
             "end",
-        ],
-        status: Status::Done,
-    },
-    Case {
-        name: "no services",
-        files: &[("lamp.json", Text::Bare)],
-        words: &["resilience", "lamp.json"],
-        input: &[],
-        output: &["services 0", "start composition related 1 choices 0", "end"],
-        status: Status::Done,
-    },
-    Case {
-        name: "a loose service",
-        files: &[("lamp.json", Text::LampAndLooseX)],
-        words: &["resilience", "lamp.json"],
-        input: &[],
-        output: &[
-            "services 2",
-            "start composition related 4 choices 4",
-            "without l1 freeze none related 0 choices 0",
-            "without l1 die none related 0 choices 0",
-            "without x freeze composition related 4 choices 4",
-            "without x die composition related 2 choices 2",
-            "without l1 x freeze none related 0 choices 0",
-            "without l1 x die none related 0 choices 0",
-            "end",
-        ],
-        status: Status::Done,
-    },
-    Case {
-        name: "a service that is frozen and loose",
-        files: &[("lamp.json", Text::FrozenAndLoose)],
-        words: &["resilience", "lamp.json"],
-        input: &[],
-        output: &[
-            "services 2",
-            "start composition related 4 choices 4",
-            "without l1 freeze none related 0 choices 0",
-            "without l1 die none related 0 choices 0",
-            "without x freeze composition related 4 choices 4",
-            "without x die composition related 2 choices 2",
-            "without l1 x freeze none related 0 choices 0",
-            "without l1 x die none related 0 choices 0",
-            "end",
-        ],
-        status: Status::Done,
-    },
-    Case {
-        name: "a service that needn't be there",
-        files: &[("lamp.json", Text::LampAndX)],
-        words: &["resilience", "lamp.json"],
-        input: &[],
-        output: &[
+        ]),
+    ),
+    (
+        "no services",
+        Text::Bare,
+        Done(&["services 0", "start composition related 1 choices 0", "end"]),
+    ),
+    ("a loose service", Text::LampAndLooseX, Done(LOOSE_LINES)),
+    (
+        "a service that is frozen and loose",
+        Text::FrozenAndLoose,
+        Done(LOOSE_LINES),
+    ),
+    (
+        "a service that needn't be there",
+        Text::LampAndX,
+        Done(&[
             "services 2",
             "start composition related 2 choices 2",
             "without l1 freeze none related 0 choices 0",
@@ -116,30 +87,24 @@ static CASES: [Case; 9] = [
             "without l1 x freeze none related 0 choices 0",
             "without l1 x die none related 0 choices 0",
             "end",
-        ],
-        status: Status::Done,
-    },
-    Case {
-        name: "past the limit",
-        files: &[("lamp.json", Text::Limit7)],
-        words: &["resilience", "lamp.json"],
-        input: &[],
-        output: &["limit 7"],
-        status: Status::Limit,
-    },
-    Case {
-        name: "refused",
-        files: &[("lamp.json", Text::Roman9)],
-        words: &["resilience", "lamp.json"],
-        input: &[],
-        output: &["refused lamp.json version system 0 roman 0"],
-        status: Status::Refused,
-    },
+        ]),
+    ),
+    ("past the limit", Text::Limit7, Limit("7")),
+    (
+        "refused",
+        Text::Roman9,
+        Refused("lamp.json version system 0 roman 0"),
+    ),
 ];
 
 #[test]
 fn services_fail(rt: HostRuntime) -> Result<(), Fail> {
-    let wrong = first_wrong::<Brand>(rt.alloc(), &CASES, Blank::new(1))?;
+    let runs = Runs {
+        words: &["resilience", "lamp.json"],
+        rows: &ROWS,
+        ..SYNTH
+    };
+    let wrong = first_row::<Brand>(rt.alloc(), &runs, Blank::new(1))?;
     assert_eq!(rt; wrong.as_str(), "");
     Ok(())
 }

@@ -1,52 +1,33 @@
 //! Documents with several targets.
 
-use crate::case::{Case, first_wrong};
+use crate::case::Outcome::{Done, Gone, No, Refused};
+use crate::case::{LAMP_LINES, Row, Runs, SYNTH, Talk, first_row, first_talk};
 use crate::texts::Text;
-use roman_top::Status;
 use std::marker::Brand;
 use std::sync::ledger::Blank;
 use std::test::Fail;
 
-static CASES: [Case; 37] = [
-    Case {
-        name: "two targets",
-        files: &[("lamp.json", Text::Two)],
-        words: &["synth", "lamp.json"],
-        input: &[],
-        output: &[
-            "pairs 16",
-            "related 6",
-            "environment e",
-            "target off-off final",
-            "service l1 lamp off ready",
-            "service l2 lamp off ready",
-            "answer composition",
-            "offer on-a: l1 l2",
-            "offer on-b: l1 l2",
-            "end",
-        ],
-        status: Status::Done,
-    },
-    Case {
-        name: "two targets in a session",
-        files: &[("lamp.json", Text::Two)],
-        words: &["run", "lamp.json"],
-        input: &["do on-a", "use l1", "saw on e", "do off-b", "do on-b"],
-        output: &[
-            "offer l1 l2",
-            "using l1",
-            "now on-off e",
-            "not allowed",
-            "offer l2",
-        ],
-        status: Status::Done,
-    },
-    Case {
-        name: "two targets and one lamp",
-        files: &[("lamp.json", Text::TwoLoneLamp)],
-        words: &["synth", "lamp.json"],
-        input: &[],
-        output: &[
+/// What comes of two lamps and two targets that are lamps.
+const TWO_LINES: &[&str] = &[
+    "pairs 16",
+    "related 6",
+    "environment e",
+    "target off-off final",
+    "service l1 lamp off ready",
+    "service l2 lamp off ready",
+    "answer composition",
+    "offer on-a: l1 l2",
+    "offer on-b: l1 l2",
+    "end",
+];
+
+/// Documents of version 3, and what is said of several targets in others.
+static ROWS: [Row; 32] = [
+    ("two targets", Text::Two, Done(TWO_LINES)),
+    (
+        "two targets and one lamp",
+        Text::TwoLoneLamp,
+        No(&[
             "pairs 8",
             "related 0",
             "environment e",
@@ -54,235 +35,126 @@ static CASES: [Case; 37] = [
             "service l1 lamp off ready",
             "answer none",
             "end",
-        ],
-        status: Status::No,
-    },
-    Case {
-        name: "plain actions are no requests",
-        files: &[("lamp.json", Text::Two)],
-        words: &["run", "lamp.json"],
-        input: &["do on", "do on-c"],
-        output: &["error name", "error name"],
-        status: Status::Done,
-    },
-    Case {
-        name: "one target",
-        files: &[("lamp.json", Text::OneOfTwo)],
-        words: &["synth", "lamp.json"],
-        input: &[],
-        output: &["refused lamp.json count system 0 targets 0"],
-        status: Status::Refused,
-    },
-    Case {
-        name: "no targets",
-        files: &[("lamp.json", Text::NoneOfTwo)],
-        words: &["synth", "lamp.json"],
-        input: &[],
-        output: &["refused lamp.json count system 0 targets 0"],
-        status: Status::Refused,
-    },
-    Case {
-        name: "five targets, and nothing fetched",
-        files: &[("lamp.json", Text::FiveTargets)],
-        words: &["synth", "lamp.json"],
-        input: &[],
-        output: &["refused lamp.json count system 0 targets 0"],
-        status: Status::Refused,
-    },
-    Case {
-        name: "targets are missing",
-        files: &[("lamp.json", Text::TargetsGone)],
-        words: &["synth", "lamp.json"],
-        input: &[],
-        output: &["refused lamp.json missing system 0 targets 0"],
-        status: Status::Refused,
-    },
-    Case {
-        name: "targets that are no list",
-        files: &[("lamp.json", Text::TargetsNoList)],
-        words: &["synth", "lamp.json"],
-        input: &[],
-        output: &["refused lamp.json form system 0 targets 0"],
-        status: Status::Refused,
-    },
-    Case {
-        name: "a target by file",
-        files: &[("lamp.json", Text::SecondByFile), ("t.json", Text::TargetB)],
-        words: &["synth", "lamp.json"],
-        input: &[],
-        output: &[
-            "pairs 16",
-            "related 6",
-            "environment e",
-            "target off-off final",
-            "service l1 lamp off ready",
-            "service l2 lamp off ready",
-            "answer composition",
-            "offer on-a: l1 l2",
-            "offer on-b: l1 l2",
-            "end",
-        ],
-        status: Status::Done,
-    },
-    Case {
-        name: "a target by a file that is not there",
-        files: &[("lamp.json", Text::SecondByFile)],
-        words: &["synth", "lamp.json"],
-        input: &[],
-        output: &[],
-        status: Status::ShelfFault,
-    },
-    Case {
-        name: "a target by a file in a file",
-        files: &[
-            ("lamp.json", Text::SecondByFile),
-            ("t.json", Text::FileAgain),
-        ],
-        words: &["synth", "lamp.json"],
-        input: &[],
-        output: &["refused t.json missing target 1 name 0"],
-        status: Status::Refused,
-    },
-    Case {
-        name: "a target without a name in its file",
-        files: &[("lamp.json", Text::SecondByFile), ("t.json", Text::Target)],
-        words: &["synth", "lamp.json"],
-        input: &[],
-        output: &["refused t.json missing target 1 name 0"],
-        status: Status::Refused,
-    },
-    Case {
-        name: "a target without a name",
-        files: &[("lamp.json", Text::NamelessFirst)],
-        words: &["synth", "lamp.json"],
-        input: &[],
-        output: &["refused lamp.json missing target 0 name 0"],
-        status: Status::Refused,
-    },
-    Case {
-        name: "a number for a name",
-        files: &[("lamp.json", Text::NumberName)],
-        words: &["synth", "lamp.json"],
-        input: &[],
-        output: &["refused lamp.json form target 1 name 0"],
-        status: Status::Refused,
-    },
-    Case {
-        name: "a bad name, and nothing fetched",
-        files: &[("lamp.json", Text::BadNameFirst)],
-        words: &["synth", "lamp.json"],
-        input: &[],
-        output: &["refused lamp.json badname target 0 name 0"],
-        status: Status::Refused,
-    },
-    Case {
-        name: "one name for two targets",
-        files: &[("lamp.json", Text::SameName)],
-        words: &["synth", "lamp.json"],
-        input: &[],
-        output: &["refused lamp.json repeated target 1 name 0"],
-        status: Status::Refused,
-    },
-    Case {
-        name: "a number for a target",
-        files: &[("lamp.json", Text::NoTargetObject)],
-        words: &["synth", "lamp.json"],
-        input: &[],
-        output: &["refused lamp.json form target 1 whole 0"],
-        status: Status::Refused,
-    },
-    Case {
-        name: "the name comes first",
-        files: &[("lamp.json", Text::NameBeforeStates)],
-        words: &["synth", "lamp.json"],
-        input: &[],
-        output: &["refused lamp.json repeated target 1 name 0"],
-        status: Status::Refused,
-    },
-    Case {
-        name: "sixty-five combined states",
-        files: &[("lamp.json", Text::States65)],
-        words: &["synth", "lamp.json"],
-        input: &[],
-        output: &["refused lamp.json count system 0 targets 1"],
-        status: Status::Refused,
-    },
-    Case {
-        name: "sixty-four combined states",
-        files: &[("lamp.json", Text::States64)],
-        words: &["synth", "lamp.json"],
-        input: &[],
-        output: &[
+        ]),
+    ),
+    (
+        "one target",
+        Text::OneOfTwo,
+        Refused("lamp.json count system 0 targets 0"),
+    ),
+    (
+        "no targets",
+        Text::NoneOfTwo,
+        Refused("lamp.json count system 0 targets 0"),
+    ),
+    (
+        "five targets, and nothing fetched",
+        Text::FiveTargets,
+        Refused("lamp.json count system 0 targets 0"),
+    ),
+    (
+        "targets are missing",
+        Text::TargetsGone,
+        Refused("lamp.json missing system 0 targets 0"),
+    ),
+    (
+        "targets that are no list",
+        Text::TargetsNoList,
+        Refused("lamp.json form system 0 targets 0"),
+    ),
+    (
+        "a target by a file that is not there",
+        Text::SecondByFile,
+        Gone,
+    ),
+    (
+        "a target without a name",
+        Text::NamelessFirst,
+        Refused("lamp.json missing target 0 name 0"),
+    ),
+    (
+        "a number for a name",
+        Text::NumberName,
+        Refused("lamp.json form target 1 name 0"),
+    ),
+    (
+        "a bad name, and nothing fetched",
+        Text::BadNameFirst,
+        Refused("lamp.json badname target 0 name 0"),
+    ),
+    (
+        "one name for two targets",
+        Text::SameName,
+        Refused("lamp.json repeated target 1 name 0"),
+    ),
+    (
+        "a number for a target",
+        Text::NoTargetObject,
+        Refused("lamp.json form target 1 whole 0"),
+    ),
+    (
+        "the name comes first",
+        Text::NameBeforeStates,
+        Refused("lamp.json repeated target 1 name 0"),
+    ),
+    (
+        "sixty-five combined states",
+        Text::States65,
+        Refused("lamp.json count system 0 targets 1"),
+    ),
+    (
+        "sixty-four combined states",
+        Text::States64,
+        No(&[
             "pairs 64",
             "related 45",
             "environment e",
             "target s0-s0 final",
             "answer none",
             "end",
-        ],
-        status: Status::No,
-    },
-    Case {
-        name: "thirty-three combined actions",
-        files: &[("lamp.json", Text::Actions33)],
-        words: &["synth", "lamp.json"],
-        input: &[],
-        output: &["refused lamp.json count system 0 targets 2"],
-        status: Status::Refused,
-    },
-    Case {
-        name: "thirty-two combined actions",
-        files: &[("lamp.json", Text::Actions32)],
-        words: &["synth", "lamp.json"],
-        input: &[],
-        output: &[
+        ]),
+    ),
+    (
+        "thirty-three combined actions",
+        Text::Actions33,
+        Refused("lamp.json count system 0 targets 2"),
+    ),
+    (
+        "thirty-two combined actions",
+        Text::Actions32,
+        Done(&[
             "pairs 1",
             "related 1",
             "environment e",
             "target s-s final",
             "answer composition",
             "end",
-        ],
-        status: Status::Done,
-    },
-    Case {
-        name: "no combined actions",
-        files: &[("lamp.json", Text::Actions0)],
-        words: &["synth", "lamp.json"],
-        input: &[],
-        output: &["refused lamp.json count system 0 targets 2"],
-        status: Status::Refused,
-    },
-    Case {
-        name: "no guard that is not empty",
-        files: &[("lamp.json", Text::ActionsNever)],
-        words: &["synth", "lamp.json"],
-        input: &[],
-        output: &["refused lamp.json count system 0 targets 2"],
-        status: Status::Refused,
-    },
-    Case {
-        name: "a combined state of thirty-three bytes",
-        files: &[("lamp.json", Text::LongState)],
-        words: &["synth", "lamp.json"],
-        input: &[],
-        output: &["refused lamp.json badname system 0 targets 3"],
-        status: Status::Refused,
-    },
-    Case {
-        name: "a combined action of thirty-three bytes",
-        files: &[("lamp.json", Text::LongAction)],
-        words: &["synth", "lamp.json"],
-        input: &[],
-        output: &["refused lamp.json badname system 0 targets 3"],
-        status: Status::Refused,
-    },
-    Case {
-        name: "combined names of thirty-two bytes",
-        files: &[("lamp.json", Text::Long32)],
-        words: &["synth", "lamp.json"],
-        input: &[],
-        output: &[
+        ]),
+    ),
+    (
+        "no combined actions",
+        Text::Actions0,
+        Refused("lamp.json count system 0 targets 2"),
+    ),
+    (
+        "no guard that is not empty",
+        Text::ActionsNever,
+        Refused("lamp.json count system 0 targets 2"),
+    ),
+    (
+        "a combined state of thirty-three bytes",
+        Text::LongState,
+        Refused("lamp.json badname system 0 targets 3"),
+    ),
+    (
+        "a combined action of thirty-three bytes",
+        Text::LongAction,
+        Refused("lamp.json badname system 0 targets 3"),
+    ),
+    (
+        "combined names of thirty-two bytes",
+        Text::Long32,
+        No(&[
             "pairs 4",
             "related 0",
             "environment e",
@@ -291,91 +163,47 @@ static CASES: [Case; 37] = [
             "service l2 lamp off ready",
             "answer none",
             "end",
-        ],
-        status: Status::No,
-    },
-    Case {
-        name: "two combined states of one name",
-        files: &[("lamp.json", Text::SameStates)],
-        words: &["synth", "lamp.json"],
-        input: &[],
-        output: &["refused lamp.json repeated system 0 targets 4"],
-        status: Status::Refused,
-    },
-    Case {
-        name: "two combined actions of one name",
-        files: &[("lamp.json", Text::SameActions)],
-        words: &["synth", "lamp.json"],
-        input: &[],
-        output: &["refused lamp.json repeated system 0 targets 4"],
-        status: Status::Refused,
-    },
-    Case {
-        name: "the states come first",
-        files: &[("lamp.json", Text::AllFour)],
-        words: &["synth", "lamp.json"],
-        input: &[],
-        output: &["refused lamp.json count system 0 targets 1"],
-        status: Status::Refused,
-    },
-    Case {
-        name: "length comes before repetition",
-        files: &[("lamp.json", Text::LongAndSame)],
-        words: &["synth", "lamp.json"],
-        input: &[],
-        output: &["refused lamp.json badname system 0 targets 3"],
-        status: Status::Refused,
-    },
-    Case {
-        name: "a choice comes before the combined names",
-        files: &[("lamp.json", Text::ChoiceLast)],
-        words: &["synth", "lamp.json"],
-        input: &[],
-        output: &["refused lamp.json choice target 1 steps 1 0 e"],
-        status: Status::Refused,
-    },
-    Case {
-        name: "version 3 ignores target",
-        files: &[("lamp.json", Text::TwoWithTarget)],
-        words: &["synth", "lamp.json"],
-        input: &[],
-        output: &[
-            "pairs 16",
-            "related 6",
-            "environment e",
-            "target off-off final",
-            "service l1 lamp off ready",
-            "service l2 lamp off ready",
-            "answer composition",
-            "offer on-a: l1 l2",
-            "offer on-b: l1 l2",
-            "end",
-        ],
-        status: Status::Done,
-    },
-    Case {
-        name: "version 1 ignores targets",
-        files: &[("lamp.json", Text::LampWithTargets)],
-        words: &["synth", "lamp.json"],
-        input: &[],
-        output: &[
-            "pairs 4",
-            "related 2",
-            "environment e",
-            "target off final",
-            "service l1 lamp off ready",
-            "answer composition",
-            "offer on: l1",
-            "end",
-        ],
-        status: Status::Done,
-    },
-    Case {
-        name: "version 3 has loose services",
-        files: &[("lamp.json", Text::TwoLoose)],
-        words: &["synth", "lamp.json"],
-        input: &[],
-        output: &[
+        ]),
+    ),
+    (
+        "two combined states of one name",
+        Text::SameStates,
+        Refused("lamp.json repeated system 0 targets 4"),
+    ),
+    (
+        "two combined actions of one name",
+        Text::SameActions,
+        Refused("lamp.json repeated system 0 targets 4"),
+    ),
+    (
+        "the states come first",
+        Text::AllFour,
+        Refused("lamp.json count system 0 targets 1"),
+    ),
+    (
+        "length comes before repetition",
+        Text::LongAndSame,
+        Refused("lamp.json badname system 0 targets 3"),
+    ),
+    (
+        "a choice comes before the combined names",
+        Text::ChoiceLast,
+        Refused("lamp.json choice target 1 steps 1 0 e"),
+    ),
+    (
+        "version 3 ignores target",
+        Text::TwoWithTarget,
+        Done(TWO_LINES),
+    ),
+    (
+        "version 1 ignores targets",
+        Text::LampWithTargets,
+        Done(LAMP_LINES),
+    ),
+    (
+        "version 3 has loose services",
+        Text::TwoLoose,
+        No(&[
             "pairs 16",
             "related 6",
             "environment e",
@@ -384,22 +212,69 @@ static CASES: [Case; 37] = [
             "service l2 lamp on ready loose",
             "answer none",
             "end",
-        ],
-        status: Status::No,
-    },
-    Case {
-        name: "version 4",
-        files: &[("lamp.json", Text::Roman4)],
-        words: &["synth", "lamp.json"],
-        input: &[],
-        output: &["refused lamp.json version system 0 roman 0"],
-        status: Status::Refused,
-    },
+        ]),
+    ),
+    (
+        "version 4",
+        Text::Roman4,
+        Refused("lamp.json version system 0 roman 0"),
+    ),
+];
+
+/// Second targets in a file of their own.
+static TARGETS: [Row; 3] = [
+    ("a target by file", Text::TargetB, Done(TWO_LINES)),
+    (
+        "a target by a file in a file",
+        Text::FileAgain,
+        Refused("t.json missing target 1 name 0"),
+    ),
+    (
+        "a target without a name in its file",
+        Text::Target,
+        Refused("t.json missing target 1 name 0"),
+    ),
+];
+
+/// Requests of two targets.
+static TALKS: [Talk; 2] = [
+    (
+        "two targets in a session",
+        Text::Two,
+        &["do on-a", "use l1", "saw on e", "do off-b", "do on-b"],
+        Done(&[
+            "offer l1 l2",
+            "using l1",
+            "now on-off e",
+            "not allowed",
+            "offer l2",
+        ]),
+    ),
+    (
+        "plain actions are no requests",
+        Text::Two,
+        &["do on", "do on-c"],
+        Done(&["error name", "error name"]),
+    ),
 ];
 
 #[test]
 fn several_targets_are_one(rt: HostRuntime) -> Result<(), Fail> {
-    let wrong = first_wrong::<Brand>(rt.alloc(), &CASES, Blank::new(1))?;
+    let runs = Runs {
+        rows: &ROWS,
+        ..SYNTH
+    };
+    let wrong = first_row::<Brand>(rt.alloc(), &runs, Blank::new(1))?;
+    assert_eq!(rt; wrong.as_str(), "");
+    let runs = Runs {
+        file: "t.json",
+        beside: &[("lamp.json", Text::SecondByFile)],
+        rows: &TARGETS,
+        ..SYNTH
+    };
+    let wrong = first_row::<Brand>(rt.alloc(), &runs, Blank::new(1))?;
+    assert_eq!(rt; wrong.as_str(), "");
+    let wrong = first_talk::<Brand>(rt.alloc(), &TALKS, Blank::new(1))?;
     assert_eq!(rt; wrong.as_str(), "");
     Ok(())
 }

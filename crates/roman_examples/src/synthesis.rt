@@ -1,36 +1,30 @@
 //! Reports on starting states.
 
-use crate::case::{Case, USAGE, first_wrong};
+use crate::case::Outcome::{Done, Limit, No, Refused, Usage};
+use crate::case::{Case, LAMP_LINES, Row, Runs, SYNTH, first_row, first_wrong};
 use crate::texts::Text;
-use roman_top::Status;
 use std::marker::Brand;
 use std::sync::ledger::Blank;
 use std::test::Fail;
 
-static CASES: [Case; 19] = [
-    Case {
-        name: "lamp",
-        files: &[("lamp.json", Text::Lamp)],
-        words: &["synth", "lamp.json"],
-        input: &[],
-        output: &[
-            "pairs 4",
-            "related 2",
-            "environment e",
-            "target off final",
-            "service l1 lamp off ready",
-            "answer composition",
-            "offer on: l1",
-            "end",
-        ],
-        status: Status::Done,
-    },
-    Case {
-        name: "flaky",
-        files: &[("lamp.json", Text::Flaky)],
-        words: &["synth", "lamp.json"],
-        input: &[],
-        output: &[
+/// What comes of a lamp that isn't asked for anything.
+const UNASKED_LINES: &[&str] = &[
+    "pairs 4",
+    "related 2",
+    "environment e",
+    "target off final",
+    "service l1 lamp off ready",
+    "answer composition",
+    "end",
+];
+
+/// Systems with a composition, or with none.
+static ROWS: [Row; 15] = [
+    ("lamp", Text::Lamp, Done(LAMP_LINES)),
+    (
+        "flaky",
+        Text::Flaky,
+        No(&[
             "pairs 6",
             "related 0",
             "environment e",
@@ -38,46 +32,25 @@ static CASES: [Case; 19] = [
             "service f1 flaky off ready",
             "answer none",
             "end",
-        ],
-        status: Status::No,
-    },
-    Case {
-        name: "no services",
-        files: &[("lamp.json", Text::Bare)],
-        words: &["synth", "lamp.json"],
-        input: &[],
-        output: &[
+        ]),
+    ),
+    (
+        "no services",
+        Text::Bare,
+        Done(&[
             "pairs 1",
             "related 1",
             "environment e",
             "target t final",
             "answer composition",
             "end",
-        ],
-        status: Status::Done,
-    },
-    Case {
-        name: "nothing asked",
-        files: &[("lamp.json", Text::NoOn)],
-        words: &["synth", "lamp.json"],
-        input: &[],
-        output: &[
-            "pairs 4",
-            "related 2",
-            "environment e",
-            "target off final",
-            "service l1 lamp off ready",
-            "answer composition",
-            "end",
-        ],
-        status: Status::Done,
-    },
-    Case {
-        name: "started elsewhere",
-        files: &[("lamp.json", Text::LampOn)],
-        words: &["synth", "lamp.json"],
-        input: &[],
-        output: &[
+        ]),
+    ),
+    ("nothing asked", Text::NoOn, Done(UNASKED_LINES)),
+    (
+        "started elsewhere",
+        Text::LampOn,
+        No(&[
             "pairs 4",
             "related 2",
             "environment e",
@@ -85,15 +58,12 @@ static CASES: [Case; 19] = [
             "service l1 lamp on ready",
             "answer none",
             "end",
-        ],
-        status: Status::No,
-    },
-    Case {
-        name: "started frozen",
-        files: &[("lamp.json", Text::LampFrozen)],
-        words: &["synth", "lamp.json"],
-        input: &[],
-        output: &[
+        ]),
+    ),
+    (
+        "started frozen",
+        Text::LampFrozen,
+        No(&[
             "pairs 4",
             "related 0",
             "environment e",
@@ -101,39 +71,12 @@ static CASES: [Case; 19] = [
             "service l1 lamp off frozen",
             "answer none",
             "end",
-        ],
-        status: Status::No,
-    },
-    Case {
-        name: "no system",
-        files: &[("lamp.json", Text::Lamp)],
-        words: &["synth"],
-        input: &[],
-        output: &[USAGE],
-        status: Status::Usage,
-    },
-    Case {
-        name: "no command",
-        files: &[("lamp.json", Text::Lamp)],
-        words: &["fly", "lamp.json"],
-        input: &[],
-        output: &[USAGE],
-        status: Status::Usage,
-    },
-    Case {
-        name: "no words",
-        files: &[("lamp.json", Text::Lamp)],
-        words: &[],
-        input: &[],
-        output: &[USAGE],
-        status: Status::Usage,
-    },
-    Case {
-        name: "eighteen lamps",
-        files: &[("lamp.json", Text::Lamps18)],
-        words: &["synth", "lamp.json"],
-        input: &[],
-        output: &[
+        ]),
+    ),
+    (
+        "eighteen lamps",
+        Text::Lamps18,
+        Done(&[
             "pairs 524288",
             "related 19",
             "environment e",
@@ -159,39 +102,19 @@ static CASES: [Case; 19] = [
             "answer composition",
             "offer on: l1 l2 l3 l4 l5 l6 l7 l8 l9 l10 l11 l12 l13 l14 l15 l16 l17 l18",
             "end",
-        ],
-        status: Status::Done,
-    },
-    Case {
-        name: "twenty-two lamps",
-        files: &[("lamp.json", Text::Lamps22)],
-        words: &["synth", "lamp.json"],
-        input: &[],
-        output: &["limit 16777215"],
-        status: Status::Limit,
-    },
-    Case {
-        name: "a limit past the greatest",
-        files: &[("lamp.json", Text::LimitGreater)],
-        words: &["synth", "lamp.json"],
-        input: &[],
-        output: &["refused lamp.json count system 0 limit 0"],
-        status: Status::Refused,
-    },
-    Case {
-        name: "wide services",
-        files: &[("lamp.json", Text::Wide32)],
-        words: &["synth", "lamp.json"],
-        input: &[],
-        output: &["limit 262144"],
-        status: Status::Limit,
-    },
-    Case {
-        name: "a loose service",
-        files: &[("lamp.json", Text::LampAndLooseX)],
-        words: &["synth", "lamp.json"],
-        input: &[],
-        output: &[
+        ]),
+    ),
+    ("twenty-two lamps", Text::Lamps22, Limit("16777215")),
+    (
+        "a limit past the greatest",
+        Text::LimitGreater,
+        Refused("lamp.json count system 0 limit 0"),
+    ),
+    ("wide services", Text::Wide32, Limit("262144")),
+    (
+        "a loose service",
+        Text::LampAndLooseX,
+        Done(&[
             "pairs 8",
             "related 4",
             "environment e",
@@ -201,58 +124,54 @@ static CASES: [Case; 19] = [
             "answer composition",
             "offer on: l1",
             "end",
-        ],
-        status: Status::Done,
-    },
-    Case {
-        name: "a limit that is just met",
-        files: &[("lamp.json", Text::Limit8)],
-        words: &["synth", "lamp.json"],
-        input: &[],
-        output: &[
-            "pairs 4",
-            "related 2",
+        ]),
+    ),
+    ("a limit that is just met", Text::Limit8, Done(LAMP_LINES)),
+    ("guards of other words", Text::OtherGuards, Done(LAMP_LINES)),
+    (
+        "a guard that is false",
+        Text::FalseGuard,
+        Done(UNASKED_LINES),
+    ),
+    (
+        "a service that is frozen and loose",
+        Text::FrozenAndLoose,
+        Done(&[
+            "pairs 8",
+            "related 4",
             "environment e",
             "target off final",
             "service l1 lamp off ready",
+            "service x x bad frozen loose",
             "answer composition",
             "offer on: l1",
             "end",
-        ],
-        status: Status::Done,
+        ]),
+    ),
+];
+
+/// Words that are no command, and parts in files.
+static CASES: [Case; 4] = [
+    Case {
+        name: "no system",
+        files: &[("lamp.json", Text::Lamp)],
+        words: &["synth"],
+        input: &[],
+        comes_to: Usage,
     },
     Case {
-        name: "guards of other words",
-        files: &[("lamp.json", Text::OtherGuards)],
-        words: &["synth", "lamp.json"],
+        name: "no command",
+        files: &[("lamp.json", Text::Lamp)],
+        words: &["fly", "lamp.json"],
         input: &[],
-        output: &[
-            "pairs 4",
-            "related 2",
-            "environment e",
-            "target off final",
-            "service l1 lamp off ready",
-            "answer composition",
-            "offer on: l1",
-            "end",
-        ],
-        status: Status::Done,
+        comes_to: Usage,
     },
     Case {
-        name: "a guard that is false",
-        files: &[("lamp.json", Text::FalseGuard)],
-        words: &["synth", "lamp.json"],
+        name: "no words",
+        files: &[("lamp.json", Text::Lamp)],
+        words: &[],
         input: &[],
-        output: &[
-            "pairs 4",
-            "related 2",
-            "environment e",
-            "target off final",
-            "service l1 lamp off ready",
-            "answer composition",
-            "end",
-        ],
-        status: Status::Done,
+        comes_to: Usage,
     },
     Case {
         name: "an environment and a behaviour in files",
@@ -263,40 +182,18 @@ static CASES: [Case; 19] = [
         ],
         words: &["synth", "lamp.json"],
         input: &[],
-        output: &[
-            "pairs 4",
-            "related 2",
-            "environment e",
-            "target off final",
-            "service l1 lamp off ready",
-            "answer composition",
-            "offer on: l1",
-            "end",
-        ],
-        status: Status::Done,
-    },
-    Case {
-        name: "a service that is frozen and loose",
-        files: &[("lamp.json", Text::FrozenAndLoose)],
-        words: &["synth", "lamp.json"],
-        input: &[],
-        output: &[
-            "pairs 8",
-            "related 4",
-            "environment e",
-            "target off final",
-            "service l1 lamp off ready",
-            "service x x bad frozen loose",
-            "answer composition",
-            "offer on: l1",
-            "end",
-        ],
-        status: Status::Done,
+        comes_to: Done(LAMP_LINES),
     },
 ];
 
 #[test]
 fn systems_are_composed(rt: HostRuntime) -> Result<(), Fail> {
+    let runs = Runs {
+        rows: &ROWS,
+        ..SYNTH
+    };
+    let wrong = first_row::<Brand>(rt.alloc(), &runs, Blank::new(1))?;
+    assert_eq!(rt; wrong.as_str(), "");
     let wrong = first_wrong::<Brand>(rt.alloc(), &CASES, Blank::new(1))?;
     assert_eq!(rt; wrong.as_str(), "");
     Ok(())

@@ -1,5 +1,6 @@
 //! The texts of the examples, each as the pieces that it is made of: what a text changes stands on a line
 //! of its own.
+use crate::texts::Content::{Parts, Whole};
 use std::alloc::{AllocError, Global};
 
 /// The beginning of a document of version 1.
@@ -14,6 +15,10 @@ const VERSION_3: &[u8] = br#"{"roman":3"#;
 /// One state, in which both actions stay.
 const ENVIRONMENT: &[u8] =
     br#","environment":{"states":["e"],"start":"e","actions":["on","off"],"steps":[["e","on","e"],["e","off","e"]]}"#;
+
+/// One state without steps.
+const ONE_ACTION: &[u8] =
+    br#","environment":{"states":["e"],"start":"e","actions":["on"],"steps":[]}"#;
 
 /// Three states, in each of which both actions stay.
 const THREE_STATES: &[u8] =
@@ -69,6 +74,10 @@ const W1_TO_W16: &[u8] =
 const W17_TO_W31: &[u8] =
     br#",{"name":"w17","behaviour":"wide"},{"name":"w18","behaviour":"wide"},{"name":"w19","behaviour":"wide"},{"name":"w20","behaviour":"wide"},{"name":"w21","behaviour":"wide"},{"name":"w22","behaviour":"wide"},{"name":"w23","behaviour":"wide"},{"name":"w24","behaviour":"wide"},{"name":"w25","behaviour":"wide"},{"name":"w26","behaviour":"wide"},{"name":"w27","behaviour":"wide"},{"name":"w28","behaviour":"wide"},{"name":"w29","behaviour":"wide"},{"name":"w30","behaviour":"wide"},{"name":"w31","behaviour":"wide"}"#;
 
+/// Fourteen services of two states.
+const A_TO_N: &[u8] =
+    br#"{"name":"a","behaviour":"two"},{"name":"b","behaviour":"two"},{"name":"c","behaviour":"two"},{"name":"d","behaviour":"two"},{"name":"e","behaviour":"two"},{"name":"f","behaviour":"two"},{"name":"g","behaviour":"two"},{"name":"h","behaviour":"two"},{"name":"i","behaviour":"two"},{"name":"j","behaviour":"two"},{"name":"k","behaviour":"two"},{"name":"l","behaviour":"two"},{"name":"m","behaviour":"two"},{"name":"n","behaviour":"two"}"#;
+
 /// Up to the target.
 const TARGET: &[u8] = br#"],"target":"#;
 
@@ -112,6 +121,75 @@ const END_TARGETS: &[u8] = br#"]}"#;
 
 /// The beginning of a certificate for FLAKY.
 const ORDER: &[u8] = b"roman-order 1\npairs 6\n";
+
+/// Pieces of a text, one behind another.
+type Pieces = &'static [&'static [u8]];
+
+/// A document in its parts.
+#[derive(Clone, Copy)]
+struct Document {
+    /// Its version.
+    version: &'static [u8],
+    /// Its limit, if it has one.
+    limit: &'static [u8],
+    /// Its environment.
+    environment: &'static [u8],
+    /// Its behaviours.
+    behaviours: Pieces,
+    /// Its services.
+    services: Pieces,
+    /// What leads from the services to the target.
+    opening: &'static [u8],
+    /// Its target, or its targets.
+    target: Pieces,
+    /// Its end.
+    end: &'static [u8],
+}
+
+/// One lamp, and a target that is a lamp.
+const PLAIN: Document = Document {
+    version: VERSION_1,
+    limit: b"",
+    environment: ENVIRONMENT,
+    behaviours: &[LAMP],
+    services: &[FIRST_LAMP],
+    opening: TARGET,
+    target: &[SWITCHED],
+    end: END,
+};
+
+/// Two lamps, and two targets that are lamps.
+const TWO: Document = Document {
+    version: VERSION_3,
+    limit: b"",
+    environment: ENVIRONMENT,
+    behaviours: &[LAMP],
+    services: &[FIRST_LAMP, SECOND_LAMP],
+    opening: TARGETS,
+    target: &[TARGET_A, NEXT, TARGET_B],
+    end: END_TARGETS,
+};
+
+/// Fourteen services of two states, and a target that asks for nothing.
+const MANY: Document = Document {
+    version: VERSION_1,
+    limit: b"",
+    environment: ONE_ACTION,
+    behaviours: &[br#"{"name":"two","states":["s","t"],"start":"s","final":[],"steps":[]}"#],
+    services: &[A_TO_N],
+    opening: TARGET,
+    target: &[br#"{"states":["a","b"],"start":"a","final":["b"],"steps":[]}"#],
+    end: END,
+};
+
+/// What a text is made of.
+#[derive(Clone, Copy)]
+enum Content {
+    /// The parts of a document.
+    Parts(Document),
+    /// These pieces.
+    Whole(Pieces),
+}
 
 /// A text.
 #[derive(Clone, Copy)]
@@ -288,1002 +366,566 @@ pub(crate) enum Text {
     Roman4,
     /// A certificate for FLAKY: empty.
     Nothing,
+    /// LAMP with a further behaviour, the same machine, and a second service of it.
+    Spare,
+    /// Fourteen services of two states, and a target that asks for nothing: 16,384 related pairs with
+    /// the target state `a`, and with `b`, which is final, none.
+    Many,
+    /// The same, with one related pair more: that with `b` in which all services are final.
+    OneMore,
+}
+
+impl Document {
+    /// Adds its bytes to a text.
+    fn push_to(self, text: &mut Vec<u8>) -> Result<(), AllocError> {
+        push(
+            text,
+            &[self.version, self.limit, self.environment, BEHAVIOURS],
+        )?;
+        push(text, self.behaviours)?;
+        push(text, &[SERVICES])?;
+        push(text, self.services)?;
+        push(text, &[self.opening])?;
+        push(text, self.target)?;
+        push(text, &[self.end])
+    }
 }
 
 impl Text {
     /// Its bytes.
     pub(crate) fn bytes(self, alloc: Global) -> Result<Vec<u8>, AllocError> {
         let mut bytes = Vec::new(alloc);
-        for piece in self.pieces() {
-            bytes.extend_from_slice(piece)?;
+        match self.content() {
+            Parts(document) => document.push_to(&mut bytes)?,
+            Whole(pieces) => push(&mut bytes, pieces)?,
         }
         Ok(bytes)
     }
 
-    /// The pieces that it is made of.
-    fn pieces(self) -> &'static [&'static [u8]] {
+    /// What it is made of.
+    fn content(self) -> Content {
         match self {
-            Text::Lamp => &[
-                VERSION_1,
-                ENVIRONMENT,
-                BEHAVIOURS,
-                LAMP,
-                SERVICES,
-                FIRST_LAMP,
-                TARGET,
-                SWITCHED,
-                END,
-            ],
-            Text::Flaky => &[
-                VERSION_1,
-                ENVIRONMENT,
-                BEHAVIOURS,
-                LAMP,
-                FLAKY,
-                SERVICES,
-                br#"{"name":"f1","behaviour":"flaky"}"#,
-                TARGET,
-                SWITCHED,
-                END,
-            ],
-            Text::Workshop => &[
+            Text::Lamp => Parts(PLAIN),
+            Text::Flaky => Parts(Document {
+                behaviours: &[LAMP, FLAKY],
+                services: &[br#"{"name":"f1","behaviour":"flaky"}"#],
+                ..PLAIN
+            }),
+            Text::Workshop => Whole(&[
                 br#"{"roman":1,"environment":{"states":["full","half","low","spilt"],"start":"full","actions":["clean","dip","paint","recharge"],"steps":[["full","clean","full"],["half","clean","half"],["low","clean","low"],["spilt","clean","low"],["full","dip","half"],["half","dip","low"],["half","dip","spilt"],["full","paint","full"],["half","paint","half"],["low","paint","low"],["full","recharge","full"],["half","recharge","full"],["low","recharge","full"],["spilt","recharge","full"]]}"#,
                 br#","behaviours":[{"name":"cleaner","states":["fresh","worn"],"start":"fresh","final":["fresh","worn"],"steps":[["fresh",true,"clean","fresh"],["fresh",true,"clean","worn"],["fresh",true,"recharge","fresh"],["worn",true,"recharge","fresh"]]}"#,
                 br#",{"name":"dipper","states":["free","loaded"],"start":"free","final":["free"],"steps":[["free",true,"dip","loaded"],["loaded",true,"paint","free"]]}"#,
                 br#",{"name":"allround","states":["free","loaded"],"start":"free","final":["free"],"steps":[["free",true,"dip","loaded"],["loaded",true,"paint","free"],["free",true,"recharge","free"],["free",{"not":["spilt"]},"clean","free"]]}"#,
                 br#"],"services":[{"name":"arm1","behaviour":"cleaner"},{"name":"arm2","behaviour":"dipper"},{"name":"arm3","behaviour":"allround"}"#,
                 br#"],"target":{"states":["rest","cleaned","dipped","painted","tidied"],"start":"rest","final":["rest"],"steps":[["rest",true,"clean","cleaned"],["cleaned",true,"dip","dipped"],["cleaned",["low","spilt"],"recharge","cleaned"],["dipped",true,"paint","painted"],["dipped",["spilt"],"clean","dipped"],["painted",true,"clean","tidied"],["tidied",true,"recharge","rest"]]}}"#,
-            ],
-            Text::Bare => &[
-                VERSION_1,
-                ENVIRONMENT,
-                BEHAVIOURS,
-                LAMP,
-                SERVICES,
-                TARGET,
-                br#"{"states":["t"],"start":"t","final":["t"],"steps":[]}"#,
-                END,
-            ],
-            Text::NoOn => &[
-                VERSION_1,
-                br#","environment":{"states":["e"],"start":"e","actions":["on","off"],"steps":[["e","off","e"]]}"#,
-                BEHAVIOURS,
-                LAMP,
-                SERVICES,
-                FIRST_LAMP,
-                TARGET,
-                SWITCHED,
-                END,
-            ],
-            Text::LampOn => &[
-                VERSION_1,
-                ENVIRONMENT,
-                BEHAVIOURS,
-                LAMP,
-                SERVICES,
-                br#"{"name":"l1","behaviour":"lamp","state":"on"}"#,
-                TARGET,
-                SWITCHED,
-                END,
-            ],
-            Text::LampFrozen => &[
-                VERSION_1,
-                ENVIRONMENT,
-                BEHAVIOURS,
-                LAMP,
-                SERVICES,
-                br#"{"name":"l1","behaviour":"lamp","frozen":true}"#,
-                TARGET,
-                SWITCHED,
-                END,
-            ],
-            Text::Lamps18 => &[
-                VERSION_1,
-                br#","limit":16777216"#,
-                ENVIRONMENT,
-                BEHAVIOURS,
-                LAMP,
-                SERVICES,
-                FIRST_LAMP,
-                SECOND_LAMP,
-                THIRD_TO_EIGHTEENTH,
-                TARGET,
-                SWITCHED,
-                END,
-            ],
-            Text::Lamps22 => &[
-                VERSION_1,
-                br#","limit":16777215"#,
-                ENVIRONMENT,
-                BEHAVIOURS,
-                LAMP,
-                SERVICES,
-                FIRST_LAMP,
-                SECOND_LAMP,
-                THIRD_TO_EIGHTEENTH,
-                NINETEENTH_TO_LAST,
-                TARGET,
-                SWITCHED,
-                END,
-            ],
-            Text::Limit7 => &[
-                VERSION_1,
-                br#","limit":7"#,
-                ENVIRONMENT,
-                BEHAVIOURS,
-                LAMP,
-                SERVICES,
-                FIRST_LAMP,
-                TARGET,
-                SWITCHED,
-                END,
-            ],
-            Text::Limit8 => &[
-                VERSION_1,
-                br#","limit":8"#,
-                ENVIRONMENT,
-                BEHAVIOURS,
-                LAMP,
-                SERVICES,
-                FIRST_LAMP,
-                TARGET,
-                SWITCHED,
-                END,
-            ],
-            Text::Limit0 => &[
-                VERSION_1,
-                br#","limit":0"#,
-                ENVIRONMENT,
-                BEHAVIOURS,
-                LAMP,
-                SERVICES,
-                FIRST_LAMP,
-                TARGET,
-                SWITCHED,
-                END,
-            ],
-            Text::LimitGreater => &[
-                VERSION_1,
-                br#","limit":16777217"#,
-                ENVIRONMENT,
-                BEHAVIOURS,
-                LAMP,
-                SERVICES,
-                FIRST_LAMP,
-                TARGET,
-                SWITCHED,
-                END,
-            ],
-            Text::LimitHuge => &[
-                VERSION_1,
-                br#","limit":18446744073709551616"#,
-                ENVIRONMENT,
-                BEHAVIOURS,
-                LAMP,
-                SERVICES,
-                FIRST_LAMP,
-                TARGET,
-                SWITCHED,
-                END,
-            ],
-            Text::Wide32 => &[
-                VERSION_1,
-                ENVIRONMENT,
-                BEHAVIOURS,
-                LAMP,
-                WIDE,
-                SERVICES,
-                br#"{"name":"w0","behaviour":"wide"}"#,
-                W1_TO_W16,
-                W17_TO_W31,
-                TARGET,
-                SWITCHED,
-                END,
-            ],
-            Text::Wide16 => &[
-                VERSION_1,
-                ENVIRONMENT,
-                BEHAVIOURS,
-                LAMP,
-                WIDE,
-                SERVICES,
-                FIRST_LAMP,
-                W1_TO_W16,
-                TARGET,
-                SWITCHED,
-                END,
-            ],
-            Text::LampAndX => &[
-                VERSION_1,
-                ENVIRONMENT,
-                BEHAVIOURS,
-                LAMP,
-                X,
-                SERVICES,
-                FIRST_LAMP,
-                br#",{"name":"x","behaviour":"x"}"#,
-                TARGET,
-                SWITCHED,
-                END,
-            ],
-            Text::LampAndLooseX => &[
-                VERSION_2,
-                ENVIRONMENT,
-                BEHAVIOURS,
-                LAMP,
-                X,
-                SERVICES,
-                FIRST_LAMP,
-                br#",{"name":"x","behaviour":"x","state":"bad","rests":false}"#,
-                TARGET,
-                SWITCHED,
-                END,
-            ],
-            Text::Rests1 => &[
-                VERSION_2,
-                ENVIRONMENT,
-                BEHAVIOURS,
-                LAMP,
-                X,
-                SERVICES,
-                FIRST_LAMP,
-                br#",{"name":"x","behaviour":"x","state":"bad","rests":1}"#,
-                TARGET,
-                SWITCHED,
-                END,
-            ],
-            Text::RestsIgnored => &[
-                VERSION_1,
-                ENVIRONMENT,
-                BEHAVIOURS,
-                LAMP,
-                X,
-                SERVICES,
-                FIRST_LAMP,
-                br#",{"name":"x","behaviour":"x","state":"bad","rests":1}"#,
-                TARGET,
-                SWITCHED,
-                END,
-            ],
-            Text::Full => &[
-                VERSION_1,
-                ENVIRONMENT,
-                BEHAVIOURS,
-                LAMP,
-                DOT,
-                SERVICES,
-                FIRST_LAMP,
-                D1_TO_D31,
-                TARGET,
-                SWITCHED,
-                END,
-            ],
-            Text::Overfull => &[
-                VERSION_1,
-                ENVIRONMENT,
-                BEHAVIOURS,
-                LAMP,
-                DOT,
-                SERVICES,
-                FIRST_LAMP,
-                D1_TO_D31,
-                br#",{"name":"d32","behaviour":"dot"}"#,
-                TARGET,
-                SWITCHED,
-                END,
-            ],
-            Text::TwoLamps => &[
-                VERSION_1,
-                ENVIRONMENT,
-                BEHAVIOURS,
-                LAMP,
-                SERVICES,
-                FIRST_LAMP,
-                SECOND_LAMP,
-                TARGET,
-                SWITCHED,
-                END,
-            ],
-            Text::Choice => &[
-                VERSION_1,
-                THREE_STATES,
-                BEHAVIOURS,
-                LAMP,
-                SERVICES,
-                FIRST_LAMP,
-                TARGET,
-                br#"{"states":["off","on"],"start":"off","final":["off"],"steps":[["off",["e1","e2"],"on","on"],["off",["e2","e3"],"on","off"],["on",true,"off","off"]]}"#,
-                END,
-            ],
-            Text::NoChoice => &[
-                VERSION_1,
-                THREE_STATES,
-                BEHAVIOURS,
-                LAMP,
-                SERVICES,
-                FIRST_LAMP,
-                TARGET,
-                br#"{"states":["off","on"],"start":"off","final":["off"],"steps":[["off",["e1","e2"],"on","on"],["off",["e3"],"on","off"],["on",true,"off","off"]]}"#,
-                END,
-            ],
-            Text::TargetByFile => &[
-                VERSION_1,
-                ENVIRONMENT,
-                BEHAVIOURS,
-                LAMP,
-                SERVICES,
-                FIRST_LAMP,
-                TARGET,
-                br#"{"file":"t.json"}"#,
-                END,
-            ],
-            Text::Target => &[SWITCHED],
-            Text::TargetDim => &[
+            ]),
+            Text::Bare => Parts(Document {
+                services: &[],
+                target: &[br#"{"states":["t"],"start":"t","final":["t"],"steps":[]}"#],
+                ..PLAIN
+            }),
+            Text::NoOn => Parts(Document {
+                environment: br#","environment":{"states":["e"],"start":"e","actions":["on","off"],"steps":[["e","off","e"]]}"#,
+                ..PLAIN
+            }),
+            Text::LampOn => Parts(Document {
+                services: &[br#"{"name":"l1","behaviour":"lamp","state":"on"}"#],
+                ..PLAIN
+            }),
+            Text::LampFrozen => Parts(Document {
+                services: &[br#"{"name":"l1","behaviour":"lamp","frozen":true}"#],
+                ..PLAIN
+            }),
+            Text::Lamps18 => Parts(Document {
+                limit: br#","limit":16777216"#,
+                services: &[FIRST_LAMP, SECOND_LAMP, THIRD_TO_EIGHTEENTH],
+                ..PLAIN
+            }),
+            Text::Lamps22 => Parts(Document {
+                limit: br#","limit":16777215"#,
+                services: &[
+                    FIRST_LAMP,
+                    SECOND_LAMP,
+                    THIRD_TO_EIGHTEENTH,
+                    NINETEENTH_TO_LAST,
+                ],
+                ..PLAIN
+            }),
+            Text::Limit7 => Parts(Document {
+                limit: br#","limit":7"#,
+                ..PLAIN
+            }),
+            Text::Limit8 => Parts(Document {
+                limit: br#","limit":8"#,
+                ..PLAIN
+            }),
+            Text::Limit0 => Parts(Document {
+                limit: br#","limit":0"#,
+                ..PLAIN
+            }),
+            Text::LimitGreater => Parts(Document {
+                limit: br#","limit":16777217"#,
+                ..PLAIN
+            }),
+            Text::LimitHuge => Parts(Document {
+                limit: br#","limit":18446744073709551616"#,
+                ..PLAIN
+            }),
+            Text::Wide32 => Parts(Document {
+                behaviours: &[LAMP, WIDE],
+                services: &[
+                    br#"{"name":"w0","behaviour":"wide"}"#,
+                    W1_TO_W16,
+                    W17_TO_W31,
+                ],
+                ..PLAIN
+            }),
+            Text::Wide16 => Parts(Document {
+                behaviours: &[LAMP, WIDE],
+                services: &[FIRST_LAMP, W1_TO_W16],
+                ..PLAIN
+            }),
+            Text::LampAndX => Parts(Document {
+                behaviours: &[LAMP, X],
+                services: &[FIRST_LAMP, br#",{"name":"x","behaviour":"x"}"#],
+                ..PLAIN
+            }),
+            Text::LampAndLooseX => Parts(Document {
+                version: VERSION_2,
+                behaviours: &[LAMP, X],
+                services: &[
+                    FIRST_LAMP,
+                    br#",{"name":"x","behaviour":"x","state":"bad","rests":false}"#,
+                ],
+                ..PLAIN
+            }),
+            Text::Rests1 => Parts(Document {
+                version: VERSION_2,
+                behaviours: &[LAMP, X],
+                services: &[
+                    FIRST_LAMP,
+                    br#",{"name":"x","behaviour":"x","state":"bad","rests":1}"#,
+                ],
+                ..PLAIN
+            }),
+            Text::RestsIgnored => Parts(Document {
+                behaviours: &[LAMP, X],
+                services: &[
+                    FIRST_LAMP,
+                    br#",{"name":"x","behaviour":"x","state":"bad","rests":1}"#,
+                ],
+                ..PLAIN
+            }),
+            Text::Full => Parts(Document {
+                behaviours: &[LAMP, DOT],
+                services: &[FIRST_LAMP, D1_TO_D31],
+                ..PLAIN
+            }),
+            Text::Overfull => Parts(Document {
+                behaviours: &[LAMP, DOT],
+                services: &[
+                    FIRST_LAMP,
+                    D1_TO_D31,
+                    br#",{"name":"d32","behaviour":"dot"}"#,
+                ],
+                ..PLAIN
+            }),
+            Text::TwoLamps => Parts(Document {
+                services: &[FIRST_LAMP, SECOND_LAMP],
+                ..PLAIN
+            }),
+            Text::Choice => Parts(Document {
+                environment: THREE_STATES,
+                target: &[
+                    br#"{"states":["off","on"],"start":"off","final":["off"],"steps":[["off",["e1","e2"],"on","on"],["off",["e2","e3"],"on","off"],["on",true,"off","off"]]}"#,
+                ],
+                ..PLAIN
+            }),
+            Text::NoChoice => Parts(Document {
+                environment: THREE_STATES,
+                target: &[
+                    br#"{"states":["off","on"],"start":"off","final":["off"],"steps":[["off",["e1","e2"],"on","on"],["off",["e3"],"on","off"],["on",true,"off","off"]]}"#,
+                ],
+                ..PLAIN
+            }),
+            Text::TargetByFile => Parts(Document {
+                target: &[br#"{"file":"t.json"}"#],
+                ..PLAIN
+            }),
+            Text::Target => Whole(&[SWITCHED]),
+            Text::TargetDim => Whole(&[
                 br#"{"states":["off","on"],"start":"off","final":["off"],"steps":[["off",true,"on","on"],["on",true,"dim","off"]]}"#,
-            ],
-            Text::FileAgain => &[br#"{"file":"u.json"}"#],
-            Text::TargetGone => &[
-                VERSION_1,
-                ENVIRONMENT,
-                BEHAVIOURS,
-                LAMP,
-                SERVICES,
-                FIRST_LAMP,
-                TARGET,
-                br#"{"file":"gone.json"}"#,
-                END,
-            ],
-            Text::TargetGoneLimit0 => &[
-                VERSION_1,
-                br#","limit":0"#,
-                ENVIRONMENT,
-                BEHAVIOURS,
-                LAMP,
-                SERVICES,
-                FIRST_LAMP,
-                TARGET,
-                br#"{"file":"gone.json"}"#,
-                END,
-            ],
-            Text::Roman9 => &[
-                br#"{"roman":9"#,
-                ENVIRONMENT,
-                BEHAVIOURS,
-                LAMP,
-                SERVICES,
-                FIRST_LAMP,
-                TARGET,
-                SWITCHED,
-                END,
-            ],
-            Text::Roman2 => &[
-                VERSION_2,
-                ENVIRONMENT,
-                BEHAVIOURS,
-                LAMP,
-                SERVICES,
-                FIRST_LAMP,
-                TARGET,
-                SWITCHED,
-                END,
-            ],
-            Text::OnTwice => &[
-                VERSION_1,
-                br#","environment":{"states":["e"],"start":"e","actions":["on","on"],"steps":[["e","on","e"],["e","off","e"]]}"#,
-                BEHAVIOURS,
-                LAMP,
-                SERVICES,
-                FIRST_LAMP,
-                TARGET,
-                SWITCHED,
-                END,
-            ],
-            Text::NoTarget => &[
-                VERSION_1,
-                ENVIRONMENT,
-                BEHAVIOURS,
-                LAMP,
-                SERVICES,
-                FIRST_LAMP,
-                br#"]"#,
-                END,
-            ],
-            Text::NoGuard => &[
-                VERSION_1,
-                ENVIRONMENT,
-                BEHAVIOURS,
-                LAMP,
-                SERVICES,
-                FIRST_LAMP,
-                TARGET,
-                SWITCHED_UP_TO_GUARD,
-                br#"{"any":["e"]}"#,
-                SWITCHED_FROM_GUARD,
-                END,
-            ],
-            Text::Not100 => &[
-                VERSION_1,
-                ENVIRONMENT,
-                BEHAVIOURS,
-                LAMP,
-                SERVICES,
-                FIRST_LAMP,
-                TARGET,
-                SWITCHED_UP_TO_GUARD,
-                NOT_20,
-                NOT_20,
-                NOT_20,
-                NOT_20,
-                NOT_20,
-                br#"true"#,
-                END_20,
-                END_20,
-                END_20,
-                END_20,
-                END_20,
-                SWITCHED_FROM_GUARD,
-                END,
-            ],
-            Text::Not200 => &[
-                VERSION_1,
-                ENVIRONMENT,
-                BEHAVIOURS,
-                LAMP,
-                SERVICES,
-                FIRST_LAMP,
-                TARGET,
-                SWITCHED_UP_TO_GUARD,
-                NOT_20,
-                NOT_20,
-                NOT_20,
-                NOT_20,
-                NOT_20,
-                NOT_20,
-                NOT_20,
-                NOT_20,
-                NOT_20,
-                NOT_20,
-                br#"true"#,
-                END_20,
-                END_20,
-                END_20,
-                END_20,
-                END_20,
-                END_20,
-                END_20,
-                END_20,
-                END_20,
-                END_20,
-                SWITCHED_FROM_GUARD,
-                END,
-            ],
-            Text::Lamp255 => &[
-                VERSION_1,
-                ENVIRONMENT,
-                BEHAVIOURS,
-                LAMP,
-                SERVICES,
-                FIRST_LAMP,
-                TARGET,
-                SWITCHED,
-                b"\xff",
-            ],
-            Text::FinalTwice => &[
-                VERSION_1,
-                ENVIRONMENT,
-                BEHAVIOURS,
-                LAMP,
-                SERVICES,
-                FIRST_LAMP,
-                TARGET,
-                br#"{"states":["off","on"],"start":"off","final":["off","off"],"steps":[["off",true,"on","on"],["on",true,"off","off"]]}"#,
-                END,
-            ],
-            Text::NoBehaviours => &[
-                VERSION_1,
-                ENVIRONMENT,
-                BEHAVIOURS,
-                SERVICES,
-                FIRST_LAMP,
-                TARGET,
-                SWITCHED,
-                END,
-            ],
-            Text::OtherGuards => &[
-                VERSION_1,
-                ENVIRONMENT,
-                BEHAVIOURS,
-                LAMP,
-                SERVICES,
-                FIRST_LAMP,
-                TARGET,
-                br#"{"states":["off","on"],"start":"off","final":["off"],"steps":["#,
-                br#"["off",{"any":[false,["e"]]},"on","on"],"#,
-                br#"["off",{"all":[true,false]},"off","on"],"#,
-                br#"["on",{"all":[true,{"not":[]}]},"off","off"]]}"#,
-                END,
-            ],
-            Text::FalseGuard => &[
-                VERSION_1,
-                ENVIRONMENT,
-                BEHAVIOURS,
-                LAMP,
-                SERVICES,
-                FIRST_LAMP,
-                TARGET,
-                SWITCHED_UP_TO_GUARD,
-                b"false",
-                SWITCHED_FROM_GUARD,
-                END,
-            ],
-            Text::PartsByFile => &[
-                VERSION_1,
-                br#","environment":{"file":"e.json"}"#,
-                BEHAVIOURS,
-                br#"{"file":"b.json"}"#,
-                SERVICES,
-                FIRST_LAMP,
-                TARGET,
-                SWITCHED,
-                END,
-            ],
-            Text::Environment => &[
+            ]),
+            Text::FileAgain => Whole(&[br#"{"file":"u.json"}"#]),
+            Text::TargetGone => Parts(Document {
+                target: &[br#"{"file":"gone.json"}"#],
+                ..PLAIN
+            }),
+            Text::TargetGoneLimit0 => Parts(Document {
+                limit: br#","limit":0"#,
+                target: &[br#"{"file":"gone.json"}"#],
+                ..PLAIN
+            }),
+            Text::Roman9 => Parts(Document {
+                version: br#"{"roman":9"#,
+                ..PLAIN
+            }),
+            Text::Roman2 => Parts(Document {
+                version: VERSION_2,
+                ..PLAIN
+            }),
+            Text::OnTwice => Parts(Document {
+                environment: br#","environment":{"states":["e"],"start":"e","actions":["on","on"],"steps":[["e","on","e"],["e","off","e"]]}"#,
+                ..PLAIN
+            }),
+            Text::NoTarget => Parts(Document {
+                opening: br#"]"#,
+                target: &[],
+                ..PLAIN
+            }),
+            Text::NoGuard => Parts(Document {
+                target: &[
+                    SWITCHED_UP_TO_GUARD,
+                    br#"{"any":["e"]}"#,
+                    SWITCHED_FROM_GUARD,
+                ],
+                ..PLAIN
+            }),
+            Text::Not100 => Parts(Document {
+                target: &[
+                    SWITCHED_UP_TO_GUARD,
+                    NOT_20,
+                    NOT_20,
+                    NOT_20,
+                    NOT_20,
+                    NOT_20,
+                    br#"true"#,
+                    END_20,
+                    END_20,
+                    END_20,
+                    END_20,
+                    END_20,
+                    SWITCHED_FROM_GUARD,
+                ],
+                ..PLAIN
+            }),
+            Text::Not200 => Parts(Document {
+                target: &[
+                    SWITCHED_UP_TO_GUARD,
+                    NOT_20,
+                    NOT_20,
+                    NOT_20,
+                    NOT_20,
+                    NOT_20,
+                    NOT_20,
+                    NOT_20,
+                    NOT_20,
+                    NOT_20,
+                    NOT_20,
+                    br#"true"#,
+                    END_20,
+                    END_20,
+                    END_20,
+                    END_20,
+                    END_20,
+                    END_20,
+                    END_20,
+                    END_20,
+                    END_20,
+                    END_20,
+                    SWITCHED_FROM_GUARD,
+                ],
+                ..PLAIN
+            }),
+            Text::Lamp255 => Parts(Document {
+                end: b"\xff",
+                ..PLAIN
+            }),
+            Text::FinalTwice => Parts(Document {
+                target: &[
+                    br#"{"states":["off","on"],"start":"off","final":["off","off"],"steps":[["off",true,"on","on"],["on",true,"off","off"]]}"#,
+                ],
+                ..PLAIN
+            }),
+            Text::NoBehaviours => Parts(Document {
+                behaviours: &[],
+                ..PLAIN
+            }),
+            Text::OtherGuards => Parts(Document {
+                target: &[
+                    br#"{"states":["off","on"],"start":"off","final":["off"],"steps":["#,
+                    br#"["off",{"any":[false,["e"]]},"on","on"],"#,
+                    br#"["off",{"all":[true,false]},"off","on"],"#,
+                    br#"["on",{"all":[true,{"not":[]}]},"off","off"]]}"#,
+                ],
+                ..PLAIN
+            }),
+            Text::FalseGuard => Parts(Document {
+                target: &[SWITCHED_UP_TO_GUARD, b"false", SWITCHED_FROM_GUARD],
+                ..PLAIN
+            }),
+            Text::PartsByFile => Parts(Document {
+                environment: br#","environment":{"file":"e.json"}"#,
+                behaviours: &[br#"{"file":"b.json"}"#],
+                ..PLAIN
+            }),
+            Text::Environment => Whole(&[
                 br#"{"states":["e"],"start":"e","actions":["on","off"],"#,
                 br#""steps":[["e","on","e"],["e","off","e"]]}"#,
-            ],
-            Text::Behaviour => &[LAMP],
-            Text::FrozenAndLoose => &[
-                VERSION_2,
-                ENVIRONMENT,
-                BEHAVIOURS,
-                LAMP,
-                X,
-                SERVICES,
-                FIRST_LAMP,
-                br#",{"name":"x","behaviour":"x","state":"bad","frozen":true,"rests":false}"#,
-                TARGET,
-                SWITCHED,
-                END,
-            ],
-            Text::Order => &[ORDER, b"1 f\n2 0\n3 1\n5 1\n0 0\n4 1\nend\n"],
-            Text::OrderExchanged => &[ORDER, b"1 f\n2 0\n3 1\n0 0\n5 1\n4 1\nend\n"],
-            Text::OrderShort => &[ORDER, b"1 f\n2 0\n3 1\n5 1\n0 0\nend\n"],
-            Text::OrderUnended => &[ORDER, b"1 f\n2 0\n3 1\n5 1\n0 0\n4 1\n"],
-            Text::OrderTwice => &[ORDER, b"1 f\n1 f\n2 0\n3 1\n5 1\n0 0\n4 1\nend\n"],
-            Text::Two => &[
-                VERSION_3,
-                ENVIRONMENT,
-                BEHAVIOURS,
-                LAMP,
-                SERVICES,
-                FIRST_LAMP,
-                SECOND_LAMP,
-                TARGETS,
-                TARGET_A,
-                NEXT,
-                TARGET_B,
-                END_TARGETS,
-            ],
-            Text::TwoLoneLamp => &[
-                VERSION_3,
-                ENVIRONMENT,
-                BEHAVIOURS,
-                LAMP,
-                SERVICES,
-                FIRST_LAMP,
-                TARGETS,
-                TARGET_A,
-                NEXT,
-                TARGET_B,
-                END_TARGETS,
-            ],
-            Text::OneOfTwo => &[
-                VERSION_3,
-                ENVIRONMENT,
-                BEHAVIOURS,
-                LAMP,
-                SERVICES,
-                FIRST_LAMP,
-                SECOND_LAMP,
-                TARGETS,
-                TARGET_A,
-                END_TARGETS,
-            ],
-            Text::NoneOfTwo => &[
-                VERSION_3,
-                ENVIRONMENT,
-                BEHAVIOURS,
-                LAMP,
-                SERVICES,
-                FIRST_LAMP,
-                SECOND_LAMP,
-                TARGETS,
-                END_TARGETS,
-            ],
-            Text::FiveTargets => &[
-                VERSION_3,
-                ENVIRONMENT,
-                BEHAVIOURS,
-                LAMP,
-                SERVICES,
-                FIRST_LAMP,
-                SECOND_LAMP,
-                TARGETS,
-                br#"{"file":"gone.json"}"#,
-                NEXT,
-                TARGET_A,
-                NEXT,
-                TARGET_B,
-                NEXT,
-                br#"{"name":"c","states":["off","on"],"start":"off","final":["off"],"steps":[["off",true,"on","on"],["on",true,"off","off"]]}"#,
-                NEXT,
-                br#"{"name":"d","states":["off","on"],"start":"off","final":["off"],"steps":[["off",true,"on","on"],["on",true,"off","off"]]}"#,
-                END_TARGETS,
-            ],
-            Text::TargetsGone => &[
-                VERSION_3,
-                ENVIRONMENT,
-                BEHAVIOURS,
-                LAMP,
-                SERVICES,
-                FIRST_LAMP,
-                SECOND_LAMP,
-                br#"]"#,
-                END,
-            ],
-            Text::TargetsNoList => &[
-                VERSION_3,
-                ENVIRONMENT,
-                BEHAVIOURS,
-                LAMP,
-                SERVICES,
-                FIRST_LAMP,
-                SECOND_LAMP,
-                br#"],"targets":{"a":"#,
-                TARGET_A,
-                br#"}"#,
-                END,
-            ],
-            Text::SecondByFile => &[
-                VERSION_3,
-                ENVIRONMENT,
-                BEHAVIOURS,
-                LAMP,
-                SERVICES,
-                FIRST_LAMP,
-                SECOND_LAMP,
-                TARGETS,
-                TARGET_A,
-                NEXT,
-                br#"{"file":"t.json"}"#,
-                END_TARGETS,
-            ],
-            Text::TargetB => &[TARGET_B],
-            Text::NamelessFirst => &[
-                VERSION_3,
-                ENVIRONMENT,
-                BEHAVIOURS,
-                LAMP,
-                SERVICES,
-                FIRST_LAMP,
-                SECOND_LAMP,
-                TARGETS,
-                SWITCHED,
-                NEXT,
-                TARGET_B,
-                END_TARGETS,
-            ],
-            Text::NumberName => &[
-                VERSION_3,
-                ENVIRONMENT,
-                BEHAVIOURS,
-                LAMP,
-                SERVICES,
-                FIRST_LAMP,
-                SECOND_LAMP,
-                TARGETS,
-                TARGET_A,
-                NEXT,
-                br#"{"name":7,"states":["off","on"],"start":"off","final":["off"],"steps":[["off",true,"on","on"],["on",true,"off","off"]]}"#,
-                END_TARGETS,
-            ],
-            Text::BadNameFirst => &[
-                VERSION_3,
-                ENVIRONMENT,
-                BEHAVIOURS,
-                LAMP,
-                SERVICES,
-                FIRST_LAMP,
-                SECOND_LAMP,
-                TARGETS,
-                br#"{"name":"a b","states":["off","on"],"start":"off","final":["off"],"steps":[["off",true,"on","on"],["on",true,"off","off"]]},{"file":"gone.json"}"#,
-                END_TARGETS,
-            ],
-            Text::SameName => &[
-                VERSION_3,
-                ENVIRONMENT,
-                BEHAVIOURS,
-                LAMP,
-                SERVICES,
-                FIRST_LAMP,
-                SECOND_LAMP,
-                TARGETS,
-                TARGET_A,
-                NEXT,
-                TARGET_A,
-                END_TARGETS,
-            ],
-            Text::NoTargetObject => &[
-                VERSION_3,
-                ENVIRONMENT,
-                BEHAVIOURS,
-                LAMP,
-                SERVICES,
-                FIRST_LAMP,
-                SECOND_LAMP,
-                TARGETS,
-                TARGET_A,
-                NEXT,
-                b"5",
-                END_TARGETS,
-            ],
-            Text::NameBeforeStates => &[
-                VERSION_3,
-                ENVIRONMENT,
-                BEHAVIOURS,
-                LAMP,
-                SERVICES,
-                FIRST_LAMP,
-                SECOND_LAMP,
-                TARGETS,
-                TARGET_A,
-                NEXT,
-                br#"{"name":"a"}"#,
-                END_TARGETS,
-            ],
-            Text::States65 => &[
-                VERSION_3,
-                ENVIRONMENT,
-                BEHAVIOURS,
-                LAMP,
-                SERVICES,
-                FIRST_LAMP,
-                SECOND_LAMP,
-                TARGETS,
-                br#"{"name":"a","states":["s0","s1","s2","s3","s4","s5","s6","s7","s8","s9","s10","s11","s12"],"start":"s0","final":["s0"],"steps":[["s0",true,"on","s0"]]}"#,
-                NEXT,
-                br#"{"name":"b","states":["s0","s1","s2","s3","s4"],"start":"s0","final":["s0"],"steps":[["s0",true,"on","s0"]]}"#,
-                END_TARGETS,
-            ],
-            Text::States64 => &[
-                VERSION_3,
-                ENVIRONMENT,
-                BEHAVIOURS,
-                LAMP,
-                SERVICES,
-                TARGETS,
-                br#"{"name":"a","states":["s0","s1","s2","s3","s4","s5","s6","s7","s8","s9","s10","s11","s12","s13","s14","s15"],"start":"s0","final":["s0"],"steps":[["s0",true,"on","s1"]]}"#,
-                NEXT,
-                br#"{"name":"b","states":["s0","s1","s2","s3"],"start":"s0","final":["s0"],"steps":[["s1",true,"on","s1"]]}"#,
-                END_TARGETS,
-            ],
-            Text::Actions33 => &[
-                VERSION_3,
-                br#","environment":{"states":["e"],"start":"e","actions":["a0","a1","a2","a3","a4","a5","a6","a7","a8","a9","a10","a11","a12","a13","a14","a15","a16"],"steps":[]}"#,
-                BEHAVIOURS,
-                SERVICES,
-                TARGETS,
-                br#"{"name":"a","states":["s"],"start":"s","final":["s"],"steps":[["s",true,"a0","s"],["s",true,"a1","s"],["s",true,"a2","s"],["s",true,"a3","s"],["s",true,"a4","s"],["s",true,"a5","s"],["s",true,"a6","s"],["s",true,"a7","s"],["s",true,"a8","s"],["s",true,"a9","s"],["s",true,"a10","s"],["s",true,"a11","s"],["s",true,"a12","s"],["s",true,"a13","s"],["s",true,"a14","s"],["s",true,"a15","s"],["s",true,"a16","s"]]}"#,
-                NEXT,
-                br#"{"name":"b","states":["s"],"start":"s","final":["s"],"steps":[["s",true,"a0","s"],["s",true,"a1","s"],["s",true,"a2","s"],["s",true,"a3","s"],["s",true,"a4","s"],["s",true,"a5","s"],["s",true,"a6","s"],["s",true,"a7","s"],["s",true,"a8","s"],["s",true,"a9","s"],["s",true,"a10","s"],["s",true,"a11","s"],["s",true,"a12","s"],["s",true,"a13","s"],["s",true,"a14","s"],["s",true,"a15","s"]]}"#,
-                END_TARGETS,
-            ],
-            Text::Actions32 => &[
-                VERSION_3,
-                br#","environment":{"states":["e"],"start":"e","actions":["a0","a1","a2","a3","a4","a5","a6","a7","a8","a9","a10","a11","a12","a13","a14","a15","a16"],"steps":[]}"#,
-                BEHAVIOURS,
-                SERVICES,
-                TARGETS,
-                br#"{"name":"a","states":["s"],"start":"s","final":["s"],"steps":[["s",true,"a0","s"],["s",true,"a1","s"],["s",true,"a2","s"],["s",true,"a3","s"],["s",true,"a4","s"],["s",true,"a5","s"],["s",true,"a6","s"],["s",true,"a7","s"],["s",true,"a8","s"],["s",true,"a9","s"],["s",true,"a10","s"],["s",true,"a11","s"],["s",true,"a12","s"],["s",true,"a13","s"],["s",true,"a14","s"],["s",true,"a15","s"]]}"#,
-                NEXT,
-                br#"{"name":"b","states":["s"],"start":"s","final":["s"],"steps":[["s",true,"a0","s"],["s",true,"a1","s"],["s",true,"a2","s"],["s",true,"a3","s"],["s",true,"a4","s"],["s",true,"a5","s"],["s",true,"a6","s"],["s",true,"a7","s"],["s",true,"a8","s"],["s",true,"a9","s"],["s",true,"a10","s"],["s",true,"a11","s"],["s",true,"a12","s"],["s",true,"a13","s"],["s",true,"a14","s"],["s",true,"a15","s"]]}"#,
-                END_TARGETS,
-            ],
-            Text::Actions0 => &[
-                VERSION_3,
-                ENVIRONMENT,
-                BEHAVIOURS,
-                LAMP,
-                SERVICES,
-                FIRST_LAMP,
-                SECOND_LAMP,
-                TARGETS,
-                br#"{"name":"a","states":["off","on"],"start":"off","final":["off"],"steps":[]}"#,
-                NEXT,
-                br#"{"name":"b","states":["off","on"],"start":"off","final":["off"],"steps":[]}"#,
-                END_TARGETS,
-            ],
-            Text::ActionsNever => &[
-                VERSION_3,
-                ENVIRONMENT,
-                BEHAVIOURS,
-                LAMP,
-                SERVICES,
-                FIRST_LAMP,
-                SECOND_LAMP,
-                TARGETS,
-                br#"{"name":"a","states":["off","on"],"start":"off","final":["off"],"steps":[["off",[],"on","on"]]}"#,
-                NEXT,
-                br#"{"name":"b","states":["off","on"],"start":"off","final":["off"],"steps":[["off",false,"on","on"]]}"#,
-                END_TARGETS,
-            ],
-            Text::LongState => &[
-                VERSION_3,
-                ENVIRONMENT,
-                BEHAVIOURS,
-                LAMP,
-                SERVICES,
-                FIRST_LAMP,
-                SECOND_LAMP,
-                TARGETS,
-                br#"{"name":"a","states":["pppppppppppppppp"],"start":"pppppppppppppppp","final":["pppppppppppppppp"],"steps":[["pppppppppppppppp",true,"on","pppppppppppppppp"]]}"#,
-                NEXT,
-                br#"{"name":"b","states":["qqqqqqqqqqqqqqqq"],"start":"qqqqqqqqqqqqqqqq","final":["qqqqqqqqqqqqqqqq"],"steps":[["qqqqqqqqqqqqqqqq",true,"on","qqqqqqqqqqqqqqqq"]]}"#,
-                END_TARGETS,
-            ],
-            Text::LongAction => &[
-                VERSION_3,
-                ENVIRONMENT,
-                BEHAVIOURS,
-                LAMP,
-                SERVICES,
-                FIRST_LAMP,
-                SECOND_LAMP,
-                TARGETS,
-                br#"{"name":"a","states":["s"],"start":"s","final":["s"],"steps":[["s",true,"on","s"]]}"#,
-                NEXT,
-                br#"{"name":"bbbbbbbbbbbbbbbbbbbbbbbbbbbbbb","states":["s"],"start":"s","final":["s"],"steps":[["s",true,"on","s"]]}"#,
-                END_TARGETS,
-            ],
-            Text::Long32 => &[
-                VERSION_3,
-                ENVIRONMENT,
-                BEHAVIOURS,
-                LAMP,
-                SERVICES,
-                FIRST_LAMP,
-                SECOND_LAMP,
-                TARGETS,
-                br#"{"name":"a","states":["pppppppppppppppp"],"start":"pppppppppppppppp","final":["pppppppppppppppp"],"steps":[["pppppppppppppppp",true,"on","pppppppppppppppp"]]}"#,
-                NEXT,
-                br#"{"name":"bbbbbbbbbbbbbbbbbbbbbbbbbbbbb","states":["qqqqqqqqqqqqqqq"],"start":"qqqqqqqqqqqqqqq","final":["qqqqqqqqqqqqqqq"],"steps":[["qqqqqqqqqqqqqqq",true,"on","qqqqqqqqqqqqqqq"]]}"#,
-                END_TARGETS,
-            ],
-            Text::SameStates => &[
-                VERSION_3,
-                ENVIRONMENT,
-                BEHAVIOURS,
-                LAMP,
-                SERVICES,
-                FIRST_LAMP,
-                SECOND_LAMP,
-                TARGETS,
-                br#"{"name":"a","states":["x","x-y"],"start":"x","final":["x","x-y"],"steps":[["x",true,"on","x"]]}"#,
-                NEXT,
-                br#"{"name":"b","states":["y-z","z"],"start":"y-z","final":["y-z","z"],"steps":[["y-z",true,"on","y-z"]]}"#,
-                END_TARGETS,
-            ],
-            Text::SameActions => &[
-                VERSION_3,
-                br#","environment":{"states":["e"],"start":"e","actions":["x","x-y"],"steps":[]}"#,
-                BEHAVIOURS,
-                SERVICES,
-                TARGETS,
-                br#"{"name":"y-z","states":["s"],"start":"s","final":["s"],"steps":[["s",true,"x","s"]]}"#,
-                NEXT,
-                br#"{"name":"z","states":["s"],"start":"s","final":["s"],"steps":[["s",true,"x-y","s"]]}"#,
-                END_TARGETS,
-            ],
-            Text::AllFour => &[
-                VERSION_3,
-                ENVIRONMENT,
-                BEHAVIOURS,
-                LAMP,
-                SERVICES,
-                FIRST_LAMP,
-                SECOND_LAMP,
-                TARGETS,
-                br#"{"name":"a","states":["x","x-y","pppppppppppppppppppppppppppppp10","pppppppppppppppppppppppppppppp11","pppppppppppppppppppppppppppppp12","pppppppppppppppppppppppppppppp13","pppppppppppppppppppppppppppppp14","pppppppppppppppppppppppppppppp15","pppppppppppppppppppppppppppppp16","pppppppppppppppppppppppppppppp17","pppppppppppppppppppppppppppppp18","pppppppppppppppppppppppppppppp19","pppppppppppppppppppppppppppppp20"],"start":"x","final":["x","x-y","pppppppppppppppppppppppppppppp10","pppppppppppppppppppppppppppppp11","pppppppppppppppppppppppppppppp12","pppppppppppppppppppppppppppppp13","pppppppppppppppppppppppppppppp14","pppppppppppppppppppppppppppppp15","pppppppppppppppppppppppppppppp16","pppppppppppppppppppppppppppppp17","pppppppppppppppppppppppppppppp18","pppppppppppppppppppppppppppppp19","pppppppppppppppppppppppppppppp20"],"steps":[]}"#,
-                NEXT,
-                br#"{"name":"b","states":["y-z","z","qqqqqqqqqqqqqqqqqqqqqqqqqqqqqq10","qqqqqqqqqqqqqqqqqqqqqqqqqqqqqq11","qqqqqqqqqqqqqqqqqqqqqqqqqqqqqq12"],"start":"y-z","final":["y-z","z","qqqqqqqqqqqqqqqqqqqqqqqqqqqqqq10","qqqqqqqqqqqqqqqqqqqqqqqqqqqqqq11","qqqqqqqqqqqqqqqqqqqqqqqqqqqqqq12"],"steps":[]}"#,
-                END_TARGETS,
-            ],
-            Text::LongAndSame => &[
-                VERSION_3,
-                ENVIRONMENT,
-                BEHAVIOURS,
-                LAMP,
-                SERVICES,
-                FIRST_LAMP,
-                SECOND_LAMP,
-                TARGETS,
-                br#"{"name":"a","states":["x","x-y","pppppppppppppppppppppppppppppp"],"start":"x","final":["x","x-y","pppppppppppppppppppppppppppppp"],"steps":[["x",true,"on","x"]]}"#,
-                NEXT,
-                br#"{"name":"b","states":["y-z","z"],"start":"y-z","final":["y-z","z"],"steps":[["y-z",true,"on","y-z"]]}"#,
-                END_TARGETS,
-            ],
-            Text::ChoiceLast => &[
-                VERSION_3,
-                ENVIRONMENT,
-                BEHAVIOURS,
-                LAMP,
-                SERVICES,
-                FIRST_LAMP,
-                SECOND_LAMP,
-                TARGETS,
-                br#"{"name":"a","states":["s0","s1","s2","s3","s4","s5","s6","s7","s8","s9","s10","s11","s12","s13","s14","s15","s16","s17","s18","s19","s20","s21","s22","s23","s24","s25","s26","s27","s28","s29","s30","s31","s32"],"start":"s0","final":["s0"],"steps":[["s0",true,"on","s0"]]}"#,
-                NEXT,
-                br#"{"name":"b","states":["off","on"],"start":"off","final":["off"],"steps":[["off",true,"on","on"],["off",true,"on","off"]]}"#,
-                END_TARGETS,
-            ],
-            Text::TwoWithTarget => &[
-                VERSION_3,
-                ENVIRONMENT,
-                BEHAVIOURS,
-                LAMP,
-                SERVICES,
-                FIRST_LAMP,
-                SECOND_LAMP,
-                TARGETS,
-                TARGET_A,
-                NEXT,
-                TARGET_B,
-                TARGET,
-                br#"7"#,
-                END,
-            ],
-            Text::LampWithTargets => &[
-                VERSION_1,
-                ENVIRONMENT,
-                BEHAVIOURS,
-                LAMP,
-                SERVICES,
-                FIRST_LAMP,
-                TARGET,
-                SWITCHED,
-                br#","targets":7"#,
-                END,
-            ],
-            Text::TwoLoose => &[
-                VERSION_3,
-                ENVIRONMENT,
-                BEHAVIOURS,
-                LAMP,
-                SERVICES,
-                FIRST_LAMP,
-                NEXT,
-                br#"{"name":"l2","behaviour":"lamp","state":"on","rests":false}"#,
-                TARGETS,
-                TARGET_A,
-                NEXT,
-                TARGET_B,
-                END_TARGETS,
-            ],
-            Text::Roman4 => &[
-                br#"{"roman":4"#,
-                ENVIRONMENT,
-                BEHAVIOURS,
-                LAMP,
-                SERVICES,
-                FIRST_LAMP,
-                SECOND_LAMP,
-                TARGETS,
-                TARGET_A,
-                NEXT,
-                TARGET_B,
-                END_TARGETS,
-            ],
-            Text::Nothing => &[],
+            ]),
+            Text::Behaviour => Whole(&[LAMP]),
+            Text::FrozenAndLoose => Parts(Document {
+                version: VERSION_2,
+                behaviours: &[LAMP, X],
+                services: &[
+                    FIRST_LAMP,
+                    br#",{"name":"x","behaviour":"x","state":"bad","frozen":true,"rests":false}"#,
+                ],
+                ..PLAIN
+            }),
+            Text::Order => Whole(&[ORDER, b"1 f\n2 0\n3 1\n5 1\n0 0\n4 1\nend\n"]),
+            Text::OrderExchanged => Whole(&[ORDER, b"1 f\n2 0\n3 1\n0 0\n5 1\n4 1\nend\n"]),
+            Text::OrderShort => Whole(&[ORDER, b"1 f\n2 0\n3 1\n5 1\n0 0\nend\n"]),
+            Text::OrderUnended => Whole(&[ORDER, b"1 f\n2 0\n3 1\n5 1\n0 0\n4 1\n"]),
+            Text::OrderTwice => Whole(&[ORDER, b"1 f\n1 f\n2 0\n3 1\n5 1\n0 0\n4 1\nend\n"]),
+            Text::Two => Parts(TWO),
+            Text::TwoLoneLamp => Parts(Document {
+                services: &[FIRST_LAMP],
+                ..TWO
+            }),
+            Text::OneOfTwo => Parts(Document {
+                target: &[TARGET_A],
+                ..TWO
+            }),
+            Text::NoneOfTwo => Parts(Document { target: &[], ..TWO }),
+            Text::FiveTargets => Parts(Document {
+                target: &[
+                    br#"{"file":"gone.json"}"#,
+                    NEXT,
+                    TARGET_A,
+                    NEXT,
+                    TARGET_B,
+                    NEXT,
+                    br#"{"name":"c","states":["off","on"],"start":"off","final":["off"],"steps":[["off",true,"on","on"],["on",true,"off","off"]]}"#,
+                    NEXT,
+                    br#"{"name":"d","states":["off","on"],"start":"off","final":["off"],"steps":[["off",true,"on","on"],["on",true,"off","off"]]}"#,
+                ],
+                ..TWO
+            }),
+            Text::TargetsGone => Parts(Document {
+                opening: br#"]"#,
+                target: &[],
+                end: END,
+                ..TWO
+            }),
+            Text::TargetsNoList => Parts(Document {
+                opening: br#"],"targets":{"a":"#,
+                target: &[TARGET_A, br#"}"#],
+                end: END,
+                ..TWO
+            }),
+            Text::SecondByFile => Parts(Document {
+                target: &[TARGET_A, NEXT, br#"{"file":"t.json"}"#],
+                ..TWO
+            }),
+            Text::TargetB => Whole(&[TARGET_B]),
+            Text::NamelessFirst => Parts(Document {
+                target: &[SWITCHED, NEXT, TARGET_B],
+                ..TWO
+            }),
+            Text::NumberName => Parts(Document {
+                target: &[
+                    TARGET_A,
+                    NEXT,
+                    br#"{"name":7,"states":["off","on"],"start":"off","final":["off"],"steps":[["off",true,"on","on"],["on",true,"off","off"]]}"#,
+                ],
+                ..TWO
+            }),
+            Text::BadNameFirst => Parts(Document {
+                target: &[
+                    br#"{"name":"a b","states":["off","on"],"start":"off","final":["off"],"steps":[["off",true,"on","on"],["on",true,"off","off"]]},{"file":"gone.json"}"#,
+                ],
+                ..TWO
+            }),
+            Text::SameName => Parts(Document {
+                target: &[TARGET_A, NEXT, TARGET_A],
+                ..TWO
+            }),
+            Text::NoTargetObject => Parts(Document {
+                target: &[TARGET_A, NEXT, b"5"],
+                ..TWO
+            }),
+            Text::NameBeforeStates => Parts(Document {
+                target: &[TARGET_A, NEXT, br#"{"name":"a"}"#],
+                ..TWO
+            }),
+            Text::States65 => Parts(Document {
+                target: &[
+                    br#"{"name":"a","states":["s0","s1","s2","s3","s4","s5","s6","s7","s8","s9","s10","s11","s12"],"start":"s0","final":["s0"],"steps":[["s0",true,"on","s0"]]}"#,
+                    NEXT,
+                    br#"{"name":"b","states":["s0","s1","s2","s3","s4"],"start":"s0","final":["s0"],"steps":[["s0",true,"on","s0"]]}"#,
+                ],
+                ..TWO
+            }),
+            Text::States64 => Parts(Document {
+                services: &[],
+                target: &[
+                    br#"{"name":"a","states":["s0","s1","s2","s3","s4","s5","s6","s7","s8","s9","s10","s11","s12","s13","s14","s15"],"start":"s0","final":["s0"],"steps":[["s0",true,"on","s1"]]}"#,
+                    NEXT,
+                    br#"{"name":"b","states":["s0","s1","s2","s3"],"start":"s0","final":["s0"],"steps":[["s1",true,"on","s1"]]}"#,
+                ],
+                ..TWO
+            }),
+            Text::Actions33 => Parts(Document {
+                environment: br#","environment":{"states":["e"],"start":"e","actions":["a0","a1","a2","a3","a4","a5","a6","a7","a8","a9","a10","a11","a12","a13","a14","a15","a16"],"steps":[]}"#,
+                behaviours: &[],
+                services: &[],
+                target: &[
+                    br#"{"name":"a","states":["s"],"start":"s","final":["s"],"steps":[["s",true,"a0","s"],["s",true,"a1","s"],["s",true,"a2","s"],["s",true,"a3","s"],["s",true,"a4","s"],["s",true,"a5","s"],["s",true,"a6","s"],["s",true,"a7","s"],["s",true,"a8","s"],["s",true,"a9","s"],["s",true,"a10","s"],["s",true,"a11","s"],["s",true,"a12","s"],["s",true,"a13","s"],["s",true,"a14","s"],["s",true,"a15","s"],["s",true,"a16","s"]]}"#,
+                    NEXT,
+                    br#"{"name":"b","states":["s"],"start":"s","final":["s"],"steps":[["s",true,"a0","s"],["s",true,"a1","s"],["s",true,"a2","s"],["s",true,"a3","s"],["s",true,"a4","s"],["s",true,"a5","s"],["s",true,"a6","s"],["s",true,"a7","s"],["s",true,"a8","s"],["s",true,"a9","s"],["s",true,"a10","s"],["s",true,"a11","s"],["s",true,"a12","s"],["s",true,"a13","s"],["s",true,"a14","s"],["s",true,"a15","s"]]}"#,
+                ],
+                ..TWO
+            }),
+            Text::Actions32 => Parts(Document {
+                environment: br#","environment":{"states":["e"],"start":"e","actions":["a0","a1","a2","a3","a4","a5","a6","a7","a8","a9","a10","a11","a12","a13","a14","a15","a16"],"steps":[]}"#,
+                behaviours: &[],
+                services: &[],
+                target: &[
+                    br#"{"name":"a","states":["s"],"start":"s","final":["s"],"steps":[["s",true,"a0","s"],["s",true,"a1","s"],["s",true,"a2","s"],["s",true,"a3","s"],["s",true,"a4","s"],["s",true,"a5","s"],["s",true,"a6","s"],["s",true,"a7","s"],["s",true,"a8","s"],["s",true,"a9","s"],["s",true,"a10","s"],["s",true,"a11","s"],["s",true,"a12","s"],["s",true,"a13","s"],["s",true,"a14","s"],["s",true,"a15","s"]]}"#,
+                    NEXT,
+                    br#"{"name":"b","states":["s"],"start":"s","final":["s"],"steps":[["s",true,"a0","s"],["s",true,"a1","s"],["s",true,"a2","s"],["s",true,"a3","s"],["s",true,"a4","s"],["s",true,"a5","s"],["s",true,"a6","s"],["s",true,"a7","s"],["s",true,"a8","s"],["s",true,"a9","s"],["s",true,"a10","s"],["s",true,"a11","s"],["s",true,"a12","s"],["s",true,"a13","s"],["s",true,"a14","s"],["s",true,"a15","s"]]}"#,
+                ],
+                ..TWO
+            }),
+            Text::Actions0 => Parts(Document {
+                target: &[
+                    br#"{"name":"a","states":["off","on"],"start":"off","final":["off"],"steps":[]}"#,
+                    NEXT,
+                    br#"{"name":"b","states":["off","on"],"start":"off","final":["off"],"steps":[]}"#,
+                ],
+                ..TWO
+            }),
+            Text::ActionsNever => Parts(Document {
+                target: &[
+                    br#"{"name":"a","states":["off","on"],"start":"off","final":["off"],"steps":[["off",[],"on","on"]]}"#,
+                    NEXT,
+                    br#"{"name":"b","states":["off","on"],"start":"off","final":["off"],"steps":[["off",false,"on","on"]]}"#,
+                ],
+                ..TWO
+            }),
+            Text::LongState => Parts(Document {
+                target: &[
+                    br#"{"name":"a","states":["pppppppppppppppp"],"start":"pppppppppppppppp","final":["pppppppppppppppp"],"steps":[["pppppppppppppppp",true,"on","pppppppppppppppp"]]}"#,
+                    NEXT,
+                    br#"{"name":"b","states":["qqqqqqqqqqqqqqqq"],"start":"qqqqqqqqqqqqqqqq","final":["qqqqqqqqqqqqqqqq"],"steps":[["qqqqqqqqqqqqqqqq",true,"on","qqqqqqqqqqqqqqqq"]]}"#,
+                ],
+                ..TWO
+            }),
+            Text::LongAction => Parts(Document {
+                target: &[
+                    br#"{"name":"a","states":["s"],"start":"s","final":["s"],"steps":[["s",true,"on","s"]]}"#,
+                    NEXT,
+                    br#"{"name":"bbbbbbbbbbbbbbbbbbbbbbbbbbbbbb","states":["s"],"start":"s","final":["s"],"steps":[["s",true,"on","s"]]}"#,
+                ],
+                ..TWO
+            }),
+            Text::Long32 => Parts(Document {
+                target: &[
+                    br#"{"name":"a","states":["pppppppppppppppp"],"start":"pppppppppppppppp","final":["pppppppppppppppp"],"steps":[["pppppppppppppppp",true,"on","pppppppppppppppp"]]}"#,
+                    NEXT,
+                    br#"{"name":"bbbbbbbbbbbbbbbbbbbbbbbbbbbbb","states":["qqqqqqqqqqqqqqq"],"start":"qqqqqqqqqqqqqqq","final":["qqqqqqqqqqqqqqq"],"steps":[["qqqqqqqqqqqqqqq",true,"on","qqqqqqqqqqqqqqq"]]}"#,
+                ],
+                ..TWO
+            }),
+            Text::SameStates => Parts(Document {
+                target: &[
+                    br#"{"name":"a","states":["x","x-y"],"start":"x","final":["x","x-y"],"steps":[["x",true,"on","x"]]}"#,
+                    NEXT,
+                    br#"{"name":"b","states":["y-z","z"],"start":"y-z","final":["y-z","z"],"steps":[["y-z",true,"on","y-z"]]}"#,
+                ],
+                ..TWO
+            }),
+            Text::SameActions => Parts(Document {
+                environment: br#","environment":{"states":["e"],"start":"e","actions":["x","x-y"],"steps":[]}"#,
+                behaviours: &[],
+                services: &[],
+                target: &[
+                    br#"{"name":"y-z","states":["s"],"start":"s","final":["s"],"steps":[["s",true,"x","s"]]}"#,
+                    NEXT,
+                    br#"{"name":"z","states":["s"],"start":"s","final":["s"],"steps":[["s",true,"x-y","s"]]}"#,
+                ],
+                ..TWO
+            }),
+            Text::AllFour => Parts(Document {
+                target: &[
+                    br#"{"name":"a","states":["x","x-y","pppppppppppppppppppppppppppppp10","pppppppppppppppppppppppppppppp11","pppppppppppppppppppppppppppppp12","pppppppppppppppppppppppppppppp13","pppppppppppppppppppppppppppppp14","pppppppppppppppppppppppppppppp15","pppppppppppppppppppppppppppppp16","pppppppppppppppppppppppppppppp17","pppppppppppppppppppppppppppppp18","pppppppppppppppppppppppppppppp19","pppppppppppppppppppppppppppppp20"],"start":"x","final":["x","x-y","pppppppppppppppppppppppppppppp10","pppppppppppppppppppppppppppppp11","pppppppppppppppppppppppppppppp12","pppppppppppppppppppppppppppppp13","pppppppppppppppppppppppppppppp14","pppppppppppppppppppppppppppppp15","pppppppppppppppppppppppppppppp16","pppppppppppppppppppppppppppppp17","pppppppppppppppppppppppppppppp18","pppppppppppppppppppppppppppppp19","pppppppppppppppppppppppppppppp20"],"steps":[]}"#,
+                    NEXT,
+                    br#"{"name":"b","states":["y-z","z","qqqqqqqqqqqqqqqqqqqqqqqqqqqqqq10","qqqqqqqqqqqqqqqqqqqqqqqqqqqqqq11","qqqqqqqqqqqqqqqqqqqqqqqqqqqqqq12"],"start":"y-z","final":["y-z","z","qqqqqqqqqqqqqqqqqqqqqqqqqqqqqq10","qqqqqqqqqqqqqqqqqqqqqqqqqqqqqq11","qqqqqqqqqqqqqqqqqqqqqqqqqqqqqq12"],"steps":[]}"#,
+                ],
+                ..TWO
+            }),
+            Text::LongAndSame => Parts(Document {
+                target: &[
+                    br#"{"name":"a","states":["x","x-y","pppppppppppppppppppppppppppppp"],"start":"x","final":["x","x-y","pppppppppppppppppppppppppppppp"],"steps":[["x",true,"on","x"]]}"#,
+                    NEXT,
+                    br#"{"name":"b","states":["y-z","z"],"start":"y-z","final":["y-z","z"],"steps":[["y-z",true,"on","y-z"]]}"#,
+                ],
+                ..TWO
+            }),
+            Text::ChoiceLast => Parts(Document {
+                target: &[
+                    br#"{"name":"a","states":["s0","s1","s2","s3","s4","s5","s6","s7","s8","s9","s10","s11","s12","s13","s14","s15","s16","s17","s18","s19","s20","s21","s22","s23","s24","s25","s26","s27","s28","s29","s30","s31","s32"],"start":"s0","final":["s0"],"steps":[["s0",true,"on","s0"]]}"#,
+                    NEXT,
+                    br#"{"name":"b","states":["off","on"],"start":"off","final":["off"],"steps":[["off",true,"on","on"],["off",true,"on","off"]]}"#,
+                ],
+                ..TWO
+            }),
+            Text::TwoWithTarget => Parts(Document {
+                target: &[TARGET_A, NEXT, TARGET_B, TARGET, br#"7"#],
+                end: END,
+                ..TWO
+            }),
+            Text::LampWithTargets => Parts(Document {
+                target: &[SWITCHED, br#","targets":7"#],
+                ..PLAIN
+            }),
+            Text::TwoLoose => Parts(Document {
+                services: &[
+                    FIRST_LAMP,
+                    NEXT,
+                    br#"{"name":"l2","behaviour":"lamp","state":"on","rests":false}"#,
+                ],
+                ..TWO
+            }),
+            Text::Roman4 => Parts(Document {
+                version: br#"{"roman":4"#,
+                ..TWO
+            }),
+            Text::Nothing => Whole(&[]),
+            Text::Spare => Parts(Document {
+                behaviours: &[
+                    LAMP,
+                    br#",{"name":"spare","states":["off","on"],"start":"off","final":["off"],"steps":[["off",true,"on","on"],["on",true,"off","off"]]}"#,
+                ],
+                services: &[FIRST_LAMP, br#",{"name":"s1","behaviour":"spare"}"#],
+                ..PLAIN
+            }),
+            Text::Many => Parts(MANY),
+            Text::OneMore => Parts(Document {
+                behaviours: &[
+                    br#"{"name":"two","states":["s","t"],"start":"s","final":["t"],"steps":[]}"#,
+                ],
+                ..MANY
+            }),
         }
     }
+}
+
+/// Adds pieces to a text.
+fn push(text: &mut Vec<u8>, pieces: &[&[u8]]) -> Result<(), AllocError> {
+    for piece in pieces {
+        text.extend_from_slice(piece)?;
+    }
+    Ok(())
 }
