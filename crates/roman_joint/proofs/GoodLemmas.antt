@@ -24,7 +24,8 @@ use Rattle.roman_joint.specs.declared.turn.Turn.{Turn}
 use Rattle.roman_joint.proofs.ArenaFacts.{joint_numbered}
 use Rattle.roman_joint.proofs.OutcomeLemmas.{target_in_range}
 use Rattle.roman_joint.proofs.Rows.{size_of_seat}
-use Rattle.roman_joint.proofs.WordLemmas.{on_zero, on_shl, on_below, not_not}
+use Rattle.roman_lanes.proofs.RowBits.{on_zero}
+use Rattle.roman_joint.proofs.WordLemmas.{on_shl, on_below, not_not}
 use Rattle.roman_joint.proofs.SplitLemmas.{joint_sizes, factor}
 use Rattle.roman_joint.proofs.LeadLemmas.{Leads, leads_within, leads_served, leads_nothing, start_before, leads_before, lanes_parts, stride_positive, lane_state, leads_lanes}
 

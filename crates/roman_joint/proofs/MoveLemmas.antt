@@ -35,7 +35,8 @@ use Rattle.roman_joint.specs.Changes.{with_frozen}
 use Rattle.roman_joint.proofs.SeatChanges.{with_seats, frozen_sizes, frozen_at}
 use Rattle.roman_joint.proofs.SeatRead.{SeatRead, seat_read}
 use Rattle.roman_joint.proofs.OutcomeLemmas.{ready_next}
-use Rattle.roman_joint.proofs.WordLemmas.{on_zero, not_not}
+use Rattle.roman_lanes.proofs.RowBits.{on_zero}
+use Rattle.roman_joint.proofs.WordLemmas.{not_not}
 use Rattle.roman_joint.proofs.LeadLemmas.{Leads, leads_served, leads_nothing, any_turned, lane_state, leads_lanes}
 use Rattle.roman_joint.proofs.GoodLemmas.{Known, state_below}
 
@@ -283,41 +284,49 @@ range_new xs ys a b first end =
     let long : b - a ≡ length ys = omega (arith, first, end, length-append xs ys) in
     ap₂ (λ m d. take m (drop d (xs ++ ys))) long first ∙ (ap (take (length ys)) (drop-append-le (length xs) xs ys (omega arith) ∙ ap (λ zs. zs ++ ys) (drop_all (length xs) xs (omega arith))) ∙ take_all (length ys) ys (omega arith))
 
+-- a place of the table is one of a seat within the lanes, an action and a state of the environment
+record IsPlaceOf (s : Sys) (k e a i : ℕ) : Type 0 where
+  seat : low_in s + i % within_in s ≡ k
+  env : i / within_in s / s.env.actions ≡ e
+  action : i / within_in s % s.env.actions ≡ a
+
+place_of : (s : Sys) (k e a i : ℕ) → k < length s.seats → low_in s ≤ k → a < s.env.actions → i ≡ (e * s.env.actions + a) * within_in s + (k - low_in s) → IsPlaceOf s k e a i
+place_of s k e a i in_seats within action is =
+    let less : k - low_in s < within_in s = omega (arith, in_seats, within) in
+    let turn : i / within_in s ≡ e * s.env.actions + a = ap (λ m. m / within_in s) is ∙ div-mul-add (e * s.env.actions + a) (within_in s) (k - low_in s) less in
+    let place : i % within_in s ≡ k - low_in s = ap (λ m. m % within_in s) is ∙ mod-mul-add (e * s.env.actions + a) (within_in s) (k - low_in s) less in
+    record {
+      seat = ap (λ m. low_in s + m) place ∙ omega arith;
+      env = ap (λ m. m / s.env.actions) turn ∙ div-mul-add e s.env.actions a action;
+      action = ap (λ m. m % s.env.actions) turn ∙ mod-mul-add e s.env.actions a action;
+    }
+
+-- the moves of a seat, at its place in the table
+pub span_at : (s : Sys) (k e a i : ℕ) (span : Span) (moves : List Move) (seat : Seat) → slice_get s.seats k ≡ Some seat → low_in s ≤ k → a < s.env.actions → i ≡ (e * s.env.actions + a) * within_in s + (k - low_in s) →
+    IsSpan s i span moves → AreMovesOf (sizes_of s) k seat.beh e a span.some (slice_range moves span.first span.end)
+span_at s k e a i span moves seat seated within action is ok =
+    let of = place_of s k e a i (slice_get_within s.seats k seat seated) within action is in
+    rw (of.seat, of.env, of.action) at (ok.moves_of seat (ap (slice_get s.seats) of.seat ∙ seated))
+
 -- one span more
 pub spans_more : (s : Sys) (k e a : ℕ) (beh : Beh) (old new : Moves) (seat : Seat) → slice_get s.seats k ≡ Some seat → beh ≡ seat.beh → low_in s ≤ k → a < s.env.actions →
     length old.spans.items ≡ (e * s.env.actions + a) * within_in s + (k - low_in s) → HoldsSpans s old.spans.items old.moves.items → IsAdded (sizes_of s) k beh e a old new → HoldsSpans s new.spans.items new.moves.items
 spans_more s k e a beh old new seat seated is_beh within action long held added = record { each = λ i span l at. each i span l at }
   where
-    W : ℕ
-    W = within_in s
-
-    in_seats : k < length s.seats
-    in_seats = slice_get_within s.seats k seat seated
-
-    less : k - low_in s < W
-    less = omega (arith, in_seats, within)
-
     moves_long : length new.moves.items ≡ length old.moves.items + length added.more
     moves_long = ap length added.moves ∙ length-append old.moves.items added.more
 
-    here : IsSpan s (length old.spans.items) added.span new.moves.items
-    here =
-        let turn : length old.spans.items / W ≡ e * s.env.actions + a = ap (λ m. m / W) long ∙ div-mul-add (e * s.env.actions + a) W (k - low_in s) less in
-        let place : length old.spans.items % W ≡ k - low_in s = ap (λ m. m % W) long ∙ mod-mul-add (e * s.env.actions + a) W (k - low_in s) less in
-        let at : low_in s + length old.spans.items % W ≡ k = ap (λ m. low_in s + m) place ∙ omega arith in
-        let env : length old.spans.items / W / s.env.actions ≡ e = ap (λ m. m / s.env.actions) turn ∙ div-mul-add e s.env.actions a action in
-        let act : length old.spans.items / W % s.env.actions ≡ a = ap (λ m. m % s.env.actions) turn ∙ mod-mul-add e s.env.actions a action in
+    here : (i : ℕ) → i ≡ length old.spans.items → IsSpan s i added.span new.moves.items
+    here i at =
+        let of = place_of s k e a i (slice_get_within s.seats k seat seated) within action (at ∙ long) in
+        let range : slice_range new.moves.items added.span.first added.span.end ≡ added.more =
+        ap (λ ms. slice_range ms added.span.first added.span.end) added.moves ∙ range_new old.moves.items added.more added.span.first added.span.end added.first (added.end ∙ ap length added.moves) in
         record {
           first = omega (arith, added.first, added.end, moves_long);
           last = omega (arith, added.end);
           moves_of = λ other seated_there.
-              let same : seat ≡ other = some_same seat other (sym seated ∙ (ap (slice_get s.seats) (sym at) ∙ seated_there)) in
-              subst (λ (y : Seat). AreMovesOf (sizes_of s) (low_in s + length old.spans.items % W) y.beh (length old.spans.items / W / s.env.actions) (length old.spans.items / W % s.env.actions) added.span.some (slice_range new.moves.items added.span.first added.span.end)) same
-              (subst (λ m. AreMovesOf (sizes_of s) m seat.beh (length old.spans.items / W / s.env.actions) (length old.spans.items / W % s.env.actions) added.span.some (slice_range new.moves.items added.span.first added.span.end)) (sym at)
-              (subst (λ m. AreMovesOf (sizes_of s) k seat.beh m (length old.spans.items / W % s.env.actions) added.span.some (slice_range new.moves.items added.span.first added.span.end)) (sym env)
-              (subst (λ m. AreMovesOf (sizes_of s) k seat.beh e m added.span.some (slice_range new.moves.items added.span.first added.span.end)) (sym act)
-              (subst (λ ms. AreMovesOf (sizes_of s) k seat.beh e a added.span.some ms) (sym (ap (λ ms. slice_range ms added.span.first added.span.end) added.moves ∙ range_new old.moves.items added.more added.span.first added.span.end added.first (added.end ∙ ap length added.moves)))
-              (subst (λ b. AreMovesOf (sizes_of s) k b e a added.span.some added.more) is_beh added.moves_of)))));
+              let same : other ≡ seat = some_same other seat (sym seated_there ∙ (ap (slice_get s.seats) of.seat ∙ seated)) in
+              rw (of.seat, of.env, of.action, range) (subst (λ b. AreMovesOf (sizes_of s) k b e a added.span.some added.more) (is_beh ∙ ap (λ (y : Seat). y.beh) (sym same)) added.moves_of);
         }
       where
         some_same : (x y : Seat) → Some x ≡ Some y → x ≡ y
@@ -327,47 +336,31 @@ spans_more s k e a beh old new seat seated is_beh within action long held added 
     each i span l at = elim (cases_eq i (length old.spans.items)) [
       | inl same ↦
           let is : added.span ≡ span = sym (at ∙ ap (λ xs. get_or xs i span) added.spans ∙ ap (λ j. get_or (old.spans.items ++ added.span ∷ []) j span) same ∙ get_or-append_seam old.spans.items added.span [] span) in
-          subst (λ j. IsSpan s j span new.moves.items) (sym same) (subst (λ x. IsSpan s (length old.spans.items) x new.moves.items) is here)
+          subst (λ x. IsSpan s i x new.moves.items) is (here i same)
       | inr other ↦
           let before : i < length old.spans.items = omega (arith, l, other, ap length added.spans, length-append old.spans.items (added.span ∷ [])) in
-          let span_there : IsSpan s i span old.moves.items = held.each i span before (at ∙ ap (λ xs. get_or xs i span) added.spans ∙ get_or_append_left old.spans.items (added.span ∷ []) span i before) in
-          record {
-            first = span_there.first;
-            last = omega (arith, span_there.last, moves_long);
-            moves_of = λ other_seat seated_there.
-                subst (λ ms. AreMovesOf (sizes_of s) (low_in s + i % W) other_seat.beh (i / W / s.env.actions) (i / W % s.env.actions) span.some ms)
-                (sym (ap (λ ms. slice_range ms span.first span.end) added.moves ∙ range_more old.moves.items added.more span.first span.end span_there.last))
-                (span_there.moves_of other_seat seated_there);
-          }
+          let there : IsSpan s i span old.moves.items = held.each i span before (at ∙ ap (λ xs. get_or xs i span) added.spans ∙ get_or_append_left old.spans.items (added.span ∷ []) span i before) in
+          let range : slice_range new.moves.items span.first span.end ≡ slice_range old.moves.items span.first span.end =
+          ap (λ ms. slice_range ms span.first span.end) added.moves ∙ range_more old.moves.items added.more span.first span.end there.last in
+          record { first = there.first; last = omega (arith, there.last, moves_long); moves_of = λ other_seat seated_there. rw range (there.moves_of other_seat seated_there) }
     ]
 
--- the moves of a seat, at its place in the table
-pub span_at : (s : Sys) (k e a i : ℕ) (span : Span) (moves : List Move) (seat : Seat) → slice_get s.seats k ≡ Some seat → low_in s ≤ k → a < s.env.actions → i ≡ (e * s.env.actions + a) * within_in s + (k - low_in s) →
-    IsSpan s i span moves → AreMovesOf (sizes_of s) k seat.beh e a span.some (slice_range moves span.first span.end)
-span_at s k e a i span moves seat seated within action is ok =
-    let W = within_in s in
-    let in_seats : k < length s.seats = slice_get_within s.seats k seat seated in
-    let less : k - low_in s < W = omega (arith, in_seats, within) in
-    let turn : i / W ≡ e * s.env.actions + a = ap (λ m. m / W) is ∙ div-mul-add (e * s.env.actions + a) W (k - low_in s) less in
-    let place : i % W ≡ k - low_in s = ap (λ m. m % W) is ∙ mod-mul-add (e * s.env.actions + a) W (k - low_in s) less in
-    let at : low_in s + i % W ≡ k = ap (λ m. low_in s + m) place ∙ omega arith in
-    let env : i / W / s.env.actions ≡ e = ap (λ m. m / s.env.actions) turn ∙ div-mul-add e s.env.actions a action in
-    let act : i / W % s.env.actions ≡ a = ap (λ m. m % s.env.actions) turn ∙ mod-mul-add e s.env.actions a action in
-    subst (λ m. AreMovesOf (sizes_of s) k seat.beh e m span.some (slice_range moves span.first span.end)) act
-    (subst (λ m. AreMovesOf (sizes_of s) k seat.beh m (i / W % s.env.actions) span.some (slice_range moves span.first span.end)) env
-    (subst (λ m. AreMovesOf (sizes_of s) m seat.beh (i / W / s.env.actions) (i / W % s.env.actions) span.some (slice_range moves span.first span.end)) at
-    (ok.moves_of seat (ap (slice_get s.seats) at ∙ seated))))
+-- where the span of a seat stands in the table that a joint has
+pub record StandsAt (s : Sys) (k e a i : ℕ) (table : Moves) : Type 0 where
+  pub place : i ≡ (e * s.env.actions + a) * within_in s + (k - low_in s)
+  pub inside : i < length table.spans.items
+  pub span : (span : Span) → span ≡ slice_index_or table.spans.items i span → IsSpan s i span table.moves.items
 
-pub place_is : (x y z l j e acts a lows m : ℕ) → x ≡ e → y ≡ acts → z ≡ a → l ≡ lows → j ≡ m → (x * y + z) * l + j ≡ (e * acts + a) * lows + m
-place_is x y z l j e acts a lows m p q r t u = rw (p, q, r, t, u) refl
-
--- and its place is in the table
-pub place_below : (envs actions e a lows j : ℕ) → e < envs → a < actions → j < lows → (e * actions + a) * lows + j < envs * actions * lows
-place_below envs actions e a lows j in_envs in_actions l =
-    let turn : e * actions + a < actions * envs = mul-add-lt e actions a envs in_envs in_actions in
-    let place : (e * actions + a) * lows + j < lows * (actions * envs) = mul-add-lt (e * actions + a) lows j (actions * envs) turn l in
-    let same : lows * (actions * envs) ≡ envs * actions * lows = omega arith in
-    omega arith
+pub stands_at : (s : Sys) (table : Moves) (k e a x y l j : ℕ) → HoldsMoves s table → low_in s ≤ k → k < length s.seats → e < s.env.states → a < s.env.actions →
+    x ≡ e → y ≡ a → l ≡ within_in s → j ≡ k - low_in s → StandsAt s k e a ((x * table.actions + y) * l + j) table
+stands_at s table k e a x y l j held within seat env action is_e is_a is_l is_j =
+    let turn : e * s.env.actions + a < s.env.actions * s.env.states = mul-add-lt e s.env.actions a s.env.states env action in
+    let below : (e * s.env.actions + a) * within_in s + (k - low_in s) < within_in s * (s.env.actions * s.env.states) =
+    mul-add-lt (e * s.env.actions + a) (within_in s) (k - low_in s) (s.env.actions * s.env.states) turn (omega (arith, within, seat)) in
+    let same : within_in s * (s.env.actions * s.env.states) ≡ s.env.states * s.env.actions * within_in s = omega arith in
+    let place : (x * table.actions + y) * l + j ≡ (e * s.env.actions + a) * within_in s + (k - low_in s) = rw (is_e, held.actions, is_a, is_l, is_j) refl in
+    let inside : (x * table.actions + y) * l + j < length table.spans.items = omega (arith, place, below, same, held.long) in
+    record { place = place; inside = inside; span = λ span at. held.spans_at.each ((x * table.actions + y) * l + j) span inside at }
 
 -- What is kept.
 
@@ -390,25 +383,17 @@ room_kept old new kept room = record {
 -- the services are those of the system for the table that is kept
 pub seats_kept : (n : NamedSys) (catalogue : List NamedBeh) (seats : List declared.Seat) (sizes : Sizes) (old new : Moves) → IsKept old new →
     AreSeatsOf n catalogue seats sizes old.envs old.actions → AreSeatsOf n catalogue seats sizes new.envs new.actions
-seats_kept n catalogue seats sizes old new kept of = record {
-  known = of.known;
-  catalogue_of = of.catalogue_of;
-  seats_of = of.seats_of;
-  sizes_are = of.sizes_are;
-  envs_are = kept.same_envs ∙ of.envs_are;
-  actions_are = kept.same_actions ∙ of.actions_are;
-}
+seats_kept n catalogue seats sizes old new kept of =
+    let envs : new.envs ≡ n.environment.env.states = kept.same_envs ∙ of.envs_are in
+    let actions : new.actions ≡ n.environment.env.actions = kept.same_actions ∙ of.actions_are in
+    assumption
 
 pub seats_back : (n : NamedSys) (catalogue : List NamedBeh) (seats : List declared.Seat) (sizes : Sizes) (old new : Moves) → IsKept old new →
     AreSeatsOf n catalogue seats sizes new.envs new.actions → AreSeatsOf n catalogue seats sizes old.envs old.actions
-seats_back n catalogue seats sizes old new kept of = record {
-  known = of.known;
-  catalogue_of = of.catalogue_of;
-  seats_of = of.seats_of;
-  sizes_are = of.sizes_are;
-  envs_are = sym kept.same_envs ∙ of.envs_are;
-  actions_are = sym kept.same_actions ∙ of.actions_are;
-}
+seats_back n catalogue seats sizes old new kept of =
+    let envs : old.envs ≡ n.environment.env.states = sym kept.same_envs ∙ of.envs_are in
+    let actions : old.actions ≡ n.environment.env.actions = sym kept.same_actions ∙ of.actions_are in
+    assumption
 
 -- what is known of a service that is read
 pub record SeatHere (n : NamedSys) (sizes : Sizes) (k : ℕ) (beh : Beh) : Type 0 where
@@ -427,7 +412,7 @@ pub seat_here : (n : NamedSys) (catalogue : List NamedBeh) (seats : List declare
     k < length seats → x ≡ get_or seats k x → y ≡ get_or catalogue x.behaviour y → SeatHere n sizes k y.beh
 seat_here n catalogue seats sizes envs actions k x y of l at_seat at_beh =
     let placed : slice_get n.seats k ≡ Some x = ap (λ xs. slice_get xs k) (sym of.seats_of) ∙ seat_some seats k x l at_seat in
-    let read : SeatRead n k x y = seat_read n k x y of.known placed (at_beh ∙ ap (λ ys. get_or ys x.behaviour y) of.catalogue_of) in
+    let read : SeatRead n k x y = seat_read n k x catalogue y of.known placed of.catalogue_of at_beh in
     let ok = of.known.system.seats (seat_of n.catalogue x) (seat_in (system_of n).seats k (seat_of n.catalogue x) read.seated) in
     record {
       seat = seat_of n.catalogue x;
@@ -462,6 +447,12 @@ turn_more n catalogue seats sizes k e a beh first old new kept added of here low
 
 -- A service that is frozen or made ready has the moves that it had.
 
+within_same : (s t : Sys) → sizes_of t ≡ sizes_of s → within_in t ≡ within_in s
+within_same s t sizes =
+    let long : length t.seats ≡ length s.seats =
+    sym (length-map t.seats (λ (y : Seat). y.beh.states)) ∙ (ap (λ (m : Sizes). length m.seats) sizes ∙ length-map s.seats (λ (y : Seat). y.beh.states)) in
+    ap₂ (λ x y. x - y) long (ap (λ (m : Sizes). low_of m.seats) sizes)
+
 span_same : (s t : Sys) (i : ℕ) (span : Span) (moves : List Move) → sizes_of t ≡ sizes_of s → t.env.actions ≡ s.env.actions →
     ((j : ℕ) (x : Seat) → slice_get t.seats j ≡ Some x → (y : Seat) × (slice_get s.seats j ≡ Some y) × (y.beh ≡ x.beh)) → IsSpan s i span moves → IsSpan t i span moves
 span_same s t i span moves sizes acts there ok = record {
@@ -469,34 +460,20 @@ span_same s t i span moves sizes acts there ok = record {
   last = ok.last;
   moves_of = λ x seated.
       let low : low_in t ≡ low_in s = ap (λ (m : Sizes). low_of m.seats) sizes in
-      let lows : within_in t ≡ within_in s = seats_within s t sizes in
-      let at : low_in t + i % within_in t ≡ low_in s + i % within_in s = ap₂ (λ m w. m + i % w) low lows in
+      let at : low_in t + i % within_in t ≡ low_in s + i % within_in s = ap₂ (λ m w. m + i % w) low (within_same s t sizes) in
       let (y, seated_y, same) = there (low_in t + i % within_in t) x seated in
-      let held = ok.moves_of y (ap (slice_get s.seats) (sym at) ∙ seated_y) in
-      subst (λ m. AreMovesOf m (low_in t + i % within_in t) x.beh (i / within_in t / t.env.actions) (i / within_in t % t.env.actions) span.some (slice_range moves span.first span.end)) (sym sizes)
-      (subst (λ m. AreMovesOf (sizes_of s) (low_in t + i % within_in t) x.beh (i / within_in t / m) (i / within_in t % m) span.some (slice_range moves span.first span.end)) (sym acts)
-      (subst (λ w. AreMovesOf (sizes_of s) (low_in t + i % within_in t) x.beh (i / w / s.env.actions) (i / w % s.env.actions) span.some (slice_range moves span.first span.end)) (sym lows)
-      (subst (λ m. AreMovesOf (sizes_of s) m x.beh (i / within_in s / s.env.actions) (i / within_in s % s.env.actions) span.some (slice_range moves span.first span.end)) (sym at)
-      (subst (λ b. AreMovesOf (sizes_of s) (low_in s + i % within_in s) b (i / within_in s / s.env.actions) (i / within_in s % s.env.actions) span.some (slice_range moves span.first span.end)) same held))));
+      let turn : i / within_in t ≡ i / within_in s = ap (λ w. i / w) (within_same s t sizes) in
+      rw (at, turn, acts, sizes, ← same) (ok.moves_of y (ap (slice_get s.seats) (sym at) ∙ seated_y));
 }
-  where
-    seats_within : (s t : Sys) → sizes_of t ≡ sizes_of s → within_in t ≡ within_in s
-    seats_within s t sizes =
-        let long : length t.seats ≡ length s.seats =
-        sym (length-map t.seats (λ (y : Seat). y.beh.states)) ∙ (ap (λ (m : Sizes). length m.seats) sizes ∙ length-map s.seats (λ (y : Seat). y.beh.states)) in
-        ap₂ (λ x y. x - y) long (ap (λ (m : Sizes). low_of m.seats) sizes)
 
 pub moves_frozen : (n : NamedSys) (k : ℕ) (frozen : Bool) (table : Moves) → HoldsMoves (system_of n) table → HoldsMoves (system_of (with_seats n (with_frozen n.seats k frozen))) table
 moves_frozen n k frozen table held =
     let s = system_of n in
     let t = system_of (with_seats n (with_frozen n.seats k frozen)) in
     let sizes : sizes_of t ≡ sizes_of s = frozen_sizes n k frozen in
-    let long : length t.seats ≡ length s.seats =
-    sym (length-map t.seats (λ (y : Seat). y.beh.states)) ∙ (ap (λ (m : Sizes). length m.seats) sizes ∙ length-map s.seats (λ (y : Seat). y.beh.states)) in
-    let lows : within_in t ≡ within_in s = ap₂ (λ x y. x - y) long (ap (λ (m : Sizes). low_of m.seats) sizes) in
     record {
       envs = held.envs;
       actions = held.actions;
-      long = held.long ∙ ap (λ w. s.env.states * s.env.actions * w) (sym lows);
+      long = held.long ∙ ap (λ w. s.env.states * s.env.actions * w) (sym (within_same s t sizes));
       spans_at = record { each = λ i span l at. span_same s t i span table.moves.items sizes refl (λ j x seated. frozen_at n.catalogue n.seats k frozen j x seated) (held.spans_at.each i span l at) };
     }

@@ -1,5 +1,5 @@
 -- Services and their behaviours as the code reads them.
-use Rattle.std.proofs.Common.{◌≡◌, ℕ, ◌<◌, ◌==◌, List, [], ◌∷◌, length, Some, slice_get, slice_index, get_or, refl, sym, subst, arith}
+use Rattle.std.proofs.Common.{◌≡◌, ℕ, ◌<◌, ◌==◌, List, [], ◌∷◌, length, Some, slice_get, slice_index, get_or, refl, sym, ap, ◌∙◌, subst, arith}
 use Rattle.std.proofs.lemmas.Bool.{ne_eqb}
 use Rattle.std.proofs.lemmas.Option.{slice_get_within, get_or_from_slice_get}
 use Rattle.roman_model.specs.Lists.{is_empty}
@@ -17,8 +17,10 @@ pub record SeatRead (n : NamedSys) (k : ℕ) (x : declared.Seat) (y : NamedBeh) 
   pub env_states : y.env_states ≡ (system_of n).env.states
   pub actions : y.actions ≡ (system_of n).env.actions
 
-pub seat_read : (n : NamedSys) (k : ℕ) (x : declared.Seat) (y : NamedBeh) → IsNamedSys n → slice_get n.seats k ≡ Some x → y ≡ get_or n.catalogue x.behaviour y → SeatRead n k x y
-seat_read n k x y known at_place at_beh =
+pub seat_read : (n : NamedSys) (k : ℕ) (x : declared.Seat) (catalogue : List NamedBeh) (y : NamedBeh) → IsNamedSys n → slice_get n.seats k ≡ Some x → catalogue ≡ n.catalogue →
+    y ≡ get_or catalogue x.behaviour y → SeatRead n k x y
+seat_read n k x catalogue y known at_place same in_catalogue =
+    let at_beh : y ≡ get_or n.catalogue x.behaviour y = in_catalogue ∙ ap (λ ys. get_or ys x.behaviour y) same in
     let within : k < length n.seats = slice_get_within n.seats k x at_place in
     let at_seat : x ≡ get_or n.seats k x = sym (get_or_from_slice_get n.seats k x x at_place) in
     let place : x.behaviour < length n.catalogue = subst (λ (z : declared.Seat). z.behaviour < length n.catalogue) (sym at_seat) (known.behaviours k x within) in

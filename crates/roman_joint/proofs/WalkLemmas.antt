@@ -1,9 +1,8 @@
 -- One step of a walk backwards: what is left, and where the walk then is.
-use Rattle.std.proofs.Common.{◌≡◌, ◌⊎◌, ℕ, zero, suc, ◌+◌, ◌<◌, ◌≤◌, Bool, true, false, cond, List, [], ◌∷◌, ◌++◌, length, take, drop, get_or, Option, None, Some, slice_get, slice_index, slice_set, inl, inr, refl, sym, ap, ◌∙◌, subst, arith}
+use Rattle.std.proofs.Common.{◌≡◌, ◌⊎◌, ℕ, zero, suc, ◌+◌, ◌<◌, ◌≤◌, Bool, true, false, cond, List, [], ◌∷◌, ◌++◌, length, take, drop, get_or, Option, None, Some, slice_get, slice_index, slice_set, inl, inr, refl, sym, ap, ap₂, ◌∙◌, subst, arith}
 use Rattle.std.specs.Int.{bit_at}
 use Rattle.std.specs.List.{flat_map}
 use Rattle.std.proofs.lemmas.Bool.{cases_lt}
-use Rattle.std.proofs.lemmas.Option.{slice_get_within}
 use Rattle.std.proofs.lemmas.List.{drop_more, drop_all, append_assoc, length-map, get_or-take}
 use Rattle.std.proofs.lemmas.List.Sums.{length-filter, count_by-le-length}
 use Rattle.roman_model.specs.Lists.{HoldsEachOnce, below}
@@ -45,272 +44,134 @@ few_prev env e' a ok = omega (arith, length-filter (λ e. has_triple env e a e')
 pub few_beh_prev : (env : Env) (beh : Beh) (b' e a : ℕ) → IsBeh env beh → length (beh_prev beh b' e a) ≤ 64
 few_beh_prev env beh b' e a ok = omega (arith, length-filter (λ b. has_move beh b e a b') (below beh.states), count_by-le-length (λ b. has_move beh b e a b') (below beh.states), length-below beh.states, ok.states.1)
 
--- the seats from the first on are the first and those behind it
-all_seats : (s : Sys) (q : Pair) (a e t : ℕ) → from_seat s q a e t 0 ++ flat_map (from_seat s q a e t) (drop 1 (below (length s.seats))) ≡ from_target s q a e t
-all_seats s q a e t = of_seats s.seats refl
-  where
-    of_seats : (seats : List Seat) → s.seats ≡ seats → from_seat s q a e t 0 ++ flat_map (from_seat s q a e t) (drop 1 (below (length s.seats))) ≡ from_target s q a e t
-    of_seats [] h =
-        let none : length s.seats ≡ 0 = ap length h in
-        let empty : from_seat s q a e t 0 ≡ [] = ap (from_states s q a e t 0) (no_seat s.seats 0 (slice_index q.bs 0) e a (omega arith)) in
-        ap (λ xs. xs ++ flat_map (from_seat s q a e t) (drop 1 (below (length s.seats)))) empty
-        ∙ (below-past (from_seat s q a e t) (length s.seats) 1 (omega arith) ∙ sym (below-past (from_seat s q a e t) (length s.seats) 0 (omega arith)))
-    of_seats (seat ∷ seats) h =
-        let some : 0 < length s.seats = omega (arith, ap length h) in
-        sym (flat_map-below (from_seat s q a e t) (length s.seats) 0 some)
-
 -- nothing is left of a seat past the last
-past_seat : (s : Sys) (q : Pair) (a e t n : ℕ) → from_states s q a e t (length s.seats) (drop n (seat_prev (slice_get s.seats (length s.seats)) (slice_index q.bs (length s.seats)) e a)) ≡ []
-past_seat s q a e t n =
-    ap (λ bs. from_states s q a e t (length s.seats) (drop n bs)) (no_seat s.seats (length s.seats) (slice_index q.bs (length s.seats)) e a (omega arith))
-    ∙ ap (from_states s q a e t (length s.seats)) (drop_all n [] (omega arith))
+past_seat : (s : Sys) (q : Pair) (a e t k n : ℕ) → length s.seats ≤ k → from_states s q a e t k (drop n (seat_prev (slice_get s.seats k) (slice_index q.bs k) e a)) ≡ []
+past_seat s q a e t k n past =
+    ap (λ bs. from_states s q a e t k (drop n bs)) (no_seat s.seats k (slice_index q.bs k) e a past) ∙ ap (from_states s q a e t k) (drop_all n [] (omega arith))
+
+-- the seats from one on are that seat and those behind it
+seats_from : (s : Sys) (q : Pair) (a e t k : ℕ) →
+    from_seat s q a e t k ++ flat_map (from_seat s q a e t) (drop (k + 1) (below (length s.seats))) ≡ flat_map (from_seat s q a e t) (drop k (below (length s.seats)))
+seats_from s q a e t k = elim (cases_lt k (length s.seats)) [
+  | inl there ↦ sym (flat_map-below f (length s.seats) k there)
+  | inr past ↦ ap (λ xs. xs ++ flat_map f (drop (k + 1) (below (length s.seats)))) (past_seat s q a e t k 0 past)
+      ∙ (below-past f (length s.seats) (k + 1) (omega arith) ∙ sym (below-past f (length s.seats) k past))
+]
+  where
+    f : ℕ → List (Delegation ℕ)
+    f = from_seat s q a e t
 
 -- the first parts of what is left are none
 after_none : {X : Type 0} (xs ys rest : List X) → xs ≡ [] → ys ≡ [] → xs ++ (ys ++ rest) ≡ rest
 after_none xs ys rest x y = ap (λ zs. zs ++ (ys ++ rest)) x ∙ ap (λ zs. zs ++ rest) y
 
+-- a count that starts anew
+none_taken : 0 ≤ 64
+none_taken = omega arith
+
 module _ (s : Sys) (sys : IsSys s) (w : Walk) (ok : IsWalk s w) where
-  -- the walk at the next seat
+  -- the walk at the next seat, also past the last
   abbrev pub seat_on : Walk
   seat_on = record w { seat = w.seat + 1; states_taken = 0 }
 
-  pub goes_seat : left_of_seat s w ≡ [] → w.seat + 1 < length s.seats → WalkGoesOn s w seat_on
-  goes_seat no_states more =
+  seat_walk : w.seat < length s.seats → IsWalk s seat_on
+  seat_walk within = let next : w.seat + 1 ≤ length s.seats = omega arith in assumption (none_taken)
+
+  seat_left : left_of_seat s w ≡ [] → left s seat_on ≡ left s w
+  seat_left no_states =
       let rest = left_of_env s w ++ (left_of_action s w ++ left_of_all s w) in
-      let f = from_seat s (goal_of s w) w.action w.env w.target in
-      let next : left_of_target s w ≡ f (w.seat + 1) ++ left_of_target s seat_on = flat_map-below f (length s.seats) (w.seat + 1) more in
-      let old : left s w ≡ f (w.seat + 1) ++ (left_of_target s seat_on ++ rest) =
-      ap (λ xs. xs ++ (left_of_target s w ++ rest)) no_states ∙ (ap (λ xs. xs ++ rest) next ∙ append_assoc (f (w.seat + 1)) (left_of_target s seat_on) rest) in
-      record {
-        walk = record {
-          pair = ok.pair;
-          to_target = ok.to_target;
-          to_env = ok.to_env;
-          to_states = ok.to_states;
-          leads = ok.leads;
-          action = ok.action;
-          env = ok.env;
-          target = ok.target;
-          row = ok.row;
-          seat = omega arith;
-          states_taken = omega arith;
-          targets_taken = ok.targets_taken;
-          envs_taken = ok.envs_taken;
-        };
-        left = sym old;
-        falls = omega arith;
-      }
+      sym (append_assoc (left_of_seat s seat_on) (left_of_target s seat_on) rest)
+      ∙ (ap (λ xs. xs ++ rest) (seats_from s (goal_of s w) w.action w.env w.target (w.seat + 1)) ∙ sym (ap (λ xs. xs ++ (left_of_target s w ++ rest)) no_states))
+
+  pub goes_seat : left_of_seat s w ≡ [] → w.seat + 1 < length s.seats → WalkGoesOn s w seat_on
+  goes_seat no_states more = record { walk = seat_walk (omega arith); left = seat_left no_states; falls = omega arith }
 
   pub no_seats : length s.seats ≤ w.seat + 1 → left_of_target s w ≡ []
   no_seats past = below-past (from_seat s (goal_of s w) w.action w.env w.target) (length s.seats) (w.seat + 1) past
 
-  -- the walk at the target's next state
-  abbrev pub target_on : ℕ → ℕ → Walk
-  target_on t row = record w { target = t; row = row; targets_taken = w.targets_taken + 1; seat = 0; states_taken = 0 }
+  -- the walk at the target's next state, which counts as the last where it is
+  abbrev pub target_on : ℕ → ℕ → ℕ → Walk
+  target_on t row m = record w { target = t; row = row; targets_taken = m; seat = 0; states_taken = 0 }
 
-  pub goes_target : (t row : ℕ) → left_of_seat s w ≡ [] → left_of_target s w ≡ [] → w.targets_taken < length (beh_prev s.target (goal_of s w).t w.env w.action) →
+  pub goes_target : (t row m : ℕ) → left_of_seat s w ≡ [] → left_of_target s w ≡ [] → w.targets_taken < length (beh_prev s.target (goal_of s w).t w.env w.action) →
       t ≡ get_or (beh_prev s.target (goal_of s w).t w.env w.action) w.targets_taken 0 → t < s.target.states →
-      row ≡ number (sizes_of s) (record { t = t; e = w.env; bs = (goal_of s w).bs }) → WalkGoesOn s w (target_on t row)
-  goes_target t row no_states no_seats more is within at =
+      row ≡ number (sizes_of s) (record { t = t; e = w.env; bs = (goal_of s w).bs }) → (w.targets_taken < m) × (m ≤ 64) →
+      drop m (beh_prev s.target (goal_of s w).t w.env w.action) ≡ drop (w.targets_taken + 1) (beh_prev s.target (goal_of s w).t w.env w.action) → WalkGoesOn s w (target_on t row m)
+  goes_target t row m no_states no_seats more is within at taken same =
       let targets = beh_prev s.target (goal_of s w).t w.env w.action in
       let rest = left_of_action s w ++ left_of_all s w in
       let f = from_target s (goal_of s w) w.action w.env in
-      let new = target_on t row in
-      let few : length targets ≤ 64 = few_beh_prev s.env s.target (goal_of s w).t w.env w.action sys.target in
-      let next : left_of_env s w ≡ f t ++ left_of_env s new = flat_map-drop f targets w.targets_taken 0 more ∙ ap (λ u. f u ++ left_of_env s new) (sym is) in
-      let seats : left_of_seat s new ++ left_of_target s new ≡ f t = all_seats s (goal_of s w) w.action w.env t in
+      let new = target_on t row m in
+      let next : left_of_env s w ≡ f t ++ left_of_env s new =
+      flat_map-drop f targets w.targets_taken 0 more ∙ ap₂ (λ u ts. f u ++ flat_map f ts) (sym is) (sym same) in
+      let seats : left_of_seat s new ++ left_of_target s new ≡ f t = seats_from s (goal_of s w) w.action w.env t 0 in
       let old : left s w ≡ f t ++ (left_of_env s new ++ rest) =
       after_none (left_of_seat s w) (left_of_target s w) (left_of_env s w ++ rest) no_states no_seats ∙ (ap (λ xs. xs ++ rest) next ∙ append_assoc (f t) (left_of_env s new) rest) in
       let then : left s new ≡ f t ++ (left_of_env s new ++ rest) =
       sym (append_assoc (left_of_seat s new) (left_of_target s new) (left_of_env s new ++ rest)) ∙ ap (λ xs. xs ++ (left_of_env s new ++ rest)) seats in
-      record {
-        walk = record {
-          pair = ok.pair;
-          to_target = ok.to_target;
-          to_env = ok.to_env;
-          to_states = ok.to_states;
-          leads = ok.leads;
-          action = ok.action;
-          env = ok.env;
-          target = within;
-          row = at;
-          seat = omega arith;
-          states_taken = omega arith;
-          targets_taken = omega arith;
-          envs_taken = ok.envs_taken;
-        };
-        left = then ∙ sym old;
-        falls = omega (arith, sys.few);
-      }
+      let first : 0 ≤ length s.seats = omega arith in
+      record { walk = assumption (none_taken); left = then ∙ sym old; falls = omega (arith, sys.few) }
 
   pub no_targets : length (beh_prev s.target (goal_of s w).t w.env w.action) ≤ w.targets_taken → left_of_env s w ≡ []
   no_targets past = flat_map-past (from_target s (goal_of s w) w.action w.env) (beh_prev s.target (goal_of s w).t w.env w.action) w.targets_taken past
 
-  -- the walk at the environment's next state
-  abbrev pub env_on : ℕ → ℕ → Walk
-  env_on e row = record w { env = e; row = row; envs_taken = w.envs_taken + 1; targets_taken = 0; seat = length s.seats; states_taken = 0 }
+  -- the walk at the environment's next state, which counts as the last where it is; k is the number of seats
+  abbrev pub env_on : ℕ → ℕ → ℕ → ℕ → Walk
+  env_on e row m k = record w { env = e; row = row; envs_taken = m; targets_taken = 0; seat = k; states_taken = 0 }
 
-  pub goes_env : (e row : ℕ) → left_of_seat s w ≡ [] → left_of_target s w ≡ [] → left_of_env s w ≡ [] → w.envs_taken < length (env_prev s.env (goal_of s w).e w.action) →
+  pub goes_env : (e row m k : ℕ) → left_of_seat s w ≡ [] → left_of_target s w ≡ [] → left_of_env s w ≡ [] → w.envs_taken < length (env_prev s.env (goal_of s w).e w.action) →
       e ≡ get_or (env_prev s.env (goal_of s w).e w.action) w.envs_taken 0 → e < s.env.states →
-      row ≡ number (sizes_of s) (record { t = w.target; e = e; bs = (goal_of s w).bs }) → WalkGoesOn s w (env_on e row)
-  goes_env e row no_states no_seats no_targets more is within at =
-      let envs = env_prev s.env (goal_of s w).e w.action in
+      row ≡ number (sizes_of s) (record { t = w.target; e = e; bs = (goal_of s w).bs }) → (w.envs_taken < m) × (m ≤ 64) →
+      drop m (env_prev s.env (goal_of s w).e w.action) ≡ drop (w.envs_taken + 1) (env_prev s.env (goal_of s w).e w.action) → k ≡ length s.seats → WalkGoesOn s w (env_on e row m k)
+  goes_env e row m k no_states no_seats no_targets more is within at taken same all =
       let rest = left_of_all s w in
       let f = from_env s (goal_of s w) w.action in
-      let new = env_on e row in
-      let few : length envs ≤ 64 = few_prev s.env (goal_of s w).e w.action sys.env in
-      let next : left_of_action s w ≡ f e ++ left_of_action s new = flat_map-drop f envs w.envs_taken 0 more ∙ ap (λ u. f u ++ left_of_action s new) (sym is) in
+      let new = env_on e row m k in
+      let past : k ≤ length s.seats = omega arith in
+      let next : left_of_action s w ≡ f e ++ left_of_action s new =
+      flat_map-drop f (env_prev s.env (goal_of s w).e w.action) w.envs_taken 0 more ∙ ap₂ (λ u es. f u ++ flat_map f es) (sym is) (sym same) in
       let old : left s w ≡ f e ++ (left_of_action s new ++ rest) =
       after_none (left_of_seat s w) (left_of_target s w) (left_of_env s w ++ (left_of_action s w ++ rest)) no_states no_seats
       ∙ (ap (λ xs. xs ++ (left_of_action s w ++ rest)) no_targets ∙ (ap (λ xs. xs ++ rest) next ∙ append_assoc (f e) (left_of_action s new) rest)) in
       let then : left s new ≡ f e ++ (left_of_action s new ++ rest) =
-      after_none (left_of_seat s new) (left_of_target s new) (f e ++ (left_of_action s new ++ rest)) (past_seat s (goal_of s w) w.action e w.target 0)
-      (below-past (from_seat s (goal_of s w) w.action e w.target) (length s.seats) (length s.seats + 1) (omega arith)) in
-      record {
-        walk = record {
-          pair = ok.pair;
-          to_target = ok.to_target;
-          to_env = ok.to_env;
-          to_states = ok.to_states;
-          leads = ok.leads;
-          action = ok.action;
-          env = within;
-          target = ok.target;
-          row = at;
-          seat = omega arith;
-          states_taken = omega arith;
-          targets_taken = omega arith;
-          envs_taken = omega arith;
-        };
-        left = then ∙ sym old;
-        falls = omega (arith, sys.few);
-      }
+      after_none (left_of_seat s new) (left_of_target s new) (f e ++ (left_of_action s new ++ rest)) (past_seat s (goal_of s w) w.action e w.target k 0 (omega arith))
+      (below-past (from_seat s (goal_of s w) w.action e w.target) (length s.seats) (k + 1) (omega arith)) in
+      record { walk = assumption (none_taken); left = then ∙ sym old; falls = omega (arith, sys.few) }
 
   pub no_envs : length (env_prev s.env (goal_of s w).e w.action) ≤ w.envs_taken → left_of_action s w ≡ []
   no_envs past = flat_map-past (from_env s (goal_of s w) w.action) (env_prev s.env (goal_of s w).e w.action) w.envs_taken past
 
-  -- the walk at the next action
-  abbrev pub action_on : Walk
-  action_on = record w { action = w.action + 1; envs_taken = 0; targets_taken = 64; seat = length s.seats; states_taken = 0 }
+  -- the walk at the next action, on which all of the environment's states count as taken where it doesn't lead to the pair
+  abbrev pub action_on : ℕ → ℕ → Walk
+  action_on m k = record w { action = w.action + 1; envs_taken = m; targets_taken = 64; seat = k; states_taken = 0 }
 
-  pub goes_action : left_of_seat s w ≡ [] → left_of_target s w ≡ [] → left_of_env s w ≡ [] → left_of_action s w ≡ [] → w.action + 1 < s.env.actions → WalkGoesOn s w action_on
-  goes_action no_states no_seats no_targets no_envs more =
+  pub goes_action : (m k : ℕ) → left_of_seat s w ≡ [] → left_of_target s w ≡ [] → left_of_env s w ≡ [] → left_of_action s w ≡ [] → w.action + 1 < s.env.actions →
+      (m ≡ 0) ⊎ ((m ≡ 64) × (bit_at w.leading (w.action + 1) ≡ 0)) → k ≡ length s.seats → WalkGoesOn s w (action_on m k)
+  goes_action m k no_states no_seats no_targets no_envs more first all =
       let q = goal_of s w in
       let a = w.action + 1 in
       let f = from_action s q in
-      let new = action_on in
+      let new = action_on m k in
+      let past : k ≤ length s.seats = omega arith in
+      let small : m ≤ 64 = elim first [ inl e ↦ omega (arith, e) | inr e ↦ omega (arith, e.0) ] in
       let next : left_of_all s w ≡ f a ++ left_of_all s new = flat_map-below f s.env.actions a more in
       let old : left s w ≡ f a ++ left_of_all s new =
       after_none (left_of_seat s w) (left_of_target s w) (left_of_env s w ++ (left_of_action s w ++ left_of_all s w)) no_states no_seats
       ∙ (after_none (left_of_env s w) (left_of_action s w) (left_of_all s w) no_targets no_envs ∙ next) in
-      let few : length (beh_prev s.target q.t w.env a) ≤ 64 = few_beh_prev s.env s.target q.t w.env a sys.target in
-      let targets : left_of_env s new ≡ [] = flat_map-past (from_target s q a w.env) (beh_prev s.target q.t w.env a) 64 few in
+      let targets : left_of_env s new ≡ [] = flat_map-past (from_target s q a w.env) (beh_prev s.target q.t w.env a) 64 (few_beh_prev s.env s.target q.t w.env a sys.target) in
+      let envs : left_of_action s new ≡ f a = elim first [
+        | inl e ↦ ap (λ i. flat_map (from_env s q a) (drop i (env_prev s.env q.e a))) e
+        | inr (e, bit) ↦ flat_map-past (from_env s q a) (env_prev s.env q.e a) m (omega (arith, e, few_prev s.env q.e a sys.env)) ∙ sym (ok.leads a more bit)
+      ] in
       let then : left s new ≡ f a ++ left_of_all s new =
-      after_none (left_of_seat s new) (left_of_target s new) (left_of_env s new ++ (f a ++ left_of_all s new)) (past_seat s q a w.env w.target 0)
-      (below-past (from_seat s q a w.env w.target) (length s.seats) (length s.seats + 1) (omega arith))
-      ∙ ap (λ xs. xs ++ (f a ++ left_of_all s new)) targets in
-      record {
-        walk = record {
-          pair = ok.pair;
-          to_target = ok.to_target;
-          to_env = ok.to_env;
-          to_states = ok.to_states;
-          leads = ok.leads;
-          action = more;
-          env = ok.env;
-          target = ok.target;
-          row = ok.row;
-          seat = omega arith;
-          states_taken = omega arith;
-          targets_taken = omega arith;
-          envs_taken = omega arith;
-        };
-        left = then ∙ sym old;
-        falls = omega (arith, sys.few);
-      }
+      after_none (left_of_seat s new) (left_of_target s new) (left_of_env s new ++ (left_of_action s new ++ left_of_all s new)) (past_seat s q a w.env w.target k 0 (omega arith))
+      (below-past (from_seat s q a w.env w.target) (length s.seats) (k + 1) (omega arith))
+      ∙ (ap (λ xs. xs ++ (left_of_action s new ++ left_of_all s new)) targets ∙ ap (λ xs. xs ++ left_of_all s new) envs) in
+      let taken : 64 ≤ 64 = omega arith in
+      record { walk = assumption (none_taken); left = then ∙ sym old; falls = omega (arith, sys.few, small) }
 
   pub no_actions : s.env.actions ≤ w.action + 1 → left_of_all s w ≡ []
   no_actions past = below-past (from_action s (goal_of s w)) s.env.actions (w.action + 1) past
-
-  -- the same, where the number of seats has another name
-  pub goes_env_at : (e row m : ℕ) → left_of_seat s w ≡ [] → left_of_target s w ≡ [] → left_of_env s w ≡ [] → w.envs_taken < length (env_prev s.env (goal_of s w).e w.action) →
-      e ≡ get_or (env_prev s.env (goal_of s w).e w.action) w.envs_taken 0 → e < s.env.states →
-      row ≡ number (sizes_of s) (record { t = w.target; e = e; bs = (goal_of s w).bs }) → m ≡ length s.seats →
-      WalkGoesOn s w (record w { env = e; row = row; envs_taken = w.envs_taken + 1; targets_taken = 0; seat = m; states_taken = 0 })
-  goes_env_at e row m no_states no_seats no_targets more is within at seats =
-      subst (λ k. WalkGoesOn s w (record w { env = e; row = row; envs_taken = w.envs_taken + 1; targets_taken = 0; seat = k; states_taken = 0 })) (sym seats)
-      (goes_env e row no_states no_seats no_targets more is within at)
-
-  pub goes_action_at : (m : ℕ) → left_of_seat s w ≡ [] → left_of_target s w ≡ [] → left_of_env s w ≡ [] → left_of_action s w ≡ [] → w.action + 1 < s.env.actions → m ≡ length s.seats →
-      WalkGoesOn s w (record w { action = w.action + 1; envs_taken = 0; targets_taken = 64; seat = m; states_taken = 0 })
-  goes_action_at m no_states no_seats no_targets no_envs more seats =
-      subst (λ k. WalkGoesOn s w (record w { action = w.action + 1; envs_taken = 0; targets_taken = 64; seat = k; states_taken = 0 })) (sym seats)
-      (goes_action no_states no_seats no_targets no_envs more)
-
--- more of the states before may count as taken, where the same are left
-module _ (s : Sys) (w v : Walk) (m : ℕ) (on : WalkGoesOn s w v) (small : m ≤ 64) where
-  pub more_targets : v.targets_taken ≤ m → drop m (beh_prev s.target (goal_of s v).t v.env v.action) ≡ drop v.targets_taken (beh_prev s.target (goal_of s v).t v.env v.action) →
-      WalkGoesOn s w (record v { targets_taken = m })
-  more_targets more same =
-      let ok = on.walk in
-      let f = from_target s (goal_of s v) v.action v.env in
-      record {
-        walk = record {
-          pair = ok.pair;
-          to_target = ok.to_target;
-          to_env = ok.to_env;
-          to_states = ok.to_states;
-          leads = ok.leads;
-          action = ok.action;
-          env = ok.env;
-          target = ok.target;
-          row = ok.row;
-          seat = ok.seat;
-          states_taken = ok.states_taken;
-          targets_taken = small;
-          envs_taken = ok.envs_taken;
-        };
-        left = ap (λ ts. left_of_seat s v ++ (left_of_target s v ++ (flat_map f ts ++ (left_of_action s v ++ left_of_all s v)))) same ∙ on.left;
-        falls = omega (arith, on.falls);
-      }
-
-  pub more_envs : v.envs_taken ≤ m → flat_map (from_env s (goal_of s v) v.action) (drop m (env_prev s.env (goal_of s v).e v.action)) ≡ left_of_action s v → WalkGoesOn s w (record v { envs_taken = m })
-  more_envs more same =
-      let ok = on.walk in
-      record {
-        walk = record {
-          pair = ok.pair;
-          to_target = ok.to_target;
-          to_env = ok.to_env;
-          to_states = ok.to_states;
-          leads = ok.leads;
-          action = ok.action;
-          env = ok.env;
-          target = ok.target;
-          row = ok.row;
-          seat = ok.seat;
-          states_taken = ok.states_taken;
-          targets_taken = ok.targets_taken;
-          envs_taken = small;
-        };
-        left = ap (λ ds. left_of_seat s v ++ (left_of_target s v ++ (left_of_env s v ++ (ds ++ left_of_all s v)))) same ∙ on.left;
-        falls = omega (arith, on.falls);
-      }
-
--- all of the environment's states count as taken on an action that doesn't lead to the pair
-pub leads_on : (s : Sys) (w v : Walk) (m : ℕ) → IsSys s → WalkGoesOn s w v → v.envs_taken ≡ 0 → (m ≡ 0) ⊎ ((m ≡ 64) × (bit_at v.leading v.action ≡ 0)) → WalkGoesOn s w (record v { envs_taken = m })
-leads_on s w v m sys on none first = elim first [
-  | inl e ↦ more_envs s w v m on (omega (arith, e)) (omega (arith, e, none)) (ap (λ i. flat_map (from_env s (goal_of s v) v.action) (drop i envs)) (e ∙ sym none))
-  | inr (e, bit) ↦ more_envs s w v m on (omega (arith, e)) (omega (arith, e, none))
-      (ap (flat_map (from_env s (goal_of s v) v.action)) (drop_all m envs (omega (arith, e, few)))
-      ∙ sym (ap (λ i. flat_map (from_env s (goal_of s v) v.action) (drop i envs)) none ∙ on.walk.leads v.action on.walk.action bit))
-]
-  where
-    envs : List ℕ
-    envs = env_prev s.env (goal_of s v).e v.action
-
-    few : length envs ≤ 64
-    few = few_prev s.env (goal_of s v).e v.action sys.env
 
 -- a seat's states before are few
 pub few_seat_prev : (s : Sys) (k b' e a : ℕ) → IsSys s → length (seat_prev (slice_get s.seats k) b' e a) ≤ 64
@@ -327,6 +188,7 @@ few_seat_prev s k b' e a sys = by (slice_get s.seats k) (λ seat there. sys.seat
 -- a state of the present seat is taken
 pub record Takes (s : Sys) (old new : Walk) (node : ℕ) : Type 0 where
   pub walk : IsWalk s new
+  pub action : new.action ≡ old.action
   pub left : left s old ≡ record { node = node; action = old.action; seat = old.seat } ∷ left s new
 
 module _ (s : Sys) (sys : IsSys s) (w : Walk) (ok : IsWalk s w) where
@@ -335,31 +197,12 @@ module _ (s : Sys) (sys : IsSys s) (w : Walk) (ok : IsWalk s w) where
       Takes s w (record w { states_taken = w.states_taken + 1 }) node
   takes_state node more is =
       let q = goal_of s w in
-      let f = from_states s q w.action w.env w.target w.seat in
-      let new : Walk = record w { states_taken = w.states_taken + 1 } in
       let few : length (states_before s w) ≤ 64 = few_seat_prev s w.seat (slice_index q.bs w.seat) w.env w.action sys in
-      let first : Delegation ℕ = delegation_of (number (sizes_of s) (record { t = w.target; e = w.env; bs = slice_set q.bs w.seat (get_or (states_before s w) w.states_taken 0) })) w.action w.seat in
-      let split : left_of_seat s w ≡ first ∷ left_of_seat s new = ap f (drop_more (states_before s w) w.states_taken 0 more) in
-      let rest = left_of_target s w ++ (left_of_env s w ++ (left_of_action s w ++ left_of_all s w)) in
-      let given : first ≡ delegation_of node w.action w.seat = ap (λ x. delegation_of x w.action w.seat) (sym is) in
-      record {
-        walk = record {
-          pair = ok.pair;
-          to_target = ok.to_target;
-          to_env = ok.to_env;
-          to_states = ok.to_states;
-          leads = ok.leads;
-          action = ok.action;
-          env = ok.env;
-          target = ok.target;
-          row = ok.row;
-          seat = ok.seat;
-          states_taken = omega arith;
-          targets_taken = ok.targets_taken;
-          envs_taken = ok.envs_taken;
-        };
-        left = ap (λ xs. xs ++ rest) split ∙ ap (λ d. d ∷ (left_of_seat s new ++ rest)) given;
-      }
+      let taken : w.states_taken + 1 ≤ 64 = omega arith in
+      let new : Walk = record w { states_taken = w.states_taken + 1 } in
+      let split : left_of_seat s w ≡ delegation_of node w.action w.seat ∷ left_of_seat s new =
+      ap (from_states s q w.action w.env w.target w.seat) (drop_more (states_before s w) w.states_taken 0 more) ∙ ap (λ x. delegation_of x w.action w.seat ∷ left_of_seat s new) (sym is) in
+      record { walk = assumption; action = refl; left = ap (λ xs. xs ++ (left_of_target s w ++ (left_of_env s w ++ (left_of_action s w ++ left_of_all s w)))) split }
     where
       delegation_of : ℕ → ℕ → ℕ → Delegation ℕ
       delegation_of node a k = record { node = node; action = a; seat = k }
@@ -368,58 +211,23 @@ module _ (s : Sys) (sys : IsSys s) (w : Walk) (ok : IsWalk s w) where
   no_state_left past = ap (from_states s (goal_of s w) w.action w.env w.target w.seat) (drop_all w.states_taken (states_before s w) past)
 
   pub no_state_there : length s.seats ≤ w.seat → left_of_seat s w ≡ []
-  no_state_there past =
-      let none : states_before s w ≡ [] = no_seat s.seats w.seat (slice_index (goal_of s w).bs w.seat) w.env w.action past in
-      no_state_left (omega (arith, ap length none))
-
--- a state of the present seat is taken, and the walk goes past it
-pub record Passes (s : Sys) (old new : Walk) (node : ℕ) : Type 0 where
-  pub walk : IsWalk s new
-  pub action : new.action ≡ old.action
-  pub left : left s old ≡ record { node = node; action = old.action; seat = old.seat } ∷ left s new
+  no_state_there past = past_seat s (goal_of s w) w.action w.env w.target w.seat w.states_taken past
 
 module _ (s : Sys) (sys : IsSys s) (w : Walk) (ok : IsWalk s w) where
-  -- where nothing is left of a seat, the walk may go on to the next place, also past the last seat
-  next_place : left_of_seat s w ≡ [] → w.seat < length s.seats → IsWalk s (seat_on s sys w ok) × (left s (seat_on s sys w ok) ≡ left s w)
-  next_place none within = elim (cases_lt (w.seat + 1) (length s.seats)) [
-    | inl more ↦ let on = goes_seat s sys w ok none more in (on.walk, on.left)
-    | inr last ↦
-        let v = seat_on s sys w ok in
-        let there : IsWalk s v = record {
-          pair = ok.pair;
-          to_target = ok.to_target;
-          to_env = ok.to_env;
-          to_states = ok.to_states;
-          leads = ok.leads;
-          action = ok.action;
-          env = ok.env;
-          target = ok.target;
-          row = ok.row;
-          seat = omega arith;
-          states_taken = omega arith;
-          targets_taken = ok.targets_taken;
-          envs_taken = ok.envs_taken;
-        } in
-        let rest = left_of_env s w ++ (left_of_action s w ++ left_of_all s w) in (
-          there,
-          after_none (left_of_seat s v) (left_of_target s v) rest (no_state_there s sys v there last) (no_seats s sys v there (omega arith))
-              ∙ sym (after_none (left_of_seat s w) (left_of_target s w) rest none (no_seats s sys w ok last)),
-        )
-  ]
-
-module _ (s : Sys) (sys : IsSys s) (w : Walk) (ok : IsWalk s w) where
+  -- a state of the present seat is taken, and with the last the walk goes past the seat
   pub passes_state : (node : ℕ) (new : Walk) → w.seat < length s.seats → w.states_taken < length (states_before s w) →
       node ≡ number (sizes_of s) (record { t = w.target; e = w.env; bs = slice_set (goal_of s w).bs w.seat (get_or (states_before s w) w.states_taken 0) }) →
       (w.states_taken + 1 < length (states_before s w) → new ≡ record w { states_taken = w.states_taken + 1 }) →
       (length (states_before s w) ≤ w.states_taken + 1 → new ≡ record w { seat = w.seat + 1; states_taken = 0 }) →
-      Passes s w new node
+      Takes s w new node
   passes_state node new within left is more last =
       elim (cases_lt (w.states_taken + 1) (length (states_before s w))) [
-        | inl less ↦ subst (λ v. Passes s w v node) (sym (more less)) (record { walk = takes.walk; action = refl; left = takes.left })
-        | inr past ↦
-            let on = next_place s sys v takes.walk (no_state_left s sys v takes.walk past) within in
-            subst (λ u. Passes s w u node) (sym (last past))
-            (record { walk = on.0; action = refl; left = takes.left ∙ ap (λ ds. record { node = node; action = w.action; seat = w.seat } ∷ ds) (sym on.1) })
+        | inl less ↦ subst (λ v. Takes s w v node) (sym (more less)) takes
+        | inr past ↦ subst (λ u. Takes s w u node) (sym (last past)) (record {
+            walk = seat_walk s sys v takes.walk within;
+            action = refl;
+            left = takes.left ∙ ap (λ ds. record { node = node; action = w.action; seat = w.seat } ∷ ds) (sym (seat_left s sys v takes.walk (no_state_left s sys v takes.walk past)));
+          })
       ]
     where
       v : Walk
@@ -450,30 +258,29 @@ first_walk p t e states leading m = record {
   states_taken = 0;
 }
 
-begins_at : (s : Sys) (p leading : ℕ) (states : List ℕ) → IsSys s → ((a : ℕ) → a < s.env.actions → bit_at leading a ≡ 0 → from_action s (pair_at (sizes_of s) p) a ≡ []) → p < count (sizes_of s) → take (length (sizes_of s).seats) states ≡ (pair_at (sizes_of s) p).bs →
-    Begins s p (first_walk p (pair_at (sizes_of s) p).t (pair_at (sizes_of s) p).e states leading (length s.seats))
-begins_at s p leading states sys leads below_p same =
+pub begins : (s : Sys) (p t e leading m : ℕ) (states : List ℕ) → IsSys s → ((a : ℕ) → a < s.env.actions → bit_at leading a ≡ 0 → from_action s (pair_at (sizes_of s) p) a ≡ []) → p < count (sizes_of s) → take (length (sizes_of s).seats) states ≡ (pair_at (sizes_of s) p).bs →
+    t ≡ (pair_at (sizes_of s) p).t → e ≡ (pair_at (sizes_of s) p).e → m ≡ length s.seats → Begins s p (first_walk p t e states leading m)
+begins s p t e leading m states sys leads below_p same is_t is_e is_m =
     let q : Pair = pair_at (sizes_of s) p in
     let pair : IsPair s q = (numbers_are_pairs s).pair p below_p in
-    let w : Walk = first_walk p q.t q.e states leading (length s.seats) in
+    let w : Walk = first_walk p t e states leading m in
     let many : length (sizes_of s).seats ≡ length s.seats = length-map s.seats (λ (x : Seat). x.beh.states) in
-    let few : length (beh_prev s.target q.t q.e 0) ≤ 64 = few_beh_prev s.env s.target q.t q.e 0 sys.target in
     let nothing : left s w ≡ left_of_action s w ++ left_of_all s w =
-    after_none (left_of_seat s w) (left_of_target s w) (left_of_env s w ++ (left_of_action s w ++ left_of_all s w)) (past_seat s q 0 q.e q.t 0)
-    (below-past (from_seat s q 0 q.e q.t) (length s.seats) (length s.seats + 1) (omega arith))
-    ∙ ap (λ xs. xs ++ (left_of_action s w ++ left_of_all s w)) (flat_map-past (from_target s q 0 q.e) (beh_prev s.target q.t q.e 0) 64 few) in
+    after_none (left_of_seat s w) (left_of_target s w) (left_of_env s w ++ (left_of_action s w ++ left_of_all s w)) (past_seat s q 0 e t m 0 (omega arith))
+    (below-past (from_seat s q 0 e t) (length s.seats) (m + 1) (omega arith))
+    ∙ ap (λ xs. xs ++ (left_of_action s w ++ left_of_all s w)) (flat_map-past (from_target s q 0 e) (beh_prev s.target q.t e 0) 64 (few_beh_prev s.env s.target q.t e 0 sys.target)) in
     let all : from_all s q ≡ left_of_action s w ++ left_of_all s w = flat_map-below (from_action s q) s.env.actions 0 sys.env.actions.0 in
     record {
       walk = record {
         pair = below_p;
-        to_target = refl;
-        to_env = refl;
+        to_target = is_t;
+        to_env = is_e;
         to_states = λ k l. sym (get_or-take (length (sizes_of s).seats) states k 0 (omega arith)) ∙ ap (λ bs. slice_index bs k) same;
         leads = leads;
         action = sys.env.actions.0;
-        env = pair.e;
-        target = pair.t;
-        row = sym ((numbers_are_pairs s).there p below_p);
+        env = omega (arith, is_e, pair.e);
+        target = omega (arith, is_t, pair.t);
+        row = rw (is_t, is_e) (sym ((numbers_are_pairs s).there p below_p));
         seat = omega arith;
         states_taken = omega arith;
         targets_taken = omega arith;
@@ -481,10 +288,3 @@ begins_at s p leading states sys leads below_p same =
       };
       left = subst (λ xs. HoldsEachOnce xs (back (numbered s) p)) (all ∙ sym nothing) (found_backwards s p sys below_p);
     }
-
-pub begins : (s : Sys) (p t e leading m : ℕ) (states : List ℕ) → IsSys s → ((a : ℕ) → a < s.env.actions → bit_at leading a ≡ 0 → from_action s (pair_at (sizes_of s) p) a ≡ []) → p < count (sizes_of s) → take (length (sizes_of s).seats) states ≡ (pair_at (sizes_of s) p).bs →
-    t ≡ (pair_at (sizes_of s) p).t → e ≡ (pair_at (sizes_of s) p).e → m ≡ length s.seats → Begins s p (first_walk p t e states leading m)
-begins s p t e leading m states sys leads below_p same is_t is_e is_m =
-    subst (λ x. Begins s p (first_walk p x e states leading m)) (sym is_t)
-    (subst (λ x. Begins s p (first_walk p (pair_at (sizes_of s) p).t x states leading m)) (sym is_e)
-    (subst (λ x. Begins s p (first_walk p (pair_at (sizes_of s) p).t (pair_at (sizes_of s) p).e states leading x)) (sym is_m) (begins_at s p leading states sys leads below_p same)))

@@ -1,18 +1,16 @@
 -- The lanes of words that are combined.
-use Rattle.std.proofs.Common.{◌≡◌, ◌≢◌, ℕ, zero, ◌+◌, ◌-◌, ◌*◌, ◌/◌, ◌%◌, ◌^◌, ◌<◌, ◌≤◌, min, max, Bool, true, false, not, ◌&&◌, ◌||◌, List, [], ◌∷◌, ◌++◌, length, take, get_or, inl, inr, refl, sym, ap, ap₂, ◌∙◌, arith, eqb, ltb, bit_and}
+use Rattle.std.proofs.Common.{◌≡◌, ◌≢◌, ℕ, ◌+◌, ◌-◌, ◌*◌, ◌/◌, ◌%◌, ◌^◌, ◌<◌, ◌≤◌, Bool, true, false, not, ◌&&◌, ◌||◌, List, [], ◌∷◌, ◌++◌, length, take, get_or, inl, inr, refl, sym, ap, ◌∙◌, arith, eqb, ltb, bit_and}
+use Rattle.std.proofs.Math.Bool.{and_assoc, and-true, or-false, not-not}
 use Rattle.std.specs.Int.{bit_at, bit_not, w64}
 use Rattle.std.specs.Prelude.{bit_or}
 use Rattle.std.specs.List.{list_any}
-use Rattle.std.proofs.lemmas.Bool.{cases_eq, cases_lt, lt-ltb, le-ltb}
+use Rattle.std.proofs.lemmas.Bool.{cases_lt, lt-ltb, le-ltb}
 use Rattle.std.proofs.lemmas.Nat.{shr-shr, pow_pos}
-use Rattle.std.proofs.lemmas.Nat.Bits.{bit_at_and, bit_at_or, bit_at_not, bit_at-lt, bit_at-zero, bit_at_ones, bit_at_ones_above, bit_at_cat_low, bit_at_cat_high, bit_at_above, bit_at_set_same, bit_at_set_other, shr_and_one}
+use Rattle.std.proofs.lemmas.Nat.Bits.{bit_at-zero, bit_at_ones, bit_at_ones_above, bit_at_cat_low, bit_at_cat_high, bit_at_above, bit_at_set_same, bit_at_set_other, shr_and_one}
 use Rattle.std.proofs.lemmas.List.{take_more}
 use Rattle.std.proofs.lemmas.List.Folds.{list_any-append}
 use Rattle.roman_lanes.specs.Rows.{is_on}
-
-pub on_zero : (i : ℕ) → is_on zero i ≡ false
-unfolding is_on
-on_zero i = ap (λ n. eqb n 1) (bit_at-zero i)
+use Rattle.roman_lanes.proofs.RowBits.{on_and, on_not}
 
 -- the first lanes
 pub on_first : (k i : ℕ) → is_on (2 ^ k - 1) i ≡ ltb i k
@@ -21,48 +19,6 @@ on_first k i = elim (cases_lt i k) [
   | inl less ↦ ap (λ n. eqb n 1) (bit_at_ones k i less) ∙ sym (lt-ltb i k less)
   | inr more ↦ ap (λ n. eqb n 1) (bit_at_ones_above k i more) ∙ sym (le-ltb i k more)
 ]
-
-min_on : (m n : ℕ) → m < 2 → n < 2 → eqb (min m n) 1 ≡ (eqb m 1 && eqb n 1)
-min_on m n h l = elim (cases_eq m 1) [
-  | inl one ↦ elim (cases_eq n 1) [
-    | inl other ↦ rw (one, other) refl
-    | inr none ↦ let e : n ≡ 0 = omega arith in rw (one, e) refl
-  ]
-  | inr none ↦ elim (cases_eq n 1) [
-    | inl other ↦ let e : m ≡ 0 = omega arith in rw (e, other) refl
-    | inr neither ↦ let e : m ≡ 0 = omega arith in let f : n ≡ 0 = omega arith in rw (e, f) refl
-  ]
-]
-
-max_on : (m n : ℕ) → m < 2 → n < 2 → eqb (max m n) 1 ≡ (eqb m 1 || eqb n 1)
-max_on m n h l = elim (cases_eq m 1) [
-  | inl one ↦ elim (cases_eq n 1) [
-    | inl other ↦ rw (one, other) refl
-    | inr none ↦ let e : n ≡ 0 = omega arith in rw (one, e) refl
-  ]
-  | inr none ↦ elim (cases_eq n 1) [
-    | inl other ↦ let e : m ≡ 0 = omega arith in rw (e, other) refl
-    | inr neither ↦ let e : m ≡ 0 = omega arith in let f : n ≡ 0 = omega arith in rw (e, f) refl
-  ]
-]
-
-not_on : (m : ℕ) → m < 2 → eqb (1 - m) 1 ≡ not (eqb m 1)
-not_on m h = elim (cases_eq m 1) [
-  | inl one ↦ rw one refl
-  | inr none ↦ let e : m ≡ 0 = omega arith in rw e refl
-]
-
-pub on_and : (a b i : ℕ) → is_on (bit_and a b) i ≡ (is_on a i && is_on b i)
-unfolding is_on
-on_and a b i = ap (λ n. eqb n 1) (bit_at_and a b i) ∙ min_on (bit_at a i) (bit_at b i) (bit_at-lt a i) (bit_at-lt b i)
-
-pub on_or : (a b i : ℕ) → is_on (bit_or a b) i ≡ (is_on a i || is_on b i)
-unfolding is_on
-on_or a b i = ap (λ n. eqb n 1) (bit_at_or a b i) ∙ max_on (bit_at a i) (bit_at b i) (bit_at-lt a i) (bit_at-lt b i)
-
-pub on_not : (a i : ℕ) → a < 2 ^ 64 → i < 64 → is_on (bit_not w64 a) i ≡ not (is_on a i)
-unfolding is_on
-on_not a i h l = ap (λ n. eqb n 1) (bit_at_not w64 a i h l) ∙ not_on (bit_at a i) (bit_at-lt a i)
 
 pub on_past : (a i : ℕ) → a < 2 ^ 64 → 64 ≤ i → is_on a i ≡ false
 unfolding is_on
@@ -109,48 +65,32 @@ none_more p xs x = ap not (list_any-append p xs (x ∷ [])) ∙ by_cases (list_a
   where
     by_cases : (a b : Bool) → not (a || (b || false)) ≡ (not a && not b)
     by_cases true b = refl
-    by_cases false true = refl
-    by_cases false false = refl
+    by_cases false b = ap not (or-false b)
 
 pub some_more : {X : Type 0} (p : X → Bool) (xs : List X) (i : ℕ) (d : X) → i < length xs → list_any p (take (i + 1) xs) ≡ (list_any p (take i xs) || p (get_or xs i d))
-some_more p xs i d l = ap (list_any p) (take_more xs i d l) ∙ (list_any-append p (take i xs) (get_or xs i d ∷ []) ∙ ap (λ b. list_any p (take i xs) || b) (last (p (get_or xs i d))))
-  where
-    last : (b : Bool) → (b || false) ≡ b
-    last true = refl
-    last false = refl
+some_more p xs i d l = ap (list_any p) (take_more xs i d l) ∙ (list_any-append p (take i xs) (get_or xs i d ∷ []) ∙ ap (λ b. list_any p (take i xs) || b) (or-false (p (get_or xs i d))))
+
+-- none of both
+pub none_after : {X : Type 0} (test : X → Bool) (xs : List X) (i : ℕ) (d : X) (good alive next : Bool) → i < length xs →
+    alive ≡ (good && not (list_any test (take i xs))) → next ≡ (alive && not (test (get_or xs i d))) → next ≡ (good && not (list_any test (take (i + 1) xs)))
+none_after test xs i d good alive next l before here =
+    here ∙ (ap (λ a. a && not (test (get_or xs i d))) before ∙ (and_assoc good (not (list_any test (take i xs))) (not (test (get_or xs i d)))
+    ∙ ap (λ b. good && b) (sym (none_more test (take i xs) (get_or xs i d)) ∙ ap (λ ys. not (list_any test ys)) (sym (take_more xs i d l)))))
 
 -- one word more
 pub alive_more : {X : Type 0} (test : X → Bool) (xs : List X) (i : ℕ) (d : X) (good alive word lane : ℕ) → i < length xs →
     is_on alive lane ≡ (is_on good lane && not (list_any test (take i xs))) → is_on word lane ≡ not (test (get_or xs i d)) →
     is_on (bit_and alive word) lane ≡ (is_on good lane && not (list_any test (take (i + 1) xs)))
 alive_more test xs i d good alive word lane l before here =
-    on_and alive word lane ∙ (ap₂ (λ a b. a && b) before here ∙ (shift (is_on good lane) (not (list_any test (take i xs))) (not (test (get_or xs i d)))
-    ∙ ap (λ b. is_on good lane && b) (sym (none_more test (take i xs) (get_or xs i d)) ∙ ap (λ ys. not (list_any test ys)) (sym (take_more xs i d l)))))
-  where
-    shift : (a b c : Bool) → ((a && b) && c) ≡ (a && (b && c))
-    shift true b c = refl
-    shift false b c = refl
-
--- none of both
-pub none_after : {X : Type 0} (test : X → Bool) (xs : List X) (i : ℕ) (d : X) (good alive next : Bool) → i < length xs →
-    alive ≡ (good && not (list_any test (take i xs))) → next ≡ (alive && not (test (get_or xs i d))) → next ≡ (good && not (list_any test (take (i + 1) xs)))
-none_after test xs i d good alive next l before here =
-    here ∙ (ap (λ a. a && not (test (get_or xs i d))) before ∙ (shift good (not (list_any test (take i xs))) (not (test (get_or xs i d)))
-    ∙ ap (λ b. good && b) (sym (none_more test (take i xs) (get_or xs i d)) ∙ ap (λ ys. not (list_any test ys)) (sym (take_more xs i d l)))))
-  where
-    shift : (a b c : Bool) → ((a && b) && c) ≡ (a && (b && c))
-    shift true b c = refl
-    shift false b c = refl
+    none_after test xs i d (is_on good lane) (is_on alive lane) (is_on (bit_and alive word) lane) l before (on_and alive word lane ∙ ap (λ b. is_on alive lane && b) here)
 
 -- what is on is said twice
 pub not_not : (b : Bool) → b ≡ not (not b)
-not_not true = refl
-not_not false = refl
+not_not b = sym (not-not b)
 
 -- nothing is tested
 pub all_pass : (b : Bool) → b ≡ (b && true)
-all_pass true = refl
-all_pass false = refl
+all_pass b = sym (and-true b)
 
 -- those of a word that aren't of another
 pub on_less : (word other lane : ℕ) → word < 2 ^ 64 → other < 2 ^ 64 → is_on (bit_and word (bit_not w64 other)) lane ≡ (is_on word lane && not (is_on other lane))

@@ -8,7 +8,7 @@ use Rattle.roman_lanes.specs.Rows.{is_on}
 use Rattle.roman_joint.specs.NamedSys.{system_of}
 use Rattle.roman_radix.specs.Rows.{low_of, lanes_of}
 use Rattle.roman_joint.specs.Rows.{AreRowsOf, lane_has_state, may_rest}
-use Rattle.roman_joint.proofs.WordLemmas.{on_zero}
+use Rattle.roman_lanes.proofs.RowBits.{on_zero}
 use Rattle.roman_joint.proofs.SplitLemmas.{joint_sizes}
 use Rattle.roman_joint.proofs.GoodLemmas.{within, below_more, state_is}
 use Rattle.roman_joint.proofs.FineLemmas.{same_state}

@@ -1,5 +1,4 @@
-use Rattle.std.proofs.Common.{◌||◌, not, ◌∙◌, List, get_or, sym, ap, arith}
-use Rattle.roman_parts.specs.Named.{NamedBeh}
+use Rattle.std.proofs.Common.{◌||◌, not, ◌∙◌, sym, ap, arith}
 use Rattle.roman_model.specs.System.{is_final}
 use Rattle.roman_joint.specs.NamedSys.{seat_of}
 use Rattle.roman_joint.specs.Rows.{may_rest}
@@ -14,14 +13,12 @@ returns-then-not-seat c =
 
 pub is_final-requires : goal.is_final-requires
 is_final-requires c =
-    let r = seat_read c.args.joint.now c.args.k c.seat-seat.result.now c.index-catalogue-seat.result c.known.ensures c.seat-seat.ensures
-    (c.index-catalogue-seat.is ∙ ap (λ (ys : List NamedBeh). get_or ys c.seat-seat.result.now.behaviour c.index-catalogue-seat.result) c.catalogue.ensures) in
+    let r = seat_read c.args.joint.now c.args.k c.seat-seat.result.now c.catalogue.result.now c.index-catalogue-seat.result c.known.ensures c.seat-seat.ensures c.catalogue.ensures c.index-catalogue-seat.is in
     omega (arith, c.requires.state, r.size)
 
 pub returns : goal.returns
 returns c =
     let n = c.args.joint.now in
-    let r = seat_read n c.args.k c.seat-seat.result.now c.index-catalogue-seat.result c.known.ensures c.seat-seat.ensures
-    (c.index-catalogue-seat.is ∙ ap (λ (ys : List NamedBeh). get_or ys c.seat-seat.result.now.behaviour c.index-catalogue-seat.result) c.catalogue.ensures) in
+    let r = seat_read n c.args.k c.seat-seat.result.now c.catalogue.result.now c.index-catalogue-seat.result c.known.ensures c.seat-seat.ensures c.catalogue.ensures c.index-catalogue-seat.is in
     c.is_final.ensures ∙ sym (ap (λ o. may_rest o c.args.b) r.seated
     ∙ (ap (λ b. not b || is_final (seat_of n.catalogue c.seat-seat.result.now).beh c.args.b) c.if-not-seat.false ∙ ap (λ z. is_final z c.args.b) (sym r.beh)))

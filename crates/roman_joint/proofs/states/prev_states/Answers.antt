@@ -1,5 +1,4 @@
-use Rattle.std.proofs.Common.{◌≡◌, ◌∙◌, List, length, slice_get, get_or, sym, ap, arith}
-use Rattle.roman_parts.specs.Named.{NamedBeh}
+use Rattle.std.proofs.Common.{◌≡◌, ◌∙◌, length, slice_get, sym, ap, arith}
 use Rattle.roman_model.specs.System.{beh_prev}
 use Rattle.roman_joint.specs.Backward.{seat_prev}
 use Rattle.roman_joint.specs.NamedSys.{system_of, seat_of}
@@ -10,20 +9,17 @@ use Rattle.roman_joint.proofs.states.prev_states.Goals as goal
 
 pub into-requires : goal.into-requires
 into-requires c =
-    let r = seat_read c.args.joint.now c.args.k c.seat-seat.result.now c.index-catalogue-seat.result c.known.ensures c.seat-seat.ensures
-    (c.index-catalogue-seat.is ∙ ap (λ (ys : List NamedBeh). get_or ys c.seat-seat.result.now.behaviour c.index-catalogue-seat.result) c.catalogue.ensures) in
+    let r = seat_read c.args.joint.now c.args.k c.seat-seat.result.now c.catalogue.result.now c.index-catalogue-seat.result c.known.ensures c.seat-seat.ensures c.catalogue.ensures c.index-catalogue-seat.is in
     record { state = omega (arith, r.size); env_state = omega (arith, r.env_states); action = omega (arith, r.actions) }
 
 pub returns : goal.returns
 returns c =
     let n = c.args.joint.now in
-    let s = system_of n in
-    let r = seat_read n c.args.k c.seat-seat.result.now c.index-catalogue-seat.result c.known.ensures c.seat-seat.ensures
-    (c.index-catalogue-seat.is ∙ ap (λ (ys : List NamedBeh). get_or ys c.seat-seat.result.now.behaviour c.index-catalogue-seat.result) c.catalogue.ensures) in
-    let prev : c.into.result.now ≡ seat_prev (slice_get s.seats c.args.k) c.args.b c.args.e c.args.a =
+    let r = seat_read n c.args.k c.seat-seat.result.now c.catalogue.result.now c.index-catalogue-seat.result c.known.ensures c.seat-seat.ensures c.catalogue.ensures c.index-catalogue-seat.is in
+    let prev : c.into.result.now ≡ seat_prev (slice_get (system_of n).seats c.args.k) c.args.b c.args.e c.args.a =
     c.into.ensures.prev ∙ sym (ready_prev _ (seat_of n.catalogue c.seat-seat.result.now) c.args.b c.args.e c.args.a r.seated c.if-seat.false ∙ ap (λ z. beh_prev z c.args.b c.args.e c.args.a) (sym r.beh)) in
     record {
       prev = prev;
       below = λ i d l. omega (arith, c.into.ensures.below i d l, r.size);
-      few = omega (arith, few_seat_prev s c.args.k c.args.b c.args.e c.args.a c.known.ensures.system, ap length prev);
+      few = omega (arith, few_seat_prev (system_of n) c.args.k c.args.b c.args.e c.args.a c.known.ensures.system, ap length prev);
     }

@@ -5,7 +5,8 @@ use Rattle.std.specs.List.{list_any}
 use Rattle.std.proofs.lemmas.Bool.{cases_eq, eq-eqb, ne_eqb}
 use Rattle.std.proofs.lemmas.List.{get_or-set_same, get_or-set_other, length-set}
 use Rattle.roman_lanes.specs.Rows.{is_on}
-use Rattle.roman_joint.proofs.WordLemmas.{on_or, some_more}
+use Rattle.roman_lanes.proofs.RowBits.{on_or}
+use Rattle.roman_joint.proofs.WordLemmas.{some_more}
 use Rattle.roman_joint.proofs.ways.add_ways.Goals as goal
 
 none_yet : (b c : Bool) → b ≡ (b || (c && false))

@@ -10,7 +10,7 @@ use Rattle.roman_radix.proofs.Strides.{AreSizes-index}
 use Rattle.roman_lanes.specs.Rows.{is_on}
 use Rattle.roman_joint.specs.Moves.{lane_state_of}
 use Rattle.roman_joint.proofs.SeatRead.{len_empty}
-use Rattle.roman_joint.proofs.WordLemmas.{on_zero}
+use Rattle.roman_lanes.proofs.RowBits.{on_zero}
 use Rattle.roman_joint.proofs.GoodLemmas.{below_more, state_is}
 use Rattle.roman_joint.proofs.FineLemmas.{same_state}
 use Rattle.roman_joint.proofs.ways.ways_of.Goals as goal

@@ -1,7 +1,7 @@
 use Rattle.std.proofs.Common.{◌≡◌, Bool, true, false, not, ◌&&◌, ◌||◌, refl, ap, ◌∙◌}
 use Rattle.std.specs.Int.{bit_not, w64}
 use Rattle.roman_lanes.specs.Rows.{is_on}
-use Rattle.roman_joint.proofs.WordLemmas.{on_or, on_not}
+use Rattle.roman_lanes.proofs.RowBits.{on_or, on_not}
 use Rattle.roman_joint.proofs.words.unmoved.Goals as goal
 
 pub returns : goal.returns

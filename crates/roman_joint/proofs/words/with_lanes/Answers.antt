@@ -1,6 +1,6 @@
 use Rattle.std.proofs.Common.{◌≡◌, Bool, true, false, ◌&&◌, ◌||◌, refl, sym, ap, ◌∙◌}
 use Rattle.roman_lanes.specs.Rows.{is_on}
-use Rattle.roman_joint.proofs.WordLemmas.{on_or}
+use Rattle.roman_lanes.proofs.RowBits.{on_or}
 use Rattle.roman_joint.proofs.words.with_lanes.Goals as goal
 
 pub returns-then-is_in : goal.returns-then-is_in

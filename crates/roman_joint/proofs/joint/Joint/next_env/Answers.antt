@@ -1,13 +1,11 @@
 use Rattle.std.proofs.Common.{length, get_or, refl, sym, ap, ◌∙◌, arith}
-use Rattle.std.specs.List.{flat_map}
 use Rattle.std.proofs.lemmas.List.{length-map}
 use Rattle.roman_model.specs.System.{env_prev}
 use Rattle.roman_radix.specs.Radix.{env_stride_of}
 use Rattle.roman_joint.specs.NamedSys.{system_of, seat_of}
-use Rattle.roman_joint.specs.Backward.{from_env}
 use Rattle.roman_joint.specs.Walks.{goal_of}
 use Rattle.roman_joint.proofs.Rows.{count_fits, env_moves}
-use Rattle.roman_joint.proofs.WalkLemmas.{goes_env_at, no_envs, more_envs, few_prev}
+use Rattle.roman_joint.proofs.WalkLemmas.{goes_env, no_envs, few_prev}
 use Rattle.roman_joint.proofs.joint.Joint.next_env.Goals as goal
 
 pub moved-walk-requires : goal.moved-walk-requires
@@ -25,10 +23,10 @@ returns c =
     let envs = c.envs_before-envs.ensures in
     let within = envs.below w.envs_taken 0 c.if-taken-envs.false in
     let to = env_moves s w (get_or c.envs_before-envs.result.now w.envs_taken 0) c.env_stride.result c.requires.walk within (c.env_stride.ensures ∙ ap env_stride_of c.shape.ensures) in
-    let on = goes_env_at s c.known.ensures.system w c.requires.walk _ c.moved-walk.result c.seats-walk.result c.requires.seat c.requires.target c.requires.env
-    (omega (arith, ap length envs.prev)) (ap (λ xs. get_or xs w.envs_taken 0) envs.prev) within (c.moved-walk.ensures ∙ to.number) (c.seats-walk.ensures.count ∙ sym (length-map n.seats (seat_of n.catalogue))) in
-    more_envs s w _ c.one_more-walk.result on c.one_more-walk.ensures.more.1 (omega (arith, c.one_more-walk.ensures.more.0))
-    (ap (flat_map (from_env s (goal_of s w) w.action)) (c.one_more-walk.ensures.same (env_prev s.env (goal_of s w).e w.action) (sym (ap length envs.prev))))
+    goes_env s c.known.ensures.system w c.requires.walk _ c.moved-walk.result c.one_more-walk.result c.seats-walk.result c.requires.seat c.requires.target c.requires.env
+    (omega (arith, ap length envs.prev)) (ap (λ xs. get_or xs w.envs_taken 0) envs.prev) within (c.moved-walk.ensures ∙ to.number)
+    c.one_more-walk.ensures.more (c.one_more-walk.ensures.same (env_prev s.env (goal_of s w).e w.action) (sym (ap length envs.prev)))
+    (c.seats-walk.ensures.count ∙ sym (length-map n.seats (seat_of n.catalogue)))
 
 pub returns-then-walk-ge-MAX_STATES : goal.returns-then-walk-ge-MAX_STATES
 returns-then-walk-ge-MAX_STATES c =

@@ -4,7 +4,7 @@ use Rattle.roman_radix.specs.Radix.{target_stride_of}
 use Rattle.roman_joint.specs.NamedSys.{system_of}
 use Rattle.roman_joint.specs.Walks.{goal_of}
 use Rattle.roman_joint.proofs.Rows.{count_fits, target_moves}
-use Rattle.roman_joint.proofs.WalkLemmas.{goes_target, no_targets, more_targets, few_beh_prev}
+use Rattle.roman_joint.proofs.WalkLemmas.{goes_target, no_targets, few_beh_prev}
 use Rattle.roman_joint.proofs.joint.Joint.next_target.Goals as goal
 
 pub moved-walk-requires : goal.moved-walk-requires
@@ -21,9 +21,9 @@ returns c =
     let targets = c.targets_before-targets.ensures in
     let within = targets.below w.targets_taken 0 c.if-taken-targets.false in
     let to = target_moves s w (get_or c.targets_before-targets.result.now w.targets_taken 0) c.target_stride.result c.requires.walk within (c.target_stride.ensures ∙ ap target_stride_of c.shape.ensures) in
-    let on = goes_target s c.known.ensures.system w c.requires.walk _ c.moved-walk.result c.requires.seat c.requires.target (omega (arith, ap length targets.prev)) (ap (λ xs. get_or xs w.targets_taken 0) targets.prev)
-    within (c.moved-walk.ensures ∙ to.number) in
-    more_targets s w _ c.one_more-walk.result on c.one_more-walk.ensures.more.1 (omega (arith, c.one_more-walk.ensures.more.0)) (c.one_more-walk.ensures.same (beh_prev s.target (goal_of s w).t w.env w.action) (sym (ap length targets.prev)))
+    goes_target s c.known.ensures.system w c.requires.walk _ c.moved-walk.result c.one_more-walk.result c.requires.seat c.requires.target
+    (omega (arith, ap length targets.prev)) (ap (λ xs. get_or xs w.targets_taken 0) targets.prev) within (c.moved-walk.ensures ∙ to.number)
+    c.one_more-walk.ensures.more (c.one_more-walk.ensures.same (beh_prev s.target (goal_of s w).t w.env w.action) (sym (ap length targets.prev)))
 
 pub returns-then-walk-ge-MAX_STATES : goal.returns-then-walk-ge-MAX_STATES
 returns-then-walk-ge-MAX_STATES c =

@@ -5,33 +5,24 @@ use Rattle.roman_joint.proofs.Shown.{Shows, shown, seats_shown}
 use Rattle.roman_joint.proofs.SceneLemmas.{leads_nowhere}
 use Rattle.roman_joint.proofs.WalkLemmas.{Begins, first_walk, begins}
 use Rattle.roman_joint.proofs.joint.Joint.walk.Goals as goal
+use Rattle.roman_joint.proofs.joint.Joint.walk.Goals.{After-len}
+
+first : (c : After-len) → Begins (system_of c.args.self.now) c.args.p2
+    (first_walk c.args.p2 c.target_of-to_target.result c.env_of-to_env.result c.parts_of.result c.scene_at-scene.result.leading c.len.result)
+first c =
+    let a = c.self.inside in
+    let n = c.args.self.now in
+    let s = system_of n in
+    let fields : Shows a n = shown a n c.self.invariant c.self.view_is in
+    let states : take (length (sizes_of s).seats) c.parts_of.result ≡ (pair_at (sizes_of s) c.args.p2).bs =
+    subst (λ (m : Sizes). take (length m.seats) c.parts_of.result ≡ (pair_at m c.args.p2).bs) fields.shape c.parts_of.ensures in
+    begins s c.args.p2 c.target_of-to_target.result c.env_of-to_env.result c.scene_at-scene.result.leading c.len.result c.parts_of.result fields.known.system
+    (leads_nowhere s (pair_at (sizes_of s) c.args.p2) c.scene_at-scene.result.leading c.scene_at-scene.ensures.leading) c.requires states
+    (c.target_of-to_target.ensures.value ∙ ap (λ (m : Sizes). (pair_at m c.args.p2).t) fields.shape)
+    (c.env_of-to_env.ensures.value ∙ ap (λ (m : Sizes). (pair_at m c.args.p2).e) fields.shape) (c.len.ensures ∙ seats_shown a n fields)
 
 pub returns-clause-walk : goal.returns-clause-walk
-returns-clause-walk c =
-    let a = c.self.inside in
-    let n = c.args.self.now in
-    let s = system_of n in
-    let fields : Shows a n = shown a n c.self.invariant c.self.view_is in
-    let states : take (length (sizes_of s).seats) c.parts_of.result ≡ (pair_at (sizes_of s) c.args.p2).bs =
-    subst (λ (m : Sizes). take (length m.seats) c.parts_of.result ≡ (pair_at m c.args.p2).bs) fields.shape c.parts_of.ensures in
-    let first : Begins s c.args.p2 (first_walk c.args.p2 c.target_of-to_target.result c.env_of-to_env.result c.parts_of.result c.scene_at-scene.result.leading c.len.result) =
-    begins s c.args.p2 c.target_of-to_target.result c.env_of-to_env.result c.scene_at-scene.result.leading c.len.result c.parts_of.result fields.known.system
-    (leads_nowhere s (pair_at (sizes_of s) c.args.p2) c.scene_at-scene.result.leading c.scene_at-scene.ensures.leading) c.requires states
-    (c.target_of-to_target.ensures.value ∙ ap (λ (m : Sizes). (pair_at m c.args.p2).t) fields.shape)
-    (c.env_of-to_env.ensures.value ∙ ap (λ (m : Sizes). (pair_at m c.args.p2).e) fields.shape) (c.len.ensures ∙ seats_shown a n fields) in
-    first.walk
+returns-clause-walk c = (first (goal.at.returns-clause-walk c).After-len).walk
 
 pub returns-clause-left : goal.returns-clause-left
-returns-clause-left c =
-    let a = c.self.inside in
-    let n = c.args.self.now in
-    let s = system_of n in
-    let fields : Shows a n = shown a n c.self.invariant c.self.view_is in
-    let states : take (length (sizes_of s).seats) c.parts_of.result ≡ (pair_at (sizes_of s) c.args.p2).bs =
-    subst (λ (m : Sizes). take (length m.seats) c.parts_of.result ≡ (pair_at m c.args.p2).bs) fields.shape c.parts_of.ensures in
-    let first : Begins s c.args.p2 (first_walk c.args.p2 c.target_of-to_target.result c.env_of-to_env.result c.parts_of.result c.scene_at-scene.result.leading c.len.result) =
-    begins s c.args.p2 c.target_of-to_target.result c.env_of-to_env.result c.scene_at-scene.result.leading c.len.result c.parts_of.result fields.known.system
-    (leads_nowhere s (pair_at (sizes_of s) c.args.p2) c.scene_at-scene.result.leading c.scene_at-scene.ensures.leading) c.requires states
-    (c.target_of-to_target.ensures.value ∙ ap (λ (m : Sizes). (pair_at m c.args.p2).t) fields.shape)
-    (c.env_of-to_env.ensures.value ∙ ap (λ (m : Sizes). (pair_at m c.args.p2).e) fields.shape) (c.len.ensures ∙ seats_shown a n fields) in
-    first.left
+returns-clause-left c = (first (goal.at.returns-clause-left c).After-len).left
