@@ -1,17 +1,21 @@
--- Whether an action is allowed at the pairs of a row.
-use Rattle.std.proofs.Common.{◌≡◌, ℕ, ◌+◌, ◌*◌, ◌<◌, ◌≤◌, Bool, true, false, not, ◌&&◌, ◌||◌, length, refl, sym, ap, ap₂, ◌∙◌, arith}
+-- What is known of actions and of clause 2 at the pairs of a row.
+use Rattle.std.proofs.Common.{◌≡◌, ℕ, ◌+◌, ◌*◌, ◌<◌, ◌≤◌, Bool, true, false, not, ◌&&◌, ◌||◌, length, refl, sym, ap, ap₂, ◌∙◌, arith, zero, suc, eqb, List, [], ◌∷◌, slice_get, slice_index}
 use Rattle.std.specs.List.{list_any}
 use Rattle.std.proofs.lemmas.Bool.{both_ways}
 use Rattle.roman_model.specs.Lists.{is_empty, all_below}
 use Rattle.roman_model.proofs.Lists.{by_test, all_below_at, all_below_from, not_empty_in}
-use Rattle.roman_model.specs.System.{Sys, is_allowed, env_next, beh_next}
+use Rattle.roman_model.specs.System.{Sys, is_allowed, env_next, beh_next, Seat, is_final, all_final}
 use Rattle.roman_model.specs.Arena.{is_beaten, is_justified}
 use Rattle.roman_model.specs.declared.reason.Reason.TheVariants.{Act}
 use Rattle.roman_model.specs.Numbers.{sizes_of, pair_at, numbered}
 use Rattle.roman_rules.specs.Numbered.{IsNumbered}
-use Rattle.roman_joint.specs.Rows.{lanes_in, IsRow, IsTurn, is_open}
+use Rattle.roman_joint.specs.Rows.{lanes_in, IsRow, IsTurn, is_open, may_rest}
 use Rattle.roman_joint.specs.declared.row.Row.{Row}
 use Rattle.roman_joint.specs.declared.turn.Turn.{Turn}
+use Rattle.roman_model.proofs.NumberLemmas.{AreBelow-length, IsPairOf-at}
+use Rattle.std.proofs.Math.Bool.{and-true, and_assoc}
+use Rattle.std.proofs.lemmas.Bool.Decides.{nat_tests}
+use Rattle.std.proofs.lemmas.List.{length-map}
 
 pub open_here : (s : Sys) (row : Row) (x a lane : ℕ) → IsRow s x row → lane < lanes_in s → is_allowed s (pair_at (sizes_of s) (x * lanes_in s + lane)) a ≡ is_open s row a
 open_here s row x a lane ok l = ap₂ (λ t e. not (is_empty (env_next s.env e a)) && not (is_empty (beh_next s.target t e a))) (ok.targets lane l) (ok.envs lane l)
@@ -46,10 +50,34 @@ unopened s row x a k lane gone nodes ok l off =
     p = x * lanes_in s + lane
 
 pub and_nothing : (b c : Bool) → false ≡ c → false ≡ (b && c)
-and_nothing true c e = e
-and_nothing false c e = refl
+and_nothing b c e = grind arith
 
 -- what no seat so far serves, where nothing is left
 pub cut_off : (p : ℕ → Bool) (k n : ℕ) (wanted : Bool) → k ≤ n → (wanted && all_below p k) ≡ false → (wanted && all_below p n) ≡ false
 cut_off p k n false l e = refl
 cut_off p k n true l e = by_test (all_below p n) (λ t. absurd (both_ways (all_below p k) e (all_below_from p k (λ i m. all_below_at p n i t (omega arith))))) (λ f. f)
+
+-- the first of all that are below
+all_first : (p : ℕ → Bool) (n : ℕ) → all_below p (suc n) ≡ (p 0 && all_below (λ k. p (suc k)) n)
+all_first p zero = sym (and-true (p 0))
+all_first p (suc n) = ap (λ b. b && p (suc n)) (all_first p n) ∙ and_assoc (p 0) (all_below (λ k. p (suc k)) n) (p (suc n))
+
+-- each seat may rest, seat by seat
+pub all_rest : (seats : List Seat) (bs : List ℕ) → length bs ≡ length seats → all_final seats bs ≡ all_below (λ k. may_rest (slice_get seats k) (slice_index bs k)) (length seats)
+all_rest [] bs h = refl
+all_rest (seat ∷ seats) [] h = absurd (omega (arith, h))
+all_rest (seat ∷ seats) (b ∷ bs) h =
+    ap (λ t. (not seat.rests || is_final seat.beh b) && t) (all_rest seats bs (omega (arith, h)))
+    ∙ sym (all_first (λ k. may_rest (slice_get (seat ∷ seats) k) (slice_index (b ∷ bs) k)) (length seats))
+
+-- at a pair of a row
+pub fine_there : (s : Sys) (row : Row) (x lane : ℕ) → IsRow s x row → lane < lanes_in s →
+    (numbered s).fine (x * lanes_in s + lane) ≡ (not (is_final s.target row.target) || all_below (λ k. may_rest (slice_get s.seats k) (slice_index (pair_at (sizes_of s) (x * lanes_in s + lane)).bs k)) (length s.seats))
+fine_there s row x lane ok l =
+    let p = x * lanes_in s + lane in
+    let long : length (pair_at (sizes_of s) p).bs ≡ length s.seats = AreBelow-length (sizes_of s).seats (pair_at (sizes_of s) p).bs (IsPairOf-at (sizes_of s) p (ok.below lane l)).bs ∙ length-map s.seats (λ (y : Seat). y.beh.states) in
+    ap₂ (λ t b. not (is_final s.target t) || b) (ok.targets lane l) (all_rest s.seats (pair_at (sizes_of s) p).bs long)
+
+-- a test of the one state that is meant
+pub same_state : (m b : ℕ) (f : ℕ → Bool) → (eqb m b && f b) ≡ (eqb m b && f m)
+same_state m b f = grind (arith, nat_tests)

@@ -34,11 +34,15 @@ from_seat_prev : (o : Option Seat) (b' e a b : ℕ) → IsIn b (seat_prev o b' e
 from_seat_prev None b' e a b i = absurd i
 from_seat_prev (Some seat) b' e a b i = let (ready, j) = from_frozen seat seat.frozen b' e a b i in (seat, refl, ready, from_beh_prev seat.beh b e a b' j)
 
-in_frozen : (seat : Seat) (frozen : Bool) (b' e a b : ℕ) → IsFalse frozen → IsIn b (beh_prev seat.beh b' e a) → IsIn b (cond frozen [] (beh_prev seat.beh b' e a))
-in_frozen seat frozen b' e a b ready i = subst (λ f. IsIn b (cond f [] (beh_prev seat.beh b' e a))) (sym ready) i
+pub in_seat_prev : (env : Env) (o : Option Seat) (seat : Seat) (b' e a b : ℕ) → o ≡ Some seat → IsBeh env seat.beh → IsFalse seat.frozen → IsTrue (has_move seat.beh b e a b') → IsIn b (seat_prev o b' e a)
+in_seat_prev env o seat b' e a b seated ok ready moves =
+    subst (λ y. IsIn b (seat_prev y b' e a)) (sym seated) (subst (λ f. IsIn b (cond f [] (beh_prev seat.beh b' e a))) (sym ready) (in_beh_prev env seat.beh b e a b' ok moves))
 
-in_seat_prev : (env : Env) (seat : Seat) (b' e a b : ℕ) → IsBeh env seat.beh → IsFalse seat.frozen → IsTrue (has_move seat.beh b e a b') → IsIn b (seat_prev (Some seat) b' e a)
-in_seat_prev env seat b' e a b ok ready moves = in_frozen seat seat.frozen b' e a b ready (in_beh_prev env seat.beh b e a b' ok moves)
+-- the steps of a state of a seat, where the others are such steps
+state_steps : (s : Sys) (q : Pair) (a e t k b : ℕ) → IsIn e (env_prev s.env q.e a) → IsIn t (beh_prev s.target q.t e a) → IsIn b (seat_prev (slice_get s.seats k) (slice_index q.bs k) e a) → Steps s q a e t k b
+state_steps s q a e t k b in_env in_target in_states =
+    let (seat, seated, ready, moves) = from_seat_prev (slice_get s.seats k) (slice_index q.bs k) e a b in_states in
+    record { seat = seat; seated = seated; ready = ready; world = from_env_prev s.env e a q.e in_env; goal = from_beh_prev s.target t e a q.t in_target; moves = moves }
 
 -- each delegation found is one of those steps
 pub record Found (s : Sys) (q : Pair) (d : Delegation ℕ) : Type 0 where
@@ -55,15 +59,7 @@ from_all_found s q d i =
     let (t, in_target, i3) = from_flat_map (from_target s q a e) d (beh_prev s.target q.t e a) i2 in
     let (k, in_seats, i4) = from_flat_map (from_seat s q a e t) d (below (length s.seats)) i3 in
     let (b, in_states, is) = from_map (delegation s q a e t k) d (seat_prev (slice_get s.seats k) (slice_index q.bs k) e a) i4 in
-    let (seat, seated, ready, moves) = from_seat_prev (slice_get s.seats k) (slice_index q.bs k) e a b in_states in
-    let found : Found s q (delegation s q a e t k b) =
-    record {
-      e = e;
-      t = t;
-      b = b;
-      steps = record { seat = seat; seated = seated; ready = ready; world = from_env_prev s.env e a q.e in_env; goal = from_beh_prev s.target t e a q.t in_target; moves = moves };
-      is = refl;
-    } in
+    let found : Found s q (delegation s q a e t k b) = record { e = e; t = t; b = b; steps = state_steps s q a e t k b in_env in_target in_states; is = refl } in
     subst (Found s q) (sym is) found
 
 -- and each of those steps is found
@@ -72,7 +68,7 @@ in_all s q a e t k b sys steps =
     let d : Delegation ℕ = delegation s q a e t k b in
     let ok : IsBeh s.env steps.seat.beh = sys.seats steps.seat (seat_in s.seats k steps.seat steps.seated) in
     let states : IsIn b (seat_prev (slice_get s.seats k) (slice_index q.bs k) e a) =
-    subst (λ o. IsIn b (seat_prev o (slice_index q.bs k) e a)) (sym steps.seated) (in_seat_prev s.env steps.seat (slice_index q.bs k) e a b ok steps.ready steps.moves) in
+    in_seat_prev s.env (slice_get s.seats k) steps.seat (slice_index q.bs k) e a b steps.seated ok steps.ready steps.moves in
     in_flat_map (from_action s q) a d (below s.env.actions) (in_below s.env.actions a (triple_in_range s.env e a q.e sys.env steps.world).1)
     (in_flat_map (from_env s q a) e d (env_prev s.env q.e a) (in_env_prev s.env e a q.e sys.env steps.world)
     (in_flat_map (from_target s q a e) t d (beh_prev s.target q.t e a) (in_beh_prev s.env s.target t e a q.t sys.target steps.goal)
@@ -130,11 +126,8 @@ outcome_steps s q p a k ok i =
         goal = step.1;
         moves = subst (λ b'. IsTrue (has_move r.seat.beh (slice_index p.bs k) p.e a b')) (sym there) r.moves;
       };
-      from = ap (λ bs. pair_with p bs) back;
+      from = rw back;
     }
-  where
-    pair_with : Pair → List ℕ → Pair
-    pair_with p bs = record { t = p.t; e = p.e; bs = bs }
 
 -- each delegation found leads to q
 pub found_leads : (s : Sys) (p : ℕ) (d : Delegation ℕ) → IsSys s → p < count (sizes_of s) → IsIn d (from_all s (pair_at (sizes_of s) p)) → IsIn d (back (numbered s) p)
@@ -145,9 +138,7 @@ found_leads s p d sys below_p i =
     let r : Pair = origin q found.e found.t d.seat found.b in
     let ok_r : IsPair s r = origin_pair s q d.action found.e found.t d.seat found.b sys ok found.steps in
     let lead : IsIn q (outcomes s r d.action d.seat) = steps_lead s q d.action found.e found.t d.seat found.b sys ok found.steps in
-    let numbers : IsIn p (map (number (sizes_of s)) (outcomes s r d.action d.seat)) =
-    subst (λ n. IsIn n (map (number (sizes_of s)) (outcomes s r d.action d.seat))) ((numbers_are_pairs s).there p below_p)
-    (in_map (number (sizes_of s)) q (outcomes s r d.action d.seat) lead) in
+    let numbers : IsIn p (map (number (sizes_of s)) (outcomes s r d.action d.seat)) = rw ((numbers_are_pairs s).there p below_p) at (in_map (number (sizes_of s)) q (outcomes s r d.action d.seat) lead) in
     let there : IsIn p ((numbered s).outcomes (number (sizes_of s) r) d.action d.seat) =
     subst (λ x. IsIn p (map (number (sizes_of s)) (outcomes s x d.action d.seat))) (sym ((numbers_are_pairs s).back r ok_r)) numbers in
     subst (λ x. IsIn x (back (numbered s) p)) (sym found.is)
@@ -166,10 +157,7 @@ leads_found s p d sys below_p i =
     let here : q ≡ x = ap (pair_at (sizes_of s)) same ∙ (numbers_are_pairs s).back x (outcome_pair s r d.action d.seat x sys ok_r l) in
     let comes : Comes s q r d.action d.seat = outcome_steps s q r d.action d.seat ok_r (subst (λ y. IsIn y (outcomes s r d.action d.seat)) (sym here) l) in
     let node : number (sizes_of s) (origin q r.e r.t d.seat (slice_index r.bs d.seat)) ≡ d.node = ap (number (sizes_of s)) comes.from ∙ (numbers_are_pairs s).there d.node below_d in
-    subst (λ n. IsIn (delegation_at n d.action d.seat) (from_all s q)) node (in_all s q d.action r.e r.t d.seat (slice_index r.bs d.seat) sys comes.steps)
-  where
-    delegation_at : ℕ → ℕ → ℕ → Delegation ℕ
-    delegation_at n a k = record { node = n; action = a; seat = k }
+    rw node at (in_all s q d.action r.e r.t d.seat (slice_index r.bs d.seat) sys comes.steps)
 
 -- the states and the seat of a delegation found are those that it was found by
 pub record FoundAt (s : Sys) (q : Pair) (e t k : ℕ) (d : Delegation ℕ) : Type 0 where
@@ -189,16 +177,10 @@ module _ (s : Sys) (q : Pair) (sys : IsSys s) (ok : IsPair s q) where
   back_at : (a e t k b : ℕ) → Steps s q a e t k b → pair_at (sizes_of s) (number (sizes_of s) (origin q e t k b)) ≡ origin q e t k b
   back_at a e t k b steps = (numbers_are_pairs s).back (origin q e t k b) (origin_pair s q a e t k b sys ok steps)
 
-  -- the steps of a state of a seat, where the others are such steps
-  state_steps : (a e t k b : ℕ) → IsIn e (env_prev s.env q.e a) → IsIn t (beh_prev s.target q.t e a) → IsIn b (seat_prev (slice_get s.seats k) (slice_index q.bs k) e a) → Steps s q a e t k b
-  state_steps a e t k b in_env in_target in_states =
-      let (seat, seated, ready, moves) = from_seat_prev (slice_get s.seats k) (slice_index q.bs k) e a b in_states in
-      record { seat = seat; seated = seated; ready = ready; world = from_env_prev s.env e a q.e in_env; goal = from_beh_prev s.target t e a q.t in_target; moves = moves }
-
   seat_at : (a e t k : ℕ) (d : Delegation ℕ) → IsIn e (env_prev s.env q.e a) → IsIn t (beh_prev s.target q.t e a) → IsIn d (from_seat s q a e t k) → FoundAt s q e t k d
   seat_at a e t k d in_env in_target i =
       let (b, j, is) = from_map (delegation s q a e t k) d (seat_prev (slice_get s.seats k) (slice_index q.bs k) e a) i in
-      let here : pair_at (sizes_of s) d.node ≡ origin q e t k b = ap (λ x. pair_at (sizes_of s) x.node) is ∙ back_at a e t k b (state_steps a e t k b in_env in_target j) in
+      let here : pair_at (sizes_of s) d.node ≡ origin q e t k b = ap (λ x. pair_at (sizes_of s) x.node) is ∙ back_at a e t k b (state_steps s q a e t k b in_env in_target j) in
       record { env = ap (λ p. p.e) here; target = ap (λ p. p.t) here; seat = ap (λ x. x.seat) is }
 
   target_at : (a e t : ℕ) (d : Delegation ℕ) → IsIn e (env_prev s.env q.e a) → IsIn t (beh_prev s.target q.t e a) → IsIn d (from_target s q a e t) →
@@ -225,8 +207,8 @@ module _ (s : Sys) (q : Pair) (sys : IsSys s) (ok : IsPair s q) where
   seat_once a e t k in_env in_target =
       HasNoRepeats-map (delegation s q a e t k) (seat_prev (slice_get s.seats k) (slice_index q.bs k) e a)
       (λ b c i j same.
-      let at_b : Steps s q a e t k b = state_steps a e t k b in_env in_target i in
-      let at_c : Steps s q a e t k c = state_steps a e t k c in_env in_target j in
+      let at_b : Steps s q a e t k b = state_steps s q a e t k b in_env in_target i in
+      let at_c : Steps s q a e t k c = state_steps s q a e t k c in_env in_target j in
       let pairs : origin q e t k b ≡ origin q e t k c = sym (back_at a e t k b at_b) ∙ (ap (λ x. pair_at (sizes_of s) x.node) same ∙ back_at a e t k c at_c) in
       let within : k < length q.bs = omega (arith, length_of_pair s q ok, slice_get_within s.seats k at_b.seat at_b.seated) in
       sym (get_or-set_same q.bs k b 0 within) ∙ (ap (λ p. slice_index p.bs k) pairs ∙ get_or-set_same q.bs k c 0 within))

@@ -1,9 +1,11 @@
 -- Where a seat serves an action at the pairs of a row.
-use Rattle.std.proofs.Common.{◌≡◌, ℕ, zero, suc, ◌+◌, ◌-◌, ◌*◌, ◌/◌, ◌%◌, ◌<◌, ◌≤◌, ◌^◌, Bool, true, false, not, ◌&&◌, ◌||◌, eqb, ltb, inl, inr, List, [], length, slice_get, slice_index, IsFalse, refl, sym, ap, ap₂, ◌∙◌, subst, arith}
+use Rattle.std.proofs.Common.{◌≡◌, ◌⊎◌, ℕ, zero, suc, ◌+◌, ◌-◌, ◌*◌, ◌/◌, ◌%◌, ◌<◌, ◌≤◌, ◌^◌, Bool, true, false, not, ◌&&◌, ◌||◌, eqb, ltb, inl, inr, List, [], length, slice_get, slice_index, IsFalse, refl, sym, ap, ap₂, ◌∙◌, subst, arith}
 use Rattle.std.specs.List.{list_any}
+use Rattle.std.proofs.Math.Nat.{add-mod-mod}
 use Rattle.std.proofs.lemmas.List.{length-map}
 use Rattle.std.proofs.lemmas.Nat.{mul-add-lt, mul-le, mod_below, div_below, div-mul-add, mod-mul-add, div-add-mod'}
-use Rattle.std.proofs.lemmas.Bool.{cases_lt, cases_eq, eq-eqb, ne_eqb, lt-ltb, le-ltb}
+use Rattle.std.proofs.lemmas.Bool.{cases_lt, ne_eqb, lt-ltb, le-ltb}
+use Rattle.std.proofs.lemmas.Bool.Decides.{nat_tests}
 use Rattle.roman_model.specs.Lists.{IsIn, is_empty}
 use Rattle.roman_model.proofs.Lists.{length-below, by_test, any_same, any_true, any_from, empty_is, not_empty_in}
 use Rattle.roman_model.specs.System.{Sys, Seat, IsSys, seat_next}
@@ -26,7 +28,7 @@ use Rattle.roman_joint.proofs.OutcomeLemmas.{target_in_range}
 use Rattle.roman_joint.proofs.Rows.{size_of_seat}
 use Rattle.roman_lanes.proofs.RowBits.{on_zero}
 use Rattle.roman_joint.proofs.WordLemmas.{on_shl, on_below, not_not}
-use Rattle.roman_joint.proofs.SplitLemmas.{joint_sizes, factor}
+use Rattle.roman_joint.proofs.SplitLemmas.{joint_sizes, positive_of, factor}
 use Rattle.roman_joint.proofs.LeadLemmas.{Leads, leads_within, leads_served, leads_nothing, start_before, leads_before, lanes_parts, stride_positive, lane_state, leads_lanes}
 
 -- What is known of a row.
@@ -44,18 +46,16 @@ pub width_positive : (s : Sys) → IsSizes (sizes_of s) → 0 < lanes_in s
 width_positive s sizes = lanes_positive (sizes_of s).seats sizes.seats
 
 pub env_rows_positive : (s : Sys) → IsSizes (sizes_of s) → 0 < env_rows_of (sizes_of s)
-env_rows_positive s sizes = by (env_rows_of (sizes_of s)) (lanes_in s) (env_stride_of (sizes_of s)) (env_rows_are (sizes_of s)) (product_positive (sizes_of s).seats sizes.seats)
-  where
-    by : (r w m : ℕ) → r * w ≡ m → 0 < m → 0 < r
-    by zero w m e pos = absurd (omega arith)
-    by (suc r) w m e pos = omega arith
+env_rows_positive s sizes = positive_of (env_rows_of (sizes_of s)) (lanes_in s) (env_stride_of (sizes_of s)) (env_rows_are (sizes_of s)) (product_positive (sizes_of s).seats sizes.seats)
 
 -- the rows are as many as the words
+rows_whole : (s : Sys) → s.target.states * s.env.states * env_rows_of (sizes_of s) * lanes_in s ≡ count (sizes_of s)
+rows_whole s =
+    let whole : s.target.states * s.env.states * (env_rows_of (sizes_of s) * lanes_in s) ≡ count (sizes_of s) = ap (λ m. s.target.states * s.env.states * m) (env_rows_are (sizes_of s)) in
+    omega arith ∙ whole
+
 pub rows_all : (s : Sys) (long : ℕ) → IsSizes (sizes_of s) → long * lanes_in s ≡ count (sizes_of s) → long ≡ s.target.states * s.env.states * env_rows_of (sizes_of s)
-rows_all s long sizes room =
-    let n = sizes_of s in
-    let whole : s.target.states * s.env.states * (env_rows_of n * lanes_in s) ≡ count n = ap (λ m. s.target.states * s.env.states * m) (env_rows_are n) in
-    factor long (s.target.states * s.env.states * env_rows_of n) (lanes_in s) (width_positive s sizes) (room ∙ (sym whole ∙ omega arith))
+rows_all s long sizes room = factor long (s.target.states * s.env.states * env_rows_of (sizes_of s)) (lanes_in s) (width_positive s sizes) (room ∙ sym (rows_whole s))
 
 -- a row at other states of the target and the environment is one
 pub row_there : (target env r to e part : ℕ) → to < target → e < env → part < r → to * (env * r) + part + e * r < target * env * r
@@ -82,24 +82,17 @@ turn_fits n r x row to ok laid looked in_target =
     let s = system_of n in
     let sizes = joint_sizes n ok in
     let there = row_there s.target.states s.env.states (env_rows_of (sizes_of s)) to 0 row.part in_target ok.system.env.states.0 (part_below s x row sizes looked) in
-    let few : s.target.states * s.env.states * env_rows_of (sizes_of s) < 2 ^ 32 = all_few s sizes in
+    let few : s.target.states * s.env.states * env_rows_of (sizes_of s) < 2 ^ 32 = rows_few s (s.target.states * s.env.states * env_rows_of (sizes_of s)) sizes (rows_whole s) in
     let base : to * r.target_rows ≡ to * (s.env.states * env_rows_of (sizes_of s)) = ap (λ m. to * m) laid.target in
     (omega (arith, there, few, base), omega (arith, there, few, base))
-  where
-    all_few : (s : Sys) → IsSizes (sizes_of s) → s.target.states * s.env.states * env_rows_of (sizes_of s) < 2 ^ 32
-    all_few s sizes =
-        let n = sizes_of s in
-        let whole : s.target.states * s.env.states * (env_rows_of n * lanes_in s) ≡ count n = ap (λ m. s.target.states * s.env.states * m) (env_rows_are n) in
-        let turned : s.target.states * s.env.states * (env_rows_of n * lanes_in s) ≡ s.target.states * s.env.states * env_rows_of n * lanes_in s = omega arith in
-        rows_few s (s.target.states * s.env.states * env_rows_of n) sizes (sym turned ∙ whole)
 
 -- the rows of a turn
-pub record RowsThere (s : Sys) (r : Rows) (row : Row) (turn : Turn) (long : ℕ) : Type 0 where
+pub record RowsThere (r : Rows) (turn : Turn) (long : ℕ) : Type 0 where
   pub inside : turn.base < long
   pub there : (e : ℕ) → IsIn e turn.envs.now → turn.base + e * r.env_rows < long
   pub few : long < 2 ^ 32
 
-pub rows_there : (s : Sys) (r : Rows) (x a long : ℕ) (row : Row) (turn : Turn) → Known s r x row → IsTurn s row a turn → long * lanes_in s ≡ count (sizes_of s) → RowsThere s r row turn long
+pub rows_there : (s : Sys) (r : Rows) (x a long : ℕ) (row : Row) (turn : Turn) → Known s r x row → IsTurn s row a turn → long * lanes_in s ≡ count (sizes_of s) → RowsThere r turn long
 rows_there s r x a long row turn h ok room =
     let n = sizes_of s in
     let in_target : ok.to < s.target.states = target_in_range s row.target row.env a ok.to h.sys ok.target in
@@ -120,6 +113,7 @@ rows_there s r x a long row turn h ok room =
 
 -- the rows to which a seat before the lanes goes
 pub record RowsBefore (r : Rows) (turn : Turn) (k part long : ℕ) (states : List ℕ) : Type 0 where
+  pub turn_rows : RowsThere r turn long
   pub taken : part * slice_index r.strides k ≤ turn.base
   pub there : (e b : ℕ) → IsIn e turn.envs.now → IsIn b states → turn.base - part * slice_index r.strides k + e * r.env_rows + b * slice_index r.strides k < long
 
@@ -140,6 +134,7 @@ rows_before s r x a k part long row turn states h ok before room is_states is_pa
     let base : turn.base - part * u ≡ ok.to * target_rows_of n + row.part - own * u = ap₂ (λ m l. m - l) ok.base same in
     let leads = leads_before s row x 0 a k ok.to (turn.base - part * u) u turn.envs.now states h.sys h.looked pos before (h.laid.before k before) ok.target ok.worlds is_states base in
     record {
+      turn_rows = rows_there s r x a long row turn h ok room;
       taken = omega (arith, taken, same, ok.base);
       there = λ e b i j.
           let below : (turn.base - part * u + e * env_rows_of n + b * u) * w + 0 < length (numbered s).nodes =
@@ -162,35 +157,23 @@ pub serves_before : (s : Sys) (r : Rows) (x a k part word : ℕ) (row : Row) (tu
     AreRows (lanes_in s) (λ q. not (gone q)) words →
     ((lane : ℕ) → is_on word lane ≡ (is_on r.full lane && not (list_any (λ e. list_any (λ b. not (is_on (slice_index words (turn.base - part * slice_index r.strides k + e * r.env_rows + b * slice_index r.strides k)) lane)) states) turn.envs.now))) →
     HasLanes (lanes_in s) x (λ p. not (is_beaten (numbered s) gone p a k)) word
-serves_before s r x a k part word row turn states words gone h ok before room is_states is_part some rows told = record {
-  each = λ lane l. told lane ∙ (ap (λ b. b && not (list_any (λ e. list_any (test lane e) states) turn.envs.now)) (full_on n r lane h.laid l)
-      ∙ leads_served (numbered s) gone (x * w + lane) a k turn.envs.now states (to lane) (test lane)
-      (leads_before s row x lane a k ok.to (turn.base - part * u) u turn.envs.now states h.sys h.looked l before (h.laid.before k before) ok.target ok.worlds is_states (ap₂ (λ m d. m - d * u) ok.base is_part))
-      ok.some some (λ e b i j. same lane e b l i j));
-  rest = λ lane l. told lane ∙ ap (λ b. b && not (list_any (λ e. list_any (test lane e) states) turn.envs.now)) (full_off n r lane h.laid l);
-}
-  where
-    n : Sizes
-    n = sizes_of s
-
-    w : ℕ
-    w = lanes_in s
-
-    u : ℕ
-    u = slice_index r.strides k
-
-    test : ℕ → ℕ → ℕ → Bool
-    test lane e b = not (is_on (slice_index words (turn.base - part * u + e * r.env_rows + b * u)) lane)
-
-    to : ℕ → ℕ → ℕ → ℕ
-    to lane e b = (turn.base - part * u + e * env_rows_of n + b * u) * w + lane
-
-    same : (lane e b : ℕ) → lane < w → IsIn e turn.envs.now → IsIn b states → test lane e b ≡ gone (to lane e b)
-    same lane e b l i j =
-        let all = rows_before s r x a k part (length words) row turn states h ok before room is_states is_part in
-        let here : is_on (slice_index words (turn.base - part * u + e * r.env_rows + b * u)) lane ≡ not (gone ((turn.base - part * u + e * r.env_rows + b * u) * w + lane)) =
-        (rows.each (turn.base - part * u + e * r.env_rows + b * u) (all.there e b i j)).each lane l in
-        ap not here ∙ (sym (not_not (gone ((turn.base - part * u + e * r.env_rows + b * u) * w + lane))) ∙ ap (λ m. gone ((turn.base - part * u + e * m + b * u) * w + lane)) h.laid.env)
+serves_before s r x a k part word row turn states words gone h ok before room is_states is_part some rows told =
+    let n = sizes_of s in
+    let w = lanes_in s in
+    let u = slice_index r.strides k in
+    let test = λ (lane e b : ℕ). not (is_on (slice_index words (turn.base - part * u + e * r.env_rows + b * u)) lane) in
+    let to = λ (lane e b : ℕ). (turn.base - part * u + e * env_rows_of n + b * u) * w + lane in
+    let same : (lane e b : ℕ) → lane < w → IsIn e turn.envs.now → IsIn b states → test lane e b ≡ gone (to lane e b) = λ lane e b l i j.
+    let all = rows_before s r x a k part (length words) row turn states h ok before room is_states is_part in
+    let here = (rows.each (turn.base - part * u + e * r.env_rows + b * u) (all.there e b i j)).each lane l in
+    ap not here ∙ (sym (not_not (gone ((turn.base - part * u + e * r.env_rows + b * u) * w + lane))) ∙ ap (λ m. gone ((turn.base - part * u + e * m + b * u) * w + lane)) h.laid.env) in
+    record {
+      each = λ lane l. told lane ∙ (ap (λ b. b && not (list_any (λ e. list_any (test lane e) states) turn.envs.now)) (full_on n r lane h.laid l)
+          ∙ leads_served (numbered s) gone (x * w + lane) a k turn.envs.now states (to lane) (test lane)
+          (leads_before s row x lane a k ok.to (turn.base - part * u) u turn.envs.now states h.sys h.looked l before (h.laid.before k before) ok.target ok.worlds is_states (ap₂ (λ m d. m - d * u) ok.base is_part))
+          ok.some some (λ e b i j. same lane e b l i j));
+      rest = λ lane l. told lane ∙ ap (λ b. b && not (list_any (λ e. list_any (test lane e) states) turn.envs.now)) (full_off n r lane h.laid l);
+    }
 
 pub beaten_before : (s : Sys) (r : Rows) (x a k : ℕ) (row : Row) (turn : Turn) (states : List ℕ) (gone : ℕ → Bool) → Known s r x row → IsTurn s row a turn → k < low_in s →
     states ≡ seat_next (slice_get s.seats k) (slice_index row.states k) row.env a → states ≡ [] → HasLanes (lanes_in s) x (λ p. not (is_beaten (numbered s) gone p a k)) 0
@@ -254,35 +237,40 @@ state_shift first b st size lane is pos l low = elim (cases_lt lane (b * st)) [
 ]
   where
     turns : (h size b : ℕ) → b < size → eqb (h % size) 0 ≡ eqb ((b + h) % size) b
-    turns h size b l =
-        let digits : h / size * size + h % size ≡ h = div-add-mod' h size in
-        let less : h % size < size = mod_below h size (omega arith) in
-        elim (cases_eq (h % size) 0) [
-          | inl none ↦
-              let sum : b + h ≡ h / size * size + b = omega arith in
-              let same : (b + h) % size ≡ b = ap (λ m. m % size) sum ∙ mod-mul-add (h / size) size b l in
-              eq-eqb (h % size) 0 none ∙ sym (eq-eqb ((b + h) % size) b same)
-          | inr some ↦ ne_eqb (h % size) 0 some ∙ sym (ne_eqb ((b + h) % size) b (λ same. elim (cases_lt (b + h % size) size) [
-            | inl fits ↦
-                let sum : b + h ≡ h / size * size + (b + h % size) = omega arith in
-                let other : (b + h) % size ≡ b + h % size = ap (λ m. m % size) sum ∙ mod-mul-add (h / size) size (b + h % size) fits in
-                some (omega (arith, same, other))
-            | inr past ↦
-                let sum : b + h ≡ (h / size + 1) * size + (b + h % size - size) = omega arith in
-                let other : (b + h) % size ≡ b + h % size - size = ap (λ m. m % size) sum ∙ mod-mul-add (h / size + 1) size (b + h % size - size) (omega arith) in
-                let none : ⊥ = omega (arith, same, other, less) in
-                absurd none
-          ]))
-        ]
+    turns h size b l = turned (h % size) ((b + h) % size) b size l (mod_below h size (omega arith)) (elim (cases_lt (b + h % size) size) [
+      | inl fits ↦
+          let sum : b + h % size ≡ 0 * size + (b + h % size) = omega arith in
+          inl (sym (add-mod-mod b h size) ∙ (ap (λ m. m % size) sum ∙ mod-mul-add 0 size (b + h % size) fits))
+      | inr past ↦
+          let sum : b + h % size ≡ 1 * size + (b + h % size - size) = omega arith in
+          let less : h % size < size = mod_below h size (omega arith) in
+          let is : (b + h) % size ≡ b + h % size - size = sym (add-mod-mod b h size) ∙ (ap (λ m. m % size) sum ∙ mod-mul-add 1 size (b + h % size - size) (omega arith)) in
+          inr (omega (arith, is))
+    ])
+      where
+        turned : (m r b size : ℕ) → b < size → m < size → (r ≡ b + m) ⊎ (r + size ≡ b + m) → eqb m 0 ≡ eqb r b
+        turned m r b size k l (inl e) = grind (arith, nat_tests)
+        turned m r b size k l (inr e) = grind (arith, nat_tests)
 
 -- where no lane is left alive a seat within the lanes serves nothing
 pub beaten_dead : (s : Sys) (r : Rows) (x a k lane : ℕ) (row : Row) (turn : Turn) (gone : ℕ → Bool) → Known s r x row → IsTurn s row a turn → low_in s ≤ k → k < length s.seats → AreAlive s gone turn 0 → lane < lanes_in s →
     is_beaten (numbered s) gone (x * lanes_in s + lane) a k ≡ true
-beaten_dead s r x a k lane row turn gone h ok within seat living in_lanes = by_test (is_empty states)
+beaten_dead s r x a k lane row turn gone h ok within seat living in_lanes =
+    let n = sizes_of s in
+    let st = stride_of n k in
+    let digit = lane / st % slice_index n.seats k in
+    let states = seat_next (slice_get s.seats k) digit row.env a in
+    let to = λ (e b : ℕ). (turn.base + e * env_rows_of n) * lanes_in s + (lane + b * st - digit * st) in
+    let seats : k < length n.seats = omega (arith, seat, length-map s.seats (λ (y : Seat). y.beh.states)) in
+    let leads : Leads (numbered s) (x * lanes_in s + lane) a k turn.envs.now states to =
+    leads_lanes s row x lane a k ok.to turn.base digit turn.envs.now states h.sys h.sizes h.looked in_lanes within seat refl ok.target ok.worlds refl ok.base in
+    by_test (is_empty states)
     (λ none. leads_nothing (numbered s) gone (x * lanes_in s + lane) a k turn.envs.now states to leads (empty_is states none))
     (λ some.
     let (b, i) = not_empty_in states some in
-    let there = (lane_state n k lane h.sizes within seats in_lanes).moves b (state_there b i) in
+    let (y, seated, ready, moves) = from_seat_next (slice_get s.seats k) digit row.env a b i in
+    let state : b < slice_index n.seats k = subst (λ m. b < m) (sym (size_of_seat s.seats k y seated)) (move_in_range s.env y.beh digit row.env a b (h.sys.seats y (seat_in s.seats k y seated)) moves).3 in
+    let there = (lane_state n k lane h.sizes within seats in_lanes).moves b state in
     let dead : list_any (λ e. gone (to e b)) turn.envs.now ≡ true =
     not_not (list_any (λ e. gone (to e b)) turn.envs.now) ∙ ap not (sym (living.each (lane + b * st - digit * st) there) ∙ on_zero (lane + b * st - digit * st)) in
     let (e, j, t) = any_true (λ e. gone (to e b)) turn.envs.now dead in
@@ -290,52 +278,10 @@ beaten_dead s r x a k lane row turn gone h ok within seat living in_lanes = by_t
     any_from (λ c. list_any (λ d. gone (to c d)) states) e turn.envs.now j (any_from (λ d. gone (to e d)) b states i t) in
     let served = leads_served (numbered s) gone (x * lanes_in s + lane) a k turn.envs.now states to (λ c d. gone (to c d)) leads ok.some some (λ c d u v. refl) in
     not_not (is_beaten (numbered s) gone (x * lanes_in s + lane) a k) ∙ ap not (sym served ∙ ap not left))
-  where
-    n : Sizes
-    n = sizes_of s
-
-    st : ℕ
-    st = stride_of n k
-
-    digit : ℕ
-    digit = lane / st % slice_index n.seats k
-
-    states : List ℕ
-    states = seat_next (slice_get s.seats k) digit row.env a
-
-    to : ℕ → ℕ → ℕ
-    to e b = (turn.base + e * env_rows_of n) * lanes_in s + (lane + b * st - digit * st)
-
-    seats : k < length n.seats
-    seats = omega (arith, seat, length-map s.seats (λ (y : Seat). y.beh.states))
-
-    leads : Leads (numbered s) (x * lanes_in s + lane) a k turn.envs.now states to
-    leads = leads_lanes s row x lane a k ok.to turn.base digit turn.envs.now states h.sys h.sizes h.looked in_lanes within seat refl ok.target ok.worlds refl ok.base
-
-    state_there : (b : ℕ) → IsIn b states → b < slice_index n.seats k
-    state_there b i =
-        let (y, seated, ready, moves) = from_seat_next (slice_get s.seats k) digit row.env a b i in
-        subst (λ m. b < m) (sym (size_of_seat s.seats k y seated)) (move_in_range s.env y.beh digit row.env a b (h.sys.seats y (seat_in s.seats k y seated)) moves).3
 
 -- the lanes of one state more
 pub below_more : (m b : ℕ) (x : Bool) → ((ltb m b && x) || (eqb m b && x)) ≡ (ltb m (b + 1) && x)
-below_more m b x = elim (cases_lt m b) [
-  | inl less ↦
-      let a : ltb m b ≡ true = lt-ltb m b less in
-      let d : ltb m (b + 1) ≡ true = lt-ltb m (b + 1) (omega arith) in
-      let e : eqb m b ≡ false = ne_eqb m b (omega arith) in
-      ap₂ (λ y z. (y && x) || (z && x)) a e ∙ (or_nothing x ∙ sym (ap (λ y. y && x) d))
-  | inr more ↦
-      let a : ltb m b ≡ false = le-ltb m b more in
-      ap (λ y. (y && x) || (eqb m b && x)) a ∙ elim (cases_eq m b) [
-        | inl same ↦ ap₂ (λ y z. y && z) (eq-eqb m b same ∙ sym (lt-ltb m (b + 1) (omega arith))) refl
-        | inr other ↦ ap₂ (λ y z. y && z) (ne_eqb m b other ∙ sym (le-ltb m (b + 1) (omega arith))) refl
-      ]
-]
-  where
-    or_nothing : (y : Bool) → (y || false) ≡ y
-    or_nothing true = refl
-    or_nothing false = refl
+below_more m b x = grind (arith, nat_tests)
 
 pub state_is : (st size b lane : ℕ) → lane_has_state st size b lane ≡ eqb (lane / st % size) b
 unfolding lane_has_state

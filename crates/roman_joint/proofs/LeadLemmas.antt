@@ -1,7 +1,8 @@
 -- Where a delegation leads, by rows and lanes.
-use Rattle.std.proofs.Common.{◌≡◌, ℕ, zero, suc, ◌+◌, ◌-◌, ◌*◌, ◌/◌, ◌%◌, ◌<◌, ◌≤◌, Bool, true, false, not, ◌||◌, List, [], ◌∷◌, length, drop, map, slice_get, slice_index, IsFalse, refl, sym, ap, ap₂, ◌∙◌, subst, arith}
+use Rattle.std.proofs.Common.{◌≡◌, ℕ, zero, suc, ◌+◌, ◌-◌, ◌*◌, ◌/◌, ◌%◌, ◌<◌, ◌≤◌, Bool, true, false, not, ◌||◌, List, [], ◌∷◌, length, drop, map, slice_get, slice_index, IsTrue, IsFalse, refl, sym, ap, ap₂, ◌∙◌, subst, arith}
 use Rattle.std.specs.List.{list_any, flat_map}
-use Rattle.std.proofs.lemmas.Nat.{div-mul-add, mod-mul-add, div-add-mod', mul-add-lt, mod_below, div_below}
+use Rattle.std.proofs.Math.Nat.{mul-add-mod_self_right}
+use Rattle.std.proofs.lemmas.Nat.{div-mul-add, div-add-mod', mul-add-lt, mod_below, div_below}
 use Rattle.std.proofs.lemmas.List.{length-map}
 use Rattle.roman_model.specs.Lists.{IsIn, is_empty, product_of}
 use Rattle.roman_model.proofs.Lists.{in_map, in_flat_map, any_same, list_any-map, list_any-flat_map, not_empty_in, any_true, any_from, same_test}
@@ -16,6 +17,7 @@ use Rattle.roman_radix.proofs.RowLemmas.{low_of-le, tails_from, row_mod, row_lea
 use Rattle.roman_rules.specs.Numbered.{IsNumbered}
 use Rattle.roman_joint.proofs.OutcomeLemmas.{StartsAt, starts_at, numbers_are, target_in_range}
 use Rattle.roman_joint.proofs.Finds.{some_numbers, no_numbers}
+use Rattle.roman_joint.proofs.SplitLemmas.{target_rows_are}
 use Rattle.roman_joint.specs.Rows.{lanes_in, low_in, IsRow}
 use Rattle.roman_joint.specs.declared.row.Row.{Row}
 
@@ -45,16 +47,14 @@ leads_nothing A gone p a k envs states to leads none =
     ap (λ qs. is_empty qs || list_any gone qs) no
 
 -- the order of two searches doesn't matter
-pub any_turned : (test : ℕ → ℕ → Bool) (xs ys : List ℕ) → list_any (λ x. list_any (test x) ys) xs ≡ list_any (λ y. list_any (λ x. test x y) xs) ys
-any_turned test xs ys = same_test (list_any (λ x. list_any (test x) ys) xs) (list_any (λ y. list_any (λ x. test x y) xs) ys)
-    (λ t.
+any_turn : (test : ℕ → ℕ → Bool) (xs ys : List ℕ) → IsTrue (list_any (λ x. list_any (test x) ys) xs) → IsTrue (list_any (λ y. list_any (λ x. test x y) xs) ys)
+any_turn test xs ys t =
     let (x, i, u) = any_true (λ x. list_any (test x) ys) xs t in
     let (y, j, v) = any_true (test x) ys u in
-    any_from (λ y. list_any (λ x. test x y) xs) y ys j (any_from (λ x. test x y) x xs i v))
-    (λ t.
-    let (y, j, u) = any_true (λ y. list_any (λ x. test x y) xs) ys t in
-    let (x, i, v) = any_true (λ x. test x y) xs u in
-    any_from (λ x. list_any (test x) ys) x xs i (any_from (test x) y ys j v))
+    any_from (λ y. list_any (λ x. test x y) xs) y ys j (any_from (λ x. test x y) x xs i v)
+
+pub any_turned : (test : ℕ → ℕ → Bool) (xs ys : List ℕ) → list_any (λ x. list_any (test x) ys) xs ≡ list_any (λ y. list_any (λ x. test x y) xs) ys
+any_turned test xs ys = same_test _ _ (any_turn test xs ys) (any_turn (λ y x. test x y) ys xs)
 
 -- an outcome's number by rows: the seat in state b goes from one state to another
 pub row_moves : (to_rows rest u w lane r part e b : ℕ) → lane < w → part * (u * w) ≤ to_rows * w + (rest * w + lane) →
@@ -71,13 +71,6 @@ row_moves to_rows rest u w lane r part e b h l =
         let split : x * w ≡ y * w + z * w = ap (λ n. n * w) (sym d) ∙ omega arith in
         let spread : (y + e * r + b * u) * w ≡ y * w + e * (r * w) + b * (u * w) = omega arith in
         omega arith
-
--- the rows of the target
-pub target_rows_are : (n : Sizes) → target_rows_of n * lanes_of n.seats ≡ target_stride_of n
-target_rows_are n = by n.env (env_rows_of n) (lanes_of n.seats) (env_stride_of n) (env_rows_are n)
-  where
-    by : (e r w p : ℕ) → r * w ≡ p → e * r * w ≡ e * p
-    by e r w p is = let same : e * (r * w) ≡ e * p = ap (λ x. e * x) is in omega arith
 
 -- where the numbers begin for a seat before the lanes
 pub start_before : (s : Sys) (row : Row) (x lane k to u : ℕ) → IsSys s → IsRow s x row → lane < lanes_in s → k < low_in s → to < s.target.states → u * lanes_in s ≡ stride_of (sizes_of s) k →
@@ -166,14 +159,7 @@ digit_at row lane st size m pos =
     let split : lane / st * st + lane % st ≡ lane = div-add-mod' lane st in
     let whole : row * (m * size * st) + lane ≡ (row * m * size + lane / st) * st + lane % st = omega arith in
     let high : (row * (m * size * st) + lane) / st ≡ row * m * size + lane / st = ap (λ x. x / st) whole ∙ div-mul-add (row * m * size + lane / st) st (lane % st) (mod_below lane st pos) in
-    ap (λ x. x % size) high ∙ digit_low (row * m) (lane / st) size
-  where
-    digit_low : (r h w : ℕ) → (r * w + h) % w ≡ h % w
-    digit_low r h zero = omega arith
-    digit_low r h (suc w) =
-        let split : h / suc w * suc w + h % suc w ≡ h = div-add-mod' h (suc w) in
-        let whole : r * suc w + h ≡ (r + h / suc w) * suc w + h % suc w = omega arith in
-        ap (λ x. x % suc w) whole ∙ mod-mul-add (r + h / suc w) (suc w) (h % suc w) (mod_below h (suc w) (omega arith))
+    ap (λ x. x % size) high ∙ mul-add-mod_self_right (row * m) size (lane / st)
 
 pub lane_part : (n : Sizes) (x lane k : ℕ) → IsSizes n → x * lanes_of n.seats + lane < count n → low_of n.seats ≤ k → k < length n.seats →
     slice_index (pair_at n (x * lanes_of n.seats + lane)).bs k ≡ lane / stride_of n k % slice_index n.seats k

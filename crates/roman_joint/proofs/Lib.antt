@@ -1,7 +1,6 @@
 pub mod Finds
 pub mod BackwardLemmas
 pub mod SeatLemmas
-pub mod BuildLemmas
 pub mod Shown
 pub mod SeatChanges
 pub mod OutcomeLemmas
@@ -10,12 +9,10 @@ pub mod Rows
 pub mod ArenaFacts
 pub mod BehaviourLemmas
 pub mod SceneLemmas
-pub mod SeatRead
 pub mod WordLemmas
 pub mod SplitLemmas
 pub mod LeadLemmas
 pub mod GoodLemmas
 pub mod AllowedLemmas
 pub mod MarkLemmas
-pub mod FineLemmas
 pub mod MoveLemmas

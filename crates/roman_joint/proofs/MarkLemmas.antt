@@ -26,7 +26,7 @@ use Rattle.roman_joint.specs.Backward.{seat_prev, from_seat, from_all}
 use Rattle.roman_joint.specs.Rows.{lanes_in, low_in, IsRow}
 use Rattle.roman_joint.specs.Marks.{IsMarked, Grows, row_at, MarksSeat, MarksTurn, MarksEnv, MarksAction, IsAt}
 use Rattle.roman_joint.specs.declared.row.Row.{Row}
-use Rattle.roman_joint.proofs.BackwardLemmas.{Steps, Found, origin, leads_found, from_all_found, found_backwards}
+use Rattle.roman_joint.proofs.BackwardLemmas.{Steps, Found, origin, in_seat_prev, leads_found, from_all_found, found_backwards}
 use Rattle.roman_joint.proofs.Rows.{size_of_seat}
 use Rattle.roman_joint.proofs.WordLemmas.{on_set_same, on_set_other}
 use Rattle.roman_joint.proofs.SplitLemmas.{stride_rows}
@@ -55,15 +55,11 @@ env_on s row m n a e more old = record { turns = λ t i. turn_on s row m n a e t
 pub action_on : (s : Sys) (row : Row) (m n : List ℕ) (a : ℕ) → Grows m n → MarksAction s row m a → MarksAction s row n a
 action_on s row m n a more old = record { envs = λ e i. env_on s row m n a e more (old.envs e i) }
 
--- where an element stands
-place_in : (x : ℕ) (xs : List ℕ) → IsIn x xs → (i : ℕ) × (i < length xs) × (get_or xs i 0 ≡ x)
-place_in x [] i = absurd i
-place_in x (y ∷ ys) (inl e) = (0, omega arith, sym e)
-place_in x (y ∷ ys) (inr j) = let (i, l, e) = place_in x ys j in (suc i, omega arith, e)
-
 -- what holds at each place holds of each element
 pub each_in : (xs : List ℕ) (P : ℕ → Type 0) → ((i : ℕ) → i < length xs → P (get_or xs i 0)) → (x : ℕ) → IsIn x xs → P x
-each_in xs P each x i = let (j, l, e) = place_in x xs i in subst P e (each j l)
+each_in [] P each x i = absurd i
+each_in (y ∷ ys) P each x (inl e) = subst P (sym e) (each 0 (omega arith))
+each_in (y ∷ ys) P each x (inr j) = each_in ys P (λ i l. each (suc i) (omega arith)) x j
 
 -- one more of a count
 pub more_below : (n : ℕ) (P : ℕ → Type 0) → ((j : ℕ) → j < n → P j) → P n → (j : ℕ) → j < n + 1 → P j
@@ -101,13 +97,6 @@ put_mark marks x place lane room at is = (
     ]
 
 -- Rows from which a row is reached
-
-in_frozen : (seat : Seat) (frozen : Bool) (b' e a b : ℕ) → IsFalse frozen → IsIn b (beh_prev seat.beh b' e a) → IsIn b (cond frozen [] (beh_prev seat.beh b' e a))
-in_frozen seat frozen b' e a b ready i = subst (λ f. IsIn b (cond f [] (beh_prev seat.beh b' e a))) (sym ready) i
-
-in_prev : (env : Env) (o : Option Seat) (seat : Seat) (b' e a b : ℕ) → o ≡ Some seat → IsBeh env seat.beh → IsFalse seat.frozen → IsTrue (has_move seat.beh b e a b') → IsIn b (seat_prev o b' e a)
-in_prev env o seat b' e a b seated ok ready moves =
-    subst (λ y. IsIn b (seat_prev y b' e a)) (sym seated) (in_frozen seat seat.frozen b' e a b ready (in_beh_prev env seat.beh b e a b' ok moves))
 
 -- the numbers of a pair and one before it, by rows
 number_before : (s : Sys) (row : Row) (x from lane l e t k b : ℕ) → IsRow s x row → lane < lanes_in s → k < length (sizes_of s).seats →
@@ -185,7 +174,7 @@ marks_all s row x lane p a k marks sys sizes ok in_lanes room all below_p pos i 
         let sum : from * w + l + own * S ≡ row_at s row e t * w + lane + b * S = number_before s row x from lane l e t k b ok in_lanes in_seats is in
         let in_env : IsIn e (env_prev s.env row.env a) = subst (λ y. IsIn e (env_prev s.env y a)) (ok.envs lane in_lanes) (in_env_prev s.env e a q.e sys.env st.world) in
         let in_target : IsIn t (beh_prev s.target row.target e a) = subst (λ y. IsIn t (beh_prev s.target y e a)) (ok.targets lane in_lanes) (in_beh_prev s.env s.target t e a q.t sys.target st.goal) in
-        let in_seat : IsIn b (seat_prev (slice_get s.seats k) own e a) = in_prev s.env (slice_get s.seats k) st.seat own e a b st.seated beh st.ready st.moves in
+        let in_seat : IsIn b (seat_prev (slice_get s.seats k) own e a) = in_seat_prev s.env (slice_get s.seats k) st.seat own e a b st.seated beh st.ready st.moves in
         let turn : MarksTurn s row marks a e t = ((all a action).envs e in_env).turns t in_target in
         let here : from < 64 * length marks = in_table from w p (length marks) refl pos (omega arith) in
         elim (cases_lt k (low_in s)) [

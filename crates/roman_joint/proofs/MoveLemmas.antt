@@ -6,9 +6,10 @@ use Rattle.std.specs.List.{list_any, filter}
 use Rattle.std.proofs.lemmas.Bool.{cases_eq, cases_lt, eq-eqb, ne_eqb, eqb-true, false≢true, and_parts, not_from_false}
 use Rattle.std.proofs.lemmas.Nat.{div-mul-add, mod-mul-add, mod_below, mul-add-lt}
 use Rattle.std.proofs.lemmas.List.{length-map, length-append, length-drop, map-append, take-append-le, drop-append-le, get_or_append_left, drop_more, drop_all, take_all}
-use Rattle.std.proofs.lemmas.Option.{slice_get_within}
+use Rattle.std.proofs.lemmas.List.Sums.{length-filter, count_by-le-length}
+use Rattle.std.proofs.lemmas.Option.{slice_get_within, slice_get-get_or}
 use Rattle.roman_model.specs.Lists.{IsIn, is_empty, below, product_of}
-use Rattle.roman_model.proofs.Lists.{in_map, from_map, in_filter, filter_in, in_below, from_below, any_true, any_from, any_same, same_test, filter_below_more, by_test, empty_is}
+use Rattle.roman_model.proofs.Lists.{in_map, from_map, in_filter, filter_in, in_below, from_below, any_true, any_from, any_same, same_test, filter_below_more, by_test, empty_is, length-below}
 use Rattle.roman_model.specs.System.{Sys, Seat, Beh, beh_next, seat_next}
 use Rattle.roman_model.specs.Arena.{is_beaten}
 use Rattle.roman_model.specs.Numbers.{Sizes, sizes_of, numbered}
@@ -33,7 +34,7 @@ use Rattle.roman_joint.proofs.Rows.{size_of_seat}
 use Rattle.roman_model.proofs.SystemLemmas.{seat_in}
 use Rattle.roman_joint.specs.Changes.{with_frozen}
 use Rattle.roman_joint.proofs.SeatChanges.{with_seats, frozen_sizes, frozen_at}
-use Rattle.roman_joint.proofs.SeatRead.{SeatRead, seat_read}
+use Rattle.roman_joint.proofs.SeatLemmas.{SeatRead, seat_read}
 use Rattle.roman_joint.proofs.OutcomeLemmas.{ready_next}
 use Rattle.roman_lanes.proofs.RowBits.{on_zero}
 use Rattle.roman_joint.proofs.WordLemmas.{not_not}
@@ -61,13 +62,7 @@ pub lanes_room : (n : Sizes) → IsSizes n → ways_room (drop (low_of n.seats) 
 lanes_room n h =
     let fits : ways_room (drop (low_of n.seats) n.seats) ≤ 2 * lanes_of n.seats + length (drop (low_of n.seats) n.seats) = room_fits (drop (low_of n.seats) n.seats) (AreSizes-drop (low_of n.seats) n.seats h.seats) in
     let few : lanes_of n.seats ≤ 64 = lanes_few n.seats in
-    let long : length (drop (low_of n.seats) n.seats) ≤ length n.seats = shorter (low_of n.seats) n.seats in
-    omega (arith, fits, few, long, h.few)
-  where
-    shorter : (k : ℕ) (ns : List ℕ) → length (drop k ns) ≤ length ns
-    shorter zero ns = omega arith
-    shorter (suc k) [] = omega arith
-    shorter (suc k) (n ∷ ns) = let less : length (drop k ns) ≤ length ns = shorter k ns in omega arith
+    omega (arith, fits, few, length-drop (low_of n.seats) n.seats, h.few)
 
 -- one way more
 pub way_more : (lanes : List ℕ) (last stride j : ℕ) → lane_moves_from lanes last stride (j + 1) ≡ lane_moves_from lanes last stride j ++ cond (eqb (slice_index lanes j) 0) [] (lane_move lanes last stride j ∷ [])
@@ -82,49 +77,29 @@ way_more lanes last stride j =
     by_cases false = refl
 
 pub ways_few : (lanes : List ℕ) (last stride count : ℕ) → length (lane_moves_from lanes last stride count) ≤ count
-ways_few lanes last stride zero = omega arith
-ways_few lanes last stride (suc j) =
-    let before : length (lane_moves_from lanes last stride j) ≤ j = ways_few lanes last stride j in
-    let more : length (lane_moves_from lanes last stride (suc j)) ≡ length (lane_moves_from lanes last stride j) + length (cond (eqb (slice_index lanes j) 0) [] (lane_move lanes last stride j ∷ [])) =
-    ap (λ m. length (lane_moves_from lanes last stride m)) (sym (add-one j)) ∙ (ap length (way_more lanes last stride j) ∙ length-append (lane_moves_from lanes last stride j) (cond (eqb (slice_index lanes j) 0) [] (lane_move lanes last stride j ∷ []))) in
-    let one : length (cond (eqb (slice_index lanes j) 0) [] (lane_move lanes last stride j ∷ [])) ≤ 1 = at_most (eqb (slice_index lanes j) 0) in
-    omega arith
-  where
-    at_most : (b : Bool) → length (cond b [] (lane_move lanes last stride j ∷ [])) ≤ 1
-    at_most true = omega arith
-    at_most false = omega arith
+ways_few lanes last stride count =
+    let some = λ (j : ℕ). not (slice_index lanes j == 0) in
+    omega (arith, length-map (filter some (below count)) (lane_move lanes last stride), length-filter some (below count), count_by-le-length some (below count), length-below count)
 
 -- where a way leads
 way_goes : (lane st last j digit b : ℕ) → b + (last + 1) ≡ j + 1 + digit → digit * st ≤ lane → ((last - j) * st ≤ lane) × (lane + (j - last) * st - (last - j) * st ≡ lane + b * st - digit * st)
 way_goes lane st last j digit b e taken = elim (cases_lt j last) [
   | inl down ↦
-      let none : (j - last) * st ≡ 0 = ap (λ m. m * st) (omega_none j last (omega arith)) ∙ nothing st in
+      let none : (j - last) * st ≡ 0 * st = ap (λ m. m * st) (omega arith) in
       let same : digit * st ≡ (b + (last - j)) * st = ap (λ m. m * st) (omega arith) in
       let spread : (b + (last - j)) * st ≡ b * st + (last - j) * st = omega arith in
       (omega arith, omega arith)
   | inr up ↦
-      let none : (last - j) * st ≡ 0 = ap (λ m. m * st) (omega_none last j up) ∙ nothing st in
+      let none : (last - j) * st ≡ 0 * st = ap (λ m. m * st) (omega arith) in
       let same : b * st ≡ (digit + (j - last)) * st = ap (λ m. m * st) (omega arith) in
       let spread : (digit + (j - last)) * st ≡ digit * st + (j - last) * st = omega arith in
       (omega arith, omega arith)
 ]
-  where
-    omega_none : (x y : ℕ) → x ≤ y → x - y ≡ 0
-    omega_none x y l = omega arith
-
-    nothing : (m : ℕ) → 0 * m ≡ 0
-    nothing m = omega arith
 
 -- the moves of the ways are those of the service
 pub moves_made : (n : Sizes) (k last e a : ℕ) (beh : Beh) (ways : Ways) → IsSizes n → low_of n.seats ≤ k → k < length n.seats → beh.states ≡ slice_index n.seats k → last + 1 ≡ slice_index n.seats k →
     AreWays n k beh e a ways → AreMovesOf n k beh e a ways.some (lane_moves_from ways.lanes last (stride_of n k) (last + last + 1))
-moves_made n k last e a beh ways h within seat states size ok = record {
-  each = ok.each;
-  rest = ok.rest;
-  small = λ move i. small_move move i;
-  sound = λ move lane i l on. sound_move move lane i l on;
-  whole = λ b lane l i. whole_move b lane l i;
-}
+moves_made n k last e a beh ways h within seat states size ok = assumption (ok, small_move, sound_move, whole_move)
   where
     st : ℕ
     st = stride_of n k
@@ -132,11 +107,8 @@ moves_made n k last e a beh ways h within seat states size ok = record {
     all : ℕ → Bool
     all j = not (slice_index ways.lanes j == 0)
 
-    most : last * st < 64
-    most = state_below n k last h within seat (omega arith)
-
     less : (x : ℕ) → x ≤ last → x * st < 64
-    less x l = let product : x * st ≤ last * st = mul-le-mul_right st l in omega (arith, product, most)
+    less x l = let product : x * st ≤ last * st = mul-le-mul_right st l in omega (arith, product, state_below n k last h within seat (omega arith))
 
     small_move : (move : Move) → IsIn move (lane_moves_from ways.lanes last st (last + last + 1)) → (move.from < 64) × (move.to < 64)
     small_move move i =
@@ -204,20 +176,9 @@ serves_within s r x a k some good alive row turn seat moves gone h ok within sea
     in_seats : k < length s.seats
     in_seats = slice_get_within s.seats k seat seated
 
-    in_sizes : k < length n.seats
-    in_sizes = omega (arith, in_seats, length-map s.seats (λ (y : Seat). y.beh.states))
-
-    states_are : k < length n.seats → seat.beh.states ≡ slice_index n.seats k
-    states_are l = sym (size_of_seat s.seats k seat seated)
-
     there : (lane b : ℕ) → lane < lanes_in s → IsIn b (states lane) → lane + b * st - digit lane * st < lanes_in s
-    there lane b l i = (lane_state n k lane h.sizes within in_sizes l).moves b (subst (λ m. b < m) (states_are in_sizes) (next_below seat.beh (digit lane) row.env a b i))
-
-    ranges : (lane : ℕ) → lane < lanes_in s → (move : Move) → IsIn move moves → is_on move.lanes lane ≡ true → (move.from ≤ lane) × (lane + move.to - move.from < 64)
-    ranges lane l move i on =
-        let (b, j, to) = are.sound move lane i l on in
-        let few : lanes_in s ≤ 64 = lanes_few n.seats in
-        (to.taken, omega (arith, to.there, there lane b l j, few))
+    there lane b l i = (lane_state n k lane h.sizes within (omega (arith, in_seats, length-map s.seats (λ (y : Seat). y.beh.states))) l).moves b
+        (rw (size_of_seat s.seats k seat seated) (next_below seat.beh (digit lane) row.env a b i))
 
     dead : ℕ → ℕ → Bool
     dead lane b = not (is_on alive (lane + b * st - digit lane * st))
@@ -254,7 +215,9 @@ serves_within s r x a k some good alive row turn seat moves gone h ok within sea
     each lane l = by_test (is_empty (states lane))
         (λ none. off lane (are.each lane l ∙ ap not none)
         ∙ sym (ap not (leads_nothing (numbered s) gone (x * lanes_in s + lane) a k turn.envs.now (states lane) (λ e b. (turn.base + e * env_rows_of n) * lanes_in s + (lane + b * st - digit lane * st)) (leads lane l) (empty_is (states lane) none))))
-        (λ full. told lane (omega (arith, lanes_few n.seats)) (ranges lane l)
+        (λ full. told lane (omega (arith, lanes_few n.seats)) (λ move i on.
+        let (b, j, to) = are.sound move lane i l on in
+        (to.taken, omega (arith, to.there, there lane b l j, lanes_few n.seats)))
         ∙ (ap₂ (λ y z. y && not z) (are.each lane l ∙ ap not full) (same_any lane l) ∙ all_alive lane l full))
 
 -- a frozen service serves nowhere
@@ -365,35 +328,7 @@ stands_at s table k e a x y l j held within seat env action is_e is_a is_l is_j 
 -- What is kept.
 
 pub kept_on : (a b c : Moves) → IsKept a b → IsKept b c → IsKept a c
-kept_on a b c x y = record {
-  same_envs = y.same_envs ∙ x.same_envs;
-  same_actions = y.same_actions ∙ x.same_actions;
-  spans_room = y.spans_room ∙ x.spans_room;
-  moves_room = y.moves_room ∙ x.moves_room;
-}
-
-pub room_kept : (old new : Moves) → IsKept old new → HasRoom old → HasRoom new
-room_kept old new kept room = record {
-  few_envs = omega (arith, kept.same_envs, room.few_envs);
-  few_actions = omega (arith, kept.same_actions, room.few_actions);
-  for_spans = kept.spans_room ∙ (room.for_spans ∙ ap₂ (λ e a. e * a * 32) (sym kept.same_envs) (sym kept.same_actions));
-  for_moves = kept.moves_room ∙ (room.for_moves ∙ ap₂ (λ e a. e * a * 160) (sym kept.same_envs) (sym kept.same_actions));
-}
-
--- the services are those of the system for the table that is kept
-pub seats_kept : (n : NamedSys) (catalogue : List NamedBeh) (seats : List declared.Seat) (sizes : Sizes) (old new : Moves) → IsKept old new →
-    AreSeatsOf n catalogue seats sizes old.envs old.actions → AreSeatsOf n catalogue seats sizes new.envs new.actions
-seats_kept n catalogue seats sizes old new kept of =
-    let envs : new.envs ≡ n.environment.env.states = kept.same_envs ∙ of.envs_are in
-    let actions : new.actions ≡ n.environment.env.actions = kept.same_actions ∙ of.actions_are in
-    assumption
-
-pub seats_back : (n : NamedSys) (catalogue : List NamedBeh) (seats : List declared.Seat) (sizes : Sizes) (old new : Moves) → IsKept old new →
-    AreSeatsOf n catalogue seats sizes new.envs new.actions → AreSeatsOf n catalogue seats sizes old.envs old.actions
-seats_back n catalogue seats sizes old new kept of =
-    let envs : old.envs ≡ n.environment.env.states = sym kept.same_envs ∙ of.envs_are in
-    let actions : old.actions ≡ n.environment.env.actions = sym kept.same_actions ∙ of.actions_are in
-    assumption
+kept_on a b c x y = assumption (y.same_envs ∙ x.same_envs, y.same_actions ∙ x.same_actions, y.spans_room ∙ x.spans_room, y.moves_room ∙ x.moves_room)
 
 -- what is known of a service that is read
 pub record SeatHere (n : NamedSys) (sizes : Sizes) (k : ℕ) (beh : Beh) : Type 0 where
@@ -403,15 +338,10 @@ pub record SeatHere (n : NamedSys) (sizes : Sizes) (k : ℕ) (beh : Beh) : Type 
   pub size : beh.states ≡ slice_index sizes.seats k
   pub few : beh.states ≤ 64
 
-seat_some : {X : Type 0} (xs : List X) (k : ℕ) (x : X) → k < length xs → x ≡ get_or xs k x → slice_get xs k ≡ Some x
-seat_some [] k x l e = absurd (omega arith)
-seat_some (y ∷ xs) zero x l e = ap Some (sym e)
-seat_some (y ∷ xs) (suc k) x l e = seat_some xs k x (omega arith) e
-
 pub seat_here : (n : NamedSys) (catalogue : List NamedBeh) (seats : List declared.Seat) (sizes : Sizes) (envs actions k : ℕ) (x : declared.Seat) (y : NamedBeh) → AreSeatsOf n catalogue seats sizes envs actions →
     k < length seats → x ≡ get_or seats k x → y ≡ get_or catalogue x.behaviour y → SeatHere n sizes k y.beh
 seat_here n catalogue seats sizes envs actions k x y of l at_seat at_beh =
-    let placed : slice_get n.seats k ≡ Some x = ap (λ xs. slice_get xs k) (sym of.seats_of) ∙ seat_some seats k x l at_seat in
+    let placed : slice_get n.seats k ≡ Some x = ap (λ xs. slice_get xs k) (sym of.seats_of) ∙ (slice_get-get_or seats k x l ∙ ap Some (sym at_seat)) in
     let read : SeatRead n k x y = seat_read n k x catalogue y of.known placed of.catalogue_of at_beh in
     let ok = of.known.system.seats (seat_of n.catalogue x) (seat_in (system_of n).seats k (seat_of n.catalogue x) read.seated) in
     record {

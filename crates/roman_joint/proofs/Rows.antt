@@ -28,27 +28,27 @@ row_pair s w t e ok target env =
     let pair = (numbers_are_pairs s).pair w.pair ok.pair in
     record { t = target; e = env; bs = pair.bs }
 
--- the walk's row moves to the pair with these states of the target and the environment
-pub record RowMoves (s : Sys) (w : Walk) (from to stride t e : ℕ) : Type 0 where
+-- the walk's row moves to a pair
+pub record RowMoves (s : Sys) (w : Walk) (from to stride : ℕ) (q : Pair) : Type 0 where
   pub taken : from * stride ≤ w.row
-  pub number : w.row - from * stride + to * stride ≡ number (sizes_of s) (record { t = t; e = e; bs = (goal_of s w).bs })
+  pub number : w.row - from * stride + to * stride ≡ number (sizes_of s) q
   pub below : w.row - from * stride + to * stride < count (sizes_of s)
 
 row_moves : (s : Sys) (w : Walk) (from to stride t e : ℕ) → IsWalk s w → t < s.target.states → e < s.env.states → from * stride ≤ w.row →
-    w.row - from * stride + to * stride ≡ number (sizes_of s) (record { t = t; e = e; bs = (goal_of s w).bs }) → RowMoves s w from to stride t e
+    w.row - from * stride + to * stride ≡ number (sizes_of s) (record { t = t; e = e; bs = (goal_of s w).bs }) → RowMoves s w from to stride (record { t = t; e = e; bs = (goal_of s w).bs })
 row_moves s w from to stride t e ok target env taken number =
     let q : Pair = record { t = t; e = e; bs = (goal_of s w).bs } in
     record { taken = taken; number = number; below = subst (λ x. x < count (sizes_of s)) (sym number) (number_below (sizes_of s) q (IsPairOf-from s q (row_pair s w t e ok target env))) }
 
 -- the target's state moves to t
-pub target_moves : (s : Sys) (w : Walk) (t stride : ℕ) → IsWalk s w → t < s.target.states → stride ≡ target_stride_of (sizes_of s) → RowMoves s w w.target t stride t w.env
+pub target_moves : (s : Sys) (w : Walk) (t stride : ℕ) → IsWalk s w → t < s.target.states → stride ≡ target_stride_of (sizes_of s) → RowMoves s w w.target t stride (record { t = t; e = w.env; bs = (goal_of s w).bs })
 target_moves s w t stride ok within is_stride =
     let n = sizes_of s in
     let row : w.row ≡ w.target * target_stride_of n + w.env * product_of n.seats + states_number n.seats (goal_of s w).bs = ok.row ∙ omega arith in
     row_moves s w w.target t stride t w.env ok within ok.env (rw is_stride (omega arith)) (rw is_stride (omega arith))
 
 -- the environment's state moves to e
-pub env_moves : (s : Sys) (w : Walk) (e stride : ℕ) → IsWalk s w → e < s.env.states → stride ≡ env_stride_of (sizes_of s) → RowMoves s w w.env e stride w.target e
+pub env_moves : (s : Sys) (w : Walk) (e stride : ℕ) → IsWalk s w → e < s.env.states → stride ≡ env_stride_of (sizes_of s) → RowMoves s w w.env e stride (record { t = w.target; e = e; bs = (goal_of s w).bs })
 env_moves s w e stride ok within is_stride =
     let n = sizes_of s in
     let row : w.row ≡ (w.target * n.env) * product_of n.seats + w.env * product_of n.seats + states_number n.seats (goal_of s w).bs = ok.row ∙ omega arith in
@@ -57,21 +57,12 @@ env_moves s w e stride ok within is_stride =
 -- the sizes at a place are the seat's states
 pub size_of_seat : (seats : List Seat) (k : ℕ) (seat : Seat) → slice_get seats k ≡ Some seat → slice_index (map (λ x. x.beh.states) seats) k ≡ seat.beh.states
 size_of_seat [] k seat h = cc
-size_of_seat (x ∷ seats) zero seat h = ap (λ o. states_of_option o) h
-  where
-    states_of_option : Option Seat → ℕ
-    states_of_option None = 0
-    states_of_option (Some y) = y.beh.states
+size_of_seat (x ∷ seats) zero seat h = let same : x ≡ seat = cc in ap (λ (y : Seat). y.beh.states) same
 size_of_seat (x ∷ seats) (suc k) seat h = size_of_seat seats k seat h
 
 -- the state of the present seat moves to b
-pub record SeatMoves (s : Sys) (w : Walk) (from stride b : ℕ) : Type 0 where
-  pub taken : from * stride ≤ w.row
-  pub number : w.row - from * stride + b * stride ≡ number (sizes_of s) (record { t = w.target; e = w.env; bs = slice_set (goal_of s w).bs w.seat b })
-  pub below : w.row - from * stride + b * stride < count (sizes_of s)
-
 pub seat_moves : (s : Sys) (w : Walk) (from b stride : ℕ) → IsWalk s w → w.seat < length s.seats → b < slice_index (sizes_of s).seats w.seat →
-    from ≡ slice_index (goal_of s w).bs w.seat → stride ≡ stride_of (sizes_of s) w.seat → SeatMoves s w from stride b
+    from ≡ slice_index (goal_of s w).bs w.seat → stride ≡ stride_of (sizes_of s) w.seat → RowMoves s w from b stride (record { t = w.target; e = w.env; bs = slice_set (goal_of s w).bs w.seat b })
 seat_moves s w from b stride ok within state is_from is_stride =
     let n = sizes_of s in
     let r : Pair = record { t = w.target; e = w.env; bs = (goal_of s w).bs } in

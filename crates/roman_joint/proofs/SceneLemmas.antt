@@ -15,10 +15,6 @@ use Rattle.roman_joint.specs.Backward.{from_target, from_env, from_action}
 use Rattle.roman_rules.specs.Bits.{bit_of, HasBits}
 use Rattle.roman_joint.specs.Scenes.{ArePermitted, AreLeading, IsScene}
 
-pub empty_list : (xs : List ℕ) → is_empty xs ≡ true → xs ≡ []
-empty_list [] h = refl
-empty_list (x ∷ xs) h = absurd (cc)
-
 -- one more of the numbers for which there is nothing
 pub none_more : (xs : List ℕ) (i : ℕ) (f : ℕ → List ℕ) → i < length xs → f (get_or xs i 0) ≡ [] → ((e : ℕ) → IsIn e (take i xs) → f e ≡ []) → (e : ℕ) → IsIn e (take (i + 1) xs) → f e ≡ []
 none_more xs i f l here before e j = elim (from_push e (get_or xs i 0) (take i xs) (subst (IsIn e) (take_more xs i 0 l) j)) [
@@ -36,19 +32,12 @@ scenes_more env target old new i scene long is before here j x l at = elim (case
   | inr other ↦ before j x (omega (arith, l, other)) (at ∙ ap (λ xs. get_or xs j x) is ∙ get_or_append_left old (scene ∷ []) x j (omega (arith, l, other, long)))
 ]
 
--- all numbers that may pass are asked
-bits_full : (test : ℕ → Bool) (n bits : ℕ) → ((j : ℕ) → j < n → bit_at bits j ≡ bit_of (test j)) → ((j : ℕ) → n ≤ j → bit_at bits j ≡ 0) → ((j : ℕ) → n ≤ j → IsFalse (test j)) → HasBits bits test
-bits_full test n bits asked rest past = record {
-  each = λ j m. elim (cases_lt j n) [ inl less ↦ asked j less | inr more ↦ rest j more ∙ sym (ap bit_of (past j more)) ];
-}
-
 -- the actions that a scene allows are those that are allowed at a pair
 pub permitted_at : (s : Sys) (p bits : ℕ) → IsSys s → ArePermitted s.env s.target (pair_at (sizes_of s) p).t (pair_at (sizes_of s) p).e bits → HasBits bits ((numbered s).allows p)
 permitted_at s p bits sys ok =
-    bits_full ((numbered s).allows p) s.env.actions bits ok.each ok.rest
-    (λ a l. by_test ((numbered s).allows p a)
-    (λ t. let within : a < s.env.actions = (numbered_is_arena s sys).allowed p a t in let none : ⊥ = omega (arith, l, within) in absurd none)
-    (λ f. f))
+    let past : (a : ℕ) → s.env.actions ≤ a → IsFalse ((numbered s).allows p a) = λ a l.
+    by_test ((numbered s).allows p a) (λ t. let within : a < s.env.actions = (numbered_is_arena s sys).allowed p a t in absurd (omega arith)) (λ f. f) in
+    record { each = λ a m. elim (cases_lt a s.env.actions) [ inl less ↦ ok.each a less | inr more ↦ ok.rest a more ∙ sym (ap bit_of (past a more)) ] }
 
 -- where the functions give nothing, nothing comes together
 pub flat_map-none : {X Y : Type 0} (f : X → List Y) (xs : List X) → ((x : X) → IsIn x xs → f x ≡ []) → flat_map f xs ≡ []
@@ -58,7 +47,3 @@ flat_map-none f (x ∷ xs) none = ap (λ ys. ys ++ flat_map f xs) (none x (inl r
 -- an action that doesn't lead to a scene leads to no pair there
 pub leads_nowhere : (s : Sys) (q : Pair) (bits : ℕ) → AreLeading s.env s.target q.t q.e bits → (a : ℕ) → a < s.env.actions → bit_at bits a ≡ 0 → from_action s q a ≡ []
 leads_nowhere s q bits ok a l none = flat_map-none (from_env s q a) (env_prev s.env q.e a) (λ e i. ap (flat_map (from_target s q a e)) (ok.others a l none e i))
-
-pub positive_factor : (x y p : ℕ) → p < x * y → 0 < y
-positive_factor x zero p l = absurd (omega (arith, l))
-positive_factor x (suc y) p l = omega arith

@@ -33,6 +33,13 @@ changed change s sys can = (renaming_keeps change s [] sys can (λ x i. absurd i
 abbrev pub with_seats : NamedSys → List Seat → NamedSys
 with_seats n seats = record { environment = n.environment; catalogue = n.catalogue; target = n.target; seats = seats; limit = n.limit }
 
+-- a system with other seats, and sizes with those of other seats
+abbrev with_model_seats : Sys → List model.Seat → Sys
+with_model_seats s seats = record { env = s.env; target = s.target; seats = seats }
+
+abbrev with_sizes : Sizes → List ℕ → Sizes
+with_sizes m sizes = record { target = m.target; env = m.env; seats = sizes }
+
 -- a system with the seats of one that differs in its seats alone
 pub with_the_seats : (m n : NamedSys) (seats : List Seat) → HasSameParts m n → seats ≡ n.seats → with_seats m seats ≡ n
 with_the_seats m n seats parts same =
@@ -72,17 +79,11 @@ can_freeze s k false h = h
 
 pub frozen_system : (n : NamedSys) (k : ℕ) (frozen : Bool) → system_of (with_seats n (with_frozen n.seats k frozen)) ≡ after (if frozen then Freeze k else Thaw k) (system_of n)
 frozen_system n k frozen = ap (with_model_seats (system_of n)) (frozen_seats n.catalogue n.seats k frozen) ∙ after_frozen (system_of n) k frozen
-  where
-    with_model_seats : Sys → List model.Seat → Sys
-    with_model_seats s seats = record { env = s.env; target = s.target; seats = seats }
 
 pub frozen_sizes : (n : NamedSys) (k : ℕ) (frozen : Bool) → sizes_of (system_of (with_seats n (with_frozen n.seats k frozen))) ≡ sizes_of (system_of n)
 frozen_sizes n k frozen =
     ap (with_sizes (sizes_of (system_of n)))
     (ap (map (λ (seat : model.Seat). seat.beh.states)) (frozen_seats n.catalogue n.seats k frozen) ∙ states_frozen (system_of n).seats k frozen)
-  where
-    with_sizes : Sizes → List ℕ → Sizes
-    with_sizes m seats = record { target = m.target; env = m.env; seats = seats }
 
 pub frozen_known : (n : NamedSys) (k : ℕ) (frozen : Bool) → IsNamedSys n → k < length n.seats → IsNamedSys (with_seats n (with_frozen n.seats k frozen))
 frozen_known n k frozen known within = record {
@@ -116,17 +117,11 @@ recursion-remove P (x ∷ xs) (suc k) h = (h.0, recursion-remove P xs k h.1)
 
 pub gone_system : (n : NamedSys) (k : ℕ) (seat : model.Seat) → system_of (with_seats n (remove n.seats k)) ≡ after (Die k seat) (system_of n)
 gone_system n k seat = ap (with_model_seats (system_of n)) (map-remove (seat_of n.catalogue) n.seats k)
-  where
-    with_model_seats : Sys → List model.Seat → Sys
-    with_model_seats s seats = record { env = s.env; target = s.target; seats = seats }
 
 pub gone_sizes : (n : NamedSys) (k : ℕ) → sizes_without k (sizes_of (system_of n)) ≡ sizes_of (system_of (with_seats n (remove n.seats k)))
 gone_sizes n k =
     ap (with_sizes (sizes_of (system_of n)))
     (sym (map-remove (λ (seat : model.Seat). seat.beh.states) (system_of n).seats k) ∙ ap (map (λ (seat : model.Seat). seat.beh.states)) (sym (map-remove (seat_of n.catalogue) n.seats k)))
-  where
-    with_sizes : Sizes → List ℕ → Sizes
-    with_sizes m seats = record { target = m.target; env = m.env; seats = seats }
 
 pub gone_known : (n : NamedSys) (k : ℕ) (x : Seat) → IsNamedSys n → k < length n.seats → x ≡ get_or n.seats k x → IsNamedSys (with_seats n (remove n.seats k))
 gone_known n k x known within is =
@@ -155,18 +150,12 @@ gone_known n k x known within is =
 
 pub joined_system : (n : NamedSys) (seat : Seat) → system_of (with_seats n (n.seats ++ seat ∷ [])) ≡ after (Join (seat_of n.catalogue seat)) (system_of n)
 joined_system n seat = ap (with_model_seats (system_of n)) (map_push (seat_of n.catalogue) n.seats seat)
-  where
-    with_model_seats : Sys → List model.Seat → Sys
-    with_model_seats s seats = record { env = s.env; target = s.target; seats = seats }
 
 pub joined_sizes : (n : NamedSys) (seat : Seat) → grown_sizes (sizes_of (system_of n)) (beh_at n.catalogue seat.behaviour).states ≡ sizes_of (system_of (with_seats n (n.seats ++ seat ∷ [])))
 joined_sizes n seat =
     ap (with_sizes (sizes_of (system_of n)))
     (sym (map_push (λ (y : model.Seat). y.beh.states) (system_of n).seats (seat_of n.catalogue seat))
     ∙ ap (map (λ (y : model.Seat). y.beh.states)) (sym (map_push (seat_of n.catalogue) n.seats seat)))
-  where
-    with_sizes : Sizes → List ℕ → Sizes
-    with_sizes m seats = record { target = m.target; env = m.env; seats = seats }
 
 -- the grown pairs are few enough exactly where the cells are
 pub joined_fit : (n : NamedSys) (seat : Seat) → IsNamedSys n →
@@ -205,14 +194,11 @@ joined_test n seat m size actions known is_m is_size is_actions = rw (is_m, is_s
 pub frozen_at : (catalogue : List NamedBeh) (seats : List Seat) (k : ℕ) (frozen : Bool) (j : ℕ) (x : model.Seat) → slice_get (map (seat_of catalogue) (with_frozen seats k frozen)) j ≡ Some x →
     (y : model.Seat) × (slice_get (map (seat_of catalogue) seats) j ≡ Some y) × (y.beh ≡ x.beh)
 frozen_at catalogue [] k frozen j x e = (x, e, refl)
-frozen_at catalogue (seat ∷ seats) zero frozen zero x e = (seat_of catalogue seat, refl, same_beh e)
+frozen_at catalogue (seat ∷ seats) zero frozen zero x e =
+    (seat_of catalogue seat, refl, some_beh (seat_of catalogue (record { name = seat.name; behaviour = seat.behaviour; frozen = frozen; rests = seat.rests })) x e)
   where
-    beh_in : Option model.Seat → model.Beh
-    beh_in None = beh_at catalogue seat.behaviour
-    beh_in (Some y) = y.beh
-
-    same_beh : Some (seat_of catalogue (record { name = seat.name; behaviour = seat.behaviour; frozen = frozen; rests = seat.rests })) ≡ Some x → beh_at catalogue seat.behaviour ≡ x.beh
-    same_beh is = ap beh_in is
+    some_beh : (y z : model.Seat) → Some y ≡ Some z → y.beh ≡ z.beh
+    some_beh y z is = let same : y ≡ z = cc in ap (λ (v : model.Seat). v.beh) same
 frozen_at catalogue (seat ∷ seats) zero frozen (suc j) x e = (x, e, refl)
 frozen_at catalogue (seat ∷ seats) (suc k) frozen zero x e = (x, e, refl)
 frozen_at catalogue (seat ∷ seats) (suc k) frozen (suc j) x e = frozen_at catalogue seats k frozen j x e

@@ -1,19 +1,23 @@
 -- Services and their behaviours, one after the other.
-use Rattle.std.proofs.Common.{◌≡◌, ℕ, zero, suc, ◌+◌, ◌*◌, ◌/◌, ◌%◌, ◌^◌, ◌<◌, ◌≤◌, Bool, true, false, not, ◌&&◌, ◌||◌, List, [], ◌∷◌, ◌++◌, Some, IsTrue, IsFalse, All, slice_get, get_or, map, length, take, drop, refl, sym, ap, ap₂, ◌∙◌, subst, inl, inr, arith}
+use Rattle.std.proofs.Common.{◌≡◌, ℕ, zero, suc, ◌+◌, ◌*◌, ◌/◌, ◌%◌, ◌^◌, ◌<◌, ◌≤◌, Bool, true, false, not, ◌&&◌, ◌||◌, List, [], ◌∷◌, ◌++◌, Some, IsTrue, IsFalse, All, slice_get, get_or, map, length, take, drop, refl, sym, ap, ap₂, ◌∙◌, subst, inl, inr, arith, ◌==◌, slice_index}
 use Rattle.std.specs.List.{AllByRecursion}
+use Rattle.std.specs.Option.{option_map}
+use Rattle.std.proofs.lemmas.Option.{slice_get-map, slice_get-get_or, slice_get_within, get_or_from_slice_get}
 use Rattle.std.proofs.Math.ListN.{set}
-use Rattle.std.proofs.lemmas.List.{take_more, take_more_set, map_push, drop_more, drop_all, length-set, take_all, get_or-map}
+use Rattle.std.proofs.lemmas.List.{take_more, take_more_set, map_push, drop_more, drop_all, length-set, take_all, get_or-map, length-map}
 use Rattle.std.proofs.lemmas.Nat.{div_below, mod_below}
 use Rattle.std.proofs.lemmas.List.Elements.{All-from_recursion}
-use Rattle.roman_model.specs.Lists.{IsIn, product_of}
+use Rattle.roman_model.specs.Lists.{IsIn, product_of, is_empty}
 use Rattle.roman_model.specs.System as model
-use Rattle.roman_model.specs.System.{Env, IsBeh, is_final, all_final}
-use Rattle.roman_model.specs.Numbers.{states_at}
+use Rattle.roman_model.specs.System.{Env, IsBeh, is_final, all_final, IsEnv, IsDeterministic, IsSys}
+use Rattle.roman_model.specs.Numbers.{states_at, sizes_of, Sizes}
 use Rattle.roman_parts.specs.Named.{NamedEnv, NamedBeh, IsOver}
 use Rattle.roman_radix.specs.Radix.{AreSizes}
 use Rattle.roman_radix.proofs.Strides.{product_positive, product_more, AreSizes-drop, AreSizes-index}
 use Rattle.roman_joint.specs.declared.seat.Seat.{Seat}
-use Rattle.roman_joint.specs.NamedSys.{beh_at, seat_of, IsOverEnv}
+use Rattle.roman_joint.specs.NamedSys.{beh_at, seat_of, IsOverEnv, NamedSys, system_of, IsNamedSys}
+use Rattle.std.proofs.lemmas.Bool.{ne_eqb}
+use Rattle.roman_model.specs.declared.limits.TheConstants.{MAX_SERVICES}
 
 -- what is read of a place of the catalogue
 pub beh_read : (behs : List NamedBeh) (i : ℕ) (y : NamedBeh) → i < length behs → y ≡ get_or behs i y → y.beh ≡ beh_at behs i
@@ -23,9 +27,7 @@ beh_read (beh ∷ behs) (suc i) y l h = beh_read behs i y (omega arith) h
 
 pub seat_there : (catalogue : List NamedBeh) (seats : List Seat) (k : ℕ) (x : Seat) → k < length seats → x ≡ get_or seats k x →
     slice_get (map (seat_of catalogue) seats) k ≡ Some (seat_of catalogue x)
-seat_there catalogue [] k x l h = absurd (omega arith)
-seat_there catalogue (seat ∷ seats) zero x l h = ap (λ y. Some (seat_of catalogue y)) (sym h)
-seat_there catalogue (seat ∷ seats) (suc k) x l h = seat_there catalogue seats k x (omega arith) h
+seat_there catalogue seats k x l h = slice_get-map (seat_of catalogue) seats k ∙ ap (option_map (seat_of catalogue)) (slice_get-get_or seats k x l ∙ ap Some (sym h))
 
 -- a behaviour has some states, and few, whatever environment it is over
 pub states_range : (y : NamedBeh) → IsOver y.env_states y.actions y.beh → (0 < y.beh.states) × (y.beh.states ≤ 64)
@@ -62,20 +64,6 @@ one_read catalogue seats sizes k size x y within room at_seat at_beh place is ov
           let beh : IsBeh environment.env (beh_at catalogue x.behaviour) = subst (IsBeh environment.env) read (over environment.env (sym over_env.0) (sym over_env.1)) in
           subst (AllByRecursion (λ seat. IsBeh environment.env (beh_at catalogue seat.behaviour))) (sym more)
           (recursion-push (λ seat. IsBeh environment.env (beh_at catalogue seat.behaviour)) (take k seats) x (so_far.known environment are) beh);
-    }
-
--- all services are read
-pub record AllRead (catalogue : List NamedBeh) (seats : List Seat) (table : List ℕ) : Type 0 where
-  pub sizes : take (length seats) table ≡ map (λ seat. (beh_at catalogue seat.behaviour).states) seats
-  pub known : (environment : NamedEnv) → All (IsOverEnv environment) catalogue →
-      AllByRecursion (λ seat. IsBeh environment.env (beh_at catalogue seat.behaviour)) seats
-
-pub all_read : (catalogue : List NamedBeh) (seats : List Seat) (table : List ℕ) (k : ℕ) → k ≡ length seats → AreRead catalogue seats table k → AllRead catalogue seats table
-all_read catalogue seats table k is h =
-    let whole : take k seats ≡ seats = take_all k seats (omega arith) in
-    record {
-      sizes = ap (λ n. take n table) (sym is) ∙ (h.sizes ∙ ap (map (λ seat. (beh_at catalogue seat.behaviour).states)) whole);
-      known = λ environment are. subst (AllByRecursion (λ seat. IsBeh environment.env (beh_at catalogue seat.behaviour))) whole (h.known environment are);
     }
 
 -- the seats' sizes are those of the system
@@ -119,3 +107,48 @@ positive_sizes catalogue seats env h = All-from_recursion (λ size. 0 < size) (m
         AllByRecursion (λ size. 0 < size) (map (λ seat. (beh_at catalogue seat.behaviour).states) xs)
     each [] h = tt
     each (x ∷ xs) h = (h.0.states.0, each xs h.1)
+
+-- What is read of a seat and its behaviour.
+pub record SeatRead (n : NamedSys) (k : ℕ) (x : Seat) (y : NamedBeh) : Type 0 where
+  pub beh : y.beh ≡ beh_at n.catalogue x.behaviour
+  pub seated : slice_get (system_of n).seats k ≡ Some (seat_of n.catalogue x)
+  pub size : slice_index (sizes_of (system_of n)).seats k ≡ y.beh.states
+  pub env_states : y.env_states ≡ (system_of n).env.states
+  pub actions : y.actions ≡ (system_of n).env.actions
+
+pub seat_read : (n : NamedSys) (k : ℕ) (x : Seat) (catalogue : List NamedBeh) (y : NamedBeh) → IsNamedSys n → slice_get n.seats k ≡ Some x → catalogue ≡ n.catalogue →
+    y ≡ get_or catalogue x.behaviour y → SeatRead n k x y
+seat_read n k x catalogue y known at_place same in_catalogue =
+    let at_beh : y ≡ get_or n.catalogue x.behaviour y = in_catalogue ∙ ap (λ ys. get_or ys x.behaviour y) same in
+    let within : k < length n.seats = slice_get_within n.seats k x at_place in
+    let at_seat : x ≡ get_or n.seats k x = sym (get_or_from_slice_get n.seats k x x at_place) in
+    let place : x.behaviour < length n.catalogue = subst (λ (z : Seat). z.behaviour < length n.catalogue) (sym at_seat) (known.behaviours k x within) in
+    let read : y.beh ≡ beh_at n.catalogue x.behaviour = beh_read n.catalogue x.behaviour y place at_beh in
+    let over : IsOverEnv n.environment y = subst (IsOverEnv n.environment) (sym at_beh) (known.catalogue x.behaviour y place) in
+    record {
+      beh = read;
+      seated = seat_there n.catalogue n.seats k x within at_seat;
+      size = size_read n.catalogue n.seats (sizes_of (system_of n)).seats k x y (sym (same_sizes n.catalogue n.seats)) within at_seat read;
+      env_states = over.0;
+      actions = over.1;
+    }
+
+-- where the seat stands in the system
+pub seat_placed : (n : NamedSys) (k : ℕ) (x : Seat) → slice_get n.seats k ≡ Some x → slice_get (system_of n).seats k ≡ Some (seat_of n.catalogue x)
+seat_placed n k x at_place = seat_there n.catalogue n.seats k x (slice_get_within n.seats k x at_place) (sym (get_or_from_slice_get n.seats k x x at_place))
+
+pub len_empty : (xs : List ℕ) → (length xs == 0) ≡ is_empty xs
+len_empty [] = refl
+len_empty (x ∷ xs) = ne_eqb (length (x ∷ xs)) 0 (λ e. let none : ⊥ = omega arith in none)
+
+-- the sizes that were counted are those of the system
+pub sizes_counted : (n : NamedSys) (t e : ℕ) (table : List ℕ) → t ≡ n.target.beh.states → e ≡ n.environment.env.states →
+    take (length n.seats) table ≡ map (λ seat. (beh_at n.catalogue seat.behaviour).states) n.seats →
+    ◌≡◌ {A = Sizes} (record { target = t; env = e; seats = take (length n.seats) table }) (sizes_of (system_of n))
+sizes_counted n t e table is_t is_e is_table = rw (is_t, is_e, is_table ∙ same_sizes n.catalogue n.seats) refl
+
+pub makes_system : (n : NamedSys) → IsEnv n.environment.env → IsBeh n.environment.env n.target.beh → IsDeterministic n.target.beh →
+    AllByRecursion (λ seat. IsBeh n.environment.env (beh_at n.catalogue seat.behaviour)) n.seats → length n.seats ≤ MAX_SERVICES → IsSys (system_of n)
+makes_system n env target single seats few =
+    let all : length (system_of n).seats ≤ MAX_SERVICES = omega (arith, length-map n.seats (seat_of n.catalogue)) in
+    assumption (seats_known n.catalogue n.seats n.environment.env seats)

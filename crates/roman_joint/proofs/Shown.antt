@@ -1,5 +1,5 @@
 -- What a joint's fields are, by the system that it shows.
-use Rattle.std.proofs.Common.{◌≡◌, ℕ, ◌<◌, ◌≤◌, not, ◌&&◌, Some, slice_get, get_or, length, vec_len, vec_capacity, refl, sym, ap, ap₂, ◌∙◌, subst, arith}
+use Rattle.std.proofs.Common.{◌≡◌, ℕ, ◌<◌, ◌≤◌, ◌*◌, not, ◌&&◌, Some, slice_get, get_or, length, vec_len, vec_capacity, refl, sym, ap, ap₂, ◌∙◌, subst, arith}
 use Rattle.std.proofs.lemmas.List.{length-map}
 use Rattle.roman_model.specs.Numbers.{sizes_of, pair_at}
 use Rattle.roman_model.specs.declared.limits.TheConstants.{MAX_SERVICES}
@@ -9,7 +9,8 @@ use Rattle.roman_joint.proofs.SeatLemmas.{beh_read, seat_there}
 use Rattle.roman_joint.specs.Layout.{named_sys_in, IsJoint}
 use Rattle.roman_joint.specs.Scenes.{AreScenes}
 use Rattle.roman_joint.specs.Rows.{AreRowsOf}
-use Rattle.roman_joint.specs.Moves.{HoldsMoves}
+use Rattle.roman_joint.specs.Moves.{HoldsMoves, HasRoom, IsKept}
+use Rattle.roman_joint.specs.declared.moves.Moves.{Moves}
 use Rattle.roman_model.specs.System.{Env, Beh, Sys, env_next, env_prev, beh_next, beh_prev, is_allowed}
 use Rattle.roman_model.specs.Lists.{is_empty}
 use Rattle.roman_parts.specs.Named.{NamedEnv, NamedBeh, NamedTarget}
@@ -32,6 +33,28 @@ pub shown : (a : Inside) (n : NamedSys) → IsJoint a → named_sys_in a ≡ n �
 shown a n h e =
     subst (λ m. Shows a m) e
     (record { known = h.known; environment = refl; catalogue = refl; target = refl; seats = refl; limit = refl; shape = h.shape; rows = h.rows; moves = h.moves; scenes = h.scenes; room = h.room })
+
+-- what the fields of a joint are for the system that they show
+pub record Fits (a : Inside) (n : NamedSys) : Type 0 where
+  pub known : IsNamedSys n
+  pub shape : a.shape ≡ sizes_of (system_of n)
+  pub rows : AreRowsOf (sizes_of (system_of n)) a.rows
+  pub moves : HoldsMoves (system_of n) a.moves
+  pub moves_room : HasRoom a.moves
+  pub scenes : AreScenes a.environment.env a.target.beh a.scenes.items
+  pub room : MAX_SERVICES ≤ vec_capacity a.seats
+
+pub is_joint : (a : Inside) (n : NamedSys) → named_sys_in a ≡ n → Fits a n → IsJoint a
+is_joint a n same ok = let own : Fits a (named_sys_in a) = subst (Fits a) (sym same) ok in assumption
+
+-- there is as much room where the table is kept
+pub room_kept : (old new : Moves) → IsKept old new → HasRoom old → HasRoom new
+room_kept old new kept room = record {
+  few_envs = omega (arith, kept.same_envs, room.few_envs);
+  few_actions = omega (arith, kept.same_actions, room.few_actions);
+  for_spans = kept.spans_room ∙ (room.for_spans ∙ ap₂ (λ e a. e * a * 32) (sym kept.same_envs) (sym kept.same_actions));
+  for_moves = kept.moves_room ∙ (room.for_moves ∙ ap₂ (λ e a. e * a * 160) (sym kept.same_envs) (sym kept.same_actions));
+}
 
 -- the length of the seats' Vec is their number in the system
 pub seats_shown : (a : Inside) (n : NamedSys) → Shows a n → vec_len a.seats ≡ length (system_of n).seats

@@ -1,5 +1,5 @@
 -- How rows and what is looked up of them are made.
-use Rattle.std.proofs.Common.{◌≡◌, ℕ, zero, suc, ◌+◌, ◌*◌, ◌/◌, ◌%◌, ◌<◌, ◌≤◌, cond, List, [], ◌∷◌, length, map, drop, slice_index, inl, inr, refl, sym, ap, ap₂, ◌∙◌, subst, arith, ltb}
+use Rattle.std.proofs.Common.{◌≡◌, ℕ, zero, suc, ◌+◌, ◌*◌, ◌/◌, ◌%◌, ◌^◌, ◌<◌, ◌≤◌, cond, List, [], ◌∷◌, length, map, drop, slice_index, inl, inr, refl, sym, ap, ap₂, ◌∙◌, subst, arith, ltb}
 use Rattle.std.proofs.lemmas.Bool.{cases_eq, lt-ltb, le-ltb}
 use Rattle.std.proofs.lemmas.Nat.{mul-add-lt}
 use Rattle.std.proofs.lemmas.List.{get_or-set_same, get_or-set_other, length-map}
@@ -10,7 +10,7 @@ use Rattle.roman_model.specs.Numbers.{Sizes, IsPairOf, sizes_of, count, pair_at}
 use Rattle.roman_model.proofs.NumberLemmas.{part_at, IsPairOf-at, AreBelow-index}
 use Rattle.roman_radix.specs.Radix.{AreSizes, IsSizes, stride_of, env_stride_of, target_stride_of}
 use Rattle.roman_radix.specs.Rows.{low_of, lanes_of, env_rows_of, target_rows_of}
-use Rattle.roman_radix.proofs.Strides.{product_positive, AreSizes-drop}
+use Rattle.roman_radix.proofs.Strides.{product_positive, AreSizes-drop, AreSizes-index}
 use Rattle.roman_radix.proofs.RowLemmas.{low_of-le, lanes_positive, tails_from, exact, row_div, row_least, row_below, env_rows_are}
 use Rattle.roman_lanes.specs.Rows.{is_on}
 use Rattle.roman_joint.specs.NamedSys.{NamedSys, system_of, IsNamedSys}
@@ -36,6 +36,11 @@ joint_sizes n known =
     all_sizes [] h = tt
     all_sizes (seat ∷ seats) h = let ok = h seat (inl refl) in (ok.states.0, omega (arith, ok.states.1), all_sizes seats (λ x i. h x (inr i)))
 
+-- the factors of a positive product are positive
+pub positive_of : (a w p : ℕ) → a * w ≡ p → 0 < p → 0 < a
+positive_of zero w p e pos = absurd (omega (arith, e, pos))
+positive_of (suc a) w p e pos = omega arith
+
 -- a factor may be left out
 pub factor : (x y w : ℕ) → 0 < w → x * w ≡ y * w → x ≡ y
 factor x y w pos e =
@@ -49,11 +54,16 @@ stride_rows n k h l =
     let (m, e) = tails_from n.seats (k + 1) (low_of n.seats) (omega arith) in
     exact (stride_of n k) m (lanes_of n.seats) (lanes_positive n.seats h.seats) e
 
-pub env_rows_made : (n : Sizes) → IsSizes n → env_stride_of n / lanes_of n.seats ≡ env_rows_of n
-env_rows_made n h = sym (ap (λ x. x / lanes_of n.seats) (env_rows_are n)) ∙ by_lanes (env_rows_of n) (lanes_of n.seats) (lanes_positive n.seats h.seats)
+-- the rows of the target
+pub target_rows_are : (n : Sizes) → target_rows_of n * lanes_of n.seats ≡ target_stride_of n
+target_rows_are n = by n.env (env_rows_of n) (lanes_of n.seats) (env_stride_of n) (env_rows_are n)
   where
-    by_lanes : (r w : ℕ) → 0 < w → r * w / w ≡ r
-    by_lanes r w pos = factor (r * w / w) r w pos (exact (r * w) r w pos refl)
+    by : (e r w p : ℕ) → r * w ≡ p → e * r * w ≡ e * p
+    by e r w p is = let same : e * (r * w) ≡ e * p = ap (λ x. e * x) is in omega arith
+
+-- how often a factor goes into a product
+quotient : (a m w : ℕ) → 0 < w → m * w ≡ a → a / w ≡ m
+quotient a m w pos is = factor (a / w) m w pos (exact a m w pos (sym is) ∙ sym is)
 
 -- the rows of sizes
 pub rows_made : (n : Sizes) (r : Rows) → IsSizes n → r.low ≡ low_of n.seats → r.lanes ≡ lanes_of n.seats → ((lane : ℕ) → is_on r.full lane ≡ ltb lane r.lanes) →
@@ -66,8 +76,8 @@ rows_made n r h is_low is_lanes full rows env target strides sizes firsts = reco
   lanes = is_lanes;
   full = λ lane. full lane ∙ ap (ltb lane) is_lanes;
   rows = rows;
-  env = env ∙ (ap (λ w. env_stride_of n / w) is_lanes ∙ env_rows_made n h);
-  target = target ∙ (ap (λ w. target_stride_of n / w) is_lanes ∙ target_made);
+  env = env ∙ (ap (λ w. env_stride_of n / w) is_lanes ∙ quotient (env_stride_of n) (env_rows_of n) (lanes_of n.seats) (lanes_positive n.seats h.seats) (env_rows_are n));
+  target = target ∙ (ap (λ w. target_stride_of n / w) is_lanes ∙ quotient (target_stride_of n) (target_rows_of n) (lanes_of n.seats) (lanes_positive n.seats h.seats) (target_rows_are n));
   before = λ k l.
       let within : k < length n.seats = omega (arith, low_of-le n.seats) in
       let is : slice_index r.strides k ≡ stride_of n k / lanes_of n.seats =
@@ -77,29 +87,33 @@ rows_made n r h is_low is_lanes full rows env target strides sizes firsts = reco
   sizes = sizes;
   firsts = firsts;
 }
-  where
-    target_made : target_stride_of n / lanes_of n.seats ≡ target_rows_of n
-    target_made =
-        let whole : target_stride_of n ≡ target_rows_of n * lanes_of n.seats = sym (omega_turn n.env (env_rows_of n) (lanes_of n.seats) (env_stride_of n) (env_rows_are n)) in
-        whole_rows (target_stride_of n) (target_rows_of n) (lanes_of n.seats) (lanes_positive n.seats h.seats) whole
-      where
-        omega_turn : (e r w p : ℕ) → r * w ≡ p → e * r * w ≡ e * p
-        omega_turn e r w p is = let same : e * (r * w) ≡ e * p = ap (λ x. e * x) is in omega arith
-
-        whole_rows : (a m w : ℕ) → 0 < w → a ≡ m * w → a / w ≡ m
-        whole_rows a m w pos is = factor (a / w) m w pos (exact a m w pos is ∙ is)
 
 -- what a seat before the lanes adds to a row's number
 pub row_stride : (n : Sizes) (r : Rows) (k : ℕ) → IsSizes n → AreRowsOf n r → k < low_of n.seats → slice_index r.strides k ≡ stride_of n k / lanes_of n.seats
 row_stride n r k h rows l = factor (slice_index r.strides k) (stride_of n k / lanes_of n.seats) (lanes_of n.seats) (lanes_positive n.seats h.seats) (rows.before k l ∙ sym (stride_rows n k h l))
 
-pub row_stride_positive : (n : Sizes) (r : Rows) (k : ℕ) → IsSizes n → AreRowsOf n r → k < low_of n.seats → 0 < slice_index r.strides k
-row_stride_positive n r k h rows l =
-    of_product (slice_index r.strides k) (lanes_of n.seats) (stride_of n k) (rows.before k l) (product_positive (drop (k + 1) n.seats) (AreSizes-drop (k + 1) n.seats h.seats))
-  where
-    of_product : (a w p : ℕ) → a * w ≡ p → 0 < p → 0 < a
-    of_product zero w p e pos = absurd (omega (arith, e, pos))
-    of_product (suc a) w p e pos = omega arith
+-- what is known of a seat before the lanes
+pub record Before (n : Sizes) (r : Rows) (k : ℕ) : Type 0 where
+  pub low : k < low_of n.seats
+  pub few : k < 32
+  pub stride : 0 < slice_index r.strides k
+  pub size : 0 < slice_index r.sizes k
+  pub byte : slice_index r.sizes k < 2 ^ 8
+
+pub before : (n : NamedSys) (r : Rows) (k : ℕ) → IsNamedSys n → AreRowsOf (sizes_of (system_of n)) r → k < r.low → Before (sizes_of (system_of n)) r k
+before named r k known rows l =
+    let n : Sizes = sizes_of (system_of named) in
+    let h : IsSizes n = joint_sizes named known in
+    let low : k < low_of n.seats = omega (arith, rows.low) in
+    let seat : k < length n.seats = omega (arith, low, low_of-le n.seats) in
+    let size = AreSizes-index n.seats k h.seats seat in
+    record {
+      low = low;
+      few = omega (arith, seat, h.few);
+      stride = positive_of (slice_index r.strides k) (lanes_of n.seats) (stride_of n k) (rows.before k low) (product_positive (drop (k + 1) n.seats) (AreSizes-drop (k + 1) n.seats h.seats));
+      size = omega (arith, size.0, rows.sizes k seat);
+      byte = omega (arith, size.1, rows.sizes k seat);
+    }
 
 -- the state of one seat more
 pub row_states_more : (n : Sizes) (r : Rows) (states : List ℕ) (x k size : ℕ) → IsSizes n → AreRowsOf n r → k < low_of n.seats → k < length states → size ≡ slice_index r.sizes k →
@@ -112,17 +126,12 @@ row_states_more n r states x k size h rows low room is before j l = elim (cases_
   | inr other ↦ get_or-set_other states k j (x / slice_index r.strides k % size) 0 other ∙ before j (omega arith)
 ]
 
-turned : (a b : ℕ) → a * b ≡ b * a
-turned a b = omega arith
-
 -- the pairs of a row are pairs
 pub row_inside : (n : Sizes) (x lane rows : ℕ) → rows * lanes_of n.seats ≡ count n → x < rows → lane < lanes_of n.seats → x * lanes_of n.seats + lane < count n
-row_inside n x lane rows is l m = subst (λ y. x * lanes_of n.seats + lane < y) (turned (lanes_of n.seats) rows ∙ is) (mul-add-lt x (lanes_of n.seats) lane rows l m)
+row_inside n x lane rows is l m = omega (arith, is, mul-add-lt x (lanes_of n.seats) lane rows l m)
 
 pub row_number : (x rows w c : ℕ) → 0 < w → rows * w ≡ c → x * w < c → x < rows
-row_number x rows w c pos is l =
-    let first : x * w ≡ x * w + 0 = omega arith in
-    row_below x w 0 rows (subst (λ m. m < rows * w) first (subst (λ m. x * w < m) (sym is) l))
+row_number x rows w c pos is l = row_below x w 0 rows (omega arith)
 
 -- what is looked up of a row
 pub row_made : (s : Sys) (x : ℕ) (row : Row) → IsSizes (sizes_of s) → x * lanes_in s < count (sizes_of s) → (rows : ℕ) → rows * lanes_in s ≡ count (sizes_of s) → row.part ≡ x % env_rows_of (sizes_of s) →

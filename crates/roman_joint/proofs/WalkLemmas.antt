@@ -21,7 +21,7 @@ use Rattle.roman_joint.specs.Walks.{goal_of, IsWalk, states_before, left_of_seat
 flat_map-drop : {X Y : Type 0} (f : X → List Y) (xs : List X) (i : ℕ) (d : X) → i < length xs → flat_map f (drop i xs) ≡ f (get_or xs i d) ++ flat_map f (drop (i + 1) xs)
 flat_map-drop f xs i d l = ap (flat_map f) (drop_more xs i d l)
 
-flat_map-past : {X Y : Type 0} (f : X → List Y) (xs : List X) (i : ℕ) → length xs ≤ i → flat_map f (drop i xs) ≡ []
+pub flat_map-past : {X Y : Type 0} (f : X → List Y) (xs : List X) (i : ℕ) → length xs ≤ i → flat_map f (drop i xs) ≡ []
 flat_map-past f xs i l = ap (flat_map f) (drop_all i xs l)
 
 -- the same for numbers in their order
@@ -29,7 +29,7 @@ flat_map-below : {Y : Type 0} (f : ℕ → List Y) (n i : ℕ) → i < n → fla
 flat_map-below f n i l =
     flat_map-drop f (below n) i 0 (omega (arith, length-below n)) ∙ ap (λ j. f j ++ flat_map f (drop (i + 1) (below n))) (get_or-below n i 0 l)
 
-below-past : {Y : Type 0} (f : ℕ → List Y) (n i : ℕ) → n ≤ i → flat_map f (drop i (below n)) ≡ []
+pub below-past : {Y : Type 0} (f : ℕ → List Y) (n i : ℕ) → n ≤ i → flat_map f (drop i (below n)) ≡ []
 below-past f n i l = flat_map-past f (below n) i (omega (arith, length-below n))
 
 -- a seat that isn't there has no states before
@@ -86,9 +86,6 @@ module _ (s : Sys) (sys : IsSys s) (w : Walk) (ok : IsWalk s w) where
   pub goes_seat : left_of_seat s w ≡ [] → w.seat + 1 < length s.seats → WalkGoesOn s w seat_on
   goes_seat no_states more = record { walk = seat_walk (omega arith); left = seat_left no_states; falls = omega arith }
 
-  pub no_seats : length s.seats ≤ w.seat + 1 → left_of_target s w ≡ []
-  no_seats past = below-past (from_seat s (goal_of s w) w.action w.env w.target) (length s.seats) (w.seat + 1) past
-
   -- the walk at the target's next state, which counts as the last where it is
   abbrev pub target_on : ℕ → ℕ → ℕ → Walk
   target_on t row m = record w { target = t; row = row; targets_taken = m; seat = 0; states_taken = 0 }
@@ -112,9 +109,6 @@ module _ (s : Sys) (sys : IsSys s) (w : Walk) (ok : IsWalk s w) where
       let first : 0 ≤ length s.seats = omega arith in
       record { walk = assumption (none_taken); left = then ∙ sym old; falls = omega (arith, sys.few) }
 
-  pub no_targets : length (beh_prev s.target (goal_of s w).t w.env w.action) ≤ w.targets_taken → left_of_env s w ≡ []
-  no_targets past = flat_map-past (from_target s (goal_of s w) w.action w.env) (beh_prev s.target (goal_of s w).t w.env w.action) w.targets_taken past
-
   -- the walk at the environment's next state, which counts as the last where it is; k is the number of seats
   abbrev pub env_on : ℕ → ℕ → ℕ → ℕ → Walk
   env_on e row m k = record w { env = e; row = row; envs_taken = m; targets_taken = 0; seat = k; states_taken = 0 }
@@ -137,9 +131,6 @@ module _ (s : Sys) (sys : IsSys s) (w : Walk) (ok : IsWalk s w) where
       after_none (left_of_seat s new) (left_of_target s new) (f e ++ (left_of_action s new ++ rest)) (past_seat s (goal_of s w) w.action e w.target k 0 (omega arith))
       (below-past (from_seat s (goal_of s w) w.action e w.target) (length s.seats) (k + 1) (omega arith)) in
       record { walk = assumption (none_taken); left = then ∙ sym old; falls = omega (arith, sys.few) }
-
-  pub no_envs : length (env_prev s.env (goal_of s w).e w.action) ≤ w.envs_taken → left_of_action s w ≡ []
-  no_envs past = flat_map-past (from_env s (goal_of s w) w.action) (env_prev s.env (goal_of s w).e w.action) w.envs_taken past
 
   -- the walk at the next action, on which all of the environment's states count as taken where it doesn't lead to the pair
   abbrev pub action_on : ℕ → ℕ → Walk
@@ -169,9 +160,6 @@ module _ (s : Sys) (sys : IsSys s) (w : Walk) (ok : IsWalk s w) where
       ∙ (ap (λ xs. xs ++ (left_of_action s new ++ left_of_all s new)) targets ∙ ap (λ xs. xs ++ left_of_all s new) envs) in
       let taken : 64 ≤ 64 = omega arith in
       record { walk = assumption (none_taken); left = then ∙ sym old; falls = omega (arith, sys.few, small) }
-
-  pub no_actions : s.env.actions ≤ w.action + 1 → left_of_all s w ≡ []
-  no_actions past = below-past (from_action s (goal_of s w)) s.env.actions (w.action + 1) past
 
 -- a seat's states before are few
 pub few_seat_prev : (s : Sys) (k b' e a : ℕ) → IsSys s → length (seat_prev (slice_get s.seats k) b' e a) ≤ 64
@@ -209,9 +197,6 @@ module _ (s : Sys) (sys : IsSys s) (w : Walk) (ok : IsWalk s w) where
 
   pub no_state_left : length (states_before s w) ≤ w.states_taken → left_of_seat s w ≡ []
   no_state_left past = ap (from_states s (goal_of s w) w.action w.env w.target w.seat) (drop_all w.states_taken (states_before s w) past)
-
-  pub no_state_there : length s.seats ≤ w.seat → left_of_seat s w ≡ []
-  no_state_there past = past_seat s (goal_of s w) w.action w.env w.target w.seat w.states_taken past
 
 module _ (s : Sys) (sys : IsSys s) (w : Walk) (ok : IsWalk s w) where
   -- a state of the present seat is taken, and with the last the walk goes past the seat

@@ -1,6 +1,6 @@
 -- The lanes of words that are combined.
-use Rattle.std.proofs.Common.{◌≡◌, ◌≢◌, ℕ, ◌+◌, ◌-◌, ◌*◌, ◌/◌, ◌%◌, ◌^◌, ◌<◌, ◌≤◌, Bool, true, false, not, ◌&&◌, ◌||◌, List, [], ◌∷◌, ◌++◌, length, take, get_or, inl, inr, refl, sym, ap, ◌∙◌, arith, eqb, ltb, bit_and}
-use Rattle.std.proofs.Math.Bool.{and_assoc, and-true, or-false, not-not}
+use Rattle.std.proofs.Common.{◌≡◌, ◌≢◌, ℕ, ◌+◌, ◌-◌, ◌*◌, ◌/◌, ◌%◌, ◌^◌, ◌<◌, ◌≤◌, Bool, true, false, not, ◌&&◌, ◌||◌, List, [], ◌∷◌, length, take, get_or, inl, inr, refl, sym, ap, ◌∙◌, arith, eqb, ltb, bit_and}
+use Rattle.std.proofs.Math.Bool.{and-true, or-false, not-not}
 use Rattle.std.specs.Int.{bit_at, bit_not, w64}
 use Rattle.std.specs.Prelude.{bit_or}
 use Rattle.std.specs.List.{list_any}
@@ -28,26 +28,23 @@ pub on_shr : (a d i j : ℕ) → j ≡ d + i → is_on (a / 2 ^ d) i ≡ is_on a
 unfolding is_on
 on_shr a d i j e = ap (λ n. eqb n 1) (sym (shr_and_one (a / 2 ^ d) i) ∙ (ap (λ n. bit_and n 1) (shr-shr a d i) ∙ (shr_and_one a (d + i) ∙ ap (bit_at a) (sym e))))
 
+-- the lanes of a word that is shifted up are those of the product
+on_product : (a d i : ℕ) → i < 64 → is_on (a * 2 ^ d % 2 ^ 64) i ≡ is_on (a * 2 ^ d + 0) i
+unfolding is_on
+on_product a d i h =
+    let whole : a * 2 ^ d + 0 ≡ (a * 2 ^ d / 2 ^ 64) * 2 ^ 64 + a * 2 ^ d % 2 ^ 64 = omega arith in
+    ap (λ n. eqb n 1) (sym (ap (λ n. bit_at n i) whole ∙ bit_at_cat_low (a * 2 ^ d / 2 ^ 64) 64 (a * 2 ^ d % 2 ^ 64) i h))
+
 pub on_shl : (a d i j : ℕ) → i < 64 → i ≡ d + j → is_on (a * 2 ^ d % 2 ^ 64) i ≡ is_on a j
 unfolding is_on
 on_shl a d i j h e =
-    let whole : a * 2 ^ d ≡ (a * 2 ^ d / 2 ^ 64) * 2 ^ 64 + a * 2 ^ d % 2 ^ 64 = omega arith in
-    let low : bit_at (a * 2 ^ d) i ≡ bit_at (a * 2 ^ d % 2 ^ 64) i = ap (λ n. bit_at n i) whole ∙ bit_at_cat_low (a * 2 ^ d / 2 ^ 64) 64 (a * 2 ^ d % 2 ^ 64) i h in
-    let pos : 0 < 2 ^ d = pow_pos d in
-    let same : a * 2 ^ d ≡ a * 2 ^ d + 0 = omega arith in
-    let high : bit_at (a * 2 ^ d) i ≡ bit_at a (i - d) = ap (λ n. bit_at n i) same ∙ bit_at_cat_high a d 0 i pos (omega arith) in
     let place : i - d ≡ j = omega arith in
-    ap (λ n. eqb n 1) (sym low ∙ (high ∙ ap (bit_at a) place))
+    on_product a d i h ∙ ap (λ n. eqb n 1) (bit_at_cat_high a d 0 i (pow_pos d) (omega arith) ∙ ap (bit_at a) place)
 
 pub on_below : (a d i : ℕ) → i < d → is_on (a * 2 ^ d % 2 ^ 64) i ≡ false
 unfolding is_on
 on_below a d i l = elim (cases_lt i 64) [
-  | inl h ↦
-      let whole : a * 2 ^ d ≡ (a * 2 ^ d / 2 ^ 64) * 2 ^ 64 + a * 2 ^ d % 2 ^ 64 = omega arith in
-      let low : bit_at (a * 2 ^ d) i ≡ bit_at (a * 2 ^ d % 2 ^ 64) i = ap (λ n. bit_at n i) whole ∙ bit_at_cat_low (a * 2 ^ d / 2 ^ 64) 64 (a * 2 ^ d % 2 ^ 64) i h in
-      let same : a * 2 ^ d ≡ a * 2 ^ d + 0 = omega arith in
-      let none : bit_at (a * 2 ^ d) i ≡ bit_at 0 i = ap (λ n. bit_at n i) same ∙ bit_at_cat_low a d 0 i l in
-      ap (λ n. eqb n 1) (sym low ∙ (none ∙ bit_at-zero i))
+  | inl h ↦ on_product a d i h ∙ ap (λ n. eqb n 1) (bit_at_cat_low a d 0 i l ∙ bit_at-zero i)
   | inr past ↦ let small : a * 2 ^ d % 2 ^ 64 < 2 ^ 64 = omega arith in ap (λ n. eqb n 1) (bit_at_above (a * 2 ^ d % 2 ^ 64) 64 i small past)
 ]
 
@@ -59,23 +56,14 @@ pub on_set_other : (a i j : ℕ) → i < 64 → j ≢ i → is_on (bit_or a (1 *
 unfolding is_on
 on_set_other a i j h ne = ap (λ n. eqb n 1) (bit_at_set_other w64 a i h j ne)
 
--- none so far and none more
-pub none_more : {X : Type 0} (p : X → Bool) (xs : List X) (x : X) → not (list_any p (xs ++ x ∷ [])) ≡ (not (list_any p xs) && not (p x))
-none_more p xs x = ap not (list_any-append p xs (x ∷ [])) ∙ by_cases (list_any p xs) (p x)
-  where
-    by_cases : (a b : Bool) → not (a || (b || false)) ≡ (not a && not b)
-    by_cases true b = refl
-    by_cases false b = ap not (or-false b)
-
+-- one more of a list is asked
 pub some_more : {X : Type 0} (p : X → Bool) (xs : List X) (i : ℕ) (d : X) → i < length xs → list_any p (take (i + 1) xs) ≡ (list_any p (take i xs) || p (get_or xs i d))
 some_more p xs i d l = ap (list_any p) (take_more xs i d l) ∙ (list_any-append p (take i xs) (get_or xs i d ∷ []) ∙ ap (λ b. list_any p (take i xs) || b) (or-false (p (get_or xs i d))))
 
 -- none of both
 pub none_after : {X : Type 0} (test : X → Bool) (xs : List X) (i : ℕ) (d : X) (good alive next : Bool) → i < length xs →
     alive ≡ (good && not (list_any test (take i xs))) → next ≡ (alive && not (test (get_or xs i d))) → next ≡ (good && not (list_any test (take (i + 1) xs)))
-none_after test xs i d good alive next l before here =
-    here ∙ (ap (λ a. a && not (test (get_or xs i d))) before ∙ (and_assoc good (not (list_any test (take i xs))) (not (test (get_or xs i d)))
-    ∙ ap (λ b. good && b) (sym (none_more test (take i xs) (get_or xs i d)) ∙ ap (λ ys. not (list_any test ys)) (sym (take_more xs i d l)))))
+none_after test xs i d good alive next l before here = grind (arith, some_more test xs i d l)
 
 -- one word more
 pub alive_more : {X : Type 0} (test : X → Bool) (xs : List X) (i : ℕ) (d : X) (good alive word lane : ℕ) → i < length xs →

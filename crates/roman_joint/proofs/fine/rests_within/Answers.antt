@@ -1,34 +1,33 @@
 use Rattle.std.proofs.Common.{◌≡◌, ◌/◌, ◌%◌, ◌<◌, ◌≤◌, ◌&&◌, ◌||◌, length, slice_get, slice_index, sym, ap, ap₂, subst, ◌∙◌, arith}
 use Rattle.std.proofs.lemmas.Bool.{le-ltb, lt-ltb}
 use Rattle.std.proofs.lemmas.Nat.{mod_below}
-use Rattle.roman_model.specs.Numbers.{Sizes, sizes_of}
+use Rattle.roman_model.specs.Numbers.{sizes_of}
 use Rattle.roman_radix.specs.Radix.{stride_of}
 use Rattle.roman_radix.proofs.Strides.{AreSizes-index}
 use Rattle.roman_lanes.specs.Rows.{is_on}
 use Rattle.roman_joint.specs.NamedSys.{system_of}
-use Rattle.roman_radix.specs.Rows.{low_of, lanes_of}
-use Rattle.roman_joint.specs.Rows.{AreRowsOf, lane_has_state, may_rest}
+use Rattle.roman_joint.specs.Rows.{lane_has_state, may_rest}
 use Rattle.roman_lanes.proofs.RowBits.{on_zero}
 use Rattle.roman_joint.proofs.SplitLemmas.{joint_sizes}
 use Rattle.roman_joint.proofs.GoodLemmas.{within, below_more, state_is}
-use Rattle.roman_joint.proofs.FineLemmas.{same_state}
+use Rattle.roman_joint.proofs.AllowedLemmas.{same_state}
 use Rattle.roman_joint.proofs.fine.rests_within.Goals as goal
 
 pub state_lanes-in_state-requires-clause-rows : goal.state_lanes-in_state-requires-clause-rows
-state_lanes-in_state-requires-clause-rows c = subst (λ n. AreRowsOf n c.layout-rows.result.now) (sym c.shape-shape.ensures) c.layout-rows.ensures.rows
+state_lanes-in_state-requires-clause-rows c = rw c.shape-shape.ensures c.layout-rows.ensures.rows
 
 pub state_lanes-in_state-requires-clause-within : goal.state_lanes-in_state-requires-clause-within
-state_lanes-in_state-requires-clause-within c = subst (λ (n : Sizes). low_of n.seats ≤ c.args.k) (sym c.shape-shape.ensures) c.requires.within
+state_lanes-in_state-requires-clause-within c = rw c.shape-shape.ensures c.requires.within
 
 pub state_lanes-in_state-requires-clause-seat : goal.state_lanes-in_state-requires-clause-seat
 state_lanes-in_state-requires-clause-seat c =
     let w = within c.args.joint.now c.layout-rows.result.now c.args.k c.layout-rows.ensures.known c.layout-rows.ensures.rows c.requires.within c.requires.seat in
-    subst (λ (n : Sizes). c.args.k < length n.seats) (sym c.shape-shape.ensures) w.seats
+    rw c.shape-shape.ensures w.seats
 
 pub state_lanes-in_state-requires-clause-state : goal.state_lanes-in_state-requires-clause-state
 state_lanes-in_state-requires-clause-state c =
     let w = within c.args.joint.now c.layout-rows.result.now c.args.k c.layout-rows.ensures.known c.layout-rows.ensures.rows c.requires.within c.requires.seat in
-    subst (λ (n : Sizes). c.loop-b.b < slice_index n.seats c.args.k) (sym c.shape-shape.ensures) (omega (arith, c.layout-rows.ensures.rows.sizes c.args.k w.seats))
+    rw c.shape-shape.ensures (omega (arith, c.layout-rows.ensures.rows.sizes c.args.k w.seats))
 
 pub may_rest-rests-requires-clause-state : goal.may_rest-rests-requires-clause-state
 may_rest-rests-requires-clause-state c =
@@ -50,8 +49,7 @@ loop-b-preserved c lane l =
     let b = c.loop-b.b in
     let f = may_rest (slice_get s.seats c.args.k) in
     let in_state : is_on c.state_lanes-in_state.result lane ≡ lane_has_state st size b lane =
-    subst (λ (n : Sizes). is_on c.state_lanes-in_state.result lane ≡ lane_has_state (stride_of n c.args.k) (slice_index n.seats c.args.k) b lane) c.shape-shape.ensures
-    (c.state_lanes-in_state.ensures.each lane (subst (λ (n : Sizes). lane < lanes_of n.seats) (sym c.shape-shape.ensures) l)) in
+    rw c.shape-shape.ensures at (c.state_lanes-in_state.ensures.each lane (rw c.shape-shape.ensures l)) in
     c.with_lanes-lanes.ensures lane
     ∙ (ap₂ (λ y z. y || z) (c.loop-b.invariant lane l)
     (ap₂ (λ y z. y && z) (in_state ∙ state_is st size b lane) c.may_rest-rests.ensures ∙ same_state m b f)

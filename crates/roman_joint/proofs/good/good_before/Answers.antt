@@ -3,9 +3,10 @@ use Rattle.roman_model.specs.Lists.{is_empty}
 use Rattle.roman_model.proofs.Lists.{not_empty_in, empty_is}
 use Rattle.roman_joint.specs.NamedSys.{system_of}
 use Rattle.roman_joint.proofs.Finds.{in_at}
-use Rattle.roman_joint.proofs.SeatRead.{len_empty}
-use Rattle.roman_joint.proofs.GoodLemmas.{low_few, Known, known, rows_there, rows_before, serves_before, beaten_before}
+use Rattle.roman_joint.proofs.SeatLemmas.{len_empty}
+use Rattle.roman_joint.proofs.GoodLemmas.{low_few, Known, known, RowsBefore, rows_before, serves_before, beaten_before}
 use Rattle.roman_joint.proofs.good.good_before.Goals as goal
+use Rattle.roman_joint.proofs.good.good_before.Goals.{After-from}
 
 pub bounds-row-k : goal.bounds-row-k
 bounds-row-k c = (low_few c.args.joint.now c.args.k c.layout-rows.ensures.known c.requires.seat).0
@@ -29,63 +30,38 @@ returns-then-is_empty c x gone ok rows =
     beaten_before s r x c.args.a c.args.k c.args.row.now c.args.turn.now states gone h c.requires.turn c.requires.seat c.next_states-states.ensures.next
     (empty_is states (sym (len_empty states) ∙ (sym c.is_empty.ensures ∙ c.if-is_empty.true)))
 
-pub overflow_mul-base : goal.overflow_mul-base
-overflow_mul-base c =
+-- the rows to which the seat goes
+rows_to : (c : After-from) → RowsBefore c.layout-rows.result.now c.args.turn.now c.args.k c.from.result (length c.args.words.now) c.next_states-states.result.now
+rows_to c =
     let n = c.args.joint.now in
-    let s = system_of n in
     let r = c.layout-rows.result.now in
-    let x = c.requires.row.0 in
-    let h : Known s r x c.args.row.now = known n r x c.args.row.now c.layout-rows.ensures.known c.layout-rows.ensures.rows c.requires.row.1 in
-    let all = rows_there s r x c.args.a (length c.args.words.now) c.args.row.now c.args.turn.now h c.requires.turn c.requires.room in
-    let to = rows_before s r x c.args.a c.args.k c.from.result (length c.args.words.now) c.args.row.now c.args.turn.now c.next_states-states.result.now h c.requires.turn c.requires.seat c.requires.room c.next_states-states.ensures.next c.from.ensures in
-    omega (arith, to.taken, all.inside, all.few)
+    let (x, ok) = c.requires.row in
+    rows_before (system_of n) r x c.args.a c.args.k c.from.result (length c.args.words.now) c.args.row.now c.args.turn.now c.next_states-states.result.now
+    (known n r x c.args.row.now c.layout-rows.ensures.known c.layout-rows.ensures.rows ok) c.requires.turn c.requires.seat c.requires.room c.next_states-states.ensures.next c.from.ensures
+
+pub overflow_mul-base : goal.overflow_mul-base
+overflow_mul-base c = let to = rows_to (goal.at.overflow_mul-base c).After-from in omega (arith, to.taken, to.turn_rows.inside, to.turn_rows.few)
 
 pub overflow_sub-base : goal.overflow_sub-base
-overflow_sub-base c =
-    let n = c.args.joint.now in
-    let s = system_of n in
-    let r = c.layout-rows.result.now in
-    let x = c.requires.row.0 in
-    let h : Known s r x c.args.row.now = known n r x c.args.row.now c.layout-rows.ensures.known c.layout-rows.ensures.rows c.requires.row.1 in
-    (rows_before s r x c.args.a c.args.k c.from.result (length c.args.words.now) c.args.row.now c.args.turn.now c.next_states-states.result.now h c.requires.turn c.requires.seat c.requires.room c.next_states-states.ensures.next c.from.ensures).taken
+overflow_sub-base c = (rows_to (goal.at.overflow_sub-base c).After-from).taken
 
 pub all_alive-requires-clause-envs : goal.all_alive-requires-clause-envs
 all_alive-requires-clause-envs c i d l =
-    let n = c.args.joint.now in
-    let s = system_of n in
-    let r = c.layout-rows.result.now in
-    let x = c.requires.row.0 in
-    let h : Known s r x c.args.row.now = known n r x c.args.row.now c.layout-rows.ensures.known c.layout-rows.ensures.rows c.requires.row.1 in
-    let all = rows_there s r x c.args.a (length c.args.words.now) c.args.row.now c.args.turn.now h c.requires.turn c.requires.room in
+    let to = rows_to (goal.at.all_alive-requires-clause-envs c).After-from in
     let states = c.next_states-states.result.now in
-    let to = rows_before s r x c.args.a c.args.k c.from.result (length c.args.words.now) c.args.row.now c.args.turn.now states h c.requires.turn c.requires.seat c.requires.room c.next_states-states.ensures.next c.from.ensures in
     let (b, j) = not_empty_in states (sym (len_empty states) ∙ (sym c.is_empty.ensures ∙ c.if-is_empty.false)) in
-    let there = to.there (get_or c.args.turn.now.envs.now i d) b (in_at c.args.turn.now.envs.now i d l) j in
-    omega (arith, there, all.few)
-
-pub all_alive-requires-clause-fits : goal.all_alive-requires-clause-fits
-all_alive-requires-clause-fits c i d l j e m =
-    let n = c.args.joint.now in
-    let s = system_of n in
-    let r = c.layout-rows.result.now in
-    let x = c.requires.row.0 in
-    let h : Known s r x c.args.row.now = known n r x c.args.row.now c.layout-rows.ensures.known c.layout-rows.ensures.rows c.requires.row.1 in
-    let all = rows_there s r x c.args.a (length c.args.words.now) c.args.row.now c.args.turn.now h c.requires.turn c.requires.room in
-    let states = c.next_states-states.result.now in
-    let to = rows_before s r x c.args.a c.args.k c.from.result (length c.args.words.now) c.args.row.now c.args.turn.now states h c.requires.turn c.requires.seat c.requires.room c.next_states-states.ensures.next c.from.ensures in
-    let there = to.there (get_or c.args.turn.now.envs.now i d) (get_or states j e) (in_at c.args.turn.now.envs.now i d l) (in_at states j e m) in
-    omega (arith, there, all.few)
+    omega (arith, to.there (get_or c.args.turn.now.envs.now i d) b (in_at c.args.turn.now.envs.now i d l) j, to.turn_rows.few)
 
 pub all_alive-requires-clause-within : goal.all_alive-requires-clause-within
 all_alive-requires-clause-within c i d l j e m =
-    let n = c.args.joint.now in
-    let s = system_of n in
-    let r = c.layout-rows.result.now in
-    let x = c.requires.row.0 in
-    let h : Known s r x c.args.row.now = known n r x c.args.row.now c.layout-rows.ensures.known c.layout-rows.ensures.rows c.requires.row.1 in
     let states = c.next_states-states.result.now in
-    let to = rows_before s r x c.args.a c.args.k c.from.result (length c.args.words.now) c.args.row.now c.args.turn.now states h c.requires.turn c.requires.seat c.requires.room c.next_states-states.ensures.next c.from.ensures in
-    to.there (get_or c.args.turn.now.envs.now i d) (get_or states j e) (in_at c.args.turn.now.envs.now i d l) (in_at states j e m)
+    (rows_to (goal.at.all_alive-requires-clause-within c).After-from).there (get_or c.args.turn.now.envs.now i d) (get_or states j e) (in_at c.args.turn.now.envs.now i d l) (in_at states j e m)
+
+pub all_alive-requires-clause-fits : goal.all_alive-requires-clause-fits
+all_alive-requires-clause-fits c i d l j e m =
+    let to = rows_to (goal.at.all_alive-requires-clause-fits c).After-from in
+    let states = c.next_states-states.result.now in
+    omega (arith, to.there (get_or c.args.turn.now.envs.now i d) (get_or states j e) (in_at c.args.turn.now.envs.now i d l) (in_at states j e m), to.turn_rows.few)
 
 pub returns : goal.returns
 returns c x gone ok rows =

@@ -1,5 +1,5 @@
 use Rattle.roman_joint.specs.NamedSys.{system_of, seat_of}
-use Rattle.roman_joint.proofs.SeatRead.{seat_placed}
+use Rattle.roman_joint.proofs.SeatLemmas.{seat_placed}
 use Rattle.roman_joint.proofs.GoodLemmas.{known}
 use Rattle.roman_joint.proofs.MoveLemmas.{serves_within, beaten_frozen}
 use Rattle.roman_joint.proofs.good.good_within.Goals as goal

@@ -1,9 +1,5 @@
 use Rattle.std.proofs.Common.{◌≡◌, ℕ, ◌+◌, ◌≤◌, List, length, take, get_or, sym, ap, ◌∙◌, subst, arith}
-use Rattle.std.specs.List.{flat_map}
 use Rattle.std.proofs.lemmas.List.{take_all}
-use Rattle.roman_model.specs.Lists.{IsIn}
-use Rattle.roman_model.specs.System.{env_prev}
-use Rattle.roman_parts.specs.Named.{NamedEnv}
 use Rattle.roman_joint.specs.NamedSys.{system_of}
 use Rattle.roman_joint.specs.Backward.{from_env}
 use Rattle.roman_joint.specs.Marks.{MarksEnv}
@@ -29,20 +25,12 @@ loop-e-preserved g c =
     }
 
 pub returns-clause-marks : goal.returns-clause-marks
-returns-clause-marks g c =
-    let s = system_of c.args.joint.now in
-    let row = c.args.row.now in
-    let is : c.prev-envs.result.now ≡ env_prev s.env row.env c.args.a = c.prev-envs.ensures.prev ∙ ap (λ (e : NamedEnv). env_prev e.env row.env c.args.a) c.environment.ensures in
-    record {
-      envs = λ e i. each_in c.prev-envs.result.now (λ (d : ℕ). MarksEnv s row c.loop-e.marks c.args.a d)
-          (λ j l. c.loop-e.invariant.envs j (omega (arith, c.loop-e-test.false))) e (subst (λ xs. IsIn e xs) (sym is) i);
-    }
+returns-clause-marks g c = record {
+  envs = λ e i. each_in c.prev-envs.result.now (λ (d : ℕ). MarksEnv (system_of c.args.joint.now) c.args.row.now c.loop-e.marks c.args.a d)
+      (λ j l. c.loop-e.invariant.envs j (omega (arith, c.loop-e-test.false))) e (rw (c.prev-envs.ensures.prev, c.environment.ensures) i);
+}
 
 pub returns-clause-cost : goal.returns-clause-cost
 returns-clause-cost g c q at =
-    let s = system_of c.args.joint.now in
-    let row = c.args.row.now in
-    let es = c.prev-envs.result.now in
-    let is : es ≡ env_prev s.env row.env c.args.a = c.prev-envs.ensures.prev ∙ ap (λ (e : NamedEnv). env_prev e.env row.env c.args.a) c.environment.ensures in
-    let all : take c.loop-e.e-index es ≡ env_prev s.env q.e c.args.a = take_all c.loop-e.e-index es c.loop-e-test.false ∙ (is ∙ ap (λ e. env_prev s.env e c.args.a) (sym at.env)) in
-    subst (λ (xs : List ℕ). c.loop-e.steps ≤ c.args.steps.now + length (flat_map (from_env s q c.args.a) xs)) all (c.loop-e.invariant.cost q at)
+    let all = take_all c.loop-e.e-index c.prev-envs.result.now c.loop-e-test.false in
+    rw (all, c.prev-envs.ensures.prev, c.environment.ensures, sym at.env) at (c.loop-e.invariant.cost q at)

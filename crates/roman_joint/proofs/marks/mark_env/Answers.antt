@@ -1,9 +1,5 @@
 use Rattle.std.proofs.Common.{◌≡◌, ℕ, ◌+◌, ◌≤◌, List, length, take, get_or, sym, ap, ◌∙◌, subst, arith}
-use Rattle.std.specs.List.{flat_map}
 use Rattle.std.proofs.lemmas.List.{take_all}
-use Rattle.roman_model.specs.Lists.{IsIn}
-use Rattle.roman_model.specs.System.{beh_prev}
-use Rattle.roman_parts.specs.Named.{NamedTarget}
 use Rattle.roman_joint.specs.NamedSys.{system_of}
 use Rattle.roman_joint.specs.Backward.{from_target}
 use Rattle.roman_joint.specs.Marks.{MarksTurn}
@@ -11,13 +7,13 @@ use Rattle.roman_joint.proofs.MarkLemmas.{grows_itself, grows_on, turn_on, more_
 use Rattle.roman_joint.proofs.marks.mark_env.Goals as goal
 
 pub into-targets-requires-clause-state : goal.into-targets-requires-clause-state
-into-targets-requires-clause-state g c = omega (arith, c.requires.row.1.target_range, ap (λ (t : NamedTarget). t.beh.states) c.target.ensures)
+into-targets-requires-clause-state g c = rw c.target.ensures c.requires.row.1.target_range
 
 pub into-targets-requires-clause-env_state : goal.into-targets-requires-clause-env_state
-into-targets-requires-clause-env_state g c = omega (arith, c.requires.env, c.known.ensures.target.0, ap (λ (t : NamedTarget). t.env_states) c.target.ensures)
+into-targets-requires-clause-env_state g c = rw (c.target.ensures, c.known.ensures.target.0) c.requires.env
 
 pub into-targets-requires-clause-action : goal.into-targets-requires-clause-action
-into-targets-requires-clause-action g c = omega (arith, c.requires.action, c.known.ensures.target.1, ap (λ (t : NamedTarget). t.actions) c.target.ensures)
+into-targets-requires-clause-action g c = rw (c.target.ensures, c.known.ensures.target.1) c.requires.action
 
 pub loop-t-init : goal.loop-t-init
 loop-t-init g c = record { grows = grows_itself c.args.marks.now; turns = λ j l. absurd (omega arith); cost = λ q at. omega arith }
@@ -38,20 +34,12 @@ loop-t-preserved g c =
     }
 
 pub returns-clause-marks : goal.returns-clause-marks
-returns-clause-marks g c =
-    let s = system_of c.args.joint.now in
-    let row = c.args.row.now in
-    let is : c.into-targets.result.now ≡ beh_prev s.target row.target c.args.e c.args.a = c.into-targets.ensures.prev ∙ ap (λ (t : NamedTarget). beh_prev t.beh row.target c.args.e c.args.a) c.target.ensures in
-    record {
-      turns = λ t i. each_in c.into-targets.result.now (λ (u : ℕ). MarksTurn s row c.loop-t.marks c.args.a c.args.e u)
-          (λ j l. c.loop-t.invariant.turns j (omega (arith, c.loop-t-test.false))) t (subst (λ xs. IsIn t xs) (sym is) i);
-    }
+returns-clause-marks g c = record {
+  turns = λ t i. each_in c.into-targets.result.now (λ (u : ℕ). MarksTurn (system_of c.args.joint.now) c.args.row.now c.loop-t.marks c.args.a c.args.e u)
+      (λ j l. c.loop-t.invariant.turns j (omega (arith, c.loop-t-test.false))) t (rw (c.into-targets.ensures.prev, c.target.ensures) i);
+}
 
 pub returns-clause-cost : goal.returns-clause-cost
 returns-clause-cost g c q at =
-    let s = system_of c.args.joint.now in
-    let row = c.args.row.now in
-    let ts = c.into-targets.result.now in
-    let is : ts ≡ beh_prev s.target row.target c.args.e c.args.a = c.into-targets.ensures.prev ∙ ap (λ (t : NamedTarget). beh_prev t.beh row.target c.args.e c.args.a) c.target.ensures in
-    let all : take c.loop-t.t-index ts ≡ beh_prev s.target q.t c.args.e c.args.a = take_all c.loop-t.t-index ts c.loop-t-test.false ∙ (is ∙ ap (λ t. beh_prev s.target t c.args.e c.args.a) (sym at.target)) in
-    subst (λ (xs : List ℕ). c.loop-t.steps ≤ c.args.steps.now + length (flat_map (from_target s q c.args.a c.args.e) xs)) all (c.loop-t.invariant.cost q at)
+    let all = take_all c.loop-t.t-index c.into-targets.result.now c.loop-t-test.false in
+    rw (all, c.into-targets.ensures.prev, c.target.ensures, sym at.target) at (c.loop-t.invariant.cost q at)

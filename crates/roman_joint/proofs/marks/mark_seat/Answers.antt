@@ -1,6 +1,5 @@
 use Rattle.std.proofs.Common.{◌≡◌, ℕ, ◌+◌, ◌*◌, inl, inr, length, slice_index, get_or, sym, ap, ◌∙◌, subst, arith}
 use Rattle.std.proofs.lemmas.Bool.{cases_eq}
-use Rattle.roman_model.specs.Lists.{IsIn}
 use Rattle.roman_joint.specs.NamedSys.{system_of}
 use Rattle.roman_joint.specs.Rows.{lanes_in}
 use Rattle.roman_joint.specs.Marks.{IsMarked}
@@ -47,7 +46,7 @@ returns-clause-marks g c =
       moved = λ u b x h i is.
           let same : u ≡ v = factor u v (lanes_in s) (width_positive s (joint_sizes n c.layout-rows.ensures.known)) (h ∙ sym (c.layout-rows.ensures.rows.before c.args.k c.requires.seat)) in
           each_in c.prev_states-states.result.now (λ (d : ℕ). x + c.times-taken.result ≡ c.args.base + d * v → IsMarked c.loop-b.marks x)
-          (λ j l e. c.loop-b.invariant.moved j x (omega (arith, c.loop-b-test.false)) e) b (subst (λ xs. IsIn b xs) (sym c.prev_states-states.ensures.prev) i)
+          (λ j l e. c.loop-b.invariant.moved j x (omega (arith, c.loop-b-test.false)) e) b (rw c.prev_states-states.ensures.prev i)
           (ap (λ m. x + m) c.times-taken.ensures.value ∙ subst (λ (m : ℕ). x + own * m ≡ c.args.base + b * m) same is);
     }
 

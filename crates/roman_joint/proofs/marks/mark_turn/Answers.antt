@@ -18,7 +18,7 @@ loop-k-init g c =
     omega (arith, c.times.ensures.value, c.times-2.ensures.value, c.from.ensures, ap (λ m. c.args.t * m) laid.target, ap (λ m. c.args.e * m) laid.env) in
     record {
       grows = c.mark.ensures.grows;
-      own = subst (λ (m : ℕ). IsMarked c.mark.new.marks m) base c.mark.ensures.marked;
+      own = rw base at c.mark.ensures.marked;
       seats = λ k l. absurd (omega arith);
       cost = λ q at. omega arith;
     }
@@ -39,12 +39,12 @@ loop-k-preserved g c =
       own = marked_on c.loop-k.marks c.mark_seat.new.marks (row_at s row e t) more i.own;
       seats = more_below c.loop-k.k (λ (k : ℕ). MarksSeat s row c.mark_seat.new.marks c.args.a e (row_at s row e t) k)
           (λ k l. seat_on s row c.loop-k.marks c.mark_seat.new.marks c.args.a e (row_at s row e t) k more (i.seats k l))
-          (subst (λ (m : ℕ). MarksSeat s row c.mark_seat.new.marks c.args.a e m c.loop-k.k) base c.mark_seat.ensures.marks);
+          (rw base at c.mark_seat.ensures.marks);
       cost = λ q at. omega (arith, i.cost q at, c.mark_seat.ensures.cost q t at, count_below (from_seat s q c.args.a e t) c.loop-k.k);
     }
 
 pub mark_seat-requires-clause-seat : goal.mark_seat-requires-clause-seat
-mark_seat-requires-clause-seat g c = subst (λ m. c.loop-k.k < m) c.layout-rows.ensures.rows.low c.loop-k-test.true
+mark_seat-requires-clause-seat g c = rw c.layout-rows.ensures.rows.low at c.loop-k-test.true
 
 pub returns-clause-marks : goal.returns-clause-marks
 returns-clause-marks g c = record {

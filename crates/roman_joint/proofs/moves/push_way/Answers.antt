@@ -1,5 +1,4 @@
-use Rattle.std.proofs.Common.{ℕ, ◌-◌, ◌*◌, ◌<◌, ◌≤◌, ◌++◌, ◌∷◌, [], Bool, cond, sym, ap, ap₂, ◌∙◌, arith}
-use Rattle.std.proofs.Math.Nat.{mul-le-mul_right}
+use Rattle.std.proofs.Common.{ℕ, ◌-◌, ◌*◌, ◌++◌, ◌∷◌, [], Bool, cond, sym, ap, ap₂, ◌∙◌}
 use Rattle.std.proofs.lemmas.Bool.{eq-eqb, ne_eqb}
 use Rattle.std.proofs.lemmas.List.{append-nil}
 use Rattle.roman_joint.specs.declared.moves.Move.{Move}
@@ -12,10 +11,6 @@ pub returns-then-lanes-eq0-clause-moves : goal.returns-then-lanes-eq0-clause-mov
 returns-then-lanes-eq0-clause-moves c =
     let items = c.args.moves.now.items in
     sym (ap (λ (b : Bool). items ++ cond b [] (way c.args.lanes (c.args.last - c.args.j) (c.args.j - c.args.last) c.args.stride ∷ [])) (eq-eqb c.args.lanes 0 c.if-lanes-eq0.true) ∙ append-nil items)
-
--- a way is no longer than all states
-short : (x last stride : ℕ) → x ≤ last → last * stride < 64 → x * stride < 64
-short x last stride l small = let product : x * stride ≤ last * stride = mul-le-mul_right stride l in omega arith
 
 pub returns-clause-moves : goal.returns-clause-moves
 returns-clause-moves c =

@@ -4,36 +4,36 @@ use Rattle.std.proofs.lemmas.List.{length-append}
 use Rattle.roman_joint.specs.Scenes.{IsScene}
 use Rattle.roman_joint.proofs.SceneLemmas.{scenes_more}
 use Rattle.roman_joint.proofs.scene.all_scenes.Goals as goal
+use Rattle.roman_joint.proofs.scene.all_scenes.Goals.{After-len}
+
+-- how many states there are
+counts : (c : After-len) → (c.len-envs.result ≡ c.args.environment.now.env.states) × (c.len.result ≡ c.args.target.now.beh.states) × (c.len.result ≤ 64)
+counts c =
+    let few = (c.states-2.ensures.known c.args.environment.now.env (sym c.requires.0) (sym c.requires.1)).states.1 in
+    let targets : c.len.result ≡ c.args.target.now.beh.states = c.len.ensures.len ∙ (ap length c.states-2.ensures.names ∙ c.states-2.ensures.count) in
+    (c.len-envs.ensures.len ∙ (ap length c.states.ensures.names ∙ c.states.ensures.count), targets, omega (arith, targets, few))
 
 pub overflow_mul-count : goal.overflow_mul-count
 overflow_mul-count c =
-    let env = c.args.environment.now.env in
-    let envs : c.len-envs.result ≡ env.states = c.len-envs.ensures.len ∙ (ap length c.states.ensures.names ∙ c.states.ensures.count) in
-    let targets : c.len.result ≡ c.args.target.now.beh.states = c.len.ensures.len ∙ (ap length c.states-2.ensures.names ∙ c.states-2.ensures.count) in
-    let few : c.args.target.now.beh.states ≤ 64 = (c.states-2.ensures.known env (sym c.requires.0) (sym c.requires.1)).states.1 in
-    let few_envs : env.states ≤ 64 = c.states.ensures.known.states.1 in
-    let rows : c.len.result ≤ 64 = omega (arith, targets, few) in
-    let columns : c.len-envs.result ≤ 64 = omega (arith, envs, few_envs) in
-    let product : c.len.result * c.len-envs.result ≤ 64 * 64 = mul-le-mul rows columns in
+    let (envs, targets, few) = counts (goal.at.overflow_mul-count c).After-len in
+    let few_envs : c.len-envs.result ≤ 64 = omega (arith, envs, c.states.ensures.known.states.1) in
+    let product : c.len.result * c.len-envs.result ≤ 64 * 64 = mul-le-mul few few_envs in
     omega (arith, product)
 
 pub overflow_cast-i : goal.overflow_cast-i
 overflow_cast-i c =
-    let env = c.args.environment.now.env in
-    let envs : c.len-envs.result ≡ env.states = c.len-envs.ensures.len ∙ (ap length c.states.ensures.names ∙ c.states.ensures.count) in
-    let targets : c.len.result ≡ c.args.target.now.beh.states = c.len.ensures.len ∙ (ap length c.states-2.ensures.names ∙ c.states-2.ensures.count) in
-    let few : c.args.target.now.beh.states ≤ 64 = (c.states-2.ensures.known env (sym c.requires.0) (sym c.requires.1)).states.1 in
+    let (envs, targets, few) = counts (goal.at.overflow_cast-i c).After-len in
     let below : c.loop-i.i / c.len-envs.result < c.len.result =
     div_below c.loop-i.i c.len-envs.result c.len.result (omega (arith, envs, c.states.ensures.known.states.0)) c.loop-i-test.true in
-    omega (arith, below, targets, few)
+    omega (arith, below, few)
 
 pub loop-i-preserved : goal.loop-i-preserved
 loop-i-preserved c =
     let env = c.args.environment.now.env in
     let target = c.args.target.now.beh in
-    let envs : c.len-envs.result ≡ env.states = c.len-envs.ensures.len ∙ (ap length c.states.ensures.names ∙ c.states.ensures.count) in
     let here : IsScene env target (c.loop-i.i / env.states) (c.loop-i.i % env.states) c.scene_of-scene.result =
-    subst (λ m. IsScene env target (c.loop-i.i / m) (c.loop-i.i % m) c.scene_of-scene.result) envs (record { allowed = c.scene_of-scene.ensures.allowed; leading = c.scene_of-scene.ensures.leading }) in
+    subst (λ m. IsScene env target (c.loop-i.i / m) (c.loop-i.i % m) c.scene_of-scene.result) (counts (goal.at.loop-i-preserved c).After-len).0
+    (record { allowed = c.scene_of-scene.ensures.allowed; leading = c.scene_of-scene.ensures.leading }) in
     let is : c.push.new.self.items ≡ c.loop-i.scenes.items ++ c.scene_of-scene.result ∷ [] = c.in_ok-push.ensures.items in
     record {
       long = ap length is ∙ (length-append c.loop-i.scenes.items (c.scene_of-scene.result ∷ []) ∙ omega (arith, c.loop-i.invariant.long));

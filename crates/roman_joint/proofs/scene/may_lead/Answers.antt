@@ -1,7 +1,8 @@
 use Rattle.std.proofs.Common.{◌≡◌, ℕ, ◌<◌, List, [], length, get_or, sym, ap, ◌∙◌, subst}
 use Rattle.roman_model.specs.System.{env_prev, beh_prev}
-use Rattle.roman_joint.proofs.SeatRead.{len_empty}
-use Rattle.roman_joint.proofs.SceneLemmas.{empty_list, none_more}
+use Rattle.roman_model.proofs.Lists.{empty_is}
+use Rattle.roman_joint.proofs.SeatLemmas.{len_empty}
+use Rattle.roman_joint.proofs.SceneLemmas.{none_more}
 use Rattle.roman_joint.proofs.scene.may_lead.Goals as goal
 
 pub loop-e-preserved : goal.loop-e-preserved
@@ -10,5 +11,5 @@ loop-e-preserved c =
     let is : c.prev-e-items.result.now ≡ envs = c.prev-e-items.ensures.prev in
     let f = λ (e : ℕ). beh_prev c.args.target.now.beh c.args.t2 e c.args.a in
     let none : f (get_or c.prev-e-items.result.now c.loop-e.e-index 0) ≡ [] =
-    sym c.into.ensures.prev ∙ empty_list c.into.result.now (sym (len_empty c.into.result.now) ∙ sym c.is_empty.ensures ∙ c.if-not-is_empty.false) in
+    sym c.into.ensures.prev ∙ empty_is c.into.result.now (sym (len_empty c.into.result.now) ∙ sym c.is_empty.ensures ∙ c.if-not-is_empty.false) in
     none_more envs c.loop-e.e-index f (subst (λ (xs : List ℕ). c.loop-e.e-index < length xs) is c.loop-e-test.true) (sym (ap (λ (xs : List ℕ). f (get_or xs c.loop-e.e-index 0)) is) ∙ none) c.loop-e.invariant

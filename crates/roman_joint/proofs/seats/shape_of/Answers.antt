@@ -2,8 +2,7 @@ use Rattle.std.proofs.Common.{◌≡◌, ◌/◌, ◌<◌, ◌≤◌, ◌↔◌,
 use Rattle.std.proofs.Math.Nat.{le-div_iff_mul-le}
 use Rattle.roman_model.specs.Numbers.{Sizes, sizes_of, count}
 use Rattle.roman_joint.specs.NamedSys.{NamedSys, system_of, cells}
-use Rattle.roman_joint.proofs.BuildLemmas.{sizes_counted, makes_system}
-use Rattle.roman_joint.proofs.SeatLemmas.{positive_sizes}
+use Rattle.roman_joint.proofs.SeatLemmas.{sizes_counted, makes_system, positive_sizes}
 use Rattle.roman_joint.proofs.seats.shape_of.Goals as goal
 
 pub new-requires-clause-target : goal.new-requires-clause-target

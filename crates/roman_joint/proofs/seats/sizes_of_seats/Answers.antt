@@ -1,6 +1,7 @@
-use Rattle.std.proofs.Common.{◌<◌, length, refl, sym, ap, ◌∙◌, subst, arith}
+use Rattle.std.proofs.Common.{◌≡◌, ◌<◌, length, refl, sym, ap, ◌∙◌, subst, arith}
+use Rattle.std.proofs.lemmas.List.{take_all}
 use Rattle.roman_joint.specs.declared.seat.Seat.{Seat}
-use Rattle.roman_joint.proofs.SeatLemmas.{AllRead, one_read, all_read, states_range}
+use Rattle.roman_joint.proofs.SeatLemmas.{one_read, states_range}
 use Rattle.roman_joint.proofs.seats.sizes_of_seats.Goals as goal
 
 pub loop-k-init : goal.loop-k-init
@@ -22,5 +23,6 @@ loop-k-preserved c =
 
 pub returns : goal.returns
 returns c =
-    let all : AllRead c.args.catalogue.now c.args.seats.now c.loop-k.sizes = all_read c.args.catalogue.now c.args.seats.now c.loop-k.sizes c.loop-k.k (omega arith) c.loop-k.invariant in
-    record { sizes = all.sizes; known = all.known }
+    let whole = take_all c.loop-k.k c.args.seats.now (omega arith) in
+    let end : c.loop-k.k ≡ length c.args.seats.now = omega arith in
+    record { sizes = rw (whole, end) at c.loop-k.invariant.sizes; known = λ environment are. rw whole at (c.loop-k.invariant.known environment are) }

@@ -2,7 +2,7 @@ use Rattle.std.proofs.Common.{◌||◌, not, ◌∙◌, sym, ap, arith}
 use Rattle.roman_model.specs.System.{is_final}
 use Rattle.roman_joint.specs.NamedSys.{seat_of}
 use Rattle.roman_joint.specs.Rows.{may_rest}
-use Rattle.roman_joint.proofs.SeatRead.{seat_read, seat_placed}
+use Rattle.roman_joint.proofs.SeatLemmas.{seat_read, seat_placed}
 use Rattle.roman_joint.proofs.states.may_rest.Goals as goal
 
 pub returns-then-not-seat : goal.returns-then-not-seat
@@ -13,12 +13,12 @@ returns-then-not-seat c =
 
 pub is_final-requires : goal.is_final-requires
 is_final-requires c =
-    let r = seat_read c.args.joint.now c.args.k c.seat-seat.result.now c.catalogue.result.now c.index-catalogue-seat.result c.known.ensures c.seat-seat.ensures c.catalogue.ensures c.index-catalogue-seat.is in
+    let r = seat_read c.args.joint.now c.args.k _ _ _ c.known.ensures c.seat-seat.ensures c.catalogue.ensures c.index-catalogue-seat.is in
     omega (arith, c.requires.state, r.size)
 
 pub returns : goal.returns
 returns c =
     let n = c.args.joint.now in
-    let r = seat_read n c.args.k c.seat-seat.result.now c.catalogue.result.now c.index-catalogue-seat.result c.known.ensures c.seat-seat.ensures c.catalogue.ensures c.index-catalogue-seat.is in
+    let r = seat_read n c.args.k _ _ _ c.known.ensures c.seat-seat.ensures c.catalogue.ensures c.index-catalogue-seat.is in
     c.is_final.ensures ∙ sym (ap (λ o. may_rest o c.args.b) r.seated
     ∙ (ap (λ b. not b || is_final (seat_of n.catalogue c.seat-seat.result.now).beh c.args.b) c.if-not-seat.false ∙ ap (λ z. is_final z c.args.b) (sym r.beh)))

@@ -1,4 +1,5 @@
-use Rattle.std.proofs.Common.{◌≡◌, ℕ, ◌*◌, ◌^◌, ◌%◌, ◌<◌, ◌≤◌, Bool, true, false, ◌&&◌, length, slice_index, refl, sym, ap, ap₂, subst, ◌∙◌, arith}
+use Rattle.std.proofs.Common.{◌≡◌, ℕ, ◌*◌, ◌^◌, ◌%◌, ◌<◌, ◌≤◌, ◌&&◌, length, slice_index, sym, ap, ap₂, subst, ◌∙◌, arith}
+use Rattle.std.proofs.Math.Bool.{and-true, and-false}
 use Rattle.roman_model.specs.Numbers.{Sizes}
 use Rattle.roman_radix.specs.Radix.{IsSizes, stride_of}
 use Rattle.roman_radix.specs.Rows.{low_of}
@@ -34,18 +35,10 @@ returns-clause-each c lane l =
     on_and (slice_index r.firsts k * 2 ^ (c.from.result * slice_index r.strides k) % 2 ^ 64) r.full lane
     ∙ (ap₂ (λ a b. a && b) (ap (λ m. is_on (slice_index r.firsts k * 2 ^ m % 2 ^ 64) lane) from
     ∙ state_shift (slice_index r.firsts k) c.args.b st size lane (λ j m. laid.firsts k j c.requires.seat m) (stride_positive n k c.known.ensures) c.requires.state few) (full_on n r lane laid l)
-    ∙ with_true (lane_has_state st size c.args.b lane))
-  where
-    with_true : (b : Bool) → (b && true) ≡ b
-    with_true true = refl
-    with_true false = refl
+    ∙ and-true (lane_has_state st size c.args.b lane))
 
 pub returns-clause-rest : goal.returns-clause-rest
 returns-clause-rest c lane l =
     let r = c.args.rows.now in
     let word = slice_index r.firsts c.args.k * 2 ^ (c.from.result * slice_index r.strides c.args.k) % 2 ^ 64 in
-    on_and word r.full lane ∙ (ap (λ b. is_on word lane && b) (full_off c.args.shape.now r lane c.requires.rows l) ∙ off (is_on word lane))
-  where
-    off : (b : Bool) → (b && false) ≡ false
-    off true = refl
-    off false = refl
+    on_and word r.full lane ∙ (ap (λ b. is_on word lane && b) (full_off c.args.shape.now r lane c.requires.rows l) ∙ and-false (is_on word lane))

@@ -1,6 +1,7 @@
-use Rattle.std.proofs.Common.{◌≡◌, ℕ, zero, suc, ◌+◌, ◌-◌, ◌/◌, ◌<◌, ◌==◌, true, false, not, ◌&&◌, ◌||◌, eqb, ltb, replicate, slice_index, inl, inr, refl, sym, ap, ap₂, ◌∙◌, arith}
+use Rattle.std.proofs.Common.{◌≡◌, ℕ, zero, suc, ◌+◌, ◌-◌, ◌/◌, ◌<◌, ◌==◌, true, false, not, ◌&&◌, ◌||◌, eqb, ltb, replicate, slice_index, refl, sym, ap, ap₂, ◌∙◌, arith}
 use Rattle.std.specs.List.{list_any}
-use Rattle.std.proofs.lemmas.Bool.{cases_eq, eq-eqb, ne_eqb, lt-ltb, le-ltb}
+use Rattle.std.proofs.lemmas.Bool.{lt-ltb, le-ltb}
+use Rattle.std.proofs.lemmas.Bool.Decides.{nat_tests}
 use Rattle.std.proofs.lemmas.Nat.{mod_below}
 use Rattle.roman_model.specs.Lists.{is_empty}
 use Rattle.roman_model.proofs.Lists.{any_same}
@@ -9,10 +10,10 @@ use Rattle.roman_radix.specs.Radix.{stride_of}
 use Rattle.roman_radix.proofs.Strides.{AreSizes-index}
 use Rattle.roman_lanes.specs.Rows.{is_on}
 use Rattle.roman_joint.specs.Moves.{lane_state_of}
-use Rattle.roman_joint.proofs.SeatRead.{len_empty}
+use Rattle.roman_joint.proofs.SeatLemmas.{len_empty}
 use Rattle.roman_lanes.proofs.RowBits.{on_zero}
 use Rattle.roman_joint.proofs.GoodLemmas.{below_more, state_is}
-use Rattle.roman_joint.proofs.FineLemmas.{same_state}
+use Rattle.roman_joint.proofs.AllowedLemmas.{same_state}
 use Rattle.roman_joint.proofs.ways.ways_of.Goals as goal
 
 nothing_on : (n j lane : ℕ) → is_on (slice_index (replicate n zero) j) lane ≡ false
@@ -25,10 +26,7 @@ nothing_on n j lane = ap (λ w. is_on w lane) (nothing n j) ∙ on_zero lane
 
 -- a way by its number
 same_way : (b size d j : ℕ) → d < size → eqb (b + (size - 1 - d)) j ≡ eqb (b + size) (j + 1 + d)
-same_way b size d j l = elim (cases_eq (b + (size - 1 - d)) j) [
-  | inl same ↦ eq-eqb (b + (size - 1 - d)) j same ∙ sym (eq-eqb (b + size) (j + 1 + d) (omega arith))
-  | inr other ↦ ne_eqb (b + (size - 1 - d)) j other ∙ sym (ne_eqb (b + size) (j + 1 + d) (λ e. other (omega arith)))
-]
+same_way b size d j l = grind (arith, nat_tests)
 
 pub loop-d-init : goal.loop-d-init
 loop-d-init c =

@@ -4,9 +4,6 @@ use Rattle.roman_lanes.specs.Rows.{is_on}
 use Rattle.roman_joint.proofs.WordLemmas.{none_after, all_pass}
 use Rattle.roman_joint.proofs.words.all_alive.Goals as goal
 
-pub loop-env-init : goal.loop-env-init
-loop-env-init c lane = all_pass (is_on c.args.good lane)
-
 pub loop-env-preserved : goal.loop-env-preserved
 loop-env-preserved c lane =
     let test = λ (e : ℕ). list_any (λ b. not (is_on (slice_index c.args.words.now (c.args.base + e * c.args.env_stride + b * c.args.stride)) lane)) c.args.states.now in

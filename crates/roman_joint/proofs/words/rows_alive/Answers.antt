@@ -3,9 +3,6 @@ use Rattle.roman_lanes.specs.Rows.{is_on}
 use Rattle.roman_joint.proofs.WordLemmas.{alive_more, not_not, all_pass}
 use Rattle.roman_joint.proofs.words.rows_alive.Goals as goal
 
-pub loop-state-init : goal.loop-state-init
-loop-state-init c lane = all_pass (is_on c.args.good lane)
-
 pub loop-state-preserved : goal.loop-state-preserved
 loop-state-preserved c lane =
     let word = λ (b : ℕ). is_on (slice_index c.args.words.now (c.args.base + b * c.args.stride)) lane in

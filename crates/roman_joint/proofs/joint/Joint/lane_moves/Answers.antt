@@ -1,9 +1,6 @@
 use Rattle.std.proofs.Common.{◌≡◌, ◌+◌, ◌-◌, ◌*◌, ◌≤◌, List, length, slice_range, sym, ap, ◌∙◌, subst, arith}
 use Rattle.std.proofs.lemmas.List.{length-map}
-use Rattle.roman_model.specs.Numbers.{sizes_of}
 use Rattle.roman_joint.specs.NamedSys.{system_of, seat_of}
-use Rattle.roman_joint.specs.Moves.{AreMovesOf}
-use Rattle.roman_joint.specs.declared.moves.Move.{Move}
 use Rattle.roman_joint.proofs.Shown.{Shows, shown, seats_shown}
 use Rattle.roman_joint.proofs.MoveLemmas.{StandsAt, span_at, stands_at}
 use Rattle.roman_joint.proofs.joint.Joint.lane_moves.Goals as goal
@@ -28,13 +25,10 @@ part-requires-clause-order c = ((stands (goal.at.part-requires-clause-order c).A
 
 pub part-requires-clause-within : goal.part-requires-clause-within
 part-requires-clause-within c =
-    subst (λ (ms : List Move). c.index-span.result.now.end ≤ length ms) (sym c.deref.ensures.value)
-    ((stands (goal.at.part-requires-clause-within c).After-from-4).span c.index-span.result.now c.index-span.ensures).last
+    rw c.deref.ensures.value ((stands (goal.at.part-requires-clause-within c).After-from-4).span c.index-span.result.now c.index-span.ensures).last
 
 pub returns : goal.returns
 returns c seat seated =
     let at = stands (goal.at.returns c).After-from-4 in
-    let span = c.index-span.result.now in
-    subst (λ (ms : List Move). AreMovesOf (sizes_of (system_of c.args.self.now)) c.args.k seat.beh c.args.e c.args.a span.some ms)
-    (sym (c.part.ensures ∙ ap (λ (ms : List Move). slice_range ms span.first span.end) c.deref.ensures.value))
-    (span_at (system_of c.args.self.now) c.args.k c.args.e c.args.a _ span c.self.inside.moves.moves.items seat seated c.requires.within c.requires.action at.place (at.span span c.index-span.ensures))
+    rw (c.part.ensures, c.deref.ensures.value)
+    (span_at (system_of c.args.self.now) _ _ _ _ c.index-span.result.now _ seat seated c.requires.within c.requires.action at.place (at.span c.index-span.result.now c.index-span.ensures))

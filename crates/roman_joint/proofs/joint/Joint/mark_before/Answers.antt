@@ -1,8 +1,5 @@
 use Rattle.std.proofs.Common.{◌≡◌, ℕ, ◌+◌, ◌*◌, ◌≤◌, length, sym, ap, subst, arith}
-use Rattle.std.specs.List.{flat_map}
-use Rattle.roman_model.specs.Lists.{below}
 use Rattle.roman_model.specs.Numbers.{sizes_of, count, pair_at}
-use Rattle.roman_parts.specs.Named.{NamedEnv}
 use Rattle.roman_joint.specs.NamedSys.{system_of}
 use Rattle.roman_joint.specs.Backward.{from_action}
 use Rattle.roman_joint.specs.Rows.{lanes_in}
@@ -35,8 +32,8 @@ returns-clause-marked g c x lane p a k ok l on below_p i =
     let s = system_of n in
     let sizes = joint_sizes n c.known.ensures in
     marks_all s c.args.row.now x lane p a k c.loop-a.marks c.known.ensures.system sizes ok l
-    (subst (λ m. count (sizes_of s) ≤ 64 * m * lanes_in s) (sym c.loop-a.invariant.grows.long) c.requires.room)
-    (λ b m. c.loop-a.invariant.actions b (omega (arith, m, c.loop-a-test.false, c.len-a-end.ensures.len, ap length c.actions.ensures.names, c.actions.ensures.count, ap (λ (e : NamedEnv). e.env.actions) c.environment.ensures)))
+    (rw c.loop-a.invariant.grows.long c.requires.room)
+    (λ b m. c.loop-a.invariant.actions b (omega (arith, m, c.loop-a-test.false, c.len-a-end.ensures.len, rw c.environment.ensures at (ap length c.actions.ensures.names ∙ c.actions.ensures.count))))
     below_p (width_positive s sizes) i
 
 pub returns-clause-cost : goal.returns-clause-cost
@@ -44,8 +41,5 @@ returns-clause-cost g c x lane ok l on =
     let n = c.args.self.now in
     let s = system_of n in
     let q = pair_at (sizes_of s) (x * lanes_in s + lane) in
-    let end : c.loop-a.a ≡ s.env.actions = omega (arith, c.len-a-end.ensures.len, ap length c.actions.ensures.names, c.actions.ensures.count, ap (λ (e : NamedEnv). e.env.actions) c.environment.ensures) in
-    let all : c.loop-a.steps ≤ c.args.steps.now + length (flat_map (from_action s q) (below s.env.actions)) =
-    subst (λ (m : ℕ). c.loop-a.steps ≤ c.args.steps.now + length (flat_map (from_action s q) (below m))) end (c.loop-a.invariant.cost q (pair_there s c.args.row.now x lane ok l)) in
-    let found = count_found s (x * lanes_in s + lane) c.known.ensures.system (ok.below lane l) in
-    omega (arith, all, found)
+    let end : c.loop-a.a ≡ s.env.actions = omega (arith, c.len-a-end.ensures.len, rw c.environment.ensures at (ap length c.actions.ensures.names ∙ c.actions.ensures.count)) in
+    omega (arith, rw end at (c.loop-a.invariant.cost q (pair_there s c.args.row.now x lane ok l)), count_found s (x * lanes_in s + lane) c.known.ensures.system (ok.below lane l))

@@ -1,19 +1,18 @@
 use Rattle.std.proofs.Common.{◌≡◌, length, refl, sym, ap, ◌∙◌, arith}
 use Rattle.std.proofs.lemmas.List.{length-map}
-use Rattle.roman_parts.specs.Named.{NamedEnv}
 use Rattle.roman_joint.specs.NamedSys.{system_of, seat_of}
-use Rattle.roman_joint.proofs.WalkLemmas.{goes_action, no_actions}
+use Rattle.roman_joint.proofs.WalkLemmas.{goes_action, below-past}
 use Rattle.roman_joint.proofs.joint.Joint.next_action.Goals as goal
 
 pub returns : goal.returns
 returns c =
     let n = c.args.self.now in
-    let actions : c.len.result ≡ n.environment.env.actions = c.len.ensures.len ∙ (ap length c.actions.ensures.names ∙ (c.actions.ensures.count ∙ ap (λ (x : NamedEnv). x.env.actions) c.environment.ensures)) in
+    let actions : c.len.result ≡ n.environment.env.actions = rw c.environment.ensures at (c.len.ensures.len ∙ (ap length c.actions.ensures.names ∙ c.actions.ensures.count)) in
     goes_action (system_of n) c.known.ensures.system c.args.walk.now c.requires.walk c.first_env-walk.result c.seats-walk.result c.requires.seat c.requires.target c.requires.env c.requires.action
     (omega (arith, c.from.ensures)) c.first_env-walk.ensures (c.seats-walk.ensures.count ∙ sym (length-map n.seats (seat_of n.catalogue)))
 
 pub returns-then-from-len : goal.returns-then-from-len
 returns-then-from-len c =
     let s = system_of c.args.self.now in
-    let actions : c.len.result ≡ s.env.actions = c.len.ensures.len ∙ (ap length c.actions.ensures.names ∙ (c.actions.ensures.count ∙ ap (λ (x : NamedEnv). x.env.actions) c.environment.ensures)) in
-    (refl, no_actions s c.known.ensures.system c.args.walk.now c.requires.walk (omega (arith, c.from.ensures)))
+    let actions : c.len.result ≡ s.env.actions = rw c.environment.ensures at (c.len.ensures.len ∙ (ap length c.actions.ensures.names ∙ c.actions.ensures.count)) in
+    (refl, below-past _ _ _ (omega (arith, c.from.ensures)))

@@ -5,7 +5,7 @@ use Rattle.roman_radix.specs.Radix.{env_stride_of}
 use Rattle.roman_joint.specs.NamedSys.{system_of, seat_of}
 use Rattle.roman_joint.specs.Walks.{goal_of}
 use Rattle.roman_joint.proofs.Rows.{count_fits, env_moves}
-use Rattle.roman_joint.proofs.WalkLemmas.{goes_env, no_envs, few_prev}
+use Rattle.roman_joint.proofs.WalkLemmas.{goes_env, flat_map-past, few_prev}
 use Rattle.roman_joint.proofs.joint.Joint.next_env.Goals as goal
 
 pub moved-walk-requires : goal.moved-walk-requires
@@ -32,4 +32,4 @@ pub returns-then-walk-ge-MAX_STATES : goal.returns-then-walk-ge-MAX_STATES
 returns-then-walk-ge-MAX_STATES c =
     let s = system_of c.args.self.now in
     let w = c.args.walk.now in
-    (refl, no_envs s c.known.ensures.system w c.requires.walk (omega (arith, few_prev s.env (goal_of s w).e w.action c.known.ensures.system.env)))
+    (refl, flat_map-past _ _ _ (omega (arith, few_prev s.env (goal_of s w).e w.action c.known.ensures.system.env)))

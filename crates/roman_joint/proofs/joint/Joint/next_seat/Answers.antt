@@ -1,7 +1,7 @@
 use Rattle.std.proofs.Common.{refl, arith}
 use Rattle.std.proofs.lemmas.List.{length-map}
 use Rattle.roman_joint.specs.NamedSys.{system_of, seat_of}
-use Rattle.roman_joint.proofs.WalkLemmas.{goes_seat, no_seats}
+use Rattle.roman_joint.proofs.WalkLemmas.{goes_seat, below-past}
 use Rattle.roman_joint.proofs.joint.Joint.next_seat.Goals as goal
 
 pub returns : goal.returns
@@ -12,4 +12,4 @@ returns c =
 pub returns-then-walk-seats : goal.returns-then-walk-seats
 returns-then-walk-seats c =
     let n = c.args.self.now in
-    (refl, no_seats (system_of n) c.known.ensures.system c.args.walk.now c.requires.walk (omega (arith, length-map n.seats (seat_of n.catalogue))))
+    (refl, below-past _ _ _ (omega (arith, length-map n.seats (seat_of n.catalogue))))

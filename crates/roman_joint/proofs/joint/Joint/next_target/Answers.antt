@@ -4,7 +4,7 @@ use Rattle.roman_radix.specs.Radix.{target_stride_of}
 use Rattle.roman_joint.specs.NamedSys.{system_of}
 use Rattle.roman_joint.specs.Walks.{goal_of}
 use Rattle.roman_joint.proofs.Rows.{count_fits, target_moves}
-use Rattle.roman_joint.proofs.WalkLemmas.{goes_target, no_targets, few_beh_prev}
+use Rattle.roman_joint.proofs.WalkLemmas.{goes_target, flat_map-past, few_beh_prev}
 use Rattle.roman_joint.proofs.joint.Joint.next_target.Goals as goal
 
 pub moved-walk-requires : goal.moved-walk-requires
@@ -29,4 +29,4 @@ pub returns-then-walk-ge-MAX_STATES : goal.returns-then-walk-ge-MAX_STATES
 returns-then-walk-ge-MAX_STATES c =
     let s = system_of c.args.self.now in
     let w = c.args.walk.now in
-    (refl, no_targets s c.known.ensures.system w c.requires.walk (omega (arith, few_beh_prev s.env s.target (goal_of s w).t w.env w.action c.known.ensures.system.target)))
+    (refl, flat_map-past _ _ _ (omega (arith, few_beh_prev s.env s.target (goal_of s w).t w.env w.action c.known.ensures.system.target)))

@@ -1,7 +1,6 @@
 use Rattle.std.proofs.Common.{◌+◌, ◌*◌, slice_index, sym, ap, ◌∙◌, rules, arith}
 use Rattle.roman_model.specs.System.{Beh, env_next, beh_next}
 use Rattle.roman_model.specs.Numbers.{Sizes, number, pair_at}
-use Rattle.roman_parts.specs.Named.{NamedEnv}
 use Rattle.roman_radix.specs.Radix.{moved}
 use Rattle.roman_joint.specs.NamedSys.{system_of}
 use Rattle.roman_joint.proofs.BehaviourLemmas.{Behaves, behaves}
@@ -35,5 +34,5 @@ returns c =
     c.known.ensures.system c.requires.pair of.seated c.requires.ready
     (c.env_of-e.ensures.value ∙ ap (λ (m : Sizes). (pair_at m p).e) sizes) (c.part_of-b.ensures.value ∙ ap (λ (m : Sizes). slice_index (pair_at m p).bs k) sizes) c.target_after-to.ensures.next
     (λ e b. rw (c.env_stride.ensures, c.stride.ensures) (c.first_outcome.ensures e b) ∙ ap (λ (m : Sizes). number m (moved (pair_at m p) to e k b)) sizes)
-    (c.next.ensures.next ∙ ap (λ (x : NamedEnv). env_next x.env e a) c.environment.ensures) (c.out.ensures.next ∙ ap (λ (y : Beh). beh_next y b e a) (sym of.is)) in
+    (rw c.environment.ensures at c.next.ensures.next) (c.out.ensures.next ∙ ap (λ (y : Beh). beh_next y b e a) (sym of.is)) in
     record { numbers = are.numbers; places = are.places; some = search rules; few = count_fits n c.known.ensures }

@@ -2,9 +2,7 @@ use Rattle.std.proofs.Common.{◌≡◌, ◌++◌, ◌∷◌, [], sym, ap, ◌�
 use Rattle.roman_model.specs.Numbers.{sizes_of}
 use Rattle.roman_joint.specs.NamedSys.{NamedSys, system_of, IsNamedSys}
 use Rattle.roman_joint.specs.Layout.{named_sys_in}
-use Rattle.roman_joint.specs.Rows.{AreRowsOf}
-use Rattle.roman_joint.specs.Moves.{AreSeatsOf, HoldsMoves}
-use Rattle.roman_joint.proofs.MoveLemmas.{room_kept}
+use Rattle.roman_joint.proofs.Shown.{is_joint, room_kept}
 use Rattle.roman_joint.proofs.SeatChanges.{with_seats}
 use Rattle.roman_joint.proofs.joint.Joint.push_seat.Goals as goal
 
@@ -15,22 +13,19 @@ invariant_of-self c =
     let joined : NamedSys = with_seats n (n.seats ++ c.args.seat ∷ []) in
     let known : IsNamedSys joined = subst (λ (m : NamedSys). IsNamedSys (with_seats m (m.seats ++ c.args.seat ∷ []))) (sym c.self.view_is) (c.in-Some.ensures.known refl) in
     let sizes : c.in-Some.shape ≡ sizes_of (system_of joined) = c.in-Some.ensures.shape ∙ ap (λ (m : NamedSys). sizes_of (system_of (with_seats m (m.seats ++ c.args.seat ∷ [])))) (sym c.self.view_is) in
-    let seats : c.push_reserved.new.self.items ≡ n.seats ++ c.args.seat ∷ [] = c.push_reserved.ensures.items in
-    let shape = sizes ∙ ap (λ xs. sizes_of (system_of (with_seats n xs))) (sym seats) in
-    let of : AreSeatsOf joined c.deref.result.now c.deref-2.result.now c.in-Some.shape a.moves.envs a.moves.actions = record {
+    is_joint _ joined (ap (with_seats n) c.push_reserved.ensures.items) (record {
       known = known;
-      catalogue_of = c.deref.ensures.value;
-      seats_of = c.deref-2.ensures.value ∙ seats;
-      sizes_are = sizes;
-      envs_are = c.self.invariant.moves.envs;
-      actions_are = c.self.invariant.moves.actions;
-    } in
-    record {
-      known = subst (λ xs. IsNamedSys (with_seats n xs)) (sym seats) known;
-      shape = shape;
-      rows = subst (λ m. AreRowsOf m c.rows_of-self-inside.result) shape c.rows_of-self-inside.ensures;
-      scenes = c.self.invariant.scenes;
-      moves = subst (λ xs. HoldsMoves (system_of (with_seats n xs)) c.fill.new.self) (sym seats) (c.fill.ensures.moves joined of);
+      shape = sizes;
+      rows = rw sizes at c.rows_of-self-inside.ensures;
+      moves = c.fill.ensures.moves joined (record {
+        known = known;
+        catalogue_of = c.deref.ensures.value;
+        seats_of = c.deref-2.ensures.value ∙ c.push_reserved.ensures.items;
+        sizes_are = sizes;
+        envs_are = c.self.invariant.moves.envs;
+        actions_are = c.self.invariant.moves.actions;
+      });
       moves_room = room_kept a.moves c.fill.new.self c.fill.ensures.kept c.self.invariant.moves_room;
+      scenes = c.self.invariant.scenes;
       room = omega (arith, c.push_reserved.ensures.capacity, c.self.invariant.room);
-    }
+    })

@@ -1,13 +1,10 @@
 use Rattle.std.proofs.Common.{length, sym, ap, ◌∙◌, subst, arith}
 use Rattle.std.proofs.lemmas.List.{length-map}
-use Rattle.roman_model.specs.Numbers.{sizes_of}
 use Rattle.roman_parts.specs.Named.{NamedEnv}
-use Rattle.roman_joint.specs.NamedSys.{NamedSys, seat_of, system_of, IsNamedSys}
+use Rattle.roman_joint.specs.NamedSys.{NamedSys, seat_of}
 use Rattle.roman_joint.specs.Layout.{named_sys_in}
 use Rattle.roman_joint.specs.Parts.{HasSameParts}
-use Rattle.roman_joint.specs.Rows.{AreRowsOf}
-use Rattle.roman_joint.specs.Moves.{HoldsMoves}
-use Rattle.roman_joint.proofs.MoveLemmas.{room_kept}
+use Rattle.roman_joint.proofs.Shown.{is_joint, room_kept}
 use Rattle.roman_joint.proofs.SeatChanges.{with_the_seats}
 use Rattle.roman_joint.proofs.joint.Joint.reset_seats_to.Goals as goal
 
@@ -21,22 +18,22 @@ invariant_of-self c =
     let n = named_sys_in c.from.inside in
     let parts = subst (λ (m : NamedSys). HasSameParts m n) (sym c.self.view_is) (subst (HasSameParts c.args.self.now) (sym c.from.view_is) c.requires) in
     let same = with_the_seats (named_sys_in c.self.inside) n c.put_seats.new.places.items parts (c.put_seats.ensures.items ∙ c.deref.ensures.value) in
-    record {
-      known = subst IsNamedSys (sym same) c.from.invariant.known;
-      shape = c.from.invariant.shape ∙ ap (λ (m : NamedSys). sizes_of (system_of m)) (sym same);
-      rows = subst (λ (m : NamedSys). AreRowsOf (sizes_of (system_of m)) c.from.inside.rows) (sym same) c.from.invariant.rows;
-      scenes = c.self.invariant.scenes;
-      moves = subst (λ (m : NamedSys). HoldsMoves (system_of m) c.fill.new.self) (sym same) (c.fill.ensures.moves n (record {
+    is_joint _ n same (record {
+      known = c.from.invariant.known;
+      shape = c.from.invariant.shape;
+      rows = c.from.invariant.rows;
+      moves = c.fill.ensures.moves n (record {
         known = c.from.invariant.known;
         catalogue_of = c.deref-2.ensures.value ∙ parts.catalogue;
         seats_of = c.deref-3.ensures.value ∙ (c.put_seats.ensures.items ∙ c.deref.ensures.value);
         sizes_are = c.from.invariant.shape;
         envs_are = c.self.invariant.moves.envs ∙ ap (λ (e : NamedEnv). e.env.states) parts.environment;
         actions_are = c.self.invariant.moves.actions ∙ ap (λ (e : NamedEnv). e.env.actions) parts.environment;
-      }));
+      });
       moves_room = room_kept c.self.inside.moves c.fill.new.self c.fill.ensures.kept c.self.invariant.moves_room;
+      scenes = c.self.invariant.scenes;
       room = omega (arith, c.put_seats.ensures.room, c.self.invariant.room);
-    }
+    })
 
 pub returns : goal.returns
 returns c =

@@ -1,10 +1,8 @@
 use Rattle.std.proofs.Common.{◌<◌, if◌then◌else◌, length, sym, ap, ◌∙◌, subst}
 use Rattle.roman_model.specs.Change.{Freeze, Thaw, after}
-use Rattle.roman_model.specs.Numbers.{sizes_of}
-use Rattle.roman_joint.specs.NamedSys.{system_of, IsNamedSys}
+use Rattle.roman_joint.specs.NamedSys.{system_of}
 use Rattle.roman_joint.specs.Layout.{named_sys_in}
-use Rattle.roman_joint.specs.Rows.{AreRowsOf}
-use Rattle.roman_joint.specs.Moves.{HoldsMoves}
+use Rattle.roman_joint.proofs.Shown.{is_joint}
 use Rattle.roman_joint.proofs.MoveLemmas.{moves_frozen}
 use Rattle.roman_joint.specs.Changes.{with_frozen}
 use Rattle.roman_joint.proofs.SeatChanges.{with_seats, frozen_set, frozen_known, frozen_sizes, frozen_system}
@@ -16,16 +14,15 @@ invariant_of-self c =
     let k = c.args.k in
     let frozen = c.args.frozen in
     let within : k < length n.seats = rw (← c.self.view_is) at c.requires in
-    let seats = frozen_set n.seats k c.index_mut.result.now frozen c.index_mut.ensures.value in
-    record {
-      known = subst (λ xs. IsNamedSys (with_seats n xs)) (sym seats) (frozen_known n k frozen c.self.invariant.known within);
-      shape = c.self.invariant.shape ∙ (sym (frozen_sizes n k frozen) ∙ ap (λ xs. sizes_of (system_of (with_seats n xs))) (sym seats));
-      rows = subst (λ m. AreRowsOf m c.self.inside.rows) (sym (frozen_sizes n k frozen) ∙ ap (λ xs. sizes_of (system_of (with_seats n xs))) (sym seats)) c.self.invariant.rows;
-      moves = subst (λ xs. HoldsMoves (system_of (with_seats n xs)) c.self.inside.moves) (sym seats) (moves_frozen n k frozen c.self.inside.moves c.self.invariant.moves);
+    is_joint _ (with_seats n (with_frozen n.seats k frozen)) (ap (with_seats n) (frozen_set n.seats k c.index_mut.result.now frozen c.index_mut.ensures.value)) (record {
+      known = frozen_known n k frozen c.self.invariant.known within;
+      shape = c.self.invariant.shape ∙ sym (frozen_sizes n k frozen);
+      rows = rw (sym (frozen_sizes n k frozen)) at c.self.invariant.rows;
+      moves = moves_frozen n k frozen c.self.inside.moves c.self.invariant.moves;
       moves_room = c.self.invariant.moves_room;
       scenes = c.self.invariant.scenes;
       room = c.self.invariant.room;
-    }
+    })
 
 pub returns-clause-seats : goal.returns-clause-seats
 returns-clause-seats c =

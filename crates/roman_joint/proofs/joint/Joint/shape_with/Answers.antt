@@ -1,9 +1,8 @@
 use Rattle.std.proofs.Common.{◌≡◌, ◌≤◌, List, length, get_or, sym, ap, ap₂, ◌∙◌, subst, arith}
-use Rattle.std.specs.Option.{IsSome, IfSome}
+use Rattle.std.specs.Option.{IsSome}
 use Rattle.roman_model.specs.System.{Beh, IsBeh}
 use Rattle.roman_model.specs.Change.{Join, after}
-use Rattle.roman_model.specs.Numbers.{Sizes, grown_sizes}
-use Rattle.roman_parts.specs.Named.{NamedEnv, NamedBeh}
+use Rattle.roman_parts.specs.Named.{NamedBeh}
 use Rattle.roman_joint.specs.NamedSys.{beh_at, seat_of, system_of, cells, IsOverEnv}
 use Rattle.roman_joint.proofs.SeatLemmas.{beh_read, states_range}
 use Rattle.roman_joint.proofs.SeatChanges.{joined_known, joined_sizes, joined_test}
@@ -25,12 +24,12 @@ returns c =
     let over : IsOverEnv n.environment y = subst (IsOverEnv n.environment) (sym at) (c.known.ensures.catalogue seat.behaviour y c.requires.behaviour) in
     let beh : IsBeh n.environment.env (beh_at n.catalogue seat.behaviour) = subst (IsBeh n.environment.env) read (c.states.ensures.known n.environment.env (sym over.0) (sym over.1)) in
     let size = c.len-size.ensures.len ∙ (ap length c.states.ensures.names ∙ (c.states.ensures.count ∙ ap (λ (b : Beh). b.states) read)) in
-    let actions = c.len.ensures.len ∙ (ap length c.actions.ensures.names ∙ (c.actions.ensures.count ∙ ap (λ (x : NamedEnv). x.env.actions) c.environment.ensures)) in
+    let actions = rw c.environment.ensures at (c.len.ensures.len ∙ (ap length c.actions.ensures.names ∙ c.actions.ensures.count)) in
     let test = joined_test n seat c.shape.result.now c.len-size.result c.len.result c.known.ensures c.shape.ensures size actions in
     let grows = rw c.limit.ensures at c.grow.ensures.fits in
     let fits : IsSome c.grow.result → cells (after (Join (seat_of n.catalogue seat)) (system_of n)) ≤ n.limit = λ some. test.0 (grows.0 some) in
     record {
       fits = (fits, λ l. grows.1 (test.1 l));
-      shape = subst (λ (m : Sizes). IfSome c.grow.result (λ shape. shape ≡ m)) (ap₂ (λ m k. grown_sizes m k) c.shape.ensures size ∙ joined_sizes n seat) c.grow.ensures.shape;
+      shape = rw (c.shape.ensures, size, joined_sizes n seat) at c.grow.ensures.shape;
       known = λ some. joined_known n seat c.known.ensures c.requires.room c.requires.behaviour beh c.requires.name (fits some);
     }

@@ -8,7 +8,7 @@ use Rattle.roman_joint.specs.NamedSys.{system_of, seat_of}
 use Rattle.roman_joint.specs.Backward.{seat_prev}
 use Rattle.roman_joint.specs.Walks.{goal_of, states_before}
 use Rattle.roman_joint.proofs.Rows.{seat_moves, count_fits}
-use Rattle.roman_joint.proofs.WalkLemmas.{passes_state, no_state_there}
+use Rattle.roman_joint.proofs.WalkLemmas.{passes_state}
 use Rattle.roman_joint.proofs.joint.Joint.take_state.Goals as goal
 
 pub prev_states-states-requires-clause-state : goal.prev_states-states-requires-clause-state

@@ -3,23 +3,22 @@ use Rattle.std.proofs.lemmas.List.{length-map}
 use Rattle.roman_model.specs.Lists.{all_below}
 use Rattle.roman_model.specs.System.{is_final}
 use Rattle.roman_model.specs.Numbers.{sizes_of, pair_at}
-use Rattle.roman_parts.specs.Named.{NamedTarget}
 use Rattle.roman_lanes.specs.Rows.{is_on}
 use Rattle.roman_joint.specs.NamedSys.{system_of, seat_of}
 use Rattle.roman_joint.specs.Rows.{lanes_in, may_rest}
 use Rattle.roman_lanes.proofs.RowBits.{on_zero, on_and}
 use Rattle.roman_joint.proofs.GoodLemmas.{full_on, full_off}
-use Rattle.roman_joint.proofs.FineLemmas.{fine_there, rests_off}
+use Rattle.roman_joint.proofs.AllowedLemmas.{cut_off, fine_there}
 use Rattle.roman_joint.proofs.joint.Joint.unfine.Goals as goal
 
 pub is_final-requires : goal.is_final-requires
-is_final-requires c = omega (arith, c.requires.1.target_range, ap (λ (t : NamedTarget). t.beh.states) c.target.ensures)
+is_final-requires c = rw c.target.ensures c.requires.1.target_range
 
 pub returns-then-not-is_final : goal.returns-then-not-is_final
 returns-then-not-is_final c x ok = record {
   each = λ lane l.
       let s = system_of c.args.self.now in
-      let off : is_final s.target c.args.row.now.target ≡ false = sym (ap (λ (t : NamedTarget). is_final t.beh c.args.row.now.target) c.target.ensures) ∙ (sym c.is_final.ensures ∙ c.if-not-is_final.true) in
+      let off : is_final s.target c.args.row.now.target ≡ false = sym (rw c.target.ensures at c.is_final.ensures) ∙ c.if-not-is_final.true in
       on_zero lane ∙ sym (ap not (fine_there s c.args.row.now x lane ok l ∙ ap (λ b. not b || all_below (λ k. may_rest (slice_get s.seats k) (slice_index (pair_at (sizes_of s) (x * lanes_in s + lane)).bs k)) (length s.seats)) off));
   rest = λ lane l. on_zero lane;
 }
@@ -40,9 +39,9 @@ returns-then-rests-eq0 c x ok = record {
       let n = c.args.self.now in
       let s = system_of n in
       let p = λ (k : ℕ). may_rest (slice_get s.seats k) (slice_index (pair_at (sizes_of s) (x * lanes_in s + lane)).bs k) in
-      let on : is_final s.target c.args.row.now.target ≡ true = sym (ap (λ (t : NamedTarget). is_final t.beh c.args.row.now.target) c.target.ensures) ∙ (sym c.is_final.ensures ∙ c.if-not-is_final.false) in
+      let on : is_final s.target c.args.row.now.target ≡ true = sym (rw c.target.ensures at c.is_final.ensures) ∙ c.if-not-is_final.false in
       let none : all_below p (length s.seats) ≡ false =
-      rests_off p c.loop-k.k (length s.seats) (omega (arith, length-map n.seats (seat_of n.catalogue))) (sym (c.loop-k.invariant x lane ok l) ∙ (ap (λ w. is_on w lane) c.if-rests-eq0.true ∙ on_zero lane)) in
+      cut_off p c.loop-k.k (length s.seats) true (omega (arith, length-map n.seats (seat_of n.catalogue))) (sym (c.loop-k.invariant x lane ok l) ∙ (ap (λ w. is_on w lane) c.if-rests-eq0.true ∙ on_zero lane)) in
       full_on (sizes_of s) c.layout.result.now lane c.layout.ensures.rows l ∙ sym (ap not (fine_there s c.args.row.now x lane ok l ∙ ap₂ (λ y z. not y || z) on none));
   rest = λ lane l. full_off (sizes_of (system_of c.args.self.now)) c.layout.result.now lane c.layout.ensures.rows l;
 }
@@ -53,7 +52,7 @@ returns c x ok = record {
       let n = c.args.self.now in
       let s = system_of n in
       let p = λ (k : ℕ). may_rest (slice_get s.seats k) (slice_index (pair_at (sizes_of s) (x * lanes_in s + lane)).bs k) in
-      let on : is_final s.target c.args.row.now.target ≡ true = sym (ap (λ (t : NamedTarget). is_final t.beh c.args.row.now.target) c.target.ensures) ∙ (sym c.is_final.ensures ∙ c.if-not-is_final.false) in
+      let on : is_final s.target c.args.row.now.target ≡ true = sym (rw c.target.ensures at c.is_final.ensures) ∙ c.if-not-is_final.false in
       let end : c.loop-k.k ≡ length s.seats = omega (arith, length-map n.seats (seat_of n.catalogue)) in
       c.less.ensures lane
       ∙ (ap₂ (λ y z. y && not z) (full_on (sizes_of s) c.layout.result.now lane c.layout.ensures.rows l) (c.loop-k.invariant x lane ok l ∙ ap (all_below p) end)

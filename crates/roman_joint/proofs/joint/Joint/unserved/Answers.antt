@@ -13,13 +13,7 @@ use Rattle.roman_joint.proofs.AllowedLemmas.{turn_open, refused, judged, and_not
 use Rattle.roman_joint.proofs.joint.Joint.unserved.Goals as goal
 
 one_more : (p : ℕ → Bool) (k : ℕ) (wanted : Bool) → ((wanted && all_below p k) && not (not (p k))) ≡ (wanted && all_below p (k + 1))
-one_more p k wanted = rw add-one (by_cases wanted (all_below p k) (p k))
-  where
-    by_cases : (a b c : Bool) → ((a && b) && not (not c)) ≡ (a && (b && c))
-    by_cases true true true = refl
-    by_cases true true false = refl
-    by_cases true false c = refl
-    by_cases false b c = refl
+one_more p k wanted = rw add-one (grind arith)
 
 pub returns-in_default-clause-lost : goal.returns-in_default-clause-lost
 returns-in_default-clause-lost c x gone ok rows lane l =
@@ -56,9 +50,3 @@ returns-clause-lost c x gone ok rows lane l =
     let end : c.loop-k.k ≡ length s.seats = omega (arith, length-map c.args.self.now.seats (seat_of c.args.self.now.catalogue)) in
     c.loop-k.invariant.lost x gone ok rows lane l
     ∙ (ap (λ m. is_on c.args.wanted lane && all_below beaten m) end ∙ ap (λ b. is_on c.args.wanted lane && b) (judged s c.args.row.now x c.args.a lane gone ok l (turn_open s c.args.row.now c.args.a c.in-Some.turn c.in-Some.ensures)))
-
-pub returns-in_default-clause-within : goal.returns-in_default-clause-within
-returns-in_default-clause-within c lane off = on_zero lane
-
-pub returns-then-left-eq0-clause-within : goal.returns-then-left-eq0-clause-within
-returns-then-left-eq0-clause-within c lane off = on_zero lane

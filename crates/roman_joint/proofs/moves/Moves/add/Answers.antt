@@ -1,27 +1,26 @@
 use Rattle.std.proofs.Common.{◌≡◌, ℕ, ◌+◌, ◌-◌, ◌*◌, ◌<◌, ◌≤◌, length, slice_index, refl, sym, subst, arith}
 use Rattle.roman_radix.proofs.Strides.{AreSizes-index}
-use Rattle.roman_joint.specs.Moves.{AreMovesOf, lane_moves_from}
+use Rattle.roman_joint.specs.Moves.{lane_moves_from}
 use Rattle.roman_joint.proofs.GoodLemmas.{state_below}
 use Rattle.roman_joint.proofs.MoveLemmas.{moves_made, ways_few}
 use Rattle.roman_joint.proofs.moves.Moves.add.Goals as goal
+use Rattle.roman_joint.proofs.moves.Moves.add.Goals.{After-known}
+
+-- the service has a state
+own : (c : After-known) → (slice_index c.args.rows.now.sizes c.args.k ≡ slice_index c.args.shape.now.seats c.args.k) × (0 < slice_index c.args.shape.now.seats c.args.k)
+own c = (c.requires.rows.sizes c.args.k c.requires.seat, (AreSizes-index c.args.shape.now.seats c.args.k c.known.ensures.seats c.requires.seat).0)
 
 pub overflow_sub-last : goal.overflow_sub-last
-overflow_sub-last c = omega (arith, c.requires.rows.sizes c.args.k c.requires.seat, (AreSizes-index c.args.shape.now.seats c.args.k c.known.ensures.seats c.requires.seat).0)
+overflow_sub-last c = omega (arith, own (goal.at.overflow_sub-last c).After-known)
 
 pub push_ways-requires-clause-room : goal.push_ways-requires-clause-room
-push_ways-requires-clause-room c =
-    let own = c.requires.rows.sizes c.args.k c.requires.seat in
-    let some = (AreSizes-index c.args.shape.now.seats c.args.k c.known.ensures.seats c.requires.seat).0 in
-    omega (arith, own, some, c.requires.room)
+push_ways-requires-clause-room c = omega (arith, own (goal.at.push_ways-requires-clause-room c).After-known, c.requires.room)
 
 pub push_ways-requires-clause-small : goal.push_ways-requires-clause-small
 push_ways-requires-clause-small c =
-    let n = c.args.shape.now in
-    let k = c.args.k in
-    let own = c.requires.rows.sizes k c.requires.seat in
-    let some = (AreSizes-index n.seats k c.known.ensures.seats c.requires.seat).0 in
-    subst (λ u. (slice_index c.args.rows.now.sizes k - 1) * u < 64) (sym (c.requires.rows.within k c.requires.within c.requires.seat))
-    (state_below n k (slice_index c.args.rows.now.sizes k - 1) c.known.ensures c.requires.within c.requires.seat (omega (arith, own, some)))
+    rw (c.requires.rows.within c.args.k c.requires.within c.requires.seat)
+    (state_below c.args.shape.now c.args.k (slice_index c.args.rows.now.sizes c.args.k - 1) c.known.ensures c.requires.within c.requires.seat
+    (omega (arith, own (goal.at.push_ways-requires-clause-small c).After-known)))
 
 pub push_ways-requires-clause-few : goal.push_ways-requires-clause-few
 push_ways-requires-clause-few c = omega (arith, c.requires.rows.sizes c.args.k c.requires.seat, c.requires.states, c.requires.few)
@@ -32,9 +31,7 @@ returns c =
     let k = c.args.k in
     let last : ℕ = slice_index c.args.rows.now.sizes k - 1 in
     let stride = slice_index c.args.rows.now.strides k in
-    let own = c.requires.rows.sizes k c.requires.seat in
-    let some = (AreSizes-index n.seats k c.known.ensures.seats c.requires.seat).0 in
-    let size : last + 1 ≡ slice_index n.seats k = omega (arith, own, some) in
+    let size : last + 1 ≡ slice_index n.seats k = omega (arith, own (goal.at.returns c).After-known) in
     let made = lane_moves_from c.ways_of-ways.result.lanes last stride (last + last + 1) in
     let few : length made ≤ last + last + 1 = ways_few c.ways_of-ways.result.lanes last stride (last + last + 1) in
     record {
@@ -46,7 +43,7 @@ returns c =
         few = omega (arith, few, size);
         first = omega (arith, c.len-first.ensures, c.args.self.now.moves.ok.0);
         end = omega (arith, c.len-end.ensures, c.push_ways.new.moves.ok.0);
-        moves_of = subst (λ u. AreMovesOf n k c.args.behaviour.now.beh c.args.e c.args.a c.ways_of-ways.result.some (lane_moves_from c.ways_of-ways.result.lanes last u (last + last + 1))) (sym (c.requires.rows.within k c.requires.within c.requires.seat))
+        moves_of = rw (c.requires.rows.within k c.requires.within c.requires.seat)
             (moves_made n k last c.args.e c.args.a c.args.behaviour.now.beh c.ways_of-ways.result c.known.ensures c.requires.within c.requires.seat c.requires.states size c.ways_of-ways.ensures);
         kept = record { same_envs = refl; same_actions = refl; spans_room = c.push_reserved.ensures.capacity; moves_room = c.push_ways.ensures.capacity };
       };

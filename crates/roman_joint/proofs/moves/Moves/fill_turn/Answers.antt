@@ -2,7 +2,7 @@ use Rattle.std.proofs.Common.{◌∷◌, [], length, get_or, sym, ap, ◌∙◌,
 use Rattle.std.proofs.lemmas.List.{length-append}
 use Rattle.roman_radix.proofs.RowLemmas.{low_of-le}
 use Rattle.roman_joint.specs.declared.seat.Seat as declared
-use Rattle.roman_joint.proofs.MoveLemmas.{lanes_room, room_more, seat_here, sizes_long, turn_more, kept_on, seats_kept, seats_back}
+use Rattle.roman_joint.proofs.MoveLemmas.{lanes_room, room_more, seat_here, sizes_long, turn_more, kept_on}
 use Rattle.roman_joint.proofs.moves.Moves.fill_turn.Goals as goal
 
 pub add-requires-clause-states : goal.add-requires-clause-states
@@ -38,7 +38,7 @@ loop-k-preserved c =
       long = omega (arith, i.from, i.long, ap length added.spans, length-append c.loop-k.self.spans.items (added.span ∷ []));
       few = omega (arith, more, added.few, i.few, ap length added.moves, length-append c.loop-k.self.moves.items added.more);
       spans = λ m of.
-          let old = seats_back m c.args.catalogue.now c.args.seats.now sizes c.loop-k.self c.add.new.self added.kept of in
+          let old = rw (added.kept.same_envs, added.kept.same_actions) at of in
           turn_more m c.args.catalogue.now c.args.seats.now sizes c.loop-k.k c.args.e c.args.a c.index-catalogue-seats.result.beh c.args.self.now c.loop-k.self c.add.new.self i.kept added of
           (seat_here m c.args.catalogue.now c.args.seats.now sizes c.loop-k.self.envs c.loop-k.self.actions c.loop-k.k c.index-seats-k.result c.index-catalogue-seats.result old (omega arith) c.index-seats-k.is
           (c.index-catalogue-seats.is ∙ ap (λ (x : declared.Seat). get_or c.args.catalogue.now x.behaviour c.index-catalogue-seats.result) (sym c.index-seats-k.is)))
@@ -57,4 +57,4 @@ pub returns-clause-few : goal.returns-clause-few
 returns-clause-few c = omega (arith, c.loop-k.invariant.few, lanes_room c.args.shape.now c.known.ensures)
 
 pub returns-clause-spans : goal.returns-clause-spans
-returns-clause-spans c m of = c.loop-k.invariant.spans m (seats_kept m c.args.catalogue.now c.args.seats.now c.args.shape.now c.args.self.now c.loop-k.self c.loop-k.invariant.kept of)
+returns-clause-spans c m of = c.loop-k.invariant.spans m (rw (c.loop-k.invariant.kept.same_envs, c.loop-k.invariant.kept.same_actions) of)
