@@ -32,4 +32,4 @@ pub returns-then-walk-ge-MAX_STATES : goal.returns-then-walk-ge-MAX_STATES
 returns-then-walk-ge-MAX_STATES c =
     let s = system_of c.args.self.now in
     let w = c.args.walk.now in
-    (refl, flat_map-past _ _ _ (omega (arith, few_prev s.env (goal_of s w).e w.action c.known.ensures.system.env)))
+    (refl, flat_map-past _ (env_prev s.env (goal_of s w).e w.action) w.envs_taken (omega (arith, few_prev s.env (goal_of s w).e w.action c.known.ensures.system.env)))

@@ -1,4 +1,4 @@
-use Rattle.std.proofs.Common.{refl, arith}
+use Rattle.std.proofs.Common.{◌+◌, length, refl, arith}
 use Rattle.std.proofs.lemmas.List.{length-map}
 use Rattle.roman_joint.specs.NamedSys.{system_of, seat_of}
 use Rattle.roman_joint.proofs.WalkLemmas.{goes_seat, below-past}
@@ -12,4 +12,4 @@ returns c =
 pub returns-then-walk-seats : goal.returns-then-walk-seats
 returns-then-walk-seats c =
     let n = c.args.self.now in
-    (refl, below-past _ _ _ (omega (arith, length-map n.seats (seat_of n.catalogue))))
+    (refl, below-past _ (length (system_of n).seats) (c.args.walk.now.seat + 1) (omega (arith, length-map n.seats (seat_of n.catalogue))))

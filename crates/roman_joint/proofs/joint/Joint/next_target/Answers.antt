@@ -29,4 +29,4 @@ pub returns-then-walk-ge-MAX_STATES : goal.returns-then-walk-ge-MAX_STATES
 returns-then-walk-ge-MAX_STATES c =
     let s = system_of c.args.self.now in
     let w = c.args.walk.now in
-    (refl, flat_map-past _ _ _ (omega (arith, few_beh_prev s.env s.target (goal_of s w).t w.env w.action c.known.ensures.system.target)))
+    (refl, flat_map-past _ (beh_prev s.target (goal_of s w).t w.env w.action) w.targets_taken (omega (arith, few_beh_prev s.env s.target (goal_of s w).t w.env w.action c.known.ensures.system.target)))

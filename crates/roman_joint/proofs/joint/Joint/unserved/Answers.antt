@@ -50,3 +50,6 @@ returns-clause-lost c x gone ok rows lane l =
     let end : c.loop-k.k ≡ length s.seats = omega (arith, length-map c.args.self.now.seats (seat_of c.args.self.now.catalogue)) in
     c.loop-k.invariant.lost x gone ok rows lane l
     ∙ (ap (λ m. is_on c.args.wanted lane && all_below beaten m) end ∙ ap (λ b. is_on c.args.wanted lane && b) (judged s c.args.row.now x c.args.a lane gone ok l (turn_open s c.args.row.now c.args.a c.in-Some.turn c.in-Some.ensures)))
+
+pub returns-in_default-clause-within : goal.returns-in_default-clause-within
+returns-in_default-clause-within c lane off = on_zero lane
