@@ -2,7 +2,6 @@ pub mod Texts
 pub mod Certificates
 pub mod Answering
 pub mod MarkLemmas
-pub mod NameLemmas
 pub mod LineTexts
 pub mod AnswerTexts
 pub mod SliceTexts

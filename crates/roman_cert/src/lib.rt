@@ -10,7 +10,6 @@ mod answers;
 mod certificate;
 mod lines;
 mod marking;
-mod naming;
 mod slice;
 #[cfg(test)]
 mod tests;

@@ -12,7 +12,6 @@ ghost use Rattle.roman_order.specs.Board.{as_entry};
 ghost use Rattle.roman_cert.specs.Reasons.{NamesAction};
 ghost use Rattle.roman_cert.specs.Slices.{lost_text};
 
-use crate::naming::{action_name, env_name, service_name, state_name, target_name};
 use roman_io::{Failed, Sink};
 use roman_joint::Joint;
 use roman_model::Reason;
@@ -49,8 +48,10 @@ fn parts_piece(joint: &Joint, p: u32) -> Piece
         result ≡ codes "lost " ++ name_at (names_in joint.now).target q.t
         ++ 32 ∷ name_at (names_in joint.now).env q.e }
 {
-    let text = Piece::new().text(b"lost ").name(target_name(joint, p));
-    text.text(b" ").name(env_name(joint, p))
+    let target = joint.target_name(joint.shape().target_of(p));
+    let env = joint.env_name(joint.shape().env_of(p));
+    let text = Piece::new().text(b"lost ").name(target);
+    text.text(b" ").name(env)
 }
 
 /// A service's state, in the line of a pair.
@@ -60,7 +61,9 @@ fn state_piece(joint: &Joint, p: u32, k: u8) -> Piece
     ensures { let q = pair_at (sizes_of (system_of joint.now)) p in
         result ≡ 32 ∷ name_at (seat_names (names_in joint.now) k).states (slice_index q.bs k) }
 {
-    Piece::new().text(b" ").name(state_name(joint, p, k))
+    joint.known();
+    let state = joint.shape().part_of(p, k);
+    Piece::new().text(b" ").name(joint.state_name(k, state))
 }
 
 /// The end of a pair's line: why it is lost.
@@ -71,7 +74,7 @@ fn reason_piece(joint: &Joint, reason: Reason) -> Piece
     let text = Piece::new().text(b": ");
     match reason {
         Reason::Final => text.text(b"final\n"),
-        Reason::Act(a) => text.name(action_name(joint, a)).text(b"\n"),
+        Reason::Act(a) => text.name(joint.action_name(a)).text(b"\n"),
     }
 }
 
@@ -82,7 +85,7 @@ pub(crate) fn answer_piece(joint: &Joint, k: u8, answer: Option<u32>) -> Piece
     ensures { let answered = option_map (pair_at (sizes_of (system_of joint.now))) answer in
         result ≡ text_of (answer_line (names_in joint.now) k answered ∷ []) }
 {
-    let text = Piece::new().text(b"  ").name(service_name(joint, k));
+    let text = Piece::new().text(b"  ").name(joint.service_name(k));
     match answer {
         None => text.text(b" cannot\n"),
         Some(q) => add_states(text, joint, k, q),
@@ -99,6 +102,9 @@ fn add_states(text: Piece, joint: &Joint, k: u8, q: u32) -> Piece
         ++ name_at (seat_names (names_in joint.now) k).states (slice_index answered.bs k)
         ++ codes " " ++ name_at (names_in joint.now).env answered.e ++ 10 ∷ [] }
 {
-    let text = text.text(b" may answer ").name(state_name(joint, q, k));
-    text.text(b" ").name(env_name(joint, q)).text(b"\n")
+    joint.known();
+    let state = joint.state_name(k, joint.shape().part_of(q, k));
+    let env = joint.env_name(joint.shape().env_of(q));
+    let text = text.text(b" may answer ").name(state);
+    text.text(b" ").name(env).text(b"\n")
 }

@@ -16,3 +16,4 @@ pub mod GoodLemmas
 pub mod AllowedLemmas
 pub mod MarkLemmas
 pub mod MoveLemmas
+pub mod NameLemmas

@@ -2,7 +2,15 @@
 use Rattle.std.specs.Prelude.{ℕ}
 use Rattle.roman_joint.specs.declared.error.JointError.{JointError}
 use Rattle.roman_joint.specs.declared.error.JointError.TheVariants.{Limit, Memory}
+use Rattle.roman_joint.specs.declared.error.SeatError.{SeatError}
+use Rattle.roman_joint.specs.declared.error.SeatError.TheVariants as seat
 
+-- why a joint isn't built
 abbrev pub joint_error_number : JointError → ℕ
 joint_error_number Limit = 1
 joint_error_number Memory = 2
+
+-- why a service isn't seated
+abbrev pub seat_error_number : SeatError → ℕ
+seat_error_number seat.Full = 1
+seat_error_number seat.Limit = 2

@@ -1,7 +1,9 @@
 //! Why a joint isn't built, and why a service isn't seated.
 ghost use Rattle.std.specs.Prelude.{◌≡◌};
-ghost use Rattle.roman_joint.specs.Errors.{joint_error_number};
+ghost use Rattle.roman_joint.specs.Errors.{joint_error_number, seat_error_number};
+ghost use Rattle.roman_joint.specs.declared.error.JointError.TheVariants.{Memory};
 
+use std::alloc::AllocError;
 use thiserror::Error;
 
 /// Why a joint isn't built.
@@ -27,6 +29,14 @@ impl JointError {
     }
 }
 
+impl From<AllocError> for JointError {
+    ghost from_gives = { λ _ error. error ≡ Memory };
+
+    fn from(_error: AllocError) -> JointError {
+        JointError::Memory
+    }
+}
+
 /// Why a service isn't seated.
 #[derive(Clone, Copy, Debug, PartialEq, Eq, Error)]
 pub enum SeatError {
@@ -36,4 +46,16 @@ pub enum SeatError {
     /// The system would have more cells than the limit.
     #[error("the system would have more cells than the limit")]
     Limit,
+}
+
+impl SeatError {
+    /// The error's number: 1 for `Full` and 2 for `Limit`.
+    pub fn number(&self) -> u8
+        ensures number { result ≡ seat_error_number self.now }
+    {
+        match self {
+            SeatError::Full => 1,
+            SeatError::Limit => 2,
+        }
+    }
 }

@@ -12,6 +12,7 @@ ghost use Rattle.roman_model.specs.System as model;
 mod changes;
 mod copies;
 mod looks;
+mod names;
 mod rows;
 mod walks;
 

@@ -188,27 +188,17 @@ impl Session {
     }
 
     // The name of the target's present state.
-    fn target_name(&self) -> Name
-        ensures { result ≡ name_at self.now.parts.target.states self.now.here.t }
+    fn target_name(&self) -> &Name
+        ensures { result.now ≡ name_at self.now.parts.target.states self.now.here.t }
     {
-        let states = self.relation.joint.target().states();
-        *states.at(u32::from(self.target))
+        self.relation.joint.target_name(self.target)
     }
 
     // The name of the environment's present state.
-    fn env_name(&self) -> Name
-        ensures { result ≡ name_at self.now.parts.environment.states self.now.here.e }
+    fn env_name(&self) -> &Name
+        ensures { result.now ≡ name_at self.now.parts.environment.states self.now.here.e }
     {
-        let states = self.relation.joint.environment().states();
-        *states.at(u32::from(self.env))
-    }
-
-    // The name of an action.
-    fn action_name(&self, a: u8) -> Name
-        requires { a < (present_system self.now).env.actions }
-        ensures { result ≡ name_at self.now.parts.environment.actions a }
-    {
-        *self.relation.joint.environment().actions().at(u32::from(a))
+        self.relation.joint.env_name(self.env)
     }
 
     // Goes on to another phase, which is one at the current pair, and in which no service is to be

@@ -79,9 +79,9 @@ impl Session {
         [
             ReportLine::Pairs(self.pairs()),
             ReportLine::Related(self.related()),
-            ReportLine::Environment(self.env_name()),
+            ReportLine::Environment(*self.env_name()),
             ReportLine::Target {
-                state: self.target_name(),
+                state: *self.target_name(),
                 is_final: self.relation.joint.target().is_final(here),
             },
         ]
@@ -129,7 +129,7 @@ impl Session {
     {
         self.known();
         let mask = self.offers(a);
-        let line = ReportLine::Offer(self.action_name(a));
+        let line = ReportLine::Offer(*self.relation.joint.action_name(a));
         if let Err(failed) = page.push_report_line(&line, out) {
             return Err(failed);
         }

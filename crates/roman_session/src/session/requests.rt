@@ -81,8 +81,8 @@ impl Session {
         };
         self.move_to(to, sight.env, sight.seat, sight.state);
         Reply::Now {
-            target: self.target_name(),
-            env: self.env_name(),
+            target: *self.target_name(),
+            env: *self.env_name(),
         }
     }
 }

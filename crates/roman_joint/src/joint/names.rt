@@ -1,0 +1,53 @@
+//! The names of states, actions and services.
+ghost use Rattle.std.specs.Prelude.{◌≡◌, ◌<◌, length, slice_index};
+ghost use Rattle.roman_model.specs.Explanation.{name_at, seat_names};
+ghost use Rattle.roman_model.specs.Numbers.{sizes_of};
+ghost use Rattle.roman_joint.specs.NamedSys.{system_of};
+ghost use Rattle.roman_joint.specs.Names.{names_in};
+
+use super::Joint;
+use roman_parts::Name;
+
+impl Joint {
+    /// The name of a state of the target.
+    pub fn target_name(&self, t: u8) -> &Name
+        requires { t < (system_of self.now).target.states }
+        ensures { result.now ≡ name_at (names_in self.now).target t }
+    {
+        self.target().states().at(u32::from(t))
+    }
+
+    /// The name of a state of the environment.
+    pub fn env_name(&self, e: u8) -> &Name
+        requires { e < (system_of self.now).env.states }
+        ensures { result.now ≡ name_at (names_in self.now).env e }
+    {
+        self.environment().states().at(u32::from(e))
+    }
+
+    /// The name of an action.
+    pub fn action_name(&self, a: u8) -> &Name
+        requires { a < (system_of self.now).env.actions }
+        ensures { result.now ≡ name_at (names_in self.now).actions a }
+    {
+        self.environment().actions().at(u32::from(a))
+    }
+
+    /// The name of the service at place k.
+    pub fn service_name(&self, k: u8) -> &Name
+        requires { k < length self.now.seats }
+        ensures { result.now ≡ (seat_names (names_in self.now) k).service }
+    {
+        &self.seat(k).name
+    }
+
+    /// The name of a state of the service at place k.
+    pub fn state_name(&self, k: u8, b: u8) -> &Name
+        requires seat { k < length self.now.seats }
+        requires state { b < slice_index (sizes_of (system_of self.now)).seats k }
+        ensures { result.now ≡ name_at (seat_names (names_in self.now) k).states b }
+    {
+        self.known();
+        self.behaviour(k).states().at(u32::from(b))
+    }
+}
