@@ -1,4 +1,3 @@
 pub mod Repairs
 pub mod Replays
-pub mod Errors
 pub mod Deaths

@@ -7,7 +7,6 @@ ghost use Rattle.roman_joint.specs.NamedSys.{seat_of, system_of, cells};
 ghost use Rattle.roman_relation.specs.Greatest.{IsRelation};
 ghost use Rattle.roman_repair.specs.Repairs.{IsRepaired, IsWithinReading};
 
-use crate::error::JoinError;
 use crate::reopening::reopen;
 use crate::settling::replay_and_settle_on;
 use crate::tally::Tally;
@@ -28,7 +27,7 @@ pub fn join<L: Ledger>(
     relation: &mut Relation,
     seat: Seat,
     steps: &mut Steps<L>,
-) -> Result<Tally, JoinError>
+) -> Result<Tally, SeatError>
     requires relation { IsRelation relation.old.joint relation.old.order }
     requires behaviour { seat.behaviour < length relation.old.joint.catalogue }
     requires name { IsIn seat.name (map (λ other. other.name) relation.old.joint.seats) → ⊥ }
@@ -36,19 +35,15 @@ pub fn join<L: Ledger>(
     ensures joint { OnOk result (relation.new.joint ≡ record relation.old.joint { seats = relation.old.joint.seats ++ seat ∷ [] }) }
     ensures repaired { IfOk result (λ tally. IsRepaired (Join (seat_of relation.old.joint.catalogue seat)) relation.old.joint relation.old.order relation.new.joint relation.new.order tally) }
     ensures cost { IfOk result (λ tally. IsWithinReading relation.new.joint relation.new.order tally steps.old steps.new) }
-    ensures full { (result ≡ Err JoinError.Full) ↔ (length relation.old.joint.seats ≡ MAX_SERVICES) }
-    ensures limit { (result ≡ Err JoinError.Limit)
+    ensures full { (result ≡ Err SeatError.Full) ↔ (length relation.old.joint.seats ≡ MAX_SERVICES) }
+    ensures limit { (result ≡ Err SeatError.Limit)
         ↔ ((length relation.old.joint.seats < MAX_SERVICES) × (relation.old.joint.limit < cells (after (Join (seat_of relation.old.joint.catalogue seat)) (system_of relation.old.joint)))) }
     ensures refused { OnErr result ((relation.new ≡ relation.old) × (steps.new ≡ steps.old)) }
 {
     relation.joint.known();
     relation.order.known();
     let states = states_of(&relation.joint, &seat);
-    match relation.joint.push_seat(seat) {
-        Ok(()) => {}
-        Err(SeatError::Full) => return Err(JoinError::Full),
-        Err(SeatError::Limit) => return Err(JoinError::Limit),
-    }
+    relation.joint.push_seat(seat)?;
     relation.joint.known();
     reopen(relation);
     Ok(replay_and_settle_on(relation, states, steps))

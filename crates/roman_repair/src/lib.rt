@@ -8,7 +8,6 @@
 #![tactic(auto)]
 
 mod dying;
-mod error;
 mod freezing;
 mod joining;
 mod reopening;
@@ -18,8 +17,8 @@ mod tally;
 mod thawing;
 
 pub use dying::die;
-pub use error::JoinError;
 pub use freezing::freeze;
 pub use joining::join;
+pub use roman_joint::SeatError as JoinError;
 pub use tally::Tally;
 pub use thawing::thaw;

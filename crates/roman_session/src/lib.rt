@@ -23,5 +23,5 @@ pub use laws::{
 };
 pub use next::Next;
 pub use phase::Phase;
-pub use roman_start::BuildError;
+pub use roman_joint::JointError as BuildError;
 pub use session::Session;

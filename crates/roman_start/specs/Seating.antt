@@ -1,13 +1,13 @@
 -- How a library is seated, and why it isn't.
-use Rattle.std.specs.Prelude.{◌≡◌, ℕ, ◌<◌, ◌≤◌, Result, Ok, Err, vec_capacity}
+use Rattle.std.specs.Prelude.{◌≡◌, ◌<◌, ◌≤◌, Result, Ok, Err, vec_capacity}
 use Rattle.roman_model.specs.System.{IsPair}
 use Rattle.roman_model.specs.Numbers.{sizes_of, count, number}
 use Rattle.roman_model.specs.declared.limits.TheConstants.{MAX_SERVICES}
 use Rattle.roman_joint.specs.NamedSys.{NamedSys, system_of, cells}
+use Rattle.roman_joint.specs.declared.error.JointError.{JointError}
+use Rattle.roman_joint.specs.declared.error.JointError.TheVariants.{Limit, Memory}
 use Rattle.roman_library.specs.Library.{PlainLibrary}
 use Rattle.roman_start.specs.Starts.{parts_of, start_pair_of}
-use Rattle.roman_start.specs.declared.error.BuildError.{BuildError}
-use Rattle.roman_start.specs.declared.error.BuildError.TheVariants.{Limit, Memory}
 use Rattle.roman_start.specs.declared.seating.Seated.{Seated}
 
 -- the library's parts, its services' states and the number of its start pair, with room for the states of as many
@@ -21,12 +21,7 @@ pub record IsSeated (library : PlainLibrary) (seated : Seated) : Type 0 where
   pub room : MAX_SERVICES ≤ vec_capacity seated.states
 
 -- `Limit` comes exactly where the cells exceed the limit, if there is memory
-abbrev pub IsWithinLimit : {T : Type 0} → NamedSys → Result T BuildError → Type 0
+abbrev pub IsWithinLimit : {T : Type 0} → NamedSys → Result T JointError → Type 0
 IsWithinLimit parts (Ok x) = cells (system_of parts) ≤ parts.limit
 IsWithinLimit parts (Err Limit) = parts.limit < cells (system_of parts)
 IsWithinLimit parts (Err Memory) = Unit {0}
-
--- the errors are numbered in their order
-abbrev pub build_error_number : BuildError → ℕ
-build_error_number Limit = 1
-build_error_number Memory = 2

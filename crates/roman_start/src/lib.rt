@@ -5,8 +5,6 @@
 //! that it is seated.
 #![tactic(auto)]
 
-mod error;
 mod seating;
 
-pub use error::BuildError;
 pub use seating::{Seated, seat_library};

@@ -8,7 +8,6 @@ ghost use Rattle.roman_library.specs.Library.{IsLibrary, plain};
 ghost use Rattle.roman_start.specs.Starts.{seat_of_service, state_of_service, parts_of, starting};
 ghost use Rattle.roman_start.specs.Seating.{IsSeated, IsWithinLimit};
 
-use crate::error::BuildError;
 use roman_joint::{Joint, JointError, Seat};
 use roman_library::{Library, Service};
 use roman_model::MAX_SERVICES;
@@ -28,7 +27,7 @@ pub struct Seated {
 
 /// The system of a library, and where it begins. `Limit` comes exactly where the system has more cells,
 /// pairs times actions, than the library's limit, and `Memory` only where there is none.
-pub fn seat_library(alloc: Global, library: Library) -> Result<Seated, BuildError>
+pub fn seat_library(alloc: Global, library: Library) -> Result<Seated, JointError>
     requires { IsLibrary (plain library) }
     ensures seated { IfOk result (IsSeated (plain library)) }
     ensures limit { IsWithinLimit (parts_of (plain library)) result }
@@ -42,18 +41,13 @@ pub fn seat_library(alloc: Global, library: Library) -> Result<Seated, BuildErro
         limit,
         ..
     } = library;
-    match Joint::build(alloc, environment, catalogue, target, seats, limit) {
-        Ok(joint) => {
-            let start = start_of(&joint, &states);
-            Ok(Seated {
-                joint,
-                states,
-                start,
-            })
-        }
-        Err(JointError::Limit) => Err(BuildError::Limit),
-        Err(JointError::Memory) => Err(BuildError::Memory),
-    }
+    let joint = Joint::build(alloc, environment, catalogue, target, seats, limit)?;
+    let start = start_of(&joint, &states);
+    Ok(Seated {
+        joint,
+        states,
+        start,
+    })
 }
 
 // The places that the services take in a system.

@@ -12,9 +12,10 @@ use crate::limits::put_limit;
 use crate::refusals::put_refusal;
 use crate::status::{Status, finish};
 use roman_io::{Shelf, Sink, Steps};
+use roman_joint::JointError;
 use roman_library::{Library, LoadError, load};
-use roman_session::Session;
-use roman_start::{BuildError, Seated, seat_library};
+use roman_session::{BuildError, Session};
+use roman_start::{Seated, seat_library};
 use std::alloc::Global;
 use std::sync::ledger::Ledger;
 
@@ -38,8 +39,8 @@ pub(crate) fn open_system<F: Shelf, O: Sink>(
     let limit = library.limit;
     match seat_library(alloc, library) {
         Ok(seated) => Ok(seated),
-        Err(BuildError::Limit) => Err(finish(put_limit(limit, out), Status::Limit)),
-        Err(BuildError::Memory) => Err(Status::Memory),
+        Err(JointError::Limit) => Err(finish(put_limit(limit, out), Status::Limit)),
+        Err(JointError::Memory) => Err(Status::Memory),
     }
 }
 

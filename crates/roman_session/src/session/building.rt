@@ -8,9 +8,10 @@ ghost use Rattle.roman_start.specs.Seating.{IsWithinLimit};
 use super::Session;
 use crate::phase::Phase;
 use roman_io::Steps;
+use roman_joint::JointError;
 use roman_library::Library;
 use roman_relation::Relation;
-use roman_start::{BuildError, Seated, seat_library};
+use roman_start::{Seated, seat_library};
 use std::alloc::Global;
 use std::sync::ledger::Ledger;
 
@@ -23,7 +24,7 @@ impl Session {
         alloc: Global,
         library: Library,
         steps: &mut Steps<L>,
-    ) -> Result<Session, BuildError>
+    ) -> Result<Session, JointError>
         requires { IsLibrary (plain library) }
         ensures start { IfOk result (IsStart (plain library)) }
         ensures limit { IsWithinLimit (parts_of (plain library)) result }

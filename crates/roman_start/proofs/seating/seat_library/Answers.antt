@@ -25,15 +25,15 @@ pub start_of-start-requires : goal.start_of-start-requires
 start_of-start-requires c =
     let library = plain c.args.library in
     let seats : c.in_ok-seats.seats.items ≡ map seat_of_service library.services = c.in_ok-seats.ensures ∙ ap (map seat_of_service) c.deref.ensures.value in
-    let joint : c.in-Ok.joint ≡ parts_of library = c.in-Ok.ensures.parts ∙ ap (λ (seats : List Seat). record (parts_of library) { seats = seats }) seats in
+    let joint : c.in_ok-joint.joint ≡ parts_of library = c.in_ok-joint.ensures.parts ∙ ap (λ (seats : List Seat). record (parts_of library) { seats = seats }) seats in
     let states : c.in_ok-states.states.items ≡ (start_pair_of library).bs = c.in_ok-states.ensures.states ∙ ap (map state_of_service) c.deref-2.ensures.value in
-    seated_pair library c.in-Ok.joint c.deref-in-Ok.result.now c.requires joint (c.deref-in-Ok.ensures.value ∙ states)
+    seated_pair library c.in_ok-joint.joint c.deref-3.result.now c.requires joint (c.deref-3.ensures.value ∙ states)
 
-pub returns-in-Ok-clause-seated : goal.returns-in-Ok-clause-seated
-returns-in-Ok-clause-seated c =
+pub returns-clause-seated : goal.returns-clause-seated
+returns-clause-seated c =
     let library = plain c.args.library in
     let seats : c.in_ok-seats.seats.items ≡ map seat_of_service library.services = c.in_ok-seats.ensures ∙ ap (map seat_of_service) c.deref.ensures.value in
-    let joint : c.in-Ok.joint ≡ parts_of library = c.in-Ok.ensures.parts ∙ ap (λ (seats : List Seat). record (parts_of library) { seats = seats }) seats in
+    let joint : c.in_ok-joint.joint ≡ parts_of library = c.in_ok-joint.ensures.parts ∙ ap (λ (seats : List Seat). record (parts_of library) { seats = seats }) seats in
     let states : c.in_ok-states.states.items ≡ (start_pair_of library).bs = c.in_ok-states.ensures.states ∙ ap (map state_of_service) c.deref-2.ensures.value in
-    seated library (record { joint = c.in-Ok.joint; states = c.in_ok-states.states; start = c.start_of-start.result }) c.deref-in-Ok.result.now c.requires joint states
-    (c.deref-in-Ok.ensures.value ∙ states) c.start_of-start.ensures.number c.start_of-start.ensures.below c.in_ok-states.ensures.room
+    seated library (record { joint = c.in_ok-joint.joint; states = c.in_ok-states.states; start = c.start_of-start.result }) c.deref-3.result.now c.requires joint states
+    (c.deref-3.ensures.value ∙ states) c.start_of-start.ensures.number c.start_of-start.ensures.below c.in_ok-states.ensures.room
