@@ -1,7 +1,6 @@
 -- What becomes of the entries of a removal list when a service dies.
-use Rattle.std.proofs.Common.{◌≡◌, ℕ, ◌*◌, ◌<◌, ◌≤◌, ◌==◌, Bool, true, false, not, ◌&&◌, ◌||◌, if◌then◌else◌, List, [], ◌∷◌, ◌++◌, map, length, filter, IsTrue, IsFalse, slice_index, refl, sym, ap, ap₂, ◌∙◌, subst, arith}
+use Rattle.std.proofs.Common.{◌≡◌, ℕ, ◌*◌, ◌<◌, ◌≤◌, ◌==◌, Bool, true, false, ◌||◌, if◌then◌else◌, List, [], ◌∷◌, ◌++◌, map, length, filter, slice_index, refl, sym, ap, ap₂, ◌∙◌, subst, arith}
 use Rattle.std.specs.List.{list_any}
-use Rattle.std.proofs.lemmas.Bool.{cond-true, cond-false}
 use Rattle.std.proofs.lemmas.List.{append-nil, append_assoc, map_push}
 use Rattle.std.proofs.lemmas.List.Folds.{list_any-append}
 use Rattle.std.proofs.Math.Nat.{mul-le-mul_left}
@@ -22,22 +21,6 @@ use Rattle.roman_order.specs.Board.{Board, pairs_of, has_entry, nodes_of}
 use Rattle.roman_relation.specs.Shaped.{IsShaped}
 use Rattle.roman_repair.specs.Deaths.{entry_left, list_with}
 use Rattle.roman_repair.proofs.DeathStates.{seat_in_sizes}
-
--- The list with one entry.
-
--- an entry whose state can't be left behind goes
-entry_gone : (n : Sizes) (k : ℕ) (seat : Seat) (L : List (Entry ℕ)) (x : Entry ℕ) → IsFalse (may_go k seat (pair_at n x.node)) → list_with n k seat L x ≡ L
-entry_gone n k seat L x stays = ap (λ b. if b && not (has_entry L (entry_left n k x).node) then L ++ entry_left n k x ∷ [] else L) stays
-
--- and so does one whose pair is listed
-entry_listed : (n : Sizes) (k : ℕ) (seat : Seat) (L : List (Entry ℕ)) (x : Entry ℕ) → IsTrue (may_go k seat (pair_at n x.node)) → IsTrue (has_entry L (entry_left n k x).node) →
-    list_with n k seat L x ≡ L
-entry_listed n k seat L x goes listed = ap₂ (λ b d. if b && not d then L ++ entry_left n k x ∷ [] else L) goes listed
-
--- any other stays
-entry_stays : (n : Sizes) (k : ℕ) (seat : Seat) (L : List (Entry ℕ)) (x : Entry ℕ) → IsTrue (may_go k seat (pair_at n x.node)) → IsFalse (has_entry L (entry_left n k x).node) →
-    list_with n k seat L x ≡ L ++ entry_left n k x ∷ []
-entry_stays n k seat L x goes new = ap₂ (λ b d. if b && not d then L ++ entry_left n k x ∷ [] else L) goes new
 
 -- The first entry of each number.
 
@@ -73,34 +56,26 @@ left_is n k x l seat = ap (λ i. record { node = i; reason = x.reason }) (sym (n
 pub renaming_step : (n : Sizes) (k : ℕ) (seat : Seat) (whole done rest : List (Entry ℕ)) (x : Entry ℕ) → x.node < count n → k < length n.seats →
     IsRenaming n k seat whole done (x ∷ rest) → IsRenaming n k seat whole (list_with n k seat done x) rest
 renaming_step n k seat whole done rest x l h so_far = by_test (may_go k seat (pair_at n x.node))
-    (λ goes. by_test (has_entry done (entry_left n k x).node)
-    (λ listed. subst (λ L. IsRenaming n k seat whole L rest) (sym (entry_listed n k seat done x goes listed))
-    (ap (λ ys. done ++ ys) (sym (tested goes ∙ cond-true (list_any (λ i. (entry_left n k x).node == i) (nodes_of done)) (first_numbers (nodes_of done) left) (entry_left n k x ∷ first_numbers ((entry_left n k x).node ∷ nodes_of done) left) (seen ∙ listed))) ∙ so_far))
-    (λ new. subst (λ L. IsRenaming n k seat whole L rest) (sym (entry_stays n k seat done x goes new))
-    (append_assoc done (entry_left n k x ∷ []) (first_numbers (nodes_of (done ++ entry_left n k x ∷ [])) left)
-    ∙ ap (λ ys. done ++ (entry_left n k x ∷ ys))
-    (ap (λ ns. first_numbers ns left) (map_push (λ y. y.node) done (entry_left n k x))
-    ∙ sym (first_numbers_seen ((entry_left n k x).node ∷ nodes_of done) (nodes_of done ++ (entry_left n k x).node ∷ []) left (λ i. seen_first i (entry_left n k x).node (nodes_of done))))
-    ∙ ap (λ ys. done ++ ys) (sym (tested goes ∙ cond-false (list_any (λ i. (entry_left n k x).node == i) (nodes_of done)) (first_numbers (nodes_of done) left) (entry_left n k x ∷ first_numbers ((entry_left n k x).node ∷ nodes_of done) left) (seen ∙ new)))
-    ∙ so_far)))
-    (λ stays. subst (λ L. IsRenaming n k seat whole L rest) (sym (entry_gone n k seat done x stays))
-    (ap (λ W. done ++ first_numbers (nodes_of done) (map (number_entry_without k n) W)) (sym (cond-false (may_go k seat (pair_at n x.node)) (x ∷ kept) kept stays)) ∙ so_far))
+    (λ goes. by_test (has_entry done y.node)
+    (λ listed. rw (goes, listed) (rw (goes, left_is n k x l h, node, seen ∙ listed) at so_far))
+    (λ new. rw (goes, new)
+    (append_assoc done (y ∷ []) (first_numbers (nodes_of (done ++ y ∷ [])) left)
+    ∙ ap (λ ys. done ++ (y ∷ ys)) (ap (λ ns. first_numbers ns left) (map_push (λ z. z.node) done y)
+    ∙ sym (first_numbers_seen (y.node ∷ nodes_of done) (nodes_of done ++ y.node ∷ []) left (λ i. seen_first i y.node (nodes_of done))))
+    ∙ (rw (goes, left_is n k x l h, node, seen ∙ new) at so_far))))
+    (λ stays. rw stays (rw stays at so_far))
   where
-    kept : List (Entry ℕ)
-    kept = filter (λ y. may_go k seat (pair_at n y.node)) rest
+    y : Entry ℕ
+    y = entry_left n k x
 
     left : List (Entry ℕ)
-    left = map (number_entry_without k n) (filter (λ y. may_go k seat (pair_at n y.node)) rest)
+    left = entries_left n k seat rest
 
-    seen : list_any (λ i. (entry_left n k x).node == i) (nodes_of done) ≡ has_entry done (entry_left n k x).node
-    seen = list_any-map (λ y. y.node) (λ i. (entry_left n k x).node == i) done
+    node : (number_entry_without k n x).node ≡ y.node
+    node = ap (λ (z : Entry ℕ). z.node) (left_is n k x l h)
 
-    tested : IsTrue (may_go k seat (pair_at n x.node)) →
-        first_numbers (nodes_of done) (entries_left n k seat (x ∷ rest))
-        ≡ (if list_any (λ i. (entry_left n k x).node == i) (nodes_of done) then first_numbers (nodes_of done) left else entry_left n k x ∷ first_numbers ((entry_left n k x).node ∷ nodes_of done) left)
-    tested goes =
-        ap (λ W. first_numbers (nodes_of done) (map (number_entry_without k n) W)) (cond-true (may_go k seat (pair_at n x.node)) (x ∷ kept) kept goes)
-        ∙ ap (λ y. first_numbers (nodes_of done) (y ∷ left)) (left_is n k x l h)
+    seen : list_any (λ i. y.node == i) (nodes_of done) ≡ has_entry done y.node
+    seen = list_any-map (λ z. z.node) (λ i. y.node == i) done
 
 -- no entry waits
 pub renaming_end : (n : Sizes) (k : ℕ) (seat : Seat) (whole done : List (Entry ℕ)) → IsRenaming n k seat whole done [] → done ≡ whole

@@ -1,10 +1,9 @@
 -- What a replay keeps, candidate by candidate.
-use Rattle.std.proofs.Common.{◌≡◌, ℕ, ◌+◌, ◌-◌, ◌*◌, ◌<◌, ◌≤◌, ◌==◌, Bool, true, false, if◌then◌else◌, not, ◌&&◌, List, [], ◌∷◌, ◌++◌, map, flat_map, drop, length, IsTrue, IsFalse, sum_by, count_by, inl, inr, refl, sym, ap, ap₂, ◌∙◌, subst, arith, append-nil, append_assoc}
+use Rattle.std.proofs.Common.{◌≡◌, ℕ, ◌+◌, ◌-◌, ◌*◌, ◌<◌, ◌≤◌, ◌==◌, Bool, true, false, if◌then◌else◌, ◌&&◌, List, [], ◌∷◌, ◌++◌, map, flat_map, drop, length, IsTrue, IsFalse, sum_by, count_by, inl, inr, refl, sym, ap, ap₂, ◌∙◌, subst, arith, append-nil, append_assoc}
 use Rattle.std.proofs.lemmas.Bool.{or_from, or_left, false_from_ne_true, eqb-true}
 use Rattle.std.proofs.lemmas.List.{map-append, drop-map, drop_more, drop_all, length-map}
 use Rattle.std.proofs.lemmas.List.Sums.{sum_by-cons, sum_by-append}
 use Rattle.std.proofs.lemmas.List.Folds.{list_any-append}
-use Rattle.roman_lanes.specs.Rows.{AreRows}
 use Rattle.roman_model.specs.Lists.{IsIn, HasNoRepeats, below}
 use Rattle.roman_model.specs.Arena.{Arena, Entry, is_among, is_listed, is_justified, replay_from, readings}
 use Rattle.roman_model.specs.declared.reason.Reason.{Reason}
@@ -107,10 +106,6 @@ pub record IsReplaying (A : Arena ℕ) (start now : Board) (all left : List (Ent
   pub candidates : AreCandidates A now.list left
   pub list : with_replay A now.list left ≡ with_replay A start.list all
   pub rest : now ≡ record start { list = now.list; waiting = now.waiting }
-
--- at first all are left
-pub replaying_first : (A : Arena ℕ) (start : Board) (all : List (Entry ℕ)) → AreCandidates A start.list all → IsReplaying A start start all all
-replaying_first A start all are = record { candidates = are; list = refl; rest = refl }
 
 -- where what waits has changed alone
 pub replaying_still : (A : Arena ℕ) (start now next : Board) (all left : List (Entry ℕ)) → IsReplaying A start now all left → next ≡ record now { waiting = next.waiting } → IsReplaying A start next all left

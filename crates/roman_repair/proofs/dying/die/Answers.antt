@@ -2,7 +2,6 @@ use Rattle.std.proofs.Common.{sym, ap, ◌∙◌, subst, remove}
 use Rattle.roman_model.specs.System.{Sys}
 use Rattle.roman_model.specs.Change.{Die}
 use Rattle.roman_model.specs.Numbers.{numbered}
-use Rattle.roman_model.proofs.NumberedChanges.{NumbersReplay}
 use Rattle.roman_joint.specs.NamedSys.{system_of}
 use Rattle.roman_joint.specs.Rows.{lanes_in}
 use Rattle.roman_relation.specs.Shaped.{IsShaped}
@@ -18,7 +17,7 @@ settle_on-requires g c =
     let old = c.args.relation.now.order in
     let new = c.rename_list.new.order in
     let (seat, seated) = seat_there n c.args.k c.requires.seat in
-    let replays : NumbersReplay (Die c.args.k seat) (system_of n) old.list = relation_replays (Die c.args.k seat) n old c.known.ensures c.requires.relation c.known-2.ensures.in_range seated in
+    let replays = relation_replays (Die c.args.k seat) n old c.known.ensures c.requires.relation c.known-2.ensures.in_range seated in
     whole_begun (Die c.args.k seat) n c.drop_seat.new.self (remove n.seats c.args.k) old new replays tt c.requires.relation.caps c.drop_seat.ensures.seats (c.drop_seat.ensures.system seat)
     (c.rename_list.ensures.list seat seated)
     (subst (λ (t : Sys). IsShaped (numbered t) (lanes_in t) new) (sym (c.drop_seat.ensures.system seat)) (left_shaped (system_of n) c.args.k new c.rename_list.ensures.pairs c.rename_list.ensures.lanes))
@@ -30,7 +29,7 @@ returns-clause-repaired g c seat seated =
     let old = c.args.relation.now.order in
     let new = c.rename_list.new.order in
     let last = c.settle_on in
-    let replays : NumbersReplay (Die c.args.k seat) (system_of n) old.list = relation_replays (Die c.args.k seat) n old c.known.ensures c.requires.relation c.known-2.ensures.in_range seated in
+    let replays = relation_replays (Die c.args.k seat) n old c.known.ensures c.requires.relation c.known-2.ensures.in_range seated in
     repaired_from (Die c.args.k seat) n old new.list last.new.relation.joint last.new.relation.order last.result replays
     (whole_replay (Die c.args.k seat) (system_of n) old.list new.list replays tt (c.rename_list.ensures.list seat seated)) (ap system_of last.ensures.joint ∙ c.drop_seat.ensures.system seat)
     last.ensures.relation last.ensures.begins last.ensures.kept last.ensures.added

@@ -1,4 +1,4 @@
-use Rattle.std.proofs.Common.{◌≡◌, flat_map, ap, ◌∙◌}
+use Rattle.std.proofs.Common.{flat_map, ap, ◌∙◌}
 use Rattle.roman_model.specs.System.{Seat}
 use Rattle.roman_model.specs.Change.{Join}
 use Rattle.roman_joint.specs.NamedSys.{system_of, seat_of}

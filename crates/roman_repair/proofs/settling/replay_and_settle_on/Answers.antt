@@ -1,10 +1,10 @@
-use Rattle.std.proofs.Common.{◌≡◌, ◌≤◌, [], length, sym, ap, ◌∙◌, subst, arith}
+use Rattle.std.proofs.Common.{◌≡◌, [], length, sym, ap, ◌∙◌, subst, arith, rules}
 use Rattle.roman_model.specs.Arena.{replay, readings}
 use Rattle.roman_joint.specs.NamedSys.{NamedSys}
 use Rattle.roman_joint.proofs.ArenaFacts.{joint_numbered}
 use Rattle.roman_relation.specs.Settled.{Begins}
 use Rattle.roman_relation.specs.Greatest.{arena_of}
-use Rattle.roman_repair.specs.Replays.{AreCandidates, candidates, with_replay, readings_of_entries}
+use Rattle.roman_repair.specs.Replays.{AreCandidates, candidates, with_replay}
 use Rattle.roman_repair.proofs.Keeping.{candidates_readings}
 use Rattle.roman_repair.proofs.Repairing.{replayed_begun}
 use Rattle.roman_repair.proofs.settling.replay_and_settle_on.Goals as goal
@@ -19,24 +19,18 @@ pub settle_on-requires : goal.settle_on-requires
 settle_on-requires g c =
     replayed_begun c.args.relation.now.joint c.args.states c.args.relation.now.order c.replay.new.order c.requires c.replay.ensures.list c.replay.ensures.rest
 
-pub returns-clause-begins : goal.returns-clause-begins
-returns-clause-begins g c =
+pub returns : goal.returns
+returns g c =
     let n = c.args.relation.now.joint in
-    let old = c.args.relation.now.order in
-    let list : c.replay.new.order.list ≡ replay (arena_of n) (candidates c.args.states old) = c.replay.ensures.list ∙ ap (λ K. with_replay (arena_of n) K (candidates c.args.states old)) c.requires.empty in
-    subst (λ L. Begins L c.settle_on.new.relation.order.list) list c.settle_on.ensures.begins
-
-pub returns-clause-kept : goal.returns-clause-kept
-returns-clause-kept g c =
-    let n = c.args.relation.now.joint in
-    let old = c.args.relation.now.order in
-    let list : c.replay.new.order.list ≡ replay (arena_of n) (candidates c.args.states old) = c.replay.ensures.list ∙ ap (λ K. with_replay (arena_of n) K (candidates c.args.states old)) c.requires.empty in
-    c.settle_on.ensures.kept ∙ ap length list
-
-pub returns-clause-cost : goal.returns-clause-cost
-returns-clause-cost g c =
-    let n = c.args.relation.now.joint in
-    let old = c.args.relation.now.order in
-    let few : readings_of_entries (arena_of n) (candidates c.args.states old) ≤ readings (arena_of n) = candidates_readings (arena_of n) [] (candidates c.args.states old) (joint_numbered n c.known.ensures) c.requires.may in
-    let same : readings (arena_of c.settle_on.new.relation.joint) ≡ readings (arena_of n) = ap (λ (m : NamedSys). readings (arena_of m)) c.settle_on.ensures.joint in
-    omega (arith, few, same, c.replay.ensures.cost, c.settle_on.ensures.cost)
+    let those = candidates c.args.states c.args.relation.now.order in
+    let list : c.replay.new.order.list ≡ replay (arena_of n) those = c.replay.ensures.list ∙ ap (λ K. with_replay (arena_of n) K those) c.requires.empty in
+    let few = candidates_readings (arena_of n) [] those (joint_numbered n c.known.ensures) c.requires.may in
+    let same = ap (λ (m : NamedSys). readings (arena_of m)) c.settle_on.ensures.joint in
+    record {
+      joint = search rules;
+      relation = c.settle_on.ensures.relation;
+      begins = subst (λ L. Begins L c.settle_on.new.relation.order.list) list c.settle_on.ensures.begins;
+      kept = c.settle_on.ensures.kept ∙ ap length list;
+      added = c.settle_on.ensures.added;
+      cost = omega (arith, few, same, c.replay.ensures.cost, c.settle_on.ensures.cost);
+    }

@@ -1,4 +1,4 @@
-use Rattle.std.proofs.Common.{◌≡◌, ◌<◌, false, flat_map, length, ap, ◌∙◌, arith}
+use Rattle.std.proofs.Common.{◌<◌, false, flat_map, length, ap, ◌∙◌, arith}
 use Rattle.std.proofs.lemmas.List.{length-map}
 use Rattle.roman_model.specs.Change.{Thaw}
 use Rattle.roman_joint.specs.NamedSys.{system_of, seat_of}
