@@ -1,8 +1,8 @@
 -- Lists of entries that begin with others.
-use Rattle.std.proofs.Common.{◌≡◌, ℕ, ◌<◌, ◌≤◌, ◌==◌, List, [], ◌∷◌, ◌++◌, length, take, drop, get_or, IsTrue, IsFalse, sym, ap, ◌∙◌, subst, arith, take-append-drop}
+use Rattle.std.proofs.Common.{◌≡◌, ℕ, ◌<◌, ◌≤◌, ◌==◌, List, length, take, drop, get_or, IsTrue, IsFalse, sym, ap, ◌∙◌, subst, arith, take-append-drop}
 use Rattle.std.proofs.Math.Seq.{take-length}
 use Rattle.std.proofs.lemmas.Bool.{both_ways, or_left, false_from_ne_true}
-use Rattle.std.proofs.lemmas.List.{take-take, take-append-le, length-take, get_or-take}
+use Rattle.std.proofs.lemmas.List.{take-take, length-take, get_or-take}
 use Rattle.roman_model.specs.Arena.{Arena, Entry, is_listed}
 use Rattle.roman_model.proofs.Lists.{any_same}
 use Rattle.roman_model.proofs.ArenaLemmas.{listed_append}
@@ -19,9 +19,6 @@ begins_length L M b = let same : length (take (length L) M) ≡ length L = ap le
 
 pub begins_itself : (L : List (Entry ℕ)) → Begins L L
 begins_itself L = take-length L
-
-pub begins_push : (L M : List (Entry ℕ)) (x : Entry ℕ) → Begins L M → Begins L (M ++ x ∷ [])
-begins_push L M x b = take-append-le (length L) M (x ∷ []) (begins_length L M b) ∙ b
 
 -- what a list begins with begins with the same as it
 pub begins_same : (L M : List (Entry ℕ)) (i : ℕ) → Begins L M → i ≤ length L → take i M ≡ take i L

@@ -1,5 +1,5 @@
 -- Orders that go on from others.
-use Rattle.std.proofs.Common.{◌≡◌, ℕ, ◌+◌, ◌*◌, ◌≤◌, List, [], ◌∷◌, ◌++◌, length, take, drop, refl, sym, ap, ap₂, ◌∙◌, subst, arith, take-append-drop}
+use Rattle.std.proofs.Common.{◌≡◌, ℕ, ◌+◌, ◌*◌, ◌≤◌, List, ◌++◌, length, take, drop, refl, sym, ap, ap₂, ◌∙◌, subst, take-append-drop}
 use Rattle.std.proofs.Math.Seq.{take-append_seam, take-length}
 use Rattle.std.proofs.lemmas.List.{take-append-le}
 use Rattle.roman_model.specs.Arena.{Arena, Entry, IsOrder, fall}
@@ -41,9 +41,6 @@ front_kept start L M l = take-append-le start L M l
 pub goes_on_added : (A : Arena ℕ) (b c : Board) (M : List (Entry ℕ)) → IsOrder A (b.list ++ M) → c ≡ record b { list = b.list ++ M } → SettlesOn A b c
 goes_on_added A b c M order e = subst (λ (d : Board). SettlesOn A b d) (sym e) (record { valid = order; begins = begins_append b.list M; rest = refl })
 
-pub begins_added : (b c : Board) (M : List (Entry ℕ)) → c ≡ record b { list = b.list ++ M } → Begins b.list c.list
-begins_added b c M e = subst (λ (d : Board). Begins b.list d.list) (sym e) (begins_append b.list M)
-
 -- a longer list is a fall of more
 pub fall_added : (A : Arena ℕ) (L M : List (Entry ℕ)) → Begins L M → fall A M ≡ fall A L + fall A (drop (length L) M)
 fall_added A L M b =
@@ -57,7 +54,3 @@ same_list L M b e = sym (take-length M) ∙ (ap (λ n. take n M) e ∙ b)
 pub rest_from : (b c : Board) → SameFrame b c → c ≡ record b { list = c.list; marks = c.marks; before = c.before; levels = c.levels }
 rest_from b c (room, rows, lanes, waiting) =
     λ i. record { cap_pairs = room i; rows = rows i; lanes = lanes i; list = c.list; waiting = waiting i; marks = c.marks; before = c.before; levels = c.levels }
-
-pub no_entries : (L : List (Entry ℕ)) → length L ≡ 0 → L ≡ []
-no_entries [] e = refl
-no_entries (x ∷ L) e = absurd (omega arith)

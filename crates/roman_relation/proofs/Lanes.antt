@@ -1,6 +1,6 @@
 -- Pairs as lanes of rows.
 use Rattle.std.proofs.Common.{◌≡◌, ℕ, ◌+◌, ◌*◌, ◌/◌, ◌%◌, ◌<◌, Bool, not, List, length, slice_index, sym, ap, ap₂, ◌∙◌, subst, arith}
-use Rattle.std.proofs.lemmas.Nat.{same_from_place, div-add-mod', div_below, mod_below, mul-le}
+use Rattle.std.proofs.lemmas.Nat.{same_from_place, div-add-mod', div_below, mod_below}
 use Rattle.roman_model.specs.Arena.{Arena, Entry, is_listed}
 use Rattle.roman_lanes.specs.Rows.{is_on, HasLanes, AreRows}
 use Rattle.roman_rules.specs.Numbered.{IsNumbered}
@@ -41,20 +41,14 @@ pub at_pair : (lanes : ℕ) (test : ℕ → Bool) (words : List ℕ) (p : ℕ) �
 at_pair lanes test words p some l are =
     (are.each (p / lanes) (row_of lanes (length words) p some l)).each (p % lanes) (mod_below p lanes some) ∙ ap test (div-add-mod' p lanes)
 
--- what holds at each lane of each row holds at each pair
-pub each_pair : (lanes rows p : ℕ) (P : ℕ → Type 0) → 0 < lanes → p < rows * lanes → ((row lane : ℕ) → row < rows → lane < lanes → P (row * lanes + lane)) → P p
-each_pair lanes rows p P some l h = subst P (div-add-mod' p lanes) (h (p / lanes) (p % lanes) (row_of lanes rows p some l) (mod_below p lanes some))
-
--- the first pair of a row is a pair
-pub row_within : (lanes rows row : ℕ) → 0 < lanes → row < rows → row * lanes < rows * lanes
-row_within lanes rows row some l = let h = mul-le (row + 1) lanes rows lanes (omega arith) (omega arith) in omega (arith, h)
-
 -- the words tell which pairs aren't listed
-pub words_rows : (A : Arena ℕ) → IsNumbered A → (lanes : ℕ) (b : Board) (words : List ℕ) → IsShaped A lanes b → AreRows b.lanes (λ p. not (has_entry b.list p)) words → AreUnlisted A lanes b.list words
+pub words_rows : (A : Arena ℕ) → IsNumbered A → (lanes : ℕ) (b : Board) (words : List ℕ) → IsShaped A lanes b →
+    AreRows b.lanes (λ p. not (has_entry b.list p)) words → AreUnlisted A lanes b.list words
 words_rows A ok lanes b words shaped are = unlisted_rows A ok lanes b.list words (subst (λ n. AreRows n (λ p. not (has_entry b.list p)) words) shaped.lanes are)
 
 -- the word of a row tells which of its pairs aren't listed
-pub words_row : (A : Arena ℕ) → IsNumbered A → (lanes row : ℕ) (b : Board) (words : List ℕ) → IsShaped A lanes b → length words ≡ b.rows → row < b.rows → AreRows b.lanes (λ p. not (has_entry b.list p)) words →
+pub words_row : (A : Arena ℕ) → IsNumbered A → (lanes row : ℕ) (b : Board) (words : List ℕ) → IsShaped A lanes b → length words ≡ b.rows →
+    row < b.rows → AreRows b.lanes (λ p. not (has_entry b.list p)) words →
     HasLanes lanes row (λ p. not (is_listed A b.list p)) (slice_index words row)
 words_row A ok lanes row b words shaped long inside are = (words_rows A ok lanes b words shaped are).each row (omega arith)
 

@@ -1,7 +1,7 @@
 -- Marks that are taken off one by one, and rows that are noted.
 use Rattle.std.proofs.Common.{◌≡◌, ◌≢◌, ℕ, zero, suc, ◌+◌, ◌*◌, ◌/◌, ◌%◌, ◌<◌, ◌==◌, Bool, true, false, cond, not, List, [], ◌∷◌, ◌++◌, length, take, Some, slice_get, slice_index, IsTrue, inl, inr, refl, sym, ap, ◌∙◌, subst, arith}
 use Rattle.std.specs.Prelude.{count_by}
-use Rattle.std.proofs.lemmas.Bool.{cases_eq, cases_lt, both_ways, cond-true, cond-false, not_from_true, not_from_false, not-true, false_from_ne_true, or_cases, eqb-true}
+use Rattle.std.proofs.lemmas.Bool.{cases_eq, cases_lt, both_ways, not_from_true, not_from_false, not-true, false_from_ne_true, or_cases, eqb-true}
 use Rattle.std.proofs.lemmas.List.Sums.{sum_by_push}
 use Rattle.std.proofs.lemmas.List.{get_or_past, take_more}
 use Rattle.std.proofs.lemmas.Option.{get_or_from_slice_get, slice_get_within}
@@ -10,7 +10,7 @@ use Rattle.std.proofs.lemmas.Nat.Bits.{bit_at-zero}
 use Rattle.std.specs.Int.{bit_at}
 use Rattle.roman_model.specs.Lists.{IsIn, below}
 use Rattle.roman_model.specs.Arena.{Arena, Entry, is_listed, back, fall}
-use Rattle.roman_model.proofs.Lists.{by_test, contains_in}
+use Rattle.roman_model.proofs.Lists.{by_test, contains_in, from_below, sum_by_same}
 use Rattle.roman_model.proofs.ArenaLemmas.{in_listed, listed_push}
 use Rattle.roman_model.proofs.WorkLemmas.{fall_push}
 use Rattle.roman_lanes.specs.Rows.{is_on, HasLanes}
@@ -24,33 +24,19 @@ use Rattle.roman_relation.proofs.Beginnings.{listed_is, take_listed}
 
 -- ---- fewer marks
 
-one_if : Bool → ℕ
-one_if b = cond b 1 0
-
 count_same : (f h : ℕ → Bool) (n : ℕ) → ((q : ℕ) → q < n → h q ≡ f q) → count_by h (below n) ≡ count_by f (below n)
-unfolding one_if
-count_same f h zero same = refl
-count_same f h (suc n) same =
-    let one = sum_by_push (λ q. cond (f q) 1 0) (below n) n in
-    let two = sum_by_push (λ q. cond (h q) 1 0) (below n) n in
-    let last : cond (h n) 1 0 ≡ cond (f n) 1 0 = ap one_if (same n (omega arith)) in
-    omega (arith, one, two, last, count_same f h n (λ q l. same q (omega arith)))
+count_same f h n same = sum_by_same (λ q. cond (h q) 1 0) (λ q. cond (f q) 1 0) (below n) (λ q i. rw (same q (from_below n q i)) refl)
 
 -- one that no longer passes
 pub count_falls : (f h : ℕ → Bool) (n p : ℕ) → p < n → f p ≡ true → h p ≡ false → ((q : ℕ) → q ≢ p → h q ≡ f q) → count_by h (below n) < count_by f (below n)
-unfolding one_if
 count_falls f h zero p l on off same = absurd (omega arith)
 count_falls f h (suc n) p l on off same =
     let one = sum_by_push (λ q. cond (f q) 1 0) (below n) n in
     let two = sum_by_push (λ q. cond (h q) 1 0) (below n) n in
-    elim (cases_eq p n) [
-      | inl e ↦
-          let now : cond (f n) 1 0 ≡ 1 = ap (λ q. one_if (f q)) (sym e) ∙ cond-true (f p) 1 0 on in
-          let then : cond (h n) 1 0 ≡ 0 = ap (λ q. one_if (h q)) (sym e) ∙ cond-false (h p) 1 0 off in
-          omega (arith, one, two, now, then, count_same f h n (λ q m. same q (λ s. omega arith)))
-      | inr ne ↦
-          let last : cond (h n) 1 0 ≡ cond (f n) 1 0 = ap one_if (same n (λ e. ne (sym e))) in
-          omega (arith, one, two, last, count_falls f h n p (omega arith) on off same)
+    let as_number : Bool → ℕ = λ b. cond b 1 0 in
+    elim (cases_eq n p) [
+      | inl e ↦ omega (arith, one, two, ap as_number (ap f e ∙ on), ap as_number (ap h e ∙ off), count_same f h n (λ q m. same q (λ s. omega arith)))
+      | inr ne ↦ omega (arith, one, two, ap as_number (same n ne), count_falls f h n p (omega arith) on off same)
     ]
 
 -- what is marked has a place in the words
@@ -87,7 +73,8 @@ noted_own A lanes row b c p is e =
 pub noted_other : (A : Arena ℕ) (lanes row : ℕ) (b c : Board) (p : ℕ) → IsNoted A lanes row b c → p / lanes ≢ row → on_at lanes c.before p ≡ on_at lanes b.before p
 noted_other A lanes row b c p is ne = ap (λ w. is_on w (p % lanes)) (is.others (p / lanes) ne)
 
-pub noted_marking : (A : Arena ℕ) (lanes row start end : ℕ) (b c : Board) → IsNoted A lanes row b c → IsMarking A lanes start end b → IsMarking A lanes start end c
+pub noted_marking : (A : Arena ℕ) (lanes row start end : ℕ) (b c : Board) → IsNoted A lanes row b c → IsMarking A lanes start end b →
+    IsMarking A lanes start end c
 noted_marking A lanes row start end b c is marking = subst (IsMarking A lanes start end) (sym (ap (λ L. record c { list = L }) is.same)) (record {
   old = λ p l on. elim (cases_eq (p / lanes) row) [
     | inl e ↦ false_from_ne_true (is_listed A (take start b.list) p)
@@ -110,7 +97,8 @@ noted_marking A lanes row start end b c is marking = subst (IsMarking A lanes st
       (λ on. elim (cases_eq (q / lanes) row) [
         | inl e ↦
             let place : row * lanes + q % lanes ≡ q = ap (λ x. x * lanes + q % lanes) (sym e) ∙ div-add-mod' q lanes in
-            is.marked (q % lanes) p a k (mod_below q lanes is.some) (ap (λ x. is_on (slice_index b.before x) (q % lanes)) (sym e) ∙ on) (subst (λ r. IsTrue (is_listed A b.list r)) (sym place) t) l
+            is.marked (q % lanes) p a k (mod_below q lanes is.some) (ap (λ x. is_on (slice_index b.before x) (q % lanes)) (sym e) ∙ on)
+                (subst (λ r. IsTrue (is_listed A b.list r)) (sym place) t) l
             (subst (λ r. IsIn r (A.outcomes p a k)) (sym place) i)
         | inr ne ↦ absurd (both_ways (on_at lanes b.before q) (sym (noted_other A lanes row b c q is ne) ∙ off) on)
       ])
@@ -138,7 +126,8 @@ pub entry_listed : (A : Arena ℕ) → IsNumbered A → (L : List (Entry ℕ)) (
 entry_listed A ok L i x e = in_listed A (numbered_same A ok) L x (contains_in L x (i, slice_get_within L i x e, get_or_from_slice_get L i x x e))
 
 -- and a pair of the order
-pub entry_within : (A : Arena ℕ) → IsNumbered A → (lanes i : ℕ) (b d : Board) (x : Entry ℕ) → IsShaped A lanes b → ((p : ℕ) → has_entry b.list p ≡ true → p < pairs_of b) → d.list ≡ b.list → slice_get d.list i ≡ Some x →
+pub entry_within : (A : Arena ℕ) → IsNumbered A → (lanes i : ℕ) (b d : Board) (x : Entry ℕ) → IsShaped A lanes b →
+    ((p : ℕ) → has_entry b.list p ≡ true → p < pairs_of b) → d.list ≡ b.list → slice_get d.list i ≡ Some x →
     x.node < length A.nodes
 entry_within A ok lanes i b d x shaped in_range same e =
     omega (arith, in_range x.node (sym (ap (λ L. has_entry L x.node) same) ∙ (sym (listed_is A ok d.list x.node) ∙ entry_listed A ok d.list i x e)), shaped.pairs)

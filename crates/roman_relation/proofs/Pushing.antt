@@ -8,7 +8,7 @@ use Rattle.roman_model.specs.Arena.{Arena, Entry, is_listed, is_justified, IsOrd
 use Rattle.roman_model.specs.declared.reason.Reason.{Reason}
 use Rattle.roman_model.specs.declared.reason.Reason.TheVariants.{Final, Act}
 use Rattle.roman_model.proofs.Lists.{from_map, any_from, in_below}
-use Rattle.roman_model.proofs.ArenaLemmas.{listed_append, listed_push, listed_in, justified_more, unallowed_unjustified}
+use Rattle.roman_model.proofs.ArenaLemmas.{listed_append, listed_push, listed_in, justified_more}
 use Rattle.roman_model.proofs.OrderLemmas.{order_push}
 use Rattle.roman_lanes.specs.Rows.{is_on, HasLanes, AreRows}
 use Rattle.roman_lanes.proofs.RowBits.{on_and}
@@ -65,7 +65,8 @@ pub record IsLost (A : Arena ℕ) (gone : ℕ → Bool) (L : List (Entry ℕ)) (
   pub within : (lane : ℕ) → is_on lost lane ≡ true → lane < lanes
   pub is : (lane : ℕ) → lane < lanes → is_on lost lane ≡ (not (is_listed A L (row * lanes + lane)) && is_justified A gone (row * lanes + lane) reason)
 
-lost_parts : (A : Arena ℕ) (gone : ℕ → Bool) (L : List (Entry ℕ)) (lanes row : ℕ) (reason : Reason) (lost lane : ℕ) → IsLost A gone L lanes row reason lost → is_on lost lane ≡ true →
+lost_parts : (A : Arena ℕ) (gone : ℕ → Bool) (L : List (Entry ℕ)) (lanes row : ℕ) (reason : Reason) (lost lane : ℕ) →
+    IsLost A gone L lanes row reason lost → is_on lost lane ≡ true →
     IsFalse (is_listed A L (row * lanes + lane)) × IsTrue (is_justified A gone (row * lanes + lane) reason)
 lost_parts A gone L lanes row reason lost lane is on =
     let p = row * lanes + lane in
@@ -73,18 +74,22 @@ lost_parts A gone L lanes row reason lost lane is on =
     (not-true (is_listed A L p) new, holds)
 
 -- they aren't listed yet
-pub lost_free : (A : Arena ℕ) → IsNumbered A → (gone : ℕ → Bool) (b : Board) (lanes row : ℕ) (reason : Reason) (lost lane : ℕ) → b.lanes ≡ lanes → IsLost A gone b.list lanes row reason lost → is_on lost lane ≡ true →
+pub lost_free : (A : Arena ℕ) → IsNumbered A → (gone : ℕ → Bool) (b : Board) (lanes row : ℕ) (reason : Reason) (lost lane : ℕ) → b.lanes ≡ lanes →
+    IsLost A gone b.list lanes row reason lost → is_on lost lane ≡ true →
     has_entry b.list (row * b.lanes + lane) ≡ false
 lost_free A ok gone b lanes row reason lost lane same is on =
     ap (λ m. has_entry b.list (row * m + lane)) same ∙ (sym (listed_is A ok b.list (row * lanes + lane)) ∙ (lost_parts A gone b.list lanes row reason lost lane is on).0)
 
-pub lost_order : (A : Arena ℕ) → IsNumbered A → (gone : ℕ → Bool) (L : List (Entry ℕ)) (lanes row : ℕ) (reason : Reason) (lost : ℕ) → IsLost A gone L lanes row reason lost → ((q : ℕ) → IsTrue (gone q) → IsTrue (is_listed A L q)) →
+pub lost_order : (A : Arena ℕ) → IsNumbered A → (gone : ℕ → Bool) (L : List (Entry ℕ)) (lanes row : ℕ) (reason : Reason) (lost : ℕ) →
+    IsLost A gone L lanes row reason lost → ((q : ℕ) → IsTrue (gone q) → IsTrue (is_listed A L q)) →
     IsOrder A L → IsOrder A (L ++ entries_in lanes row lost reason)
 lost_order A ok gone L lanes row reason lost is less order =
-    order_lanes A ok gone (row * lanes) reason L (set_lanes lost) order (lanes_once lost) less (λ lane i. lost_parts A gone L lanes row reason lost lane is (in_lanes lost lane i).1)
+    order_lanes A ok gone (row * lanes) reason L (set_lanes lost) order (lanes_once lost) less
+    (λ lane i. lost_parts A gone L lanes row reason lost lane is (in_lanes lost lane i).1)
 
 -- where a pair of the row is still left, the reason doesn't hold
-pub lost_left : (A : Arena ℕ) → IsNumbered A → (gone : ℕ → Bool) (L : List (Entry ℕ)) (lanes row : ℕ) (reason : Reason) (lost lane : ℕ) → IsLost A gone L lanes row reason lost → lane < lanes →
+pub lost_left : (A : Arena ℕ) → IsNumbered A → (gone : ℕ → Bool) (L : List (Entry ℕ)) (lanes row : ℕ) (reason : Reason) (lost lane : ℕ) →
+    IsLost A gone L lanes row reason lost → lane < lanes →
     IsFalse (is_listed A (L ++ entries_in lanes row lost reason) (row * lanes + lane)) → IsFalse (is_justified A gone (row * lanes + lane) reason)
 lost_left A ok gone L lanes row reason lost lane is l off =
     let p = row * lanes + lane in
@@ -94,7 +99,8 @@ lost_left A ok gone L lanes row reason lost lane is l off =
     (λ t. both_ways (is_on lost lane) parts.1 (is.is lane l ∙ and_from (not (is_listed A L p)) (is_justified A gone p reason) (not_from_false (is_listed A L p) parts.0) t))
 
 -- a pair that is listed then was listed, or the reason holds there
-pub lost_because : (A : Arena ℕ) → IsNumbered A → (gone : ℕ → Bool) (L : List (Entry ℕ)) (lanes row : ℕ) (reason : Reason) (lost q : ℕ) → IsLost A gone L lanes row reason lost →
+pub lost_because : (A : Arena ℕ) → IsNumbered A → (gone : ℕ → Bool) (L : List (Entry ℕ)) (lanes row : ℕ) (reason : Reason) (lost q : ℕ) →
+    IsLost A gone L lanes row reason lost →
     IsTrue (is_listed A (L ++ entries_in lanes row lost reason) q) → IsTrue (is_listed A L q) ⊎ IsTrue (is_justified A gone q reason)
 lost_because A ok gone L lanes row reason lost q is t =
     elim (or_cases (is_listed A L q) (is_listed A (entries_in lanes row lost reason) q) (sym (listed_append A L (entries_in lanes row lost reason) q) ∙ t)) [
@@ -105,8 +111,10 @@ lost_because A ok gone L lanes row reason lost q is t =
     ]
 
 -- by the word of the row and what is found of it
-lost_word : (A : Arena ℕ) (gone : ℕ → Bool) (L : List (Entry ℕ)) (lanes row : ℕ) (reason : Reason) (lost word : ℕ) → lanes ≤ 64 → HasLanes lanes row (λ p. not (is_listed A L p)) word →
-    ((lane : ℕ) → lane < lanes → is_on lost lane ≡ (is_on word lane && is_justified A gone (row * lanes + lane) reason)) → ((lane : ℕ) → is_on word lane ≡ false → is_on lost lane ≡ false) →
+lost_word : (A : Arena ℕ) (gone : ℕ → Bool) (L : List (Entry ℕ)) (lanes row : ℕ) (reason : Reason) (lost word : ℕ) → lanes ≤ 64 →
+    HasLanes lanes row (λ p. not (is_listed A L p)) word →
+    ((lane : ℕ) → lane < lanes → is_on lost lane ≡ (is_on word lane && is_justified A gone (row * lanes + lane) reason)) →
+    ((lane : ℕ) → is_on word lane ≡ false → is_on lost lane ≡ false) →
     IsLost A gone L lanes row reason lost
 lost_word A gone L lanes row reason lost word few left is none = record {
   few = few;
@@ -114,28 +122,35 @@ lost_word A gone L lanes row reason lost word few left is none = record {
   is = λ lane l. is lane l ∙ ap (λ b. b && is_justified A gone (row * lanes + lane) reason) (left.each lane l);
 }
 
-pub lost_unfine : (A : Arena ℕ) → IsNumbered A → (lanes row bits : ℕ) (b : Board) (words : List ℕ) → IsShaped A lanes b → length words ≡ b.rows → row < b.rows → b.lanes ≤ 64 → AreRows b.lanes (λ p. not (has_entry b.list p)) words →
+pub lost_unfine : (A : Arena ℕ) → IsNumbered A → (lanes row bits : ℕ) (b : Board) (words : List ℕ) → IsShaped A lanes b → length words ≡ b.rows →
+    row < b.rows → b.lanes ≤ 64 → AreRows b.lanes (λ p. not (has_entry b.list p)) words →
     HasLanes lanes row (λ p. not (A.fine p)) bits → IsLost A (is_listed A b.list) b.list lanes row Final (bit_and bits (slice_index words row))
 lost_unfine A ok lanes row bits b words shaped long inside few alive fails =
     let word = slice_index words row in
     let turned = λ (lane : ℕ). on_and bits word lane ∙ and_comm (is_on bits lane) (is_on word lane) in
-    lost_word A (is_listed A b.list) b.list lanes row Final (bit_and bits word) word (omega (arith, few, shaped.lanes)) (words_row A ok lanes row b words shaped long inside alive)
+    lost_word A (is_listed A b.list) b.list lanes row Final (bit_and bits word) word (omega (arith, few, shaped.lanes))
+    (words_row A ok lanes row b words shaped long inside alive)
     (λ lane l. turned lane ∙ ap (λ x. is_on word lane && x) (fails.each lane l))
     (λ lane off. turned lane ∙ ap (λ x. x && is_on bits lane) off)
 
-pub lost_action : (A : Arena ℕ) → IsNumbered A → (gone : ℕ → Bool) (lanes row a lost : ℕ) (b : Board) (words : List ℕ) → IsShaped A lanes b → length words ≡ b.rows → row < b.rows → b.lanes ≤ 64 →
-    AreRows b.lanes (λ p. not (has_entry b.list p)) words → ((lane : ℕ) → lane < lanes → is_on lost lane ≡ (is_on (slice_index words row) lane && is_justified A gone (row * lanes + lane) (Act a))) →
+pub lost_action : (A : Arena ℕ) → IsNumbered A → (gone : ℕ → Bool) (lanes row a lost : ℕ) (b : Board) (words : List ℕ) → IsShaped A lanes b →
+    length words ≡ b.rows → row < b.rows → b.lanes ≤ 64 →
+    AreRows b.lanes (λ p. not (has_entry b.list p)) words → ((lane : ℕ) → lane < lanes → is_on lost lane ≡
+    (is_on (slice_index words row) lane && is_justified A gone (row * lanes + lane) (Act a))) →
     ((lane : ℕ) → is_on (slice_index words row) lane ≡ false → is_on lost lane ≡ false) → IsLost A gone b.list lanes row (Act a) lost
 lost_action A ok gone lanes row a lost b words shaped long inside few alive is none =
-    lost_word A gone b.list lanes row (Act a) lost (slice_index words row) (omega (arith, few, shaped.lanes)) (words_row A ok lanes row b words shaped long inside alive) is none
+    lost_word A gone b.list lanes row (Act a) lost (slice_index words row) (omega (arith, few, shaped.lanes))
+    (words_row A ok lanes row b words shaped long inside alive) is none
 
 -- the order with their entries, by the lanes of the system
-pub pushed_as : (A : Arena ℕ) (lanes row lost : ℕ) (reason : Reason) (b c : Board) → IsShaped A lanes b → c ≡ record b { list = b.list ++ entries_in b.lanes row lost reason } → c ≡ record b { list = b.list ++ entries_in lanes row lost reason }
+pub pushed_as : (A : Arena ℕ) (lanes row lost : ℕ) (reason : Reason) (b c : Board) → IsShaped A lanes b →
+    c ≡ record b { list = b.list ++ entries_in b.lanes row lost reason } → c ≡ record b { list = b.list ++ entries_in lanes row lost reason }
 pushed_as A lanes row lost reason b c shaped e = e ∙ ap (λ m. record b { list = b.list ++ entries_in m row lost reason }) shaped.lanes
 
 -- ---- an action
 
-pub lost_round : (A : Arena ℕ) → IsNumbered A → (lanes start row a lost : ℕ) (b c : Board) → a < A.actions → IsLost A (is_listed A (take start b.list)) b.list lanes row (Act a) lost →
+pub lost_round : (A : Arena ℕ) → IsNumbered A → (lanes start row a lost : ℕ) (b c : Board) → a < A.actions →
+    IsLost A (is_listed A (take start b.list)) b.list lanes row (Act a) lost →
     c ≡ record b { list = b.list ++ entries_in lanes row lost (Act a) } → InRound A lanes start b → InRound A lanes start c
 lost_round A ok lanes start row a lost b c action is e round = subst (InRound A lanes start) (sym e) (record {
   valid = lost_order A ok (is_listed A (take start b.list)) b.list lanes row (Act a) lost is (λ q t. take_listed A start b.list q t) round.valid;
@@ -151,15 +166,12 @@ lost_round A ok lanes start row a lost b c action is e round = subst (InRound A 
     front : take start (b.list ++ entries_in lanes row lost (Act a)) ≡ take start b.list
     front = front_kept start b.list (entries_in lanes row lost (Act a)) round.begun
 
-pub lost_judged : (A : Arena ℕ) → IsNumbered A → (lanes start row a lost lane : ℕ) (b c : Board) → IsLost A (is_listed A (take start b.list)) b.list lanes row (Act a) lost →
+pub lost_judged : (A : Arena ℕ) → IsNumbered A → (lanes start row a lost lane : ℕ) (b c : Board) →
+    IsLost A (is_listed A (take start b.list)) b.list lanes row (Act a) lost →
     c ≡ record b { list = b.list ++ entries_in lanes row lost (Act a) } → start ≤ length b.list → lane < lanes → IsJudged A start c (row * lanes + lane) a
 lost_judged A ok lanes start row a lost lane b c is e begun l = subst (λ (d : Board). IsJudged A start d (row * lanes + lane) a) (sym e)
     (λ off. subst (λ L. IsFalse (is_justified A (is_listed A L) (row * lanes + lane) (Act a))) (sym (front_kept start b.list _ begun))
     (lost_left A ok (is_listed A (take start b.list)) b.list lanes row (Act a) lost lane is l off))
-
--- an action that isn't allowed is no reason
-pub judged_unallowed : (A : Arena ℕ) (start p a : ℕ) (b : Board) → IsFalse (A.allows p a) → IsJudged A start b p a
-judged_unallowed A start p a b refused off = unallowed_unjustified A (is_listed A (take start b.list)) p a refused
 
 -- what is judged stays judged
 pub judged_on : (A : Arena ℕ) (start p a : ℕ) (b c : Board) → start ≤ length b.list → Begins b.list c.list → IsJudged A start b p a → IsJudged A start c p a

@@ -1,5 +1,6 @@
 -- What a relation whose list is complete says of the greatest ND-simulation.
-use Rattle.std.proofs.Common.{◌≡◌, ◌≢◌, ℕ, ◌+◌, ◌/◌, ◌<◌, ◌≤◌, ◌↔◌, ◌⊎◌, Bool, true, false, not, List, [], ◌∷◌, length, filter, IsTrue, inl, inr, refl, sym, ap, ◌∙◌, subst, arith}
+use Rattle.std.proofs.Common.{◌≡◌, ◌≢◌, ℕ, ◌+◌, ◌/◌, ◌<◌, ◌≤◌, ◌↔◌, ◌⊎◌, Bool, true, not, List, [], ◌∷◌, length, filter, IsTrue, inl, inr, refl, sym, ap, ◌∙◌, subst, arith}
+use Rattle.std.proofs.Math.Bool.{not-not}
 use Rattle.std.proofs.Math.Nat.{le-div_iff_mul-le}
 use Rattle.roman_model.specs.Lists.{below}
 use Rattle.roman_model.specs.System.{Sys, pairs}
@@ -41,17 +42,13 @@ listed_numbers s board pairs in_range x i =
     let within : x.node < pairs_of board = in_range x.node (in_listed (numbered s) (numbered_is_same s) board.list x i) in
     omega (arith, pairs, length-below (count (sizes_of s)))
 
-not_twice : (b : Bool) → not (not b) ≡ b
-not_twice true = refl
-not_twice false = refl
-
 -- a pair that isn't listed is related, and no other
 pub alive_related : (n : NamedSys) (board : Board) (p : ℕ) (alive : Bool) → IsNamedSys n → HasCompleteList n board → AreNumbers (system_of n) board.list → p < count (sizes_of (system_of n)) →
     alive ≡ not (has_entry board.list p) → IsTrue alive ↔ Great (system_of n) (pair_at (sizes_of (system_of n)) p)
 alive_related n board p alive known complete are l is =
     let s = system_of n in
     let test : alive ≡ is_related s (pair_at (sizes_of s) p) =
-    is ∙ ap not (numbered_listed s board.list p known.system are complete.list l) ∙ not_twice (is_related s (pair_at (sizes_of s) p)) in (
+    is ∙ ap not (numbered_listed s board.list p known.system are complete.list l) ∙ not-not (is_related s (pair_at (sizes_of s) p)) in (
       λ t. related_great s (pair_at (sizes_of s) p) known.system ((numbers_are_pairs s).pair p l) (sym test ∙ t),
       λ great. test ∙ great_related s (pair_at (sizes_of s) p) known.system great,
     )

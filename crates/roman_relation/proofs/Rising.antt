@@ -58,8 +58,8 @@ rises_more A ok n L M begins order in_range old new rises = record {
 pub levels_first : (A : Arena ℕ) (L : List (Entry ℕ)) → HoldsLost A 0 L → AreLevels A ([] ++ length L ∷ []) L
 levels_first A L holds = record {
   some = omega arith;
-  within = λ n l. let none : n ≡ 0 = omega arith in subst (λ m. get_or (length L ∷ []) m 0 ≤ length L) (sym none) (omega arith);
-  each = λ n l. let none : n ≡ 0 = omega arith in subst (λ m. HoldsLost A m (take (get_or (length L ∷ []) m 0) L)) (sym none) (subst (HoldsLost A 0) (sym (take-length L)) holds);
+  within = λ n l. let none : n ≡ 0 = omega arith in rw none (omega arith);
+  each = λ n l. let none : n ≡ 0 = omega arith in rw (none, take-length L) holds;
   last = refl;
 }
 
@@ -67,19 +67,14 @@ pub levels_more : (A : Arena ℕ) (n : ℕ) (levels : List ℕ) (L M : List (Ent
 levels_more A n levels L M begins long holds are = record {
   some = omega (arith, more);
   within = λ m l. elim (cases_lt m (length levels)) [
-    | inl old ↦ subst (λ k. k ≤ length M) (sym (get_or_append_left levels (length M ∷ []) 0 m old)) (omega (arith, are.within m old, begins_length L M begins))
-    | inr new ↦ let here : m ≡ length levels = omega (arith, more) in subst (λ k. get_or (levels ++ length M ∷ []) k 0 ≤ length M) (sym here) (subst (λ k. k ≤ length M) (sym at_end) (omega arith))
+    | inl old ↦ rw (get_or_append_left levels (length M ∷ []) 0 m old) (omega (arith, are.within m old, begins_length L M begins))
+    | inr new ↦ let here : m ≡ length levels = omega (arith, more) in rw (here, at_end) (omega arith)
   ];
   each = λ m l. elim (cases_lt m (length levels)) [
-    | inl old ↦
-        subst (λ k. HoldsLost A m (take k M)) (sym (get_or_append_left levels (length M ∷ []) 0 m old))
-        (subst (HoldsLost A m) (sym (begins_same L M (get_or levels m 0) begins (are.within m old))) (are.each m old))
-    | inr new ↦
-        let here : m ≡ length levels = omega (arith, more) in
-        subst (λ k. HoldsLost A k (take (get_or (levels ++ length M ∷ []) k 0) M)) (sym here)
-        (subst (λ k. HoldsLost A (length levels) (take k M)) (sym at_end) (subst (HoldsLost A (length levels)) (sym (take-length M)) (subst (λ k. HoldsLost A k M) (sym long) holds)))
+    | inl old ↦ rw (get_or_append_left levels (length M ∷ []) 0 m old, begins_same L M (get_or levels m 0) begins (are.within m old)) (are.each m old)
+    | inr new ↦ let here : m ≡ length levels = omega (arith, more) in rw (here, at_end, take-length M) (subst (λ k. HoldsLost A k M) (sym long) holds)
   ];
-  last = let end : length (levels ++ length M ∷ []) - 1 ≡ length levels = omega (arith, more) in ap (λ k. get_or (levels ++ length M ∷ []) k 0) end ∙ at_end;
+  last = let end : length (levels ++ length M ∷ []) - 1 ≡ length levels = omega (arith, more) in rw (end, at_end) refl;
 }
   where
     more : length (levels ++ length M ∷ []) ≡ length levels + 1

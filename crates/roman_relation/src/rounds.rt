@@ -1,5 +1,5 @@
 //! Rounds that make a removal list complete.
-ghost use Rattle.std.specs.Prelude.{◌≡◌, ◌≢◌, ℕ, suc, ◌+◌, ◌<◌, ◌≤◌, [], ◌∷◌, ◌++◌, if◌then◌else◌};
+ghost use Rattle.std.specs.Prelude.{◌≡◌, ◌≢◌, ℕ, suc, true, false, ◌+◌, ◌<◌, ◌≤◌, [], ◌∷◌, ◌++◌};
 ghost use Rattle.std.specs.Prelude.{length, drop, IsTrue};
 ghost use Rattle.roman_model.specs.Arena.{IsOrder, fall};
 ghost use Rattle.roman_relation.specs.Shaped.{IsShaped};
@@ -99,9 +99,10 @@ pub fn settle_list<J: Rules, L: Ledger>(joint: &J, order: &mut Order, steps: &mu
 // Ends a level, where the levels are kept.
 fn end_level(order: &mut Order, is_kept: bool)
     requires { length order.old.levels ≤ order.old.cap_pairs }
-    ensures { order.new ≡ record order.old {
-      levels = (if is_kept then order.old.levels ++ length order.old.list ∷ [] else order.old.levels);
-    } }
+    ensures rest { order.new ≡ record order.old { levels = order.new.levels } }
+    ensures kept { is_kept ≡ true → order.new.levels ≡ order.old.levels ++ length order.old.list ∷ [] }
+    ensures left { is_kept ≡ false → order.new.levels ≡ order.old.levels }
+    ensures few { length order.new.levels ≤ length order.old.levels + 1 }
 {
     if is_kept {
         order.end_level();

@@ -28,7 +28,8 @@ returns-clause-ready g c =
     let before : d.before ≡ kept.before = ap (λ (y : Board). y.before) c.mark_front.ensures.rest in
     let words = words_rows A c.known.ensures n mid kept.before shaped c.keep_before.ensures.kept in
     record {
-      shaped = shaped_like A n mid d (subst (SameFrame mid) (sym c.mark_front.ensures.rest) (subst (SameFrame mid) (sym c.keep_before.ensures.rest) (refl, refl, refl, refl))) shaped;
+      shaped = shaped_like A n mid d (subst (SameFrame mid) (sym c.mark_front.ensures.rest)
+          (subst (SameFrame mid) (sym c.keep_before.ensures.rest) (refl, refl, refl, refl))) shaped;
       valid = subst (IsOrder A) (sym list) c.list_unfine.ensures.goes_on.valid;
       kept = subst (λ L. AreUnlisted A n L d.before) (sym list) (subst (AreUnlisted A n mid.list) (sym before) words);
       fine = λ p l off. c.list_unfine.ensures.fine p l (subst (λ L. IsFalse (is_listed A L p)) list off);

@@ -5,4 +5,5 @@ use Rattle.roman_relation.proofs.relation.Relation.choices.Goals as goal
 pub returns : goal.returns
 returns c complete =
     let relation = c.args.self.now in
-    choices_counted relation.joint relation.order c.choices.result c.known.ensures complete (listed_numbers (system_of relation.joint) relation.order c.requires.pairs c.known-2.ensures.in_range) c.choices.ensures
+    choices_counted relation.joint relation.order c.choices.result c.known.ensures complete
+    (listed_numbers (system_of relation.joint) relation.order c.requires.pairs c.known-2.ensures.in_range) c.choices.ensures

@@ -28,7 +28,8 @@ judge_if-requires g c =
     let A = g.J.Rules.arena c.args.joint.now in
     let n = g.J.Rules.lanes c.args.joint.now in
     let b = c.args.order.now in
-    let same : SameFrame b c.next_marked.new.self = subst (SameFrame b) (sym c.in-Some.ensures.rest) (subst (SameFrame b) (sym c.rows.invariant.rest) (refl, refl, refl, refl)) in
+    let same : SameFrame b c.next_marked.new.self = subst (SameFrame b) (sym c.in-Some.ensures.rest)
+    (subst (SameFrame b) (sym c.rows.invariant.rest) (refl, refl, refl, refl)) in
     let some : 0 < n = omega (arith, c.lanes.ensures.value, c.lanes.ensures.few.0) in
     record {
       shaped = shaped_like A n b c.next_marked.new.self same c.requires.shaped;

@@ -17,7 +17,8 @@ loop-i-preserved-then-p-first g c =
     let d = c.loop-i.order in
     let p = c.entry-p.result.0 in
     let listed = entry_listed A c.known.ensures d.list c.loop-i.i (as_entry c.entry-p.result) c.entry-p.ensures in
-    let pair = entry_within A c.known.ensures n c.loop-i.i b d (as_entry c.entry-p.result) c.requires.shaped c.len-i-end.ensures.in_range (ap (λ (y : Board). y.list) c.loop-i.invariant.rest) c.entry-p.ensures in
+    let pair = entry_within A c.known.ensures n c.loop-i.i b d (as_entry c.entry-p.result) c.requires.shaped c.len-i-end.ensures.in_range
+    (ap (λ (y : Board). y.list) c.loop-i.invariant.rest) c.entry-p.ensures in
     record {
       marking = noted_more A c.known.ensures n c.args.start c.loop-i.i d (as_entry c.entry-p.result) c.entry-p.ensures (c.loop-i.invariant.row p pair c.if-first-p.true (omega (arith, c.if-p-first.true, c.lanes-lanes.ensures.value)) listed) c.loop-i.invariant.marking;
       row = c.loop-i.invariant.row;
