@@ -1,22 +1,20 @@
 -- How many pairs aren't listed.
 use Rattle.std.proofs.Common.{◌≡◌, ℕ, zero, suc, ◌+◌, ◌<◌, ◌≤◌, Bool, true, false, cond, not, ◌||◌, eqb, List, [], ◌∷◌, length, refl, sym, ◌∙◌, inl, inr, arith}
 use Rattle.std.specs.Prelude.{count_by}
-use Rattle.std.specs.List.{IsDistinct}
-use Rattle.std.proofs.lemmas.Bool.{cases_lt, eq-eqb, ne_eqb, or_right}
+use Rattle.std.specs.List.{list_any, IsDistinct, AllByRecursion}
+use Rattle.std.proofs.lemmas.Bool.{cases_lt, eq-eqb, ne_eqb, or_right, or_from}
 use Rattle.std.proofs.lemmas.List.Sums.{sum_by_push}
-use Rattle.std.proofs.lemmas.Map.Keys.{IsDistinct-tail}
+use Rattle.std.proofs.lemmas.Map.Keys.{IsDistinct-head, IsDistinct-tail}
 use Rattle.roman_model.specs.Arena.{Entry}
 use Rattle.roman_model.specs.Lists.{below}
+use Rattle.roman_model.proofs.Lists.{from_below, sum_by_same}
 use Rattle.roman_order.specs.Board.{nodes_of, has_entry}
-use Rattle.roman_order.proofs.Distinct.{has_entry-rest}
+use Rattle.roman_order.proofs.Places.{has_entry-nodes}
 
 -- the numbers below n, one of which no longer passes
 count_by-but_past : (g : ℕ → Bool) (m n : ℕ) → n ≤ m → count_by (λ q. not (eqb q m || g q)) (below n) ≡ count_by (λ q. not (g q)) (below n)
-count_by-but_past g m zero h = refl
-count_by-but_past g m (suc n) h =
-    let off = ne_eqb n m (omega arith) in
-    sum_by_push (λ q. cond (not (eqb q m || g q)) 1 0) (below n) n
-    ∙ (rw (count_by-but_past g m n (omega arith), off) (sym (sum_by_push (λ q. cond (not (g q)) 1 0) (below n) n)))
+count_by-but_past g m n h =
+    sum_by_same (λ q. cond (not (eqb q m || g q)) 1 0) (λ q. cond (not (g q)) 1 0) (below n) (λ q i. rw (ne_eqb q m (omega (arith, from_below n q i))) refl)
 
 count_by-but : (g : ℕ → Bool) (m n : ℕ) → m < n → g m ≡ false → count_by (λ q. not (eqb q m || g q)) (below n) + 1 ≡ count_by (λ q. not (g q)) (below n)
 count_by-but g m zero h out = absurd (omega arith)
@@ -39,6 +37,14 @@ count_by-but g m (suc n) h out =
 count_by-all : (n : ℕ) → count_by (λ q. true) (below n) ≡ n
 count_by-all zero = refl
 count_by-all (suc n) = sum_by_push (λ q. 1) (below n) n ∙ (rw (count_by-all n) (omega arith))
+
+none_from_all : (test : ℕ → Bool) (xs : List ℕ) → AllByRecursion (λ y. test y ≡ false) xs → list_any test xs ≡ false
+none_from_all test [] h = refl
+none_from_all test (x ∷ xs) h = or_from (test x) (list_any test xs) h.0 (none_from_all test xs h.1)
+
+-- the pair of the first entry isn't listed again
+has_entry-rest : (x : Entry ℕ) (L : List (Entry ℕ)) → IsDistinct eqb (nodes_of (x ∷ L)) → has_entry L x.node ≡ false
+has_entry-rest x L apart = sym (has_entry-nodes L x.node) ∙ none_from_all (eqb x.node) (nodes_of L) (IsDistinct-head eqb x.node (nodes_of L) apart)
 
 -- the unlisted pairs and the entries are as many as all pairs
 pub count_by-unlisted : (n : ℕ) (L : List (Entry ℕ)) → IsDistinct eqb (nodes_of L) → ((p : ℕ) → has_entry L p ≡ true → p < n) → count_by (λ p. not (has_entry L p)) (below n) + length L ≡ n

@@ -3,6 +3,7 @@ use Rattle.std.proofs.Common.{◌≡◌, ◌≢◌, ℕ, zero, suc, ◌+◌, ◌
 use Rattle.std.specs.List.{list_any}
 use Rattle.std.specs.Int.{w64, bit_not}
 use Rattle.std.proofs.Math.ListN.{set}
+use Rattle.std.proofs.Math.Bool.{or-false}
 use Rattle.std.proofs.Math.Pow.{pow-lt}
 use Rattle.std.proofs.lemmas.Bool.{cases_eq, eq-eqb, ne_eqb, eqb-true, both_ways}
 use Rattle.std.proofs.lemmas.List.{length-set, get_or-set_same, get_or-set_other}
@@ -16,7 +17,6 @@ use Rattle.roman_model.proofs.Lists.{filter_below_more, list_any-map, any_true, 
 use Rattle.roman_lanes.specs.Rows.{is_on, HasLanes, AreRows}
 use Rattle.roman_lanes.proofs.RowBits.{on_and, on_less, on_zero, on_ones, on_ones_above, on_pow_same, on_pow_other}
 use Rattle.roman_order.specs.Board.{as_entry, set_lanes, entries_in, has_entry}
-use Rattle.roman_order.proofs.Places.{or_off}
 
 -- ---- the lanes of a word, the first apart
 
@@ -100,7 +100,8 @@ lanes_once word = HasNoRepeats-filter (is_on word) (below 64) (HasNoRepeats-belo
 has_entry-lanes : (L : List (Entry ℕ)) (first lost p : ℕ) (reason : Reason) →
     has_entry (L ++ map (λ l. as_entry (first + l, reason)) (set_lanes lost)) p ≡ (has_entry L p || list_any (λ l. eqb p (first + l)) (set_lanes lost))
 has_entry-lanes L first lost p reason =
-    list_any-append (λ (x : Entry ℕ). eqb p x.node) L _ ∙ ap (λ b. has_entry L p || b) (list_any-map (λ l. as_entry (first + l, reason)) (λ (x : Entry ℕ). eqb p x.node) (set_lanes lost))
+    list_any-append (λ (x : Entry ℕ). eqb p x.node) L _
+    ∙ ap (λ b. has_entry L p || b) (list_any-map (λ l. as_entry (first + l, reason)) (λ (x : Entry ℕ). eqb p x.node) (set_lanes lost))
 
 -- the pair at a lane of the row is listed where it was, or where its lane is one of them
 pub has_entry-lane : (L : List (Entry ℕ)) (first lost lane : ℕ) (reason : Reason) → lane < 64 →
@@ -121,7 +122,8 @@ has_entry-elsewhere : (L : List (Entry ℕ)) (first lost p : ℕ) (reason : Reas
     has_entry (L ++ map (λ l. as_entry (first + l, reason)) (set_lanes lost)) p ≡ has_entry L p
 has_entry-elsewhere L first lost p reason apart =
     has_entry-lanes L first lost p reason
-    ∙ or_off (has_entry L p) _ (none_from (λ l. eqb p (first + l)) (set_lanes lost) (λ l i. let (low, t) = in_lanes lost l i in ne_eqb p (first + l) (apart l low t)))
+    ∙ (ap (λ b. has_entry L p || b) (none_from (λ l. eqb p (first + l)) (set_lanes lost)
+    (λ l i. let (low, t) = in_lanes lost l i in ne_eqb p (first + l) (apart l low t))) ∙ or-false (has_entry L p))
 
 -- ---- the words of the pairs that aren't listed
 

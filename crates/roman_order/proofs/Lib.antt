@@ -1,10 +1,8 @@
-pub mod Blanks
 pub mod Words
 pub mod Lanes
 pub mod Places
 pub mod Pushes
 pub mod Stamps
 pub mod Counts
-pub mod Distinct
 pub mod Lent
 pub mod Tables

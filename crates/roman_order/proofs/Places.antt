@@ -1,6 +1,7 @@
 -- Lists of entries, one entry more.
 use Rattle.std.proofs.Common.{◌≡◌, ◌≢◌, ℕ, ◌+◌, ◌-◌, ◌^◌, ◌<◌, ◌≤◌, Bool, true, false, List, [], ◌∷◌, ◌++◌, length, Option, Some, None, refl, ap, sym, ◌∙◌, subst, inl, inr, arith, eqb, ◌||◌, is_some, unwrap_or}
 use Rattle.std.specs.List.{list_any, position_from, IsDistinct}
+use Rattle.std.proofs.Math.Bool.{or-false}
 use Rattle.std.proofs.lemmas.Bool.{cases_eq, cases_Bool, ne_eqb, false≢true}
 use Rattle.std.proofs.lemmas.Cmp.{nat_eq_equiv}
 use Rattle.std.proofs.lemmas.List.{map_push, length-map}
@@ -34,32 +35,14 @@ position_from-bound test i (x ∷ xs) j e =
 pub has_entry-nodes : (L : List (Entry ℕ)) (p : ℕ) → list_any (eqb p) (nodes_of L) ≡ has_entry L p
 has_entry-nodes L p = list_any-map (λ (x : Entry ℕ). x.node) (eqb p) L
 
-pub or_off : (b c : Bool) → c ≡ false → (b || c) ≡ b
-or_off true c h = refl
-or_off false c h = h
-
 -- after a push of x the list has the pair of x and those that it had
 pub has_entry-push : (L : List (Entry ℕ)) (x : Entry ℕ) (p : ℕ) → has_entry (L ++ x ∷ []) p ≡ (has_entry L p || eqb p x.node)
-has_entry-push L x p = list_any-append (λ (y : Entry ℕ). eqb p y.node) L (x ∷ []) ∙ ap (λ b. has_entry L p || b) (or_off (eqb p x.node) false refl)
+has_entry-push L x p = list_any-append (λ (y : Entry ℕ). eqb p y.node) L (x ∷ []) ∙ ap (λ b. has_entry L p || b) (or-false (eqb p x.node))
 
 pub has_entry-push_other : (L : List (Entry ℕ)) (x : Entry ℕ) (p : ℕ) → p ≢ x.node → has_entry (L ++ x ∷ []) p ≡ has_entry L p
-has_entry-push_other L x p ne = rw has_entry-push (or_off (has_entry L p) (eqb p x.node) (ne_eqb p x.node ne))
+has_entry-push_other L x p ne = rw (has_entry-push, ne_eqb p x.node ne) (or-false (has_entry L p))
 
 -- ---- a list of distinct pairs in range
-
-nodes_of-push : (L : List (Entry ℕ)) (x : Entry ℕ) → nodes_of (L ++ x ∷ []) ≡ nodes_of L ++ x.node ∷ []
-nodes_of-push L x = map_push (λ (y : Entry ℕ). y.node) L x
-
-apart-push : (L : List (Entry ℕ)) (x : Entry ℕ) → IsDistinct eqb (nodes_of L) → has_entry L x.node ≡ false → IsDistinct eqb (nodes_of (L ++ x ∷ []))
-apart-push L x apart new =
-    subst (IsDistinct eqb) (sym (nodes_of-push L x)) (IsDistinct-push nat_eq_equiv (nodes_of L) x.node apart (has_entry-nodes L x.node ∙ new))
-
-in_range-push : (n : ℕ) (L : List (Entry ℕ)) (x : Entry ℕ) → ((p : ℕ) → has_entry L p ≡ true → p < n) → x.node < n → (p : ℕ) → has_entry (L ++ x ∷ []) p ≡ true → p < n
-in_range-push n L x below here p h =
-    elim (cases_eq p x.node) [
-      | inl e ↦ omega arith
-      | inr ne ↦ below p (sym (has_entry-push_other L x p ne) ∙ h)
-    ]
 
 pub IsPlaced-nil : (n : ℕ) → IsPlaced n []
 unfolding IsDistinct
@@ -67,8 +50,9 @@ IsPlaced-nil n = record { apart = tt; in_range = λ p h. absurd (false≢true h)
 
 pub IsPlaced-push : (n : ℕ) (L : List (Entry ℕ)) (x : Entry ℕ) → IsPlaced n L → x.node < n → has_entry L x.node ≡ false → IsPlaced n (L ++ x ∷ [])
 IsPlaced-push n L x placed here new = record {
-  apart = apart-push L x placed.apart new;
-  in_range = in_range-push n L x placed.in_range here;
+  apart = subst (IsDistinct eqb) (sym (map_push (λ (y : Entry ℕ). y.node) L x))
+      (IsDistinct-push nat_eq_equiv (nodes_of L) x.node placed.apart (has_entry-nodes L x.node ∙ new));
+  in_range = λ p h. elim (cases_eq p x.node) [ inl e ↦ omega arith | inr ne ↦ placed.in_range p (sym (has_entry-push_other L x p ne) ∙ h) ];
 }
 
 -- it has at most as many entries as there are pairs

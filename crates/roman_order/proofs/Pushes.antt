@@ -24,7 +24,8 @@ pair_below rows lanes x lane row in_row = omega (arith, mul-add-lt x lanes lane 
 -- ---- the entries of pairs from a first one on
 
 -- all of them may be added that aren't listed, each once
-pub IsPlaced-lanes : (n first : ℕ) (reason : Reason) (lanes : List ℕ) (L : List (Entry ℕ)) → HasNoRepeats lanes → ((lane : ℕ) → IsIn lane lanes → (first + lane < n) × (has_entry L (first + lane) ≡ false)) → IsPlaced n L →
+pub IsPlaced-lanes : (n first : ℕ) (reason : Reason) (lanes : List ℕ) (L : List (Entry ℕ)) → HasNoRepeats lanes →
+    ((lane : ℕ) → IsIn lane lanes → (first + lane < n) × (has_entry L (first + lane) ≡ false)) → IsPlaced n L →
     IsPlaced n (L ++ map (λ lane. as_entry (first + lane, reason)) lanes)
 IsPlaced-lanes n first reason [] L once free placed = subst (IsPlaced n) (sym (append-nil L)) placed
 IsPlaced-lanes n first reason (lane ∷ lanes) L once free placed =

@@ -22,7 +22,8 @@ pub few_entries : (a : Inside) → IsSound a → length a.entries.items < 2 ^ 32
 few_entries a sound = omega (arith, few_listed a sound, length-map a.entries.items entry_in, sound.sized.room, sound.sized.few)
 
 -- an order without entries, whose words are full
-pub blank_sound : (a : Inside) → IsSized a → a.entries.items ≡ [] → a.stamps.items ≡ [] → a.words.items ≡ replicate a.rows ((2 ^ 64 - 1) / 2 ^ (64 - a.lanes)) → IsSound a
+pub blank_sound : (a : Inside) → IsSized a → a.entries.items ≡ [] → a.stamps.items ≡ [] →
+    a.words.items ≡ replicate a.rows ((2 ^ 64 - 1) / 2 ^ (64 - a.lanes)) → IsSound a
 blank_sound a sized entries stamps words =
     let full : ℕ = (2 ^ 64 - 1) / 2 ^ (64 - a.lanes) in
     let back : 64 - (64 - a.lanes) ≡ a.lanes = omega (arith, sized.few_lanes.1) in
@@ -30,7 +31,8 @@ blank_sound a sized entries stamps words =
     record {
       placed = rw entries (IsPlaced-nil (a.rows * a.lanes));
       stamped = rw stamps (λ p h. absurd (omega arith));
-      alive = rw (entries, words) (AreRows-full a.lanes (replicate a.rows full) (λ y h. get_or-replicate a.rows y full 0 (omega (arith, h, length-replicate a.rows full)) ∙ all));
+      alive = rw (entries, words)
+          (AreRows-full a.lanes (replicate a.rows full) (λ y h. get_or-replicate a.rows y full 0 (omega (arith, h, length-replicate a.rows full)) ∙ all));
       sized = sized;
     }
 
@@ -65,7 +67,8 @@ pub record IsFree (b : Board) (x lost : ℕ) : Type 0 where
   pub alive : (lane : ℕ) → is_on lost lane ≡ true → has_entry b.list (x * b.lanes + lane) ≡ false
 
 -- one pair that isn't listed
-pub free_lane : (a : Inside) (b : Board) (x lane : ℕ) → board_of a ≡ b → IsSound a → x < b.rows → lane < b.lanes → has_entry b.list (x * b.lanes + lane) ≡ false → IsFree (board_of a) x (1 * 2 ^ lane % 2 ^ 64)
+pub free_lane : (a : Inside) (b : Board) (x lane : ℕ) → board_of a ≡ b → IsSound a → x < b.rows → lane < b.lanes →
+    has_entry b.list (x * b.lanes + lane) ≡ false → IsFree (board_of a) x (1 * 2 ^ lane % 2 ^ 64)
 free_lane a b x lane is sound row in_row alive =
     let low : lane < 64 = omega (arith, ap (λ (z : Board). z.lanes) is, sound.sized.few_lanes.1) in
     subst (λ (z : Board). IsFree z x (1 * 2 ^ lane % 2 ^ 64)) (sym is) (record {
@@ -75,7 +78,8 @@ free_lane a b x lane is sound row in_row alive =
     })
 
 -- their entries can be added
-pushed_placed : (a : Inside) (x lost : ℕ) (reason : Reason) → IsSound a → IsFree (board_of a) x lost → IsPlaced (a.rows * a.lanes) (removal_list a ++ entries_in a.lanes x lost reason)
+pushed_placed : (a : Inside) (x lost : ℕ) (reason : Reason) → IsSound a → IsFree (board_of a) x lost →
+    IsPlaced (a.rows * a.lanes) (removal_list a ++ entries_in a.lanes x lost reason)
 pushed_placed a x lost reason sound free =
     IsPlaced-lanes (a.rows * a.lanes) (x * a.lanes) reason (set_lanes lost) (removal_list a) (lanes_once lost)
     (λ lane i. let on = (in_lanes lost lane i).1 in (pair_below a.rows a.lanes x lane free.row (free.within lane on), free.alive lane on)) sound.placed
@@ -95,12 +99,14 @@ room-row a x lost reason sound free =
     )
 
 -- an order to which they were added
-pub pushed_sound : (a b : Inside) (x lost : ℕ) (reason : Reason) → IsSound a → IsFree (board_of a) x lost → lost < 2 ^ 64 → b.rows ≡ a.rows → b.lanes ≡ a.lanes → removal_list b ≡ removal_list a ++ entries_in a.lanes x lost reason →
+pub pushed_sound : (a b : Inside) (x lost : ℕ) (reason : Reason) → IsSound a → IsFree (board_of a) x lost → lost < 2 ^ 64 → b.rows ≡ a.rows →
+    b.lanes ≡ a.lanes → removal_list b ≡ removal_list a ++ entries_in a.lanes x lost reason →
     b.words.items ≡ set a.words.items x (bit_and (get_or a.words.items x 0) (bit_not w64 lost)) → b.stamps.items ≡ [] → IsSized b → IsSound b
 pushed_sound a b x lost reason sound free fits rows lanes list words stamps sized = record {
   placed = rw (rows, lanes, list) (pushed_placed a x lost reason sound free);
   stamped = rw stamps (λ p h. absurd (omega arith));
   alive = rw (lanes, list, words)
-      (AreRows-pushed a.lanes x lost (removal_list a) reason a.words.items sound.sized.few_lanes.1 (omega (arith, free.row, sound.sized.words_long)) fits free.within sound.alive);
+      (AreRows-pushed a.lanes x lost (removal_list a) reason a.words.items sound.sized.few_lanes.1
+      (omega (arith, free.row, sound.sized.words_long)) fits free.within sound.alive);
   sized = sized;
 }

@@ -1,15 +1,29 @@
 -- Flags in words of sixty-four.
-use Rattle.std.proofs.Common.{◌≡◌, ◌≢◌, ℕ, zero, ◌+◌, ◌-◌, ◌*◌, ◌/◌, ◌%◌, ◌^◌, ◌<◌, ◌≤◌, true, false, List, ◌++◌, length, take, get_or, drop, replicate, ap, ap₂, sym, ◌∙◌, inl, inr, arith, eqb, ltb, bit_and}
+use Rattle.std.proofs.Common.{◌≡◌, ◌≢◌, ℕ, zero, ◌+◌, ◌-◌, ◌*◌, ◌/◌, ◌%◌, ◌^◌, ◌<◌, ◌≤◌, true, false, List, ◌++◌, length, take, get_or, drop, replicate, ap, ap₂, sym, ◌∙◌, inl, inr, arith, eqb, ltb, bit_and, subst}
 use Rattle.std.proofs.Math.ListN.{set}
 use Rattle.std.specs.Int.{w64, bit_not}
 use Rattle.std.specs.Prelude.{bit_or}
 use Rattle.std.proofs.lemmas.Bool.{cases_eq, cases_lt, eq-eqb, lt-ltb, le-ltb}
-use Rattle.std.proofs.lemmas.List.{get_or-set_same, get_or-set_other, get_or_append_left, get_or-replicate, length-replicate, length-take-le}
+use Rattle.std.proofs.lemmas.List.{get_or-set_same, get_or-set_other, get_or_append_left, get_or-replicate, length-replicate, length-take-le, get_or-append_right, get_or-drop, get_or_past}
 use Rattle.std.proofs.lemmas.Nat.Bits.{bit_at_set_same, bit_at_set_other, bit_at_clear_same, bit_at_clear_other}
-use Rattle.roman_order.proofs.Blanks.{get_or-overwritten, get_or-all_blank}
 use Rattle.roman_lanes.specs.Rows.{is_on}
 use Rattle.roman_lanes.specs.Flags.{has_flag}
 use Rattle.roman_lanes.proofs.RowBits.{on_zero, on_ones, on_ones_above}
+
+-- ---- tables that are blank from some place on
+
+-- past a front that was overwritten the table is as it was
+get_or-overwritten : {X : Type 0} (xs ys : List X) (n i : ℕ) (d : X) → length xs ≡ n → n ≤ i → get_or (xs ++ drop n ys) i d ≡ get_or ys i d
+get_or-overwritten xs ys n i d e h =
+    get_or-append_right xs (drop n ys) n i d e h ∙ (get_or-drop n ys (i - n) d ∙ (let same : n + (i - n) ≡ i = omega arith in ap (λ j. get_or ys j d) same))
+
+-- a table of blanks reads as blank at each place, also past its end
+get_or-all_blank : {X : Type 0} (n i : ℕ) (d : X) → get_or (replicate n d) i d ≡ d
+get_or-all_blank n i d =
+    elim (cases_lt i n) [
+      | inl h ↦ get_or-replicate n i d d h
+      | inr h ↦ get_or_past (replicate n d) i d (subst (λ (m : ℕ). m ≤ i) (sym (length-replicate n d)) h)
+    ]
 
 -- ---- a word that is written
 
@@ -18,7 +32,8 @@ unfolding has_flag is_on
 has_flag-written words i w p h e = ap (λ j. is_on (get_or (set words i w) j 0) (p % 64)) e ∙ ap (λ v. is_on v (p % 64)) (get_or-set_same words i w 0 h)
 
 -- with one bit changed, that of the number p, it leaves all other flags
-pub has_flag-others : (words : List ℕ) (i w p q : ℕ) → i < length words → p / 64 ≡ i → ((k : ℕ) → k < 64 → k ≢ p % 64 → is_on w k ≡ is_on (get_or words i 0) k) → q ≢ p →
+pub has_flag-others : (words : List ℕ) (i w p q : ℕ) → i < length words → p / 64 ≡ i →
+    ((k : ℕ) → k < 64 → k ≢ p % 64 → is_on w k ≡ is_on (get_or words i 0) k) → q ≢ p →
     has_flag (set words i w) q ≡ has_flag words q
 unfolding has_flag is_on
 has_flag-others words i w p q h e same ne = elim (cases_eq (q / 64) i) [
@@ -57,8 +72,8 @@ pub has_flag-zeros : (words : List ℕ) → ((i : ℕ) → get_or words i 0 ≡ 
 unfolding has_flag is_on
 has_flag-zeros words none p = ap (λ w. is_on w (p % 64)) (none (p / 64)) ∙ on_zero (p % 64)
 
-pub has_flag-none : (n p : ℕ) → has_flag (replicate n zero) p ≡ false
-has_flag-none n p = has_flag-zeros (replicate n zero) (λ i. get_or-all_blank n i zero) p
+pub no_flags : (n p : ℕ) → has_flag (replicate n zero) p ≡ false
+no_flags n p = has_flag-zeros (replicate n zero) (λ i. get_or-all_blank n i zero) p
 
 -- ---- the flags below a number
 
@@ -81,7 +96,8 @@ has_flag-front words end whole part rest p = elim (cases_lt (p / 64) (end / 64))
 abbrev pub front_table : ℕ → ℕ → List ℕ
 front_table whole n = replicate whole (2 ^ 64 - 1) ++ drop whole (replicate n zero)
 
-pub front_filled : (whole n : ℕ) (zeros full : List ℕ) → whole ≤ n → zeros ≡ replicate n zero → full ≡ replicate (length (take whole zeros)) (2 ^ 64 - 1) → full ++ drop whole zeros ≡ front_table whole n
+pub front_filled : (whole n : ℕ) (zeros full : List ℕ) → whole ≤ n → zeros ≡ replicate n zero →
+    full ≡ replicate (length (take whole zeros)) (2 ^ 64 - 1) → full ++ drop whole zeros ≡ front_table whole n
 front_filled whole n zeros full h z f =
     let cut : length (take whole (replicate n zero)) ≡ whole = length-take-le whole (replicate n zero) (omega (arith, length-replicate n zero)) in
     ap₂ (λ xs ys. xs ++ drop whole ys) (f ∙ ap (λ ys. replicate (length (take whole ys)) (2 ^ 64 - 1)) z ∙ ap (λ m. replicate m (2 ^ 64 - 1)) cut) z

@@ -140,6 +140,7 @@ impl Order {
     /// Empties the order, and shapes it for `rows` rows of `lanes` pairs each, 1 to 64, in one pass
     /// over the rows. No pair is then listed, and nothing is marked. Nothing may wait, and the pairs
     /// are at most those that there is room for.
+    #[tactic(auto, using(crate::proofs::Words::no_flags))]
     pub fn shape_to(&mut self, rows: u32, lanes: u32)
         requires pairs { rows * lanes ≤ self.old.cap_pairs }
         requires lanes { (0 < lanes) × (lanes ≤ 64) }
@@ -169,6 +170,7 @@ impl Order {
     /// of `lanes` pairs each, 1 to 64. No pair is then listed, and nothing is marked. The entries
     /// aren't moved: the one pass is over the rows. Nothing may wait before, and the pairs are at most
     /// those that there is room for.
+    #[tactic(auto, using(crate::proofs::Words::no_flags))]
     pub fn reopen(&mut self, rows: u32, lanes: u32)
         requires pairs { rows * lanes ≤ self.old.cap_pairs }
         requires lanes { (0 < lanes) × (lanes ≤ 64) }

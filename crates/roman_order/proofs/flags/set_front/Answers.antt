@@ -16,7 +16,8 @@ returns-then-end-ne0 c p =
     omega (arith, c.requires, length-append (replicate whole (2 ^ 64 - 1)) (drop whole (replicate n zero)), length-replicate whole (2 ^ 64 - 1), length-drop whole (replicate n zero), length-replicate n zero) in
     let back : 64 - (64 - part) ≡ part = omega arith in
     let shifted : value ≡ 2 ^ part - 1 = ones_shr 64 (64 - part) (omega arith) ∙ ap (λ k. 2 ^ k - 1) back in
-    rw (front_filled whole n _ _ (omega (arith, c.requires)) (c.fill.ensures.after (λ y same. same)) (c.fill-2.ensures.after (λ y same. same))) (has_flag-front (set table whole value) c.args.end
+    rw (front_filled whole n _ _ (omega (arith, c.requires)) (c.fill.ensures.after (λ y same. same)) (c.fill-2.ensures.after (λ y same. same)))
+    (has_flag-front (set table whole value) c.args.end
     (λ i h. get_or-set_other table whole i value 0 (λ e. omega arith) ∙ front_full whole n i h)
     (get_or-set_same table whole value 0 room ∙ shifted)
     (λ i h. get_or-set_other table whole i value 0 (λ e. omega arith) ∙ front_rest whole n i (omega arith)) p)
@@ -26,6 +27,7 @@ returns-else-end-ne0 c p =
     let n = length c.args.words.now in
     let whole = c.args.end / 64 in
     let none : c.args.end % 64 ≡ 0 = c.if-end-ne0.false in
-    rw (front_filled whole n _ _ (omega (arith, c.requires)) (c.fill.ensures.after (λ y same. same)) (c.fill-2.ensures.after (λ y same. same))) (has_flag-front (front_table whole n) c.args.end (front_full whole n)
+    rw (front_filled whole n _ _ (omega (arith, c.requires)) (c.fill.ensures.after (λ y same. same)) (c.fill-2.ensures.after (λ y same. same)))
+    (has_flag-front (front_table whole n) c.args.end (front_full whole n)
     (front_rest whole n whole (omega arith) ∙ sym (ap (λ k. 2 ^ k - 1) none))
     (λ i h. front_rest whole n i (omega arith)) p)

@@ -10,10 +10,12 @@ returns-clause-was c = has_flag-at c.args.words.now c.args.i c.lowest-flag.resul
 pub returns-clause-taken : goal.returns-clause-taken
 returns-clause-taken c =
     has_flag-at _ c.args.i c.lowest-flag.result c.lowest-flag.ensures.within
-    ∙ (ap (λ w. is_on w c.lowest-flag.result) (get_or-set_same c.args.words.now c.args.i _ 0 c.requires.place) ∙ on_clear_same _ c.lowest-flag.result c.lowest-flag.ensures.within)
+    ∙ (ap (λ w. is_on w c.lowest-flag.result) (get_or-set_same c.args.words.now c.args.i _ 0 c.requires.place)
+    ∙ on_clear_same _ c.lowest-flag.result c.lowest-flag.ensures.within)
 
 pub returns-clause-others : goal.returns-clause-others
 returns-clause-others c q ne =
     let t = c.lowest-flag.result in
     let bit : (c.args.i * 64 + t) % 64 ≡ t = omega arith in
-    has_flag-others c.args.words.now c.args.i _ (c.args.i * 64 + t) q c.requires.place (omega arith) (λ k l n. on_clear_other _ t k c.lowest-flag.ensures.within l (λ e. n (e ∙ sym bit))) ne
+    has_flag-others c.args.words.now c.args.i _ (c.args.i * 64 + t) q c.requires.place (omega arith)
+    (λ k l n. on_clear_other _ t k c.lowest-flag.ensures.within l (λ e. n (e ∙ sym bit))) ne

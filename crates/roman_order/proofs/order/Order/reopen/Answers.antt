@@ -2,7 +2,6 @@ use Rattle.std.proofs.Common.{vec_capacity, ap, ◌∙◌, arith, rules}
 use Rattle.std.proofs.lemmas.List.{length-replicate}
 use Rattle.roman_order.specs.Board.{Board}
 use Rattle.roman_order.proofs.Tables.{blank_sound}
-use Rattle.roman_order.proofs.Words.{has_flag-none}
 use Rattle.roman_order.proofs.order.Order.reopen.Goals as goal
 
 pub overflow_mul-pairs : goal.overflow_mul-pairs
@@ -13,6 +12,3 @@ invariant_of-self c =
     let entries = ap (λ v. vec_capacity v) c.swap.ensures.x_after in
     let waiting = ap (λ v. vec_capacity v) c.swap.ensures.y_after in
     blank_sound _ (search (rules, length-replicate)) (ap (λ v. v.items) c.swap.ensures.x_after ∙ c.clear.ensures.items) c.clear-2.ensures.items c.refill.ensures.items
-
-pub returns-clause-unmarked : goal.returns-clause-unmarked
-returns-clause-unmarked c p = rw c.refill-3.ensures.items (has_flag-none c.words_for.result p)

@@ -44,6 +44,7 @@ pub returns : goal.returns
 returns c =
     let room = (room_for _ _ _ _ c.self.view_is c.from.view_is c.requires.room c.self.invariant c.from.invariant).room in
     let idle = sym (ap (λ (b : Board). b.waiting) c.from.view_is ∙ c.requires.idle) in
-    same_board c.from.inside.rows c.from.inside.lanes _ _ _ _ _ _ _ _ _ _ _ _ room (ap entries_of (c.rewrite.ensures.items ∙ c.deref.ensures.value)) (rw c.clear-2.ensures.items idle)
+    same_board c.from.inside.rows c.from.inside.lanes _ _ _ _ _ _ _ _ _ _ _ _ room (ap entries_of (c.rewrite.ensures.items ∙ c.deref.ensures.value))
+    (rw c.clear-2.ensures.items idle)
     (c.rewrite-4.ensures.items ∙ c.deref-4.ensures.value) (c.rewrite-3.ensures.items ∙ c.deref-3.ensures.value) (c.rewrite-5.ensures.items ∙ c.deref-5.ensures.value)
     ∙ c.from.view_is

@@ -2,7 +2,6 @@ use Rattle.std.proofs.Common.{ap, arith, rules}
 use Rattle.std.proofs.lemmas.List.{length-replicate}
 use Rattle.roman_order.specs.Board.{Board}
 use Rattle.roman_order.proofs.Tables.{blank_sound}
-use Rattle.roman_order.proofs.Words.{has_flag-none}
 use Rattle.roman_order.proofs.order.Order.shape_to.Goals as goal
 
 pub overflow_mul-pairs : goal.overflow_mul-pairs
@@ -10,6 +9,3 @@ overflow_mul-pairs c = omega (arith, ap (λ (b : Board). b.cap_pairs) c.self.vie
 
 pub invariant_of-self : goal.invariant_of-self
 invariant_of-self c = blank_sound _ (search (rules, length-replicate)) c.clear.ensures.items c.clear-2.ensures.items c.refill.ensures.items
-
-pub returns-clause-unmarked : goal.returns-clause-unmarked
-returns-clause-unmarked c p = rw c.refill-3.ensures.items (has_flag-none c.words_for.result p)
