@@ -1,7 +1,6 @@
 -- Orders that go on from others.
-use Rattle.std.proofs.Common.{◌≡◌, ℕ, ◌+◌, ◌*◌, ◌≤◌, List, ◌++◌, length, take, drop, refl, sym, ap, ap₂, ◌∙◌, subst, take-append-drop}
+use Rattle.std.proofs.Common.{◌≡◌, ℕ, ◌+◌, ◌*◌, List, ◌++◌, length, take, drop, refl, sym, ap, ap₂, ◌∙◌, subst, take-append-drop}
 use Rattle.std.proofs.Math.Seq.{take-append_seam, take-length}
-use Rattle.std.proofs.lemmas.List.{take-append-le}
 use Rattle.roman_model.specs.Arena.{Arena, Entry, IsOrder, fall}
 use Rattle.roman_model.proofs.WorkLemmas.{fall_append}
 use Rattle.roman_order.specs.Board.{Board}
@@ -32,10 +31,6 @@ shaped_like A lanes b c same s = record { pairs = ap₂ (λ x y. x * y) same.1 s
 -- what has the shape and has gone on has the shape
 pub shaped_on : (A : Arena ℕ) (lanes : ℕ) (b c : Board) → IsShaped A lanes b → SettlesOn A b c → IsShaped A lanes c
 shaped_on A lanes b c s g = shaped_like A lanes b c (subst (SameFrame b) (sym g.rest) (refl, refl, refl, refl)) s
-
--- the prefix of a list that goes on stays
-pub front_kept : (start : ℕ) (L M : List (Entry ℕ)) → start ≤ length L → take start (L ++ M) ≡ take start L
-front_kept start L M l = take-append-le start L M l
 
 -- by entries that a removal list can have next
 pub goes_on_added : (A : Arena ℕ) (b c : Board) (M : List (Entry ℕ)) → IsOrder A (b.list ++ M) → c ≡ record b { list = b.list ++ M } → SettlesOn A b c

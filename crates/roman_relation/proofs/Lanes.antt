@@ -9,18 +9,9 @@ use Rattle.roman_relation.specs.Shaped.{IsShaped}
 use Rattle.roman_relation.specs.Rounds.{AreUnlisted, on_at}
 use Rattle.roman_relation.proofs.Beginnings.{listed_is}
 
-pub HasLanes_same : (lanes row : ℕ) (f g : ℕ → Bool) (word : ℕ) → ((p : ℕ) → f p ≡ g p) → HasLanes lanes row f word → HasLanes lanes row g word
-HasLanes_same lanes row f g word same is = record { each = λ lane l. is.each lane l ∙ same (row * lanes + lane); rest = is.rest }
-
-pub AreRows_same : (lanes : ℕ) (f g : ℕ → Bool) (words : List ℕ) → ((p : ℕ) → f p ≡ g p) → AreRows lanes f words → AreRows lanes g words
-AreRows_same lanes f g words same are = record { each = λ row l. HasLanes_same lanes row f g (slice_index words row) same (are.each row l) }
-
 -- where there is an entry is where a node is listed
 pub unlisted_row : (A : Arena ℕ) → IsNumbered A → (lanes row : ℕ) (L : List (Entry ℕ)) (word : ℕ) → HasLanes lanes row (λ p. not (has_entry L p)) word → HasLanes lanes row (λ p. not (is_listed A L p)) word
-unlisted_row A ok lanes row L word is = HasLanes_same lanes row (λ p. not (has_entry L p)) (λ p. not (is_listed A L p)) word (λ p. ap not (sym (listed_is A ok L p))) is
-
-pub unlisted_rows : (A : Arena ℕ) → IsNumbered A → (lanes : ℕ) (L : List (Entry ℕ)) (words : List ℕ) → AreRows lanes (λ p. not (has_entry L p)) words → AreUnlisted A lanes L words
-unlisted_rows A ok lanes L words are = AreRows_same lanes (λ p. not (has_entry L p)) (λ p. not (is_listed A L p)) words (λ p. ap not (sym (listed_is A ok L p))) are
+unlisted_row A ok lanes row L word is = record { each = λ lane l. is.each lane l ∙ ap not (sym (listed_is A ok L (row * lanes + lane))); rest = is.rest }
 
 -- the row and the lane of a pair
 pub lane_place : (lanes row lane : ℕ) → lane < lanes → ((row * lanes + lane) / lanes ≡ row) × ((row * lanes + lane) % lanes ≡ lane)
@@ -33,18 +24,17 @@ lane_place lanes row lane l =
 pub on_lane : (lanes row lane : ℕ) (words : List ℕ) → lane < lanes → on_at lanes words (row * lanes + lane) ≡ is_on (slice_index words row) lane
 on_lane lanes row lane words l = let (e, f) = lane_place lanes row lane l in ap₂ (λ x y. is_on (slice_index words x) y) e f
 
-pub row_of : (lanes rows p : ℕ) → 0 < lanes → p < rows * lanes → p / lanes < rows
-row_of lanes rows p some l = div_below p lanes rows some l
-
 -- the bit of a pair is the test of it
 pub at_pair : (lanes : ℕ) (test : ℕ → Bool) (words : List ℕ) (p : ℕ) → 0 < lanes → p < length words * lanes → AreRows lanes test words → on_at lanes words p ≡ test p
 at_pair lanes test words p some l are =
-    (are.each (p / lanes) (row_of lanes (length words) p some l)).each (p % lanes) (mod_below p lanes some) ∙ ap test (div-add-mod' p lanes)
+    (are.each (p / lanes) (div_below p lanes (length words) some l)).each (p % lanes) (mod_below p lanes some) ∙ ap test (div-add-mod' p lanes)
 
 -- the words tell which pairs aren't listed
 pub words_rows : (A : Arena ℕ) → IsNumbered A → (lanes : ℕ) (b : Board) (words : List ℕ) → IsShaped A lanes b →
     AreRows b.lanes (λ p. not (has_entry b.list p)) words → AreUnlisted A lanes b.list words
-words_rows A ok lanes b words shaped are = unlisted_rows A ok lanes b.list words (subst (λ n. AreRows n (λ p. not (has_entry b.list p)) words) shaped.lanes are)
+words_rows A ok lanes b words shaped are = record {
+  each = λ row l. unlisted_row A ok lanes row b.list (slice_index words row) ((subst (λ n. AreRows n (λ p. not (has_entry b.list p)) words) shaped.lanes are).each row l);
+}
 
 -- the word of a row tells which of its pairs aren't listed
 pub words_row : (A : Arena ℕ) → IsNumbered A → (lanes row : ℕ) (b : Board) (words : List ℕ) → IsShaped A lanes b → length words ≡ b.rows →
@@ -57,7 +47,7 @@ pub shaped_pairs : (A : Arena ℕ) (lanes : ℕ) (b : Board) → IsShaped A lane
 shaped_pairs A lanes b shaped = ap (λ m. b.rows * m) (sym shaped.lanes) ∙ shaped.pairs
 
 pub shaped_row : (A : Arena ℕ) (lanes p : ℕ) (b : Board) → IsShaped A lanes b → 0 < lanes → p < length A.nodes → p / lanes < b.rows
-shaped_row A lanes p b shaped some l = row_of lanes b.rows p some (omega (arith, shaped_pairs A lanes b shaped))
+shaped_row A lanes p b shaped some l = div_below p lanes b.rows some (omega (arith, shaped_pairs A lanes b shaped))
 
 pub shaped_rows : (A : Arena ℕ) (lanes rows : ℕ) (b : Board) → IsShaped A lanes b → 0 < lanes → rows * lanes ≡ length A.nodes → rows ≡ b.rows
 shaped_rows A lanes rows b shaped some e = (same_from_place rows 0 b.rows 0 lanes some some (ap (λ n. n + 0) (e ∙ sym (shaped_pairs A lanes b shaped)))).0

@@ -98,7 +98,7 @@ noted_marking A lanes row start end b c is marking = subst (IsMarking A lanes st
         | inl e ↦
             let place : row * lanes + q % lanes ≡ q = ap (λ x. x * lanes + q % lanes) (sym e) ∙ div-add-mod' q lanes in
             is.marked (q % lanes) p a k (mod_below q lanes is.some) (ap (λ x. is_on (slice_index b.before x) (q % lanes)) (sym e) ∙ on)
-                (subst (λ r. IsTrue (is_listed A b.list r)) (sym place) t) l
+            (subst (λ r. IsTrue (is_listed A b.list r)) (sym place) t) l
             (subst (λ r. IsIn r (A.outcomes p a k)) (sym place) i)
         | inr ne ↦ absurd (both_ways (on_at lanes b.before q) (sym (noted_other A lanes row b c q is ne) ∙ off) on)
       ])

@@ -2,7 +2,7 @@
 use Rattle.std.proofs.Common.{◌≡◌, ℕ, ◌+◌, ◌*◌, ◌<◌, ◌≤◌, ◌⊎◌, Bool, true, false, not, ◌&&◌, ◌||◌, List, [], ◌∷◌, ◌++◌, map, length, take, slice_index, IsTrue, IsFalse, inl, inr, refl, sym, ap, ◌∙◌, subst, arith, bit_and, append_assoc, length-append}
 use Rattle.std.proofs.lemmas.Bool.{both_ways, cases_lt, false_from_ne_true, or_cases, or_parts, or_left, or_from, and_parts, and_from, not_from_false, not-true, ne_eqb}
 use Rattle.std.proofs.Math.Bool.{and_comm}
-use Rattle.std.proofs.lemmas.List.{append-nil}
+use Rattle.std.proofs.lemmas.List.{append-nil, take-append-le}
 use Rattle.roman_model.specs.Lists.{IsIn, HasNoRepeats, below}
 use Rattle.roman_model.specs.Arena.{Arena, Entry, is_listed, is_justified, IsOrder}
 use Rattle.roman_model.specs.declared.reason.Reason.{Reason}
@@ -20,7 +20,6 @@ use Rattle.roman_relation.specs.Shaped.{IsShaped}
 use Rattle.roman_relation.specs.Settled.{Begins}
 use Rattle.roman_relation.specs.Rounds.{AreUnlisted, InRound, IsJudged, falls}
 use Rattle.roman_relation.proofs.Beginnings.{listed_is, begins_same, begins_unlisted, take_listed}
-use Rattle.roman_relation.proofs.Going.{front_kept}
 use Rattle.roman_relation.proofs.Lanes.{words_row}
 
 -- ---- a removal list with the entries of some lanes, for one reason that held before them
@@ -111,7 +110,7 @@ lost_because A ok gone L lanes row reason lost q is t =
     ]
 
 -- by the word of the row and what is found of it
-lost_word : (A : Arena ℕ) (gone : ℕ → Bool) (L : List (Entry ℕ)) (lanes row : ℕ) (reason : Reason) (lost word : ℕ) → lanes ≤ 64 →
+pub lost_word : (A : Arena ℕ) (gone : ℕ → Bool) (L : List (Entry ℕ)) (lanes row : ℕ) (reason : Reason) (lost word : ℕ) → lanes ≤ 64 →
     HasLanes lanes row (λ p. not (is_listed A L p)) word →
     ((lane : ℕ) → lane < lanes → is_on lost lane ≡ (is_on word lane && is_justified A gone (row * lanes + lane) reason)) →
     ((lane : ℕ) → is_on word lane ≡ false → is_on lost lane ≡ false) →
@@ -133,20 +132,6 @@ lost_unfine A ok lanes row bits b words shaped long inside few alive fails =
     (λ lane l. turned lane ∙ ap (λ x. is_on word lane && x) (fails.each lane l))
     (λ lane off. turned lane ∙ ap (λ x. x && is_on bits lane) off)
 
-pub lost_action : (A : Arena ℕ) → IsNumbered A → (gone : ℕ → Bool) (lanes row a lost : ℕ) (b : Board) (words : List ℕ) → IsShaped A lanes b →
-    length words ≡ b.rows → row < b.rows → b.lanes ≤ 64 →
-    AreRows b.lanes (λ p. not (has_entry b.list p)) words → ((lane : ℕ) → lane < lanes → is_on lost lane ≡
-    (is_on (slice_index words row) lane && is_justified A gone (row * lanes + lane) (Act a))) →
-    ((lane : ℕ) → is_on (slice_index words row) lane ≡ false → is_on lost lane ≡ false) → IsLost A gone b.list lanes row (Act a) lost
-lost_action A ok gone lanes row a lost b words shaped long inside few alive is none =
-    lost_word A gone b.list lanes row (Act a) lost (slice_index words row) (omega (arith, few, shaped.lanes))
-    (words_row A ok lanes row b words shaped long inside alive) is none
-
--- the order with their entries, by the lanes of the system
-pub pushed_as : (A : Arena ℕ) (lanes row lost : ℕ) (reason : Reason) (b c : Board) → IsShaped A lanes b →
-    c ≡ record b { list = b.list ++ entries_in b.lanes row lost reason } → c ≡ record b { list = b.list ++ entries_in lanes row lost reason }
-pushed_as A lanes row lost reason b c shaped e = e ∙ ap (λ m. record b { list = b.list ++ entries_in m row lost reason }) shaped.lanes
-
 -- ---- an action
 
 pub lost_round : (A : Arena ℕ) → IsNumbered A → (lanes start row a lost : ℕ) (b c : Board) → a < A.actions →
@@ -164,13 +149,13 @@ lost_round A ok lanes start row a lost b c action is e round = subst (InRound A 
 })
   where
     front : take start (b.list ++ entries_in lanes row lost (Act a)) ≡ take start b.list
-    front = front_kept start b.list (entries_in lanes row lost (Act a)) round.begun
+    front = take-append-le start b.list (entries_in lanes row lost (Act a)) round.begun
 
 pub lost_judged : (A : Arena ℕ) → IsNumbered A → (lanes start row a lost lane : ℕ) (b c : Board) →
     IsLost A (is_listed A (take start b.list)) b.list lanes row (Act a) lost →
     c ≡ record b { list = b.list ++ entries_in lanes row lost (Act a) } → start ≤ length b.list → lane < lanes → IsJudged A start c (row * lanes + lane) a
 lost_judged A ok lanes start row a lost lane b c is e begun l = subst (λ (d : Board). IsJudged A start d (row * lanes + lane) a) (sym e)
-    (λ off. subst (λ L. IsFalse (is_justified A (is_listed A L) (row * lanes + lane) (Act a))) (sym (front_kept start b.list _ begun))
+    (λ off. subst (λ L. IsFalse (is_justified A (is_listed A L) (row * lanes + lane) (Act a))) (sym (take-append-le start b.list _ begun))
     (lost_left A ok (is_listed A (take start b.list)) b.list lanes row (Act a) lost lane is l off))
 
 -- what is judged stays judged

@@ -1,11 +1,11 @@
 use Rattle.std.proofs.Common.{◌≡◌, ◌/◌, ◌<◌, IsFalse, refl, sym, ap, ◌∙◌, subst, arith}
 use Rattle.std.proofs.lemmas.Bool.{both_ways, lt-ltb}
-use Rattle.std.proofs.lemmas.Nat.{mul-le}
+use Rattle.std.proofs.lemmas.Nat.{mul-le, div_below}
 use Rattle.roman_model.specs.Arena.{IsOrder, is_listed}
 use Rattle.roman_order.specs.Board.{Board, pairs_of, is_marked}
 use Rattle.roman_relation.specs.Rounds.{AreUnlisted}
 use Rattle.roman_relation.proofs.Going.{SameFrame, shaped_on, shaped_like}
-use Rattle.roman_relation.proofs.Lanes.{words_rows, row_of}
+use Rattle.roman_relation.proofs.Lanes.{words_rows}
 use Rattle.roman_relation.proofs.rounds.begin_rounds.Goals as goal
 
 pub mark_front-requires : goal.mark_front-requires
@@ -34,5 +34,5 @@ returns-clause-ready g c =
       kept = subst (λ L. AreUnlisted A n L d.before) (sym list) (subst (AreUnlisted A n mid.list) (sym before) words);
       fine = λ p l off. c.list_unfine.ensures.fine p l (subst (λ L. IsFalse (is_listed A L p)) list off);
       served = λ p a l unmarked off. absurd (both_ways (is_marked d (p / n)) unmarked
-          (c.mark_front.ensures.marked (p / n) ∙ lt-ltb (p / n) c.rows.result (row_of n c.rows.result p some (omega (arith, c.rows.ensures)))));
+          (c.mark_front.ensures.marked (p / n) ∙ lt-ltb (p / n) c.rows.result (div_below p n c.rows.result some (omega (arith, c.rows.ensures)))));
     }

@@ -61,8 +61,13 @@ rounds-preserved g c =
     let fell = fall_added A old.list d.list goes.begins in
     let same_fall : fall A e.list ≡ fall A d.list = ap (fall A) list in
     let same_length : length e.list ≡ length d.list = ap length list in
-    let longer : length old.list < length d.list = omega (arith, begins_length old.list d.list goes.begins, c.len-start.ensures.value,
-    c.len.ensures.value, c.if-len-start.false) in
+    let longer : length old.list < length d.list = omega (
+      arith,
+      begins_length old.list d.list goes.begins,
+      c.len-start.ensures.value,
+      c.len.ensures.value,
+      c.if-len-start.false,
+    ) in
     let in_range : (p : ℕ) → has_entry d.list p ≡ true → p < length A.nodes = λ p t. omega (arith, c.len.ensures.in_range p t, c.play_round.ensures.ready.shaped.pairs) in
     record {
       ready = awaits_levels A (g.J.Rules.lanes c.args.joint.now) d e _ is.rest c.play_round.ensures.ready;

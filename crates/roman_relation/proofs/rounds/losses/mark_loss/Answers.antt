@@ -59,7 +59,7 @@ returns g c =
           let lane : q - x * n < n = omega (arith, first) in
           let place : x * n + (q - x * n) ≡ q = omega (arith, first) in
           noted_own A n x b d q is (ap (λ r. r / n) (sym place) ∙ (lane_place n x (q - x * n) lane).0)
-              ∙ not_from_true (is_listed A b.list q) (subst (λ L. IsTrue (is_listed A L q)) is.same listed);
+          ∙ not_from_true (is_listed A b.list q) (subst (λ L. IsTrue (is_listed A L q)) is.same listed);
       rest = search rules;
       cost =
           let bit : is_on (slice_index before x) (p % c.lanes-lanes.result) ≡ true = on_tested (slice_index before x) (p % c.lanes-lanes.result) c.if-before-p-eq0.false in
@@ -68,5 +68,5 @@ returns g c =
           let place : x * n + p % n ≡ p = ap (λ y. y * n + p % n) row_is ∙ div-add-mod' p n in
           let gone = lost (p % n) (mod_below p n some) on (subst (λ q. IsTrue (is_listed A b.list q)) (sym place) c.requires.listed) in
           subst (λ q. c.mark_before.new.steps ≤ c.args.steps.now + length (predecessors A q)) place
-              (c.mark_before.ensures.cost x (p % n) c.row-row.ensures (mod_below p n some) gone);
+          (c.mark_before.ensures.cost x (p % n) c.row-row.ensures (mod_below p n some) gone);
     }

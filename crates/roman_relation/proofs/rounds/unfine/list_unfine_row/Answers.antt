@@ -1,10 +1,10 @@
-use Rattle.std.proofs.Common.{◌+◌, ◌*◌, slice_index, bit_and, subst, arith, IsTrue, IsFalse, inl, inr}
+use Rattle.std.proofs.Common.{◌+◌, ◌*◌, ◌++◌, slice_index, bit_and, ap, ◌∙◌, subst, arith, IsTrue, IsFalse, inl, inr}
 use Rattle.std.proofs.lemmas.Bool.{not-false, not-true}
 use Rattle.roman_model.specs.Arena.{is_listed}
 use Rattle.roman_model.specs.declared.reason.Reason.TheVariants.{Final}
-use Rattle.roman_order.specs.Board.{Board}
+use Rattle.roman_order.specs.Board.{Board, entries_in}
 use Rattle.roman_relation.proofs.Going.{goes_on_added}
-use Rattle.roman_relation.proofs.Pushing.{lost_unfine, lost_free, lost_order, lost_left, lost_because, pushed_as}
+use Rattle.roman_relation.proofs.Pushing.{lost_unfine, lost_free, lost_order, lost_left, lost_because}
 use Rattle.roman_relation.proofs.rounds.unfine.list_unfine_row.Goals as goal
 
 pub push_lanes-requires : goal.push_lanes-requires
@@ -30,7 +30,7 @@ returns g c =
     let lost = bit_and c.unfine.result (slice_index c.words.result.now x) in
     let is = lost_unfine A c.known.ensures n x c.unfine.result b c.words.result.now c.requires.shaped c.words.ensures.long c.requires.row
     c.known-2.ensures.lanes.1 c.words.ensures.alive (c.unfine.ensures x c.row-row.ensures) in
-    let pushed = pushed_as A n x lost Final b c.push_lanes.new.self c.requires.shaped c.push_lanes.ensures in
+    let pushed = c.push_lanes.ensures ∙ ap (λ m. record b { list = b.list ++ entries_in m x lost Final }) c.requires.shaped.lanes in
     record {
       goes_on = goes_on_added A b c.push_lanes.new.self _ (lost_order A c.known.ensures gone b.list n x Final lost is (λ q t. t) c.requires.valid) pushed;
       fine = λ lane l off. not-false (A.fine (x * n + lane))
