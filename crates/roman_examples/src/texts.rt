@@ -1,6 +1,5 @@
 //! The texts of the examples, each as the pieces that it is made of: what a text changes stands on a line
 //! of its own.
-use crate::texts::Content::{Parts, Whole};
 use std::alloc::{AllocError, Global};
 
 /// The beginning of a document of version 1.
@@ -125,71 +124,74 @@ const ORDER: &[u8] = b"roman-order 1\npairs 6\n";
 /// Pieces of a text, one behind another.
 type Pieces = &'static [&'static [u8]];
 
-/// A document in its parts.
-#[derive(Clone, Copy)]
-struct Document {
-    /// Its version.
-    version: &'static [u8],
-    /// Its limit, if it has one.
-    limit: &'static [u8],
-    /// Its environment.
-    environment: &'static [u8],
-    /// Its behaviours.
-    behaviours: Pieces,
-    /// Its services.
-    services: Pieces,
-    /// What leads from the services to the target.
-    opening: &'static [u8],
-    /// Its target, or its targets.
-    target: Pieces,
-    /// Its end.
-    end: &'static [u8],
-}
+/// One state and a lamp.
+const LAMP_HERE: Pieces = &[ENVIRONMENT, BEHAVIOURS, LAMP];
 
-/// One lamp, and a target that is a lamp.
-const PLAIN: Document = Document {
-    version: VERSION_1,
-    limit: b"",
-    environment: ENVIRONMENT,
-    behaviours: &[LAMP],
-    services: &[FIRST_LAMP],
-    opening: TARGET,
-    target: &[SWITCHED],
-    end: END,
-};
+/// The same, and what does nothing.
+const LAMP_AND_X: Pieces = &[ENVIRONMENT, BEHAVIOURS, LAMP, X];
 
-/// Two lamps, and two targets that are lamps.
-const TWO: Document = Document {
-    version: VERSION_3,
-    limit: b"",
-    environment: ENVIRONMENT,
-    behaviours: &[LAMP],
-    services: &[FIRST_LAMP, SECOND_LAMP],
-    opening: TARGETS,
-    target: &[TARGET_A, NEXT, TARGET_B],
-    end: END_TARGETS,
-};
+/// The same, and what has sixty-four states.
+const LAMP_AND_WIDE: Pieces = &[ENVIRONMENT, BEHAVIOURS, LAMP, WIDE];
 
-/// Fourteen services of two states, and a target that asks for nothing.
-const MANY: Document = Document {
-    version: VERSION_1,
-    limit: b"",
-    environment: ONE_ACTION,
-    behaviours: &[br#"{"name":"two","states":["s","t"],"start":"s","final":[],"steps":[]}"#],
-    services: &[A_TO_N],
-    opening: TARGET,
-    target: &[br#"{"states":["a","b"],"start":"a","final":["b"],"steps":[]}"#],
-    end: END,
-};
+/// The same, and a dot.
+const LAMP_AND_DOT: Pieces = &[ENVIRONMENT, BEHAVIOURS, LAMP, DOT];
 
-/// What a text is made of.
-#[derive(Clone, Copy)]
-enum Content {
-    /// The parts of a document.
-    Parts(Document),
-    /// These pieces.
-    Whole(Pieces),
-}
+/// Three states and a lamp.
+const LAMP_IN_THREE: Pieces = &[THREE_STATES, BEHAVIOURS, LAMP];
+
+/// The service of one lamp.
+const ONE_LAMP: Pieces = &[SERVICES, FIRST_LAMP];
+
+/// The services of two lamps.
+const BOTH_LAMPS: Pieces = &[SERVICES, FIRST_LAMP, SECOND_LAMP];
+
+/// No services.
+const NO_SERVICES: Pieces = &[SERVICES];
+
+/// Fourteen services of two states.
+const FOURTEEN: Pieces = &[SERVICES, A_TO_N];
+
+/// A target that is a lamp, and the end.
+const SWITCH: Pieces = &[TARGET, SWITCHED, END];
+
+/// Two of them.
+const TWO_SWITCHES: Pieces = &[TARGETS, TARGET_A, NEXT, TARGET_B, END_TARGETS];
+
+/// A document of version 1 up to its services, with a lamp.
+const LAMP_1: Pieces = &[VERSION_1, ENVIRONMENT, BEHAVIOURS, LAMP];
+
+/// The same up to its target, with one lamp.
+const ONE_LAMP_1: Pieces = &[
+    VERSION_1,
+    ENVIRONMENT,
+    BEHAVIOURS,
+    LAMP,
+    SERVICES,
+    FIRST_LAMP,
+];
+
+/// A document of version 3 up to its targets, with two lamps.
+const BOTH_LAMPS_3: Pieces = &[
+    VERSION_3,
+    ENVIRONMENT,
+    BEHAVIOURS,
+    LAMP,
+    SERVICES,
+    FIRST_LAMP,
+    SECOND_LAMP,
+];
+
+/// The same, with what opens the targets.
+const BOTH_TO_TARGETS: Pieces = &[
+    VERSION_3,
+    ENVIRONMENT,
+    BEHAVIOURS,
+    LAMP,
+    SERVICES,
+    FIRST_LAMP,
+    SECOND_LAMP,
+    TARGETS,
+];
 
 /// A text.
 #[derive(Clone, Copy)]
@@ -375,224 +377,208 @@ pub(crate) enum Text {
     OneMore,
 }
 
-impl Document {
-    /// Adds its bytes to a text.
-    fn push_to(self, text: &mut Vec<u8>) -> Result<(), AllocError> {
-        push(
-            text,
-            &[self.version, self.limit, self.environment, BEHAVIOURS],
-        )?;
-        push(text, self.behaviours)?;
-        push(text, &[SERVICES])?;
-        push(text, self.services)?;
-        push(text, &[self.opening])?;
-        push(text, self.target)?;
-        push(text, &[self.end])
-    }
-}
-
 impl Text {
     /// Its bytes.
     pub(crate) fn bytes(self, alloc: Global) -> Result<Vec<u8>, AllocError> {
         let mut bytes = Vec::new(alloc);
-        match self.content() {
-            Parts(document) => document.push_to(&mut bytes)?,
-            Whole(pieces) => push(&mut bytes, pieces)?,
+        for pieces in self.parts() {
+            push(&mut bytes, pieces)?;
         }
         Ok(bytes)
     }
 
-    /// What it is made of.
-    fn content(self) -> Content {
+    /// What it is made of: of a document the version, with its limit if it has one, the environment with
+    /// the behaviours, the services, and the target.
+    fn parts(self) -> &'static [Pieces] {
         match self {
-            Text::Lamp => Parts(PLAIN),
-            Text::Flaky => Parts(Document {
-                behaviours: &[LAMP, FLAKY],
-                services: &[br#"{"name":"f1","behaviour":"flaky"}"#],
-                ..PLAIN
-            }),
-            Text::Workshop => Whole(&[
+            Text::Lamp => &[ONE_LAMP_1, SWITCH],
+            Text::Flaky => &[
+                &[VERSION_1],
+                &[ENVIRONMENT, BEHAVIOURS, LAMP, FLAKY],
+                &[SERVICES, br#"{"name":"f1","behaviour":"flaky"}"#],
+                SWITCH,
+            ],
+            Text::Workshop => &[&[
                 br#"{"roman":1,"environment":{"states":["full","half","low","spilt"],"start":"full","actions":["clean","dip","paint","recharge"],"steps":[["full","clean","full"],["half","clean","half"],["low","clean","low"],["spilt","clean","low"],["full","dip","half"],["half","dip","low"],["half","dip","spilt"],["full","paint","full"],["half","paint","half"],["low","paint","low"],["full","recharge","full"],["half","recharge","full"],["low","recharge","full"],["spilt","recharge","full"]]}"#,
                 br#","behaviours":[{"name":"cleaner","states":["fresh","worn"],"start":"fresh","final":["fresh","worn"],"steps":[["fresh",true,"clean","fresh"],["fresh",true,"clean","worn"],["fresh",true,"recharge","fresh"],["worn",true,"recharge","fresh"]]}"#,
                 br#",{"name":"dipper","states":["free","loaded"],"start":"free","final":["free"],"steps":[["free",true,"dip","loaded"],["loaded",true,"paint","free"]]}"#,
                 br#",{"name":"allround","states":["free","loaded"],"start":"free","final":["free"],"steps":[["free",true,"dip","loaded"],["loaded",true,"paint","free"],["free",true,"recharge","free"],["free",{"not":["spilt"]},"clean","free"]]}"#,
                 br#"],"services":[{"name":"arm1","behaviour":"cleaner"},{"name":"arm2","behaviour":"dipper"},{"name":"arm3","behaviour":"allround"}"#,
                 br#"],"target":{"states":["rest","cleaned","dipped","painted","tidied"],"start":"rest","final":["rest"],"steps":[["rest",true,"clean","cleaned"],["cleaned",true,"dip","dipped"],["cleaned",["low","spilt"],"recharge","cleaned"],["dipped",true,"paint","painted"],["dipped",["spilt"],"clean","dipped"],["painted",true,"clean","tidied"],["tidied",true,"recharge","rest"]]}}"#,
-            ]),
-            Text::Bare => Parts(Document {
-                services: &[],
-                target: &[br#"{"states":["t"],"start":"t","final":["t"],"steps":[]}"#],
-                ..PLAIN
-            }),
-            Text::NoOn => Parts(Document {
-                environment: br#","environment":{"states":["e"],"start":"e","actions":["on","off"],"steps":[["e","off","e"]]}"#,
-                ..PLAIN
-            }),
-            Text::LampOn => Parts(Document {
-                services: &[br#"{"name":"l1","behaviour":"lamp","state":"on"}"#],
-                ..PLAIN
-            }),
-            Text::LampFrozen => Parts(Document {
-                services: &[br#"{"name":"l1","behaviour":"lamp","frozen":true}"#],
-                ..PLAIN
-            }),
-            Text::Lamps18 => Parts(Document {
-                limit: br#","limit":16777216"#,
-                services: &[FIRST_LAMP, SECOND_LAMP, THIRD_TO_EIGHTEENTH],
-                ..PLAIN
-            }),
-            Text::Lamps22 => Parts(Document {
-                limit: br#","limit":16777215"#,
-                services: &[
-                    FIRST_LAMP,
-                    SECOND_LAMP,
-                    THIRD_TO_EIGHTEENTH,
-                    NINETEENTH_TO_LAST,
+            ]],
+            Text::Bare => &[
+                LAMP_1,
+                NO_SERVICES,
+                &[
+                    TARGET,
+                    br#"{"states":["t"],"start":"t","final":["t"],"steps":[]}"#,
+                    END,
                 ],
-                ..PLAIN
-            }),
-            Text::Limit7 => Parts(Document {
-                limit: br#","limit":7"#,
-                ..PLAIN
-            }),
-            Text::Limit8 => Parts(Document {
-                limit: br#","limit":8"#,
-                ..PLAIN
-            }),
-            Text::Limit0 => Parts(Document {
-                limit: br#","limit":0"#,
-                ..PLAIN
-            }),
-            Text::LimitGreater => Parts(Document {
-                limit: br#","limit":16777217"#,
-                ..PLAIN
-            }),
-            Text::LimitHuge => Parts(Document {
-                limit: br#","limit":18446744073709551616"#,
-                ..PLAIN
-            }),
-            Text::Wide32 => Parts(Document {
-                behaviours: &[LAMP, WIDE],
-                services: &[
+            ],
+            Text::NoOn => &[
+                &[VERSION_1],
+                &[
+                    br#","environment":{"states":["e"],"start":"e","actions":["on","off"],"steps":[["e","off","e"]]}"#,
+                    BEHAVIOURS,
+                    LAMP,
+                ],
+                ONE_LAMP,
+                SWITCH,
+            ],
+            Text::LampOn => &[
+                LAMP_1,
+                &[
+                    SERVICES,
+                    br#"{"name":"l1","behaviour":"lamp","state":"on"}"#,
+                ],
+                SWITCH,
+            ],
+            Text::LampFrozen => &[
+                LAMP_1,
+                &[
+                    SERVICES,
+                    br#"{"name":"l1","behaviour":"lamp","frozen":true}"#,
+                ],
+                SWITCH,
+            ],
+            Text::Lamps18 => &[
+                &[VERSION_1, br#","limit":16777216"#],
+                LAMP_HERE,
+                BOTH_LAMPS,
+                &[THIRD_TO_EIGHTEENTH],
+                SWITCH,
+            ],
+            Text::Lamps22 => &[
+                &[VERSION_1, br#","limit":16777215"#],
+                LAMP_HERE,
+                BOTH_LAMPS,
+                &[THIRD_TO_EIGHTEENTH, NINETEENTH_TO_LAST],
+                SWITCH,
+            ],
+            Text::Limit7 => &[&[VERSION_1, br#","limit":7"#], LAMP_HERE, ONE_LAMP, SWITCH],
+            Text::Limit8 => &[&[VERSION_1, br#","limit":8"#], LAMP_HERE, ONE_LAMP, SWITCH],
+            Text::Limit0 => &[&[VERSION_1, br#","limit":0"#], LAMP_HERE, ONE_LAMP, SWITCH],
+            Text::LimitGreater => &[
+                &[VERSION_1, br#","limit":16777217"#],
+                LAMP_HERE,
+                ONE_LAMP,
+                SWITCH,
+            ],
+            Text::LimitHuge => &[
+                &[VERSION_1, br#","limit":18446744073709551616"#],
+                LAMP_HERE,
+                ONE_LAMP,
+                SWITCH,
+            ],
+            Text::Wide32 => &[
+                &[VERSION_1],
+                LAMP_AND_WIDE,
+                &[
+                    SERVICES,
                     br#"{"name":"w0","behaviour":"wide"}"#,
                     W1_TO_W16,
                     W17_TO_W31,
                 ],
-                ..PLAIN
-            }),
-            Text::Wide16 => Parts(Document {
-                behaviours: &[LAMP, WIDE],
-                services: &[FIRST_LAMP, W1_TO_W16],
-                ..PLAIN
-            }),
-            Text::LampAndX => Parts(Document {
-                behaviours: &[LAMP, X],
-                services: &[FIRST_LAMP, br#",{"name":"x","behaviour":"x"}"#],
-                ..PLAIN
-            }),
-            Text::LampAndLooseX => Parts(Document {
-                version: VERSION_2,
-                behaviours: &[LAMP, X],
-                services: &[
-                    FIRST_LAMP,
-                    br#",{"name":"x","behaviour":"x","state":"bad","rests":false}"#,
-                ],
-                ..PLAIN
-            }),
-            Text::Rests1 => Parts(Document {
-                version: VERSION_2,
-                behaviours: &[LAMP, X],
-                services: &[
-                    FIRST_LAMP,
-                    br#",{"name":"x","behaviour":"x","state":"bad","rests":1}"#,
-                ],
-                ..PLAIN
-            }),
-            Text::RestsIgnored => Parts(Document {
-                behaviours: &[LAMP, X],
-                services: &[
-                    FIRST_LAMP,
-                    br#",{"name":"x","behaviour":"x","state":"bad","rests":1}"#,
-                ],
-                ..PLAIN
-            }),
-            Text::Full => Parts(Document {
-                behaviours: &[LAMP, DOT],
-                services: &[FIRST_LAMP, D1_TO_D31],
-                ..PLAIN
-            }),
-            Text::Overfull => Parts(Document {
-                behaviours: &[LAMP, DOT],
-                services: &[
-                    FIRST_LAMP,
-                    D1_TO_D31,
-                    br#",{"name":"d32","behaviour":"dot"}"#,
-                ],
-                ..PLAIN
-            }),
-            Text::TwoLamps => Parts(Document {
-                services: &[FIRST_LAMP, SECOND_LAMP],
-                ..PLAIN
-            }),
-            Text::Choice => Parts(Document {
-                environment: THREE_STATES,
-                target: &[
+                SWITCH,
+            ],
+            Text::Wide16 => &[&[VERSION_1], LAMP_AND_WIDE, ONE_LAMP, &[W1_TO_W16], SWITCH],
+            Text::LampAndX => &[
+                &[VERSION_1],
+                LAMP_AND_X,
+                ONE_LAMP,
+                &[br#",{"name":"x","behaviour":"x"}"#],
+                SWITCH,
+            ],
+            Text::LampAndLooseX => &[
+                &[VERSION_2],
+                LAMP_AND_X,
+                ONE_LAMP,
+                &[br#",{"name":"x","behaviour":"x","state":"bad","rests":false}"#],
+                SWITCH,
+            ],
+            Text::Rests1 => &[
+                &[VERSION_2],
+                LAMP_AND_X,
+                ONE_LAMP,
+                &[br#",{"name":"x","behaviour":"x","state":"bad","rests":1}"#],
+                SWITCH,
+            ],
+            Text::RestsIgnored => &[
+                &[VERSION_1],
+                LAMP_AND_X,
+                ONE_LAMP,
+                &[br#",{"name":"x","behaviour":"x","state":"bad","rests":1}"#],
+                SWITCH,
+            ],
+            Text::Full => &[&[VERSION_1], LAMP_AND_DOT, ONE_LAMP, &[D1_TO_D31], SWITCH],
+            Text::Overfull => &[
+                &[VERSION_1],
+                LAMP_AND_DOT,
+                ONE_LAMP,
+                &[D1_TO_D31, br#",{"name":"d32","behaviour":"dot"}"#],
+                SWITCH,
+            ],
+            Text::TwoLamps => &[LAMP_1, BOTH_LAMPS, SWITCH],
+            Text::Choice => &[
+                &[VERSION_1],
+                LAMP_IN_THREE,
+                ONE_LAMP,
+                &[
+                    TARGET,
                     br#"{"states":["off","on"],"start":"off","final":["off"],"steps":[["off",["e1","e2"],"on","on"],["off",["e2","e3"],"on","off"],["on",true,"off","off"]]}"#,
+                    END,
                 ],
-                ..PLAIN
-            }),
-            Text::NoChoice => Parts(Document {
-                environment: THREE_STATES,
-                target: &[
+            ],
+            Text::NoChoice => &[
+                &[VERSION_1],
+                LAMP_IN_THREE,
+                ONE_LAMP,
+                &[
+                    TARGET,
                     br#"{"states":["off","on"],"start":"off","final":["off"],"steps":[["off",["e1","e2"],"on","on"],["off",["e3"],"on","off"],["on",true,"off","off"]]}"#,
+                    END,
                 ],
-                ..PLAIN
-            }),
-            Text::TargetByFile => Parts(Document {
-                target: &[br#"{"file":"t.json"}"#],
-                ..PLAIN
-            }),
-            Text::Target => Whole(&[SWITCHED]),
-            Text::TargetDim => Whole(&[
+            ],
+            Text::TargetByFile => &[ONE_LAMP_1, &[TARGET, br#"{"file":"t.json"}"#, END]],
+            Text::Target => &[&[SWITCHED]],
+            Text::TargetDim => &[&[
                 br#"{"states":["off","on"],"start":"off","final":["off"],"steps":[["off",true,"on","on"],["on",true,"dim","off"]]}"#,
-            ]),
-            Text::FileAgain => Whole(&[br#"{"file":"u.json"}"#]),
-            Text::TargetGone => Parts(Document {
-                target: &[br#"{"file":"gone.json"}"#],
-                ..PLAIN
-            }),
-            Text::TargetGoneLimit0 => Parts(Document {
-                limit: br#","limit":0"#,
-                target: &[br#"{"file":"gone.json"}"#],
-                ..PLAIN
-            }),
-            Text::Roman9 => Parts(Document {
-                version: br#"{"roman":9"#,
-                ..PLAIN
-            }),
-            Text::Roman2 => Parts(Document {
-                version: VERSION_2,
-                ..PLAIN
-            }),
-            Text::OnTwice => Parts(Document {
-                environment: br#","environment":{"states":["e"],"start":"e","actions":["on","on"],"steps":[["e","on","e"],["e","off","e"]]}"#,
-                ..PLAIN
-            }),
-            Text::NoTarget => Parts(Document {
-                opening: br#"]"#,
-                target: &[],
-                ..PLAIN
-            }),
-            Text::NoGuard => Parts(Document {
-                target: &[
+            ]],
+            Text::FileAgain => &[&[br#"{"file":"u.json"}"#]],
+            Text::TargetGone => &[ONE_LAMP_1, &[TARGET, br#"{"file":"gone.json"}"#, END]],
+            Text::TargetGoneLimit0 => &[
+                &[VERSION_1, br#","limit":0"#],
+                LAMP_HERE,
+                ONE_LAMP,
+                &[TARGET, br#"{"file":"gone.json"}"#, END],
+            ],
+            Text::Roman9 => &[&[br#"{"roman":9"#], LAMP_HERE, ONE_LAMP, SWITCH],
+            Text::Roman2 => &[&[VERSION_2], LAMP_HERE, ONE_LAMP, SWITCH],
+            Text::OnTwice => &[
+                &[VERSION_1],
+                &[
+                    br#","environment":{"states":["e"],"start":"e","actions":["on","on"],"steps":[["e","on","e"],["e","off","e"]]}"#,
+                    BEHAVIOURS,
+                    LAMP,
+                ],
+                ONE_LAMP,
+                SWITCH,
+            ],
+            Text::NoTarget => &[ONE_LAMP_1, &[br#"]"#, END]],
+            Text::NoGuard => &[
+                ONE_LAMP_1,
+                &[
+                    TARGET,
                     SWITCHED_UP_TO_GUARD,
                     br#"{"any":["e"]}"#,
                     SWITCHED_FROM_GUARD,
+                    END,
                 ],
-                ..PLAIN
-            }),
-            Text::Not100 => Parts(Document {
-                target: &[
+            ],
+            Text::Not100 => &[
+                ONE_LAMP_1,
+                &[
+                    TARGET,
                     SWITCHED_UP_TO_GUARD,
                     NOT_20,
                     NOT_20,
@@ -606,11 +592,13 @@ impl Text {
                     END_20,
                     END_20,
                     SWITCHED_FROM_GUARD,
+                    END,
                 ],
-                ..PLAIN
-            }),
-            Text::Not200 => Parts(Document {
-                target: &[
+            ],
+            Text::Not200 => &[
+                ONE_LAMP_1,
+                &[
+                    TARGET,
                     SWITCHED_UP_TO_GUARD,
                     NOT_20,
                     NOT_20,
@@ -634,72 +622,74 @@ impl Text {
                     END_20,
                     END_20,
                     SWITCHED_FROM_GUARD,
+                    END,
                 ],
-                ..PLAIN
-            }),
-            Text::Lamp255 => Parts(Document {
-                end: b"\xff",
-                ..PLAIN
-            }),
-            Text::FinalTwice => Parts(Document {
-                target: &[
+            ],
+            Text::Lamp255 => &[ONE_LAMP_1, &[TARGET, SWITCHED, b"\xff"]],
+            Text::FinalTwice => &[
+                ONE_LAMP_1,
+                &[
+                    TARGET,
                     br#"{"states":["off","on"],"start":"off","final":["off","off"],"steps":[["off",true,"on","on"],["on",true,"off","off"]]}"#,
+                    END,
                 ],
-                ..PLAIN
-            }),
-            Text::NoBehaviours => Parts(Document {
-                behaviours: &[],
-                ..PLAIN
-            }),
-            Text::OtherGuards => Parts(Document {
-                target: &[
+            ],
+            Text::NoBehaviours => &[&[VERSION_1], &[ENVIRONMENT, BEHAVIOURS], ONE_LAMP, SWITCH],
+            Text::OtherGuards => &[
+                ONE_LAMP_1,
+                &[
+                    TARGET,
                     br#"{"states":["off","on"],"start":"off","final":["off"],"steps":["#,
                     br#"["off",{"any":[false,["e"]]},"on","on"],"#,
                     br#"["off",{"all":[true,false]},"off","on"],"#,
                     br#"["on",{"all":[true,{"not":[]}]},"off","off"]]}"#,
+                    END,
                 ],
-                ..PLAIN
-            }),
-            Text::FalseGuard => Parts(Document {
-                target: &[SWITCHED_UP_TO_GUARD, b"false", SWITCHED_FROM_GUARD],
-                ..PLAIN
-            }),
-            Text::PartsByFile => Parts(Document {
-                environment: br#","environment":{"file":"e.json"}"#,
-                behaviours: &[br#"{"file":"b.json"}"#],
-                ..PLAIN
-            }),
-            Text::Environment => Whole(&[
+            ],
+            Text::FalseGuard => &[
+                ONE_LAMP_1,
+                &[
+                    TARGET,
+                    SWITCHED_UP_TO_GUARD,
+                    b"false",
+                    SWITCHED_FROM_GUARD,
+                    END,
+                ],
+            ],
+            Text::PartsByFile => &[
+                &[VERSION_1],
+                &[
+                    br#","environment":{"file":"e.json"}"#,
+                    BEHAVIOURS,
+                    br#"{"file":"b.json"}"#,
+                ],
+                ONE_LAMP,
+                SWITCH,
+            ],
+            Text::Environment => &[&[
                 br#"{"states":["e"],"start":"e","actions":["on","off"],"#,
                 br#""steps":[["e","on","e"],["e","off","e"]]}"#,
-            ]),
-            Text::Behaviour => Whole(&[LAMP]),
-            Text::FrozenAndLoose => Parts(Document {
-                version: VERSION_2,
-                behaviours: &[LAMP, X],
-                services: &[
-                    FIRST_LAMP,
-                    br#",{"name":"x","behaviour":"x","state":"bad","frozen":true,"rests":false}"#,
-                ],
-                ..PLAIN
-            }),
-            Text::Order => Whole(&[ORDER, b"1 f\n2 0\n3 1\n5 1\n0 0\n4 1\nend\n"]),
-            Text::OrderExchanged => Whole(&[ORDER, b"1 f\n2 0\n3 1\n0 0\n5 1\n4 1\nend\n"]),
-            Text::OrderShort => Whole(&[ORDER, b"1 f\n2 0\n3 1\n5 1\n0 0\nend\n"]),
-            Text::OrderUnended => Whole(&[ORDER, b"1 f\n2 0\n3 1\n5 1\n0 0\n4 1\n"]),
-            Text::OrderTwice => Whole(&[ORDER, b"1 f\n1 f\n2 0\n3 1\n5 1\n0 0\n4 1\nend\n"]),
-            Text::Two => Parts(TWO),
-            Text::TwoLoneLamp => Parts(Document {
-                services: &[FIRST_LAMP],
-                ..TWO
-            }),
-            Text::OneOfTwo => Parts(Document {
-                target: &[TARGET_A],
-                ..TWO
-            }),
-            Text::NoneOfTwo => Parts(Document { target: &[], ..TWO }),
-            Text::FiveTargets => Parts(Document {
-                target: &[
+            ]],
+            Text::Behaviour => &[&[LAMP]],
+            Text::FrozenAndLoose => &[
+                &[VERSION_2],
+                LAMP_AND_X,
+                ONE_LAMP,
+                &[br#",{"name":"x","behaviour":"x","state":"bad","frozen":true,"rests":false}"#],
+                SWITCH,
+            ],
+            Text::Order => &[&[ORDER, b"1 f\n2 0\n3 1\n5 1\n0 0\n4 1\nend\n"]],
+            Text::OrderExchanged => &[&[ORDER, b"1 f\n2 0\n3 1\n0 0\n5 1\n4 1\nend\n"]],
+            Text::OrderShort => &[&[ORDER, b"1 f\n2 0\n3 1\n5 1\n0 0\nend\n"]],
+            Text::OrderUnended => &[&[ORDER, b"1 f\n2 0\n3 1\n5 1\n0 0\n4 1\n"]],
+            Text::OrderTwice => &[&[ORDER, b"1 f\n1 f\n2 0\n3 1\n5 1\n0 0\n4 1\nend\n"]],
+            Text::Two => &[BOTH_LAMPS_3, TWO_SWITCHES],
+            Text::TwoLoneLamp => &[&[VERSION_3], LAMP_HERE, ONE_LAMP, TWO_SWITCHES],
+            Text::OneOfTwo => &[BOTH_TO_TARGETS, &[TARGET_A, END_TARGETS]],
+            Text::NoneOfTwo => &[BOTH_TO_TARGETS, &[END_TARGETS]],
+            Text::FiveTargets => &[
+                BOTH_TO_TARGETS,
+                &[
                     br#"{"file":"gone.json"}"#,
                     NEXT,
                     TARGET_A,
@@ -709,215 +699,246 @@ impl Text {
                     br#"{"name":"c","states":["off","on"],"start":"off","final":["off"],"steps":[["off",true,"on","on"],["on",true,"off","off"]]}"#,
                     NEXT,
                     br#"{"name":"d","states":["off","on"],"start":"off","final":["off"],"steps":[["off",true,"on","on"],["on",true,"off","off"]]}"#,
+                    END_TARGETS,
                 ],
-                ..TWO
-            }),
-            Text::TargetsGone => Parts(Document {
-                opening: br#"]"#,
-                target: &[],
-                end: END,
-                ..TWO
-            }),
-            Text::TargetsNoList => Parts(Document {
-                opening: br#"],"targets":{"a":"#,
-                target: &[TARGET_A, br#"}"#],
-                end: END,
-                ..TWO
-            }),
-            Text::SecondByFile => Parts(Document {
-                target: &[TARGET_A, NEXT, br#"{"file":"t.json"}"#],
-                ..TWO
-            }),
-            Text::TargetB => Whole(&[TARGET_B]),
-            Text::NamelessFirst => Parts(Document {
-                target: &[SWITCHED, NEXT, TARGET_B],
-                ..TWO
-            }),
-            Text::NumberName => Parts(Document {
-                target: &[
+            ],
+            Text::TargetsGone => &[BOTH_LAMPS_3, &[br#"]"#, END]],
+            Text::TargetsNoList => &[
+                BOTH_LAMPS_3,
+                &[br#"],"targets":{"a":"#, TARGET_A, br#"}"#, END],
+            ],
+            Text::SecondByFile => &[
+                BOTH_TO_TARGETS,
+                &[TARGET_A, NEXT, br#"{"file":"t.json"}"#, END_TARGETS],
+            ],
+            Text::TargetB => &[&[TARGET_B]],
+            Text::NamelessFirst => &[BOTH_TO_TARGETS, &[SWITCHED, NEXT, TARGET_B, END_TARGETS]],
+            Text::NumberName => &[
+                BOTH_TO_TARGETS,
+                &[
                     TARGET_A,
                     NEXT,
                     br#"{"name":7,"states":["off","on"],"start":"off","final":["off"],"steps":[["off",true,"on","on"],["on",true,"off","off"]]}"#,
+                    END_TARGETS,
                 ],
-                ..TWO
-            }),
-            Text::BadNameFirst => Parts(Document {
-                target: &[
+            ],
+            Text::BadNameFirst => &[
+                BOTH_TO_TARGETS,
+                &[
                     br#"{"name":"a b","states":["off","on"],"start":"off","final":["off"],"steps":[["off",true,"on","on"],["on",true,"off","off"]]},{"file":"gone.json"}"#,
+                    END_TARGETS,
                 ],
-                ..TWO
-            }),
-            Text::SameName => Parts(Document {
-                target: &[TARGET_A, NEXT, TARGET_A],
-                ..TWO
-            }),
-            Text::NoTargetObject => Parts(Document {
-                target: &[TARGET_A, NEXT, b"5"],
-                ..TWO
-            }),
-            Text::NameBeforeStates => Parts(Document {
-                target: &[TARGET_A, NEXT, br#"{"name":"a"}"#],
-                ..TWO
-            }),
-            Text::States65 => Parts(Document {
-                target: &[
+            ],
+            Text::SameName => &[BOTH_TO_TARGETS, &[TARGET_A, NEXT, TARGET_A, END_TARGETS]],
+            Text::NoTargetObject => &[BOTH_TO_TARGETS, &[TARGET_A, NEXT, b"5", END_TARGETS]],
+            Text::NameBeforeStates => &[
+                BOTH_TO_TARGETS,
+                &[TARGET_A, NEXT, br#"{"name":"a"}"#, END_TARGETS],
+            ],
+            Text::States65 => &[
+                BOTH_TO_TARGETS,
+                &[
                     br#"{"name":"a","states":["s0","s1","s2","s3","s4","s5","s6","s7","s8","s9","s10","s11","s12"],"start":"s0","final":["s0"],"steps":[["s0",true,"on","s0"]]}"#,
                     NEXT,
                     br#"{"name":"b","states":["s0","s1","s2","s3","s4"],"start":"s0","final":["s0"],"steps":[["s0",true,"on","s0"]]}"#,
+                    END_TARGETS,
                 ],
-                ..TWO
-            }),
-            Text::States64 => Parts(Document {
-                services: &[],
-                target: &[
+            ],
+            Text::States64 => &[
+                &[VERSION_3],
+                LAMP_HERE,
+                NO_SERVICES,
+                &[
+                    TARGETS,
                     br#"{"name":"a","states":["s0","s1","s2","s3","s4","s5","s6","s7","s8","s9","s10","s11","s12","s13","s14","s15"],"start":"s0","final":["s0"],"steps":[["s0",true,"on","s1"]]}"#,
                     NEXT,
                     br#"{"name":"b","states":["s0","s1","s2","s3"],"start":"s0","final":["s0"],"steps":[["s1",true,"on","s1"]]}"#,
+                    END_TARGETS,
                 ],
-                ..TWO
-            }),
-            Text::Actions33 => Parts(Document {
-                environment: br#","environment":{"states":["e"],"start":"e","actions":["a0","a1","a2","a3","a4","a5","a6","a7","a8","a9","a10","a11","a12","a13","a14","a15","a16"],"steps":[]}"#,
-                behaviours: &[],
-                services: &[],
-                target: &[
+            ],
+            Text::Actions33 => &[
+                &[VERSION_3],
+                &[
+                    br#","environment":{"states":["e"],"start":"e","actions":["a0","a1","a2","a3","a4","a5","a6","a7","a8","a9","a10","a11","a12","a13","a14","a15","a16"],"steps":[]}"#,
+                    BEHAVIOURS,
+                ],
+                NO_SERVICES,
+                &[
+                    TARGETS,
                     br#"{"name":"a","states":["s"],"start":"s","final":["s"],"steps":[["s",true,"a0","s"],["s",true,"a1","s"],["s",true,"a2","s"],["s",true,"a3","s"],["s",true,"a4","s"],["s",true,"a5","s"],["s",true,"a6","s"],["s",true,"a7","s"],["s",true,"a8","s"],["s",true,"a9","s"],["s",true,"a10","s"],["s",true,"a11","s"],["s",true,"a12","s"],["s",true,"a13","s"],["s",true,"a14","s"],["s",true,"a15","s"],["s",true,"a16","s"]]}"#,
                     NEXT,
                     br#"{"name":"b","states":["s"],"start":"s","final":["s"],"steps":[["s",true,"a0","s"],["s",true,"a1","s"],["s",true,"a2","s"],["s",true,"a3","s"],["s",true,"a4","s"],["s",true,"a5","s"],["s",true,"a6","s"],["s",true,"a7","s"],["s",true,"a8","s"],["s",true,"a9","s"],["s",true,"a10","s"],["s",true,"a11","s"],["s",true,"a12","s"],["s",true,"a13","s"],["s",true,"a14","s"],["s",true,"a15","s"]]}"#,
+                    END_TARGETS,
                 ],
-                ..TWO
-            }),
-            Text::Actions32 => Parts(Document {
-                environment: br#","environment":{"states":["e"],"start":"e","actions":["a0","a1","a2","a3","a4","a5","a6","a7","a8","a9","a10","a11","a12","a13","a14","a15","a16"],"steps":[]}"#,
-                behaviours: &[],
-                services: &[],
-                target: &[
+            ],
+            Text::Actions32 => &[
+                &[VERSION_3],
+                &[
+                    br#","environment":{"states":["e"],"start":"e","actions":["a0","a1","a2","a3","a4","a5","a6","a7","a8","a9","a10","a11","a12","a13","a14","a15","a16"],"steps":[]}"#,
+                    BEHAVIOURS,
+                ],
+                NO_SERVICES,
+                &[
+                    TARGETS,
                     br#"{"name":"a","states":["s"],"start":"s","final":["s"],"steps":[["s",true,"a0","s"],["s",true,"a1","s"],["s",true,"a2","s"],["s",true,"a3","s"],["s",true,"a4","s"],["s",true,"a5","s"],["s",true,"a6","s"],["s",true,"a7","s"],["s",true,"a8","s"],["s",true,"a9","s"],["s",true,"a10","s"],["s",true,"a11","s"],["s",true,"a12","s"],["s",true,"a13","s"],["s",true,"a14","s"],["s",true,"a15","s"]]}"#,
                     NEXT,
                     br#"{"name":"b","states":["s"],"start":"s","final":["s"],"steps":[["s",true,"a0","s"],["s",true,"a1","s"],["s",true,"a2","s"],["s",true,"a3","s"],["s",true,"a4","s"],["s",true,"a5","s"],["s",true,"a6","s"],["s",true,"a7","s"],["s",true,"a8","s"],["s",true,"a9","s"],["s",true,"a10","s"],["s",true,"a11","s"],["s",true,"a12","s"],["s",true,"a13","s"],["s",true,"a14","s"],["s",true,"a15","s"]]}"#,
+                    END_TARGETS,
                 ],
-                ..TWO
-            }),
-            Text::Actions0 => Parts(Document {
-                target: &[
+            ],
+            Text::Actions0 => &[
+                BOTH_TO_TARGETS,
+                &[
                     br#"{"name":"a","states":["off","on"],"start":"off","final":["off"],"steps":[]}"#,
                     NEXT,
                     br#"{"name":"b","states":["off","on"],"start":"off","final":["off"],"steps":[]}"#,
+                    END_TARGETS,
                 ],
-                ..TWO
-            }),
-            Text::ActionsNever => Parts(Document {
-                target: &[
+            ],
+            Text::ActionsNever => &[
+                BOTH_TO_TARGETS,
+                &[
                     br#"{"name":"a","states":["off","on"],"start":"off","final":["off"],"steps":[["off",[],"on","on"]]}"#,
                     NEXT,
                     br#"{"name":"b","states":["off","on"],"start":"off","final":["off"],"steps":[["off",false,"on","on"]]}"#,
+                    END_TARGETS,
                 ],
-                ..TWO
-            }),
-            Text::LongState => Parts(Document {
-                target: &[
+            ],
+            Text::LongState => &[
+                BOTH_TO_TARGETS,
+                &[
                     br#"{"name":"a","states":["pppppppppppppppp"],"start":"pppppppppppppppp","final":["pppppppppppppppp"],"steps":[["pppppppppppppppp",true,"on","pppppppppppppppp"]]}"#,
                     NEXT,
                     br#"{"name":"b","states":["qqqqqqqqqqqqqqqq"],"start":"qqqqqqqqqqqqqqqq","final":["qqqqqqqqqqqqqqqq"],"steps":[["qqqqqqqqqqqqqqqq",true,"on","qqqqqqqqqqqqqqqq"]]}"#,
+                    END_TARGETS,
                 ],
-                ..TWO
-            }),
-            Text::LongAction => Parts(Document {
-                target: &[
+            ],
+            Text::LongAction => &[
+                BOTH_TO_TARGETS,
+                &[
                     br#"{"name":"a","states":["s"],"start":"s","final":["s"],"steps":[["s",true,"on","s"]]}"#,
                     NEXT,
                     br#"{"name":"bbbbbbbbbbbbbbbbbbbbbbbbbbbbbb","states":["s"],"start":"s","final":["s"],"steps":[["s",true,"on","s"]]}"#,
+                    END_TARGETS,
                 ],
-                ..TWO
-            }),
-            Text::Long32 => Parts(Document {
-                target: &[
+            ],
+            Text::Long32 => &[
+                BOTH_TO_TARGETS,
+                &[
                     br#"{"name":"a","states":["pppppppppppppppp"],"start":"pppppppppppppppp","final":["pppppppppppppppp"],"steps":[["pppppppppppppppp",true,"on","pppppppppppppppp"]]}"#,
                     NEXT,
                     br#"{"name":"bbbbbbbbbbbbbbbbbbbbbbbbbbbbb","states":["qqqqqqqqqqqqqqq"],"start":"qqqqqqqqqqqqqqq","final":["qqqqqqqqqqqqqqq"],"steps":[["qqqqqqqqqqqqqqq",true,"on","qqqqqqqqqqqqqqq"]]}"#,
+                    END_TARGETS,
                 ],
-                ..TWO
-            }),
-            Text::SameStates => Parts(Document {
-                target: &[
+            ],
+            Text::SameStates => &[
+                BOTH_TO_TARGETS,
+                &[
                     br#"{"name":"a","states":["x","x-y"],"start":"x","final":["x","x-y"],"steps":[["x",true,"on","x"]]}"#,
                     NEXT,
                     br#"{"name":"b","states":["y-z","z"],"start":"y-z","final":["y-z","z"],"steps":[["y-z",true,"on","y-z"]]}"#,
+                    END_TARGETS,
                 ],
-                ..TWO
-            }),
-            Text::SameActions => Parts(Document {
-                environment: br#","environment":{"states":["e"],"start":"e","actions":["x","x-y"],"steps":[]}"#,
-                behaviours: &[],
-                services: &[],
-                target: &[
+            ],
+            Text::SameActions => &[
+                &[VERSION_3],
+                &[
+                    br#","environment":{"states":["e"],"start":"e","actions":["x","x-y"],"steps":[]}"#,
+                    BEHAVIOURS,
+                ],
+                NO_SERVICES,
+                &[
+                    TARGETS,
                     br#"{"name":"y-z","states":["s"],"start":"s","final":["s"],"steps":[["s",true,"x","s"]]}"#,
                     NEXT,
                     br#"{"name":"z","states":["s"],"start":"s","final":["s"],"steps":[["s",true,"x-y","s"]]}"#,
+                    END_TARGETS,
                 ],
-                ..TWO
-            }),
-            Text::AllFour => Parts(Document {
-                target: &[
+            ],
+            Text::AllFour => &[
+                BOTH_TO_TARGETS,
+                &[
                     br#"{"name":"a","states":["x","x-y","pppppppppppppppppppppppppppppp10","pppppppppppppppppppppppppppppp11","pppppppppppppppppppppppppppppp12","pppppppppppppppppppppppppppppp13","pppppppppppppppppppppppppppppp14","pppppppppppppppppppppppppppppp15","pppppppppppppppppppppppppppppp16","pppppppppppppppppppppppppppppp17","pppppppppppppppppppppppppppppp18","pppppppppppppppppppppppppppppp19","pppppppppppppppppppppppppppppp20"],"start":"x","final":["x","x-y","pppppppppppppppppppppppppppppp10","pppppppppppppppppppppppppppppp11","pppppppppppppppppppppppppppppp12","pppppppppppppppppppppppppppppp13","pppppppppppppppppppppppppppppp14","pppppppppppppppppppppppppppppp15","pppppppppppppppppppppppppppppp16","pppppppppppppppppppppppppppppp17","pppppppppppppppppppppppppppppp18","pppppppppppppppppppppppppppppp19","pppppppppppppppppppppppppppppp20"],"steps":[]}"#,
                     NEXT,
                     br#"{"name":"b","states":["y-z","z","qqqqqqqqqqqqqqqqqqqqqqqqqqqqqq10","qqqqqqqqqqqqqqqqqqqqqqqqqqqqqq11","qqqqqqqqqqqqqqqqqqqqqqqqqqqqqq12"],"start":"y-z","final":["y-z","z","qqqqqqqqqqqqqqqqqqqqqqqqqqqqqq10","qqqqqqqqqqqqqqqqqqqqqqqqqqqqqq11","qqqqqqqqqqqqqqqqqqqqqqqqqqqqqq12"],"steps":[]}"#,
+                    END_TARGETS,
                 ],
-                ..TWO
-            }),
-            Text::LongAndSame => Parts(Document {
-                target: &[
+            ],
+            Text::LongAndSame => &[
+                BOTH_TO_TARGETS,
+                &[
                     br#"{"name":"a","states":["x","x-y","pppppppppppppppppppppppppppppp"],"start":"x","final":["x","x-y","pppppppppppppppppppppppppppppp"],"steps":[["x",true,"on","x"]]}"#,
                     NEXT,
                     br#"{"name":"b","states":["y-z","z"],"start":"y-z","final":["y-z","z"],"steps":[["y-z",true,"on","y-z"]]}"#,
+                    END_TARGETS,
                 ],
-                ..TWO
-            }),
-            Text::ChoiceLast => Parts(Document {
-                target: &[
+            ],
+            Text::ChoiceLast => &[
+                BOTH_TO_TARGETS,
+                &[
                     br#"{"name":"a","states":["s0","s1","s2","s3","s4","s5","s6","s7","s8","s9","s10","s11","s12","s13","s14","s15","s16","s17","s18","s19","s20","s21","s22","s23","s24","s25","s26","s27","s28","s29","s30","s31","s32"],"start":"s0","final":["s0"],"steps":[["s0",true,"on","s0"]]}"#,
                     NEXT,
                     br#"{"name":"b","states":["off","on"],"start":"off","final":["off"],"steps":[["off",true,"on","on"],["off",true,"on","off"]]}"#,
+                    END_TARGETS,
                 ],
-                ..TWO
-            }),
-            Text::TwoWithTarget => Parts(Document {
-                target: &[TARGET_A, NEXT, TARGET_B, TARGET, br#"7"#],
-                end: END,
-                ..TWO
-            }),
-            Text::LampWithTargets => Parts(Document {
-                target: &[SWITCHED, br#","targets":7"#],
-                ..PLAIN
-            }),
-            Text::TwoLoose => Parts(Document {
-                services: &[
-                    FIRST_LAMP,
+            ],
+            Text::TwoWithTarget => &[
+                BOTH_TO_TARGETS,
+                &[TARGET_A, NEXT, TARGET_B, TARGET, br#"7"#, END],
+            ],
+            Text::LampWithTargets => &[ONE_LAMP_1, &[TARGET, SWITCHED, br#","targets":7"#, END]],
+            Text::TwoLoose => &[
+                &[VERSION_3],
+                LAMP_HERE,
+                ONE_LAMP,
+                &[
                     NEXT,
                     br#"{"name":"l2","behaviour":"lamp","state":"on","rests":false}"#,
                 ],
-                ..TWO
-            }),
-            Text::Roman4 => Parts(Document {
-                version: br#"{"roman":4"#,
-                ..TWO
-            }),
-            Text::Nothing => Whole(&[]),
-            Text::Spare => Parts(Document {
-                behaviours: &[
+                TWO_SWITCHES,
+            ],
+            Text::Roman4 => &[&[br#"{"roman":4"#], LAMP_HERE, BOTH_LAMPS, TWO_SWITCHES],
+            Text::Nothing => &[],
+            Text::Spare => &[
+                &[VERSION_1],
+                &[
+                    ENVIRONMENT,
+                    BEHAVIOURS,
                     LAMP,
                     br#",{"name":"spare","states":["off","on"],"start":"off","final":["off"],"steps":[["off",true,"on","on"],["on",true,"off","off"]]}"#,
                 ],
-                services: &[FIRST_LAMP, br#",{"name":"s1","behaviour":"spare"}"#],
-                ..PLAIN
-            }),
-            Text::Many => Parts(MANY),
-            Text::OneMore => Parts(Document {
-                behaviours: &[
+                ONE_LAMP,
+                &[br#",{"name":"s1","behaviour":"spare"}"#],
+                SWITCH,
+            ],
+            Text::Many => &[
+                &[VERSION_1],
+                &[
+                    ONE_ACTION,
+                    BEHAVIOURS,
+                    br#"{"name":"two","states":["s","t"],"start":"s","final":[],"steps":[]}"#,
+                ],
+                FOURTEEN,
+                &[
+                    TARGET,
+                    br#"{"states":["a","b"],"start":"a","final":["b"],"steps":[]}"#,
+                    END,
+                ],
+            ],
+            Text::OneMore => &[
+                &[VERSION_1],
+                &[
+                    ONE_ACTION,
+                    BEHAVIOURS,
                     br#"{"name":"two","states":["s","t"],"start":"s","final":["t"],"steps":[]}"#,
                 ],
-                ..MANY
-            }),
+                FOURTEEN,
+                &[
+                    TARGET,
+                    br#"{"states":["a","b"],"start":"a","final":["b"],"steps":[]}"#,
+                    END,
+                ],
+            ],
         }
     }
 }
