@@ -1,7 +1,7 @@
 -- What becomes of the entries of a removal list when a service dies.
 use Rattle.std.proofs.Common.{◌≡◌, ℕ, ◌*◌, ◌<◌, ◌≤◌, ◌==◌, Bool, true, false, ◌||◌, if◌then◌else◌, List, [], ◌∷◌, ◌++◌, map, length, filter, slice_index, refl, sym, ap, ap₂, ◌∙◌, subst, arith}
 use Rattle.std.specs.List.{list_any}
-use Rattle.std.proofs.lemmas.List.{append-nil, append_assoc, map_push}
+use Rattle.std.proofs.lemmas.List.{append_assoc, map_push}
 use Rattle.std.proofs.lemmas.List.Folds.{list_any-append}
 use Rattle.std.proofs.Math.Nat.{mul-le-mul_left}
 use Rattle.roman_model.specs.System.{Seat, Sys}
@@ -76,10 +76,6 @@ renaming_step n k seat whole done rest x l h so_far = by_test (may_go k seat (pa
 
     seen : list_any (λ i. y.node == i) (nodes_of done) ≡ has_entry done y.node
     seen = list_any-map (λ z. z.node) (λ i. y.node == i) done
-
--- no entry waits
-pub renaming_end : (n : Sizes) (k : ℕ) (seat : Seat) (whole done : List (Entry ℕ)) → IsRenaming n k seat whole done [] → done ≡ whole
-renaming_end n k seat whole done all = sym (append-nil done) ∙ all
 
 -- How many pairs are left.
 

@@ -1,5 +1,5 @@
 -- What a replay keeps, candidate by candidate.
-use Rattle.std.proofs.Common.{◌≡◌, ℕ, ◌+◌, ◌-◌, ◌*◌, ◌<◌, ◌≤◌, ◌==◌, Bool, true, false, if◌then◌else◌, ◌&&◌, List, [], ◌∷◌, ◌++◌, map, flat_map, drop, length, IsTrue, IsFalse, sum_by, count_by, inl, inr, refl, sym, ap, ap₂, ◌∙◌, subst, arith, append-nil, append_assoc}
+use Rattle.std.proofs.Common.{◌≡◌, ℕ, ◌+◌, ◌-◌, ◌*◌, ◌<◌, ◌≤◌, ◌==◌, Bool, true, false, if◌then◌else◌, ◌&&◌, List, [], ◌∷◌, ◌++◌, map, flat_map, drop, length, IsTrue, IsFalse, sum_by, count_by, inl, inr, refl, sym, ap, ◌∙◌, subst, arith, append-nil, append_assoc}
 use Rattle.std.proofs.lemmas.Bool.{or_from, or_left, false_from_ne_true, eqb-true}
 use Rattle.std.proofs.lemmas.List.{map-append, drop-map, drop_more, drop_all, length-map}
 use Rattle.std.proofs.lemmas.List.Sums.{sum_by-cons, sum_by-append}
@@ -89,7 +89,9 @@ candidates_step A kept x L are =
     other y i = false_from_ne_true (y.node == x.node) (λ t. are.once.0 (subst (λ p. IsIn p (nodes_of L)) (eqb-true y.node x.node t) (in_map (λ (z : Entry ℕ). z.node) y L i)))
 
     new : (b : Bool) (y : Entry ℕ) → IsIn y L → IsFalse (has_entry (if b then kept ++ x ∷ [] else kept) y.node)
-    new true y i = list_any-append (λ (z : Entry ℕ). y.node == z.node) kept (x ∷ []) ∙ or_from (has_entry kept y.node) (has_entry (x ∷ []) y.node) (are.new y (inr i)) (or_from (y.node == x.node) false (other y i) refl)
+    new true y i =
+        list_any-append (λ (z : Entry ℕ). y.node == z.node) kept (x ∷ [])
+        ∙ or_from (has_entry kept y.node) (has_entry (x ∷ []) y.node) (are.new y (inr i)) (or_from (y.node == x.node) false (other y i) refl)
     new false y i = are.new y (inr i)
 
 -- and after several
@@ -170,13 +172,10 @@ state_first A start now states x b m so_far l is =
     (subst (IsReplaying A start now (grown_numbers states x)) (grown_more states x b l) so_far)
 
 -- so that number is a node
-pub state_within : (A : Arena ℕ) (start now : Board) (states : ℕ) (x : Entry ℕ) (b m : ℕ) → IsReplaying A start now (grown_numbers states x) (drop b (grown_numbers states x)) → b < states →
+pub state_within : (A : Arena ℕ) (start now : Board) (states : ℕ) (x : Entry ℕ) (b m : ℕ) →
+    IsReplaying A start now (grown_numbers states x) (drop b (grown_numbers states x)) → b < states →
     m ≡ x.node * states + b → m < length A.nodes
 state_within A start now states x b m so_far l is = (state_first A start now states x b m so_far l is).candidates.nodes (as_entry (m, x.reason)) (inl refl)
-
--- the number that is computed
-pub state_number : (i states b wide small : ℕ) → wide ≡ states → small ≡ b → i * wide + small ≡ i * states + b
-state_number i states b wide small e f = ap₂ (λ m n. i * m + n) e f
 
 pub state_cost : (A : Arena ℕ) (states : ℕ) (x : Entry ℕ) (b m : ℕ) → b < states → m ≡ x.node * states + b →
     readings_of_entries A (drop b (grown_numbers states x)) ≡ readings_of_reason A m x.reason + readings_of_entries A (drop (b + 1) (grown_numbers states x))

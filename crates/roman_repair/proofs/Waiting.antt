@@ -88,27 +88,35 @@ pub record IsReopened (change : Change) (s : Sys) (joint : NamedSys) (states : �
   pub those : candidates states reopened ≡ rename_numbers change (sizes_of s) old
 
 -- so its replay is that of the renamed list
-replay_renamed : (change : Change) (s : Sys) (joint : NamedSys) (states : ℕ) (old : List (Entry ℕ)) (reopened : Board) → IsReopened change s joint states old reopened →
+replay_renamed : (change : Change) (s : Sys) (joint : NamedSys) (states : ℕ) (old : List (Entry ℕ)) (reopened : Board) →
+    IsReopened change s joint states old reopened →
     replay (arena_of joint) (candidates states reopened) ≡ numbers_replayed change s old
-replay_renamed change s joint states old reopened is = ap (replay (arena_of joint)) is.those ∙ ap (λ (t : Sys). replay (numbered t) (rename_numbers change (sizes_of s) old)) is.system
+replay_renamed change s joint states old reopened is = ap (replay (arena_of joint)) is.those
+    ∙ ap (λ (t : Sys). replay (numbered t) (rename_numbers change (sizes_of s) old)) is.system
 
 -- and can go on
-pub replayable : (change : Change) (s : Sys) (joint : NamedSys) (states : ℕ) (old : List (Entry ℕ)) (reopened : Board) → IsReopened change s joint states old reopened →
-    AreCandidates (numbered (after change s)) [] (rename_numbers change (sizes_of s) old) → reopened.list ≡ [] → IsShaped (arena_of joint) (lanes_in (system_of joint)) reopened → HasCaps joint reopened →
+pub replayable : (change : Change) (s : Sys) (joint : NamedSys) (states : ℕ) (old : List (Entry ℕ)) (reopened : Board) →
+    IsReopened change s joint states old reopened →
+    AreCandidates (numbered (after change s)) [] (rename_numbers change (sizes_of s) old) → reopened.list ≡ [] → IsShaped (arena_of joint)
+    (lanes_in (system_of joint)) reopened → HasCaps joint reopened →
     IsReplayable joint states reopened
 replayable change s joint states old reopened is may empty shaped caps = record {
   shaped = shaped;
   caps = caps;
   empty = empty;
   may = subst (λ (t : Sys). AreCandidates (numbered t) [] (candidates states reopened)) (sym is.system) (subst (AreCandidates (numbered (after change s)) []) (sym is.those) may);
-  valid = subst (IsOrder (arena_of joint)) (sym (replay_renamed change s joint states old reopened is)) (subst (λ (t : Sys). IsOrder (numbered t) (numbers_replayed change s old)) (sym is.system) is.replays.order);
+  valid = subst (IsOrder (arena_of joint)) (sym (replay_renamed change s joint states old reopened is))
+      (subst (λ (t : Sys). IsOrder (numbered t) (numbers_replayed change s old)) (sym is.system) is.replays.order);
 }
 
 -- to what the repair should end in
-pub reopened_repaired : (change : Change) (n mid joint : NamedSys) (states : ℕ) (old reopened new : Board) (tally : Tally) → IsReopened change (system_of n) mid states old.list reopened → joint ≡ mid → IsRelation joint new →
-    Begins (replay (arena_of mid) (candidates states reopened)) new.list → tally.kept ≡ length (replay (arena_of mid) (candidates states reopened)) → tally.kept + tally.added ≡ length new.list → IsRepaired change n old joint new tally
+pub reopened_repaired : (change : Change) (n mid joint : NamedSys) (states : ℕ) (old reopened new : Board) (tally : Tally) →
+    IsReopened change (system_of n) mid states old.list reopened → joint ≡ mid → IsRelation joint new →
+    Begins (replay (arena_of mid) (candidates states reopened)) new.list → tally.kept ≡ length
+    (replay (arena_of mid) (candidates states reopened)) → tally.kept + tally.added ≡ length new.list → IsRepaired change n old joint new tally
 reopened_repaired change n mid joint states old reopened new tally is same relation begins kept added =
-    repaired_from change n old (replay (arena_of mid) (candidates states reopened)) joint new tally is.replays (replay_renamed change (system_of n) mid states old.list reopened is) (ap system_of same ∙ is.system) relation begins kept added
+    repaired_from change n old (replay (arena_of mid) (candidates states reopened)) joint new tally is.replays
+    (replay_renamed change (system_of n) mid states old.list reopened is) (ap system_of same ∙ is.system) relation begins kept added
 
 -- where a service thaws each entry stands for its own pair
 pub grown_by_one : (L : List (Entry ℕ)) → flat_map (grown_numbers 1) L ≡ L

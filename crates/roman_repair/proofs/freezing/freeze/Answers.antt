@@ -14,7 +14,8 @@ pub settle_on-requires : goal.settle_on-requires
 settle_on-requires g c =
     let n = c.args.relation.now.joint in
     let old = c.args.relation.now.order in
-    let replays = relation_replays (Freeze c.args.k) n old c.known.ensures c.requires.relation c.known-2.ensures.in_range (ready_there (system_of n).seats c.args.k c.requires.ready) in
+    let replays = relation_replays (Freeze c.args.k) n old c.known.ensures c.requires.relation c.known-2.ensures.in_range
+    (ready_there (system_of n).seats c.args.k c.requires.ready) in
     whole_begun (Freeze c.args.k) n c.set_frozen.new.self (with_frozen n.seats c.args.k true) old old replays tt c.requires.relation.caps c.set_frozen.ensures.seats c.set_frozen.ensures.system refl
     (subst (λ (t : Sys). IsShaped (numbered t) (lanes_in t) old) (sym c.set_frozen.ensures.system) (shaped_turned (system_of n) c.args.k true old c.requires.relation.shaped)) refl
     c.requires.relation.complete.idle
@@ -23,7 +24,8 @@ pub returns-clause-repaired : goal.returns-clause-repaired
 returns-clause-repaired g c =
     let n = c.args.relation.now.joint in
     let old = c.args.relation.now.order in
-    let replays = relation_replays (Freeze c.args.k) n old c.known.ensures c.requires.relation c.known-2.ensures.in_range (ready_there (system_of n).seats c.args.k c.requires.ready) in
+    let replays = relation_replays (Freeze c.args.k) n old c.known.ensures c.requires.relation c.known-2.ensures.in_range
+    (ready_there (system_of n).seats c.args.k c.requires.ready) in
     repaired_from (Freeze c.args.k) n old old.list c.settle_on.new.relation.joint c.settle_on.new.relation.order c.settle_on.result replays
     (whole_replay (Freeze c.args.k) (system_of n) old.list old.list replays tt refl) (ap system_of c.settle_on.ensures.joint ∙ c.set_frozen.ensures.system)
     c.settle_on.ensures.relation c.settle_on.ensures.begins c.settle_on.ensures.kept c.settle_on.ensures.added

@@ -19,7 +19,8 @@ replay_and_settle_on-requires g c =
       system = ap system_of c.reopen.ensures.joint ∙ c.in-Ok.ensures.system;
       those = ap (flat_map (grown_numbers c.states_of-states.result)) c.reopen.ensures.waiting ∙ ap (λ m. flat_map (grown_numbers m) old.list) c.states_of-states.ensures;
     } in
-    replayable (Join seat) _ _ c.states_of-states.result old.list _ is (joined_candidates (system_of n) seat old.list (relation_candidates n old c.known.ensures c.requires.relation c.known-2.ensures.in_range) is.replays)
+    replayable (Join seat) _ _ c.states_of-states.result old.list _ is
+    (joined_candidates (system_of n) seat old.list (relation_candidates n old c.known.ensures c.requires.relation c.known-2.ensures.in_range) is.replays)
     c.reopen.ensures.list c.reopen.ensures.shaped c.reopen.ensures.caps
 
 pub returns-clause-repaired : goal.returns-clause-repaired
@@ -29,7 +30,8 @@ returns-clause-repaired g c =
     let seat : Seat = seat_of n.catalogue c.args.seat in
     let can = joined_can c.push_seat.new.self (system_of n) seat c.known-3.ensures c.in-Ok.ensures.system in
     let new = c.replay_and_settle_on in
-    reopened_repaired (Join seat) n c.reopen.new.relation.joint new.new.relation.joint c.states_of-states.result old c.reopen.new.relation.order new.new.relation.order new.result (record {
+    reopened_repaired (Join seat) n c.reopen.new.relation.joint new.new.relation.joint c.states_of-states.result old
+    c.reopen.new.relation.order new.new.relation.order new.result (record {
       replays = relation_replays (Join seat) n old c.known.ensures c.requires.relation c.known-2.ensures.in_range can;
       system = ap system_of c.reopen.ensures.joint ∙ c.in-Ok.ensures.system;
       those = ap (flat_map (grown_numbers c.states_of-states.result)) c.reopen.ensures.waiting ∙ ap (λ m. flat_map (grown_numbers m) old.list) c.states_of-states.ensures;

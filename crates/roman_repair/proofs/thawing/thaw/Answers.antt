@@ -17,7 +17,8 @@ replay_and_settle_on-requires g c =
       system = ap system_of c.reopen.ensures.joint ∙ c.set_frozen.ensures.system;
       those = ap (flat_map (grown_numbers 1)) c.reopen.ensures.waiting ∙ grown_by_one old.list;
     } in
-    replayable (Thaw c.args.k) _ _ 1 old.list _ is (turned_candidates (system_of n) c.args.k false old.list (relation_candidates n old c.known.ensures c.requires.relation c.known-2.ensures.in_range))
+    replayable (Thaw c.args.k) _ _ 1 old.list _ is (turned_candidates (system_of n) c.args.k false old.list
+    (relation_candidates n old c.known.ensures c.requires.relation c.known-2.ensures.in_range))
     c.reopen.ensures.list c.reopen.ensures.shaped c.reopen.ensures.caps
 
 pub returns-clause-repaired : goal.returns-clause-repaired

@@ -1,4 +1,4 @@
-use Rattle.std.proofs.Common.{◌≡◌, ℕ, ◌*◌, ◌≤◌, ◌<◌, List, [], inl, inr, refl, sym, ap, ◌∙◌, subst, arith}
+use Rattle.std.proofs.Common.{◌≡◌, ℕ, ◌*◌, ◌≤◌, ◌<◌, List, [], inl, inr, refl, sym, ap, ◌∙◌, subst, arith, append-nil}
 use Rattle.roman_model.specs.Lists.{IsIn}
 use Rattle.roman_model.specs.Arena.{Entry}
 use Rattle.roman_model.specs.Change.{Die}
@@ -11,7 +11,7 @@ use Rattle.roman_order.specs.Board.{Board, as_entry}
 use Rattle.roman_relation.proofs.Relating.{listed_numbers}
 use Rattle.roman_repair.specs.Deaths.{list_with}
 use Rattle.roman_repair.proofs.DeathStates.{seat_in_sizes}
-use Rattle.roman_repair.proofs.DeathEntries.{IsRenaming, renaming_step, renaming_end, fewer_pairs, small_pairs}
+use Rattle.roman_repair.proofs.DeathEntries.{IsRenaming, renaming_step, fewer_pairs, small_pairs}
 use Rattle.roman_repair.proofs.dying.renaming.rename_list.Goals as goal
 
 pub reopen-requires-clause-pairs : goal.reopen-requires-clause-pairs
@@ -42,7 +42,8 @@ rename_entry-requires c =
       seat = c.requires.seat;
       pair = c.waiting.invariant.waiting x (subst (λ W. IsIn x W) (sym c.in-Some.ensures.first) (inl refl));
       shaped = ap (λ (y : Board). y.rows * y.lanes) same ∙ ap (λ (y : Board). y.rows * y.lanes) c.reopen.ensures.moved
-          ∙ small_pairs c.args.joint.now c.shape-shape.result.now c.shrink-small.result c.args.k c.rows.result c.lanes.result c.shape-shape.ensures c.shrink-small.ensures c.rows.ensures c.lanes.ensures.value;
+          ∙ small_pairs c.args.joint.now c.shape-shape.result.now c.shrink-small.result c.args.k c.rows.result c.lanes.result c.shape-shape.ensures
+          c.shrink-small.ensures c.rows.ensures c.lanes.ensures.value;
     }
 
 pub waiting-preserved : goal.waiting-preserved
@@ -78,9 +79,11 @@ returns c =
       list = λ seat seated.
           let whole = rename_numbers (Die c.args.k seat) n c.args.order.now.list in
           ap (λ (x : Board). x.list) c.in_default.ensures.none.1
-          ∙ renaming_end n c.args.k seat whole c.waiting.order.list (subst (λ W. IsRenaming n c.args.k seat whole c.waiting.order.list W) c.in_default.ensures.none.0 (c.waiting.invariant.list seat seated));
+          ∙ sym (append-nil c.waiting.order.list) ∙ subst (λ W. IsRenaming n c.args.k seat whole c.waiting.order.list W) c.in_default.ensures.none.0
+          (c.waiting.invariant.list seat seated);
       pairs = ap (λ (y : Board). y.rows * y.lanes) same ∙ ap (λ (y : Board). y.rows * y.lanes) c.reopen.ensures.moved
-          ∙ small_pairs c.args.joint.now c.shape-shape.result.now c.shrink-small.result c.args.k c.rows.result c.lanes.result c.shape-shape.ensures c.shrink-small.ensures c.rows.ensures c.lanes.ensures.value;
+          ∙ small_pairs c.args.joint.now c.shape-shape.result.now c.shrink-small.result c.args.k c.rows.result c.lanes.result c.shape-shape.ensures
+          c.shrink-small.ensures c.rows.ensures c.lanes.ensures.value;
       lanes = ap (λ (y : Board). y.lanes) same ∙ ap (λ (y : Board). y.lanes) c.reopen.ensures.moved ∙ c.lanes.ensures.value
           ∙ ap (λ (m : Sizes). lanes_of m.seats) (c.shrink-small.ensures ∙ ap (sizes_without c.args.k) c.shape-shape.ensures);
       caps = ap (λ (y : Board). y.cap_pairs) same ∙ ap (λ (y : Board). y.cap_pairs) c.reopen.ensures.moved;
