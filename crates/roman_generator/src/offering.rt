@@ -24,6 +24,6 @@ pub fn offers(relation: &Relation, p: u32, a: u8) -> u32
     ensures some { result ≢ 0 }
 {
     relation.joint.known();
-    relation.order.len();
+    relation.order.known();
     relation.mask(p, a)
 }

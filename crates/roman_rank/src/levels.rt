@@ -25,7 +25,7 @@ pub(crate) fn depths_by<J: Rules>(
     ensures { IfOk result (λ depths. AreRanks (J.arena joint.now) depths.items) }
 {
     joint.known();
-    order.len();
+    order.known();
     let pairs = joint.pairs();
     let mut depths = vec![in alloc; u32::MAX; pairs as usize]?;
     // no pair is deeper than there are pairs
@@ -45,7 +45,7 @@ fn give_depth(order: &Order, depths: &mut [u32], start: u32, end: u32, n: u32)
     requires within { end ≤ length order.now.list }
     ensures { GivesLevel order.now.list start end n depths.old depths.new }
 {
-    order.len();
+    order.known();
     for i in start..end {
         let (pair, _) = order.entry(i);
         depths[pair as usize] = n;

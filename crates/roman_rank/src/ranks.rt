@@ -123,7 +123,7 @@ fn depths_of<L: Ledger>(
     ensures { IfOk result (λ depths. AreRanks (arena_of relation.now.joint) depths.items) }
 {
     relation.joint.known();
-    relation.order.len();
+    relation.order.known();
     if relation.order.levels().is_empty() {
         depths_anew(alloc, &relation.joint, steps)
     } else {

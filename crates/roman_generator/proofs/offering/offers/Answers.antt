@@ -11,9 +11,9 @@ mask-requires-clause-action c =
 
 pub returns-clause-offers : goal.returns-clause-offers
 returns-clause-offers c =
-    mask_offers c.args.relation.now.joint c.args.relation.now.order c.args.p c.args.a c.mask.result c.known.ensures c.requires.complete c.len.ensures.in_range c.requires.pair c.mask.ensures
+    mask_offers c.args.relation.now.joint c.args.relation.now.order c.args.p c.args.a c.mask.result c.known.ensures c.requires.complete c.known-2.ensures.in_range c.requires.pair c.mask.ensures
 
 pub returns-clause-some : goal.returns-clause-some
 returns-clause-some c =
     offers_set c.args.relation.now.joint c.args.p c.args.a c.mask.result c.known.ensures c.requires.pair c.requires.related c.requires.allowed
-    (mask_offers c.args.relation.now.joint c.args.relation.now.order c.args.p c.args.a c.mask.result c.known.ensures c.requires.complete c.len.ensures.in_range c.requires.pair c.mask.ensures)
+    (mask_offers c.args.relation.now.joint c.args.relation.now.order c.args.p c.args.a c.mask.result c.known.ensures c.requires.complete c.known-2.ensures.in_range c.requires.pair c.mask.ensures)

@@ -25,7 +25,7 @@ loop-n-preserved g c =
     record {
       start = end ∙ sym (start_next levels n);
       ranks = subst (λ xs. AreRanksBelow A (n + 1) xs) (sym back) (subst (λ m. AreRanksBelow A m new) (sym (add-one n))
-          (ranks_more A c.known.ensures levels L n old new c.requires.levels c.len.ensures.distinct (length-map L (λ x. x.node)) within few long gives c.loop-n.invariant.ranks));
+          (ranks_more A c.known.ensures levels L n old new c.requires.levels c.known-2.ensures.distinct (length-map L (λ x. x.node)) within few long gives c.loop-n.invariant.ranks));
     }
 
 pub returns : goal.returns

@@ -8,4 +8,4 @@ pub depths_by-requires-clause-few : goal.depths_by-requires-clause-few
 depths_by-requires-clause-few g c = few_pairs c.args.relation.now.joint c.known.ensures
 
 pub depths_by-requires-clause-all : goal.depths_by-requires-clause-all
-depths_by-requires-clause-all g c = complete_all c.args.relation.now.joint c.args.relation.now.order c.known.ensures c.requires.complete c.requires.shaped c.len.ensures.in_range
+depths_by-requires-clause-all g c = complete_all c.args.relation.now.joint c.args.relation.now.order c.known.ensures c.requires.complete c.requires.shaped c.known-2.ensures.in_range
