@@ -41,7 +41,7 @@ pub(crate) fn answer<J: Rules, L: Ledger>(
     ensures within { IfSome result (λ q. q < length (J.arena joint.now).nodes) }
 {
     joint.known();
-    order.len();
+    order.known();
     if !joint.is_ready(k) {
         return None;
     }

@@ -46,7 +46,7 @@ fn visit<J: Rules, L: Ledger>(joint: &J, order: &mut Order, i: u32, steps: &mut 
     ensures rest { order.new ≡ record order.old { marks = order.new.marks } }
 {
     joint.known();
-    order.len();
+    order.known();
     let (p, reason) = order.entry(i);
     if !order.marked(p) {
         return;

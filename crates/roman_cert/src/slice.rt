@@ -60,7 +60,7 @@ pub fn write_slice<O: Sink, L: Ledger>(
     ensures cause { HasCause (O.faults out.old) (O.faults out.new) result }
 {
     relation.joint.known();
-    relation.order.len();
+    relation.order.known();
     relation.order.place_all();
     mark_slice(&relation.joint, &mut relation.order, p, steps);
     write_marked(&relation.joint, &relation.order, out, steps)
@@ -110,7 +110,7 @@ fn push_entry<O: Sink, L: Ledger>(
     ensures cause { HasCause (O.faults out.old) (O.faults out.new) result }
 {
     joint.known();
-    order.len();
+    order.known();
     let (p, reason) = order.entry(i);
     push_lost(joint, p, reason, page, out)?;
     push_answers(joint, order, i, page, out, steps)
@@ -134,7 +134,7 @@ fn push_answers<O: Sink, L: Ledger>(
     ensures cause { HasCause (O.faults out.old) (O.faults out.new) result }
 {
     joint.known();
-    order.len();
+    order.known();
     let (p, reason) = order.entry(i);
     let Reason::Act(a) = reason else {
         return Ok(());

@@ -36,7 +36,7 @@ returns-in_err-push-clause-gathers g c x e =
     let a = c.in-Act.a in
     let bytes = c.bytes.result.now in
     let is = entry_is L c.args.i c.entry-p.result (Act a) x c.entry-p.ensures c.in-Act.is e in
-    let next = answers_next n c.args.order.now c.args.i (as_entry c.entry-p.result) a c.loop-k.k c.answer-found.result bytes c.known.ensures c.requires.shaped c.len.ensures.in_range c.entry-p.ensures
+    let next = answers_next n c.args.order.now c.args.i (as_entry c.entry-p.result) a c.loop-k.k c.answer-found.result bytes c.known.ensures c.requires.shaped c.known-2.ensures.in_range c.entry-p.ensures
     (omega (arith, c.seats-k-end.ensures.count)) (sym c.is_ready.ensures ∙ c.if-not-is_ready.false) c.answer-found.ensures.answer (c.bytes.ensures ∙ c.answer_piece-line.ensures) in
     let p = err_from_is_err_and c.from_residual.result c.from_residual.ensures.1 in
     rw p.1 (
@@ -50,7 +50,7 @@ loop-k-preserved g c =
     let L = c.args.order.now.list in
     let a = c.in-Act.a in
     let bytes = c.bytes.result.now in
-    let next = answers_next n c.args.order.now c.args.i (as_entry c.entry-p.result) a c.loop-k.k c.answer-found.result bytes c.known.ensures c.requires.shaped c.len.ensures.in_range c.entry-p.ensures
+    let next = answers_next n c.args.order.now c.args.i (as_entry c.entry-p.result) a c.loop-k.k c.answer-found.result bytes c.known.ensures c.requires.shaped c.known-2.ensures.in_range c.entry-p.ensures
     (omega (arith, c.seats-k-end.ensures.count)) (sym c.is_ready.ensures ∙ c.if-not-is_ready.false) c.answer-found.ensures.answer (c.bytes.ensures ∙ c.answer_piece-line.ensures) in
     record {
       filling = fill_more _ _ _ _ _ bytes (answers_from n L c.entry-p.result.0 a (c.loop-k.k + 1)) _ (fill_same _ _ _ _ _ _ next c.loop-k.invariant.filling) c.in_ok-push.ensures.gathers;

@@ -7,7 +7,7 @@ use Rattle.roman_cert.proofs.SliceTexts.{entry_pair, entry_reason, entry_lines_a
 use Rattle.roman_cert.proofs.slice.push_entry.Goals as goal
 
 pub push_lost-requires-clause-pair : goal.push_lost-requires-clause-pair
-push_lost-requires-clause-pair g c = entry_pair c.args.joint.now c.args.order.now c.args.i (as_entry c.entry-p.result) c.requires.shaped c.len.ensures.in_range c.entry-p.ensures
+push_lost-requires-clause-pair g c = entry_pair c.args.joint.now c.args.order.now c.args.i (as_entry c.entry-p.result) c.requires.shaped c.known-2.ensures.in_range c.entry-p.ensures
 
 pub push_lost-requires-clause-reason : goal.push_lost-requires-clause-reason
 push_lost-requires-clause-reason g c = entry_reason c.args.joint.now c.args.order.now.list c.args.i (as_entry c.entry-p.result) c.known.ensures c.requires.valid c.entry-p.ensures

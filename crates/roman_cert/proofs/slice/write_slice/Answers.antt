@@ -16,7 +16,7 @@ mark_slice-requires-clause-valid g c =
     let relation = c.args.relation.now in
     let s = system_of relation.joint in
     subst (λ (b : Board). IsOrder (arena_of relation.joint) b.list) (sym c.place_all.ensures.same)
-    (complete_order s relation.order.list c.known.ensures.system (listed_numbers s relation.order c.requires.relation.shaped.pairs c.len.ensures.in_range) c.requires.relation.complete.list)
+    (complete_order s relation.order.list c.known.ensures.system (listed_numbers s relation.order c.requires.relation.shaped.pairs c.known-2.ensures.in_range) c.requires.relation.complete.list)
 
 pub mark_slice-requires-clause-pair : goal.mark_slice-requires-clause-pair
 mark_slice-requires-clause-pair g c = omega (arith, c.requires.pair, length-below (count (sizes_of (system_of c.args.relation.now.joint))))
@@ -29,14 +29,14 @@ write_marked-requires-clause-valid g c =
     let relation = c.args.relation.now in
     let s = system_of relation.joint in
     subst (IsOrder (arena_of relation.joint)) (sym (ap (λ (b : Board). b.list) c.mark_slice.ensures.rest ∙ ap (λ (b : Board). b.list) c.place_all.ensures.same))
-    (complete_order s relation.order.list c.known.ensures.system (listed_numbers s relation.order c.requires.relation.shaped.pairs c.len.ensures.in_range) c.requires.relation.complete.list)
+    (complete_order s relation.order.list c.known.ensures.system (listed_numbers s relation.order c.requires.relation.shaped.pairs c.known-2.ensures.in_range) c.requires.relation.complete.list)
 
 pub returns-clause-text : goal.returns-clause-text
 returns-clause-text g c =
     let relation = c.args.relation.now in
     let s = system_of relation.joint in
     explanation_written relation.joint c.mark_slice.new.order relation.order.list c.args.p (g.O.Sink.written c.args.out.now) (g.O.Sink.written c.write_marked.new.out) c.write_marked.result c.known.ensures
-    (listed_numbers s relation.order c.requires.relation.shaped.pairs c.len.ensures.in_range) c.requires.pair (ap (λ (b : Board). b.list) c.mark_slice.ensures.rest ∙ ap (λ (b : Board). b.list) c.place_all.ensures.same)
+    (listed_numbers s relation.order c.requires.relation.shaped.pairs c.known-2.ensures.in_range) c.requires.pair (ap (λ (b : Board). b.list) c.mark_slice.ensures.rest ∙ ap (λ (b : Board). b.list) c.place_all.ensures.same)
     (subst (λ (b : Board). (q : ℕ) → is_marked c.mark_slice.new.order q ≡ rests_on (arena_of relation.joint) b.list (length b.list) c.args.p q) c.place_all.ensures.same c.mark_slice.ensures.marked) c.write_marked.ensures.text
 
 pub returns-clause-explained : goal.returns-clause-explained
