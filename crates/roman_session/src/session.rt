@@ -16,6 +16,7 @@ mod answering;
 mod building;
 mod changes;
 mod jumps;
+mod replying;
 mod reports;
 mod requests;
 mod rulings;
