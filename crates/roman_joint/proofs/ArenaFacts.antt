@@ -1,5 +1,5 @@
 -- Arenas over numbers keep the laws of arenas.
-use Rattle.std.proofs.Common.{◌≡◌, ◌*◌, ◌<◌, length, refl, sym, ap, arith}
+use Rattle.std.proofs.Common.{◌≡◌, ◌*◌, length, refl, sym, ap, arith}
 use Rattle.roman_model.specs.Lists.{below}
 use Rattle.roman_model.proofs.Lists.{in_below, from_below, length-below}
 use Rattle.roman_model.proofs.ArenaLemmas.{IsArena}

@@ -1,5 +1,5 @@
 -- The delegations found backwards are those that lead to the pair.
-use Rattle.std.proofs.Common.{◌≡◌, ℕ, ◌<◌, Bool, true, false, cond, List, [], map, length, Option, Some, None, IsTrue, IsFalse, slice_get, slice_index, slice_set, refl, sym, ap, ◌∙◌, subst, arith}
+use Rattle.std.proofs.Common.{◌≡◌, ℕ, ◌<◌, Bool, true, false, cond, [], map, length, Option, Some, None, IsTrue, IsFalse, slice_get, slice_index, slice_set, refl, sym, ap, ◌∙◌, subst, arith}
 use Rattle.roman_model.specs.Lists.{IsIn, HasNoRepeats, HoldsEachOnce, below}
 use Rattle.roman_model.specs.System.{Env, Sys, Seat, Pair, IsSys, IsPair, IsBeh, has_triple, has_move, env_prev, beh_prev, outcomes}
 use Rattle.roman_model.specs.Arena.{Delegation, back}

@@ -1,5 +1,5 @@
 -- Where a delegation leads, by rows and lanes.
-use Rattle.std.proofs.Common.{◌≡◌, ℕ, zero, suc, ◌+◌, ◌-◌, ◌*◌, ◌/◌, ◌%◌, ◌<◌, ◌≤◌, Bool, true, false, not, ◌||◌, List, [], ◌∷◌, length, drop, map, slice_get, slice_index, IsTrue, IsFalse, refl, sym, ap, ap₂, ◌∙◌, subst, arith}
+use Rattle.std.proofs.Common.{◌≡◌, ℕ, ◌+◌, ◌-◌, ◌*◌, ◌/◌, ◌%◌, ◌<◌, ◌≤◌, Bool, true, false, not, ◌||◌, List, [], ◌∷◌, length, drop, map, slice_get, slice_index, IsTrue, IsFalse, refl, sym, ap, ap₂, ◌∙◌, subst, arith}
 use Rattle.std.specs.List.{list_any, flat_map}
 use Rattle.std.proofs.Math.Nat.{mul-add-mod_self_right}
 use Rattle.std.proofs.lemmas.Nat.{div-mul-add, div-add-mod', mul-add-lt, mod_below, div_below}
@@ -10,7 +10,7 @@ use Rattle.roman_model.specs.System.{Sys, Seat, IsSys, env_next, beh_next, seat_
 use Rattle.roman_model.specs.Arena.{Arena, is_beaten}
 use Rattle.roman_model.specs.Numbers.{Sizes, sizes_of, count, pair_at, numbered}
 use Rattle.roman_model.proofs.NumberLemmas.{part_at}
-use Rattle.roman_radix.specs.Radix.{IsSizes, stride_of, env_stride_of, target_stride_of}
+use Rattle.roman_radix.specs.Radix.{IsSizes, stride_of}
 use Rattle.roman_radix.specs.Rows.{low_of, lanes_of, env_rows_of, target_rows_of}
 use Rattle.roman_radix.proofs.Strides.{product_positive, AreSizes-drop, AreSizes-index, product_more}
 use Rattle.roman_radix.proofs.RowLemmas.{low_of-le, tails_from, row_mod, row_least, env_rows_are}

@@ -1,5 +1,5 @@
 -- Marks on the rows before a row.
-use Rattle.std.proofs.Common.{◌≡◌, ℕ, zero, suc, ◌+◌, ◌-◌, ◌*◌, ◌/◌, ◌%◌, ◌^◌, ◌<◌, ◌≤◌, Bool, true, cond, List, [], ◌∷◌, ◌++◌, length, take, get_or, Option, Some, slice_get, slice_index, IsTrue, IsFalse, inl, inr, refl, sym, ap, ap₂, ◌∙◌, subst, arith, add-one}
+use Rattle.std.proofs.Common.{◌≡◌, ℕ, zero, suc, ◌+◌, ◌-◌, ◌*◌, ◌/◌, ◌%◌, ◌^◌, ◌<◌, ◌≤◌, true, cond, List, [], ◌∷◌, ◌++◌, length, take, get_or, Option, Some, slice_get, slice_index, IsTrue, IsFalse, inl, inr, refl, sym, ap, ap₂, ◌∙◌, subst, arith, add-one}
 use Rattle.std.proofs.Math.ListN.{set}
 use Rattle.std.specs.Prelude.{bit_or}
 use Rattle.std.specs.List.{flat_map}
@@ -7,10 +7,10 @@ use Rattle.std.proofs.lemmas.Bool.{cases_eq, cases_lt}
 use Rattle.std.proofs.lemmas.Option.{slice_get_within}
 use Rattle.std.proofs.lemmas.List.{get_or-set_same, get_or-set_other, length-set, length-map, length-append, take_more, append-nil}
 use Rattle.std.proofs.lemmas.List.Concat.{flat_map-append}
-use Rattle.std.proofs.lemmas.Nat.{same_from_place, mul-le, div-add-mod', mod_below, div_below}
+use Rattle.std.proofs.lemmas.Nat.{same_from_place, div-add-mod', mod_below, div_below}
 use Rattle.roman_model.specs.Lists.{IsIn, below, product_of}
 use Rattle.roman_model.proofs.Lists.{in_below, no_longer}
-use Rattle.roman_model.specs.System.{Env, Seat, Sys, Pair, IsSys, IsBeh, has_move, env_prev, beh_prev}
+use Rattle.roman_model.specs.System.{Seat, Sys, Pair, IsSys, IsBeh, env_prev, beh_prev}
 use Rattle.roman_model.proofs.SystemLemmas.{triple_in_range, move_in_range, in_env_prev, in_beh_prev, seat_in}
 use Rattle.roman_model.specs.Arena.{Delegation, back}
 use Rattle.roman_model.proofs.ArenaLemmas.{in_back}

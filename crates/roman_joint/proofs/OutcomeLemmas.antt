@@ -1,5 +1,5 @@
 -- The numbers of the pairs to which a delegation may lead.
-use Rattle.std.proofs.Common.{◌≡◌, ℕ, ◌+◌, ◌-◌, ◌*◌, ◌%◌, ◌<◌, ◌≤◌, cond, List, [], ◌∷◌, ◌++◌, Option, Some, IsTrue, IsFalse, MatchOption, map, length, slice_get, slice_index, slice_set, refl, sym, ap, ap₂, ◌∙◌, subst, inl, arith}
+use Rattle.std.proofs.Common.{◌≡◌, ℕ, ◌+◌, ◌-◌, ◌*◌, ◌%◌, ◌<◌, ◌≤◌, cond, List, [], ◌∷◌, ◌++◌, Option, Some, IsTrue, IsFalse, map, length, slice_get, slice_index, slice_set, refl, sym, ap, ap₂, ◌∙◌, subst, inl, arith}
 use Rattle.std.specs.List.{flat_map}
 use Rattle.std.proofs.lemmas.List.{append-nil, map-append, length-map, get_or-set_same}
 use Rattle.std.proofs.lemmas.Option.{slice_get_within}

@@ -1,14 +1,12 @@
 -- The running number of a walk: it moves with a state by a product.
-use Rattle.std.proofs.Common.{◌≡◌, ℕ, zero, suc, ◌+◌, ◌-◌, ◌*◌, ◌<◌, ◌≤◌, List, [], ◌∷◌, Option, None, Some, map, length, slice_get, slice_index, slice_set, refl, sym, ap, ◌∙◌, subst, arith}
+use Rattle.std.proofs.Common.{◌≡◌, ℕ, zero, suc, ◌+◌, ◌-◌, ◌*◌, ◌<◌, ◌≤◌, List, [], ◌∷◌, Some, map, length, slice_get, slice_index, slice_set, refl, sym, ap, ◌∙◌, subst, arith}
 use Rattle.std.proofs.Math.Nat.{mul-le-mul_left}
 use Rattle.roman_model.specs.Lists.{product_of}
 use Rattle.roman_model.specs.System.{Sys, Seat, Pair, IsPair}
-use Rattle.roman_model.specs.Numbers.{Sizes, sizes_of, count, number, pair_at, states_number}
+use Rattle.roman_model.specs.Numbers.{sizes_of, count, number, pair_at, states_number}
 use Rattle.roman_model.specs.declared.limits.TheConstants.{MAX_CELLS}
-use Rattle.roman_model.proofs.NumberLemmas.{numbers_are_pairs, IsPairOf-from, number_below, AreBelow-index, states_below}
-use Rattle.std.specs.List.{AllZip}
+use Rattle.roman_model.proofs.NumberLemmas.{numbers_are_pairs, IsPairOf-from, number_below}
 use Rattle.std.proofs.lemmas.List.{length-map}
-use Rattle.std.proofs.lemmas.Option.{slice_get_within}
 use Rattle.roman_radix.proofs.Moves.{Replaced, replaced}
 use Rattle.roman_radix.specs.Radix.{stride_of, env_stride_of, target_stride_of, with_part}
 use Rattle.roman_joint.specs.declared.walk.Walk.{Walk}

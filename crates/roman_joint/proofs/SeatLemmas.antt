@@ -1,16 +1,16 @@
 -- Services and their behaviours, one after the other.
-use Rattle.std.proofs.Common.{◌≡◌, ℕ, zero, suc, ◌+◌, ◌*◌, ◌/◌, ◌%◌, ◌^◌, ◌<◌, ◌≤◌, Bool, true, false, not, ◌&&◌, ◌||◌, List, [], ◌∷◌, ◌++◌, Some, IsTrue, IsFalse, All, slice_get, get_or, map, length, take, drop, refl, sym, ap, ap₂, ◌∙◌, subst, inl, inr, arith, ◌==◌, slice_index}
+use Rattle.std.proofs.Common.{◌≡◌, ℕ, zero, suc, ◌+◌, ◌*◌, ◌/◌, ◌%◌, ◌^◌, ◌<◌, ◌≤◌, List, [], ◌∷◌, ◌++◌, Some, All, slice_get, get_or, map, length, take, drop, refl, sym, ap, ap₂, ◌∙◌, subst, inl, inr, arith, ◌==◌, slice_index}
 use Rattle.std.specs.List.{AllByRecursion}
 use Rattle.std.specs.Option.{option_map}
 use Rattle.std.proofs.lemmas.Option.{slice_get-map, slice_get-get_or, slice_get_within, get_or_from_slice_get}
 use Rattle.std.proofs.Math.ListN.{set}
-use Rattle.std.proofs.lemmas.List.{take_more, take_more_set, map_push, drop_more, drop_all, length-set, take_all, get_or-map, length-map}
+use Rattle.std.proofs.lemmas.List.{take_more, take_more_set, map_push, length-set, get_or-map, length-map}
 use Rattle.std.proofs.lemmas.Nat.{div_below, mod_below}
 use Rattle.std.proofs.lemmas.List.Elements.{All-from_recursion}
 use Rattle.roman_model.specs.Lists.{IsIn, product_of, is_empty}
 use Rattle.roman_model.specs.System as model
 use Rattle.roman_model.specs.System.{Env, IsBeh, is_final, all_final, IsEnv, IsDeterministic, IsSys}
-use Rattle.roman_model.specs.Numbers.{states_at, sizes_of, Sizes}
+use Rattle.roman_model.specs.Numbers.{sizes_of, Sizes}
 use Rattle.roman_parts.specs.Named.{NamedEnv, NamedBeh, IsOver}
 use Rattle.roman_radix.specs.Radix.{AreSizes}
 use Rattle.roman_radix.proofs.Strides.{product_positive, product_more, AreSizes-drop, AreSizes-index}

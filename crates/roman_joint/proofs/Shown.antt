@@ -1,20 +1,17 @@
 -- What a joint's fields are, by the system that it shows.
-use Rattle.std.proofs.Common.{◌≡◌, ℕ, ◌<◌, ◌≤◌, ◌*◌, not, ◌&&◌, Some, slice_get, get_or, length, vec_len, vec_capacity, refl, sym, ap, ap₂, ◌∙◌, subst, arith}
+use Rattle.std.proofs.Common.{◌≡◌, ℕ, ◌≤◌, ◌*◌, not, ◌&&◌, length, vec_len, vec_capacity, refl, sym, ap, ap₂, ◌∙◌, subst, arith}
 use Rattle.std.proofs.lemmas.List.{length-map}
 use Rattle.roman_model.specs.Numbers.{sizes_of, pair_at}
 use Rattle.roman_model.specs.declared.limits.TheConstants.{MAX_SERVICES}
 use Rattle.roman_joint.specs.declared.joint.Joint.TheInside.{Inside}
-use Rattle.roman_joint.specs.NamedSys.{NamedSys, system_of, seat_of, beh_at, IsOverEnv, IsNamedSys}
-use Rattle.roman_joint.proofs.SeatLemmas.{beh_read, seat_there}
+use Rattle.roman_joint.specs.NamedSys.{NamedSys, system_of, seat_of, IsNamedSys}
 use Rattle.roman_joint.specs.Layout.{named_sys_in, IsJoint}
 use Rattle.roman_joint.specs.Scenes.{AreScenes}
 use Rattle.roman_joint.specs.Rows.{AreRowsOf}
 use Rattle.roman_joint.specs.Moves.{HoldsMoves, HasRoom, IsKept}
 use Rattle.roman_joint.specs.declared.moves.Moves.{Moves}
-use Rattle.roman_model.specs.System.{Env, Beh, Sys, env_next, env_prev, beh_next, beh_prev, is_allowed}
+use Rattle.roman_model.specs.System.{Env, Beh, Sys, env_next, beh_next, is_allowed}
 use Rattle.roman_model.specs.Lists.{is_empty}
-use Rattle.roman_parts.specs.Named.{NamedEnv, NamedBeh, NamedTarget}
-use Rattle.roman_joint.specs.declared.seat.Seat.{Seat}
 
 pub record Shows (a : Inside) (n : NamedSys) : Type 0 where
   pub known : IsNamedSys n

@@ -209,10 +209,10 @@ module _ (s : Sys) (sys : IsSys s) (w : Walk) (ok : IsWalk s w) where
       elim (cases_lt (w.states_taken + 1) (length (states_before s w))) [
         | inl less ↦ subst (λ v. Takes s w v node) (sym (more less)) takes
         | inr past ↦ subst (λ u. Takes s w u node) (sym (last past)) (record {
-            walk = seat_walk s sys v takes.walk within;
-            action = refl;
-            left = takes.left ∙ ap (λ ds. record { node = node; action = w.action; seat = w.seat } ∷ ds) (sym (seat_left s sys v takes.walk (no_state_left s sys v takes.walk past)));
-          })
+          walk = seat_walk s sys v takes.walk within;
+          action = refl;
+          left = takes.left ∙ ap (λ ds. record { node = node; action = w.action; seat = w.seat } ∷ ds) (sym (seat_left s sys v takes.walk (no_state_left s sys v takes.walk past)));
+        })
       ]
     where
       v : Walk

@@ -1,4 +1,4 @@
-use Rattle.std.proofs.Common.{◌≡◌, ℕ, ◌+◌, ◌≤◌, List, length, take, get_or, sym, ap, ◌∙◌, subst, arith}
+use Rattle.std.proofs.Common.{ℕ, get_or, sym, arith}
 use Rattle.std.proofs.lemmas.List.{take_all}
 use Rattle.roman_joint.specs.NamedSys.{system_of}
 use Rattle.roman_joint.specs.Backward.{from_target}

@@ -1,11 +1,11 @@
-use Rattle.std.proofs.Common.{◌≡◌, ℕ, ◌+◌, ◌*◌, ◌<◌, length, ap, subst, arith}
+use Rattle.std.proofs.Common.{◌≡◌, ℕ, ◌+◌, ◌*◌, length, ap, arith}
 use Rattle.std.proofs.lemmas.List.{length-map}
 use Rattle.roman_model.specs.System.{Seat}
 use Rattle.roman_model.specs.Numbers.{sizes_of}
 use Rattle.roman_radix.proofs.RowLemmas.{low_of-le}
 use Rattle.roman_joint.specs.NamedSys.{system_of}
 use Rattle.roman_joint.specs.Backward.{from_seat}
-use Rattle.roman_joint.specs.Marks.{IsMarked, MarksSeat, row_at}
+use Rattle.roman_joint.specs.Marks.{MarksSeat, row_at}
 use Rattle.roman_joint.proofs.GoodLemmas.{turn_fits}
 use Rattle.roman_joint.proofs.MarkLemmas.{grows_on, marked_on, seat_on, more_below, count_below, count_fewer}
 use Rattle.roman_joint.proofs.marks.mark_turn.Goals as goal

@@ -1,4 +1,4 @@
-use Rattle.std.proofs.Common.{◌<◌, length, sym, ap, ◌∙◌, subst, arith}
+use Rattle.std.proofs.Common.{◌<◌, length, ap, ◌∙◌, arith}
 use Rattle.std.specs.List.{remove}
 use Rattle.roman_model.specs.Change.{Die, after}
 use Rattle.roman_model.specs.Numbers.{sizes_without}

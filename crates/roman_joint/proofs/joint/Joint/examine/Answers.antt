@@ -1,6 +1,6 @@
 use Rattle.std.proofs.Common.{Some, None, IsFalse, get_or, sym, ap, ◌∙◌, subst, arith}
 use Rattle.std.specs.List.{find}
-use Rattle.roman_model.specs.Lists.{IsIn, is_empty}
+use Rattle.roman_model.specs.Lists.{is_empty}
 use Rattle.roman_model.specs.Numbers.{sizes_of}
 use Rattle.roman_joint.specs.NamedSys.{system_of}
 use Rattle.roman_joint.specs.Outcomes.{outcome_number, IsPairWith}

@@ -1,10 +1,10 @@
 use Rattle.std.proofs.Common.{◌+◌, ◌*◌, slice_index, sym, ap, ◌∙◌, rules, arith}
-use Rattle.roman_model.specs.System.{Beh, env_next, beh_next}
+use Rattle.roman_model.specs.System.{Beh, beh_next}
 use Rattle.roman_model.specs.Numbers.{Sizes, number, pair_at}
 use Rattle.roman_radix.specs.Radix.{moved}
 use Rattle.roman_joint.specs.NamedSys.{system_of}
 use Rattle.roman_joint.proofs.BehaviourLemmas.{Behaves, behaves}
-use Rattle.roman_joint.proofs.OutcomeLemmas.{AreOutcomes, are_outcomes}
+use Rattle.roman_joint.proofs.OutcomeLemmas.{are_outcomes}
 use Rattle.roman_joint.proofs.Rows.{size_of_seat, count_fits}
 use Rattle.roman_joint.proofs.joint.Joint.outcomes.Goals as goal
 

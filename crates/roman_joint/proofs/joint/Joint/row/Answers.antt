@@ -1,5 +1,5 @@
-use Rattle.std.proofs.Common.{◌≡◌, ◌*◌, ◌%◌, ◌<◌, sym, ap, ap₂, ◌∙◌, subst, arith}
-use Rattle.roman_model.specs.Numbers.{sizes_of, count, pair_at}
+use Rattle.std.proofs.Common.{◌≡◌, ◌*◌, ◌%◌, ap, ap₂, ◌∙◌, arith}
+use Rattle.roman_model.specs.Numbers.{pair_at}
 use Rattle.roman_joint.specs.NamedSys.{system_of}
 use Rattle.roman_joint.specs.Rows.{lanes_in}
 use Rattle.roman_joint.proofs.SplitLemmas.{joint_sizes, row_made}

@@ -1,4 +1,4 @@
-use Rattle.std.proofs.Common.{◌<◌, if◌then◌else◌, length, sym, ap, ◌∙◌, subst}
+use Rattle.std.proofs.Common.{◌<◌, if◌then◌else◌, length, sym, ap, ◌∙◌}
 use Rattle.roman_model.specs.Change.{Freeze, Thaw, after}
 use Rattle.roman_joint.specs.NamedSys.{system_of}
 use Rattle.roman_joint.specs.Layout.{named_sys_in}

@@ -1,4 +1,4 @@
-use Rattle.std.proofs.Common.{◌<◌, ap, arith}
+use Rattle.std.proofs.Common.{◌<◌}
 use Rattle.roman_model.specs.Numbers.{sizes_of, pair_at}
 use Rattle.roman_model.proofs.SystemLemmas.{allowed_in_range}
 use Rattle.roman_joint.specs.NamedSys.{system_of}
