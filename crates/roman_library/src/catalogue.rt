@@ -9,13 +9,13 @@ ghost use Rattle.roman_library.specs.Library.{IsBehaviour, IsCatalogue, behaviou
 ghost use Rattle.roman_library.specs.Refusals.{Loads, CausesLoad};
 
 use crate::looks::{few_items, refused};
-use crate::names::{place_of_behaviour, read_name};
+use crate::names::place_of_behaviour;
 use crate::part_file::{file_of, value_at};
 use crate::placing::placed;
 use crate::refusal::{LoadError, Part};
 use roman_io::Shelf;
 use roman_model::MAX_BEHAVIOURS;
-use roman_parts::{Behaviour, Environment, List, PartError, read_behaviour};
+use roman_parts::{Behaviour, Environment, List, PartError, read_behaviour, read_name};
 use roman_read::Kind;
 use serde_json::Value;
 use std::alloc::Global;

@@ -1,30 +1,12 @@
 //! Names of behaviours and services.
 ghost use Rattle.std.specs.Prelude.{◌≡◌, ◌<◌, map, length, IfSome};
-ghost use Rattle.serde_json.specs.View.{view};
-ghost use Rattle.roman_parts.specs.Parts.{name_of};
-ghost use Rattle.roman_parts.specs.Reading.{Gives};
 ghost use Rattle.roman_read.specs.Names.{place_of};
 ghost use Rattle.roman_library.specs.Library.{behaviour_name, service_name};
 ghost use Rattle.roman_multi.specs.Combining.{target_name};
 
 use crate::library::Service;
-use crate::looks::{member_at, refused, text_at};
 use roman_multi::Named;
-use roman_parts::{Behaviour, List, PartError};
-use roman_read::{Kind, Name};
-use serde_json::Value;
-
-#[tactic(auto, unfolding(roman_parts::specs::Parts::name_of))]
-/// The name of a behaviour, a service or one of several targets.
-pub(crate) fn read_name(v: &Value) -> Result<Name, PartError>
-    ensures { Gives (λ x. x) result (name_of (view v.now)) }
-{
-    let text = text_at(member_at(v, "name", List::Name)?, List::Name)?;
-    match Name::new(text.as_bytes()) {
-        Some(name) => Ok(name),
-        None => Err(refused(Kind::BadName, List::Name)),
-    }
-}
+use roman_parts::Behaviour;
 
 /// The place of the behaviour with this name.
 pub(crate) fn place_of_behaviour(catalogue: &[Behaviour], name: &[u8]) -> Option<usize>

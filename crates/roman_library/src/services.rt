@@ -11,11 +11,11 @@ ghost use Rattle.roman_library.specs.declared.refusal.Part.TheVariants as part;
 
 use crate::library::Service;
 use crate::looks::{few_items, member_at, refused, text_at, truth_at};
-use crate::names::{place_of_behaviour, place_of_service, read_name};
+use crate::names::{place_of_behaviour, place_of_service};
 use crate::placing::placed;
 use crate::refusal::{LoadError, Part};
 use roman_model::{MAX_BEHAVIOURS, MAX_SERVICES};
-use roman_parts::{Behaviour, List, PartError};
+use roman_parts::{Behaviour, List, PartError, read_name};
 use roman_read::{Kind, member};
 use serde_json::Value;
 use std::alloc::Global;

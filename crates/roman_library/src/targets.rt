@@ -11,14 +11,14 @@ ghost use Rattle.roman_library.specs.Library.{ArePartsOf, IsCatalogue, IsTarget}
 ghost use Rattle.roman_library.specs.Refusals.{Loads, CausesLoad};
 
 use crate::looks::{counted_items, refused};
-use crate::names::{place_of_target, read_name};
+use crate::names::place_of_target;
 use crate::part_file::{file_of, value_at};
 use crate::parts::{load_target, target_over};
 use crate::placing::placed;
 use crate::refusal::{LoadError, Part};
 use roman_io::Shelf;
 use roman_multi::{CombineError, Combined, Named, combine};
-use roman_parts::{Behaviour, Environment, List, PartError};
+use roman_parts::{Behaviour, Environment, List, PartError, read_name};
 use roman_read::Kind;
 use serde_json::Value;
 use std::alloc::Global;

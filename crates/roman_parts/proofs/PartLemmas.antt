@@ -15,7 +15,7 @@ use Rattle.roman_read.specs.declared.rules.Kind.{Kind}
 use Rattle.roman_read.specs.declared.rules.Kind.TheVariants as kind
 use Rattle.roman_read.proofs.Given.{same_ok, bind_ok}
 use Rattle.roman_parts.specs.Choices.{choice_of, refuse_choice, single_of}
-use Rattle.roman_parts.specs.Lists.{name_step, names_of, place_in, start_of, finals_of}
+use Rattle.roman_parts.specs.Lists.{name_in, name_step, names_of, place_in, start_of, finals_of}
 use Rattle.roman_parts.specs.Named.{NamedEnv, NamedBeh, NamedTarget, IsOver}
 use Rattle.roman_parts.specs.Parts.{environment_of, name_of, behaviour_of, target_of}
 use Rattle.roman_parts.specs.Reading.{looked, found, check, items_at, counted_items}
@@ -58,8 +58,7 @@ counted_are list member least most d items h =
 name_grows : (list : Place) (i : ℕ) (names : List (List ℕ)) (d : Data) (out : List (List ℕ)) → name_step list i names d ≡ Ok out → length out ≡ length names + 1
 unfolding name_step
 name_grows list i names d out h =
-    let (text, e1, h1) = bind_ok (looked list i (text_of d)) _ out h in
-    let (name, e2, h2) = bind_ok (check (is_name text) kind.BadName list i text) _ out h1 in
+    let (name, e, h2) = bind_ok (name_in list i d) _ out h in
     let (new, same) = check_is (is_none (place_of names name)) kind.Repeated list i (names ++ name ∷ []) out h2 in
     sym (ap length same) ∙ length-append names (name ∷ [])
 

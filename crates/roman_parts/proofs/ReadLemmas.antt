@@ -25,7 +25,7 @@ use Rattle.roman_read.proofs.Given.{same_ok, bind_ok}
 use Rattle.roman_read.proofs.ListLemmas.{same_err, bind_err, listed, items_listed, items_count, IsStep, IsListing, list_gives, list_given, list_refuses, list_refused}
 use Rattle.roman_read.proofs.PlaceLemmas.{place_of-present, place_of-absent}
 use Rattle.roman_parts.specs.Guards.{guarded_states}
-use Rattle.roman_parts.specs.Lists.{name_step, names_of, place_in, finals_of}
+use Rattle.roman_parts.specs.Lists.{name_in, name_step, names_of, place_in, finals_of}
 use Rattle.roman_parts.specs.Reading.{looked, found, check, items_at, counted_items}
 use Rattle.roman_parts.specs.Reads.{IsNewName, BreaksName, IsPlace, BreaksPlace, IsNoRow, IsTripleItem, BreaksTriple, IsMoveItem, BreaksMove, ReadsList, AreNames, ListsAreRead}
 use Rattle.roman_parts.specs.Steps.{three_of, four_of, triple_item, triples_of, move_item, moves_of}
@@ -226,8 +226,8 @@ module _ (list : Place) (name : List ℕ) (least most : ℕ) (Fits : ℕ → Typ
 name_gives : (list : Place) (i : ℕ) (before : List (List ℕ)) (d : Data) (out : List (List ℕ)) → name_step list i before d ≡ Ok out → (name : List ℕ) × (before ++ name ∷ [] ≡ out) × IsNewName before d name
 unfolding name_step
 name_gives list i before d out h =
-    let (text, e, h1) = bind_ok (looked list i (text_of d)) _ out h in
-    let (name, e1, h2) = bind_ok (check (is_name text) kind.BadName list i text) _ out h1 in
+    let (name, h1, h2) = bind_ok (name_in list i d) _ out h in
+    let (text, e, e1) = bind_ok (looked list i (text_of d)) _ name h1 in
     let (named, same) = check_is (is_name text) kind.BadName list i text name e1 in
     let (free, is) = check_is (is_none (place_of before name)) kind.Repeated list i (before ++ name ∷ []) out h2 in (
       name,
@@ -245,17 +245,17 @@ name_given list i before d name is = rw (is.text, is.named, absent_none before n
 
 name_refuses : (list : Place) (i : ℕ) (before : List (List ℕ)) (d : Data) (e : PartError) → name_step list i before d ≡ Err e → BreaksName list i before d e
 unfolding name_step
-name_refuses list i before d e h = elim (bind_err (looked list i (text_of d)) _ e h) [
-  | inl bad ↦ inl (looked_err list i (text_of d) e bad)
-  | inr (text, given, h1) ↦
-      let reads = looked_ok list i (text_of d) text given in
-      elim (bind_err (check (is_name text) kind.BadName list i text) _ e h1) [
-        | inl bad ↦ inr (text, reads, inl (check_err (is_name text) kind.BadName list i text e bad))
-        | inr (name, given1, h2) ↦
-            let (named, same) = check_is (is_name text) kind.BadName list i text name given1 in
-            let (taken, is) = check_err (is_none (place_of before name)) kind.Repeated list i (before ++ name ∷ []) e h2 in
-            inr (text, reads, inr (named, subst (λ (n : List ℕ). IsIn n before) (sym same) (some_there before name (place_of before name) refl taken), is))
-      ]
+name_refuses list i before d e h = elim (bind_err (name_in list i d) _ e h) [
+  | inl bad ↦ elim (bind_err (looked list i (text_of d)) _ e bad) [
+    | inl miss ↦ inl (looked_err list i (text_of d) e miss)
+    | inr (text, given, wrong) ↦ inr (text, looked_ok list i (text_of d) text given, inl (check_err (is_name text) kind.BadName list i text e wrong))
+  ]
+  | inr (name, given, h1) ↦
+      let (text, given0, given1) = bind_ok (looked list i (text_of d)) _ name given in
+      let reads = looked_ok list i (text_of d) text given0 in
+      let (named, same) = check_is (is_name text) kind.BadName list i text name given1 in
+      let (taken, is) = check_err (is_none (place_of before name)) kind.Repeated list i (before ++ name ∷ []) e h1 in
+      inr (text, reads, inr (named, subst (λ (n : List ℕ). IsIn n before) (sym same) (some_there before name (place_of before name) refl taken), is))
 ]
   where
     some_there : (names : List (List ℕ)) (text : List ℕ) (o : Option ℕ) → place_of names text ≡ o → IsFalse (is_none o) → IsIn text names

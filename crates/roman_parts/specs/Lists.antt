@@ -10,11 +10,16 @@ use Rattle.roman_parts.specs.declared.error.List.{List as Place}
 use Rattle.roman_parts.specs.declared.error.List.TheVariants.{Start, Finals}
 use Rattle.roman_parts.specs.declared.error.PartError.{PartError}
 
+-- the name that a value is
+abbrev pub name_in : Place → ℕ → Data → Result (List ℕ) PartError
+name_in list i d = do
+  text ← looked list i (text_of d)
+  check (is_name text) kind.BadName list i text
+
 -- the next item of a list of names, behind those before it
 unfoldable pub name_step : Place → ℕ → List (List ℕ) → Data → Result (List (List ℕ)) PartError
 name_step list i names d = do
-  text ← looked list i (text_of d)
-  name ← check (is_name text) kind.BadName list i text
+  name ← name_in list i d
   check (is_none (place_of names name)) kind.Repeated list i (names ++ name ∷ [])
 
 -- a member that is a list of 1 to so many names

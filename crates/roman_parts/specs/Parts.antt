@@ -5,11 +5,10 @@ use Rattle.serde_json.specs.Find.{as_object}
 use Rattle.roman_model.specs.Normal.{normal_env, normal_beh}
 use Rattle.roman_model.specs.declared.limits.TheConstants.{MAX_STATES, MAX_ACTIONS}
 use Rattle.roman_read.specs.Items.{◌>>=◌}
-use Rattle.roman_read.specs.Json.{member_of, text_of}
-use Rattle.roman_read.specs.Names.{is_name}
-use Rattle.roman_read.specs.declared.rules.Kind.TheVariants.{Form, BadName}
+use Rattle.roman_read.specs.Json.{member_of}
+use Rattle.roman_read.specs.declared.rules.Kind.TheVariants.{Form}
 use Rattle.roman_parts.specs.Choices.{single_of}
-use Rattle.roman_parts.specs.Lists.{names_of, start_of, finals_of}
+use Rattle.roman_parts.specs.Lists.{name_in, names_of, start_of, finals_of}
 use Rattle.roman_parts.specs.Named.{NamedEnv, NamedBeh, NamedTarget}
 use Rattle.roman_parts.specs.Reading.{looked, check}
 use Rattle.roman_parts.specs.Steps.{triples_of, moves_of}
@@ -34,8 +33,7 @@ environment_of d = do
 unfoldable pub name_of : Data → Result (List ℕ) PartError
 name_of d = do
   name ← looked Name 0 (member_of d (codes "name"))
-  text ← looked Name 0 (text_of name)
-  check (is_name text) BadName Name 0 text
+  name_in Name 0 name
 
 -- a behaviour over that environment
 unfoldable pub behaviour_of : NamedEnv → Data → Result NamedBeh PartError

@@ -2,7 +2,7 @@
 ghost use Rattle.std.specs.Prelude.{◌≡◌, ◌+◌, ◌-◌, ◌^◌, ◌<◌, ◌≤◌, length, IfOk, OnOk};
 ghost use Rattle.serde_json.specs.View.{view};
 ghost use Rattle.roman_parts.specs.Reading.{Gives};
-ghost use Rattle.roman_parts.specs.Lists.{name_step, names_of, place_in, start_of};
+ghost use Rattle.roman_parts.specs.Lists.{name_in, name_step, names_of, place_in, start_of};
 
 use crate::error::{List, PartError};
 use crate::reading::{counted_member, missed, refused};
@@ -39,18 +39,25 @@ fn add_name(names: &mut NameTable, item: &Value, place: List, index: u32) -> Res
     ensures step { Gives (λ _. names.new) result (name_step place index names.old (view item.now)) }
     ensures longer { OnOk result (length names.new ≡ length names.old + 1) }
 {
-    let text = match text(item) {
-        Ok(text) => text,
-        Err(miss) => return Err(missed(miss, place, index)),
-    };
-    let name = match Name::new(text.as_bytes()) {
-        Some(name) => name,
-        None => return Err(refused(Kind::BadName, place, index)),
-    };
+    let name = name_in(item, place, index)?;
     match names.add(name) {
         Ok(_) => Ok(()),
         Err(AddError::Repeated(_)) => Err(refused(Kind::Repeated, place, index)),
         Err(AddError::Memory) => Err(PartError::Memory),
+    }
+}
+
+/// The name that a value is.
+pub(crate) fn name_in(v: &Value, place: List, index: u32) -> Result<Name, PartError>
+    ensures { Gives (λ x. x) result (name_in place index (view v.now)) }
+{
+    let text = match text(v) {
+        Ok(text) => text,
+        Err(miss) => return Err(missed(miss, place, index)),
+    };
+    match Name::new(text.as_bytes()) {
+        Some(name) => Ok(name),
+        None => Err(refused(Kind::BadName, place, index)),
     }
 }
 

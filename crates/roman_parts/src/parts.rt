@@ -9,7 +9,7 @@ use crate::choice::check_single;
 use crate::environment::Environment;
 use crate::error::{List, PartError};
 use crate::finals::read_finals;
-use crate::names::{read_names, read_start};
+use crate::names::{name_in, read_names, read_start};
 use crate::reading::{missed, refused};
 use crate::steps::{read_moves, read_triples};
 use crate::target::Target;
@@ -72,20 +72,14 @@ pub fn read_target(alloc: Global, v: &Value, env: &Environment) -> Result<Target
 }
 
 #[tactic(auto, unfolding(crate::specs::Parts::name_of))]
-// A part's own name.
-fn read_name(v: &Value) -> Result<Name, PartError>
-    ensures { Gives (λ x. x) result (name_of (view v.now)) }
+/// The name of a part: its member `name`. `Refused` comes where that is missing, is no text, or isn't
+/// a name.
+pub fn read_name(v: &Value) -> Result<Name, PartError>
+    ensures name { Gives (λ x. x) result (name_of (view v.now)) }
 {
     let name = match member(v, "name") {
         Ok(name) => name,
         Err(miss) => return Err(missed(miss, List::Name, 0)),
     };
-    let text = match text(name) {
-        Ok(text) => text,
-        Err(miss) => return Err(missed(miss, List::Name, 0)),
-    };
-    match Name::new(text.as_bytes()) {
-        Some(name) => Ok(name),
-        None => Err(refused(Kind::BadName, List::Name, 0)),
-    }
+    name_in(name, List::Name, 0)
 }
