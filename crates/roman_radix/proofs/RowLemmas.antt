@@ -1,12 +1,11 @@
 -- Rows and lanes.
-use Rattle.std.proofs.Common.{◌≡◌, ℕ, zero, suc, ◌+◌, ◌-◌, ◌*◌, ◌/◌, ◌%◌, ◌<◌, ◌≤◌, ltb, cond, List, [], ◌∷◌, length, take, drop, slice_index, inl, inr, ◌⊎◌, refl, sym, ap, ap₂, ◌∙◌, subst, arith}
+use Rattle.std.proofs.Common.{◌≡◌, ℕ, zero, suc, ◌+◌, ◌*◌, ◌/◌, ◌%◌, ◌<◌, ◌≤◌, cond, List, [], ◌∷◌, length, take, drop, inl, inr, sym, ap, ◌∙◌, subst, arith}
 use native.Mathlib.Nat.{div-div-eq-div-mul}
-use Rattle.std.proofs.lemmas.Nat.{div-mul-add, mod-mul-add, div-add-mod', mul-le}
+use Rattle.std.proofs.lemmas.Nat.{div-mul-add, div-add-mod', mul-le}
 use Rattle.std.proofs.lemmas.Bool.{cases_lt, lt-ltb, le-ltb}
-use Rattle.std.proofs.Math.Nat.{mul-le-mul_left}
 use Rattle.roman_model.specs.Lists.{product_of}
 use Rattle.roman_model.specs.Numbers.{Sizes, count}
-use Rattle.roman_radix.specs.Radix.{AreSizes, IsSizes, stride_of, env_stride_of}
+use Rattle.roman_radix.specs.Radix.{AreSizes, IsSizes, env_stride_of}
 use Rattle.roman_radix.specs.Rows.{low_of, lanes_of, env_rows_of}
 use Rattle.roman_radix.proofs.Strides.{product_positive, product_drop-le, AreSizes-drop}
 

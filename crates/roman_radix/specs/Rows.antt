@@ -1,5 +1,5 @@
 -- How pairs lie in rows: the last components, as many of them as have at most 64 states together, are a pair's lane in its row.
-use Rattle.std.specs.Prelude.{ℕ, zero, suc, ◌+◌, ◌*◌, ltb, if◌then◌else◌, List, [], ◌∷◌, take, drop}
+use Rattle.std.specs.Prelude.{ℕ, suc, ◌*◌, ltb, if◌then◌else◌, List, [], ◌∷◌, take, drop}
 use Rattle.roman_model.specs.Lists.{product_of}
 use Rattle.roman_model.specs.Numbers.{Sizes}
 

@@ -1,7 +1,6 @@
-use Rattle.std.proofs.Common.{◌≡◌, ℕ, ◌-◌, ◌*◌, ◌<◌, ◌≤◌, List, length, take, drop, get_or, sym, ap, ◌∙◌, subst, arith}
+use Rattle.std.proofs.Common.{◌≡◌, ◌-◌, ◌*◌, ◌<◌, ◌≤◌, length, take, drop, get_or, sym, ap, ◌∙◌, arith}
 use Rattle.std.proofs.lemmas.List.{get_or-take}
 use Rattle.roman_model.specs.Lists.{product_of}
-use Rattle.roman_radix.specs.Rows.{low_of}
 use Rattle.roman_radix.proofs.Strides.{length_first, product_more}
 use Rattle.roman_radix.proofs.RowLemmas.{low_is, too_many_from}
 use Rattle.roman_radix.proofs.shape.lanes_over.Goals as goal

@@ -1,4 +1,4 @@
-use Rattle.std.proofs.Common.{◌≡◌, ◌*◌, ◌/◌, ◌<◌, sym, subst, ap₂, ◌∙◌}
+use Rattle.std.proofs.Common.{◌*◌, ◌/◌, ◌<◌, sym, subst, ap₂, ◌∙◌}
 use Rattle.roman_radix.specs.Rows.{lanes_of}
 use Rattle.roman_radix.proofs.Shown.{Shows, shown}
 use Rattle.roman_radix.proofs.RowLemmas.{lanes_positive, rows_are}
