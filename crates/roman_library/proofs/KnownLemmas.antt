@@ -1,7 +1,7 @@
 -- What an accepted document means is a library.
 use Rattle.std.proofs.Common.{◌≡◌, ◌==◌, Bool, true, false, cond, All, ℕ, ◌+◌, ◌<◌, ◌≤◌, ◌&&◌, List, [], ◌∷◌, ◌++◌, map, length, Option, Some, None, is_some, is_none, IfSome, slice_get, nat_le, codes, Result, Ok, Err, refl, sym, ap, ◌∙◌, subst, arith, leb-true, length-append}
 use Rattle.std.proofs.lemmas.Bool.{and_parts}
-use Rattle.std.proofs.lemmas.List.Elements.{All-get_or}
+use Rattle.std.proofs.lemmas.List.Elements.{All-get_or, All-push}
 use Rattle.std.proofs.lemmas.Option.{get_or_from_slice_get, slice_get_within}
 use Rattle.serde_json.specs.Data.{Data, Items, no_items, item}
 use Rattle.serde_json.specs.Find.{as_object}
@@ -22,19 +22,19 @@ use Rattle.roman_parts.specs.declared.error.List.TheVariants as list
 use Rattle.roman_parts.specs.declared.error.PartError.{PartError}
 use Rattle.roman_parts.proofs.NormalLemmas.{IsOver-start}
 use Rattle.roman_parts.proofs.PartLemmas.{check_is, found_is, none_is, counted_are, place_below, IsEnvironment, environment_known, behaviour_known, target_known}
-use Rattle.roman_library.specs.Documents.{value_at, part_of, limit_in, limit_of, version_of, optional, new_name_of, environment_in, new_behaviour_of, behaviour_in, behaviour_step, catalogue_in, target_in, named_target_of, named_target_in, target_step, targets_in, unless_broken, combined_of, parts_in, behaviour_place, state_of, frozen_of, rests_of, service_of, service_step, services_of, library_in, library_of}
+use Rattle.roman_library.specs.Documents.{PartAt, ReadAfter, value_at, part_of, limit_in, limit_of, version_of, optional, new_name_of, listed_in, listed_step, environment_in, new_behaviour_of, catalogue_in, target_in, named_target_of, targets_in, unless_broken, combined_of, parts_in, behaviour_place, state_of, frozen_of, rests_of, service_of, service_step, services_of, library_in, library_of}
 use Rattle.roman_library.specs.Known.{IsKnownLibrary, LibrariesAreKnown}
 use Rattle.roman_multi.specs.Combining.{PlainCombined, target_name, forbidding, combined_parts}
 use Rattle.roman_multi.specs.declared.parts.Named.{Named}
 use Rattle.roman_multi.specs.declared.error.CombineError.{CombineError}
 use Rattle.roman_multi.proofs.CombineLemmas.{request_count}
-use Rattle.roman_library.proofs.TargetLemmas.{all_known_push, combined_parts_known}
+use Rattle.roman_library.proofs.TargetLemmas.{combined_parts_known}
 use Rattle.roman_library.specs.Library.{PlainLibrary, ArePartsOf, IsBehaviour, IsTarget, IsService, IsCatalogue, AreServices, behaviour_name, service_name}
 use Rattle.roman_library.specs.Refusals.{placed}
 use Rattle.roman_library.specs.declared.library.Service.{Service}
 use Rattle.roman_library.specs.declared.refusal.Part.{Part}
 use Rattle.roman_library.specs.declared.refusal.Part.TheVariants as part
-use Rattle.roman_library.proofs.LibraryLemmas.{IsCatalogue-push, AreServices-push}
+use Rattle.roman_library.proofs.LibraryLemmas.{no_behaviours, IsCatalogue-push, AreServices-push}
 
 -- a reading that isn't refused gives the same in its place
 pub placed_is : {X : Type 0} (document : List ℕ) (part : Part) (r : Result X PartError) (x : X) → placed document part r ≡ Ok x → r ≡ Ok x
@@ -65,40 +65,36 @@ new_behaviour_known env before d b h =
     let is = behaviour_known env d b h1 in
     record { known = record { env_states = is.env_states; actions = is.actions; names = is.names; known = is.known }; new = subst (λ (n : List ℕ). place_of (map behaviour_name before) n ≡ None) (same_ok name b.name (sym named ∙ is.name)) free }
 
-behaviour_in_known : (texts : Texts) (document : List ℕ) (env : NamedEnv) (before : List NamedBeh) (i : ℕ) (d : Data) (b : NamedBeh) → behaviour_in texts document env before i d ≡ Ok b → IsNewBehaviour env before b
-unfolding behaviour_in
-behaviour_in_known texts document env before i d b h =
-    let (p, e, h1) = bind_ok (part_of texts document (part.Behaviour i) d) _ b h in
-    new_behaviour_known env before p.1 b (placed_is p.0 (part.Behaviour i) (new_behaviour_of env before p.1) b h1)
-
-record IsCatalogueOf (env : NamedEnv) (out : List NamedBeh) (n : ℕ) : Type 0 where
-  known : IsCatalogue env out
+-- parts of a list that keep what each part keeps, as many as there are items
+record Grown {X : Type 0} (Keeps : List X → Type 0) (out : List X) (n : ℕ) : Type 0 where
+  known : Keeps out
   count : length out ≡ n
 
-behaviours_grow : (texts : Texts) (document : List ℕ) (env : NamedEnv) (i : ℕ) (before : List NamedBeh) (items : Items) (out : List NamedBeh) → IsCatalogue env before →
-    each_item (behaviour_step texts document env) i before items ≡ Ok out → IsCatalogueOf env out (length before + items_len items)
-unfolding each_item behaviour_step
-behaviours_grow texts document env i before no_items out are h =
-    let same = same_ok before out h in
-    record { known = subst (IsCatalogue env) same are; count = let e : length before ≡ length out = ap length same in omega arith }
-behaviours_grow texts document env i before (item d ds) out are h =
-    let (more, e, h1) = bind_ok (behaviour_step texts document env i before d) _ out h in
-    let (b, e1, h2) = bind_ok (behaviour_in texts document env before i d) _ more e in
-    let is = behaviour_in_known texts document env before i d b e1 in
-    let next : before ++ b ∷ [] ≡ more = same_ok (before ++ b ∷ []) more h2 in
-    let rest = behaviours_grow texts document env (i + 1) more ds out (IsCatalogue-push env before more b are is.known is.new (sym next)) h1 in
-    let long : length more ≡ length before + 1 = sym (ap length next) ∙ length-append before (b ∷ []) in
-    record { known = rest.known; count = omega (arith, rest.count, long) }
+module _ {X : Type 0} (at : PartAt) (read : ReadAfter X) (env : NamedEnv) (Keeps : List X → Type 0) (keeps : (before : List X) (d : Data) (x : X) → read env before d ≡ Ok x → Keeps before → Keeps (before ++ x ∷ [])) where
+  parts_grow : (texts : Texts) (document : List ℕ) (i : ℕ) (before : List X) (items : Items) (out : List X) → Keeps before →
+      each_item (listed_step at read texts document env) i before items ≡ Ok out → Grown Keeps out (length before + items_len items)
+  unfolding each_item listed_step listed_in
+  parts_grow texts document i before no_items out are h =
+      let same = same_ok before out h in
+      record { known = subst Keeps same are; count = let e : length before ≡ length out = ap length same in omega arith }
+  parts_grow texts document i before (item d ds) out are h =
+      let (more, e, h1) = bind_ok (listed_step at read texts document env i before d) _ out h in
+      let (x, e1, h2) = bind_ok (listed_in at read texts document env before i d) _ more e in
+      let (p, e2, h3) = bind_ok (part_of texts document (at i) d) _ x e1 in
+      let next : before ++ x ∷ [] ≡ more = same_ok (before ++ x ∷ []) more h2 in
+      let rest = parts_grow texts document (i + 1) more ds out (subst Keeps next (keeps before p.1 x (placed_is p.0 (at i) (read env before p.1) x h3) are)) h1 in
+      let long : length more ≡ length before + 1 = sym (ap length next) ∙ length-append before (x ∷ []) in
+      record { known = rest.known; count = omega (arith, rest.count, long) }
 
-no_behaviours : (env : NamedEnv) → IsCatalogue env []
-no_behaviours env = record { known = λ d i l. absurd (omega (arith, l)); names = tt }
+behaviours_grow : (env : NamedEnv) (before : List NamedBeh) (d : Data) (b : NamedBeh) → new_behaviour_of env before d ≡ Ok b → IsCatalogue env before → IsCatalogue env (before ++ b ∷ [])
+behaviours_grow env before d b h are = let is = new_behaviour_known env before d b h in IsCatalogue-push env before (before ++ b ∷ []) b are is.known is.new refl
 
 pub catalogue_known : (texts : Texts) (document : List ℕ) (env : NamedEnv) (d : Data) (out : List NamedBeh) → catalogue_in texts document env d ≡ Ok out → IsCatalogue env out × (length out ≤ MAX_BEHAVIOURS)
 unfolding catalogue_in
 catalogue_known texts document env d out h =
     let (items, e, h1) = bind_ok (placed document part.System (counted_items list.Behaviours (codes "behaviours") 0 MAX_BEHAVIOURS d)) _ out h in
     let few = counted_are list.Behaviours (codes "behaviours") 0 MAX_BEHAVIOURS d items (placed_is document part.System (counted_items list.Behaviours (codes "behaviours") 0 MAX_BEHAVIOURS d) items e) in
-    let all = behaviours_grow texts document env 0 [] items out (no_behaviours env) h1 in
+    let all = parts_grow part.Behaviour new_behaviour_of env (IsCatalogue env) (behaviours_grow env) texts document 0 [] items out (no_behaviours env) h1 in
     (all.known, omega (arith, all.count, few.few))
 
 -- the target of a document
@@ -216,34 +212,9 @@ named_target_known env before d named h =
     subst (λ (n : Named). IsTarget env n.target) (same_ok _ named h2)
     (record { env_states = is.env_states; actions = is.actions; names = is.names; known = is.known; single = is.single })
 
-named_target_in_known : (texts : Texts) (document : List ℕ) (env : NamedEnv) (before : List Named) (i : ℕ) (d : Data) (named : Named) → named_target_in texts document env before i d ≡ Ok named →
-    IsTarget env named.target
-unfolding named_target_in
-named_target_in_known texts document env before i d named h =
-    let (p, e, h1) = bind_ok (part_of texts document (part.Target i) d) _ named h in
-    named_target_known env before p.1 named (placed_is p.0 (part.Target i) (named_target_of env before p.1) named h1)
-
-record AreTargetsOf (env : NamedEnv) (out : List Named) (n : ℕ) : Type 0 where
-  known : All (λ named. IsTarget env named.target) out
-  count : length out ≡ n
-
-targets_grow : (texts : Texts) (document : List ℕ) (env : NamedEnv) (i : ℕ) (before : List Named) (items : Items) (out : List Named) → All (λ named. IsTarget env named.target) before →
-    each_item (target_step texts document env) i before items ≡ Ok out → AreTargetsOf env out (length before + items_len items)
-unfolding each_item target_step
-targets_grow texts document env i before no_items out are h =
-    let same = same_ok before out h in
-    record {
-      known = subst (λ (xs : List Named). All (λ named. IsTarget env named.target) xs) same are;
-      count = let e : length before ≡ length out = ap length same in omega arith;
-    }
-targets_grow texts document env i before (item d ds) out are h =
-    let (more, e, h1) = bind_ok (target_step texts document env i before d) _ out h in
-    let (named, e1, h2) = bind_ok (named_target_in texts document env before i d) _ more e in
-    let next : before ++ named ∷ [] ≡ more = same_ok (before ++ named ∷ []) more h2 in
-    let rest = targets_grow texts document env (i + 1) more ds out
-    (all_known_push (λ (n : Named). IsTarget env n.target) before more named are (named_target_in_known texts document env before i d named e1) (sym next)) h1 in
-    let long : length more ≡ length before + 1 = sym (ap length next) ∙ length-append before (named ∷ []) in
-    record { known = rest.known; count = omega (arith, rest.count, long) }
+targets_grow : (env : NamedEnv) (before : List Named) (d : Data) (named : Named) → named_target_of env before d ≡ Ok named → All (λ (n : Named). IsTarget env n.target) before →
+    All (λ (n : Named). IsTarget env n.target) (before ++ named ∷ [])
+targets_grow env before d named h are = All-push (λ (n : Named). IsTarget env n.target) before named are (named_target_known env before d named h)
 
 pub targets_in_known : (texts : Texts) (document : List ℕ) (env : NamedEnv) (d : Data) (out : List Named) → targets_in texts document env d ≡ Ok out →
     All (λ named. IsTarget env named.target) out × (2 ≤ length out) × (length out ≤ 4)
@@ -251,7 +222,7 @@ unfolding targets_in
 targets_in_known texts document env d out h =
     let (items, e, h1) = bind_ok (placed document part.System (counted_items list.Targets (codes "targets") 2 4 d)) _ out h in
     let few = counted_are list.Targets (codes "targets") 2 4 d items (placed_is document part.System (counted_items list.Targets (codes "targets") 2 4 d) items e) in
-    let all = targets_grow texts document env 0 [] items out (λ k x l. absurd (omega (arith, l))) h1 in
+    let all = parts_grow part.Target named_target_of env (All (λ (n : Named). IsTarget env n.target)) (targets_grow env) texts document 0 [] items out (λ k x l. absurd (omega (arith, l))) h1 in
     (all.known, omega (arith, all.count, few.some), omega (arith, all.count, few.few))
 
 -- The parts

@@ -1,5 +1,5 @@
 -- What the parts of a library keep.
-use Rattle.std.proofs.Common.{◌≡◌, ℕ, ◌≤◌, List, [], ◌∷◌, ◌++◌, map, true, None, Ok, refl, sym, ◌∙◌}
+use Rattle.std.proofs.Common.{◌≡◌, ℕ, ◌≤◌, List, [], ◌∷◌, ◌++◌, map, true, None, Ok, refl, sym, ◌∙◌, arith}
 use Rattle.std.specs.Str.{bytes_eq}
 use Rattle.std.proofs.lemmas.List.{map_push}
 use Rattle.std.proofs.lemmas.List.Elements.{All-push}
@@ -48,6 +48,10 @@ no_place names name none there =
 -- what has a new name goes behind things with names of their own
 new_name : {X : Type 0} (f : X → List ℕ) (xs : List X) (x : X) → HasNoRepeats (map f xs) → place_of (map f xs) (f x) ≡ None → HasNoRepeats (map f (xs ++ x ∷ []))
 new_name f xs x once none = rw (map_push f xs x) (HasNoRepeats-push (map f xs) (f x) once (no_place (map f xs) (f x) none))
+
+-- there may be no behaviours
+pub no_behaviours : (env : NamedEnv) → IsCatalogue env []
+no_behaviours env = record { known = λ d i l. absurd (omega (arith, l)); names = tt }
 
 -- a behaviour with a new name goes behind those of a catalogue
 pub IsCatalogue-push : (env : NamedEnv) (before after : List NamedBeh) (b : NamedBeh) → IsCatalogue env before → IsBehaviour env b

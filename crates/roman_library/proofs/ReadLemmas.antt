@@ -12,7 +12,7 @@ use Rattle.roman_parts.specs.declared.error.List.{List as Place}
 use Rattle.roman_parts.specs.declared.error.List.TheVariants as list
 use Rattle.roman_parts.specs.declared.error.PartError.{PartError}
 use Rattle.roman_parts.proofs.ReadLemmas.{counted_listing}
-use Rattle.roman_library.specs.Documents.{behaviour_in, behaviour_step, catalogue_in, service_of, service_step, services_of}
+use Rattle.roman_library.specs.Documents.{listed_step, behaviour_in, behaviour_step, catalogue_in, service_of, service_step, services_of}
 use Rattle.roman_library.specs.Reads.{refused_list, BreaksService, ReadsServices, ReadsBehaviours, DocumentListsAreRead}
 use Rattle.roman_library.specs.Refusals.{refusal_of, placed}
 use Rattle.roman_library.specs.declared.library.Service.{Service}
@@ -93,7 +93,7 @@ module _ (texts : Texts) (document : List ℕ) (env : NamedEnv) where
   BreaksBehaviour i before item e = behaviour_in texts document env before i item ≡ Err e
 
   behaviours_step : IsStep (behaviour_step texts document env) IsBehaviourItem BreaksBehaviour
-  unfolding behaviour_step IsBehaviourItem BreaksBehaviour
+  unfolding listed_step IsBehaviourItem BreaksBehaviour
   behaviours_step = record {
     gives = λ i before d out at h.
         let (x, e, h1) = bind_ok (behaviour_in texts document env before i d) _ out h in

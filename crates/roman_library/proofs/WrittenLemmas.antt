@@ -19,7 +19,7 @@ use Rattle.roman_parts.specs.Written.{list_value, place_value, environment_value
 use Rattle.roman_parts.specs.declared.error.List.TheVariants as list
 use Rattle.roman_parts.proofs.ReadLemmas.{ok_place, absent_none}
 use Rattle.roman_parts.proofs.WrittenLemmas.{is_place, name_said, parts_said, get_in}
-use Rattle.roman_library.specs.Documents.{version_of, limit_in, limit_of, file_of, part_of, new_name_of, environment_in, new_behaviour_of, behaviour_in, catalogue_in, target_in, parts_in, behaviour_place, state_of, frozen_of, rests_of, service_of, services_of, library_in}
+use Rattle.roman_library.specs.Documents.{version_of, limit_in, limit_of, file_of, part_of, listed_in, new_name_of, environment_in, new_behaviour_of, behaviour_in, catalogue_in, target_in, parts_in, behaviour_place, state_of, frozen_of, rests_of, service_of, services_of, library_in}
 use Rattle.roman_library.specs.Library.{PlainLibrary, IsService, behaviour_name, service_name}
 use Rattle.roman_library.specs.Refusals.{placed}
 use Rattle.roman_library.specs.Written.{catalogue_states, service_value, library_value, IsSayable, LibrariesAreSaid}
@@ -50,7 +50,7 @@ said_as_they_stand texts document library env is = rw (target_said texts documen
 
 behaviour_said : (texts : Texts) (document : List ℕ) (env : NamedEnv) (before : List NamedBeh) (i : ℕ) (b : NamedBeh) → IsSayableEnv env → IsSayableBeh env b → (IsIn b.name (map behaviour_name before) → ⊥) →
     behaviour_in texts document env before i (behaviour_value env b) ≡ Ok b
-unfolding behaviour_in part_of file_of new_behaviour_of new_name_of
+unfolding listed_in part_of file_of new_behaviour_of new_name_of
 behaviour_said texts document env before i b env_is is new =
     rw (name_said (behaviour_value env b) b.name refl is.name, absent_none (map behaviour_name before) b.name new) (ap (placed document (part.Behaviour i)) (parts_said.behaviour env b env_is is))
 

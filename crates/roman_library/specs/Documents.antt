@@ -81,6 +81,26 @@ opened texts document part d (Some file) = value_at texts file part >>= (λ valu
 unfoldable pub part_of : Texts → List ℕ → Part → Data → Result (List ℕ × Data) Refusal
 part_of texts document part d = placed document part (file_of d) >>= opened texts document part d
 
+-- ---- parts of which a document has a list
+
+-- how refusals name part i of a list
+abbrev pub PartAt : Type 0
+PartAt = ℕ → Part
+
+-- how a part is read over an environment, after those before it
+abbrev pub ReadAfter : Type 0 → Type 0
+ReadAfter X = NamedEnv → List X → Data → Result X PartError
+
+-- part i of a list, after those before it
+unfoldable pub listed_in : {X : Type 0} → PartAt → ReadAfter X → Texts → List ℕ → NamedEnv → List X → ℕ → Data → Result X Refusal
+listed_in at read texts document env before i d = do
+  (file, value) ← part_of texts document (at i) d
+  placed file (at i) (read env before value)
+
+-- the same, put behind those before it
+unfoldable pub listed_step : {X : Type 0} → PartAt → ReadAfter X → Texts → List ℕ → NamedEnv → ℕ → List X → Data → Result (List X) Refusal
+listed_step at read texts document env i before d = listed_in at read texts document env before i d >>= (λ x. Ok (before ++ x ∷ []))
+
 -- ---- the environment, the behaviours and the target
 
 -- the name of a behaviour or a service, which none of those before it has
@@ -102,14 +122,12 @@ unfoldable pub new_behaviour_of : NamedEnv → List NamedBeh → Data → Result
 new_behaviour_of env before d = new_name_of (map behaviour_name before) d >>= (λ name. behaviour_of env d)
 
 -- behaviour i, after those before it
-unfoldable pub behaviour_in : Texts → List ℕ → NamedEnv → List NamedBeh → ℕ → Data → Result NamedBeh Refusal
-behaviour_in texts document env before i d = do
-  (file, value) ← part_of texts document (part.Behaviour i) d
-  placed file (part.Behaviour i) (new_behaviour_of env before value)
+abbrev pub behaviour_in : Texts → List ℕ → NamedEnv → List NamedBeh → ℕ → Data → Result NamedBeh Refusal
+behaviour_in texts document env before i d = listed_in part.Behaviour new_behaviour_of texts document env before i d
 
 -- the same, put behind those before it
-unfoldable pub behaviour_step : Texts → List ℕ → NamedEnv → ℕ → List NamedBeh → Data → Result (List NamedBeh) Refusal
-behaviour_step texts document env i before d = behaviour_in texts document env before i d >>= (λ behaviour. Ok (before ++ behaviour ∷ []))
+abbrev pub behaviour_step : Texts → List ℕ → NamedEnv → ℕ → List NamedBeh → Data → Result (List NamedBeh) Refusal
+behaviour_step texts document env = listed_step part.Behaviour new_behaviour_of texts document env
 
 -- the behaviours of a document
 unfoldable pub catalogue_in : Texts → List ℕ → NamedEnv → Data → Result (List NamedBeh) Refusal
@@ -134,14 +152,12 @@ named_target_of env before d = do
   Ok (record { name = name; target = target })
 
 -- target i, after those before it
-unfoldable pub named_target_in : Texts → List ℕ → NamedEnv → List Named → ℕ → Data → Result Named Refusal
-named_target_in texts document env before i d = do
-  (file, value) ← part_of texts document (part.Target i) d
-  placed file (part.Target i) (named_target_of env before value)
+abbrev pub named_target_in : Texts → List ℕ → NamedEnv → List Named → ℕ → Data → Result Named Refusal
+named_target_in texts document env before i d = listed_in part.Target named_target_of texts document env before i d
 
 -- the same, put behind those before it
-unfoldable pub target_step : Texts → List ℕ → NamedEnv → ℕ → List Named → Data → Result (List Named) Refusal
-target_step texts document env i before d = named_target_in texts document env before i d >>= (λ named. Ok (before ++ named ∷ []))
+abbrev pub target_step : Texts → List ℕ → NamedEnv → ℕ → List Named → Data → Result (List Named) Refusal
+target_step texts document env = listed_step part.Target named_target_of texts document env
 
 -- the targets of a document: two to four of them
 unfoldable pub targets_in : Texts → List ℕ → NamedEnv → Data → Result (List Named) Refusal

@@ -11,6 +11,7 @@ mod file_name;
 mod header;
 mod laws;
 mod library;
+mod listing;
 mod loading;
 mod looks;
 mod names;

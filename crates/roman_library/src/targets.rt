@@ -1,18 +1,16 @@
 //! The parts of a document with one target, or with several.
-ghost use Rattle.std.specs.Prelude.{◌≡◌, ◌≤◌, [], length, map, vec_len, None, All, IfOk, IfSome};
-ghost use Rattle.serde_json.specs.View.{view, items_view};
+ghost use Rattle.std.specs.Prelude.{◌≡◌, ◌≤◌, length, vec_len, All, IfOk, IfSome};
+ghost use Rattle.serde_json.specs.View.{view};
 ghost use Rattle.roman_model.specs.System.{IsEnv};
-ghost use Rattle.roman_read.specs.Items.{each_item};
-ghost use Rattle.roman_read.specs.Names.{place_of};
 ghost use Rattle.roman_parts.specs.Reading.{Gives};
 ghost use Rattle.roman_multi.specs.Combining as combining;
-ghost use Rattle.roman_library.specs.Documents.{broken_rule, combined_of, named_target_in, named_target_of, parts_in, target_step, targets_in};
+ghost use Rattle.roman_library.specs.Documents.{broken_rule, combined_of, parts_in, targets_in};
 ghost use Rattle.roman_library.specs.Library.{ArePartsOf, IsCatalogue, IsTarget};
 ghost use Rattle.roman_library.specs.Refusals.{Loads, CausesLoad};
 
+use crate::listing::{Listed, load_items};
 use crate::looks::{counted_items, refused};
 use crate::names::place_of_target;
-use crate::part_file::{file_of, value_at};
 use crate::parts::{load_target, target_over};
 use crate::placing::placed;
 use crate::refusal::{LoadError, Part};
@@ -85,89 +83,40 @@ fn load_targets<F: Shelf>(
     load_items(alloc, shelf, document, items, environment)
 }
 
-/// The targets that the items of a list are.
-fn load_items<F: Shelf>(
-    alloc: Global,
-    shelf: &mut F,
-    document: &str,
-    items: &[Value],
-    environment: &Environment,
-) -> Result<Vec<Named>, LoadError>
-    requires { (2 ≤ length items.now) × (length items.now ≤ 4) }
-    ensures targets { IfSome (F.texts shelf.old)
-        (λ texts. Loads (λ x. x.items) result (each_item (target_step texts document.now environment.now) 0 [] (items_view items.now))) }
-    ensures known { IfOk result (λ targets. All (λ named. IsTarget environment.now named.target) targets.items) }
-    ensures count { IfOk result (λ targets. (2 ≤ vec_len targets) × (vec_len targets ≤ 4)) }
-    ensures texts { F.texts shelf.new ≡ F.texts shelf.old }
-    ensures cause { CausesLoad (F.faults shelf.old) (F.faults shelf.new) result }
-{
-    let mut targets = Vec::with_capacity(alloc, items.len())?;
-    for (i, item) in items.iter().enumerate() {
-        let named = load_named(
-            alloc,
-            shelf,
-            document,
-            i as u32,
-            item,
-            environment,
-            &targets,
-        )?;
-        targets.push(named)?;
-    }
-    Ok(targets)
-}
+impl Listed for Named {
+    ghost use Rattle.std.specs.Prelude.{All};
+    ghost use Rattle.roman_library.specs.Documents.{named_target_of};
+    ghost use Rattle.roman_library.specs.declared.refusal.Part.TheVariants as part;
+    ghost use Rattle.roman_library.specs.Library.{IsTarget};
 
-#[tactic(auto, unfolding(crate::specs::Documents::named_target_in, crate::specs::Documents::part_of))]
-/// A target of a document, after those before it.
-fn load_named<F: Shelf>(
-    alloc: Global,
-    shelf: &mut F,
-    document: &str,
-    number: u32,
-    v: &Value,
-    environment: &Environment,
-    before: &[Named],
-) -> Result<Named, LoadError>
-    ensures target { IfSome (F.texts shelf.old)
-        (λ texts. Loads (λ x. x) result (named_target_in texts document.now environment.now before.now number (view v.now))) }
-    ensures known { IfOk result (λ named. IsTarget environment.now named.target) }
-    ensures texts { F.texts shelf.new ≡ F.texts shelf.old }
-    ensures cause { CausesLoad (F.faults shelf.old) (F.faults shelf.new) result }
-{
-    let part = Part::Target(number);
-    match placed(alloc, document, part, file_of(v))? {
-        None => {
-            let named = read_named(alloc, v, environment, before);
-            placed(alloc, document, part, named)
-        }
-        Some(file) => {
-            let value = value_at(alloc, shelf, file, part)?;
-            let named = read_named(alloc, &value, environment, before);
-            placed(alloc, file, part, named)
-        }
-    }
-}
+    ghost part_at = { part.Target };
 
-#[tactic(auto, unfolding(crate::specs::Documents::new_name_of, crate::specs::Documents::named_target_of))]
-/// A target, whose name is tried against those before it and then the rest.
-fn read_named(
-    alloc: Global,
-    v: &Value,
-    environment: &Environment,
-    before: &[Named],
-) -> Result<Named, PartError>
-    ensures target { Gives (λ x. x) result (named_target_of environment.now before.now (view v.now)) }
-    ensures known { IfOk result (λ named. IsTarget environment.now named.target) }
-{
-    if !v.is_object() {
-        return Err(refused(Kind::Form, List::Whole));
+    ghost meaning = { named_target_of };
+
+    ghost are_known = { λ env targets. All (λ named. IsTarget env named.target) targets };
+
+    fn part(number: u32) -> Part {
+        Part::Target(number)
     }
-    let name = read_name(v)?;
-    if place_of_target(before, name.bytes()).is_some() {
-        return Err(refused(Kind::Repeated, List::Name));
+
+    #[tactic(auto, unfolding(crate::specs::Documents::new_name_of, crate::specs::Documents::named_target_of))]
+    /// A target, whose name is tried against those before it and then the rest.
+    fn read_after(
+        alloc: Global,
+        v: &Value,
+        environment: &Environment,
+        before: &[Named],
+    ) -> Result<Named, PartError> {
+        if !v.is_object() {
+            return Err(refused(Kind::Form, List::Whole));
+        }
+        let name = read_name(v)?;
+        if place_of_target(before, name.bytes()).is_some() {
+            return Err(refused(Kind::Repeated, List::Name));
+        }
+        let target = target_over(alloc, v, environment)?;
+        Ok(Named { name, target })
     }
-    let target = target_over(alloc, v, environment)?;
-    Ok(Named { name, target })
 }
 
 /// The targets as one, with the environment and the catalogue over its actions.

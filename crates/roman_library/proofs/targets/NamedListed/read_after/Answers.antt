@@ -1,0 +1,9 @@
+-- A target that is read goes behind those before it.
+use Rattle.std.proofs.lemmas.List.Elements.{All-push}
+use Rattle.roman_multi.specs.declared.parts.Named.{Named}
+use Rattle.roman_library.specs.Library.{IsTarget}
+use Rattle.roman_library.proofs.targets.NamedListed.read_after.Goals as goal
+
+pub returns-clause-known : goal.returns-clause-known
+returns-clause-known c = λ before.
+    All-push (λ (n : Named). IsTarget c.args.environment.now n.target) c.args.before.now _ before c.in_ok-target.ensures.known

@@ -1,0 +1,99 @@
+//! Parts of which a document has a list, each in place or by file.
+ghost use Rattle.std.specs.Prelude.{◌≡◌, ◌^◌, ◌<◌, List, [], ◌∷◌, ◌++◌, length, vec_len, IfOk, IfSome};
+ghost use Rattle.serde_json.specs.View.{view, items_view};
+ghost use Rattle.roman_read.specs.Items.{each_item};
+ghost use Rattle.roman_parts.specs.Named.{NamedEnv};
+ghost use Rattle.roman_parts.specs.Reading.{Gives};
+ghost use Rattle.roman_library.specs.Documents.{PartAt, ReadAfter, listed_in, listed_step};
+ghost use Rattle.roman_library.specs.Refusals.{Loads, CausesLoad};
+
+use crate::part_file::{file_of, value_at};
+use crate::placing::placed;
+use crate::refusal::{LoadError, Part};
+use roman_io::Shelf;
+use roman_parts::{Environment, PartError};
+use serde_json::Value;
+use std::alloc::Global;
+
+/// A part of which a document has a list, as its behaviours.
+pub(crate) trait Listed: Drop {
+    /// How refusals name a part by its place.
+    ghost part_at: { PartAt };
+
+    /// What a value is, over an environment and after the parts before it.
+    ghost meaning: { ReadAfter Self };
+
+    /// What the parts of a list are, over an environment.
+    ghost are_known: { NamedEnv → List Self → Type 0 };
+
+    /// The name of a part in refusals.
+    fn part(number: u32) -> Part
+        ensures { result ≡ part_at number };
+
+    /// A part, after those before it.
+    fn read_after(
+        alloc: Global,
+        v: &Value,
+        environment: &Environment,
+        before: &[Self],
+    ) -> Result<Self, PartError>
+        ensures part { Gives (λ x. x) result (meaning environment.now before.now (view v.now)) }
+        ensures known { IfOk result (λ x. are_known environment.now before.now → are_known environment.now (before.now ++ x ∷ [])) };
+}
+
+/// The parts that the items of a list are.
+pub(crate) fn load_items<P: Listed, F: Shelf>(
+    alloc: Global,
+    shelf: &mut F,
+    document: &str,
+    items: &[Value],
+    environment: &Environment,
+) -> Result<Vec<P>, LoadError>
+    requires few { length items.now < 2 ^ 32 }
+    requires none { P.are_known environment.now [] }
+    ensures parts { IfSome (F.texts shelf.old)
+        (λ texts. Loads (λ x. x.items) result (each_item (listed_step P.part_at P.meaning texts document.now environment.now) 0 [] (items_view items.now))) }
+    ensures known { IfOk result (λ parts. P.are_known environment.now parts.items) }
+    ensures count { IfOk result (λ parts. vec_len parts ≡ length items.now) }
+    ensures texts { F.texts shelf.new ≡ F.texts shelf.old }
+    ensures cause { CausesLoad (F.faults shelf.old) (F.faults shelf.new) result }
+{
+    let mut parts = Vec::with_capacity(alloc, items.len())?;
+    for (i, item) in items.iter().enumerate() {
+        let number = i as u32;
+        let part: P = load_item(alloc, shelf, document, number, item, environment, &parts)?;
+        parts.push(part)?;
+    }
+    Ok(parts)
+}
+
+#[tactic(auto, unfolding(crate::specs::Documents::listed_in, crate::specs::Documents::part_of))]
+/// A part of a list, after those before it.
+fn load_item<P: Listed, F: Shelf>(
+    alloc: Global,
+    shelf: &mut F,
+    document: &str,
+    number: u32,
+    v: &Value,
+    environment: &Environment,
+    before: &[P],
+) -> Result<P, LoadError>
+    ensures part { IfSome (F.texts shelf.old)
+        (λ texts. Loads (λ x. x) result (listed_in P.part_at P.meaning texts document.now environment.now before.now number (view v.now))) }
+    ensures known { IfOk result (λ x. P.are_known environment.now before.now → P.are_known environment.now (before.now ++ x ∷ [])) }
+    ensures texts { F.texts shelf.new ≡ F.texts shelf.old }
+    ensures cause { CausesLoad (F.faults shelf.old) (F.faults shelf.new) result }
+{
+    let part = P::part(number);
+    match placed(alloc, document, part, file_of(v))? {
+        None => {
+            let read = P::read_after(alloc, v, environment, before);
+            placed(alloc, document, part, read)
+        }
+        Some(file) => {
+            let value = value_at(alloc, shelf, file, part)?;
+            let read = P::read_after(alloc, &value, environment, before);
+            placed(alloc, file, part, read)
+        }
+    }
+}
