@@ -1,10 +1,10 @@
 -- The definitions of certificates and explanations, computed for one small system.
-use Rattle.std.proofs.Common.{◌≡◌, ℕ, false, List, [], ◌∷◌, length, refl, codes}
+use Rattle.std.proofs.Common.{◌≡◌, ℕ, false, List, [], ◌∷◌, ◌++◌, length, refl, codes}
 use Rattle.std.specs.Fmt.{digits}
 use Rattle.roman_model.specs.System.{Pair}
 use Rattle.roman_model.specs.Arena.{Entry}
 use Rattle.roman_model.specs.Numbers.{numbered}
-use Rattle.roman_model.specs.Certificate.{Form, Repeated, Unjustified, Unlisted, Greatest, Rejected, cert_text, cert_verdict}
+use Rattle.roman_model.specs.Certificate.{Verdict, Form, Repeated, Unjustified, Unlisted, Greatest, Rejected, cert_text, cert_verdict}
 use Rattle.roman_model.specs.Explanation.{Names, explain_text}
 use Rattle.roman_model.proofs.Examples.{flaky_system, pair_of}
 use Rattle.roman_model.specs.declared.reason.Reason.TheVariants.{Final, Act}
@@ -18,54 +18,33 @@ written : cert_text 6 order ≡ codes "roman-order 1\npairs 6\n1 f\n2 0\n3 1\n5 
 unfolding digits
 written = refl
 
-fifty_bytes : length (codes "roman-order 1\npairs 6\n1 f\n2 0\n3 1\n5 1\n0 0\n4 1\nend\n") ≡ 50
-fifty_bytes = refl
+-- what is said of a text behind the two lines with which it begins
+abbrev Says : List ℕ → Verdict → Type 0
+Says lines verdict = cert_verdict (numbered flaky_system) 0 (codes "roman-order 1\npairs 6\n" ++ lines) ≡ verdict
 
-accepted : cert_verdict (numbered flaky_system) 0 (codes "roman-order 1\npairs 6\n1 f\n2 0\n3 1\n5 1\n0 0\n4 1\nend\n") ≡ Greatest 0 false
+-- the order, two of its entries exchanged, without one, without its end, with an entry twice; the last newline may be missing, and nothing may follow it
+orders_are_judged :
+    Says (codes "1 f\n2 0\n3 1\n5 1\n0 0\n4 1\nend\n") (Greatest 0 false)
+    × Says (codes "1 f\n2 0\n3 1\n0 0\n5 1\n4 1\nend\n") (Rejected 6 Unjustified)
+    × Says (codes "1 f\n2 0\n3 1\n5 1\n0 0\nend\n") (Rejected 8 (Unlisted 4))
+    × Says (codes "1 f\n2 0\n3 1\n5 1\n0 0\n4 1\n") (Rejected 9 Form)
+    × Says (codes "1 f\n1 f\n2 0\n3 1\n5 1\n0 0\n4 1\nend\n") (Rejected 4 Repeated)
+    × Says (codes "1 f\n2 0\n3 1\n5 1\n0 0\n4 1\nend") (Greatest 0 false)
+    × Says (codes "1 f\n2 0\n3 1\n5 1\n0 0\n4 1\nend\n\n") (Rejected 10 Form)
 unfolding digits
-accepted = refl
+orders_are_judged = (refl, refl, refl, refl, refl, refl, refl)
 
-exchanged : cert_verdict (numbered flaky_system) 0 (codes "roman-order 1\npairs 6\n1 f\n2 0\n3 1\n0 0\n5 1\n4 1\nend\n") ≡ Rejected 6 Unjustified
+-- a leading zero, a number out of range, an action that isn't allowed
+entries_are_judged : Says (codes "01 f\n") (Rejected 3 Form) × Says (codes "6 f\n") (Rejected 3 Form) × Says (codes "1 f\n2 1\n") (Rejected 4 Unjustified)
 unfolding digits
-exchanged = refl
-
-without_an_entry : cert_verdict (numbered flaky_system) 0 (codes "roman-order 1\npairs 6\n1 f\n2 0\n3 1\n5 1\n0 0\nend\n") ≡ Rejected 8 (Unlisted 4)
-unfolding digits
-without_an_entry = refl
-
-without_end : cert_verdict (numbered flaky_system) 0 (codes "roman-order 1\npairs 6\n1 f\n2 0\n3 1\n5 1\n0 0\n4 1\n") ≡ Rejected 9 Form
-unfolding digits
-without_end = refl
-
-an_entry_twice : cert_verdict (numbered flaky_system) 0 (codes "roman-order 1\npairs 6\n1 f\n1 f\n2 0\n3 1\n5 1\n0 0\n4 1\nend\n") ≡ Rejected 4 Repeated
-unfolding digits
-an_entry_twice = refl
+entries_are_judged = (refl, refl, refl)
 
 empty : cert_verdict (numbered flaky_system) 0 [] ≡ Rejected 1 Form
 unfolding digits
 empty = refl
 
--- the last newline may be missing, and nothing may follow it
-unended : cert_verdict (numbered flaky_system) 0 (codes "roman-order 1\npairs 6\n1 f\n2 0\n3 1\n5 1\n0 0\n4 1\nend") ≡ Greatest 0 false
-unfolding digits
-unended = refl
-
-followed : cert_verdict (numbered flaky_system) 0 (codes "roman-order 1\npairs 6\n1 f\n2 0\n3 1\n5 1\n0 0\n4 1\nend\n\n") ≡ Rejected 10 Form
-unfolding digits
-followed = refl
-
--- a leading zero, a number out of range, an action that isn't allowed
-leading_zero : cert_verdict (numbered flaky_system) 0 (codes "roman-order 1\npairs 6\n01 f\n") ≡ Rejected 3 Form
-unfolding digits
-leading_zero = refl
-
-out_of_range : cert_verdict (numbered flaky_system) 0 (codes "roman-order 1\npairs 6\n6 f\n") ≡ Rejected 3 Form
-unfolding digits
-out_of_range = refl
-
-not_allowed : cert_verdict (numbered flaky_system) 0 (codes "roman-order 1\npairs 6\n1 f\n2 1\n") ≡ Rejected 4 Unjustified
-unfolding digits
-not_allowed = refl
+fifty_bytes : length (codes "roman-order 1\npairs 6\n1 f\n2 0\n3 1\n5 1\n0 0\n4 1\nend\n") ≡ 50
+fifty_bytes = refl
 
 -- the same order over pairs
 abbrev pair_order : List (Entry Pair)
