@@ -1,5 +1,5 @@
 -- The text of advice, one line after the other.
-use Rattle.std.proofs.Common.{◌≡◌, ℕ, suc, ◌+◌, ◌-◌, ◌<◌, ◌≤◌, List, [], ◌∷◌, ◌++◌, IsTrue, IsFalse, codes, length, drop, map, get_or, slice_get, Some, refl, sym, ap, ap₂, ◌∙◌, subst, arith, add-one, append_assoc}
+use Rattle.std.proofs.Common.{◌≡◌, ℕ, suc, ◌+◌, ◌-◌, ◌<◌, ◌≤◌, List, [], ◌∷◌, ◌++◌, IsTrue, IsFalse, codes, length, drop, map, get_or, slice_get, Option, Some, refl, sym, ap, ap₂, ◌∙◌, subst, arith, add-one, append_assoc}
 use Rattle.std.specs.List.{filter, flat_map}
 use Rattle.std.specs.Option.{option_map}
 use Rattle.std.proofs.Math.Seq.{drop-cons}
@@ -17,6 +17,7 @@ use Rattle.roman_model.proofs.CompositionLemmas.{related_great}
 use Rattle.roman_model.proofs.Lists.{length-below, get_or-below}
 use Rattle.roman_model.proofs.NumberLemmas.{numbers_are_pairs}
 use Rattle.roman_model.proofs.PlanLemmas.{choice_is}
+use Rattle.roman_text.proofs.Filling.{IsFilling, fill_whole}
 use Rattle.roman_joint.specs.NamedSys.{NamedSys, system_of, seat_of}
 use Rattle.roman_joint.specs.Names.{seat_name}
 use Rattle.roman_joint.specs.declared.seat.Seat.{Seat}
@@ -135,16 +136,23 @@ choice_line_is n C h p a k cost action seat is costs action_named seated =
 regroup : (a b c d : List ℕ) → a ++ (b ++ (c ++ (d ++ []))) ≡ a ++ b ++ c ++ d
 regroup a b c d = simp (append_assoc, append-nil)
 
--- the text in pieces, of which the first has what so many requests cost at worst
-pub advice_pieces : (n : NamedSys) (listed : List Listed) (requests h start value : ℕ) (first : List ℕ) → value ≡ least_at (system_of n) (seat_costs n listed) h start → h ≡ requests → first ≡ worst_line value →
-    first ++ (flat_map (choice_line n (seat_costs n listed) (requests - 1) (pair_at (sizes_of (system_of n)) start)) (allowed_actions (system_of n) (pair_at (sizes_of (system_of n)) start))
-    ++ (certificate_text (system_of n) (seat_costs n listed) requests ++ (codes "end\n" ++ []))) ≡ advice_text n listed requests (pair_at (sizes_of (system_of n)) start)
+-- the lines of the actions that the target allows at a pair, and those of all values
+abbrev pub choices_text : NamedSys → List Listed → ℕ → ℕ → List ℕ
+choices_text n listed requests start =
+    let p = pair_at (sizes_of (system_of n)) start in
+    flat_map (choice_line n (seat_costs n listed) (requests - 1) p) (allowed_actions (system_of n) p)
+
+abbrev pub values_text : NamedSys → List Listed → ℕ → List ℕ
+values_text n listed requests = certificate_text (system_of n) (seat_costs n listed) requests
+
+-- an empty page is to take the text in pieces, of which the first has what so many requests cost at worst
+pub advice_begins : (n : NamedSys) (listed : List Listed) (requests h start value : ℕ) (first held : List ℕ) (old : Option (List ℕ)) → held ≡ [] →
+    value ≡ least_at (system_of n) (seat_costs n listed) h start → h ≡ requests → first ≡ worst_line value →
+    IsFilling old old held (first ++ (choices_text n listed requests start ++ (values_text n listed requests ++ (codes "end\n" ++ [])))) (advice_text n listed requests (pair_at (sizes_of (system_of n)) start))
 unfolding advice_text
-advice_pieces n listed requests h start value first least_is same is =
-    let s = system_of n in
-    let C = seat_costs n listed in
-    let p = pair_at (sizes_of s) start in
-    let choices = flat_map (choice_line n C (requests - 1) p) (allowed_actions s p) in
-    let values = certificate_text s C requests in
-    ap (λ (first : List ℕ). first ++ (choices ++ (values ++ (codes "end\n" ++ [])))) (is ∙ ap worst_line (least_is ∙ ap (λ (h : ℕ). least_at s C h start) same))
-    ∙ regroup (worst_line (least_at s C requests start)) choices values (codes "end\n")
+advice_begins n listed requests h start value first held old empty least_is same is =
+    let choices = choices_text n listed requests start in
+    let values = values_text n listed requests in
+    fill_whole old held _ _ empty
+    (ap (λ (first : List ℕ). first ++ (choices ++ (values ++ (codes "end\n" ++ [])))) (is ∙ ap worst_line (least_is ∙ ap (λ (h : ℕ). least_at (system_of n) (seat_costs n listed) h start) same))
+    ∙ regroup (worst_line (least_at (system_of n) (seat_costs n listed) requests start)) choices values (codes "end\n"))
