@@ -1,5 +1,5 @@
-// Events that are answered by one reply. Each has a function of its own: a reply is large, and a
-// function clears the places of all replies that it may hold.
+//! Events that are answered by one reply. Each has a function of its own: a reply is large, and a
+//! function clears the places of all replies that it may hold.
 ghost use Rattle.roman_io.specs.Faults.{HasCause};
 ghost use Rattle.roman_text.specs.Shapes.{hand, saw, abort, jump, jump_env, freeze, thaw, die, join};
 ghost use Rattle.roman_session.specs.Answering.{DoneOn};
