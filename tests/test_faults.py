@@ -1,5 +1,5 @@
 """Each allocation, each read and each write failing in turn: the status is that of the fault, what was
-written is a front of what the run writes, and no run ends as if nothing had happened."""
+written is a prefix of what the run writes, and no run ends as if nothing had happened."""
 import os
 import shutil
 import subprocess
