@@ -13,10 +13,10 @@ replay_and_settle_on-requires g c =
     let n = c.args.relation.now.joint in
     let old = c.args.relation.now.order in
     let seat : Seat = seat_of n.catalogue c.args.seat in
-    let can = joined_can c.push_seat.new.self (system_of n) seat c.known-3.ensures c.in-Ok.ensures.system in
+    let can = joined_can c.push_seat.new.self (system_of n) seat c.known-3.ensures c.in_ok-push_seat.ensures.system in
     let is : IsReopened (Join seat) (system_of n) c.reopen.new.relation.joint c.states_of-states.result old.list c.reopen.new.relation.order = record {
       replays = relation_replays (Join seat) n old c.known.ensures c.requires.relation c.known-2.ensures.in_range can;
-      system = ap system_of c.reopen.ensures.joint ∙ c.in-Ok.ensures.system;
+      system = ap system_of c.reopen.ensures.joint ∙ c.in_ok-push_seat.ensures.system;
       those = ap (flat_map (grown_numbers c.states_of-states.result)) c.reopen.ensures.waiting ∙ ap (λ m. flat_map (grown_numbers m) old.list) c.states_of-states.ensures;
     } in
     replayable (Join seat) _ _ c.states_of-states.result old.list _ is
@@ -28,11 +28,11 @@ returns-clause-repaired g c =
     let n = c.args.relation.now.joint in
     let old = c.args.relation.now.order in
     let seat : Seat = seat_of n.catalogue c.args.seat in
-    let can = joined_can c.push_seat.new.self (system_of n) seat c.known-3.ensures c.in-Ok.ensures.system in
+    let can = joined_can c.push_seat.new.self (system_of n) seat c.known-3.ensures c.in_ok-push_seat.ensures.system in
     let new = c.replay_and_settle_on in
     reopened_repaired (Join seat) n c.reopen.new.relation.joint new.new.relation.joint c.states_of-states.result old
     c.reopen.new.relation.order new.new.relation.order new.result (record {
       replays = relation_replays (Join seat) n old c.known.ensures c.requires.relation c.known-2.ensures.in_range can;
-      system = ap system_of c.reopen.ensures.joint ∙ c.in-Ok.ensures.system;
+      system = ap system_of c.reopen.ensures.joint ∙ c.in_ok-push_seat.ensures.system;
       those = ap (flat_map (grown_numbers c.states_of-states.result)) c.reopen.ensures.waiting ∙ ap (λ m. flat_map (grown_numbers m) old.list) c.states_of-states.ensures;
     }) new.ensures.joint new.ensures.relation new.ensures.begins new.ensures.kept new.ensures.added
