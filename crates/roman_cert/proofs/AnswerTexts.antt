@@ -4,7 +4,7 @@ use Rattle.std.specs.Option.{option_map}
 use Rattle.std.proofs.lemmas.List.{drop_all, length-map}
 use Rattle.std.proofs.lemmas.Bool.{cond-true, cond-false}
 use Rattle.std.proofs.lemmas.Option.{same_Some}
-use Rattle.roman_model.specs.Lines.{text_of}
+use Rattle.roman_model.specs.Lines.{text_of_lines}
 use Rattle.roman_model.specs.Lists.{below}
 use Rattle.roman_model.specs.System.{Pair, IsSys, is_ready}
 use Rattle.roman_model.specs.Arena.{Entry}
@@ -22,7 +22,7 @@ use Rattle.roman_order.specs.Board.{Board, pairs_of, as_entry, has_entry}
 use Rattle.roman_relation.specs.Greatest.{arena_of}
 use Rattle.roman_text.proofs.Filling.{IsFilling}
 use Rattle.roman_cert.specs.Slices.{answers_text}
-use Rattle.roman_cert.proofs.Texts.{text_of-append}
+use Rattle.roman_cert.proofs.Texts.{text_of_lines-append}
 use Rattle.roman_cert.proofs.Answering.{entry_in, listed_numbers}
 
 numbers_from : (n k : ℕ) → k < n → drop k (below n) ≡ k ∷ drop (k + 1) (below n)
@@ -38,7 +38,7 @@ entry_is L i r reason x e is f = same_Some x (as_entry r) (sym f ∙ e) ∙ ap (
 pub answers_from : NamedSys → List (Entry ℕ) → ℕ → ℕ → ℕ → List ℕ
 answers_from n L p a k =
     let s = system_of n in
-    text_of (map (λ j. answer_line (names_in n) j (answer (arena s) (map (entry_at s) L) (pair_at (sizes_of s) p) a j)) (filter (λ j. is_ready (slice_get s.seats j)) (drop k (below (length s.seats)))))
+    text_of_lines (map (λ j. answer_line (names_in n) j (answer (arena s) (map (entry_at s) L) (pair_at (sizes_of s) p) a j)) (filter (λ j. is_ready (slice_get s.seats j)) (drop k (below (length s.seats)))))
 
 answers_begin : (n : NamedSys) (L : List (Entry ℕ)) (x : Entry ℕ) (p a : ℕ) → x ≡ record { node = p; reason = Act a } → answers_from n L p a 0 ≡ answers_text n L x
 unfolding answers_from answers_text
@@ -60,7 +60,7 @@ no_answers n L x none = by_reason x.reason none
 
 -- a ready seat comes next
 ready_next : (n : NamedSys) (L : List (Entry ℕ)) (p a k : ℕ) (found : Option ℕ) (bytes : List ℕ) → IsSys (system_of n) → AreNumbers (system_of n) L → p < count (sizes_of (system_of n)) →
-    k < length n.seats → IsTrue ((numbered (system_of n)).ready k) → found ≡ answer (numbered (system_of n)) L p a k → bytes ≡ text_of (answer_line (names_in n) k (option_map (pair_at (sizes_of (system_of n))) found) ∷ []) →
+    k < length n.seats → IsTrue ((numbered (system_of n)).ready k) → found ≡ answer (numbered (system_of n)) L p a k → bytes ≡ text_of_lines (answer_line (names_in n) k (option_map (pair_at (sizes_of (system_of n))) found) ∷ []) →
     answers_from n L p a k ≡ bytes ++ answers_from n L p a (k + 1)
 unfolding answers_from
 ready_next n L p a k found bytes sys are l within ready is said =
@@ -69,14 +69,14 @@ ready_next n L p a k found bytes sys are l within ready is said =
     let line : ℕ → List ℕ = λ j. answer_line (names_in n) j (answer (arena s) (map (entry_at s) L) (pair_at (sizes_of s) p) a j) in
     let rest : List ℕ = ready_from (drop (k + 1) (below (length s.seats))) in
     let below_seats : k < length s.seats = omega (arith, length-map n.seats (seat_of n.catalogue)) in
-    ap (λ ks. text_of (map line (ready_from ks))) (numbers_from (length s.seats) k below_seats)
-    ∙ ap (λ ks. text_of (map line ks)) (cond-true (is_ready (slice_get s.seats k)) (k ∷ rest) rest ready)
-    ∙ text_of-append (line k ∷ []) (map line rest)
-    ∙ ap (λ (o : Option Pair). text_of (answer_line (names_in n) k o ∷ []) ++ text_of (map line rest)) (sym (answer_at s sys L are p l a k) ∙ ap (option_map (pair_at (sizes_of s))) (sym is))
-    ∙ ap (λ (bs : List ℕ). bs ++ text_of (map line rest)) (sym said)
+    ap (λ ks. text_of_lines (map line (ready_from ks))) (numbers_from (length s.seats) k below_seats)
+    ∙ ap (λ ks. text_of_lines (map line ks)) (cond-true (is_ready (slice_get s.seats k)) (k ∷ rest) rest ready)
+    ∙ text_of_lines-append (line k ∷ []) (map line rest)
+    ∙ ap (λ (o : Option Pair). text_of_lines (answer_line (names_in n) k o ∷ []) ++ text_of_lines (map line rest)) (sym (answer_at s sys L are p l a k) ∙ ap (option_map (pair_at (sizes_of s))) (sym is))
+    ∙ ap (λ (bs : List ℕ). bs ++ text_of_lines (map line rest)) (sym said)
 
 pub answers_next : (n : NamedSys) (board : Board) (i : ℕ) (x : Entry ℕ) (a k : ℕ) (found : Option ℕ) (bytes : List ℕ) → IsNamedSys n → pairs_of board ≡ length (arena_of n).nodes → ((p : ℕ) → has_entry board.list p ≡ true → p < pairs_of board) →
-    slice_get board.list i ≡ Some x → k < length n.seats → IsTrue ((arena_of n).ready k) → found ≡ answer (arena_of n) board.list x.node a k → bytes ≡ text_of (answer_line (names_in n) k (option_map (pair_at (sizes_of (system_of n))) found) ∷ []) →
+    slice_get board.list i ≡ Some x → k < length n.seats → IsTrue ((arena_of n).ready k) → found ≡ answer (arena_of n) board.list x.node a k → bytes ≡ text_of_lines (answer_line (names_in n) k (option_map (pair_at (sizes_of (system_of n))) found) ∷ []) →
     answers_from n board.list x.node a k ≡ bytes ++ answers_from n board.list x.node a (k + 1)
 answers_next n board i x a k found bytes known shaped in_range e within ready is said =
     let are : AreNumbers (system_of n) board.list = listed_numbers (system_of n) board shaped in_range in
@@ -91,8 +91,8 @@ answers_skip n L p a k within frozen =
     let line : ℕ → List ℕ = λ j. answer_line (names_in n) j (answer (arena s) (map (entry_at s) L) (pair_at (sizes_of s) p) a j) in
     let rest : List ℕ = ready_from (drop (k + 1) (below (length s.seats))) in
     let below_seats : k < length s.seats = omega (arith, length-map n.seats (seat_of n.catalogue)) in
-    ap (λ ks. text_of (map line (ready_from ks))) (numbers_from (length s.seats) k below_seats)
-    ∙ ap (λ ks. text_of (map line ks)) (cond-false (is_ready (slice_get s.seats k)) (k ∷ rest) rest frozen)
+    ap (λ ks. text_of_lines (map line (ready_from ks))) (numbers_from (length s.seats) k below_seats)
+    ∙ ap (λ ks. text_of_lines (map line ks)) (cond-false (is_ready (slice_get s.seats k)) (k ∷ rest) rest frozen)
 
 pub answers_end : (n : NamedSys) (L : List (Entry ℕ)) (p a k : ℕ) → length n.seats ≤ k → answers_from n L p a k ≡ []
 unfolding answers_from
@@ -100,4 +100,4 @@ answers_end n L p a k past =
     let s = system_of n in
     let line : ℕ → List ℕ = λ j. answer_line (names_in n) j (answer (arena s) (map (entry_at s) L) (pair_at (sizes_of s) p) a j) in
     let none : length (below (length s.seats)) ≤ k = omega (arith, length-map n.seats (seat_of n.catalogue), length-below (length s.seats)) in
-    ap (λ ks. text_of (map line (filter (λ j. is_ready (slice_get s.seats j)) ks))) (drop_all k (below (length s.seats)) none)
+    ap (λ ks. text_of_lines (map line (filter (λ j. is_ready (slice_get s.seats j)) ks))) (drop_all k (below (length s.seats)) none)

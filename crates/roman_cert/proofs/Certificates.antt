@@ -5,7 +5,7 @@ use Rattle.std.proofs.lemmas.List.{drop_all}
 use Rattle.std.proofs.Math.Nat.{div-lt_iff_lt-mul}
 use Rattle.roman_io.specs.Sink.{Puts}
 use Rattle.roman_model.specs.Lists.{IsIn, product_of}
-use Rattle.roman_model.specs.Lines.{text_of}
+use Rattle.roman_model.specs.Lines.{text_of_lines}
 use Rattle.roman_model.specs.System.{Sys, Seat, IsSys, IsPair}
 use Rattle.roman_model.specs.Arena.{Entry}
 use Rattle.roman_model.specs.Numbers.{sizes_of, count, pair_at, entry_at, IsCompleteList}
@@ -15,28 +15,28 @@ use Rattle.roman_model.proofs.NumberedArena.{AreNumbers}
 use Rattle.roman_model.proofs.CertificateLaws.{written_is_greatest}
 use Rattle.roman_joint.specs.NamedSys.{NamedSys, system_of, IsNamedSys}
 use Rattle.roman_cert.specs.Certified.{WroteGreatest}
-use Rattle.roman_cert.proofs.Texts.{text_of-append, drop_at}
+use Rattle.roman_cert.proofs.Texts.{text_of_lines-append, drop_at}
 
 -- the lines of the entries from a place on, and the last line
 abbrev pub rest_from : List (Entry ℕ) → ℕ → List ℕ
-rest_from L i = text_of (map entry_line (drop i L) ++ end_line ∷ [])
+rest_from L i = text_of_lines (map entry_line (drop i L) ++ end_line ∷ [])
 
-pub cert_begins : (pairs : ℕ) (L : List (Entry ℕ)) (bytes : List ℕ) → bytes ≡ text_of (head_line ∷ count_line pairs ∷ []) → bytes ++ rest_from L 0 ≡ cert_text pairs L
+pub cert_begins : (pairs : ℕ) (L : List (Entry ℕ)) (bytes : List ℕ) → bytes ≡ text_of_lines (head_line ∷ count_line pairs ∷ []) → bytes ++ rest_from L 0 ≡ cert_text pairs L
 cert_begins pairs L bytes is =
-    ap (λ (bs : List ℕ). bs ++ rest_from L 0) is ∙ sym (text_of-append (head_line ∷ count_line pairs ∷ []) (map entry_line L ++ end_line ∷ []))
+    ap (λ (bs : List ℕ). bs ++ rest_from L 0) is ∙ sym (text_of_lines-append (head_line ∷ count_line pairs ∷ []) (map entry_line L ++ end_line ∷ []))
 
-pub cert_next : (L : List (Entry ℕ)) (i : ℕ) (x : Entry ℕ) (bytes : List ℕ) → slice_get L i ≡ Some x → bytes ≡ text_of (entry_line x ∷ []) → rest_from L i ≡ bytes ++ rest_from L (i + 1)
+pub cert_next : (L : List (Entry ℕ)) (i : ℕ) (x : Entry ℕ) (bytes : List ℕ) → slice_get L i ≡ Some x → bytes ≡ text_of_lines (entry_line x ∷ []) → rest_from L i ≡ bytes ++ rest_from L (i + 1)
 cert_next L i x bytes e is =
-    ap (λ M. text_of (map entry_line M ++ end_line ∷ [])) (drop_at L i x e)
-    ∙ text_of-append (entry_line x ∷ []) (map entry_line (drop (i + 1) L) ++ end_line ∷ [])
+    ap (λ M. text_of_lines (map entry_line M ++ end_line ∷ [])) (drop_at L i x e)
+    ∙ text_of_lines-append (entry_line x ∷ []) (map entry_line (drop (i + 1) L) ++ end_line ∷ [])
     ∙ ap (λ (bs : List ℕ). bs ++ rest_from L (i + 1)) (sym is)
 
 -- the line of an entry: the number of its pair, a space and the reason
-pub entry_parts : (x : Entry ℕ) → decimal x.node ++ (32 ∷ (reason_text x.reason ++ 10 ∷ [])) ≡ text_of (entry_line x ∷ [])
+pub entry_parts : (x : Entry ℕ) → decimal x.node ++ (32 ∷ (reason_text x.reason ++ 10 ∷ [])) ≡ text_of_lines (entry_line x ∷ [])
 entry_parts x = sym (append-nil (entry_line x ++ 10 ∷ []) ∙ append_assoc (decimal x.node) (32 ∷ reason_text x.reason) (10 ∷ []))
 
 pub cert_ends : (L : List (Entry ℕ)) (i : ℕ) → length L ≤ i → rest_from L i ≡ codes "end\n" ++ []
-cert_ends L i past = ap (λ M. text_of (map entry_line M ++ end_line ∷ [])) (drop_all i L past)
+cert_ends L i past = ap (λ M. text_of_lines (map entry_line M ++ end_line ∷ [])) (drop_all i L past)
 
 -- What a checker says
 

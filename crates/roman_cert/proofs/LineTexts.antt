@@ -2,7 +2,7 @@
 use Rattle.std.proofs.Common.{◌≡◌, ℕ, ◌+◌, ◌<◌, ◌≤◌, ◌%◌, List, [], ◌∷◌, ◌++◌, length, drop, codes, Option, Some, slice_index, slice_index_or, sym, ap, ap₂, ◌∙◌, arith, append-nil, append_assoc, add-one, drop-cons}
 use Rattle.std.specs.List.{flat_map, join_with_byte}
 use Rattle.std.proofs.lemmas.List.{drop_all, length-map}
-use Rattle.roman_model.specs.Lines.{text_of}
+use Rattle.roman_model.specs.Lines.{text_of_lines}
 use Rattle.roman_model.specs.Lists.{product_of}
 use Rattle.roman_model.specs.System.{Pair}
 use Rattle.roman_model.specs.Numbers.{sizes_of, pair_at}
@@ -17,12 +17,12 @@ use Rattle.roman_cert.specs.Slices.{lost_text}
 -- The line of a seat
 
 pub may_answer : (names : Names) (k : ℕ) (q : Pair) (answer : Option Pair) (text result : List ℕ) → answer ≡ Some q → text ≡ codes "  " ++ (seat_names names k).service →
-    result ≡ text ++ codes " may answer " ++ name_at (seat_names names k).states (slice_index q.bs k) ++ codes " " ++ name_at names.env q.e ++ 10 ∷ [] → result ≡ text_of (answer_line names k answer ∷ [])
+    result ≡ text ++ codes " may answer " ++ name_at (seat_names names k).states (slice_index q.bs k) ++ codes " " ++ name_at names.env q.e ++ 10 ∷ [] → result ≡ text_of_lines (answer_line names k answer ∷ [])
 may_answer names k q answer text result is begins ends =
     ends
     ∙ ap (λ (bs : List ℕ). bs ++ codes " may answer " ++ name_at (seat_names names k).states (slice_index q.bs k) ++ codes " " ++ name_at names.env q.e ++ 10 ∷ []) begins
     ∙ sym (append-nil (answer_line names k (Some q) ++ 10 ∷ []))
-    ∙ ap (λ (o : Option Pair). text_of (answer_line names k o ∷ [])) (sym is)
+    ∙ ap (λ (o : Option Pair). text_of_lines (answer_line names k o ∷ [])) (sym is)
 
 -- The line of a pair
 
@@ -42,7 +42,7 @@ regrouped : (a t e s c r : List ℕ) → ((a ++ t) ++ 32 ∷ e) ++ (s ++ ((c ++ 
 regrouped a t e s c r = simp (append_assoc, append-nil)
 
 line_begins : (names : Names) (q : Pair) (reason : Reason) (bytes : List ℕ) → bytes ≡ codes "lost " ++ name_at names.target q.t ++ 32 ∷ name_at names.env q.e →
-    bytes ++ states_from names q.bs reason 0 ≡ text_of (lost_line names (record { node = q; reason = reason }) ∷ [])
+    bytes ++ states_from names q.bs reason 0 ≡ text_of_lines (lost_line names (record { node = q; reason = reason }) ∷ [])
 line_begins names q reason bytes is =
     let t = name_at names.target q.t in
     let e = name_at names.env q.e in

@@ -1,7 +1,7 @@
 -- The explanation of a pair, as it is printed and as a refutation.
 use Rattle.std.proofs.Common.{◌≡◌, ℕ, ◌<◌, List, [], ◌∷◌, ◌++◌, map, filter, flat_map, length, codes, Option, Result, IsTrue, refl, sym, ap, ap₂, ◌∙◌, subst}
 use Rattle.roman_io.specs.Sink.{Puts}
-use Rattle.roman_model.specs.Lines.{text_of}
+use Rattle.roman_model.specs.Lines.{text_of_lines}
 use Rattle.roman_model.specs.Arena.{Entry, is_listed}
 use Rattle.roman_model.specs.Composition.{arena, Great}
 use Rattle.roman_model.specs.Numbers.{sizes_of, count, pair_at, entry_at, IsCompleteList}
@@ -18,7 +18,7 @@ use Rattle.roman_joint.specs.Names.{names_in}
 use Rattle.roman_order.specs.Board.{Board, is_marked}
 use Rattle.roman_relation.specs.Greatest.{arena_of, IsRelation}
 use Rattle.roman_cert.specs.Slices.{lost_text, answers_text, entry_text, marked_entries, slice_text}
-use Rattle.roman_cert.proofs.Texts.{text_of-append}
+use Rattle.roman_cert.proofs.Texts.{text_of_lines-append}
 
 -- What is printed
 
@@ -29,19 +29,19 @@ marked_explanation n board L p same marked =
     ap (filter (λ x. is_marked board x.node)) same ∙ filter_same (λ x. is_marked board x.node) (λ x. rests_on (arena_of n) L (length L) p x.node) L (λ x i. marked x.node)
 
 -- the lines of an entry, over pairs
-entry_text_is : (n : NamedSys) (L : List (Entry ℕ)) (x : Entry ℕ) → entry_text n L x ≡ text_of (entry_lines (system_of n) (names_in n) (map (entry_at (system_of n)) L) (entry_at (system_of n) x))
+entry_text_is : (n : NamedSys) (L : List (Entry ℕ)) (x : Entry ℕ) → entry_text n L x ≡ text_of_lines (entry_lines (system_of n) (names_in n) (map (entry_at (system_of n)) L) (entry_at (system_of n) x))
 unfolding entry_text lost_text answers_text
 entry_text_is n L x =
     let s = system_of n in
-    sym (text_of-append (lost_line (names_in n) (entry_at s x) ∷ []) (answer_lines s (names_in n) (map (entry_at s) L) (pair_at (sizes_of s) x.node) x.reason))
+    sym (text_of_lines-append (lost_line (names_in n) (entry_at s x) ∷ []) (answer_lines s (names_in n) (map (entry_at s) L) (pair_at (sizes_of s) x.node) x.reason))
 
-entries_text_is : (n : NamedSys) (L M : List (Entry ℕ)) → flat_map (entry_text n L) M ≡ text_of (flat_map (entry_lines (system_of n) (names_in n) (map (entry_at (system_of n)) L)) (map (entry_at (system_of n)) M))
+entries_text_is : (n : NamedSys) (L M : List (Entry ℕ)) → flat_map (entry_text n L) M ≡ text_of_lines (flat_map (entry_lines (system_of n) (names_in n) (map (entry_at (system_of n)) L)) (map (entry_at (system_of n)) M))
 entries_text_is n L [] = refl
 entries_text_is n L (x ∷ M) =
     let s = system_of n in
     let lines = entry_lines s (names_in n) (map (entry_at s) L) in
     ap₂ (λ (bs cs : List ℕ). bs ++ cs) (entry_text_is n L x) (entries_text_is n L M)
-    ∙ sym (text_of-append (lines (entry_at s x)) (flat_map lines (map (entry_at s) M)))
+    ∙ sym (text_of_lines-append (lines (entry_at s x)) (flat_map lines (map (entry_at s) M)))
 
 -- the text of the explanation
 slice_text_is : (n : NamedSys) (L : List (Entry ℕ)) (p : ℕ) → IsNamedSys n → AreNumbers (system_of n) L → p < count (sizes_of (system_of n)) →
@@ -51,8 +51,8 @@ slice_text_is n L p known are l =
     let s = system_of n in
     let lines = entry_lines s (names_in n) (map (entry_at s) L) in
     ap (λ (bs : List ℕ). bs ++ codes "end\n") (entries_text_is n L (explanation (arena_of n) L p))
-    ∙ sym (text_of-append (flat_map lines (map (entry_at s) (explanation (arena_of n) L p))) (codes "end" ∷ []))
-    ∙ ap (λ M. text_of (flat_map lines M ++ codes "end" ∷ [])) (explanation_at s known.system L are p l)
+    ∙ sym (text_of_lines-append (flat_map lines (map (entry_at s) (explanation (arena_of n) L p))) (codes "end" ∷ []))
+    ∙ ap (λ M. text_of_lines (flat_map lines M ++ codes "end" ∷ [])) (explanation_at s known.system L are p l)
 
 -- what was written of the marked entries was the explanation
 pub explanation_written : {T E : Type 0} (n : NamedSys) (board : Board) (L : List (Entry ℕ)) (p : ℕ) (before now : Option (List ℕ)) (result : Result T E) → IsNamedSys n → AreNumbers (system_of n) L → p < count (sizes_of (system_of n)) → board.list ≡ L →

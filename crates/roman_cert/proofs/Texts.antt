@@ -3,11 +3,11 @@ use Rattle.std.proofs.Common.{◌≡◌, ℕ, zero, suc, ◌+◌, ◌<◌, List,
 use Rattle.std.specs.List.{slice_get}
 use Rattle.std.proofs.lemmas.Option.{slice_get_within, get_or_from_slice_get}
 use Rattle.std.proofs.lemmas.Grind.{flat_map-append}
-use Rattle.roman_model.specs.Lines.{text_of}
+use Rattle.roman_model.specs.Lines.{text_of_lines}
 
 -- the text of some lines and then of others
-pub text_of-append : (ls ms : List (List ℕ)) → text_of (ls ++ ms) ≡ text_of ls ++ text_of ms
-text_of-append ls ms = flat_map-append (λ line. line ++ 10 ∷ []) ls ms
+pub text_of_lines-append : (ls ms : List (List ℕ)) → text_of_lines (ls ++ ms) ≡ text_of_lines ls ++ text_of_lines ms
+text_of_lines-append ls ms = flat_map-append (λ line. line ++ 10 ∷ []) ls ms
 
 -- what is left from a place on: the element there, and what is left behind it
 pub drop_at : {X : Type 0} (xs : List X) (i : ℕ) (x : X) → slice_get xs i ≡ Some x → drop i xs ≡ x ∷ drop (i + 1) xs

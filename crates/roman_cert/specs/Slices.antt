@@ -1,7 +1,7 @@
 -- The texts of an explanation, where entries and lists are over the numbers of pairs.
 use Rattle.std.specs.Prelude.{ℕ, List, [], ◌∷◌, ◌++◌, map, filter, codes}
 use Rattle.std.specs.List.{flat_map}
-use Rattle.roman_model.specs.Lines.{text_of}
+use Rattle.roman_model.specs.Lines.{text_of_lines}
 use Rattle.roman_model.specs.Arena.{Entry}
 use Rattle.roman_model.specs.Numbers.{sizes_of, pair_at, entry_at}
 use Rattle.roman_model.specs.Explanation.{lost_line, answer_lines}
@@ -11,13 +11,13 @@ use Rattle.roman_order.specs.Board.{Board, is_marked}
 
 -- the line that says which pair is lost, and why
 unfoldable pub lost_text : NamedSys → Entry ℕ → List ℕ
-lost_text n x = text_of (lost_line (names_in n) (entry_at (system_of n) x) ∷ [])
+lost_text n x = text_of_lines (lost_line (names_in n) (entry_at (system_of n) x) ∷ [])
 
 -- the lines that say how the ready services may answer the entry's action, where that is one of the list
 unfoldable pub answers_text : NamedSys → List (Entry ℕ) → Entry ℕ → List ℕ
 answers_text n L x =
     let s = system_of n in
-    text_of (answer_lines s (names_in n) (map (entry_at s) L) (pair_at (sizes_of s) x.node) x.reason)
+    text_of_lines (answer_lines s (names_in n) (map (entry_at s) L) (pair_at (sizes_of s) x.node) x.reason)
 
 -- both
 unfoldable pub entry_text : NamedSys → List (Entry ℕ) → Entry ℕ → List ℕ

@@ -4,7 +4,7 @@ ghost use Rattle.roman_io.specs.Faults.{HasCause};
 ghost use Rattle.roman_io.specs.Sink.{Puts};
 ghost use Rattle.roman_text.specs.Pages.{Gathers};
 ghost use Rattle.roman_model.specs.declared.reason.Reason.TheVariants.{Act};
-ghost use Rattle.roman_model.specs.Lines.{text_of};
+ghost use Rattle.roman_model.specs.Lines.{text_of_lines};
 ghost use Rattle.roman_model.specs.Certificate.{head_line, count_line, entry_line, cert_text};
 ghost use Rattle.roman_model.specs.Numbers.{sizes_of, count, IsCompleteList};
 ghost use Rattle.roman_joint.specs.NamedSys.{system_of};
@@ -53,7 +53,7 @@ pub(crate) fn write_list<O: Sink>(pairs: u32, order: &Order, out: &mut O) -> Res
 
 /// The first two lines of a certificate.
 fn head_piece(pairs: u32) -> Piece
-    ensures { result ≡ text_of (head_line ∷ count_line pairs ∷ []) }
+    ensures { result ≡ text_of_lines (head_line ∷ count_line pairs ∷ []) }
 {
     let text = Piece::new().text(b"roman-order 1\npairs ");
     text.number(pairs).text(b"\n")
@@ -67,7 +67,7 @@ fn push_entry<O: Sink>(
     out: &mut O,
 ) -> Result<(), Failed>
     ensures gathers { Gathers (O.written out.old) (O.written out.new) page.new
-        (page.old ++ text_of (entry_line (as_entry (pair, reason)) ∷ [])) result }
+        (page.old ++ text_of_lines (entry_line (as_entry (pair, reason)) ∷ [])) result }
     ensures cause { HasCause (O.faults out.old) (O.faults out.new) result }
 {
     match reason {
@@ -79,7 +79,7 @@ fn push_entry<O: Sink>(
 /// Takes the line of an entry whose reason is the action.
 fn push_action<O: Sink>(pair: u32, action: u8, page: &mut Page, out: &mut O) -> Result<(), Failed>
     ensures gathers { Gathers (O.written out.old) (O.written out.new) page.new
-        (page.old ++ text_of (entry_line (as_entry (pair, Act action)) ∷ [])) result }
+        (page.old ++ text_of_lines (entry_line (as_entry (pair, Act action)) ∷ [])) result }
     ensures cause { HasCause (O.faults out.old) (O.faults out.new) result }
 {
     if action < 10 {

@@ -4,7 +4,7 @@ ghost use Rattle.std.specs.Option.{ForSome, option_map};
 ghost use Rattle.roman_io.specs.Faults.{HasCause};
 ghost use Rattle.roman_text.specs.Pages.{Gathers};
 ghost use Rattle.roman_model.specs.Explanation.{name_at, seat_names, reason_name, answer_line};
-ghost use Rattle.roman_model.specs.Lines.{text_of};
+ghost use Rattle.roman_model.specs.Lines.{text_of_lines};
 ghost use Rattle.roman_model.specs.Numbers.{sizes_of, count, pair_at};
 ghost use Rattle.roman_joint.specs.NamedSys.{system_of};
 ghost use Rattle.roman_joint.specs.Names.{names_in};
@@ -83,7 +83,7 @@ pub(crate) fn answer_piece(joint: &Joint, k: u8, answer: Option<u32>) -> Piece
     requires seat { k < length joint.now.seats }
     requires pair { ForSome answer (λ q. q < count (sizes_of (system_of joint.now))) }
     ensures { let answered = option_map (pair_at (sizes_of (system_of joint.now))) answer in
-        result ≡ text_of (answer_line (names_in joint.now) k answered ∷ []) }
+        result ≡ text_of_lines (answer_line (names_in joint.now) k answered ∷ []) }
 {
     let text = Piece::new().text(b"  ").name(joint.service_name(k));
     match answer {

@@ -2,11 +2,11 @@
 use Rattle.std.proofs.Common.{◌≡◌, ◌≢◌, ℕ, ◌+◌, ◌-◌, ◌<◌, ◌≤◌, ◌==◌, List, [], ◌∷◌, ◌++◌, length, take, drop, get_or, Option, Some, None, option_map, refl, sym, ap, ap₂, ◌∙◌, subst, inl, inr, arith, append_assoc, append-nil, length-append, length-drop}
 use Rattle.std.specs.List.{position}
 use Rattle.std.proofs.lemmas.List.{take-append-drop, take_more, take_rest, get_or-drop}
-use Rattle.roman_model.specs.Lines.{lines, text_of, IsLine, AreLines}
+use Rattle.roman_model.specs.Lines.{lines, text_of_lines, IsLine, AreLines}
 use Rattle.roman_model.specs.Arena.{Arena, Entry}
 use Rattle.roman_model.specs.Certificate.{entry_of, entry_fault}
 use Rattle.roman_model.proofs.Lists.{from_push}
-use Rattle.roman_model.proofs.LineLemmas.{text_of-push, lines-text, lines_last}
+use Rattle.roman_model.proofs.LineLemmas.{text_of_lines-push, lines-text, lines_last}
 use Rattle.roman_model.proofs.CertificateLemmas.{append_line, clean_push}
 use Rattle.roman_check.specs.declared.reader.Reader.{Reader}
 use Rattle.roman_check.specs.declared.audit.Audit.{Audit}
@@ -69,7 +69,7 @@ pub read_partial : (A : Arena ℕ) (old new : Reader) (more : List ℕ) → IsLi
 read_partial A old new more line same count pushed taken r = record {
   text = r.text;
   partial = r.partial ++ more;
-  split = ap (λ bs. bs ++ more) r.split ∙ append_assoc (text_of r.text) r.partial more;
+  split = ap (λ bs. bs ++ more) r.split ∙ append_assoc (text_of_lines r.text) r.partial more;
   whole = r.whole;
   unended = append_line r.partial more r.unended line;
   has = record {
@@ -80,13 +80,13 @@ read_partial A old new more line same count pushed taken r = record {
   held = pushed r.partial r.held;
 }
 
-ended_split : (partial last : List ℕ) (text : List (List ℕ)) (taken : List ℕ) → taken ≡ text_of text ++ partial → taken ++ (last ++ 10 ∷ []) ≡ text_of (text ++ (partial ++ last) ∷ []) ++ []
+ended_split : (partial last : List ℕ) (text : List (List ℕ)) (taken : List ℕ) → taken ≡ text_of_lines text ++ partial → taken ++ (last ++ 10 ∷ []) ≡ text_of_lines (text ++ (partial ++ last) ∷ []) ++ []
 ended_split partial last text taken split =
     ap (λ bs. bs ++ (last ++ 10 ∷ [])) split
-    ∙ append_assoc (text_of text) partial (last ++ 10 ∷ [])
-    ∙ ap (λ bs. text_of text ++ bs) (sym (append_assoc partial last (10 ∷ [])))
-    ∙ sym (append_assoc (text_of text) (partial ++ last) (10 ∷ []))
-    ∙ sym (text_of-push text (partial ++ last)) ∙ sym (append-nil (text_of (text ++ (partial ++ last) ∷ [])))
+    ∙ append_assoc (text_of_lines text) partial (last ++ 10 ∷ [])
+    ∙ ap (λ bs. text_of_lines text ++ bs) (sym (append_assoc partial last (10 ∷ [])))
+    ∙ sym (append_assoc (text_of_lines text) (partial ++ last) (10 ∷ []))
+    ∙ sym (text_of_lines-push text (partial ++ last)) ∙ sym (append-nil (text_of_lines (text ++ (partial ++ last) ∷ [])))
 
 -- the end of a line without a fault
 pub read_line : (A : Arena ℕ) (old new : Reader) (last : List ℕ) (fault : Option Why) → IsLine last → ((bytes : List ℕ) → Holds old.line bytes → Judges A old.audit new.audit (bytes ++ last) fault) → fault ≡ None → new.lines ≡ old.lines + 1 →
@@ -126,7 +126,7 @@ fault_more A bytes more n why at = record {
   text = at.text;
   line = at.line;
   more = at.more ++ more;
-  split = ap (λ bs. bs ++ more) at.split ∙ append_assoc (text_of (at.text ++ at.line ∷ [])) at.more more;
+  split = ap (λ bs. bs ++ more) at.split ∙ append_assoc (text_of_lines (at.text ++ at.line ∷ [])) at.more more;
   whole = at.whole;
   clean = at.clean;
   fault = at.fault;

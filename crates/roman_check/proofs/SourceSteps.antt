@@ -3,7 +3,7 @@ use Rattle.std.proofs.Common.{◌≡◌, ℕ, ◌+◌, ◌<◌, ◌≤◌, List,
 use Rattle.std.proofs.lemmas.List.{take-append-drop, take-take, take_at}
 use Rattle.roman_io.specs.Source.{Gave, EndsAt, Had, IsAtEnd, GaveAtMost}
 use Rattle.roman_io.proofs.SourceLemmas.{Gave-then}
-use Rattle.roman_model.specs.Lines.{text_of, ended_lines}
+use Rattle.roman_model.specs.Lines.{text_of_lines, ended_lines}
 use Rattle.roman_model.specs.Arena.{Arena}
 use Rattle.roman_model.specs.Certificate as text
 use Rattle.roman_model.specs.Certificate.{faults, cert_verdict}
@@ -78,13 +78,13 @@ rejected_at A start before mid now taken got front rest n why first second cut w
           ∙ ap (λ m. text.Rejected (m + 1) (fault_of why)) (sym at.counted);
     }
   where
-    whole : (after : List ℕ) → (taken ++ got) ++ after ≡ text_of (at.text ++ at.line ∷ []) ++ (at.more ++ (rest ++ after))
+    whole : (after : List ℕ) → (taken ++ got) ++ after ≡ text_of_lines (at.text ++ at.line ∷ []) ++ (at.more ++ (rest ++ after))
     whole after =
         ap (λ bs. (taken ++ bs) ++ after) cut ∙ ap (λ bs. bs ++ after) (sym (append_assoc taken front rest)) ∙ append_assoc (taken ++ front) rest after
-        ∙ ap (λ bs. bs ++ (rest ++ after)) at.split ∙ append_assoc (text_of (at.text ++ at.line ∷ [])) at.more (rest ++ after)
+        ∙ ap (λ bs. bs ++ (rest ++ after)) at.split ∙ append_assoc (text_of_lines (at.text ++ at.line ∷ [])) at.more (rest ++ after)
 
-    short : length (text_of (at.text ++ at.line ∷ [])) ≤ MAX_CERTIFICATE_BYTES
-    short = omega (arith, ap length at.split, length-append (text_of (at.text ++ at.line ∷ [])) at.more, length-append taken front)
+    short : length (text_of_lines (at.text ++ at.line ∷ [])) ≤ MAX_CERTIFICATE_BYTES
+    short = omega (arith, ap length at.split, length-append (text_of_lines (at.text ++ at.line ∷ [])) at.more, length-append taken front)
 
 -- the limit is passed, and no line that ends within it is at fault
 pub passed_limit : (A : Arena ℕ) (start : ℕ) (before mid now : Option (List ℕ)) (taken got front rest : List ℕ) (reader : Reader) → Gave before mid taken → Gave mid now got → got ≡ front ++ rest →

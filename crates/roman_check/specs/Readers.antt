@@ -1,6 +1,6 @@
 -- What was read of a text, byte by byte.
 use Rattle.std.specs.Prelude.{◌≡◌, ℕ, List, [], ◌∷◌, ◌++◌, length, take, Option, None, Some}
-use Rattle.roman_model.specs.Lines.{lines, text_of, IsLine, AreLines}
+use Rattle.roman_model.specs.Lines.{lines, text_of_lines, IsLine, AreLines}
 use Rattle.roman_model.specs.Arena.{Arena}
 use Rattle.roman_model.specs.Certificate.{line_fault, IsClean}
 use Rattle.roman_check.specs.declared.verdict.Why.{Why}
@@ -19,7 +19,7 @@ pub record HasLines (A : Arena ℕ) (text : List (List ℕ)) (reader : Reader) :
 pub record IsReading (A : Arena ℕ) (taken : List ℕ) (reader : Reader) : Type 0 where
   pub text : List (List ℕ)
   pub partial : List ℕ
-  pub split : taken ≡ text_of text ++ partial
+  pub split : taken ≡ text_of_lines text ++ partial
   pub whole : AreLines text
   pub unended : IsLine partial
   pub has : HasLines A text reader
@@ -34,7 +34,7 @@ pub record IsAtFault (A : Arena ℕ) (bytes : List ℕ) (clean_lines : ℕ) (why
   pub text : List (List ℕ)
   pub line : List ℕ
   pub more : List ℕ
-  pub split : bytes ≡ text_of (text ++ line ∷ []) ++ more
+  pub split : bytes ≡ text_of_lines (text ++ line ∷ []) ++ more
   pub whole : AreLines (text ++ line ∷ [])
   pub clean : IsClean A text (length text)
   pub fault : line_fault A text (Some line) ≡ Some (fault_of why)

@@ -2,7 +2,7 @@
 use Rattle.std.specs.Prelude.{ℕ, List, [], ◌∷◌, ◌++◌, map, length, is_none, nat_le, Result, Ok}
 use Rattle.serde_json.specs.Data.{Data}
 use Rattle.serde_json.specs.Events.{items_len}
-use Rattle.roman_io.specs.Shelf.{Texts, text_of}
+use Rattle.roman_io.specs.Shelf.{Texts, shelf_text}
 use Rattle.roman_model.specs.declared.limits.TheConstants.{MAX_DOCUMENT_BYTES}
 use Rattle.roman_read.specs.Items.{◌>>=◌, each_item}
 use Rattle.roman_read.specs.Json.{json_of, list_of, number_of}
@@ -45,7 +45,7 @@ costs_in behaviours actions d = do
 -- the value of a text that isn't too long
 unfoldable pub value_of : Texts → List ℕ → Result Data PartError
 value_of texts name =
-    let text = text_of texts name in
+    let text = shelf_text texts name in
     check (nat_le (length text) MAX_DOCUMENT_BYTES) kind.TooLong list.Whole 0 text >>= (λ bytes. found kind.NotJson list.Whole 0 (json_of bytes))
 
 -- the costs that the text of this name lists for the behaviours and actions of a system

@@ -1,6 +1,6 @@
 -- What a guard means, by its variants.
 use Rattle.std.proofs.Common.{◌≡◌, ℕ, true, false, map, Vec, Box, Global, rules}
-use Rattle.roman_guard.specs.Meaning.{holds, is_among, complement, intersection, union}
+use Rattle.roman_guard.specs.Meaning.{holds, is_one_of, complement, intersection, union}
 use Rattle.roman_guard.specs.declared.formula.Guard.{Guard, All, Never, Among, Not, Both, Either, the_lemmas}
 
 pub holds-All : holds All ≡ (λ _. true)
@@ -9,7 +9,7 @@ holds-All = search (rules, the_lemmas)
 pub holds-Never : holds Never ≡ (λ _. false)
 holds-Never = search (rules, the_lemmas)
 
-pub holds-Among : (states : Vec ℕ Global) → holds (Among states) ≡ is_among states.items
+pub holds-Among : (states : Vec ℕ Global) → holds (Among states) ≡ is_one_of states.items
 holds-Among states = search (rules, the_lemmas)
 
 pub holds-Not : (g : Box Guard Global) → holds (Not g) ≡ complement (holds g.value)

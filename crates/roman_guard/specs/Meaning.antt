@@ -7,8 +7,8 @@ use Rattle.roman_guard.specs.declared.formula.Guard.TheOpen.{Guard-F}
 use Rattle.roman_guard.specs.declared.formula.Guard.TheFolds.{fold-Guard}
 
 -- state e is one of the list
-abbrev pub is_among : List ℕ → ℕ → Bool
-is_among states e = list_any (λ s. s == e) states
+abbrev pub is_one_of : List ℕ → ℕ → Bool
+is_one_of states e = list_any (λ s. s == e) states
 
 -- the states that a set lacks
 abbrev pub complement : (ℕ → Bool) → ℕ → Bool
@@ -26,7 +26,7 @@ union sets e = list_any (λ set. set e) sets
 abbrev pub holds_step : Guard-F (ℕ → Bool) → ℕ → Bool
 holds_step Guard-F.All = λ _. true
 holds_step Guard-F.Never = λ _. false
-holds_step (Guard-F.Among states) = is_among states.items
+holds_step (Guard-F.Among states) = is_one_of states.items
 holds_step (Guard-F.Not set) = complement set.value
 holds_step (Guard-F.Both sets) = intersection sets.items
 holds_step (Guard-F.Either sets) = union sets.items

@@ -1,6 +1,6 @@
 //! The formula.
 ghost use Rattle.std.specs.Prelude.{◌≡◌, map};
-ghost use Rattle.roman_guard.specs.Meaning.{holds, is_among, intersection, union};
+ghost use Rattle.roman_guard.specs.Meaning.{holds, is_one_of, intersection, union};
 
 /// A formula over the numbers of environment states, which stands for the states in which it holds.
 #[derive(Debug, Drop)]
@@ -62,7 +62,7 @@ fn some_holds(parts: &[Guard], e: u8) -> bool
 
 // Whether state `e` is one of those listed.
 fn lists(states: &[u8], e: u8) -> bool
-    ensures { result ≡ is_among states.now e }
+    ensures { result ≡ is_one_of states.now e }
 {
     states.iter().any(|&state| state == e)
 }

@@ -12,8 +12,8 @@ text_at [] name = None
 text_at (t ∷ ts) name = if bytes_eq t.0 name then Some t.1 else text_at ts name
 
 -- the text of a name: empty where there is none
-abbrev pub text_of : Texts → List ℕ → List ℕ
-text_of ts name = unwrap_or (text_at ts name) []
+abbrev pub shelf_text : Texts → List ℕ → List ℕ
+shelf_text ts name = unwrap_or (text_at ts name) []
 
 -- the first n bytes of `into` are those of the text from `at` on, and n is 0 exactly at or past its end
 pub record Fetches (text : List ℕ) (at : ℕ) (into : List ℕ) (n : ℕ) : Type 0 where
@@ -25,4 +25,4 @@ pub record Fetches (text : List ℕ) (at : ℕ) (into : List ℕ) (n : ℕ) : Ty
 -- what is left of a text from `at` on, where the shelf tells it
 abbrev pub rest_from : Option Texts → List ℕ → ℕ → Option (List ℕ)
 rest_from None name at = None
-rest_from (Some ts) name at = Some (drop at (text_of ts name))
+rest_from (Some ts) name at = Some (drop at (shelf_text ts name))

@@ -3,7 +3,7 @@ ghost use Rattle.std.specs.Prelude.{◌≡◌, ◌&&◌, not, ◌≤◌, min, le
 ghost use Rattle.roman_io.specs.Calls.{no_calls, is_failing, after_call, after_failed};
 ghost use Rattle.roman_io.specs.Faults.{HasCause};
 ghost use Rattle.roman_io.specs.Memory.{ShelfState, texts_of};
-ghost use Rattle.roman_io.specs.Shelf.{Fetches, text_at, text_of};
+ghost use Rattle.roman_io.specs.Shelf.{Fetches, text_at, shelf_text};
 
 use crate::calls::Calls;
 use crate::copying::{copy_from, find_text};
@@ -46,11 +46,11 @@ impl Shelf for MemShelf {
 
     fn fetch(&mut self, name: &str, at: u64, into: &mut [u8]) -> Result<usize, Failed>
         ensures bound { IfOk result (λ n. n ≤ length into.new) }
-        ensures bytes { IfSome (Some self.old.texts) (λ ts. IfOk result (Fetches (text_of ts name.now) at into.new)) }
+        ensures bytes { IfSome (Some self.old.texts) (λ ts. IfOk result (Fetches (shelf_text ts name.now) at into.new)) }
         ensures texts { Some self.new.texts ≡ Some self.old.texts }
         ensures cause { HasCause self.old.calls.faults self.new.calls.faults result }
         ensures fails { is_ok result ≡ (not (is_failing self.old.calls) && is_some (text_at self.old.texts name.now)) }
-        ensures count { IfOk result (λ n. n ≡ min (length (drop at (text_of self.old.texts name.now))) (length into.new)) }
+        ensures count { IfOk result (λ n. n ≡ min (length (drop at (shelf_text self.old.texts name.now))) (length into.new)) }
         ensures ok { OnOk result (self.new.calls ≡ after_call self.old.calls) }
         ensures err { OnErr result (self.new.calls ≡ after_failed self.old.calls) }
     {

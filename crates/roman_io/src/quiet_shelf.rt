@@ -2,7 +2,7 @@
 ghost use Rattle.std.specs.Prelude.{◌≡◌, ◌≤◌, min, length, drop, Some, IfOk, IfSome, IsOk};
 ghost use Rattle.roman_io.specs.Faults.{HasCause};
 ghost use Rattle.roman_io.specs.Memory.{texts_of};
-ghost use Rattle.roman_io.specs.Shelf.{Fetches, Texts, text_of};
+ghost use Rattle.roman_io.specs.Shelf.{Fetches, Texts, shelf_text};
 
 use crate::copying::{copy_from, find_text};
 use crate::failed::Failed;
@@ -38,11 +38,11 @@ impl Shelf for QuietShelf {
 
     fn fetch(&mut self, name: &str, at: u64, into: &mut [u8]) -> Result<usize, Failed>
         ensures bound { IfOk result (λ n. n ≤ length into.new) }
-        ensures bytes { IfSome (Some self.old) (λ ts. IfOk result (Fetches (text_of ts name.now) at into.new)) }
+        ensures bytes { IfSome (Some self.old) (λ ts. IfOk result (Fetches (shelf_text ts name.now) at into.new)) }
         ensures texts { Some self.new ≡ Some self.old }
         ensures cause { HasCause 0 0 result }
         ensures ok { IsOk result }
-        ensures count { IfOk result (λ n. n ≡ min (length (drop at (text_of self.old name.now))) (length into.new)) }
+        ensures count { IfOk result (λ n. n ≡ min (length (drop at (shelf_text self.old name.now))) (length into.new)) }
     {
         let text = find_text(&self.files, name).unwrap_or(&[]);
         Ok(copy_from(text, at, into))

@@ -1,7 +1,7 @@
 //! What the engine asks of a place that has texts by name.
 ghost use Rattle.std.specs.Prelude.{◌≡◌, ℕ, ◌≤◌, List, Option, length, IfOk, IfSome};
 ghost use Rattle.roman_io.specs.Faults.{HasCause};
-ghost use Rattle.roman_io.specs.Shelf.{Fetches, Texts, text_of};
+ghost use Rattle.roman_io.specs.Shelf.{Fetches, Texts, shelf_text};
 
 use crate::failed::Failed;
 
@@ -24,7 +24,7 @@ pub trait Shelf {
     /// The error comes only where the count of faults rises.
     fn fetch(&mut self, name: &str, at: u64, into: &mut [u8]) -> Result<usize, Failed>
         ensures bound { IfOk result (λ n. n ≤ length into.new) }
-        ensures bytes { IfSome (texts self.old) (λ ts. IfOk result (Fetches (text_of ts name.now) at into.new)) }
+        ensures bytes { IfSome (texts self.old) (λ ts. IfOk result (Fetches (shelf_text ts name.now) at into.new)) }
         ensures texts { texts self.new ≡ texts self.old }
         ensures cause { HasCause (faults self.old) (faults self.new) result };
 }

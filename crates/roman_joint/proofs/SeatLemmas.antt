@@ -20,10 +20,10 @@ use Rattle.std.proofs.lemmas.Bool.{ne_eqb}
 use Rattle.roman_model.specs.declared.limits.TheConstants.{MAX_SERVICES}
 
 -- what is read of a place of the catalogue
-pub beh_read : (behs : List NamedBeh) (i : ℕ) (y : NamedBeh) → i < length behs → y ≡ get_or behs i y → y.beh ≡ beh_at behs i
-beh_read [] i y l h = absurd (omega arith)
-beh_read (beh ∷ behs) zero y l h = ap (λ (x : NamedBeh). x.beh) h
-beh_read (beh ∷ behs) (suc i) y l h = beh_read behs i y (omega arith) h
+pub seat_beh_read : (behs : List NamedBeh) (i : ℕ) (y : NamedBeh) → i < length behs → y ≡ get_or behs i y → y.beh ≡ beh_at behs i
+seat_beh_read [] i y l h = absurd (omega arith)
+seat_beh_read (beh ∷ behs) zero y l h = ap (λ (x : NamedBeh). x.beh) h
+seat_beh_read (beh ∷ behs) (suc i) y l h = seat_beh_read behs i y (omega arith) h
 
 pub seat_there : (catalogue : List NamedBeh) (seats : List Seat) (k : ℕ) (x : Seat) → k < length seats → x ≡ get_or seats k x →
     slice_get (map (seat_of catalogue) seats) k ≡ Some (seat_of catalogue x)
@@ -51,7 +51,7 @@ pub one_read : (catalogue : List NamedBeh) (seats : List Seat) (sizes : List ℕ
     AreRead catalogue seats sizes k → AreRead catalogue seats (set sizes k size) (k + 1)
 one_read catalogue seats sizes k size x y within room at_seat at_beh place is over so_far =
     let f = λ (seat : Seat). (beh_at catalogue seat.behaviour).states in
-    let read : y.beh ≡ beh_at catalogue x.behaviour = beh_read catalogue x.behaviour y place at_beh in
+    let read : y.beh ≡ beh_at catalogue x.behaviour = seat_beh_read catalogue x.behaviour y place at_beh in
     let more : take (k + 1) seats ≡ take k seats ++ x ∷ [] = take_more seats k x within ∙ ap (λ z. take k seats ++ z ∷ []) (sym at_seat) in
     let here : size ≡ f x = is ∙ ap (λ b. b.states) read in
     record {
@@ -123,7 +123,7 @@ seat_read n k x catalogue y known at_place same in_catalogue =
     let within : k < length n.seats = slice_get_within n.seats k x at_place in
     let at_seat : x ≡ get_or n.seats k x = sym (get_or_from_slice_get n.seats k x x at_place) in
     let place : x.behaviour < length n.catalogue = subst (λ (z : Seat). z.behaviour < length n.catalogue) (sym at_seat) (known.behaviours k x within) in
-    let read : y.beh ≡ beh_at n.catalogue x.behaviour = beh_read n.catalogue x.behaviour y place at_beh in
+    let read : y.beh ≡ beh_at n.catalogue x.behaviour = seat_beh_read n.catalogue x.behaviour y place at_beh in
     let over : IsOverEnv n.environment y = subst (IsOverEnv n.environment) (sym at_beh) (known.catalogue x.behaviour y place) in
     record {
       beh = read;

@@ -2,7 +2,7 @@
 use Rattle.std.proofs.Common.{◌≡◌, ℕ, ◌+◌, ◌≤◌, List, [], ◌++◌, length, take, drop, sym, ◌∙◌, ap, subst, arith, append-nil, length-append, Option, None, Some, IfSome}
 use Rattle.std.proofs.lemmas.List.{take-append-drop, length-take-le}
 use Rattle.std.proofs.Math.Seq.{take-append-add}
-use Rattle.roman_io.specs.Shelf.{Texts, Fetches, text_of}
+use Rattle.roman_io.specs.Shelf.{Texts, Fetches, shelf_text}
 use Rattle.roman_library.specs.Texts.{IsFront}
 
 -- the text is its prefix and what is left behind it
@@ -31,7 +31,7 @@ front_short bytes text front =
     omega (arith, length-append bytes (drop (length bytes) text), e)
 
 -- the same of a text of a shelf, where it is told
-pub fetched_more : (o : Option Texts) (name bytes into : List ℕ) (n : ℕ) → IfSome o (λ ts. IsFront bytes (text_of ts name)) →
-    IfSome o (λ ts. Fetches (text_of ts name) (length bytes) into n) → IfSome o (λ ts. IsFront (bytes ++ take n into) (text_of ts name))
+pub fetched_more : (o : Option Texts) (name bytes into : List ℕ) (n : ℕ) → IfSome o (λ ts. IsFront bytes (shelf_text ts name)) →
+    IfSome o (λ ts. Fetches (shelf_text ts name) (length bytes) into n) → IfSome o (λ ts. IsFront (bytes ++ take n into) (shelf_text ts name))
 fetched_more None name bytes into n front fetches = front
-fetched_more (Some ts) name bytes into n front fetches = front_more bytes into (text_of ts name) n front fetches.bytes fetches.within
+fetched_more (Some ts) name bytes into n front fetches = front_more bytes into (shelf_text ts name) n front fetches.bytes fetches.within

@@ -69,7 +69,7 @@ file_of d = optional file_in None (member_of d (codes "file"))
 -- the value of a document or a part file
 unfoldable pub value_at : Texts → List ℕ → Part → Result Data Refusal
 value_at texts name part =
-    let text = shelf.text_of texts name in
+    let text = shelf.shelf_text texts name in
     placed name part (check (nat_le (length text) MAX_DOCUMENT_BYTES) kind.TooLong list.Whole 0 text >>= (λ bytes. found kind.NotJson list.Whole 0 (json_of bytes)))
 
 -- a part in place, or the value of its file, with the document in which it stands

@@ -4,7 +4,7 @@ use Rattle.std.specs.Global.{Vec}
 use Rattle.serde_json.specs.declared.value.Value.{Value}
 use Rattle.serde_json.specs.View.{view}
 use Rattle.roman_io.specs.Faults.{Rose}
-use Rattle.roman_io.specs.Shelf.{Texts, text_of}
+use Rattle.roman_io.specs.Shelf.{Texts, shelf_text}
 use Rattle.roman_model.specs.declared.limits.TheConstants.{MAX_DOCUMENT_BYTES}
 use Rattle.roman_read.specs.Json.{json_of}
 use Rattle.roman_library.specs.declared.text.DocError.{DocError}
@@ -28,19 +28,19 @@ Caused old new (Err error.Memory) = new ≡ old
 -- the bytes are those of the text, which has at most the greatest number of them; or it has more
 abbrev pub IsTextOf : Option Texts → List ℕ → Result (Vec ℕ) DocError → Type 0
 IsTextOf None name result = Unit {0}
-IsTextOf (Some texts) name (Ok bytes) = (bytes.items ≡ text_of texts name) × (length (text_of texts name) ≤ MAX_DOCUMENT_BYTES)
+IsTextOf (Some texts) name (Ok bytes) = (bytes.items ≡ shelf_text texts name) × (length (shelf_text texts name) ≤ MAX_DOCUMENT_BYTES)
 IsTextOf (Some texts) name (Err error.Fault) = Unit {0}
-IsTextOf (Some texts) name (Err error.TooLong) = MAX_DOCUMENT_BYTES < length (text_of texts name)
+IsTextOf (Some texts) name (Err error.TooLong) = MAX_DOCUMENT_BYTES < length (shelf_text texts name)
 IsTextOf (Some texts) name (Err error.NotJson) = ⊥
 IsTextOf (Some texts) name (Err error.Memory) = Unit {0}
 
 -- the value is that of the text, which has at most the greatest number of bytes; or it has more, or none is there
 abbrev pub IsValueOf : Option Texts → List ℕ → Result Value DocError → Type 0
 IsValueOf None name result = Unit {0}
-IsValueOf (Some texts) name (Ok value) = (json_of (text_of texts name) ≡ Some (view value)) × (length (text_of texts name) ≤ MAX_DOCUMENT_BYTES)
+IsValueOf (Some texts) name (Ok value) = (json_of (shelf_text texts name) ≡ Some (view value)) × (length (shelf_text texts name) ≤ MAX_DOCUMENT_BYTES)
 IsValueOf (Some texts) name (Err error.Fault) = Unit {0}
-IsValueOf (Some texts) name (Err error.TooLong) = MAX_DOCUMENT_BYTES < length (text_of texts name)
-IsValueOf (Some texts) name (Err error.NotJson) = (json_of (text_of texts name) ≡ None) × (length (text_of texts name) ≤ MAX_DOCUMENT_BYTES)
+IsValueOf (Some texts) name (Err error.TooLong) = MAX_DOCUMENT_BYTES < length (shelf_text texts name)
+IsValueOf (Some texts) name (Err error.NotJson) = (json_of (shelf_text texts name) ≡ None) × (length (shelf_text texts name) ≤ MAX_DOCUMENT_BYTES)
 IsValueOf (Some texts) name (Err error.Memory) = Unit {0}
 
 -- the bytes are the first of the text

@@ -9,7 +9,7 @@ use Rattle.std.proofs.lemmas.Option.{none-some}
 use Rattle.std.proofs.lemmas.Nat.{mul-le}
 use Rattle.std.proofs.lemmas.Fmt.{length-decimal-le}
 use Rattle.roman_model.specs.Lists.{IsIn, below, all_below}
-use Rattle.roman_model.specs.Lines.{lines, ended_lines, text_of, IsLine, AreLines}
+use Rattle.roman_model.specs.Lines.{lines, ended_lines, text_of_lines, IsLine, AreLines}
 use Rattle.roman_model.specs.System.{Sys, IsSys, pairs, same_numbers}
 use Rattle.roman_model.specs.Arena.{Arena, Entry, is_listed, is_beaten, is_justified, IsOrder}
 use Rattle.roman_model.specs.Composition.{Great, arena}
@@ -29,7 +29,7 @@ use Rattle.roman_model.proofs.WorkLemmas.{order_middle}
 use Rattle.roman_model.proofs.Renames.{order_named}
 use Rattle.roman_model.proofs.NumberedArena.{IsNumber, AreNumbers, numbers_rename, justified_at}
 use Rattle.roman_model.proofs.NumberedLists.{numbered_is_same, numbered_completed_by, numbered_listed, numbered_pairs, numbered_pairs_once, in_numbered_pairs, from_numbered_pairs}
-use Rattle.roman_model.proofs.LineLemmas.{lines-text_of}
+use Rattle.roman_model.proofs.LineLemmas.{lines-text_of_lines}
 use Rattle.roman_model.proofs.CertificateLemmas.{head_is_line, end_is_line, count_is_line, entry_is_line, entry_is_no_end, final_reason, act_reason, AreFew, possible_small, in_possible, from_possible, entry_of-line, entry_of-is, entry_of_other, entries_on-lines, faults_none, faults_first, clean_push, fault_next, fault_over, faults_cases}
 
 -- The sizes of a system within the limits
@@ -209,25 +209,25 @@ line_length s x sys few i =
         length-decimal-le 2 a (omega arith) (omega arith) (omega arith)
 
 entries_length : (s : Sys) (L : List (Entry ℕ)) → IsSys s → count (sizes_of s) ≤ MAX_CELLS → ((x : Entry ℕ) → IsIn x L → IsIn x (possible_entries (node_count s) s.env.actions)) →
-    length (text_of (map entry_line L ++ end_line ∷ [])) ≤ 12 * length L + 4
+    length (text_of_lines (map entry_line L ++ end_line ∷ [])) ≤ 12 * length L + 4
 entries_length s [] sys few are = omega arith
 entries_length s (x ∷ L) sys few are =
-    let rest : length (text_of (map entry_line L ++ end_line ∷ [])) ≤ 12 * length L + 4 = entries_length s L sys few (λ y i. are y (inr i)) in
+    let rest : length (text_of_lines (map entry_line L ++ end_line ∷ [])) ≤ 12 * length L + 4 = entries_length s L sys few (λ y i. are y (inr i)) in
     let here : length (entry_line x) ≤ 11 = line_length s x sys few (are x (inl refl)) in
-    omega (arith, length-append (entry_line x ++ 10 ∷ []) (text_of (map entry_line L ++ end_line ∷ [])), length-append (entry_line x) (10 ∷ []))
+    omega (arith, length-append (entry_line x ++ 10 ∷ []) (text_of_lines (map entry_line L ++ end_line ∷ [])), length-append (entry_line x) (10 ∷ []))
 
 pub cert_length : (s : Sys) (L : List (Entry ℕ)) → IsSys s → count (sizes_of s) ≤ MAX_CELLS → ((x : Entry ℕ) → IsIn x L → IsIn x (possible_entries (node_count s) s.env.actions)) → length L ≤ count (sizes_of s) →
     length (cert_text (node_count s) L) ≤ MAX_CERTIFICATE_BYTES
 cert_length s L sys few are fits =
-    let rest : length (text_of (map entry_line L ++ end_line ∷ [])) ≤ 12 * length L + 4 = entries_length s L sys few are in
+    let rest : length (text_of_lines (map entry_line L ++ end_line ∷ [])) ≤ 12 * length L + 4 = entries_length s L sys few are in
     let same : node_count s ≡ count (sizes_of s) = node_count_is s in
     let number : length (decimal (node_count s)) ≤ 8 = length-decimal-le 8 (node_count s) (omega arith) (omega arith) (omega arith) in
     let head : length (head_line ++ 10 ∷ []) ≡ 14 = refl in
     let word : length (codes "pairs ") ≡ 6 = refl in
     omega (
       arith,
-      length-append (head_line ++ 10 ∷ []) ((count_line (node_count s) ++ 10 ∷ []) ++ text_of (map entry_line L ++ end_line ∷ [])),
-      length-append (count_line (node_count s) ++ 10 ∷ []) (text_of (map entry_line L ++ end_line ∷ [])),
+      length-append (head_line ++ 10 ∷ []) ((count_line (node_count s) ++ 10 ∷ []) ++ text_of_lines (map entry_line L ++ end_line ∷ [])),
+      length-append (count_line (node_count s) ++ 10 ∷ []) (text_of_lines (map entry_line L ++ end_line ∷ [])),
       length-append (count_line (node_count s)) (10 ∷ []),
       length-append (codes "pairs ") (decimal (node_count s)),
     )
@@ -289,7 +289,7 @@ written_is_greatest s start L sys cells l are complete =
     let same : node_count s ≡ count (sizes_of s) = node_count_is s in
     subst (λ n. cert_verdict (numbered s) start (cert_text n L) ≡ greatest s start) same
     (judged_short (numbered s) start (cert_text (node_count s) L) short
-    ∙ ap (λ ls. slice_index_or (faults (numbered s) ls (length ls + 1)) 0 (unlisted (numbered s) start (entries_on (numbered s) ls))) (lines-text_of (cert_lines (node_count s) L) (cert_are_lines s L small possible (omega arith)))
+    ∙ ap (λ ls. slice_index_or (faults (numbered s) ls (length ls + 1)) 0 (unlisted (numbered s) start (entries_on (numbered s) ls))) (lines-text_of_lines (cert_lines (node_count s) L) (cert_are_lines s L small possible (omega arith)))
     ∙ ap₂ (λ vs M. slice_index_or vs 0 (unlisted (numbered s) start M))
     (faults_none (numbered s) (cert_lines (node_count s) L) (length (cert_lines (node_count s) L) + 1) (cert_clean s L small possible order (complete_end s L (complete_unjustified s L sys are complete))))
     (entries_on-cert s L small possible)

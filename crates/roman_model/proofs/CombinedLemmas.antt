@@ -119,10 +119,10 @@ combined_sstep w target bs e n k bs' e' r ok at step = record {
 
 -- The combined target.
 
-pub size_at : (targets : List Beh) (i : ℕ) (target : Beh) → slice_get targets i ≡ Some target → slice_index (target_sizes targets) i ≡ target.states
-size_at [] i target e = absurd (none-some target e)
-size_at (x ∷ targets) zero target e = ap (λ (y : Beh). y.states) (same_Some x target e)
-size_at (x ∷ targets) (suc i) target e = size_at targets i target e
+pub target_size_at : (targets : List Beh) (i : ℕ) (target : Beh) → slice_get targets i ≡ Some target → slice_index (target_sizes targets) i ≡ target.states
+target_size_at [] i target e = absurd (none-some target e)
+target_size_at (x ∷ targets) zero target e = ap (λ (y : Beh). y.states) (same_Some x target e)
+target_size_at (x ∷ targets) (suc i) target e = target_size_at targets i target e
 
 -- what a step of the combined target is: which member goes, and that the others stay
 pub record IsMemberStep (w : Several) (n : ℕ) (ts : List ℕ) (e : ℕ) (ts' : List ℕ) (r : Request) (target : Beh) : Type 0 where
@@ -169,7 +169,7 @@ from_combined_target w t e n t' h =
 pub member_below : (w : Several) (t : ℕ) (i : ℕ) (target : Beh) (t' : ℕ) → t < total w → slice_get w.targets i ≡ Some target → t' < target.states →
     AreBelow (target_sizes w.targets) (slice_set (states_of w t) i t')
 member_below w t i target t' l at h =
-    AreBelow-set (target_sizes w.targets) (states_of w t) i t' (AreBelow-at (target_sizes w.targets) t l) (subst (λ n. t' < n) (sym (size_at w.targets i target at)) h)
+    AreBelow-set (target_sizes w.targets) (states_of w t) i t' (AreBelow-at (target_sizes w.targets) t l) (subst (λ n. t' < n) (sym (target_size_at w.targets i target at)) h)
 
 pub combined_target_goes : (w : Several) (t e n t' : ℕ) (r : Request) (target : Beh) → IsSeveral w → t < total w → slice_get (all_requests w) n ≡ Some r →
     slice_get w.targets r.target ≡ Some target → IsTrue (has_move target (slice_index (states_of w t) r.target) e r.action t') →

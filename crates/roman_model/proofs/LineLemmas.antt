@@ -1,7 +1,7 @@
 -- What the lines of a text are, where its first lines are known.
 use Rattle.std.proofs.Common.{◌≡◌, ◌≢◌, ℕ, ◌==◌, false, List, [], ◌∷◌, ◌++◌, refl, sym, ap, ◌∙◌, inl, inr, append_assoc, append-nil}
 use Rattle.std.proofs.lemmas.Bool.{or_parts, cond-false}
-use Rattle.roman_model.specs.Lines.{onto_first_line, lines, onto_ended_line, ended_lines, text_of, IsLine, AreLines}
+use Rattle.roman_model.specs.Lines.{onto_first_line, lines, onto_ended_line, ended_lines, text_of_lines, IsLine, AreLines}
 use Rattle.roman_model.specs.System.{has}
 
 pub lines-line : (line rest : List ℕ) → IsLine line → lines (line ++ 10 ∷ rest) ≡ line ∷ lines rest
@@ -43,25 +43,25 @@ ended_lines_last (byte ∷ line) h =
 text_first : (line rest more : List ℕ) → ((line ++ 10 ∷ []) ++ rest) ++ more ≡ line ++ 10 ∷ (rest ++ more)
 text_first line rest more = append_assoc (line ++ 10 ∷ []) rest more ∙ append_assoc line (10 ∷ []) (rest ++ more)
 
-pub lines-text : (ls : List (List ℕ)) (rest : List ℕ) → AreLines ls → lines (text_of ls ++ rest) ≡ ls ++ lines rest
+pub lines-text : (ls : List (List ℕ)) (rest : List ℕ) → AreLines ls → lines (text_of_lines ls ++ rest) ≡ ls ++ lines rest
 lines-text [] rest are = refl
 lines-text (line ∷ ls) rest are =
-    ap lines (text_first line (text_of ls) rest) ∙ lines-line line (text_of ls ++ rest) (are line (inl refl))
+    ap lines (text_first line (text_of_lines ls) rest) ∙ lines-line line (text_of_lines ls ++ rest) (are line (inl refl))
     ∙ ap (λ ms. line ∷ ms) (lines-text ls rest (λ l i. are l (inr i)))
 
-pub ended_lines-text : (ls : List (List ℕ)) (rest : List ℕ) → AreLines ls → ended_lines (text_of ls ++ rest) ≡ ls ++ ended_lines rest
+pub ended_lines-text : (ls : List (List ℕ)) (rest : List ℕ) → AreLines ls → ended_lines (text_of_lines ls ++ rest) ≡ ls ++ ended_lines rest
 ended_lines-text [] rest are = refl
 ended_lines-text (line ∷ ls) rest are =
-    ap ended_lines (text_first line (text_of ls) rest) ∙ ended_lines-line line (text_of ls ++ rest) (are line (inl refl))
+    ap ended_lines (text_first line (text_of_lines ls) rest) ∙ ended_lines-line line (text_of_lines ls ++ rest) (are line (inl refl))
     ∙ ap (λ ms. line ∷ ms) (ended_lines-text ls rest (λ l i. are l (inr i)))
 
 -- a text of lines has those lines
-pub lines-text_of : (ls : List (List ℕ)) → AreLines ls → lines (text_of ls) ≡ ls
-lines-text_of ls are = ap lines (sym (append-nil (text_of ls))) ∙ lines-text ls [] are ∙ append-nil ls
+pub lines-text_of_lines : (ls : List (List ℕ)) → AreLines ls → lines (text_of_lines ls) ≡ ls
+lines-text_of_lines ls are = ap lines (sym (append-nil (text_of_lines ls))) ∙ lines-text ls [] are ∙ append-nil ls
 
-pub text_of-push : (ls : List (List ℕ)) (line : List ℕ) → text_of (ls ++ line ∷ []) ≡ text_of ls ++ line ++ 10 ∷ []
-text_of-push [] line = append-nil (line ++ 10 ∷ [])
-text_of-push (first ∷ ls) line =
-    ap (λ bs. (first ++ 10 ∷ []) ++ bs) (text_of-push ls line)
-    ∙ sym (append_assoc (first ++ 10 ∷ []) (text_of ls ++ line) (10 ∷ []))
-    ∙ ap (λ bs. bs ++ 10 ∷ []) (sym (append_assoc (first ++ 10 ∷ []) (text_of ls) line))
+pub text_of_lines-push : (ls : List (List ℕ)) (line : List ℕ) → text_of_lines (ls ++ line ∷ []) ≡ text_of_lines ls ++ line ++ 10 ∷ []
+text_of_lines-push [] line = append-nil (line ++ 10 ∷ [])
+text_of_lines-push (first ∷ ls) line =
+    ap (λ bs. (first ++ 10 ∷ []) ++ bs) (text_of_lines-push ls line)
+    ∙ sym (append_assoc (first ++ 10 ∷ []) (text_of_lines ls ++ line) (10 ∷ []))
+    ∙ ap (λ bs. bs ++ 10 ∷ []) (sym (append_assoc (first ++ 10 ∷ []) (text_of_lines ls) line))

@@ -2,7 +2,7 @@
 use Rattle.std.proofs.Common.{◌≡◌, ℕ, zero, suc, ◌+◌, ◌-◌, ◌<◌, ◌≤◌, List, [], ◌∷◌, ◌++◌, length, take, Option, Some, None, IsTrue, IsFalse, slice_get, slice_index_or, ap, ◌∙◌, inl, inr, arith, append_assoc, length-append}
 use Rattle.std.specs.List.{list_any}
 use Rattle.std.proofs.lemmas.Bool.{cond-true, cond-false, cases_lt}
-use Rattle.roman_model.specs.Lines.{lines, ended_lines, text_of, AreLines}
+use Rattle.roman_model.specs.Lines.{lines, ended_lines, text_of_lines, AreLines}
 use Rattle.roman_model.specs.System.{same_numbers}
 use Rattle.roman_model.specs.Arena.{Arena}
 use Rattle.roman_model.specs.Certificate.{end_line, Why, Verdict, Rejected, TooLong, entries_on, unless_over, body_fault, line_fault, faults, unlisted, cert_verdict, IsClean}
@@ -59,15 +59,15 @@ take_past (suc n) (x ∷ xs) ys l = ap (λ zs. x ∷ zs) (take_past n xs ys (ome
 
 -- a line whose newline is within the limit is at fault, however the text goes on
 pub verdict_rejected : (A : Arena ℕ) (start : ℕ) (bytes : List ℕ) (ls : List (List ℕ)) (line more : List ℕ) (why : Why) →
-    bytes ≡ text_of (ls ++ line ∷ []) ++ more → AreLines (ls ++ line ∷ []) → length (text_of (ls ++ line ∷ [])) ≤ MAX_CERTIFICATE_BYTES →
+    bytes ≡ text_of_lines (ls ++ line ∷ []) ++ more → AreLines (ls ++ line ∷ []) → length (text_of_lines (ls ++ line ∷ [])) ≤ MAX_CERTIFICATE_BYTES →
     IsClean A ls (length ls) → line_fault A ls (Some line) ≡ Some why → cert_verdict A start bytes ≡ Rejected (length ls + 1) why
 verdict_rejected A start bytes ls line more why is are within clean fault = elim (cases_lt MAX_CERTIFICATE_BYTES (length bytes)) [
   | inl long ↦
-      verdict_within A start bytes ls line (ended_lines (take (MAX_CERTIFICATE_BYTES - length (text_of (ls ++ line ∷ []))) more)) why long
+      verdict_within A start bytes ls line (ended_lines (take (MAX_CERTIFICATE_BYTES - length (text_of_lines (ls ++ line ∷ []))) more)) why long
       (ap (λ bs. ended_lines (take MAX_CERTIFICATE_BYTES bs)) is
-      ∙ ap ended_lines (take_past MAX_CERTIFICATE_BYTES (text_of (ls ++ line ∷ [])) more within)
-      ∙ ended_lines-text (ls ++ line ∷ []) (take (MAX_CERTIFICATE_BYTES - length (text_of (ls ++ line ∷ []))) more) are
-      ∙ append_assoc ls (line ∷ []) (ended_lines (take (MAX_CERTIFICATE_BYTES - length (text_of (ls ++ line ∷ []))) more)))
+      ∙ ap ended_lines (take_past MAX_CERTIFICATE_BYTES (text_of_lines (ls ++ line ∷ [])) more within)
+      ∙ ended_lines-text (ls ++ line ∷ []) (take (MAX_CERTIFICATE_BYTES - length (text_of_lines (ls ++ line ∷ []))) more) are
+      ∙ append_assoc ls (line ∷ []) (ended_lines (take (MAX_CERTIFICATE_BYTES - length (text_of_lines (ls ++ line ∷ []))) more)))
       clean fault
   | inr short ↦
       verdict_at A start bytes ls line (lines more) why short

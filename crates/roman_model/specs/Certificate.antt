@@ -3,7 +3,7 @@ use Rattle.std.specs.Prelude.{◌≡◌, ℕ, ◌+◌, ◌*◌, ◌<◌, ◌≤�
 use Rattle.std.specs.List.{list_any, filter, flat_map, filter_map, find}
 use Rattle.std.specs.Option.{option_map}
 use Rattle.roman_model.specs.Lists.{IsIn, below}
-use Rattle.roman_model.specs.Lines.{lines, ended_lines, text_of}
+use Rattle.roman_model.specs.Lines.{lines, ended_lines, text_of_lines}
 use Rattle.roman_model.specs.System.{Sys, IsSys, pairs, same_numbers}
 use Rattle.roman_model.specs.Arena.{Arena, Entry, is_listed, is_justified}
 use Rattle.roman_model.specs.Numbers.{sizes_of, count, pair_at, numbered, IsCompleteList}
@@ -41,7 +41,7 @@ cert_lines pairs L = head_line ∷ count_line pairs ∷ (map entry_line L ++ end
 
 -- the certificate of a removal list of so many pairs
 abbrev pub cert_text : ℕ → List (Entry ℕ) → List ℕ
-cert_text pairs L = text_of (cert_lines pairs L)
+cert_text pairs L = text_of_lines (cert_lines pairs L)
 
 -- The verdict
 

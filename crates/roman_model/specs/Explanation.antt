@@ -3,7 +3,7 @@ use Rattle.std.specs.Prelude.{◌≡◌, ℕ, zero, suc, Bool, ◌&&◌, ◌||�
 use Rattle.std.specs.List.{list_any, filter, flat_map, find, join_with_byte}
 use Rattle.std.specs.Option.{option_to_list}
 use Rattle.roman_model.specs.Lists.{IsIn, below}
-use Rattle.roman_model.specs.Lines.{text_of}
+use Rattle.roman_model.specs.Lines.{text_of_lines}
 use Rattle.roman_model.specs.System.{Sys, Pair, IsSys}
 use Rattle.roman_model.specs.Arena.{Arena, Entry, is_among, is_listed, IsOrder}
 use Rattle.roman_model.specs.Composition.{arena}
@@ -120,4 +120,4 @@ entry_lines s names L x = lost_line names x ∷ answer_lines s names L x.node x.
 
 -- the explanation of p
 abbrev pub explain_text : Sys → Names → List (Entry Pair) → Pair → List ℕ
-explain_text s names L p = text_of (flat_map (entry_lines s names L) (explanation (arena s) L p) ++ codes "end" ∷ [])
+explain_text s names L p = text_of_lines (flat_map (entry_lines s names L) (explanation (arena s) L p) ++ codes "end" ∷ [])

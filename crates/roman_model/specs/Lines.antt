@@ -25,8 +25,8 @@ ended_lines [] = []
 ended_lines (byte ∷ bytes) = if byte == 10 then [] ∷ ended_lines bytes else onto_ended_line byte (ended_lines bytes)
 
 -- the text of those lines, each with a newline
-abbrev pub text_of : List (List ℕ) → List ℕ
-text_of lines = flat_map (λ line. line ++ 10 ∷ []) lines
+abbrev pub text_of_lines : List (List ℕ) → List ℕ
+text_of_lines lines = flat_map (λ line. line ++ 10 ∷ []) lines
 
 -- the line has no newline in it
 abbrev pub IsLine : List ℕ → Type 0

@@ -11,7 +11,7 @@ use Rattle.roman_model.specs.Several.{Several}
 use Rattle.roman_model.specs.Combined.{target_sizes, IsSeveral}
 use Rattle.roman_model.specs.declared.limits.TheConstants.{MAX_STATES, MAX_ACTIONS}
 use Rattle.roman_model.proofs.Lists.{from_map}
-use Rattle.roman_model.proofs.CombinedLemmas.{size_at}
+use Rattle.roman_model.proofs.CombinedLemmas.{target_size_at}
 use Rattle.roman_parts.specs.Named.{NamedEnv}
 use Rattle.roman_parts.proofs.NormalLemmas.{IsOver-states}
 use Rattle.roman_multi.specs.Combining.{IsKnown, machines, requests_in}
@@ -43,7 +43,7 @@ pub machine_at : (targets : List Named) (i : ℕ) (d : Named) → i < length tar
 machine_at targets i d l = slice_get-map (λ (named : Named). named.target.beh) targets i ∙ ap (option_map (λ (named : Named). named.target.beh)) (slice_get-get_or targets i d l)
 
 pub size_is : (targets : List Named) (i : ℕ) (d : Named) → i < length targets → slice_index (target_sizes (machines targets)) i ≡ (get_or targets i d).target.beh.states
-size_is targets i d l = size_at (machines targets) i (get_or targets i d).target.beh (machine_at targets i d l)
+size_is targets i d l = target_size_at (machines targets) i (get_or targets i d).target.beh (machine_at targets i d l)
 
 pub sizes_length : (targets : List Named) → length (target_sizes (machines targets)) ≡ length targets
 sizes_length targets = length-map (machines targets) (λ (b : Beh). b.states) ∙ length-map targets (λ (named : Named). named.target.beh)

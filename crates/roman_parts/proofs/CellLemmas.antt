@@ -10,7 +10,7 @@ use Rattle.std.proofs.lemmas.Nat.{same_from_place}
 use Rattle.std.proofs.lemmas.Nat.Bits.{bit_at-zero, bit_at_set_same, bit_at_set_other}
 use Rattle.roman_model.proofs.Lists.{same_test}
 use Rattle.roman_guard.specs.Meaning.{has_state}
-use Rattle.roman_parts.specs.Cells.{cell_has, Marks, is_triple, leads, leads_back, HasCells, is_move, goes, goes_back, HasGuardedCells, MarksMove}
+use Rattle.roman_parts.specs.Cells.{cell_has, PutsIntoCell, is_triple, leads, leads_back, HasCells, is_move, goes, goes_back, HasGuardedCells, MarksMove}
 
 or_false : (x : Bool) → x ≡ (x || false)
 or_false true = refl
@@ -34,7 +34,7 @@ has_set mask n m small = elim (cases_eq m n) [
 ]
 
 -- the bit of n set in mask k
-pub marks_set : (masks : List ℕ) (k n : ℕ) → k < length masks → n < 64 → Marks masks (set masks k (bit_or (get_or masks k 0) (1 * 2 ^ n % 2 ^ 64))) k n
+pub marks_set : (masks : List ℕ) (k n : ℕ) → k < length masks → n < 64 → PutsIntoCell masks (set masks k (bit_or (get_or masks k 0) (1 * 2 ^ n % 2 ^ 64))) k n
 unfolding cell_has
 marks_set masks k n within small = record { has = has }
   where
@@ -77,7 +77,7 @@ pub same_eqb : (a b : ℕ) → (a == b) ≡ (b == a)
 same_eqb a b = same_test (a == b) (b == a) (λ t. eq-eqb b a (sym (eqb-true a b t))) (λ t. eq-eqb a b (sym (eqb-true b a t)))
 
 -- where the test grows by what is put into the cell
-has_cells_more : (actions : ℕ) (test more : ℕ → ℕ → ℕ → Bool) (old new : List ℕ) (e a n : ℕ) → a < actions → HasCells actions test old → Marks old new (e * actions + a) n →
+has_cells_more : (actions : ℕ) (test more : ℕ → ℕ → ℕ → Bool) (old new : List ℕ) (e a n : ℕ) → a < actions → HasCells actions test old → PutsIntoCell old new (e * actions + a) n →
     ((e1 a1 n1 : ℕ) → more e1 a1 n1 ≡ (test e1 a1 n1 || ((e1 == e && a1 == a) && n1 == n))) → HasCells actions more new
 has_cells_more actions test more old new e a n within cells marks grows = record {
   has = λ e1 a1 n1 less.
@@ -111,7 +111,7 @@ unfolding leads
 leads-more steps i e a n less = list_any_more (λ x. is_triple x e a n) steps i (0, 0, 0) less
 
 pub leads_more : (actions : ℕ) (steps : List (ℕ × ℕ × ℕ)) (i : ℕ) (old new : List ℕ) → i < length steps → HasCells actions (leads (take i steps)) old →
-    let t = get_or steps i (0, 0, 0) in t.1 < actions → Marks old new (t.0 * actions + t.1) t.2 → HasCells actions (leads (take (i + 1) steps)) new
+    let t = get_or steps i (0, 0, 0) in t.1 < actions → PutsIntoCell old new (t.0 * actions + t.1) t.2 → HasCells actions (leads (take (i + 1) steps)) new
 leads_more actions steps i old new less cells within marks =
     let t : ℕ × ℕ × ℕ = get_or steps i (0, 0, 0) in
     has_cells_more actions (leads (take i steps)) (leads (take (i + 1) steps)) old new t.0 t.1 t.2 within cells marks
@@ -122,7 +122,7 @@ unfolding leads leads_back
 leads_back_none actions size = record { has = λ e a n less. empty_has size (e * actions + a) n }
 
 pub leads_back_more : (actions : ℕ) (steps : List (ℕ × ℕ × ℕ)) (i : ℕ) (old new : List ℕ) → i < length steps → HasCells actions (leads_back (take i steps)) old →
-    let t = get_or steps i (0, 0, 0) in t.1 < actions → Marks old new (t.2 * actions + t.1) t.0 → HasCells actions (leads_back (take (i + 1) steps)) new
+    let t = get_or steps i (0, 0, 0) in t.1 < actions → PutsIntoCell old new (t.2 * actions + t.1) t.0 → HasCells actions (leads_back (take (i + 1) steps)) new
 unfolding leads_back
 leads_back_more actions steps i old new less cells within marks =
     let t : ℕ × ℕ × ℕ = get_or steps i (0, 0, 0) in
@@ -174,7 +174,7 @@ one_more false true true false t u false h = refl
 
 -- an environment state of the guard, whose cell is marked
 pub marks_more : (env_states actions bound : ℕ) (old mid new : List ℕ) (move : ℕ × ℕ × ℕ × ℕ) → bound < env_states → move.2 < actions → has_state move.1 bound ≡ true →
-    MarksBelow env_states actions bound old mid move → Marks mid new ((move.0 * env_states + bound) * actions + move.2) move.3 →
+    MarksBelow env_states actions bound old mid move → PutsIntoCell mid new ((move.0 * env_states + bound) * actions + move.2) move.3 →
     MarksBelow env_states actions (bound + 1) old new move
 unfolding is_move
 marks_more env_states actions bound old mid new move hb hm has_it below marks = record {

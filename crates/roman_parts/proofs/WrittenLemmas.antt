@@ -7,7 +7,7 @@ use Rattle.std.proofs.lemmas.Option.{same_Some}
 use Rattle.serde_json.specs.Data.{Data, string, array}
 use Rattle.serde_json.specs.Find.{as_object}
 use Rattle.serde_json.specs.View.{items_of}
-use Rattle.roman_guard.specs.Meaning.{is_among, states_below}
+use Rattle.roman_guard.specs.Meaning.{is_one_of, states_below}
 use Rattle.roman_guard.proofs.StateLemmas.{in_states_below, states_below_are, states_below-suc, states_below-zero}
 use Rattle.roman_model.specs.Explanation.{name_at}
 use Rattle.roman_model.specs.Lists.{IsIn, HasNoRepeats, below}
@@ -116,10 +116,10 @@ rises_states test (suc n) = subst (Rises IsLess) (sym (states_below-suc test n))
         omega arith
 
 -- a list of states that rises is the set of its states
-among_is : (n : ℕ) (G : List ℕ) → Rises IsLess G → ((e : ℕ) → IsIn e G → e < n) → states_below (is_among G) n ≡ G
-among_is n G rises within = rises_same IsLess (states_below (is_among G) n) G (λ x y h i. omega arith) (rises_states (is_among G) n) rises
-    (λ e i. number_listed G e (states_below_are (is_among G) n e (in_contains (states_below (is_among G) n) e i)).1)
-    (λ e i. contains_in (states_below (is_among G) n) e (in_states_below (is_among G) n e (within e i) (listed_number G e i)))
+among_is : (n : ℕ) (G : List ℕ) → Rises IsLess G → ((e : ℕ) → IsIn e G → e < n) → states_below (is_one_of G) n ≡ G
+among_is n G rises within = rises_same IsLess (states_below (is_one_of G) n) G (λ x y h i. omega arith) (rises_states (is_one_of G) n) rises
+    (λ e i. number_listed G e (states_below_are (is_one_of G) n e (in_contains (states_below (is_one_of G) n) e i)).1)
+    (λ e i. contains_in (states_below (is_one_of G) n) e (in_states_below (is_one_of G) n e (within e i) (listed_number G e i)))
 
 guard_said : (states : List (List ℕ)) (i : ℕ) (G : List ℕ) → HasNoRepeats states → Rises IsLess G → ((e : ℕ) → IsIn e G → e < length states) → guarded_states states i (places_value states G) ≡ Ok G
 unfolding guarded_states guard_of among_of state_in
@@ -128,7 +128,7 @@ guard_said states i G once rises within =
     (λ k d x h. place_ok states list.Steps i d x h) (λ k d x h. ok_place states list.Steps i d x h) (λ k d e h. place_err states list.Steps i d e h) (λ k d e h. err_place states list.Steps i d e h) in
     let places : each_item (pushing (state_in states i)) 0 [] (items_of (map (place_value states) G)) ≡ Ok G =
     (all_given (pushing (state_in states i)) (λ before d x. IsPlace states d x) (λ k before d e. BreaksPlace states list.Steps i d e) steps (map (place_value states) G) G).1 (are_places states [] G once within) in
-    ap (λ (r : Result (List ℕ) PartError). (r >>= (λ places. Ok (is_among places))) >>= (λ set. Ok (states_below set (length states)))) places ∙ ap Ok (among_is (length states) G rises within)
+    ap (λ (r : Result (List ℕ) PartError). (r >>= (λ places. Ok (is_one_of places))) >>= (λ set. Ok (states_below set (length states)))) places ∙ ap Ok (among_is (length states) G rises within)
 
 -- what the steps of a behaviour are in range of
 record AreMovesIn (env_states actions states : List (List ℕ)) (xs : List Move) : Type 0 where

@@ -8,7 +8,7 @@ unfoldable pub cell_has : List ℕ → ℕ → ℕ → Bool
 cell_has masks k n = has_state (slice_index masks k) n
 
 -- n was put into cell k
-pub record Marks (old new : List ℕ) (k n : ℕ) : Type 0 where
+pub record PutsIntoCell (old new : List ℕ) (k n : ℕ) : Type 0 where
   pub has : (j m : ℕ) → cell_has new j m ≡ (cell_has old j m || (j == k && m == n))
 
 -- it is the step (e, a, e')

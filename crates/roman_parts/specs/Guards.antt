@@ -5,7 +5,7 @@ use Rattle.serde_json.specs.Data.{Data, null, boolean, number, string, array, ob
 use Rattle.serde_json.specs.Find.{as_object}
 use Rattle.roman_read.specs.Items.{◌>>=◌, each_item, pushing}
 use Rattle.roman_read.specs.declared.rules.Kind.TheVariants.{Form}
-use Rattle.roman_guard.specs.Meaning.{is_among, complement, intersection, union, states_below}
+use Rattle.roman_guard.specs.Meaning.{is_one_of, complement, intersection, union, states_below}
 use Rattle.roman_parts.specs.Lists.{place_in}
 use Rattle.roman_parts.specs.declared.error.List.TheVariants.{Steps}
 use Rattle.roman_parts.specs.declared.error.PartError.{PartError}
@@ -33,7 +33,7 @@ state_in states i k d = place_in states Steps i d
 unfoldable pub among_of : List (List ℕ) → ℕ → Items → Result (ℕ → Bool) PartError
 among_of states i items = do
   places ← each_item (pushing (state_in states i)) 0 [] items
-  Ok (is_among places)
+  Ok (is_one_of places)
 
 -- what a formula of guards means, by the name of its operator: each part is read as a guard, or as a list of guards
 abbrev pub operator_of : ℕ → List ℕ → Result (ℕ → Bool) PartError → Result (List (ℕ → Bool)) PartError → Result (ℕ → Bool) PartError

@@ -1,7 +1,7 @@
 //! Masks of states, one for each cell of a table.
 ghost use Rattle.std.specs.Prelude.{◌≡◌, ℕ, ◌+◌, ◌*◌, ◌^◌, ◌<◌, ◌≤◌, length, IfOk, vec_len};
 ghost use Rattle.roman_model.specs.System.{IsEnv};
-ghost use Rattle.roman_parts.specs.Cells.{Marks, leads, leads_back, HasCells, goes, goes_back, HasGuardedCells, MarksMove};
+ghost use Rattle.roman_parts.specs.Cells.{PutsIntoCell, leads, leads_back, HasCells, goes, goes_back, HasGuardedCells, MarksMove};
 ghost use Rattle.roman_parts.specs.Listed.{AreTriples, AreMoves};
 
 use crate::environment::Environment;
@@ -150,7 +150,7 @@ fn mark_move(masks: &mut [u64], cells: Cells, at: u8, guard: StateSet, action: u
 fn mark(masks: &mut [u64], cell: usize, n: u8)
     requires cell { cell < length masks.old }
     requires small { n < 64 }
-    ensures { Marks masks.old masks.new cell n }
+    ensures { PutsIntoCell masks.old masks.new cell n }
 {
     masks[cell] |= 1 << n;
 }

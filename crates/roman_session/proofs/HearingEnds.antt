@@ -5,7 +5,7 @@ use Rattle.std.proofs.lemmas.Bool.{cond-true, cond-false, or_from, lt-leb}
 use Rattle.roman_io.specs.Source.{Gave, EndsAt, Had, GaveAtMost}
 use Rattle.roman_io.proofs.SourceLemmas.{Gave-then}
 use Rattle.roman_io.proofs.SinkLemmas.{WroteFront-append}
-use Rattle.roman_model.specs.Lines.{lines, ended_lines, text_of}
+use Rattle.roman_model.specs.Lines.{lines, ended_lines, text_of_lines}
 use Rattle.roman_model.specs.declared.limits.TheConstants.{MAX_SESSION_BYTES}
 use Rattle.roman_model.proofs.Lists.{by_test}
 use Rattle.roman_text.specs.Lines.{HasNoNewline, unfinished, kept}
@@ -150,12 +150,12 @@ rest_not_long old new taken before now (Err TooLong) h is = h
 -- ---- the whole lines of bytes, as a text
 
 -- its lines are these, and they are whole
-whole_lines : (bytes : List ℕ) → (ended_lines (text_of (ended_lines bytes)) ≡ ended_lines bytes) × (lines (text_of (ended_lines bytes)) ≡ ended_lines bytes)
+whole_lines : (bytes : List ℕ) → (ended_lines (text_of_lines (ended_lines bytes)) ≡ ended_lines bytes) × (lines (text_of_lines (ended_lines bytes)) ≡ ended_lines bytes)
 whole_lines bytes =
     let ls : List (List ℕ) = ended_lines bytes in
-    let (ended, none) = lines_only (text_of ls) ls [] (record { whole = sym (append-nil (text_of ls)); each = (lines_are bytes).each; last = subst HasNoNewline unfinished-nil (unfinished-free []) }) in
-    let empty : ltb 0 (length (kept (unfinished (text_of ls)))) ≡ false = ap (λ (rest : List ℕ). ltb 0 (length (kept rest))) (sym none) ∙ ap (λ (rest : List ℕ). ltb 0 (length rest)) kept-nil in
-    (sym ended, lines_none (text_of ls) empty ∙ sym ended)
+    let (ended, none) = lines_only (text_of_lines ls) ls [] (record { whole = sym (append-nil (text_of_lines ls)); each = (lines_are bytes).each; last = subst HasNoNewline unfinished-nil (unfinished-free []) }) in
+    let empty : ltb 0 (length (kept (unfinished (text_of_lines ls)))) ≡ false = ap (λ (rest : List ℕ). ltb 0 (length (kept rest))) (sym none) ∙ ap (λ (rest : List ℕ). ltb 0 (length rest)) kept-nil in
+    (sym ended, lines_none (text_of_lines ls) empty ∙ sym ended)
 
 -- ---- within a piece
 
@@ -246,7 +246,7 @@ module _ (old new : Situation) (start mid has : Option (List ℕ)) (taken got : 
   stops_short fails =
       let rest : List ℕ = fails.past ++ (drop room got ++ []) in
       let given : taken ++ got ≡ fails.heard ++ rest = sym (append-nil (taken ++ got)) ∙ part_split [] fails.heard fails.past fails.split in
-      let whole : List ℕ = text_of (ended_lines fails.heard) in
+      let whole : List ℕ = text_of_lines (ended_lines fails.heard) in
       let split : fails.heard ≡ whole ++ unfinished fails.heard = (lines_are fails.heard).whole in
       let (ended, all) = whole_lines fails.heard in
       let parts : taken ++ got ≡ whole ++ (unfinished fails.heard ++ rest) =
@@ -256,7 +256,7 @@ module _ (old new : Situation) (start mid has : Option (List ℕ)) (taken got : 
         past = unfinished fails.heard ++ rest;
         gave = subst (Gave start has) parts (Gave-then start mid has taken got first second);
         few = omega (arith, part_fits, ap length fails.split, length-append fails.heard fails.past, ap length split, length-append whole (unfinished fails.heard));
-        ends = inl (ap text_of (sym ended));
+        ends = inl (ap text_of_lines (sym ended));
         tells = subst (λ (ls : List (List ℕ)). TellsFront (spot old before) ls (spot new now)) (sym all) fails.fails.tells;
       }
 

@@ -4,7 +4,7 @@ use Rattle.std.specs.List.{list_any}
 use Rattle.roman_io.specs.Faults.{Rose}
 use Rattle.roman_io.specs.Sink.{Wrote, WroteFront}
 use Rattle.roman_io.specs.Source.{Gave, Had}
-use Rattle.roman_model.specs.Lines.{lines, ended_lines, text_of}
+use Rattle.roman_model.specs.Lines.{lines, ended_lines, text_of_lines}
 use Rattle.roman_model.specs.declared.limits.TheConstants.{MAX_SESSION_BYTES}
 use Rattle.roman_text.specs.Shapes.{shape_of}
 use Rattle.roman_session.specs.Situations.{Situation}
@@ -98,7 +98,7 @@ pub record GoesOn (old new : Hall) : Type 0 where
 
 -- the bytes are whole lines
 abbrev pub AreWhole : List ℕ → Type 0
-AreWhole bytes = bytes ≡ text_of (ended_lines bytes)
+AreWhole bytes = bytes ≡ text_of_lines (ended_lines bytes)
 
 -- the lines of the first bytes that the source gave are answered, but the last answer wasn't written whole; these bytes are
 -- whole lines, or all that the source had

@@ -8,7 +8,7 @@ use Rattle.std.proofs.lemmas.List.{append-nil, take_all, take-append-le, length-
 use Rattle.std.proofs.lemmas.List.Elements.{All-cons, All-nil, All-push}
 use Rattle.std.proofs.lemmas.List.Splits.{slice_split-cons_no, slice_split_none, slice_split_at}
 use Rattle.std.specs.List.{slice_split, onto_first, All}
-use Rattle.roman_model.specs.Lines.{lines, onto_first_line, ended_lines, onto_ended_line, text_of}
+use Rattle.roman_model.specs.Lines.{lines, onto_first_line, ended_lines, onto_ended_line, text_of_lines}
 use Rattle.roman_text.specs.Lines.{is_newline, last_part, unfinished, with_newline, HasNoNewline, IsSplit, HasTaken, kept}
 
 -- ---- parts
@@ -196,12 +196,12 @@ unfinished-nil = refl
 
 -- ---- the text of lines
 
-parts_of_lines : (ls : List (List ℕ)) (rest : List ℕ) → All HasNoNewline ls → HasNoNewline rest → slice_split is_newline (text_of ls ++ rest) ≡ ls ++ rest ∷ []
+parts_of_lines : (ls : List (List ℕ)) (rest : List ℕ) → All HasNoNewline ls → HasNoNewline rest → slice_split is_newline (text_of_lines ls ++ rest) ≡ ls ++ rest ∷ []
 parts_of_lines [] rest each last = slice_split_none is_newline rest last
 parts_of_lines (line ∷ ls) rest each last =
-    let more : List ℕ = text_of ls ++ rest in
-    let regrouped : (with_newline line ++ text_of ls) ++ rest ≡ line ++ 10 ∷ more =
-    append_assoc (line ++ 10 ∷ []) (text_of ls) rest ∙ append_assoc line (10 ∷ []) more in
+    let more : List ℕ = text_of_lines ls ++ rest in
+    let regrouped : (with_newline line ++ text_of_lines ls) ++ rest ≡ line ++ 10 ∷ more =
+    append_assoc (line ++ 10 ∷ []) (text_of_lines ls) rest ∙ append_assoc line (10 ∷ []) more in
     rw regrouped (slice_split_at is_newline line 10 more (each 0 line (omega arith)) refl
     ∙ ap (λ (parts : List (List ℕ)). line ∷ parts) (parts_of_lines ls rest (λ k d h. each (suc k) d (omega arith)) last))
 

@@ -1,7 +1,7 @@
 -- The lines of a stream of bytes, as far as it has come.
 use Rattle.std.specs.Prelude.{◌≡◌, ℕ, Bool, false, ◌==◌, List, [], ◌∷◌, ◌++◌, take}
 use Rattle.std.specs.List.{slice_split, All}
-use Rattle.roman_model.specs.Lines.{ended_lines, text_of}
+use Rattle.roman_model.specs.Lines.{ended_lines, text_of_lines}
 
 -- the byte that ends a line
 abbrev pub is_newline : ℕ → Bool
@@ -27,7 +27,7 @@ HasNoNewline bytes = All (λ byte. is_newline byte ≡ false) bytes
 
 -- the bytes are these lines, each with its newline, and then a rest without one
 pub record IsSplit (bytes : List ℕ) (lines : List (List ℕ)) (rest : List ℕ) : Type 0 where
-  pub whole : bytes ≡ text_of lines ++ rest
+  pub whole : bytes ≡ text_of_lines lines ++ rest
   pub each : All HasNoNewline lines
   pub last : HasNoNewline rest
 

@@ -2,7 +2,7 @@
 use Rattle.std.proofs.Common.{◌≡◌, ℕ, Bool, List, Option, None, Some, IfSome, IfOk, Result, Ok, Err, refl, sym, ap, ◌∙◌, subst}
 use Rattle.std.specs.Result.{IsErrOf}
 use Rattle.roman_io.specs.Faults.{Rose}
-use Rattle.roman_io.specs.Shelf.{Texts, text_of, rest_from}
+use Rattle.roman_io.specs.Shelf.{Texts, shelf_text, rest_from}
 use Rattle.roman_model.specs.Arena.{Arena}
 use Rattle.roman_model.specs.Numbers.{sizes_of, number, numbered}
 use Rattle.roman_model.specs.Certificate.{TooLong, cert_verdict}
@@ -31,12 +31,12 @@ use Rattle.roman_top.proofs.EndingLemmas.{told_both, on_accepted, writes_weaker}
 use Rattle.roman_top.proofs.ServedLemmas.{job_served}
 
 -- a source over a whole text had that text
-had_text : (A : Arena ℕ) (start : ℕ) (texts : Texts) (name : List ℕ) (verdict : _) → HaveVerdict A start (rest_from (Some texts) name 0) verdict → cert_verdict A start (text_of texts name) ≡ verdict
+had_text : (A : Arena ℕ) (start : ℕ) (texts : Texts) (name : List ℕ) (verdict : _) → HaveVerdict A start (rest_from (Some texts) name 0) verdict → cert_verdict A start (shelf_text texts name) ≡ verdict
 had_text A start texts name verdict have = ap (cert_verdict A start) have.had ∙ have.judged
 
 -- what the check of a text of the shelf finds
 found_text : (A : Arena ℕ) (start : ℕ) (told : Option Texts) (name : List ℕ) (result : Result Verdict CheckError) → IfOk result (λ verdict. HaveVerdict A start (rest_from told name 0) (verdict_of verdict)) →
-    (IsErrOf result check.TooLong → HaveVerdict A start (rest_from told name 0) TooLong) → IfSome told (λ texts. FindsVerdict A start (text_of texts name) result)
+    (IsErrOf result check.TooLong → HaveVerdict A start (rest_from told name 0) TooLong) → IfSome told (λ texts. FindsVerdict A start (shelf_text texts name) result)
 found_text A start None name result whole long = tt
 found_text A start (Some texts) name (Ok verdict) whole long = had_text A start texts name (verdict_of verdict) whole
 found_text A start (Some texts) name (Err check.Fault) whole long = tt
@@ -46,7 +46,7 @@ found_text A start (Some texts) name (Err check.Memory) whole long = tt
 -- the same of a source that began with that text
 pub finds_text : (A : Arena ℕ) (start : ℕ) (told given : Option Texts) (name given_name : List ℕ) (at : ℕ) (result : Result Verdict CheckError) → given ≡ told → given_name ≡ name → at ≡ 0 →
     IfOk result (λ verdict. HaveVerdict A start (rest_from given given_name at) (verdict_of verdict)) → (IsErrOf result check.TooLong → HaveVerdict A start (rest_from given given_name at) TooLong) →
-    IfSome told (λ texts. FindsVerdict A start (text_of texts name) result)
+    IfSome told (λ texts. FindsVerdict A start (shelf_text texts name) result)
 finds_text A start told given name given_name at result same_texts same_name at_start whole long =
     let same : rest_from given given_name at ≡ rest_from told name 0 = rw (same_texts, same_name, at_start) refl in
     found_text A start told name result (subst (λ (rest : Option (List ℕ)). IfOk result (λ verdict. HaveVerdict A start rest (verdict_of verdict))) same whole)
@@ -68,31 +68,31 @@ judged A start certificate (Err check.Memory) finds text ends judges = absurd ju
 
 -- the check of a certificate against the system of an accepted document is a run
 checked_is_run : (texts : Texts) (system certificate : List ℕ) (seated : Seated) (checked : Result Verdict CheckError) (old new : Option (List ℕ)) (result : Status) →
-    Accepts (document_opening texts system) (λ library. IsSeated library seated) → FindsVerdict (numbered (system_of seated.joint)) seated.start (text_of texts certificate) checked → Writes (JudgesCheck checked) old new result →
-    Writes (OnOpening (Checks (text_of texts certificate)) (document_opening texts system)) old new result
+    Accepts (document_opening texts system) (λ library. IsSeated library seated) → FindsVerdict (numbered (system_of seated.joint)) seated.start (shelf_text texts certificate) checked → Writes (JudgesCheck checked) old new result →
+    Writes (OnOpening (Checks (shelf_text texts certificate)) (document_opening texts system)) old new result
 checked_is_run texts system certificate seated checked old new result accepts finds writes =
     let library = accepts.library in
     let s = library_system library in
-    let of_parts : FindsVerdict (numbered s) seated.start (text_of texts certificate) checked = subst (λ (n : NamedSys). FindsVerdict (numbered (system_of n)) seated.start (text_of texts certificate) checked) accepts.holds.parts finds in
-    let found : FindsVerdict (numbered s) (number (sizes_of s) (start_pair_of library)) (text_of texts certificate) checked = subst (λ (n : ℕ). FindsVerdict (numbered s) n (text_of texts certificate) checked) accepts.holds.start of_parts in
-    writes_weaker (JudgesCheck checked) (OnOpening (Checks (text_of texts certificate)) (document_opening texts system)) old new result
+    let of_parts : FindsVerdict (numbered s) seated.start (shelf_text texts certificate) checked = subst (λ (n : NamedSys). FindsVerdict (numbered (system_of n)) seated.start (shelf_text texts certificate) checked) accepts.holds.parts finds in
+    let found : FindsVerdict (numbered s) (number (sizes_of s) (start_pair_of library)) (shelf_text texts certificate) checked = subst (λ (n : ℕ). FindsVerdict (numbered s) n (shelf_text texts certificate) checked) accepts.holds.start of_parts in
+    writes_weaker (JudgesCheck checked) (OnOpening (Checks (shelf_text texts certificate)) (document_opening texts system)) old new result
     (λ (text : List ℕ) (ends : Status) (judges : JudgesCheck checked text ends).
-    on_accepted (Checks (text_of texts certificate)) (document_opening texts system) library text ends accepts.accepted
-    (judged (numbered s) (number (sizes_of s) (start_pair_of library)) (text_of texts certificate) checked found text ends judges)) writes
+    on_accepted (Checks (shelf_text texts certificate)) (document_opening texts system) library text ends accepts.accepted
+    (judged (numbered s) (number (sizes_of s) (start_pair_of library)) (shelf_text texts certificate) checked found text ends judges)) writes
 
 -- so a check of an document_opening document does its job
 pub check_served : (system certificate : List ℕ) (seated : Seated) (told told_mid told_now : Option Texts) (shelf shelf_mid shelf_now : ℕ) (old mid new : Option (List ℕ)) (out out_mid out_now : ℕ) (checked : Result Verdict CheckError) (result : Status) →
-    Opens IsSeated system (desk told shelf old out) (desk told_mid shelf_mid mid out_mid) (Ok seated) → IfSome told_mid (λ texts. FindsVerdict (numbered (system_of seated.joint)) seated.start (text_of texts certificate) checked) →
+    Opens IsSeated system (desk told shelf old out) (desk told_mid shelf_mid mid out_mid) (Ok seated) → IfSome told_mid (λ texts. FindsVerdict (numbered (system_of seated.joint)) seated.start (shelf_text texts certificate) checked) →
     told_now ≡ told_mid → CheckCause shelf_mid shelf_now checked → Writes (JudgesCheck checked) mid new result → EndsBare mid new result → CausedByCheck checked result → SinkCause out_mid out_now result →
     ServedBeside (Some (On system (Check certificate))) (desk told shelf old out) (desk told_now shelf_now new out_now) result
 check_served system certificate seated told told_mid told_now shelf shelf_mid shelf_now old mid new out out_mid out_now checked result opens finds texts cause writes stops caused wrote =
     let S = system_of seated.joint in
-    let found : IfSome told (λ texts. FindsVerdict (numbered S) seated.start (text_of texts certificate) checked) =
-    subst (λ (t : Option Texts). IfSome t (λ texts. FindsVerdict (numbered S) seated.start (text_of texts certificate) checked)) opens.leaves.texts finds in
+    let found : IfSome told (λ texts. FindsVerdict (numbered S) seated.start (shelf_text texts certificate) checked) =
+    subst (λ (t : Option Texts). IfSome t (λ texts. FindsVerdict (numbered S) seated.start (shelf_text texts certificate) checked)) opens.leaves.texts finds in
     let mine : Writes (JudgesCheck checked) old new result = subst (λ (o : Option (List ℕ)). Writes (JudgesCheck checked) o new result) opens.leaves.stops writes in
     job_served system (Check certificate) (desk told shelf old out) (desk told_now shelf_now new out_now) result tt (record {
-      writes = told_both told (λ texts. Accepts (document_opening texts system) (λ library. IsSeated library seated)) (λ texts. FindsVerdict (numbered S) seated.start (text_of texts certificate) checked)
-          (λ texts. Writes (OnOpening (Checks (text_of texts certificate)) (document_opening texts system)) old new result) opens.opens found
+      writes = told_both told (λ texts. Accepts (document_opening texts system) (λ library. IsSeated library seated)) (λ texts. FindsVerdict (numbered S) seated.start (shelf_text texts certificate) checked)
+          (λ texts. Writes (OnOpening (Checks (shelf_text texts certificate)) (document_opening texts system)) old new result) opens.opens found
           (λ texts accepts finds. checked_is_run texts system certificate seated checked old new result accepts finds mine);
       stops = subst (λ (o : Option (List ℕ)). EndsBare o new result) opens.leaves.stops stops;
       texts = texts ∙ opens.leaves.texts;

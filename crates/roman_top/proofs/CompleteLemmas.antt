@@ -1,7 +1,7 @@
 -- Commands get their answers.
 use Rattle.std.proofs.Common.{◌≡◌, ◌≢◌, ℕ, Bool, true, false, IsTrue, IsFalse, MatchBool, List, [], Option, None, Some, IfSome, refl, sym, subst}
 use Rattle.std.proofs.lemmas.Bool.{false≢true}
-use Rattle.roman_io.specs.Shelf.{Texts, text_of}
+use Rattle.roman_io.specs.Shelf.{Texts, shelf_text}
 use Rattle.roman_model.specs.Lines.{lines, ended_lines}
 use Rattle.roman_model.specs.System.{Sys, Pair}
 use Rattle.roman_model.specs.Numbers.{sizes_of, number, numbered}
@@ -61,7 +61,7 @@ job_answered (Run (Some name)) texts system rest session text library result giv
 job_answered Certify texts system rest session text library result given enough does = is_done result does.says.1
 job_answered Resilience texts system rest session text library result given enough does = is_done result does.1
 job_answered (Check certificate) texts system rest session text library result given enough does =
-    judged_answered (cert_verdict (numbered (library_system library)) (number (sizes_of (library_system library)) (start_pair_of library)) (text_of texts certificate)) text result enough does
+    judged_answered (cert_verdict (numbered (library_system library)) (number (sizes_of (library_system library)) (start_pair_of library)) (shelf_text texts certificate)) text result enough does
 job_answered Shortest texts system rest session text library result given enough does = is_done result does.1
 job_answered (Advise costs requests) texts system rest session text library result given enough does = advice_answered costs requests texts library text result enough does
 

@@ -1,7 +1,7 @@
 -- What a call does, from what its parts do.
 use Rattle.std.proofs.Common.{◌≡◌, ℕ, List, [], Option, None, Some, IfSome, Result, Ok, Err, inl, inr, refl, sym, subst}
 use Rattle.roman_io.specs.Faults.{HasCause}
-use Rattle.roman_io.specs.Shelf.{Texts, text_of}
+use Rattle.roman_io.specs.Shelf.{Texts, shelf_text}
 use Rattle.roman_io.specs.Sink.{Wrote, Puts}
 use Rattle.roman_io.specs.Source.{Gave}
 use Rattle.roman_io.proofs.SinkLemmas.{WroteFront-from_Puts}
@@ -92,7 +92,7 @@ aside (Run None) = record {
     input_given system None = ([], tt)
     input_given system (Some bytes) = (bytes, refl)
 aside (Run (Some name)) = record {
-  given = λ texts system rest. (text_of texts name, refl);
+  given = λ texts system rest. (shelf_text texts name, refl);
   shelf = λ system old new w. inl w;
   taken = λ texts system old new gave front. tt;
   ends = λ system old new result away. tt;

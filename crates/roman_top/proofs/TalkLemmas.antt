@@ -2,7 +2,7 @@
 use Rattle.std.proofs.Common.{◌≡◌, ℕ, ◌+◌, List, [], Option, None, Some, IfSome, Result, Ok, Err, OnOk, IsErrOf, IsTrue, IsFalse, ◌⊎◌, inl, inr, refl, sym, ◌∙◌, subst}
 use Rattle.std.proofs.lemmas.Bool.{cond-true, cond-false}
 use Rattle.roman_io.specs.Faults.{Rose}
-use Rattle.roman_io.specs.Shelf.{Texts, text_of, rest_from}
+use Rattle.roman_io.specs.Shelf.{Texts, shelf_text, rest_from}
 use Rattle.roman_io.specs.Source.{Had, IsAtEnd, GaveAtMost}
 use Rattle.roman_io.proofs.SourceLemmas.{Gave-told}
 use Rattle.roman_model.specs.Lines.{lines, ended_lines}
@@ -290,7 +290,7 @@ shelf_given texts system name rest session had = sym had
 broken_shelf : (texts : Texts) (system name : List ℕ) (start now : Situation) (accepts : Accepts (document_opening texts system) (λ library. IsStart library start)) (old new : World) → old.texts ≡ Some texts →
     GoesOnFrom (hall start (rest_from (Some texts) name 0) old.written) (spot now new.written) → AtShelfFault (Some (On system (Run (Some name)))) old new
 broken_shelf texts system name start now accepts old new told (has, goes) =
-    let (left, e, split) = Gave-told (text_of texts name) has goes.taken goes.gave in
+    let (left, e, split) = Gave-told (shelf_text texts name) has goes.taken goes.gave in
     inr (subst (λ (o : Option Texts). IfSome o (λ texts. HasAnsweredFront texts system name old new)) (sym told)
     (record { taken = goes.taken; rest = left; split = split; answered = answered texts system start accepts old new now (rest_from (Some texts) name 0) has goes }))
 

@@ -1,7 +1,7 @@
 -- Completeness: what a command needs, so that it gets its answer.
 use Rattle.std.specs.Prelude.{◌≡◌, ◌≢◌, ℕ, List, Option, None, Some, IsTrue}
 use Rattle.roman_io.specs.Faults.{Rose}
-use Rattle.roman_io.specs.Shelf.{Texts, text_of}
+use Rattle.roman_io.specs.Shelf.{Texts, shelf_text}
 use Rattle.roman_model.specs.Numbers.{sizes_of, number, numbered}
 use Rattle.roman_model.specs.Certificate.{TooLong, cert_verdict}
 use Rattle.roman_library.specs.Library.{PlainLibrary}
@@ -30,9 +30,9 @@ IsShortFor library certificate =
 abbrev pub Suffices : Job → Texts → Option (List ℕ) → PlainLibrary → Type 0
 Suffices Synth texts rest library = Unit {0}
 Suffices (Run None) texts rest library = IsShort rest
-Suffices (Run (Some name)) texts rest library = IsTrue (is_heard_out (text_of texts name))
+Suffices (Run (Some name)) texts rest library = IsTrue (is_heard_out (shelf_text texts name))
 Suffices Certify texts rest library = Unit {0}
-Suffices (Check certificate) texts rest library = IsShortFor library (text_of texts certificate)
+Suffices (Check certificate) texts rest library = IsShortFor library (shelf_text texts certificate)
 Suffices Shortest texts rest library = Unit {0}
 Suffices (Advise costs requests) texts rest library = Affords costs requests texts library
 Suffices Resilience texts rest library = Unit {0}

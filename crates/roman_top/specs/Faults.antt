@@ -1,6 +1,6 @@
 -- Runs that a fault or running out of memory has ended: what was written and taken by then.
 use Rattle.std.specs.Prelude.{◌≡◌, ℕ, ◌+◌, ◌⊎◌, List, ◌++◌, Option, None, Some, IfSome, IsSome}
-use Rattle.roman_io.specs.Shelf.{Texts, text_of}
+use Rattle.roman_io.specs.Shelf.{Texts, shelf_text}
 use Rattle.roman_io.specs.Sink.{Wrote, WroteFront}
 use Rattle.roman_io.specs.Source.{Gave, Had, IsAtEnd, GaveAtMost}
 use Rattle.roman_model.specs.declared.limits.TheConstants.{MAX_SESSION_BYTES}
@@ -36,7 +36,7 @@ pub record HasAnswered (texts : Texts) (system taken : List ℕ) (old new : Worl
 pub record HasAnsweredFront (texts : Texts) (system name : List ℕ) (old new : World) : Type 0 where
   pub taken : List ℕ
   pub rest : List ℕ
-  pub split : text_of texts name ≡ taken ++ rest
+  pub split : shelf_text texts name ≡ taken ++ rest
   pub answered : HasAnswered texts system taken old new
 
 -- at a fault of the shelf, which `make` and words without a shape don't ask: of a session on the shelf replies were written, and else nothing

@@ -1,6 +1,6 @@
 -- Runs: what a call writes and how it ends, by its words, the texts of the shelf and the bytes of the session.
 use Rattle.std.specs.Prelude.{◌≡◌, ℕ, List, [], Option, None, Some, IfSome, MatchBool}
-use Rattle.roman_io.specs.Shelf.{Texts, text_of}
+use Rattle.roman_io.specs.Shelf.{Texts, shelf_text}
 use Rattle.roman_io.specs.Sink.{Wrote}
 use Rattle.roman_io.specs.Source.{Had}
 use Rattle.roman_model.specs.Lines.{lines, ended_lines}
@@ -89,7 +89,7 @@ abbrev pub JobDoes : Job → Texts → List ℕ → PlainLibrary → List ℕ �
 JobDoes Synth texts session = Synthesises
 JobDoes (Run name) texts session = Talks session
 JobDoes Certify texts session = Certifies
-JobDoes (Check certificate) texts session = Checks (text_of texts certificate)
+JobDoes (Check certificate) texts session = Checks (shelf_text texts certificate)
 JobDoes Shortest texts session = Shortens
 JobDoes (Advise costs requests) texts session = GivesAdvice costs requests texts
 JobDoes Resilience texts session = Foresees
@@ -104,7 +104,7 @@ Runs (Some (Make n)) texts session out result = Makes n out result
 
 -- the bytes of the session: a text of the shelf, or those that the input had, where it tells them
 abbrev pub IsSessionText : Option Command → Texts → Option (List ℕ) → List ℕ → Type 0
-IsSessionText (Some (On system (Run (Some name)))) texts before session = session ≡ text_of texts name
+IsSessionText (Some (On system (Run (Some name)))) texts before session = session ≡ shelf_text texts name
 IsSessionText (Some (On system (Run None))) texts before session = Had before session
 IsSessionText _ texts before session = Unit {0}
 

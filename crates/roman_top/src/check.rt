@@ -1,6 +1,6 @@
 //! `check SYSTEM CERT`.
 ghost use Rattle.std.specs.Prelude.{◌≡◌, ◌<◌, Some, IfSome};
-ghost use Rattle.roman_io.specs.Shelf.{text_of};
+ghost use Rattle.roman_io.specs.Shelf.{shelf_text};
 ghost use Rattle.roman_model.specs.Numbers.{sizes_of, count, numbered};
 ghost use Rattle.roman_check.specs.Verdicts.{verdict_of};
 ghost use Rattle.roman_joint.specs.NamedSys.{system_of};
@@ -78,7 +78,7 @@ fn verdict_on<F: Shelf, L: Ledger>(
     steps: &mut Steps<L>,
 ) -> Result<Verdict, CheckError>
     requires { seated.now.start < count (sizes_of (system_of seated.now.joint)) }
-    ensures finds { IfSome (F.texts shelf.old) (λ texts. FindsVerdict (numbered (system_of seated.now.joint)) seated.now.start (text_of texts name.now) result) }
+    ensures finds { IfSome (F.texts shelf.old) (λ texts. FindsVerdict (numbered (system_of seated.now.joint)) seated.now.start (shelf_text texts name.now) result) }
     ensures texts { F.texts shelf.new ≡ F.texts shelf.old }
     ensures cause { CheckCause (F.faults shelf.old) (F.faults shelf.new) result }
 {

@@ -4,7 +4,7 @@ use Rattle.std.proofs.lemmas.Result.{err_from_is_err_and}
 use Rattle.roman_io.specs.Sink.{WroteFront}
 use Rattle.roman_io.proofs.SinkLemmas.{WroteFront-append}
 use Rattle.roman_model.specs.declared.reason.Reason.TheVariants.{Act}
-use Rattle.roman_model.specs.Lines.{text_of}
+use Rattle.roman_model.specs.Lines.{text_of_lines}
 use Rattle.roman_model.specs.Certificate.{entry_line}
 use Rattle.roman_order.specs.Board.{as_entry}
 use Rattle.roman_text.specs.Pages.{Gathers}
@@ -14,10 +14,10 @@ use Rattle.roman_cert.proofs.certificate.push_action.Goals as goal
 
 -- the line in two parts, behind what a page holds
 in_two : (held : List ℕ) (pair action n : ℕ) → n ≡ action →
-    (held ++ (decimal pair ++ codes " ")) ++ (decimal n ++ codes "\n") ≡ held ++ text_of (entry_line (as_entry (pair, Act action)) ∷ [])
+    (held ++ (decimal pair ++ codes " ")) ++ (decimal n ++ codes "\n") ≡ held ++ text_of_lines (entry_line (as_entry (pair, Act action)) ∷ [])
 in_two held pair action n e =
     let line = append_assoc (decimal pair) (codes " ") (decimal n ++ codes "\n") ∙ entry_parts (as_entry (pair, Act n)) in
-    append_assoc held (decimal pair ++ codes " ") (decimal n ++ codes "\n") ∙ ap (λ (bs : List ℕ). held ++ bs) line ∙ ap (λ a. held ++ text_of (entry_line (as_entry (pair, Act a)) ∷ [])) e
+    append_assoc held (decimal pair ++ codes " ") (decimal n ++ codes "\n") ∙ ap (λ (bs : List ℕ). held ++ bs) line ∙ ap (λ a. held ++ text_of_lines (entry_line (as_entry (pair, Act a)) ∷ [])) e
 
 pub returns-then-action-lt10-clause-gathers : goal.returns-then-action-lt10-clause-gathers
 returns-then-action-lt10-clause-gathers g c =

@@ -1,6 +1,6 @@
 use Rattle.std.proofs.Common.{◌+◌, [], ◌∷◌, codes, refl, ◌∙◌, arith}
 use Rattle.std.proofs.lemmas.Result.{err_from_is_err_and}
-use Rattle.roman_model.specs.Lines.{text_of}
+use Rattle.roman_model.specs.Lines.{text_of_lines}
 use Rattle.roman_model.specs.Certificate.{entry_line}
 use Rattle.roman_order.specs.Board.{as_entry}
 use Rattle.roman_text.proofs.Filling.{fill_whole, fill_same, fill_more, fill_failed, fill_put}
@@ -26,7 +26,7 @@ loop-i-init g c =
 pub returns-in_err-push_entry-clause-text : goal.returns-in_err-push_entry-clause-text
 returns-in_err-push_entry-clause-text g c =
     let L = c.args.order.now.list in
-    let bytes = text_of (entry_line (as_entry c.entry-pair.result) ∷ []) in
+    let bytes = text_of_lines (entry_line (as_entry c.entry-pair.result) ∷ []) in
     let next = cert_next L c.loop-i.i (as_entry c.entry-pair.result) bytes c.entry-pair.ensures refl in
     let p = err_from_is_err_and c.from_residual-in_err-push_entry.result c.from_residual-in_err-push_entry.ensures.1 in
     rw p.1 (fill_failed _ _ _ _ bytes (rest_from L (c.loop-i.i + 1)) _ (fill_same _ _ _ _ _ _ next c.loop-i.invariant.filling) c.in_err-push_entry.ensures.gathers.0)
@@ -34,7 +34,7 @@ returns-in_err-push_entry-clause-text g c =
 pub loop-i-preserved : goal.loop-i-preserved
 loop-i-preserved g c =
     let L = c.args.order.now.list in
-    let bytes = text_of (entry_line (as_entry c.entry-pair.result) ∷ []) in
+    let bytes = text_of_lines (entry_line (as_entry c.entry-pair.result) ∷ []) in
     let next = cert_next L c.loop-i.i (as_entry c.entry-pair.result) bytes c.entry-pair.ensures refl in
     record {
       filling = fill_more _ _ _ _ _ bytes (rest_from L (c.loop-i.i + 1)) _ (fill_same _ _ _ _ _ _ next c.loop-i.invariant.filling) c.in_ok-push_entry.ensures.gathers;

@@ -1,6 +1,6 @@
 use Rattle.std.proofs.Common.{length, ap, ◌∙◌, arith}
 use Rattle.roman_model.specs.System.{Beh}
-use Rattle.roman_joint.proofs.SeatLemmas.{beh_read, states_range}
+use Rattle.roman_joint.proofs.SeatLemmas.{seat_beh_read, states_range}
 use Rattle.roman_repair.proofs.joining.states_of.Goals as goal
 
 pub overflow_cast-result : goal.overflow_cast-result
@@ -12,4 +12,4 @@ returns c =
     let behs = c.args.joint.now.catalogue in
     let y = c.index-catalogue-seat.result in
     let here = rw c.catalogue.ensures at c.index-catalogue-seat.is in
-    c.len.ensures.len ∙ (ap length c.states.ensures.names ∙ (c.states.ensures.count ∙ ap (λ (b : Beh). b.states) (beh_read behs c.args.seat.now.behaviour y c.requires here)))
+    c.len.ensures.len ∙ (ap length c.states.ensures.names ∙ (c.states.ensures.count ∙ ap (λ (b : Beh). b.states) (seat_beh_read behs c.args.seat.now.behaviour y c.requires here)))

@@ -4,7 +4,7 @@ use Rattle.roman_model.specs.System.{Beh, IsBeh}
 use Rattle.roman_model.specs.Change.{Join, after}
 use Rattle.roman_parts.specs.Named.{NamedBeh}
 use Rattle.roman_joint.specs.NamedSys.{beh_at, seat_of, system_of, cells, IsOverEnv}
-use Rattle.roman_joint.proofs.SeatLemmas.{beh_read, states_range}
+use Rattle.roman_joint.proofs.SeatLemmas.{seat_beh_read, states_range}
 use Rattle.roman_joint.proofs.SeatChanges.{joined_known, joined_sizes, joined_test}
 use Rattle.roman_joint.proofs.joint.Joint.shape_with.Goals as goal
 
@@ -20,7 +20,7 @@ returns c =
     let seat = c.args.seat.now in
     let y = c.index-catalogue-seat.result in
     let at : y ≡ get_or n.catalogue seat.behaviour y = c.index-catalogue-seat.is ∙ ap (λ (ys : List NamedBeh). get_or ys seat.behaviour y) c.catalogue.ensures in
-    let read : y.beh ≡ beh_at n.catalogue seat.behaviour = beh_read n.catalogue seat.behaviour y c.requires.behaviour at in
+    let read : y.beh ≡ beh_at n.catalogue seat.behaviour = seat_beh_read n.catalogue seat.behaviour y c.requires.behaviour at in
     let over : IsOverEnv n.environment y = subst (IsOverEnv n.environment) (sym at) (c.known.ensures.catalogue seat.behaviour y c.requires.behaviour) in
     let beh : IsBeh n.environment.env (beh_at n.catalogue seat.behaviour) = subst (IsBeh n.environment.env) read (c.states.ensures.known n.environment.env (sym over.0) (sym over.1)) in
     let size = c.len-size.ensures.len ∙ (ap length c.states.ensures.names ∙ (c.states.ensures.count ∙ ap (λ (b : Beh). b.states) read)) in
