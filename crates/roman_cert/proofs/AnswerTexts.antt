@@ -6,9 +6,9 @@ use Rattle.std.proofs.lemmas.Bool.{cond-true, cond-false}
 use Rattle.std.proofs.lemmas.Option.{same_Some}
 use Rattle.roman_model.specs.Lines.{text_of_lines}
 use Rattle.roman_model.specs.Lists.{below}
-use Rattle.roman_model.specs.System.{Pair, IsSys, is_ready}
+use Rattle.roman_model.specs.System.{Pair, IsSys}
+use Rattle.roman_model.specs.SystemArena.{is_ready, arena}
 use Rattle.roman_model.specs.Arena.{Entry}
-use Rattle.roman_model.specs.Composition.{arena}
 use Rattle.roman_model.specs.Numbers.{sizes_of, count, pair_at, numbered, entry_at}
 use Rattle.roman_model.specs.declared.reason.Reason.{Reason}
 use Rattle.roman_model.specs.declared.reason.Reason.TheVariants.{Final, Act}

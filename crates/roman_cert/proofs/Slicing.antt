@@ -3,7 +3,8 @@ use Rattle.std.proofs.Common.{◌≡◌, ℕ, ◌<◌, List, [], ◌∷◌, ◌+
 use Rattle.roman_io.specs.Sink.{Puts}
 use Rattle.roman_model.specs.Lines.{text_of_lines}
 use Rattle.roman_model.specs.Arena.{Entry, is_listed}
-use Rattle.roman_model.specs.Composition.{arena, Great}
+use Rattle.roman_model.specs.SystemArena.{arena}
+use Rattle.roman_model.specs.Composition.{Great}
 use Rattle.roman_model.specs.Numbers.{sizes_of, count, pair_at, entry_at, IsCompleteList}
 use Rattle.roman_model.specs.Explanation.{rests_on, explanation, lost_line, answer_lines, entry_lines, explain_text, ExplainedOrder}
 use Rattle.roman_model.specs.Play.{OpponentWins}

@@ -5,7 +5,7 @@ use Rattle.std.proofs.lemmas.Bool.{cond-true, cond-false, not-true, not-false}
 use Rattle.std.proofs.lemmas.List.Folds.{list_any-append}
 use Rattle.std.proofs.lemmas.List.Elements.{filter_map-append}
 use Rattle.roman_model.specs.Lists.{IsIn}
-use Rattle.roman_model.specs.System.{same_numbers}
+use Rattle.roman_model.specs.SystemArena.{same_numbers}
 use Rattle.roman_model.specs.Arena.{Arena, Entry, is_listed, is_justified}
 use Rattle.roman_model.specs.Certificate as text
 use Rattle.roman_model.specs.Certificate.{head_line, count_line, end_line, reasons, possible_entries, entry_of, entries_on, could_be_listed, unless_over, end_fault, entry_fault, body_fault, line_fault}

@@ -5,7 +5,7 @@ use Rattle.std.proofs.lemmas.Bool.{cond-true}
 use Rattle.std.proofs.lemmas.List.Sums.{length-filter}
 use Rattle.roman_model.specs.Lists.{below}
 use Rattle.roman_model.specs.Lines.{lines}
-use Rattle.roman_model.specs.System.{same_numbers}
+use Rattle.roman_model.specs.SystemArena.{same_numbers}
 use Rattle.roman_model.specs.Arena.{Arena, Entry, is_listed}
 use Rattle.roman_model.specs.Certificate as text
 use Rattle.roman_model.specs.Certificate.{head_line, count_line, end_line, entry_of, entries_on, line_fault, IsClean, unlisted, cert_verdict}

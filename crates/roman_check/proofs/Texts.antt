@@ -9,7 +9,8 @@ use Rattle.std.proofs.lemmas.List.{take_all, take-take, drop-take, take-append-d
 use Rattle.std.proofs.lemmas.List.Sums.{fails_before_first}
 use Rattle.std.proofs.lemmas.List.Quantifiers.{position-Some}
 use Rattle.std.proofs.lemmas.Option.{none-some}
-use Rattle.roman_model.specs.System.{has, same_numbers}
+use Rattle.roman_model.specs.System.{has}
+use Rattle.roman_model.specs.SystemArena.{same_numbers}
 use Rattle.roman_model.proofs.Lists.{same_test}
 use Rattle.roman_model.proofs.SystemLemmas.{same_numbers_is, same_numbers_itself}
 

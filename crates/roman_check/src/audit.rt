@@ -1,7 +1,7 @@
 //! What was read of a certificate, and the next line judged by it.
 ghost use Rattle.std.specs.Prelude.{◌≡◌, ℕ, ◌+◌, ◌*◌, ◌<◌, ◌++◌, Bool, not, List, [], ◌∷◌, None, Some, length, IfOk, if◌then◌else◌};
 ghost use Rattle.std.specs.Option.{option_map};
-ghost use Rattle.roman_model.specs.System.{same_numbers};
+ghost use Rattle.roman_model.specs.SystemArena.{same_numbers};
 ghost use Rattle.roman_model.specs.Arena.{Arena, Entry, is_listed, is_justified};
 ghost use Rattle.roman_model.specs.Certificate.{end_line, entry_of, entries_on, entry_fault, body_fault};
 ghost use Rattle.roman_lanes.specs.Rows.{AreRows};

@@ -2,7 +2,7 @@
 ghost use Rattle.std.specs.Prelude.{◌≡◌, [], ◌∷◌, Some, IfSome, take};
 ghost use Rattle.std.specs.Option.{option_map};
 ghost use Rattle.roman_model.specs.Lists.{IsIn};
-ghost use Rattle.roman_model.specs.System.{same_numbers};
+ghost use Rattle.roman_model.specs.SystemArena.{same_numbers};
 ghost use Rattle.roman_model.specs.Certificate.{head_line, count_line, end_line, reason_text, reasons, entry_of};
 ghost use Rattle.roman_check.specs.Readings.{entry_with, IsEndedAt, ReadsOff};
 

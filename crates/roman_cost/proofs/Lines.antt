@@ -7,7 +7,8 @@ use Rattle.std.proofs.lemmas.Bool.{cond-true, cond-false}
 use Rattle.std.proofs.lemmas.List.{append-nil, drop_all, length-map}
 use Rattle.std.proofs.lemmas.Option.{slice_get-map, get_or_from_slice_get}
 use Rattle.roman_model.specs.Lists.{IsIn, below}
-use Rattle.roman_model.specs.System.{Sys, Pair, IsSys, is_allowed}
+use Rattle.roman_model.specs.System.{Sys, Pair, IsSys}
+use Rattle.roman_model.specs.SystemArena.{is_allowed}
 use Rattle.roman_model.specs.Explanation.{name_at}
 use Rattle.roman_model.specs.Numbers.{sizes_of, count, pair_at}
 use Rattle.roman_model.specs.Offers.{is_related, offers}

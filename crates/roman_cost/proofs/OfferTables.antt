@@ -3,7 +3,8 @@ use Rattle.std.proofs.Common.{◌≡◌, ◌≢◌, ℕ, suc, ◌+◌, ◌*◌, 
 use Rattle.std.proofs.Math.Nat.{mul-le-mul_left}
 use Rattle.std.proofs.lemmas.Bool.{cases_eq}
 use Rattle.std.proofs.lemmas.List.{get_or_append_left, get_or_push, length_push, take_more, take_all}
-use Rattle.roman_model.specs.System.{Sys, is_allowed}
+use Rattle.roman_model.specs.System.{Sys}
+use Rattle.roman_model.specs.SystemArena.{is_allowed}
 use Rattle.roman_model.specs.Numbers.{sizes_of, pair_at}
 use Rattle.roman_model.proofs.Lists.{by_test}
 use Rattle.roman_cost.specs.Filling.{IsOffers, AreOffers, HasOffers, PushesOffers}

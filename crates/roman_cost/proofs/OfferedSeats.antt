@@ -1,9 +1,9 @@
 -- The offered seats of a related pair: each has outcomes, all of them related, and what it costs is as the definition says.
 use Rattle.std.proofs.Common.{◌≡◌, ◌≢◌, ℕ, suc, ◌+◌, ◌*◌, ◌<◌, ◌≤◌, Bool, not, List, [], ◌∷◌, map, flat_map, length, filter, slice_index, inl, inr, IsTrue, All, refl, sym, ap, ◌∙◌, subst, arith}
 use Rattle.roman_model.specs.Lists.{IsIn, below}
-use Rattle.roman_model.specs.System.{Sys, Pair, IsSys, IsPair, has, outcomes, is_allowed}
+use Rattle.roman_model.specs.System.{Sys, Pair, IsSys, IsPair, has}
+use Rattle.roman_model.specs.SystemArena.{outcomes, is_allowed, arena}
 use Rattle.roman_model.specs.Arena.{is_beaten}
-use Rattle.roman_model.specs.Composition.{arena}
 use Rattle.roman_model.specs.Numbers.{sizes_of, count, pair_at, number, numbered}
 use Rattle.roman_model.specs.Offers.{is_related, offers}
 use Rattle.roman_model.specs.Plans.{Costs, max_over, first_least, least, least_at, choice, through}

@@ -3,7 +3,8 @@ use Rattle.std.specs.Prelude.{◌≡◌, ◌≢◌, ℕ, ◌<◌, ◌≤◌, ◌
 use Rattle.std.specs.List.{All}
 use Rattle.roman_model.specs.Numbers.{sizes_of, pair_at}
 use Rattle.roman_model.specs.Offers.{offers}
-use Rattle.roman_model.specs.System.{Sys, has, is_allowed}
+use Rattle.roman_model.specs.System.{Sys, has}
+use Rattle.roman_model.specs.SystemArena.{is_allowed}
 use Rattle.roman_rules.specs.Bits.{HasBits}
 use Rattle.roman_cost.specs.declared.limits.TheConstants.{MAX_COST, MAX_REQUESTS}
 

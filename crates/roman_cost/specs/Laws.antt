@@ -6,7 +6,8 @@ use Rattle.roman_model.specs.Explanation.{name_at}
 use Rattle.roman_model.specs.Lists.{IsIn, below}
 use Rattle.roman_model.specs.Numbers.{sizes_of, count, number, pair_at}
 use Rattle.roman_model.specs.Plans.{Costs, Plan, IsPlan, IsChoice, worst, allowed_actions}
-use Rattle.roman_model.specs.System.{Sys, Pair, IsSys, IsPair, is_allowed}
+use Rattle.roman_model.specs.System.{Sys, Pair, IsSys, IsPair}
+use Rattle.roman_model.specs.SystemArena.{is_allowed}
 use Rattle.roman_joint.specs.NamedSys.{NamedSys, system_of}
 use Rattle.roman_joint.specs.Names.{seat_name}
 use Rattle.roman_cost.specs.AdviceText.{worst_line, service_text, value_line, advice_text}

@@ -1,7 +1,8 @@
 //! Advice: the least that requests cost at worst.
 ghost use Rattle.std.specs.Prelude.{◌≡◌, ℕ, suc, ◌+◌, ◌-◌, ◌*◌, ◌<◌, ◌≤◌, ◌↔◌, length, Err, IfOk, IsTrue};
 ghost use Rattle.roman_model.specs.Lists.{IsIn};
-ghost use Rattle.roman_model.specs.System.{Sys, is_allowed};
+ghost use Rattle.roman_model.specs.System.{Sys};
+ghost use Rattle.roman_model.specs.SystemArena.{is_allowed};
 ghost use Rattle.roman_model.specs.Numbers.{sizes_of, count, pair_at};
 ghost use Rattle.roman_model.specs.Offers.{is_related, related_count};
 ghost use Rattle.roman_model.specs.Plans.{Costs, least, least_at, choice, through};

@@ -1,6 +1,7 @@
 //! What is least of the offered services.
 ghost use Rattle.std.specs.Prelude.{◌≡◌, ◌≢◌, ℕ, Bool, ◌+◌, ◌*◌, ◌<◌, ◌≤◌, [], All, map, length, IsTrue};
-ghost use Rattle.roman_model.specs.System.{has, is_allowed};
+ghost use Rattle.roman_model.specs.System.{has};
+ghost use Rattle.roman_model.specs.SystemArena.{is_allowed};
 ghost use Rattle.roman_model.specs.Numbers.{sizes_of, count, pair_at, numbered};
 ghost use Rattle.roman_model.specs.Offers.{is_related, offers};
 ghost use Rattle.roman_model.specs.Plans.{max_over, least, least_at, choice, through};

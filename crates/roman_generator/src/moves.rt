@@ -1,6 +1,7 @@
 //! Moves from pair to pair.
 ghost use Rattle.std.specs.Prelude.{◌≡◌, ◌<◌, length, IsTrue, IfSome, IfNone, slice_get};
-ghost use Rattle.roman_model.specs.System.{has, is_allowed, is_ready};
+ghost use Rattle.roman_model.specs.System.{has};
+ghost use Rattle.roman_model.specs.SystemArena.{is_allowed, is_ready};
 ghost use Rattle.roman_model.specs.Numbers.{sizes_of, count, pair_at};
 ghost use Rattle.roman_joint.specs.NamedSys.{system_of};
 ghost use Rattle.roman_generator.specs.Moves.{CanMove, Becomes};

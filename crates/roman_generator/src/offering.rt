@@ -1,6 +1,7 @@
 //! Offers.
 ghost use Rattle.std.specs.Prelude.{◌≢◌, ◌<◌, IsTrue};
-ghost use Rattle.roman_model.specs.System.{has, is_allowed};
+ghost use Rattle.roman_model.specs.System.{has};
+ghost use Rattle.roman_model.specs.SystemArena.{is_allowed};
 ghost use Rattle.roman_model.specs.Numbers.{sizes_of, count, pair_at};
 ghost use Rattle.roman_model.specs.Offers.{is_related, offers};
 ghost use Rattle.roman_rules.specs.Bits.{HasBits};

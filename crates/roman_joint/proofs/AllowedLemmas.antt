@@ -4,7 +4,8 @@ use Rattle.std.specs.List.{list_any}
 use Rattle.std.proofs.lemmas.Bool.{both_ways}
 use Rattle.roman_model.specs.Lists.{is_empty, all_below}
 use Rattle.roman_model.proofs.Lists.{by_test, all_below_at, all_below_from, not_empty_in}
-use Rattle.roman_model.specs.System.{Sys, is_allowed, env_next, beh_next, Seat, is_final, all_final}
+use Rattle.roman_model.specs.System.{Sys, Seat, is_final, all_final}
+use Rattle.roman_model.specs.SystemArena.{is_allowed, env_next, beh_next}
 use Rattle.roman_model.specs.Arena.{is_beaten, is_justified}
 use Rattle.roman_model.specs.declared.reason.Reason.TheVariants.{Act}
 use Rattle.roman_model.specs.Numbers.{sizes_of, pair_at, numbered}

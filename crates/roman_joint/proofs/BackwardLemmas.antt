@@ -1,7 +1,8 @@
 -- The delegations found backwards are those that lead to the pair.
 use Rattle.std.proofs.Common.{◌≡◌, ℕ, ◌<◌, Bool, true, false, cond, [], map, length, Option, Some, None, IsTrue, IsFalse, slice_get, slice_index, slice_set, refl, sym, ap, ◌∙◌, subst, arith}
 use Rattle.roman_model.specs.Lists.{IsIn, HasNoRepeats, HoldsEachOnce, below}
-use Rattle.roman_model.specs.System.{Env, Sys, Seat, Pair, IsSys, IsPair, IsBeh, has_triple, has_move, env_prev, beh_prev, outcomes}
+use Rattle.roman_model.specs.System.{Env, Sys, Seat, Pair, IsSys, IsPair, IsBeh, has_triple, has_move}
+use Rattle.roman_model.specs.SystemArena.{env_prev, beh_prev, outcomes}
 use Rattle.roman_model.specs.Arena.{Delegation, back}
 use Rattle.roman_model.specs.Numbers.{sizes_of, count, number, pair_at, numbered}
 use Rattle.roman_model.proofs.Lists.{in_map, from_map, in_flat_map, from_flat_map, in_below, from_below, HasNoRepeats-below, HasNoRepeats-filter, HasNoRepeats-map, HasNoRepeats-flat_map}

@@ -8,7 +8,8 @@ use Rattle.std.proofs.lemmas.Bool.{cases_lt, ne_eqb, lt-ltb, le-ltb}
 use Rattle.std.proofs.lemmas.Bool.Decides.{nat_tests}
 use Rattle.roman_model.specs.Lists.{IsIn, is_empty}
 use Rattle.roman_model.proofs.Lists.{length-below, by_test, any_same, any_true, any_from, empty_is, not_empty_in}
-use Rattle.roman_model.specs.System.{Sys, Seat, IsSys, seat_next}
+use Rattle.roman_model.specs.System.{Sys, Seat, IsSys}
+use Rattle.roman_model.specs.SystemArena.{seat_next}
 use Rattle.roman_model.proofs.SystemLemmas.{triple_in_range, from_env_next, move_in_range, from_seat_next, seat_in}
 use Rattle.roman_model.specs.Arena.{is_beaten}
 use Rattle.roman_model.specs.Numbers.{Sizes, sizes_of, count, numbered}

@@ -6,7 +6,8 @@ use Rattle.std.proofs.lemmas.Nat.{div-mul-add, div-add-mod', mul-add-lt, mod_bel
 use Rattle.std.proofs.lemmas.List.{length-map}
 use Rattle.roman_model.specs.Lists.{IsIn, is_empty, product_of}
 use Rattle.roman_model.proofs.Lists.{in_map, in_flat_map, any_same, list_any-map, list_any-flat_map, not_empty_in, any_true, any_from, same_test}
-use Rattle.roman_model.specs.System.{Sys, Seat, IsSys, env_next, beh_next, seat_next}
+use Rattle.roman_model.specs.System.{Sys, Seat, IsSys}
+use Rattle.roman_model.specs.SystemArena.{env_next, beh_next, seat_next}
 use Rattle.roman_model.specs.Arena.{Arena, is_beaten}
 use Rattle.roman_model.specs.Numbers.{Sizes, sizes_of, count, pair_at, numbered}
 use Rattle.roman_model.proofs.NumberLemmas.{part_at}

@@ -10,7 +10,8 @@ use Rattle.std.proofs.lemmas.List.Concat.{flat_map-append}
 use Rattle.std.proofs.lemmas.Nat.{same_from_place, div-add-mod', mod_below, div_below}
 use Rattle.roman_model.specs.Lists.{IsIn, below, product_of}
 use Rattle.roman_model.proofs.Lists.{in_below, no_longer}
-use Rattle.roman_model.specs.System.{Seat, Sys, Pair, IsSys, IsBeh, env_prev, beh_prev}
+use Rattle.roman_model.specs.System.{Seat, Sys, Pair, IsSys, IsBeh}
+use Rattle.roman_model.specs.SystemArena.{env_prev, beh_prev}
 use Rattle.roman_model.proofs.SystemLemmas.{triple_in_range, move_in_range, in_env_prev, in_beh_prev, seat_in}
 use Rattle.roman_model.specs.Arena.{Delegation, back}
 use Rattle.roman_model.proofs.ArenaLemmas.{in_back}

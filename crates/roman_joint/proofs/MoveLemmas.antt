@@ -10,7 +10,8 @@ use Rattle.std.proofs.lemmas.List.Sums.{length-filter, count_by-le-length}
 use Rattle.std.proofs.lemmas.Option.{slice_get_within, slice_get-get_or}
 use Rattle.roman_model.specs.Lists.{IsIn, is_empty, below, product_of}
 use Rattle.roman_model.proofs.Lists.{in_map, from_map, in_filter, filter_in, in_below, from_below, any_true, any_from, any_same, same_test, filter_below_more, by_test, empty_is, length-below}
-use Rattle.roman_model.specs.System.{Sys, Seat, Beh, beh_next, seat_next}
+use Rattle.roman_model.specs.System.{Sys, Seat, Beh}
+use Rattle.roman_model.specs.SystemArena.{beh_next, seat_next}
 use Rattle.roman_model.specs.Arena.{is_beaten}
 use Rattle.roman_model.specs.Numbers.{Sizes, sizes_of, numbered}
 use Rattle.roman_radix.specs.Radix.{AreSizes, IsSizes, stride_of}

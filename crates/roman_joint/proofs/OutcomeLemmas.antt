@@ -5,7 +5,8 @@ use Rattle.std.proofs.lemmas.List.{append-nil, map-append, length-map, get_or-se
 use Rattle.std.proofs.lemmas.Option.{slice_get_within}
 use Rattle.std.proofs.lemmas.Bool.{not-true}
 use Rattle.roman_model.specs.Lists.{IsIn, product_of}
-use Rattle.roman_model.specs.System.{Sys, Seat, Pair, IsSys, IsPair, env_next, beh_next, seat_next, outcomes, is_ready}
+use Rattle.roman_model.specs.System.{Sys, Seat, Pair, IsSys, IsPair}
+use Rattle.roman_model.specs.SystemArena.{env_next, beh_next, seat_next, outcomes, is_ready}
 use Rattle.roman_model.specs.Numbers.{Sizes, IsPairOf, sizes_of, count, number, pair_at, states_number}
 use Rattle.roman_model.proofs.SystemLemmas.{triple_in_range, move_in_range, from_env_next, from_beh_next, seat_in, states_set}
 use Rattle.roman_model.proofs.NumberLemmas.{numbers_are_pairs, IsPairOf-from, IsPairOf-at, number-pair_at, AreBelow-length, number_below, parts_of_number, states_number-set}

@@ -6,7 +6,8 @@ use Rattle.std.proofs.Math.Seq.{get_or-append_seam}
 use Rattle.std.proofs.lemmas.Bool.{cases_eq, cases_lt}
 use Rattle.std.proofs.lemmas.List.{take_more, get_or_append_left}
 use Rattle.roman_model.specs.Lists.{IsIn}
-use Rattle.roman_model.specs.System.{Env, Beh, Sys, Pair, IsSys, env_prev}
+use Rattle.roman_model.specs.System.{Env, Beh, Sys, Pair, IsSys}
+use Rattle.roman_model.specs.SystemArena.{env_prev}
 use Rattle.roman_model.specs.Numbers.{sizes_of, pair_at, numbered}
 use Rattle.roman_model.proofs.Lists.{by_test, from_push}
 use Rattle.roman_model.proofs.NumberedLists.{numbered_is_arena}

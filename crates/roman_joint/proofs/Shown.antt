@@ -10,7 +10,8 @@ use Rattle.roman_joint.specs.Scenes.{AreScenes}
 use Rattle.roman_joint.specs.Rows.{AreRowsOf}
 use Rattle.roman_joint.specs.Moves.{HoldsMoves, HasRoom, IsKept}
 use Rattle.roman_joint.specs.declared.moves.Moves.{Moves}
-use Rattle.roman_model.specs.System.{Env, Beh, Sys, env_next, beh_next, is_allowed}
+use Rattle.roman_model.specs.System.{Env, Beh, Sys}
+use Rattle.roman_model.specs.SystemArena.{env_next, beh_next, is_allowed}
 use Rattle.roman_model.specs.Lists.{is_empty}
 
 pub record Shows (a : Inside) (n : NamedSys) : Type 0 where

@@ -2,7 +2,8 @@
 use Rattle.std.specs.Prelude.{ℕ, List, [], map, length, Option, None, Some, if◌then◌else◌, slice_get, slice_index, slice_set}
 use Rattle.std.specs.List.{flat_map}
 use Rattle.roman_model.specs.Lists.{below}
-use Rattle.roman_model.specs.System.{Sys, Seat, Pair, env_prev, beh_prev}
+use Rattle.roman_model.specs.System.{Sys, Seat, Pair}
+use Rattle.roman_model.specs.SystemArena.{env_prev, beh_prev}
 use Rattle.roman_model.specs.Arena.{Delegation}
 use Rattle.roman_model.specs.Numbers.{sizes_of, number}
 

@@ -2,7 +2,8 @@
 use Rattle.std.specs.Prelude.{◌≡◌, ℕ, ◌+◌, ◌-◌, ◌*◌, ◌/◌, ◌%◌, ◌<◌, ◌≤◌, ◌==◌, true, false, not, List, [], ◌∷◌, Some, map, length, slice_get, slice_index, slice_index_or, slice_range, ◌++◌, vec_capacity}
 use Rattle.std.specs.List.{list_any, filter}
 use Rattle.roman_model.specs.Lists.{IsIn, is_empty, below}
-use Rattle.roman_model.specs.System.{Sys, Beh, Seat, beh_next}
+use Rattle.roman_model.specs.System.{Sys, Beh, Seat}
+use Rattle.roman_model.specs.SystemArena.{beh_next}
 use Rattle.roman_model.specs.Numbers.{Sizes, sizes_of}
 use Rattle.roman_radix.specs.Radix.{stride_of}
 use Rattle.roman_radix.specs.Rows.{lanes_of}

@@ -2,7 +2,8 @@
 use Rattle.std.specs.Prelude.{◌≡◌, ℕ, ◌+◌, ◌*◌, ◌/◌, ◌%◌, ◌<◌, ◌≤◌, ◌==◌, ◌&&◌, ◌||◌, ltb, Bool, true, not, Option, None, Some, [], ◌∷◌, length, slice_index, IsFalse}
 use Rattle.std.specs.List.{list_any}
 use Rattle.roman_model.specs.Lists.{is_empty}
-use Rattle.roman_model.specs.System.{Sys, Seat, is_final, env_next, beh_next}
+use Rattle.roman_model.specs.System.{Sys, Seat, is_final}
+use Rattle.roman_model.specs.SystemArena.{env_next, beh_next}
 use Rattle.roman_model.specs.Numbers.{Sizes, sizes_of, count, pair_at}
 use Rattle.roman_radix.specs.Radix.{stride_of}
 use Rattle.roman_radix.specs.Rows.{low_of, lanes_of, env_rows_of, target_rows_of}

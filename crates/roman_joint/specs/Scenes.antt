@@ -2,7 +2,8 @@
 use Rattle.std.specs.Prelude.{◌≡◌, ℕ, ◌*◌, ◌/◌, ◌%◌, ◌<◌, ◌≤◌, ◌&&◌, not, List, [], length, slice_index_or}
 use Rattle.std.specs.Int.{bit_at}
 use Rattle.roman_model.specs.Lists.{IsIn, is_empty}
-use Rattle.roman_model.specs.System.{Env, Beh, env_next, env_prev, beh_next, beh_prev}
+use Rattle.roman_model.specs.System.{Env, Beh}
+use Rattle.roman_model.specs.SystemArena.{env_next, env_prev, beh_next, beh_prev}
 use Rattle.roman_rules.specs.Bits.{bit_of}
 use Rattle.roman_joint.specs.declared.scene.Scene.{Scene}
 

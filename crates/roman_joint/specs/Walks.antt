@@ -3,7 +3,8 @@ use Rattle.std.specs.Prelude.{◌≡◌, ℕ, ◌+◌, ◌-◌, ◌*◌, ◌^◌
 use Rattle.std.specs.Int.{bit_at}
 use Rattle.std.specs.List.{flat_map}
 use Rattle.roman_model.specs.Lists.{below}
-use Rattle.roman_model.specs.System.{Sys, Pair, env_prev, beh_prev}
+use Rattle.roman_model.specs.System.{Sys, Pair}
+use Rattle.roman_model.specs.SystemArena.{env_prev, beh_prev}
 use Rattle.roman_model.specs.Arena.{Delegation}
 use Rattle.roman_model.specs.Numbers.{sizes_of, count, number, pair_at}
 use Rattle.roman_joint.specs.declared.walk.Walk.{Walk}

@@ -1,7 +1,8 @@
 //! At which pairs of a row a seat serves an action, and how many seats do.
 ghost use Rattle.std.specs.Prelude.{◌≡◌, ℕ, ◌+◌, ◌*◌, ◌<◌, ◌≤◌, Bool, not, ◌&&◌, false, length, slice_get, slice_index, sum_by, All};
 ghost use Rattle.roman_model.specs.Lists.{below};
-ghost use Rattle.roman_model.specs.System.{has, seat_next};
+ghost use Rattle.roman_model.specs.System.{has};
+ghost use Rattle.roman_model.specs.SystemArena.{seat_next};
 ghost use Rattle.roman_model.specs.Arena.{is_beaten, is_justified, mask as mask_of};
 ghost use Rattle.roman_model.specs.Numbers.{sizes_of, count, numbered};
 ghost use Rattle.roman_model.specs.declared.reason.Reason.TheVariants.{Act};

@@ -1,7 +1,7 @@
 //! What the target and the environment say of actions, whatever the services do.
 ghost use Rattle.std.specs.Prelude.{◌≡◌, ℕ, ◌<◌, [], IsFalse, IfOk};
 ghost use Rattle.roman_model.specs.Lists.{IsIn};
-ghost use Rattle.roman_model.specs.System.{env_prev, beh_prev};
+ghost use Rattle.roman_model.specs.SystemArena.{env_prev, beh_prev};
 ghost use Rattle.roman_joint.specs.NamedSys.{TargetIsOverEnv};
 ghost use Rattle.roman_joint.specs.Scenes.{ArePermitted, AreLeading, IsScene, AreScenes};
 

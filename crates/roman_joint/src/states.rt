@@ -1,6 +1,6 @@
 //! The states of services: where they are, where they go, where they come from and where they may rest.
 ghost use Rattle.std.specs.Prelude.{◌≡◌, ℕ, ◌/◌, ◌%◌, ◌<◌, ◌≤◌, false, length, slice_get, slice_index, All};
-ghost use Rattle.roman_model.specs.System.{seat_next};
+ghost use Rattle.roman_model.specs.SystemArena.{seat_next};
 ghost use Rattle.roman_model.specs.Numbers.{sizes_of};
 ghost use Rattle.roman_radix.specs.Radix.{stride_of};
 ghost use Rattle.roman_radix.specs.Rows.{low_of, lanes_of};

@@ -3,7 +3,8 @@ use Rattle.std.proofs.Common.{◌≡◌, ◌≢◌, ℕ, zero, suc, ◌+◌, ◌
 use Rattle.std.specs.Prelude.{max}
 use Rattle.std.proofs.lemmas.List.Elements.{filter-append}
 use Rattle.roman_model.specs.Lists.{below}
-use Rattle.roman_model.specs.System.{Sys, Pair, IsSys, outcomes}
+use Rattle.roman_model.specs.System.{Sys, Pair, IsSys}
+use Rattle.roman_model.specs.SystemArena.{outcomes}
 use Rattle.roman_model.specs.Numbers.{sizes_of, pair_at, number, count, numbered}
 use Rattle.roman_model.specs.Plans.{Costs, max_over, allowed_actions, least_from, first_least, through, least, choice, least_at}
 use Rattle.roman_model.proofs.SystemLemmas.{outcome_pair}

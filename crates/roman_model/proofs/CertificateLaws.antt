@@ -10,9 +10,10 @@ use Rattle.std.proofs.lemmas.Nat.{mul-le}
 use Rattle.std.proofs.lemmas.Fmt.{length-decimal-le}
 use Rattle.roman_model.specs.Lists.{IsIn, below, all_below}
 use Rattle.roman_model.specs.Lines.{lines, ended_lines, text_of_lines, IsLine, AreLines}
-use Rattle.roman_model.specs.System.{Sys, IsSys, pairs, same_numbers}
+use Rattle.roman_model.specs.System.{Sys, IsSys}
+use Rattle.roman_model.specs.SystemArena.{pairs, same_numbers, arena}
 use Rattle.roman_model.specs.Arena.{Arena, Entry, is_listed, is_beaten, is_justified, IsOrder}
-use Rattle.roman_model.specs.Composition.{Great, arena}
+use Rattle.roman_model.specs.Composition.{Great}
 use Rattle.roman_model.specs.Numbers.{sizes_of, count, pair_at, numbered, entry_at, IsCompleteList}
 use Rattle.roman_model.specs.Offers.{is_related}
 use Rattle.roman_model.specs.Certificate.{head_line, count_line, reason_text, entry_line, end_line, cert_lines, cert_text, Why, Form, Repeated, Unjustified, Unlisted, Greatest, Rejected, TooLong, reasons, possible_entries, entry_of, entries_on, unless_is, unless_over, entry_fault, could_be_listed, end_fault, body_fault, line_fault, faults, unlisted, cert_verdict, greatest, IsWithinCells, WrittenIsGreatest, GreatestIsComplete, IsClean}

@@ -4,9 +4,10 @@ use Rattle.std.specs.List.{list_any}
 use Rattle.std.proofs.lemmas.Bool.{false≢true, or_cases, or_left, or_right, cond-true, cond-false}
 use Rattle.std.proofs.lemmas.Option.{slice_get_within}
 use Rattle.roman_model.specs.Lists.{IsIn, below, is_empty}
-use Rattle.roman_model.specs.System.{Seat, Sys, Pair, IsPair, is_final, outcomes, same_pair}
+use Rattle.roman_model.specs.System.{Seat, Sys, Pair, IsPair, is_final}
+use Rattle.roman_model.specs.SystemArena.{outcomes, same_pair, arena}
 use Rattle.roman_model.specs.Arena.{Entry, is_listed, is_beaten, IsOrder, replay}
-use Rattle.roman_model.specs.Composition.{arena, AreEntries}
+use Rattle.roman_model.specs.CompleteLists.{AreEntries}
 use Rattle.roman_model.specs.Change.{Freeze, Thaw, Join, Die, without, may_go, firsts, entry_without, rename, place, with_state, goers, RenamingKeeps, MaskAfterDeath}
 use Rattle.roman_model.proofs.Lists.{by_test, same_test, any_true, any_from, any_same, list_any-map, is_empty-map, in_map, in_filter, filter_in, in_below, ne_not_empty, not_empty_in}
 use Rattle.roman_model.proofs.SystemLemmas.{same_pair_is, same_pair_from, outcome_pair}

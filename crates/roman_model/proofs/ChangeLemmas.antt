@@ -5,9 +5,10 @@ use Rattle.std.proofs.lemmas.Bool.{cases_eq, both_ways, or_cases, or_left, or_ri
 use Rattle.std.proofs.lemmas.List.{map-append, length_push, same_from_push}
 use Rattle.std.proofs.lemmas.Option.{none-some, same_Some, slice_get_within}
 use Rattle.roman_model.specs.Lists.{IsIn, HasNoRepeats, below, all_below, is_empty}
-use Rattle.roman_model.specs.System.{Seat, Sys, Pair, IsBeh, IsSys, IsPair, is_final, all_final, env_next, beh_next, seat_next, moved, outcomes, is_allowed, is_fine, same_pair}
+use Rattle.roman_model.specs.System.{Seat, Sys, Pair, IsBeh, IsSys, IsPair, is_final, all_final}
+use Rattle.roman_model.specs.SystemArena.{env_next, beh_next, seat_next, outcomes_by, outcomes, is_allowed, is_fine, same_pair, arena}
 use Rattle.roman_model.specs.Arena.{Entry, is_among, is_beaten, is_justified, IsOrderFrom, AreNew}
-use Rattle.roman_model.specs.Composition.{arena, AreEntries}
+use Rattle.roman_model.specs.CompleteLists.{AreEntries}
 use Rattle.roman_model.specs.Change.{Join, Die, set_frozen, grown, without, may_go, firsts, grown_entries, entry_without, rename, place, with_state}
 use Rattle.roman_model.specs.declared.limits.TheConstants.{MAX_SERVICES}
 use Rattle.roman_model.specs.declared.reason.Reason.{Reason}
@@ -52,15 +53,15 @@ flat_map_none f (x ∷ xs) none = ap₂ (λ ys zs. ys ++ zs) (none x) (flat_map_
 -- Outcomes that a function makes of others
 
 -- a seat that goes nowhere has no outcome
-pub moved_none : (s : Sys) (p : Pair) (a k : ℕ) → moved s p a k [] ≡ []
+pub moved_none : (s : Sys) (p : Pair) (a k : ℕ) → outcomes_by s p a k [] ≡ []
 moved_none s p a k = flat_map_none (λ e'. flat_map (λ t'. map (λ b'. record { t = t'; e = e'; bs = slice_set p.bs k b' }) []) (beh_next s.target p.t p.e a)) (env_next s.env p.e a)
     (λ e'. flat_map_none (λ t'. map (λ b'. record { t = t'; e = e'; bs = slice_set p.bs k b' }) []) (beh_next s.target p.t p.e a) (λ t'. refl))
 
 -- where f leaves the target's state and the environment's, and makes of the states that seat j moves those that seat k moves
 pub moved_named : (s : Sys) (seats : List Seat) (p : Pair) (a j k : ℕ) (states : List ℕ) (g : List ℕ → List ℕ) (bs : List ℕ) →
     ((b' : ℕ) → slice_set bs k b' ≡ g (slice_set p.bs j b')) →
-    moved (record { env = s.env; target = s.target; seats = seats }) (record { t = p.t; e = p.e; bs = bs }) a k states
-    ≡ map (λ q. record { t = q.t; e = q.e; bs = g q.bs }) (moved s p a j states)
+    outcomes_by (record { env = s.env; target = s.target; seats = seats }) (record { t = p.t; e = p.e; bs = bs }) a k states
+    ≡ map (λ q. record { t = q.t; e = q.e; bs = g q.bs }) (outcomes_by s p a j states)
 moved_named s seats p a j k states g bs is =
     flat_map_same (λ e'. flat_map (λ t'. map (λ b'. record { t = t'; e = e'; bs = slice_set bs k b' }) states) (beh_next s.target p.t p.e a))
     (λ e'. map f (flat_map (λ t'. map (λ b'. record { t = t'; e = e'; bs = slice_set p.bs j b' }) states) (beh_next s.target p.t p.e a)))
@@ -215,11 +216,11 @@ seat_next-frozen (seat ∷ seats) zero b e a = refl
 seat_next-frozen (seat ∷ seats) (suc k) b e a = seat_next-frozen seats k b e a
 
 pub outcomes-turned : (s : Sys) (k : ℕ) (frozen : Bool) (p : Pair) (a j : ℕ) → (j ≡ k → ⊥) → outcomes (turned s k frozen) p a j ≡ outcomes s p a j
-outcomes-turned s k frozen p a j ne = ap (λ o. moved s p a j (seat_next o (slice_index p.bs j) p.e a)) (get-set_frozen s.seats k j frozen ne)
+outcomes-turned s k frozen p a j ne = ap (λ o. outcomes_by s p a j (seat_next o (slice_index p.bs j) p.e a)) (get-set_frozen s.seats k j frozen ne)
 
 pub outcomes-frozen : (s : Sys) (k : ℕ) (p : Pair) (a : ℕ) → outcomes (turned s k true) p a k ≡ []
 outcomes-frozen s k p a =
-    ap (λ states. moved s p a k states) (seat_next-frozen s.seats k (slice_index p.bs k) p.e a) ∙ moved_none s p a k
+    ap (λ states. outcomes_by s p a k states) (seat_next-frozen s.seats k (slice_index p.bs k) p.e a) ∙ moved_none s p a k
 
 -- who is beaten stays so where a seat freezes
 pub freeze_beaten : (s : Sys) (k : ℕ) (gone : Pair → Bool) (p : Pair) (a j : ℕ) → IsTrue (is_beaten (arena s) gone p a j) → IsTrue (is_beaten (arena (turned s k true)) gone p a j)
@@ -374,14 +375,14 @@ state_below (x ∷ seats) (b ∷ bs) (suc k) seat e h = state_below seats bs k s
 -- the outcomes of the other seats lose the dead one's state
 pub outcomes-without : (s : Sys) (k : ℕ) (p : Pair) (a j : ℕ) → outcomes (left s k) (without k p) a j ≡ map (without k) (outcomes s p a (place k j))
 outcomes-without s k p a j =
-    ap₂ (λ o b. moved (left s k) (without k p) a j (seat_next o b p.e a)) (get-remove s.seats k j) (index-remove p.bs k j)
+    ap₂ (λ o b. outcomes_by (left s k) (without k p) a j (seat_next o b p.e a)) (get-remove s.seats k j) (index-remove p.bs k j)
     ∙ moved_named s (remove s.seats k) p a (place k j) j (seat_next (slice_get s.seats (place k j)) (slice_index p.bs (place k j)) p.e a) (λ bs. remove bs k) (remove p.bs k)
     (λ b'. set-remove p.bs k j b')
 
 -- and get it back
 pub outcomes-with_state : (s : Sys) (k : ℕ) (p : Pair) (b a j : ℕ) → k ≤ length p.bs → outcomes s (with_state k b p) a (place k j) ≡ map (with_state k b) (outcomes (left s k) p a j)
 outcomes-with_state s k p b a j h =
-    ap₂ (λ o c. moved s (with_state k b p) a (place k j) (seat_next o c p.e a)) (sym (get-remove s.seats k j)) (index-insert p.bs k j b h)
+    ap₂ (λ o c. outcomes_by s (with_state k b p) a (place k j) (seat_next o c p.e a)) (sym (get-remove s.seats k j)) (index-insert p.bs k j b h)
     ∙ moved_named (left s k) s.seats p a j (place k j) (seat_next (slice_get (remove s.seats k) j) (slice_index p.bs j) p.e a) (λ bs. insert bs k b) (insert p.bs k b)
     (λ b'. set-insert p.bs k j b b' h)
 

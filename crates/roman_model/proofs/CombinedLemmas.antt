@@ -4,7 +4,8 @@ use Rattle.std.specs.List.{AllZip, list_any}
 use Rattle.std.proofs.lemmas.Bool.{false≢true, and_parts, and_from, or_cases, or_left, or_right, eqb-true, eq-eqb, not_from_false, not-true, ltb-true, lt-ltb}
 use Rattle.std.proofs.lemmas.Option.{none-some, same_Some, slice_get_within}
 use Rattle.roman_model.specs.Lists.{IsIn, below, is_empty, product_of}
-use Rattle.roman_model.specs.System.{Triple, Env, Move, Beh, Seat, Sys, Pair, has, has_triple, has_move, IsEnv, IsBeh, IsDeterministic, IsSys, IsPair, TStep, SStep, Allows, beh_next, is_final, all_final, same_numbers}
+use Rattle.roman_model.specs.System.{Triple, Env, Move, Beh, Seat, Sys, Pair, has, has_triple, has_move, IsEnv, IsBeh, IsDeterministic, IsSys, IsPair, TStep, SStep, Allows, is_final, all_final}
+use Rattle.roman_model.specs.SystemArena.{beh_next, same_numbers}
 use Rattle.roman_model.specs.declared.limits.TheConstants.{MAX_SERVICES}
 use Rattle.roman_model.specs.Numbers.{states_number, states_at}
 use Rattle.roman_model.specs.Composition.{Couple, couple, Serves, Meets, IsNdSim, GreatCouple, Great}

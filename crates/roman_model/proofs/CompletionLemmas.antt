@@ -3,9 +3,10 @@ use Rattle.std.proofs.Common.{ℕ, zero, suc, ◌+◌, ◌≤◌, Bool, not, ◌
 use Rattle.std.specs.List.{list_any}
 use Rattle.std.proofs.lemmas.Bool.{both_ways, and_parts, and_from, not-true, not_from_false}
 use Rattle.roman_model.specs.Lists.{IsIn, below, all_below}
-use Rattle.roman_model.specs.System.{Sys, Pair, IsSys, IsPair, pairs, is_allowed}
+use Rattle.roman_model.specs.System.{Sys, Pair, IsSys, IsPair}
+use Rattle.roman_model.specs.SystemArena.{pairs, is_allowed, arena}
 use Rattle.roman_model.specs.Arena.{Entry, is_listed, is_justified, is_beaten, IsOrder}
-use Rattle.roman_model.specs.Composition.{arena, AreEntries, IsComplete}
+use Rattle.roman_model.specs.CompleteLists.{AreEntries, IsComplete}
 use Rattle.roman_model.specs.declared.reason.Reason.{Reason}
 use Rattle.roman_model.specs.declared.reason.Reason.TheVariants.{Final, Act}
 use Rattle.roman_model.proofs.Lists.{by_test, any_true, any_false, in_map, from_map, in_flat_map, from_flat_map, in_below, from_push}

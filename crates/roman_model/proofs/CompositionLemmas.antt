@@ -3,9 +3,11 @@ use Rattle.std.proofs.Common.{◌≡◌, ◌≢◌, ℕ, ◌<◌, Bool, not, Lis
 use Rattle.std.proofs.lemmas.Bool.{both_ways, or_cases, or_left, or_right, not-true, not-false, not_from_true, not_from_false}
 use Rattle.std.proofs.lemmas.Option.{slice_get_within}
 use Rattle.roman_model.specs.Lists.{IsIn}
-use Rattle.roman_model.specs.System.{Sys, Pair, IsSys, IsPair, SStep, is_final, all_final, pairs, outcomes, is_allowed, is_fine}
+use Rattle.roman_model.specs.System.{Sys, Pair, IsSys, IsPair, SStep, is_final, all_final}
+use Rattle.roman_model.specs.SystemArena.{pairs, outcomes, is_allowed, is_fine, arena}
 use Rattle.roman_model.specs.Arena.{Entry, is_listed, is_justified, IsOrder, loses, Survives}
-use Rattle.roman_model.specs.Composition.{Couple, couple, Serves, Meets, IsNdSim, GreatCouple, Great, arena, AreEntries, IsComplete}
+use Rattle.roman_model.specs.Composition.{Couple, couple, Serves, Meets, IsNdSim, GreatCouple, Great}
+use Rattle.roman_model.specs.CompleteLists.{AreEntries, IsComplete}
 use Rattle.roman_model.specs.Laws.{GreatestIsGreatest, OrderRefutes, OrderCompletes, UnrelatedLoses, ReplayKeeps}
 use Rattle.roman_model.specs.Offers.{is_related}
 use Rattle.roman_model.specs.declared.reason.Reason.{Reason}

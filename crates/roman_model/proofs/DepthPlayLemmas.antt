@@ -3,9 +3,10 @@ use Rattle.std.proofs.Common.{◌≡◌, ℕ, zero, suc, ◌<◌, ◌≤◌, not
 use Rattle.std.specs.List.{list_any}
 use Rattle.std.proofs.lemmas.Bool.{both_ways, or_cases, not_from_false, cond-true, cond-false, cases_order}
 use Rattle.roman_model.specs.Lists.{IsIn, below, is_empty}
-use Rattle.roman_model.specs.System.{Sys, Pair, IsSys, IsPair, pairs, outcomes}
+use Rattle.roman_model.specs.System.{Sys, Pair, IsSys, IsPair}
+use Rattle.roman_model.specs.SystemArena.{pairs, outcomes, arena}
 use Rattle.roman_model.specs.Arena.{is_justified, loses, depth}
-use Rattle.roman_model.specs.Composition.{Great, arena}
+use Rattle.roman_model.specs.Composition.{Great}
 use Rattle.roman_model.specs.Play.{has_ready, went_on, WinsWithin, AreSeats, refuting, request_at, depth_play_at, depth_play, DepthWins, DepthIsLeast}
 use Rattle.roman_model.specs.declared.reason.Reason.TheVariants.{Act}
 use Rattle.roman_model.proofs.Lists.{by_test, any_from, find_some, find_found}

@@ -3,9 +3,9 @@
 use Rattle.std.proofs.Common.{◌≡◌, ℕ, ◌+◌, ◌<◌, ◌==◌, true, false, ◌&&◌, List, [], ◌∷◌, map, length, Some, IsTrue, filter, inl, inr, refl, sym, subst, arith}
 use Rattle.std.proofs.lemmas.Bool.{and_parts, eqb-true}
 use Rattle.roman_model.specs.Lists.{IsIn}
-use Rattle.roman_model.specs.System.{Triple, Env, Move, Beh, Seat, Sys, Pair, IsBeh, IsSys, has, has_move, pairs}
+use Rattle.roman_model.specs.System.{Triple, Env, Move, Beh, Seat, Sys, Pair, IsBeh, IsSys, has, has_move}
+use Rattle.roman_model.specs.SystemArena.{pairs, arena}
 use Rattle.roman_model.specs.Arena.{IsOrder, depth}
-use Rattle.roman_model.specs.Composition.{arena}
 use Rattle.roman_model.specs.Change.{Join, after}
 use Rattle.roman_model.specs.Offers.{is_related, offers, choice_count}
 use Rattle.roman_model.specs.declared.reason.Reason.TheVariants.{Final, Act}

@@ -7,7 +7,7 @@ use Rattle.std.proofs.lemmas.List.Elements.{filter-append}
 use Rattle.std.proofs.lemmas.Option.{none-some, same_Some}
 use Rattle.roman_model.specs.Lists.{IsIn, below}
 use Rattle.roman_model.specs.Arena.{Arena, Entry, is_among, is_listed, is_justified, IsOrder}
-use Rattle.roman_model.specs.Composition.{arena}
+use Rattle.roman_model.specs.SystemArena.{arena}
 use Rattle.roman_model.specs.Explanation.{entries_before, answer, ready_seats, answers, rests_on, explanation, IsClosed, IsLeastClosed, ExplanationIsLeast, ExplanationIsOrder}
 use Rattle.roman_model.specs.declared.reason.Reason.{Reason}
 use Rattle.roman_model.specs.declared.reason.Reason.TheVariants.{Final, Act}

@@ -5,7 +5,7 @@ use Rattle.std.proofs.lemmas.List.{length-map, map-append}
 use Rattle.roman_model.specs.Lists.{IsIn, below}
 use Rattle.roman_model.specs.Arena.{Arena, Entry, is_among, is_listed}
 use Rattle.roman_model.specs.System.{Sys, IsSys}
-use Rattle.roman_model.specs.Composition.{arena}
+use Rattle.roman_model.specs.SystemArena.{arena}
 use Rattle.roman_model.specs.Numbers.{sizes_of, pair_at, numbered, entry_at}
 use Rattle.roman_model.specs.Explanation.{entries_before, answer, ready_seats, answers, rests_on, explanation}
 use Rattle.roman_model.specs.declared.reason.Reason.{Reason}

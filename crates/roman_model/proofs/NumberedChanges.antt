@@ -6,9 +6,9 @@ use Rattle.std.proofs.lemmas.List.{map-append, take-map, drop-map, length-map}
 use Rattle.std.proofs.lemmas.Nat.{mul-le, div-mul-add, mod-mul-add, mod_below, mul-add-lt}
 use Rattle.std.proofs.lemmas.Option.{none-some, same_Some, slice_get_within}
 use Rattle.roman_model.specs.Lists.{IsIn, below, is_empty, product_of}
-use Rattle.roman_model.specs.System.{Seat, Sys, Pair, IsSys, is_final, outcomes, is_allowed, is_fine, same_pair}
+use Rattle.roman_model.specs.System.{Seat, Sys, Pair, IsSys, is_final}
+use Rattle.roman_model.specs.SystemArena.{outcomes, is_allowed, is_fine, same_pair, arena}
 use Rattle.roman_model.specs.Arena.{Entry, is_listed, is_beaten, IsOrder, replay}
-use Rattle.roman_model.specs.Composition.{arena}
 use Rattle.roman_model.specs.Change.{Change, Freeze, Thaw, Join, Die, after, grown, without, may_go, firsts, grown_entries, entry_without, rename, CanChange, KeepsAll, place, with_state, goers, RenamedReplays}
 use Rattle.roman_model.specs.Numbers.{Sizes, sizes_of, IsPairOf, grown_sizes, sizes_without, count, number, pair_at, numbered, entry_at}
 use Rattle.roman_model.proofs.Lists.{by_test, same_test, any_same, list_any-map, from_map, from_flat_map, filter_in, from_below, sublist_in, filter-map}

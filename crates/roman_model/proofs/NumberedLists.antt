@@ -4,9 +4,10 @@ use Rattle.std.proofs.lemmas.Bool.{both_ways, eqb-true, eq-eqb, not-false}
 use Rattle.std.proofs.lemmas.List.{length-map}
 use Rattle.std.proofs.lemmas.List.Filters.{length-filter_both}
 use Rattle.roman_model.specs.Lists.{IsIn, HasNoRepeats, below}
-use Rattle.roman_model.specs.System.{Sys, Pair, IsSys, IsPair, pairs, outcomes}
+use Rattle.roman_model.specs.System.{Sys, Pair, IsSys, IsPair}
+use Rattle.roman_model.specs.SystemArena.{pairs, outcomes, arena}
 use Rattle.roman_model.specs.Arena.{Entry, is_listed, is_justified, mask, IsOrder, loses, choices}
-use Rattle.roman_model.specs.Composition.{arena, IsComplete}
+use Rattle.roman_model.specs.CompleteLists.{IsComplete}
 use Rattle.roman_model.specs.Numbers.{sizes_of, count, number, pair_at, numbered, entry_at, IsCompleteList}
 use Rattle.roman_model.specs.Offers.{is_related, offers, choice_count}
 use Rattle.roman_model.specs.declared.reason.Reason.{Reason}

@@ -2,9 +2,11 @@
 use Rattle.std.proofs.Common.{◌≡◌, ◌≢◌, ℕ, ◌<◌, not, List, [], ◌∷◌, length, IsTrue}
 use Rattle.std.proofs.lemmas.Bool.{not-false, not_from_true}
 use Rattle.roman_model.specs.Lists.{IsIn}
-use Rattle.roman_model.specs.System.{Sys, Pair, IsSys, IsPair, outcomes, is_allowed}
+use Rattle.roman_model.specs.System.{Sys, Pair, IsSys, IsPair}
+use Rattle.roman_model.specs.SystemArena.{outcomes, is_allowed, arena}
 use Rattle.roman_model.specs.Arena.{Entry, is_listed, mask, choices}
-use Rattle.roman_model.specs.Composition.{GreatCouple, Great, arena, IsComplete}
+use Rattle.roman_model.specs.Composition.{GreatCouple, Great}
+use Rattle.roman_model.specs.CompleteLists.{IsComplete}
 use Rattle.roman_model.specs.Offers.{is_related, offers, choice_count, OffersAreGenerator, FollowingStays}
 use Rattle.roman_model.proofs.Lists.{in_not_empty, not_empty_ne}
 use Rattle.roman_model.proofs.SystemLemmas.{outcome_pair, from_pairs}

@@ -4,9 +4,10 @@ use Rattle.std.specs.Prelude.{max}
 use Rattle.std.proofs.Math.Nat.{le-max_left, le-max_right, max-le}
 use Rattle.std.proofs.lemmas.Bool.{cond-true, cond-false, leb-true, leb-false}
 use Rattle.roman_model.specs.Lists.{IsIn, below}
-use Rattle.roman_model.specs.System.{Sys, Pair, IsSys, IsPair, outcomes, is_allowed}
+use Rattle.roman_model.specs.System.{Sys, Pair, IsSys, IsPair}
+use Rattle.roman_model.specs.SystemArena.{outcomes, is_allowed, arena}
 use Rattle.roman_model.specs.Arena.{is_beaten}
-use Rattle.roman_model.specs.Composition.{Great, arena}
+use Rattle.roman_model.specs.Composition.{Great}
 use Rattle.roman_model.specs.Offers.{is_related, offers}
 use Rattle.roman_model.specs.Plans.{Costs, Plan, Leaf, Node, max_over, allowed_actions, IsPlan, worst, least_from, first_least, through, least, choice, chosen, IsChoice, PlansCostLeast}
 use Rattle.roman_model.proofs.Lists.{by_test, filter_in, from_below, from_push, not_empty_in, ne_not_empty}

@@ -4,9 +4,9 @@ use Rattle.std.specs.List.{list_any}
 use Rattle.std.specs.Option.{option_map}
 use Rattle.std.proofs.lemmas.Bool.{false≢true, both_ways, or_cases, or_left, or_right, not_from_false, cond-true, cond-false}
 use Rattle.roman_model.specs.Lists.{is_empty}
-use Rattle.roman_model.specs.System.{Sys, Pair, outcomes}
+use Rattle.roman_model.specs.System.{Sys, Pair}
+use Rattle.roman_model.specs.SystemArena.{outcomes, arena}
 use Rattle.roman_model.specs.Arena.{Entry, is_among, is_listed, is_justified, IsOrderFrom, IsOrder}
-use Rattle.roman_model.specs.Composition.{arena}
 use Rattle.roman_model.specs.Play.{earlier, reason_of, has_ready, went_on, play_at, play, WinsWithin, AreSeats, OrderWins}
 use Rattle.roman_model.specs.declared.reason.Reason.{Reason}
 use Rattle.roman_model.specs.declared.reason.Reason.TheVariants.{Final, Act}

@@ -1,7 +1,8 @@
 -- What the definitions of several targets say of two lamps and two targets that each turn a lamp on and off; and that
 -- a normal form is a record made by the test of its steps.
 use Rattle.std.proofs.Common.{◌≡◌, ℕ, [], ◌∷◌, length, inl, inr, refl, sym, subst, arith}
-use Rattle.roman_model.specs.System.{Env, Beh, Seat, IsBeh, IsDeterministic, pairs, has_triple, has_move, is_final}
+use Rattle.roman_model.specs.System.{Env, Beh, Seat, IsBeh, IsDeterministic, has_triple, has_move, is_final}
+use Rattle.roman_model.specs.SystemArena.{pairs}
 use Rattle.roman_model.specs.Normal.{normal_env, normal_beh}
 use Rattle.roman_model.specs.Made.{env_from, beh_from}
 use Rattle.roman_model.specs.Offers.{offers}

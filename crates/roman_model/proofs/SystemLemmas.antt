@@ -4,7 +4,8 @@ use Rattle.std.specs.List.{AllZip}
 use Rattle.std.proofs.lemmas.Bool.{false≢true, and_parts, and_from, not-true, not_from_false, eqb-true, eq-eqb, cond-true, cond-false}
 use Rattle.std.proofs.lemmas.Option.{none-some, same_Some, slice_get_within}
 use Rattle.roman_model.specs.Lists.{IsIn, HasNoRepeats, below, is_empty}
-use Rattle.roman_model.specs.System.{Env, Beh, Seat, Sys, Pair, has, has_triple, has_move, IsEnv, IsBeh, IsSys, IsPair, TStep, SStep, Allows, combinations, pairs, env_next, beh_next, env_prev, beh_prev, seat_next, moved, outcomes, is_allowed, is_ready, same_numbers, same_pair}
+use Rattle.roman_model.specs.System.{Env, Beh, Seat, Sys, Pair, has, has_triple, has_move, IsEnv, IsBeh, IsSys, IsPair, TStep, SStep, Allows}
+use Rattle.roman_model.specs.SystemArena.{combinations, pairs, env_next, beh_next, env_prev, beh_prev, seat_next, outcomes_by, outcomes, is_allowed, is_ready, same_numbers, same_pair}
 use Rattle.roman_model.proofs.Lists.{by_test, in_map, from_map, in_flat_map, from_flat_map, in_filter, filter_in, any_true, in_not_empty, not_empty_in, in_below, from_below, HasNoRepeats-map, HasNoRepeats-flat_map, HasNoRepeats-below}
 
 -- Equal pairs.
@@ -193,7 +194,7 @@ seat_in (x ∷ seats) (suc k) seat e = inr (seat_in seats k seat e)
 -- Outcomes are the ends of joint steps.
 
 pub in_moved : (s : Sys) (p : Pair) (a k : ℕ) (states : List ℕ) (t' e' b' : ℕ) → IsSys s → TStep s p.t p.e a t' e' → IsIn b' states →
-    IsIn (record { t = t'; e = e'; bs = slice_set p.bs k b' }) (moved s p a k states)
+    IsIn (record { t = t'; e = e'; bs = slice_set p.bs k b' }) (outcomes_by s p a k states)
 in_moved s p a k states t' e' b' ok step i =
     in_flat_map (λ e'. flat_map (λ t'. map (λ b'. record { t = t'; e = e'; bs = slice_set p.bs k b' }) states) (beh_next s.target p.t p.e a))
     e' (record { t = t'; e = e'; bs = slice_set p.bs k b' }) (env_next s.env p.e a) (in_env_next s.env p.e a e' ok.env step.0)
@@ -201,7 +202,7 @@ in_moved s p a k states t' e' b' ok step i =
     t' (record { t = t'; e = e'; bs = slice_set p.bs k b' }) (beh_next s.target p.t p.e a) (in_beh_next s.env s.target p.t p.e a t' ok.target step.1)
     (in_map (λ b'. record { t = t'; e = e'; bs = slice_set p.bs k b' }) b' states i))
 
-pub from_moved : (s : Sys) (p : Pair) (a k : ℕ) (states : List ℕ) (q : Pair) → IsIn q (moved s p a k states) →
+pub from_moved : (s : Sys) (p : Pair) (a k : ℕ) (states : List ℕ) (q : Pair) → IsIn q (outcomes_by s p a k states) →
     TStep s p.t p.e a q.t q.e × ((b' : ℕ) × IsIn b' states × (q.bs ≡ slice_set p.bs k b'))
 from_moved s p a k states q i =
     let (e', j, l) = from_flat_map (λ e'. flat_map (λ t'. map (λ b'. record { t = t'; e = e'; bs = slice_set p.bs k b' }) states) (beh_next s.target p.t p.e a)) q (env_next s.env p.e a) i in

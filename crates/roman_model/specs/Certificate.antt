@@ -4,7 +4,8 @@ use Rattle.std.specs.List.{list_any, filter, flat_map, filter_map, find}
 use Rattle.std.specs.Option.{option_map}
 use Rattle.roman_model.specs.Lists.{IsIn, below}
 use Rattle.roman_model.specs.Lines.{lines, ended_lines, text_of_lines}
-use Rattle.roman_model.specs.System.{Sys, IsSys, pairs, same_numbers}
+use Rattle.roman_model.specs.System.{Sys, IsSys}
+use Rattle.roman_model.specs.SystemArena.{pairs, same_numbers}
 use Rattle.roman_model.specs.Arena.{Arena, Entry, is_listed, is_justified}
 use Rattle.roman_model.specs.Numbers.{sizes_of, count, pair_at, numbered, IsCompleteList}
 use Rattle.roman_model.specs.Offers.{is_related}

@@ -3,8 +3,9 @@ use Rattle.std.specs.Prelude.{◌≡◌, ◌≢◌, ℕ, zero, suc, ◌<◌, Boo
 use Rattle.std.specs.List.{list_any, filter, flat_map, remove, insert}
 use Rattle.roman_model.specs.Lists.{below}
 use Rattle.roman_model.specs.Arena.{Entry, IsOrder, replay, is_beaten, is_listed}
-use Rattle.roman_model.specs.System.{Seat, Sys, Pair, IsBeh, IsSys, IsPair, is_final, same_pair}
-use Rattle.roman_model.specs.Composition.{arena, AreEntries}
+use Rattle.roman_model.specs.System.{Seat, Sys, Pair, IsBeh, IsSys, IsPair, is_final}
+use Rattle.roman_model.specs.SystemArena.{same_pair, arena}
+use Rattle.roman_model.specs.CompleteLists.{AreEntries}
 use Rattle.roman_model.specs.declared.limits.TheConstants.{MAX_SERVICES}
 
 -- a join carries the new seat, a death the number and the seat that goes

@@ -2,7 +2,8 @@
 use Rattle.std.specs.Prelude.{ℕ, ◌<◌, ◌≤◌, ◌==◌, Bool, true, false, not, ◌&&◌, ◌↔◌, List, [], ◌∷◌, map, length, Option, None, Some, slice_get, slice_index, slice_set}
 use Rattle.std.specs.List.{list_any, filter, flat_map}
 use Rattle.roman_model.specs.Lists.{IsIn, below, is_empty, product_of}
-use Rattle.roman_model.specs.System.{Env, Beh, Seat, Sys, Pair, has_triple, has_move, beh_next, is_final, IsEnv, IsBeh, IsDeterministic, IsSys, IsPair, same_numbers}
+use Rattle.roman_model.specs.System.{Env, Beh, Seat, Sys, Pair, has_triple, has_move, is_final, IsEnv, IsBeh, IsDeterministic, IsSys, IsPair}
+use Rattle.roman_model.specs.SystemArena.{beh_next, same_numbers}
 use Rattle.roman_model.specs.Numbers.{states_number, states_at}
 use Rattle.roman_model.specs.Composition.{Great}
 use Rattle.roman_model.specs.Made.{env_from, beh_from}

@@ -1,8 +1,7 @@
--- ND-simulations, the greatest one, and what a complete removal list is.
-use Rattle.std.specs.Prelude.{◌≡◌, ℕ, List, length, IsTrue, ◌↔◌, slice_get}
+-- ND-simulations, and the greatest one.
+use Rattle.std.specs.Prelude.{◌≡◌, ℕ, List, IsTrue}
 use Rattle.roman_model.specs.Lists.{IsIn}
-use Rattle.roman_model.specs.System.{Sys, Pair, IsPair, TStep, SStep, Allows, is_final, all_final, pairs, outcomes, is_allowed, is_fine, is_ready, same_pair}
-use Rattle.roman_model.specs.Arena.{Arena, Entry, is_listed, IsOrder}
+use Rattle.roman_model.specs.System.{Sys, Pair, TStep, Allows, SStep, is_final, all_final}
 
 -- a target part (t, e) and a system part (bs, e2)
 pub record Couple : Type 0 where
@@ -40,26 +39,3 @@ GreatCouple s c = (R : List Couple) × IsNdSim s R × IsIn c R
 -- the pair is related: the greatest ND-simulation holds it
 abbrev pub Great : Sys → Pair → Type 0
 Great s p = GreatCouple s (couple p)
-
--- the system as an arena over its pairs
-abbrev pub arena : Sys → Arena Pair
-arena s = record {
-  same = same_pair;
-  nodes = pairs s;
-  actions = s.env.actions;
-  seats = length s.seats;
-  fine = is_fine s;
-  allows = is_allowed s;
-  ready = λ k. is_ready (slice_get s.seats k);
-  outcomes = outcomes s;
-}
-
--- the entries are of pairs of the system
-abbrev pub AreEntries : Sys → List (Entry Pair) → Type 0
-AreEntries s L = (x : Entry Pair) → IsIn x L → IsPair s x.node
-
--- a removal list that holds exactly the pairs that aren't related
-pub record IsComplete (s : Sys) (L : List (Entry Pair)) : Type 0 where
-  pub pairs : AreEntries s L
-  pub order : IsOrder (arena s) L
-  pub exact : (p : Pair) → IsPair s p → IsTrue (is_listed (arena s) L p) ↔ (Great s p → ⊥)

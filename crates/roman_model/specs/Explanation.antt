@@ -6,7 +6,7 @@ use Rattle.roman_model.specs.Lists.{IsIn, below}
 use Rattle.roman_model.specs.Lines.{text_of_lines}
 use Rattle.roman_model.specs.System.{Sys, Pair, IsSys}
 use Rattle.roman_model.specs.Arena.{Arena, Entry, is_among, is_listed, IsOrder}
-use Rattle.roman_model.specs.Composition.{arena}
+use Rattle.roman_model.specs.SystemArena.{arena}
 use Rattle.roman_model.specs.declared.reason.Reason.{Reason}
 use Rattle.roman_model.specs.declared.reason.Reason.TheVariants.{Final, Act}
 

@@ -1,9 +1,11 @@
 -- The laws over the definitions alone.
 use Rattle.std.specs.Prelude.{◌≢◌, ℕ, ◌<◌, ◌≤◌, List, [], length, IsTrue, IsFalse, ◌↔◌}
 use Rattle.roman_model.specs.Lists.{IsIn, IsSublist}
-use Rattle.roman_model.specs.System.{Sys, Pair, IsSys, IsPair, pairs, is_allowed, is_fine}
+use Rattle.roman_model.specs.System.{Sys, Pair, IsSys, IsPair}
+use Rattle.roman_model.specs.SystemArena.{pairs, is_allowed, is_fine, arena}
 use Rattle.roman_model.specs.Arena.{Entry, is_listed, mask, IsOrder, AreNew, replay, loses}
-use Rattle.roman_model.specs.Composition.{Couple, couple, Meets, IsNdSim, GreatCouple, Great, arena, AreEntries, IsComplete}
+use Rattle.roman_model.specs.Composition.{Couple, couple, Meets, IsNdSim, GreatCouple, Great}
+use Rattle.roman_model.specs.CompleteLists.{AreEntries, IsComplete}
 use Rattle.roman_model.specs.Numbers.{sizes_of, count, numbered, IsCompleteList, NumbersArePairs}
 
 -- the related pairs, as couples, meet the three clauses; and a finite relation holds them and no other pairs

@@ -2,8 +2,10 @@ pub mod Lists
 pub mod Lines
 pub mod Arena
 pub mod System
+pub mod SystemArena
 pub mod Normal
 pub mod Composition
+pub mod CompleteLists
 pub mod Numbers
 pub mod Change
 pub mod Offers

@@ -2,7 +2,8 @@
 use Rattle.std.specs.Prelude.{ℕ, List, [], ◌∷◌, map}
 use Rattle.std.specs.List.{filter, flat_map}
 use Rattle.roman_model.specs.Lists.{below}
-use Rattle.roman_model.specs.System.{Env, Beh, Move, has_move, env_next, is_final}
+use Rattle.roman_model.specs.System.{Env, Beh, Move, has_move, is_final}
+use Rattle.roman_model.specs.SystemArena.{env_next}
 
 -- the environment with the same triples, rising
 abbrev pub normal_env : Env → Env

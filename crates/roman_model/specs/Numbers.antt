@@ -3,8 +3,9 @@ use Rattle.std.specs.Prelude.{◌≡◌, ℕ, ◌<◌, ◌==◌, ◌+◌, ◌*�
 use Rattle.std.specs.List.{AllZip, remove}
 use Rattle.roman_model.specs.Lists.{below, product_of}
 use Rattle.roman_model.specs.Arena.{Arena, Entry}
-use Rattle.roman_model.specs.System.{Sys, Pair, IsPair, outcomes, is_allowed, is_fine, is_ready}
-use Rattle.roman_model.specs.Composition.{IsComplete}
+use Rattle.roman_model.specs.System.{Sys, Pair, IsPair}
+use Rattle.roman_model.specs.SystemArena.{outcomes, is_allowed, is_fine, is_ready}
+use Rattle.roman_model.specs.CompleteLists.{IsComplete}
 
 -- how many states the target, the environment and each seat have
 pub record Sizes : Type 0 where

@@ -3,8 +3,10 @@ use Rattle.std.specs.Prelude.{◌≡◌, ◌≢◌, ℕ, ◌<◌, Bool, not, ◌
 use Rattle.std.specs.List.{filter}
 use Rattle.roman_model.specs.Lists.{IsIn}
 use Rattle.roman_model.specs.Arena.{Entry, is_listed, mask, loses, choices}
-use Rattle.roman_model.specs.System.{Sys, Pair, IsSys, IsPair, pairs, outcomes, is_allowed, is_fine}
-use Rattle.roman_model.specs.Composition.{couple, Serves, GreatCouple, Great, arena, IsComplete}
+use Rattle.roman_model.specs.System.{Sys, Pair, IsSys, IsPair}
+use Rattle.roman_model.specs.SystemArena.{pairs, outcomes, is_allowed, is_fine, arena}
+use Rattle.roman_model.specs.Composition.{couple, Serves, GreatCouple, Great}
+use Rattle.roman_model.specs.CompleteLists.{IsComplete}
 
 -- the pair isn't lost within as many requests as there are pairs: a test of whether it is related
 abbrev pub is_related : Sys → Pair → Bool

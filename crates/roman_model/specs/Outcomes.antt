@@ -1,7 +1,8 @@
 -- The tests and lists of a system, said by its steps alone.
 use Rattle.std.specs.Prelude.{◌≡◌, ℕ, Some, IsTrue, ◌↔◌, slice_get, slice_index}
 use Rattle.roman_model.specs.Lists.{IsIn}
-use Rattle.roman_model.specs.System.{Env, Move, Beh, Seat, Sys, Pair, IsSys, IsPair, has_triple, has_move, TStep, SStep, Allows, is_final, all_final, outcomes, is_allowed, is_fine}
+use Rattle.roman_model.specs.System.{Env, Move, Beh, Seat, Sys, Pair, IsSys, IsPair, has_triple, has_move, TStep, SStep, Allows, is_final, all_final}
+use Rattle.roman_model.specs.SystemArena.{outcomes, is_allowed, is_fine}
 
 -- one of the behaviour's steps goes from b by a to b', and has e in its guard
 pub record HasStep (beh : Beh) (b e a b' : ℕ) : Type 0 where

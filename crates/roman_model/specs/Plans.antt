@@ -2,7 +2,8 @@
 use Rattle.std.specs.Prelude.{◌≡◌, ℕ, zero, suc, ◌≤◌, ◌<◌, ◌+◌, ◌⊎◌, max, List, [], ◌∷◌, nat_le, if◌then◌else◌, IsTrue}
 use Rattle.std.specs.List.{filter}
 use Rattle.roman_model.specs.Lists.{IsIn, below}
-use Rattle.roman_model.specs.System.{Sys, Pair, IsSys, IsPair, outcomes, is_allowed}
+use Rattle.roman_model.specs.System.{Sys, Pair, IsSys, IsPair}
+use Rattle.roman_model.specs.SystemArena.{outcomes, is_allowed}
 use Rattle.roman_model.specs.Composition.{Great}
 use Rattle.roman_model.specs.Numbers.{sizes_of, pair_at}
 use Rattle.roman_model.specs.Offers.{offers}

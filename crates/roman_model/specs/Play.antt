@@ -6,8 +6,9 @@ use Rattle.roman_model.specs.Lists.{IsIn, below, is_empty}
 use Rattle.roman_model.specs.Arena.{Entry, is_listed, is_justified, IsOrder, loses, depth}
 use Rattle.roman_model.specs.declared.reason.Reason.{Reason}
 use Rattle.roman_model.specs.declared.reason.Reason.TheVariants.{Final, Act}
-use Rattle.roman_model.specs.System.{Sys, Seat, Pair, IsSys, IsPair, outcomes, is_allowed, is_fine}
-use Rattle.roman_model.specs.Composition.{Great, arena}
+use Rattle.roman_model.specs.System.{Sys, Seat, Pair, IsSys, IsPair}
+use Rattle.roman_model.specs.SystemArena.{outcomes, is_allowed, is_fine, arena}
+use Rattle.roman_model.specs.Composition.{Great}
 
 -- the entries before that of p
 abbrev pub earlier : Sys → List (Entry Pair) → Pair → List (Entry Pair)

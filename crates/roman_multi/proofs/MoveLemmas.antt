@@ -3,7 +3,8 @@ use Rattle.std.proofs.Common.{◌≡◌, ℕ, ◌<◌, ◌≤◌, ◌^◌, ◌==
 use Rattle.std.proofs.lemmas.Bool.{eq-eqb, eqb-true}
 use Rattle.roman_guard.specs.Meaning.{states_of}
 use Rattle.roman_model.specs.Lists.{IsIn, below}
-use Rattle.roman_model.specs.System.{Move, Beh, Env, has, has_move, beh_next, is_final, IsBeh}
+use Rattle.roman_model.specs.System.{Move, Beh, Env, has, has_move, is_final, IsBeh}
+use Rattle.roman_model.specs.SystemArena.{beh_next}
 use Rattle.roman_model.specs.Normal.{normal_beh}
 use Rattle.roman_model.specs.Made.{beh_from}
 use Rattle.roman_model.specs.Combined.{has_move_on, combined_beh, stands_in, uses, requests_of}

@@ -3,7 +3,8 @@ use Rattle.std.proofs.Common.{◌≡◌, ℕ, zero, suc, ◌^◌, ◌&&◌, ◌+
 use Rattle.std.proofs.lemmas.Option.{none-some, same_Some}
 use Rattle.std.proofs.lemmas.List.{append-nil}
 use Rattle.roman_model.specs.Lists.{IsIn, below, product_of}
-use Rattle.roman_model.specs.System.{Beh, has, has_move, is_final, beh_next}
+use Rattle.roman_model.specs.System.{Beh, has, has_move, is_final}
+use Rattle.roman_model.specs.SystemArena.{beh_next}
 use Rattle.roman_model.specs.Normal.{normal_beh}
 use Rattle.roman_model.specs.Numbers.{states_number, states_at}
 use Rattle.roman_model.specs.Several.{Several, are_final}

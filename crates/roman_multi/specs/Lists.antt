@@ -3,7 +3,8 @@ use Rattle.std.specs.Prelude.{◌≡◌, ℕ, ◌^◌, ◌&&◌, Bool, not, List
 use Rattle.std.specs.List.{filter, flat_map, list_all}
 use Rattle.roman_model.specs.Lists.{below, is_empty}
 use Rattle.roman_model.specs.Numbers.{Sizes, states_number}
-use Rattle.roman_model.specs.System.{Env, Beh, env_next, beh_next}
+use Rattle.roman_model.specs.System.{Env, Beh}
+use Rattle.roman_model.specs.SystemArena.{env_next, beh_next}
 use Rattle.roman_model.specs.Combined.{uses, target_sizes}
 use Rattle.roman_model.specs.declared.request.Request.{Request}
 use Rattle.roman_read.specs.Names.{is_name_byte}

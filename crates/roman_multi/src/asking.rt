@@ -2,7 +2,7 @@
 ghost use Rattle.std.specs.Prelude.{◌≡◌, ◌<◌, ◌≤◌, ◌++◌, length, map, All, IfOk, not};
 ghost use Rattle.std.specs.List.{list_any};
 ghost use Rattle.roman_model.specs.Lists.{below, is_empty};
-ghost use Rattle.roman_model.specs.System.{beh_next};
+ghost use Rattle.roman_model.specs.SystemArena.{beh_next};
 ghost use Rattle.roman_model.specs.Combined.{uses};
 ghost use Rattle.roman_multi.specs.Combining.{IsKnown, machines, requests_in};
 ghost use Rattle.roman_multi.specs.Lists.{used_by, used_requests};

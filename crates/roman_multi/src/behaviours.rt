@@ -2,7 +2,8 @@
 ghost use Rattle.std.specs.Prelude.{◌≡◌, ◌<◌, ◌≤◌, ◌++◌, length, map, slice_get, All, IfOk};
 ghost use Rattle.std.specs.List.{filter};
 ghost use Rattle.roman_model.specs.Lists.{below};
-ghost use Rattle.roman_model.specs.System.{beh_next, is_final};
+ghost use Rattle.roman_model.specs.SystemArena.{beh_next};
+ghost use Rattle.roman_model.specs.System.{is_final};
 ghost use Rattle.roman_model.specs.declared.limits.TheConstants.{MAX_ACTIONS, MAX_STATES};
 ghost use Rattle.roman_multi.specs.Combining.{IsBehaviourOf, combined_behaviour};
 ghost use Rattle.roman_multi.specs.Lists.{listed_moves, moves_by, moves_from, moves_in, moves_on};

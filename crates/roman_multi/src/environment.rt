@@ -1,6 +1,6 @@
 //! The environment over the combined actions.
 ghost use Rattle.std.specs.Prelude.{◌≡◌, ◌<◌, ◌≤◌, ◌++◌, length, map, All, IfOk};
-ghost use Rattle.roman_model.specs.System.{env_next};
+ghost use Rattle.roman_model.specs.SystemArena.{env_next};
 ghost use Rattle.roman_model.specs.Combined.{combined_env};
 ghost use Rattle.roman_model.specs.declared.limits.TheConstants.{MAX_ACTIONS};
 ghost use Rattle.roman_multi.specs.Lists.{listed_triples, triples_by};

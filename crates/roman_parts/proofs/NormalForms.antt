@@ -2,7 +2,8 @@
 use Rattle.std.proofs.Common.{◌≡◌, ◌≢◌, ℕ, inl, inr, List, [], ◌∷◌, map, refl, sym, ◌∙◌, subst, arith}
 use Rattle.std.specs.List.{flat_map}
 use Rattle.roman_model.specs.Lists.{IsIn, below}
-use Rattle.roman_model.specs.System.{Triple, Env, Move, Beh, has_triple, has_move, env_next, is_final}
+use Rattle.roman_model.specs.System.{Triple, Env, Move, Beh, has_triple, has_move, is_final}
+use Rattle.roman_model.specs.SystemArena.{env_next}
 use Rattle.roman_model.specs.Normal.{normal_env, normal_beh, guard_of, guarded_step}
 use Rattle.roman_model.specs.Outcomes.{HasStep}
 use Rattle.roman_model.proofs.Lists.{from_flat_map, from_map}

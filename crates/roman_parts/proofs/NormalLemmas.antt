@@ -2,7 +2,8 @@
 use Rattle.std.proofs.Common.{◌≡◌, ℕ, ◌<◌, ◌≤◌, ◌==◌, ◌&&◌, IsTrue, List, [], ◌∷◌, refl, sym, ap, ap₂, ◌∙◌, subst, inl, inr, MatchOption, slice_get}
 use Rattle.std.proofs.lemmas.Bool.{eq-eqb, eqb-true, and_parts, and_from}
 use Rattle.roman_model.specs.Lists.{IsIn, HasNoRepeats, below}
-use Rattle.roman_model.specs.System.{Triple, Env, Move, Beh, has, has_triple, has_move, IsEnv, IsBeh, IsDeterministic, env_next, env_prev, beh_next, beh_prev, is_final}
+use Rattle.roman_model.specs.System.{Triple, Env, Move, Beh, has, has_triple, has_move, IsEnv, IsBeh, IsDeterministic, is_final}
+use Rattle.roman_model.specs.SystemArena.{env_next, env_prev, beh_next, beh_prev}
 use Rattle.roman_model.specs.declared.limits.TheConstants.{MAX_STATES, MAX_ACTIONS}
 use Rattle.roman_model.specs.Normal.{normal_env, normal_beh, guard_of, guarded_step}
 use Rattle.roman_parts.specs.Named.{IsOver}

@@ -6,7 +6,8 @@ use Rattle.std.proofs.lemmas.List.Elements.{filter-append, All-filter, All-conta
 use Rattle.std.proofs.lemmas.Option.{slice_get-get_or, get_or_from_slice_get, same_Some}
 use Rattle.std.proofs.lemmas.Nat.{mul-add-lt}
 use Rattle.roman_model.specs.Lists.{IsIn, below}
-use Rattle.roman_model.specs.System.{Env, Beh, has_triple, has_move, env_next, env_prev, beh_next, beh_prev, has}
+use Rattle.roman_model.specs.System.{Env, Beh, has_triple, has_move, has}
+use Rattle.roman_model.specs.SystemArena.{env_next, env_prev, beh_next, beh_prev}
 use Rattle.roman_model.specs.Normal.{normal_env, normal_beh, guarded_step}
 use Rattle.roman_model.specs.declared.limits.TheConstants.{MAX_STATES, MAX_ACTIONS}
 use Rattle.roman_model.proofs.Lists.{same_test, any_true, any_from, any_same, in_contains, in_below, from_below, in_filter, filter_in, filter_same, list_any-map, length-below, get_or-below}

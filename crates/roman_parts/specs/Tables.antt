@@ -2,7 +2,8 @@
 use Rattle.std.specs.Prelude.{◌≡◌, ℕ, ◌+◌, ◌*◌, ◌<◌, ◌≤◌, List, [], map, length, Some, slice_get, slice_index_or}
 use Rattle.std.specs.List.{filter, flat_map}
 use Rattle.roman_model.specs.Lists.{below}
-use Rattle.roman_model.specs.System.{Triple, Env, Move, Beh, has, IsEnv, IsDeterministic, env_next, env_prev, beh_next, beh_prev, is_final}
+use Rattle.roman_model.specs.System.{Triple, Env, Move, Beh, has, IsEnv, IsDeterministic, is_final}
+use Rattle.roman_model.specs.SystemArena.{env_next, env_prev, beh_next, beh_prev}
 use Rattle.roman_model.specs.Normal.{guarded_step}
 use Rattle.roman_model.specs.declared.limits.TheConstants.{MAX_STATES, MAX_ACTIONS}
 use Rattle.roman_guard.specs.Meaning.{has_state}

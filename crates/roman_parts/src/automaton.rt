@@ -1,7 +1,8 @@
 //! What behaviours and targets have in common.
 ghost use Rattle.std.specs.Prelude.{◌≡◌, ℕ, ◌<◌, ◌≤◌, length, All, IfOk};
 ghost use Rattle.roman_guard.specs.Meaning.{has_state};
-ghost use Rattle.roman_model.specs.System.{has, beh_next, beh_prev, is_final};
+ghost use Rattle.roman_model.specs.System.{has, is_final};
+ghost use Rattle.roman_model.specs.SystemArena.{beh_next, beh_prev};
 ghost use Rattle.roman_model.specs.Normal.{normal_beh};
 ghost use Rattle.roman_parts.specs.Listed.{listed_beh, AreMoves};
 

@@ -1,6 +1,7 @@
 //! Behaviours.
 ghost use Rattle.std.specs.Prelude.{◌≡◌, ℕ, ◌<◌, ◌≤◌, length, All, IfOk};
-ghost use Rattle.roman_model.specs.System.{beh_next, beh_prev, is_final};
+ghost use Rattle.roman_model.specs.SystemArena.{beh_next, beh_prev};
+ghost use Rattle.roman_model.specs.System.{is_final};
 ghost use Rattle.roman_model.specs.Normal.{normal_beh};
 ghost use Rattle.roman_parts.specs.Listed.{listed_beh, AreMoves};
 ghost use Rattle.roman_parts.specs.Named.{IsOver};

@@ -1,6 +1,7 @@
 //! Environments.
 ghost use Rattle.std.specs.Prelude.{◌≡◌, ℕ, ◌<◌, ◌≤◌, length, All, IfOk};
-ghost use Rattle.roman_model.specs.System.{IsEnv, env_next, env_prev};
+ghost use Rattle.roman_model.specs.System.{IsEnv};
+ghost use Rattle.roman_model.specs.SystemArena.{env_next, env_prev};
 ghost use Rattle.roman_model.specs.Normal.{normal_env};
 ghost use Rattle.roman_parts.specs.Listed.{listed_env, AreTriples};
 

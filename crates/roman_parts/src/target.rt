@@ -1,7 +1,8 @@
 //! Targets.
 ghost use Rattle.std.specs.Prelude.{◌≡◌, ℕ, ◌<◌, ◌≤◌, ◌&&◌, ◌∷◌, [], not, length, All, IfOk, IfSome, MatchOption};
 ghost use Rattle.roman_model.specs.Lists.{is_empty};
-ghost use Rattle.roman_model.specs.System.{IsDeterministic, env_next, beh_next, beh_prev, is_final};
+ghost use Rattle.roman_model.specs.System.{IsDeterministic, is_final};
+ghost use Rattle.roman_model.specs.SystemArena.{env_next, beh_next, beh_prev};
 ghost use Rattle.roman_model.specs.Normal.{normal_beh};
 ghost use Rattle.roman_parts.specs.Listed.{listed_beh, AreMoves};
 ghost use Rattle.roman_parts.specs.Named.{IsOver};

@@ -8,9 +8,10 @@ use Rattle.std.proofs.lemmas.List.Sums.{length-filter}
 use Rattle.std.proofs.lemmas.Option.{none-some}
 use Rattle.roman_io.specs.Sink.{Puts}
 use Rattle.roman_model.specs.Lists.{below, all_below}
-use Rattle.roman_model.specs.System.{Sys, Pair, IsSys, IsPair, pairs}
+use Rattle.roman_model.specs.System.{Sys, Pair, IsSys, IsPair}
+use Rattle.roman_model.specs.SystemArena.{pairs, arena}
 use Rattle.roman_model.specs.Arena.{loses}
-use Rattle.roman_model.specs.Composition.{Great, arena}
+use Rattle.roman_model.specs.Composition.{Great}
 use Rattle.roman_model.specs.Numbers.{sizes_of, count, number, pair_at, numbered}
 use Rattle.roman_model.specs.Offers.{is_related, related_count}
 use Rattle.roman_model.proofs.Lists.{by_test, same_test, in_filter, filter_in, all_below_at, all_below_from, HasNoRepeats-filter}

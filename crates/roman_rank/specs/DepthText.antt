@@ -3,7 +3,8 @@ use Rattle.std.specs.Prelude.{◌≡◌, ◌↔◌, ℕ, suc, List, [], ◌∷�
 use Rattle.std.specs.List.{flat_map}
 use Rattle.roman_io.specs.Sink.{Puts}
 use Rattle.roman_model.specs.Lists.{IsIn, HasNoRepeats, below}
-use Rattle.roman_model.specs.System.{Sys, Pair, IsPair, pairs}
+use Rattle.roman_model.specs.System.{Sys, Pair, IsPair}
+use Rattle.roman_model.specs.SystemArena.{pairs}
 use Rattle.roman_model.specs.Composition.{Great}
 use Rattle.roman_rank.specs.Depths.{IsDepth, IsDeepest, IsShortest, depth_count}
 

@@ -1,9 +1,10 @@
 -- Depths: within how many requests the opponent wins.
 use Rattle.std.specs.Prelude.{◌≢◌, ◌⊎◌, ℕ, zero, suc, ◌<◌, Bool, not, ◌&&◌, [], Option, None, Some, length, IsTrue, IsFalse, count_by}
 use Rattle.roman_model.specs.Lists.{IsIn, all_below}
-use Rattle.roman_model.specs.System.{Sys, Pair, IsPair, pairs, outcomes, is_allowed, is_fine}
+use Rattle.roman_model.specs.System.{Sys, Pair, IsPair}
+use Rattle.roman_model.specs.SystemArena.{pairs, outcomes, is_allowed, is_fine, arena}
 use Rattle.roman_model.specs.Arena.{loses}
-use Rattle.roman_model.specs.Composition.{Great, arena}
+use Rattle.roman_model.specs.Composition.{Great}
 use Rattle.roman_model.specs.Play.{DepthPlayWins}
 
 -- n is the least number of requests within which the opponent wins at the pair

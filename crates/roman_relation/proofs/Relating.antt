@@ -3,7 +3,8 @@ use Rattle.std.proofs.Common.{◌≡◌, ◌≢◌, ℕ, ◌+◌, ◌/◌, ◌<�
 use Rattle.std.proofs.Math.Bool.{not-not}
 use Rattle.std.proofs.Math.Nat.{le-div_iff_mul-le}
 use Rattle.roman_model.specs.Lists.{below}
-use Rattle.roman_model.specs.System.{Sys, pairs}
+use Rattle.roman_model.specs.System.{Sys}
+use Rattle.roman_model.specs.SystemArena.{pairs}
 use Rattle.roman_model.specs.Arena.{Arena, Entry, is_listed, choices}
 use Rattle.roman_model.specs.Composition.{Great}
 use Rattle.roman_model.specs.Numbers.{sizes_of, count, pair_at, numbered}

@@ -1,7 +1,8 @@
 //! The greatest relation of a joint.
 ghost use Rattle.std.specs.Prelude.{◌≡◌, ◌+◌, ◌<◌, ◌≤◌, ◌↔◌, not, []};
 ghost use Rattle.std.specs.Prelude.{length, drop, filter, IsTrue, IfOk};
-ghost use Rattle.roman_model.specs.System.{has, pairs};
+ghost use Rattle.roman_model.specs.System.{has};
+ghost use Rattle.roman_model.specs.SystemArena.{pairs};
 ghost use Rattle.roman_model.specs.Arena.{is_listed, mask, IsOrder, fall};
 ghost use Rattle.roman_model.specs.Composition.{Great};
 ghost use Rattle.roman_model.specs.Numbers.{sizes_of, count, pair_at};

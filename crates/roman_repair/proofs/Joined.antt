@@ -3,7 +3,8 @@ use Rattle.std.proofs.Common.{◌≡◌, ℕ, ◌+◌, ◌*◌, ◌<◌, List, [
 use Rattle.std.proofs.lemmas.Nat.{same_from_place}
 use Rattle.std.proofs.lemmas.List.{length_push}
 use Rattle.roman_model.specs.Lists.{IsIn, HasNoRepeats, below}
-use Rattle.roman_model.specs.System.{Sys, Seat, IsSys, is_allowed}
+use Rattle.roman_model.specs.System.{Sys, Seat, IsSys}
+use Rattle.roman_model.specs.SystemArena.{is_allowed}
 use Rattle.roman_model.specs.Arena.{Entry}
 use Rattle.roman_model.specs.Change.{Join, after, CanChange}
 use Rattle.roman_model.specs.Numbers.{sizes_of, count, pair_at, numbered}

@@ -3,7 +3,7 @@ use Rattle.std.proofs.Common.{◌≡◌, ℕ, ◌+◌, ◌*◌, ◌/◌, ◌<◌
 use Rattle.std.proofs.lemmas.List.{take-map, length-map}
 use Rattle.roman_model.specs.System.{Sys, IsSys}
 use Rattle.roman_model.specs.Arena.{Entry, IsOrder, replay}
-use Rattle.roman_model.specs.Composition.{arena}
+use Rattle.roman_model.specs.SystemArena.{arena}
 use Rattle.roman_model.specs.Change.{Change, after, CanChange}
 use Rattle.roman_model.specs.Numbers.{sizes_of, pair_at, numbered, entry_at, IsCompleteList}
 use Rattle.roman_model.proofs.Renames.{order_named}

@@ -1,7 +1,8 @@
 -- Changes after which the whole renamed list is kept: a service freezes, or dies.
 use Rattle.std.proofs.Common.{◌≡◌, ℕ, zero, suc, ◌<◌, Bool, List, [], ◌∷◌, length, IsTrue, slice_get, sym, ap, ◌∙◌, subst, arith}
 use Rattle.std.proofs.lemmas.Bool.{false≢true}
-use Rattle.roman_model.specs.System.{Sys, Seat, is_ready}
+use Rattle.roman_model.specs.System.{Sys, Seat}
+use Rattle.roman_model.specs.SystemArena.{is_ready}
 use Rattle.roman_model.specs.Arena.{Entry, IsOrder}
 use Rattle.roman_model.specs.Change.{Change, after, KeepsAll}
 use Rattle.roman_model.specs.Numbers.{Sizes, sizes_of, numbered}

@@ -2,7 +2,7 @@
 use Rattle.std.specs.Prelude.{◌≡◌, ℕ, ◌+◌, ◌≤◌, List, [], map, length, take, drop}
 use Rattle.roman_model.specs.System.{Sys, Pair}
 use Rattle.roman_model.specs.Arena.{Entry, IsOrder, replay, fall, readings}
-use Rattle.roman_model.specs.Composition.{arena}
+use Rattle.roman_model.specs.SystemArena.{arena}
 use Rattle.roman_model.specs.Change.{Change, rename, after}
 use Rattle.roman_model.specs.Numbers.{numbered, entry_at}
 use Rattle.roman_joint.specs.NamedSys.{NamedSys, system_of}

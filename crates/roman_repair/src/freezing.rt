@@ -1,6 +1,6 @@
 //! A service freezes.
 ghost use Rattle.std.specs.Prelude.{◌≡◌, ◌+◌, ◌≤◌, length, slice_get, IsTrue, true};
-ghost use Rattle.roman_model.specs.System.{is_ready};
+ghost use Rattle.roman_model.specs.SystemArena.{is_ready};
 ghost use Rattle.roman_model.specs.Change.{Freeze};
 ghost use Rattle.roman_joint.specs.NamedSys.{system_of};
 ghost use Rattle.roman_joint.specs.Changes.{with_frozen};

@@ -3,9 +3,10 @@ use Rattle.std.proofs.Common.{◌≡◌, ℕ, ◌<◌, ◌≤◌, ◌+◌, Bool,
 use Rattle.std.proofs.lemmas.List.{length-map, length-take}
 use Rattle.std.proofs.lemmas.Option.{get_or_from_slice_get}
 use Rattle.std.specs.List.{remove}
-use Rattle.roman_model.specs.System.{Sys, Seat, Pair, IsPair, is_ready}
+use Rattle.roman_model.specs.System.{Sys, Seat, Pair, IsPair}
+use Rattle.roman_model.specs.SystemArena.{is_ready, arena}
 use Rattle.roman_model.specs.Arena.{Entry, replay}
-use Rattle.roman_model.specs.Composition.{arena, IsComplete}
+use Rattle.roman_model.specs.CompleteLists.{IsComplete}
 use Rattle.roman_model.specs.Change.{CanChange, Freeze, Thaw, Join, Die, rename}
 use Rattle.roman_model.specs.Numbers.{Sizes, sizes_of, number, entry_at}
 use Rattle.roman_model.specs.declared.limits.TheConstants.{MAX_BEHAVIOURS, MAX_SERVICES}

@@ -5,9 +5,10 @@ use Rattle.std.proofs.lemmas.Bool.{both_ways, and_parts, and_from}
 use Rattle.std.proofs.lemmas.List.{length-map}
 use Rattle.std.proofs.lemmas.Option.{get_or_from_slice_get}
 use Rattle.roman_model.specs.Lists.{IsIn}
-use Rattle.roman_model.specs.System.{Sys, Pair, TStep, SStep, is_allowed, outcomes, same_numbers}
+use Rattle.roman_model.specs.System.{Sys, Pair, TStep, SStep}
+use Rattle.roman_model.specs.SystemArena.{is_allowed, outcomes, same_numbers, arena}
 use Rattle.roman_model.specs.Arena.{Entry, replay}
-use Rattle.roman_model.specs.Composition.{arena, IsComplete}
+use Rattle.roman_model.specs.CompleteLists.{IsComplete}
 use Rattle.roman_model.specs.Change.{CanChange, rename, after}
 use Rattle.roman_model.specs.Explanation.{name_at, explain_text}
 use Rattle.roman_model.specs.declared.limits.TheConstants.{MAX_SERVICES}

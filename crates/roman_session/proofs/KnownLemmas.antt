@@ -2,7 +2,7 @@
 use Rattle.std.proofs.Common.{◌≡◌, ℕ, ◌<◌, Bool, true, false, List, [], ◌∷◌, ◌++◌, length, IfSome, Result, Ok, Err, inl, inr, slice_get, slice_set, nat_lt, nat_le, refl, sym, subst, arith, ltb-true, leb-true, append-nil}
 use Rattle.std.proofs.lemmas.Option.{get_or_from_slice_get}
 use Rattle.roman_model.specs.System.{Sys, IsPair}
-use Rattle.roman_model.specs.Composition.{IsComplete}
+use Rattle.roman_model.specs.CompleteLists.{IsComplete}
 use Rattle.roman_model.specs.Offers.{offers}
 use Rattle.roman_model.specs.declared.limits.TheConstants.{MAX_SERVICES}
 use Rattle.roman_model.proofs.ChangeLemmas.{IsPair-turned, IsPair-grown, IsPair-without}

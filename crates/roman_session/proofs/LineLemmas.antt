@@ -6,7 +6,8 @@ use Rattle.std.proofs.lemmas.Bool.{cond-true, cond-false}
 use Rattle.std.proofs.lemmas.List.{append-nil, drop_all, length-map}
 use Rattle.std.proofs.lemmas.Option.{slice_get_within, get_or_from_slice_get}
 use Rattle.roman_model.specs.Lists.{below}
-use Rattle.roman_model.specs.System.{Pair, IsPair, has, is_allowed}
+use Rattle.roman_model.specs.System.{Pair, IsPair, has}
+use Rattle.roman_model.specs.SystemArena.{is_allowed}
 use Rattle.roman_model.specs.Explanation.{name_at}
 use Rattle.roman_model.specs.Offers.{is_related, offers}
 use Rattle.roman_text.specs.Report.{line_text}

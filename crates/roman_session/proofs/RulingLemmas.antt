@@ -2,7 +2,8 @@
 use Rattle.std.proofs.Common.{◌≡◌, ℕ, ◌<◌, ◌≤◌, Bool, true, false, not, leb, inl, inr, List, map, length, Result, Ok, Err, IsTrue, IsFalse, refl, ap, ap₂, subst, ◌∙◌, arith}
 use Rattle.std.proofs.lemmas.Bool.{not-true, lt-ltb, le-leb}
 use Rattle.std.proofs.lemmas.Bool.Decides.{leb_tells}
-use Rattle.roman_model.specs.System.{has, is_allowed}
+use Rattle.roman_model.specs.System.{has}
+use Rattle.roman_model.specs.SystemArena.{is_allowed}
 use Rattle.roman_model.specs.Offers.{is_related, offers}
 use Rattle.roman_model.specs.Change.{Join, after}
 use Rattle.roman_model.specs.declared.limits.TheConstants.{MAX_SERVICES}

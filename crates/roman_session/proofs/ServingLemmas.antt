@@ -6,9 +6,9 @@ use Rattle.std.proofs.Math.Seq.{drop-cons}
 use Rattle.std.proofs.lemmas.List.{drop_all}
 use Rattle.std.proofs.lemmas.Bool.{cond-true, cond-false}
 use Rattle.roman_model.specs.Lists.{IsIn, below}
-use Rattle.roman_model.specs.System.{Sys, Pair, has, is_allowed}
+use Rattle.roman_model.specs.System.{Sys, Pair, has}
+use Rattle.roman_model.specs.SystemArena.{is_allowed, arena}
 use Rattle.roman_model.specs.Arena.{is_beaten, mask}
-use Rattle.roman_model.specs.Composition.{arena}
 use Rattle.roman_model.specs.Offers.{is_related, offers}
 use Rattle.roman_model.proofs.Lists.{get_or-below, length-below, from_below, filter_same}
 use Rattle.roman_model.proofs.ArenaLemmas.{mask_has}

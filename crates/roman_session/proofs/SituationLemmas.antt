@@ -4,7 +4,8 @@ use Rattle.std.specs.Option.{option_map}
 use Rattle.std.proofs.lemmas.Option.{slice_get-map, get_or_from_slice_get}
 use Rattle.std.proofs.lemmas.List.{length-map, get_or-set_same}
 use Rattle.std.proofs.lemmas.Bool.{both_ways}
-use Rattle.roman_model.specs.System.{Sys, Pair, IsPair, outcomes, is_ready}
+use Rattle.roman_model.specs.System.{Sys, Pair, IsPair}
+use Rattle.roman_model.specs.SystemArena.{outcomes, is_ready}
 use Rattle.roman_model.specs.System.{Seat as Seat'}
 use Rattle.roman_model.specs.Numbers.{sizes_of, number, pair_at}
 use Rattle.roman_model.specs.Explanation.{SeatNames, seat_names}

@@ -3,9 +3,10 @@ use Rattle.std.proofs.Common.{◌≡◌, ℕ, not, ◌⊎◌, inl, inr, List, []
 use Rattle.std.specs.List.{list_any}
 use Rattle.std.proofs.lemmas.Bool.{or_cases, not-true}
 use Rattle.roman_model.specs.Lists.{IsIn, is_empty}
-use Rattle.roman_model.specs.System.{Sys, Pair, IsPair, outcomes}
+use Rattle.roman_model.specs.System.{Sys, Pair, IsPair}
+use Rattle.roman_model.specs.SystemArena.{outcomes, arena}
 use Rattle.roman_model.specs.Arena.{is_beaten}
-use Rattle.roman_model.specs.Composition.{arena, Great}
+use Rattle.roman_model.specs.Composition.{Great}
 use Rattle.roman_model.specs.Offers.{is_related, offers}
 use Rattle.roman_model.proofs.Lists.{by_test, empty_is, any_true}
 use Rattle.roman_model.proofs.ArenaLemmas.{in_mask}

@@ -4,7 +4,8 @@ use Rattle.std.specs.List.{flat_map, filter}
 use Rattle.std.proofs.lemmas.Bool.{both_ways}
 use Rattle.std.proofs.lemmas.List.{length-map}
 use Rattle.roman_model.specs.Lists.{IsIn, IsSublist, below}
-use Rattle.roman_model.specs.System.{has, is_allowed, pairs}
+use Rattle.roman_model.specs.System.{has}
+use Rattle.roman_model.specs.SystemArena.{is_allowed, pairs}
 use Rattle.roman_model.specs.Composition.{couple, Serves, GreatCouple, Great}
 use Rattle.roman_model.specs.Offers.{is_related, offers}
 use Rattle.roman_model.proofs.Lists.{any_from, filter_sublist, sublist_none, filter_in, in_filter, HasNoRepeats-filter, in_below}

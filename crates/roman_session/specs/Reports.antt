@@ -2,7 +2,8 @@
 use Rattle.std.specs.Prelude.{ℕ, not, List, [], ◌∷◌, ◌++◌, map, length, if◌then◌else◌}
 use Rattle.std.specs.List.{filter, flat_map}
 use Rattle.roman_model.specs.Lists.{below}
-use Rattle.roman_model.specs.System.{Pair, pairs, is_final, is_allowed}
+use Rattle.roman_model.specs.System.{Pair, is_final}
+use Rattle.roman_model.specs.SystemArena.{pairs, is_allowed}
 use Rattle.roman_model.specs.Explanation.{name_at}
 use Rattle.roman_model.specs.Offers.{is_related, offers, related_count}
 use Rattle.roman_text.specs.Report.{line_text}

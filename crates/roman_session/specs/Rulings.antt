@@ -1,7 +1,8 @@
 -- What each event of a session names, or the first refusal of its row.
 use Rattle.std.specs.Prelude.{ℕ, Bool, false, true, not, List, map, length, Result, Ok, Err, is_none, nat_le, nat_lt, if◌then◌else◌, slice_index_or}
 use Rattle.std.specs.Option.{ok_or}
-use Rattle.roman_model.specs.System.{has, is_allowed}
+use Rattle.roman_model.specs.System.{has}
+use Rattle.roman_model.specs.SystemArena.{is_allowed}
 use Rattle.roman_model.specs.System as model
 use Rattle.roman_model.specs.Change.{Join, after}
 use Rattle.roman_model.specs.Explanation.{seat_names}

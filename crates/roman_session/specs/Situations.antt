@@ -1,9 +1,10 @@
 -- What a session knows between two lines.
 use Rattle.std.specs.Prelude.{ℕ, Bool, true, false, List, IsTrue}
 use Rattle.roman_model.specs.Lists.{IsIn}
-use Rattle.roman_model.specs.System.{Sys, Pair, IsPair, is_allowed}
+use Rattle.roman_model.specs.System.{Sys, Pair, IsPair}
+use Rattle.roman_model.specs.SystemArena.{is_allowed}
 use Rattle.roman_model.specs.Arena.{Entry}
-use Rattle.roman_model.specs.Composition.{IsComplete}
+use Rattle.roman_model.specs.CompleteLists.{IsComplete}
 use Rattle.roman_model.specs.Offers.{is_related, offers}
 use Rattle.roman_joint.specs.NamedSys.{NamedSys, IsNamedSys}
 use Rattle.roman_joint.specs.NamedSys as joint

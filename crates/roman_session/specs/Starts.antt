@@ -1,6 +1,6 @@
 -- How a session begins, and what a library is that begins where a session stands.
 use Rattle.std.specs.Prelude.{◌≡◌, ℕ, List, [], ◌∷◌}
-use Rattle.roman_model.specs.Composition.{IsComplete}
+use Rattle.roman_model.specs.CompleteLists.{IsComplete}
 use Rattle.roman_joint.specs.declared.seat.Seat.{Seat}
 use Rattle.roman_library.specs.Library.{PlainLibrary}
 use Rattle.roman_library.specs.declared.library.Service.{Service}

@@ -3,7 +3,8 @@ use Rattle.std.specs.Prelude.{◌≡◌, ℕ, Bool, true, false, ◌⊎◌, List
 use Rattle.std.specs.List.{flat_map, remove}
 use Rattle.roman_model.specs.System.{TStep, SStep}
 use Rattle.roman_model.specs.Arena.{Entry, replay}
-use Rattle.roman_model.specs.Composition.{arena, IsComplete}
+use Rattle.roman_model.specs.SystemArena.{arena}
+use Rattle.roman_model.specs.CompleteLists.{IsComplete}
 use Rattle.roman_model.specs.Change.{Change, Freeze, Thaw, Join, Die, rename, grown, without}
 use Rattle.roman_model.specs.System.{Pair}
 use Rattle.roman_model.specs.Explanation.{name_at, explain_text}

@@ -2,7 +2,8 @@
 use Rattle.std.specs.Prelude.{◌⊎◌, ◌≡◌, ℕ, ◌<◌, Bool, List, [], ◌∷◌, ◌++◌, map, length, codes, Ok, IsTrue, ◌↔◌}
 use Rattle.std.specs.List.{flat_map}
 use Rattle.roman_model.specs.Lists.{IsIn, IsSublist, HasNoRepeats, below}
-use Rattle.roman_model.specs.System.{Pair, IsPair, Allows, pairs, is_final}
+use Rattle.roman_model.specs.System.{Pair, IsPair, Allows, is_final}
+use Rattle.roman_model.specs.SystemArena.{pairs}
 use Rattle.roman_model.specs.Composition.{couple, Serves, GreatCouple, Great}
 use Rattle.roman_model.specs.Explanation.{name_at}
 use Rattle.roman_text.specs.Shapes.{LineShape, ask, hand, report, shape_of}

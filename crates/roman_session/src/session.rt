@@ -1,7 +1,8 @@
 //! Sessions: what they are made of, and what is seen of them.
 ghost use Rattle.std.specs.Prelude.{◌≡◌, ◌≢◌, ℕ, ◌<◌, length, map, Some, slice_get, slice_index, IsTrue};
 ghost use Rattle.std.specs.List.{filter};
-ghost use Rattle.roman_model.specs.System.{IsPair, pairs, has, is_allowed};
+ghost use Rattle.roman_model.specs.System.{IsPair, has};
+ghost use Rattle.roman_model.specs.SystemArena.{pairs, is_allowed};
 ghost use Rattle.roman_model.specs.System as model;
 ghost use Rattle.roman_model.specs.Numbers.{sizes_of, count, number, entry_at};
 ghost use Rattle.roman_model.specs.Explanation.{name_at};

@@ -1,6 +1,6 @@
 -- What is said of a made system: how it stands at the start, and after the lines of its script.
 use Rattle.std.specs.Prelude.{◌≡◌, ℕ, Bool, List, [], ◌∷◌, ◌++◌, length, take, drop, if◌then◌else◌, codes, decimal}
-use Rattle.roman_model.specs.System.{pairs}
+use Rattle.roman_model.specs.SystemArena.{pairs}
 use Rattle.roman_model.specs.Offers.{is_related, related_count}
 use Rattle.roman_make.specs.Made.{made}
 use Rattle.roman_make.specs.Script.{script_lines}

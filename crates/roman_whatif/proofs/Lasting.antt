@@ -1,7 +1,8 @@
 -- What is left after a change, and after two.
 use Rattle.std.proofs.Common.{◌≡◌, ℕ, ◌/◌, ◌<◌, ◌↔◌, Bool, true, false, not, List, [], ◌∷◌, length, remove, Some, IsTrue, slice_get, refl, sym, ap, ap₂, ◌∙◌, subst, arith}
 use Rattle.std.proofs.lemmas.List.{length-map}
-use Rattle.roman_model.specs.System.{Seat, Sys, Pair, is_ready}
+use Rattle.roman_model.specs.System.{Seat, Sys, Pair}
+use Rattle.roman_model.specs.SystemArena.{is_ready}
 use Rattle.roman_model.specs.Composition.{Great}
 use Rattle.roman_model.specs.Change.{Freeze, Die, after, without}
 use Rattle.roman_model.specs.Numbers.{Sizes, sizes_of, sizes_without, count, number, pair_at}

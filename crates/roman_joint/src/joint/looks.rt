@@ -1,7 +1,7 @@
 //! What the system does at a pair.
 ghost use Rattle.std.specs.Prelude.{◌≡◌, ℕ, ◌+◌, ◌*◌, ◌<◌, ◌≤◌, ◌∷◌, [], Bool, not, length, slice_index, IsTrue, IsFalse};
 ghost use Rattle.roman_model.specs.Lists.{IsIn, is_empty};
-ghost use Rattle.roman_model.specs.System.{beh_next};
+ghost use Rattle.roman_model.specs.SystemArena.{beh_next};
 ghost use Rattle.roman_model.specs.Numbers.{sizes_of, count, number, pair_at, numbered};
 ghost use Rattle.roman_model.specs.declared.limits.TheConstants.{MAX_CELLS};
 ghost use Rattle.roman_radix.specs.Radix.{stride_of, env_stride_of, moved};

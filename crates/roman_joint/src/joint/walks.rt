@@ -1,7 +1,7 @@
 //! Walks backwards from a pair.
 ghost use Rattle.std.specs.Prelude.{◌≡◌, ◌+◌, ◌<◌, ◌≤◌, ◌∷◌, [], All, length, MatchBool, MatchOption};
 ghost use Rattle.roman_model.specs.Lists.{HoldsEachOnce};
-ghost use Rattle.roman_model.specs.System.{env_prev, beh_prev};
+ghost use Rattle.roman_model.specs.SystemArena.{env_prev, beh_prev};
 ghost use Rattle.roman_model.specs.Arena.{back};
 ghost use Rattle.roman_model.specs.Numbers.{sizes_of, count, numbered};
 ghost use Rattle.roman_joint.specs.NamedSys.{system_of};

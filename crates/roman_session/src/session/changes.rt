@@ -1,6 +1,6 @@
 //! Changes of the services.
 ghost use Rattle.std.specs.Prelude.{◌≡◌, ◌<◌, length, slice_get, IsTrue, IsFalse};
-ghost use Rattle.roman_model.specs.System.{is_ready};
+ghost use Rattle.roman_model.specs.SystemArena.{is_ready};
 ghost use Rattle.roman_text.specs.Replies.{reply_text};
 ghost use Rattle.roman_text.specs.Shapes.{freeze, thaw, die, join};
 ghost use Rattle.roman_session.specs.Situations.{present_system};

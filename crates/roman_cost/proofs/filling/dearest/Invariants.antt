@@ -2,7 +2,7 @@ use Rattle.std.proofs.Common.{◌≡◌, ℕ, map, filter}
 use Rattle.roman_model.specs.Lists.{below}
 use Rattle.roman_model.specs.Numbers.{sizes_of, pair_at}
 use Rattle.roman_model.specs.Plans.{max_over, least, least_at, choice, through}
-use Rattle.roman_model.specs.System.{is_allowed}
+use Rattle.roman_model.specs.SystemArena.{is_allowed}
 use Rattle.roman_joint.specs.NamedSys.{system_of}
 use Rattle.roman_cost.specs.Advised.{related_pairs}
 use Rattle.roman_cost.specs.Tables.{seat_costs}

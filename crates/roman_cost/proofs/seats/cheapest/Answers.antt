@@ -6,7 +6,8 @@ use Rattle.roman_model.specs.Numbers.{sizes_of, count, pair_at}
 use Rattle.roman_model.specs.Offers.{is_related, offers}
 use Rattle.roman_model.specs.Plans.{first_least, least, choice, through}
 use Rattle.roman_model.proofs.PlanLemmas.{choice_is}
-use Rattle.roman_model.specs.System.{has, Sys, Pair, is_allowed}
+use Rattle.roman_model.specs.System.{has, Sys, Pair}
+use Rattle.roman_model.specs.SystemArena.{is_allowed}
 use Rattle.roman_model.proofs.CompositionLemmas.{related_great}
 use Rattle.roman_model.proofs.NumberLemmas.{numbers_are_pairs}
 use Rattle.roman_model.proofs.OfferLemmas.{related_offers}

@@ -2,7 +2,8 @@ use Rattle.std.proofs.Common.{◌≡◌, ℕ, ◌<◌, List, [], ◌∷◌, IsTr
 use Rattle.std.proofs.lemmas.List.{length-map}
 use Rattle.std.proofs.lemmas.Option.{slice_get_within}
 use Rattle.roman_model.specs.Lists.{IsIn}
-use Rattle.roman_model.specs.System.{Env, Beh, Seat, Pair, has, env_next, beh_next, is_allowed}
+use Rattle.roman_model.specs.System.{Env, Beh, Seat, Pair, has}
+use Rattle.roman_model.specs.SystemArena.{env_next, beh_next, is_allowed}
 use Rattle.roman_model.specs.Numbers.{Sizes, sizes_of, count, number, pair_at}
 use Rattle.roman_model.proofs.SystemLemmas.{allowed_in_range}
 use Rattle.roman_model.proofs.NumberLemmas.{numbers_are_pairs}

@@ -1,7 +1,7 @@
 use Rattle.std.proofs.Common.{◌≡◌, ℕ, ◌<◌, ◌≤◌, ◌&&◌, not}
 use Rattle.std.specs.Int.{bit_at}
 use Rattle.roman_model.specs.Lists.{is_empty}
-use Rattle.roman_model.specs.System.{env_next, beh_next}
+use Rattle.roman_model.specs.SystemArena.{env_next, beh_next}
 use Rattle.roman_rules.specs.Bits.{bit_of}
 use Rattle.roman_joint.proofs.scene.allowed_in.Given as goal
 

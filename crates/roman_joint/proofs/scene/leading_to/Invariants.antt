@@ -1,7 +1,7 @@
 use Rattle.std.proofs.Common.{◌≡◌, ℕ, ◌<◌, []}
 use Rattle.std.specs.Int.{bit_at}
 use Rattle.roman_model.specs.Lists.{IsIn}
-use Rattle.roman_model.specs.System.{env_prev, beh_prev}
+use Rattle.roman_model.specs.SystemArena.{env_prev, beh_prev}
 use Rattle.roman_joint.proofs.scene.leading_to.Given as goal
 
 -- of the actions so far, those that aren't in don't lead there

@@ -1,6 +1,6 @@
 use Rattle.std.proofs.Common.{◌≡◌, ℕ, [], take}
 use Rattle.roman_model.specs.Lists.{IsIn}
-use Rattle.roman_model.specs.System.{env_prev, beh_prev}
+use Rattle.roman_model.specs.SystemArena.{env_prev, beh_prev}
 use Rattle.roman_joint.proofs.scene.may_lead.Given as goal
 
 -- nothing leads there from the environment's states so far

@@ -5,7 +5,7 @@ use Rattle.std.proofs.lemmas.Bool.Decides.{nat_tests}
 use Rattle.std.proofs.lemmas.Nat.{mod_below}
 use Rattle.roman_model.specs.Lists.{is_empty}
 use Rattle.roman_model.proofs.Lists.{any_same}
-use Rattle.roman_model.specs.System.{beh_next}
+use Rattle.roman_model.specs.SystemArena.{beh_next}
 use Rattle.roman_radix.specs.Radix.{stride_of}
 use Rattle.roman_radix.proofs.Strides.{AreSizes-index}
 use Rattle.roman_lanes.specs.Rows.{is_on}

@@ -1,7 +1,7 @@
 use Rattle.std.proofs.Common.{◌≡◌, ℕ, ◌+◌, ◌<◌, ◌≤◌, ◌==◌, false, not, ◌&&◌, length, slice_index, ltb}
 use Rattle.std.specs.List.{list_any}
 use Rattle.roman_model.specs.Lists.{is_empty}
-use Rattle.roman_model.specs.System.{beh_next}
+use Rattle.roman_model.specs.SystemArena.{beh_next}
 use Rattle.roman_radix.specs.Rows.{lanes_of}
 use Rattle.roman_lanes.specs.Rows.{is_on}
 use Rattle.roman_joint.specs.Moves.{lane_state_of}

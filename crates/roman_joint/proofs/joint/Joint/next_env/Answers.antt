@@ -1,6 +1,6 @@
 use Rattle.std.proofs.Common.{length, get_or, refl, sym, ap, ◌∙◌, arith}
 use Rattle.std.proofs.lemmas.List.{length-map}
-use Rattle.roman_model.specs.System.{env_prev}
+use Rattle.roman_model.specs.SystemArena.{env_prev}
 use Rattle.roman_radix.specs.Radix.{env_stride_of}
 use Rattle.roman_joint.specs.NamedSys.{system_of, seat_of}
 use Rattle.roman_joint.specs.Walks.{goal_of}

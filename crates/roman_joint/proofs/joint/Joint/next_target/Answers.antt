@@ -1,5 +1,5 @@
 use Rattle.std.proofs.Common.{length, get_or, refl, sym, ap, ◌∙◌, arith}
-use Rattle.roman_model.specs.System.{beh_prev}
+use Rattle.roman_model.specs.SystemArena.{beh_prev}
 use Rattle.roman_radix.specs.Radix.{target_stride_of}
 use Rattle.roman_joint.specs.NamedSys.{system_of}
 use Rattle.roman_joint.specs.Walks.{goal_of}

@@ -1,5 +1,6 @@
 use Rattle.std.proofs.Common.{◌+◌, ◌*◌, slice_index, sym, ap, ◌∙◌, rules, arith}
-use Rattle.roman_model.specs.System.{Beh, beh_next}
+use Rattle.roman_model.specs.System.{Beh}
+use Rattle.roman_model.specs.SystemArena.{beh_next}
 use Rattle.roman_model.specs.Numbers.{Sizes, number, pair_at}
 use Rattle.roman_radix.specs.Radix.{moved}
 use Rattle.roman_joint.specs.NamedSys.{system_of}

@@ -1,5 +1,6 @@
 use Rattle.std.proofs.Common.{ℕ, List, ◌∙◌, subst}
-use Rattle.roman_model.specs.System.{has, is_allowed}
+use Rattle.roman_model.specs.System.{has}
+use Rattle.roman_model.specs.SystemArena.{is_allowed}
 use Rattle.roman_model.specs.Offers.{is_related, offers}
 use Rattle.roman_rules.specs.Bits.{HasBits}
 use Rattle.roman_session.proofs.SituationLemmas.{situation_known, parts_shown, at_here}

@@ -1,5 +1,6 @@
 use Rattle.std.proofs.Common.{◌≡◌, ℕ, IsTrue, slice_get, sym, ap, ◌∙◌, subst}
-use Rattle.roman_model.specs.System.{Pair, TStep, is_allowed, is_ready}
+use Rattle.roman_model.specs.System.{Pair, TStep}
+use Rattle.roman_model.specs.SystemArena.{is_allowed, is_ready}
 use Rattle.roman_model.specs.Numbers.{Sizes, sizes_of, pair_at}
 use Rattle.roman_joint.specs.NamedSys.{system_of}
 use Rattle.roman_generator.specs.Moves.{CanMove}
