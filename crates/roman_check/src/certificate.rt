@@ -12,13 +12,10 @@ use crate::error::CheckError;
 use crate::reader::Reader;
 use crate::verdict::Verdict;
 use roman_io::{Source, Steps};
-use roman_model::MAX_CERTIFICATE_BYTES;
+use roman_model::{MAX_CERTIFICATE_BYTES, PIECE_BYTES};
 use roman_rules::Rules;
 use std::alloc::Global;
 use std::sync::ledger::Ledger;
-
-/// How many bytes each take asks for.
-const PIECE: usize = 4096;
 
 /// Reads a certificate to its end, to the first line at fault, or past the limit.
 fn read<J: Rules, S: Source, L: Ledger>(
@@ -33,12 +30,12 @@ fn read<J: Rules, S: Source, L: Ledger>(
     requires lines { reader.old.lines ≡ 0 }
     requires reading { IsReading (J.arena joint.now) [] reader.old }
     ensures comes { Comes (J.arena joint.now) start (S.rest source.old) (S.rest source.new) (S.faults source.old) (S.faults source.new) result }
-    ensures taken { GaveAtMost (MAX_CERTIFICATE_BYTES + PIECE) (S.rest source.old) (S.rest source.new) }
+    ensures taken { GaveAtMost (MAX_CERTIFICATE_BYTES + PIECE_BYTES) (S.rest source.old) (S.rest source.new) }
     ensures whole { IfOk result (λ verdict. SaysGreatest verdict → IsAtEnd (S.rest source.new)) }
     ensures borrowed { S.borrowed source.new ≡ S.borrowed source.old }
     ensures texts { S.texts source.new ≡ S.texts source.old }
 {
-    let mut piece = [0u8; PIECE];
+    let mut piece = [0u8; PIECE_BYTES];
     let mut room = MAX_CERTIFICATE_BYTES as usize;
     'takes: loop {
         let count = source.take(&mut piece)?;
@@ -86,7 +83,7 @@ pub fn check<J: Rules, S: Source, L: Ledger>(
     ensures none_at_fault { IsErrOf result CheckError.Fault → NoneAtFault (J.arena joint.now) (S.rest source.old) (S.rest source.new) }
     ensures counts { result ≢ Err CheckError.Fault → S.faults source.new ≡ S.faults source.old }
 
-    ensures taken { GaveAtMost (MAX_CERTIFICATE_BYTES + PIECE) (S.rest source.old) (S.rest source.new) }
+    ensures taken { GaveAtMost (MAX_CERTIFICATE_BYTES + PIECE_BYTES) (S.rest source.old) (S.rest source.new) }
     ensures untaken { IsErrOf result CheckError.Memory → source.new ≡ source.old }
     ensures borrowed { S.borrowed source.new ≡ S.borrowed source.old }
     ensures texts { S.texts source.new ≡ S.texts source.old }

@@ -3,14 +3,11 @@ ghost use Rattle.std.specs.Prelude.{◌≡◌};
 ghost use Rattle.roman_library.specs.Texts.{Caused, IsTextOf, IsValueOf, doc_error_number};
 
 use roman_io::Shelf;
-use roman_model::MAX_DOCUMENT_BYTES;
+use roman_model::{MAX_DOCUMENT_BYTES, PIECE_BYTES};
 use roman_read::{ParseError, parse};
 use serde_json::Value;
 use std::alloc::{AllocError, Global};
 use thiserror::Error;
-
-/// How many bytes a fetch asks for.
-const PIECE_BYTES: usize = 4096;
 
 /// Why a text on a shelf gives no JSON value.
 #[derive(Clone, Copy, Debug, PartialEq, Eq, Error)]

@@ -33,7 +33,7 @@ pub use laws::{
 pub use limits::{
     DEFAULT_CELLS, MAX_ACTIONS, MAX_BEHAVIOURS, MAX_CELLS, MAX_CERTIFICATE_BYTES,
     MAX_DOCUMENT_BYTES, MAX_FILE_NAME_BYTES, MAX_LINE_BYTES, MAX_NAME_BYTES, MAX_SERVICES,
-    MAX_SESSION_BYTES, MAX_STATES, MAX_STEPS,
+    MAX_SESSION_BYTES, MAX_STATES, MAX_STEPS, PIECE_BYTES,
 };
 pub use numbers::{numbered_completes, pairs_are_numbered, shapes_are_numbered};
 pub use reason::Reason;

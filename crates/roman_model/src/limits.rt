@@ -33,6 +33,10 @@ pub const MAX_FILE_NAME_BYTES: u8 = 255;
 /// The greatest number of bytes of a session line, its newline aside.
 pub const MAX_LINE_BYTES: u32 = 256;
 
+/// The number of bytes that each fetch from a shelf and each take from a source asks for, and the
+/// greatest number that a page gathers before it goes out.
+pub const PIECE_BYTES: usize = 4_096;
+
 /// The greatest number of bytes of a session.
 pub const MAX_SESSION_BYTES: u64 = 16_777_216;
 

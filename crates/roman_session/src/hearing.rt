@@ -12,14 +12,11 @@ ghost use Rattle.roman_session.specs.HearingBytes.{ear, IsHearing, HearsBytes, H
 use crate::next::Next;
 use crate::session::Session;
 use roman_io::{Failed, Sink, Source, Steps};
-use roman_model::MAX_SESSION_BYTES;
+use roman_model::{MAX_SESSION_BYTES, PIECE_BYTES};
 use roman_text::laws::keep_shapes;
 use roman_text::{Page, Splitter};
 use std::sync::ledger::Ledger;
 use thiserror::Error;
-
-/// How many bytes each take asks for.
-const PIECE: usize = 4096;
 
 /// Why a session isn't heard to its end.
 #[derive(Clone, Copy, Debug, PartialEq, Eq, Error)]
@@ -62,14 +59,14 @@ pub fn hear<S: Source, O: Sink, L: Ledger>(
     ensures reads { CausedBy HearError.ReadFault (S.faults source.old) (S.faults source.new) result }
     ensures writes { CausedBy HearError.WriteFault (O.faults out.old) (O.faults out.new) result }
 
-    ensures taken { GaveAtMost (MAX_SESSION_BYTES + PIECE) (S.rest source.old) (S.rest source.new) }
-    ensures past { OnOk result (IsAtEnd (S.rest source.new) ⊎ GaveQuit (PIECE - 1) (S.rest source.old) (S.rest source.new)) }
+    ensures taken { GaveAtMost (MAX_SESSION_BYTES + PIECE_BYTES) (S.rest source.old) (S.rest source.new) }
+    ensures past { OnOk result (IsAtEnd (S.rest source.new) ⊎ GaveQuit (PIECE_BYTES - 1) (S.rest source.old) (S.rest source.new)) }
     ensures borrowed { S.borrowed source.new ≡ S.borrowed source.old }
     ensures texts { S.texts source.new ≡ S.texts source.old }
 {
     let mut splitter = Splitter::new();
     let mut page = Page::new();
-    let mut piece = [0u8; PIECE];
+    let mut piece = [0u8; PIECE_BYTES];
     let mut room = MAX_SESSION_BYTES as usize;
     'takes: loop {
         let Ok(count) = source.take(&mut piece) else {

@@ -2,6 +2,7 @@
 ghost use Rattle.std.specs.Prelude.{◌≡◌, ◌+◌, ◌≤◌, ◌∷◌, ◌++◌, [], length, decimal, OnOk};
 ghost use Rattle.roman_io.specs.Faults.{HasCause};
 ghost use Rattle.roman_io.specs.Sink.{Puts};
+ghost use Rattle.roman_model.specs.declared.limits.TheConstants.{PIECE_BYTES};
 ghost use Rattle.roman_text.specs.Pages.{Gathers};
 ghost use Rattle.roman_text.specs.Report.{line_text};
 
@@ -10,11 +11,9 @@ mod replies;
 use crate::report::{ReportLine, report_piece};
 use itoa::{Buffer, write_digits};
 use roman_io::{Failed, Sink};
+use roman_model::PIECE_BYTES;
 use roman_read::Name;
 use std::marker::Model;
-
-// The greatest number of bytes that a page holds.
-const ROOM: usize = 4096;
 
 // The greatest number of digits that a number has.
 const DIGITS: usize = 10;
@@ -27,18 +26,19 @@ const LONGEST: usize = 128;
 /// sink's count of faults rose.
 #[derive(Drop)]
 pub struct Page {
-    bytes: [u8; ROOM],
+    bytes: [u8; PIECE_BYTES],
     len: usize,
 }
 
 impl Model for Page {
     ghost use Rattle.std.specs.Prelude.{List, ℕ, ◌≤◌, take};
+    ghost use Rattle.roman_model.specs.declared.limits.TheConstants.{PIECE_BYTES};
 
     ghost Value = { List ℕ };
 
     ghost view = { λ p. take p.len p.bytes };
 
-    ghost invariant = { λ p. p.len ≤ 4096 };
+    ghost invariant = { λ p. p.len ≤ PIECE_BYTES };
 }
 
 impl Page {
@@ -47,7 +47,7 @@ impl Page {
         ensures empty { result ≡ [] }
     {
         Page {
-            bytes: [0; ROOM],
+            bytes: [0; PIECE_BYTES],
             len: 0,
         }
     }
@@ -141,7 +141,7 @@ impl Page {
         ensures gathers { Gathers (O.written out.old) (O.written out.new) self.new bytes.now result }
         ensures cause { HasCause (O.faults out.old) (O.faults out.new) result }
     {
-        if bytes.len() > ROOM {
+        if bytes.len() > PIECE_BYTES {
             return out.put(bytes);
         }
         self.add(bytes);
@@ -162,14 +162,14 @@ impl Page {
 
     // How many more bytes have room.
     fn room(&self) -> usize
-        ensures { result + length self.now ≡ 4096 }
+        ensures { result + length self.now ≡ PIECE_BYTES }
     {
-        ROOM - self.len
+        PIECE_BYTES - self.len
     }
 
     // Adds bytes that have room.
     fn add(&mut self, bytes: &[u8])
-        requires { length self.old + length bytes.now ≤ 4096 }
+        requires { length self.old + length bytes.now ≤ PIECE_BYTES }
         ensures { self.new ≡ self.old ++ bytes.now }
     {
         let end = self.len + bytes.len();
@@ -190,7 +190,7 @@ impl Page {
 
     // Adds a number that has room, in decimal digits.
     fn add_number(&mut self, n: u32)
-        requires { length self.old + length (decimal n) ≤ 4096 }
+        requires { length self.old + length (decimal n) ≤ PIECE_BYTES }
         ensures { self.new ≡ self.old ++ decimal n }
     {
         let end = self.len + digits(n);

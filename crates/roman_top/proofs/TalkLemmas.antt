@@ -6,7 +6,7 @@ use Rattle.roman_io.specs.Shelf.{Texts, shelf_text, rest_from}
 use Rattle.roman_io.specs.Source.{Had, IsAtEnd, GaveAtMost}
 use Rattle.roman_io.proofs.SourceLemmas.{Gave-told}
 use Rattle.roman_model.specs.Lines.{lines, ended_lines}
-use Rattle.roman_model.specs.declared.limits.TheConstants.{MAX_SESSION_BYTES}
+use Rattle.roman_model.specs.declared.limits.TheConstants.{MAX_SESSION_BYTES, PIECE_BYTES}
 use Rattle.roman_model.proofs.Lists.{by_test}
 use Rattle.roman_session.specs.Situations.{Situation}
 use Rattle.roman_session.specs.Starts.{IsStart}
@@ -39,7 +39,7 @@ pub record Heard (old new : Hall) (result : Result (Unit {0}) HearError) : Type 
   pub read_fault : IsErrOf result hear.ReadFault → GoesOn old new
   pub write_fault : IsErrOf result hear.WriteFault → StopsShort old new
   pub front : IsErrOf result hear.WriteFault → AreBehaviours old.spot.situation.parts → TellsFrontOfAll old new.spot.written
-  pub taken : GaveAtMost (MAX_SESSION_BYTES + 4096) old.rest new.rest
+  pub taken : GaveAtMost (MAX_SESSION_BYTES + PIECE_BYTES) old.rest new.rest
   pub past : OnOk result (IsAtEnd new.rest ⊎ GaveQuit 4095 old.rest new.rest)
 
 -- Sessions of accepted documents

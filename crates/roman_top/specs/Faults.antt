@@ -3,7 +3,7 @@ use Rattle.std.specs.Prelude.{◌≡◌, ℕ, ◌+◌, ◌⊎◌, List, ◌++◌
 use Rattle.roman_io.specs.Shelf.{Texts, shelf_text}
 use Rattle.roman_io.specs.Sink.{Wrote, WroteFront}
 use Rattle.roman_io.specs.Source.{Gave, Had, IsAtEnd, GaveAtMost}
-use Rattle.roman_model.specs.declared.limits.TheConstants.{MAX_SESSION_BYTES}
+use Rattle.roman_model.specs.declared.limits.TheConstants.{MAX_SESSION_BYTES, PIECE_BYTES}
 use Rattle.roman_library.specs.Library.{PlainLibrary}
 use Rattle.roman_session.specs.Hearing.{AreWhole, GaveQuit}
 use Rattle.roman_top.specs.Command.{Run, Command, On, Make}
@@ -100,7 +100,7 @@ IsOfSession _ = ⊥
 pub record HasTakenBytes (system : List ℕ) (old new : World) (result : Status) : Type 0 where
   pub accepted : IfSome old.texts (λ texts. (library : PlainLibrary) × (document_opening texts system ≡ Accepted library))
   pub session : IsOfSession result
-  pub few : GaveAtMost (MAX_SESSION_BYTES + 4096) old.rest new.rest
+  pub few : GaveAtMost (MAX_SESSION_BYTES + PIECE_BYTES) old.rest new.rest
 
 -- only a session without a name takes bytes from the input
 abbrev pub TakesInput : Option Command → World → World → Status → Type 0
