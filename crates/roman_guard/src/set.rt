@@ -52,13 +52,6 @@ impl StateSet {
         }
         Some(common.trailing_zeros() as u8)
     }
-
-    /// The set as a word: bit `e` is 1 exactly where state `e` is in it.
-    pub fn bits(&self) -> u64
-        ensures bits { result ≡ self.now }
-    {
-        self.bits
-    }
 }
 
 /// The states below `states`, at most 64, in which the guard holds. A number in the guard that is no

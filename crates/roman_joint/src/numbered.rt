@@ -54,10 +54,6 @@ impl Rules for Joint {
         Joint::allowed(self, p, a)
     }
 
-    fn allowed_actions(&self, p: u32) -> u32 {
-        self.allowed_at(p)
-    }
-
     fn final_ok(&self, p: u32) -> bool {
         Joint::final_ok(self, p)
     }

@@ -74,11 +74,6 @@ pub trait Rules {
         requires action { a < (arena self.now).actions }
         ensures { result ≡ (arena self.now).allows p a };
 
-    /// The actions that the target allows at the pair `p`: bit a is set exactly where it allows a.
-    fn allowed_actions(&self, p: u32) -> u32
-        requires { p < length (arena self.now).nodes }
-        ensures { HasBits result ((arena self.now).allows p) };
-
     /// Whether the pair `p` meets clause 2 of an ND-simulation: where its target part is final, its
     /// system part is.
     fn final_ok(&self, p: u32) -> bool

@@ -98,15 +98,6 @@ impl Session {
         self.phase
     }
 
-    /// The relation of the services now present, with the removal list that is kept.
-    pub fn relation(&self) -> &Relation
-        ensures parts { result.now.joint ≡ self.now.parts }
-        ensures relation { IsRelation result.now.joint result.now.order }
-        ensures list { self.now.list ≡ map (entry_at (present_system self.now)) result.now.order.list }
-    {
-        &self.relation
-    }
-
     /// Tells a prover what holds of every session. It does nothing.
     pub fn known(&self)
         ensures { IsSituation self.now }

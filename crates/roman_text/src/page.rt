@@ -82,8 +82,8 @@ impl Page {
         result
     }
 
-    /// Takes a number, in decimal digits, as [`Page::push`] takes bytes.
-    pub fn push_number<O: Sink>(&mut self, n: u32, out: &mut O) -> Result<(), Failed>
+    // Takes a number, in decimal digits, as `push` takes bytes.
+    fn push_number<O: Sink>(&mut self, n: u32, out: &mut O) -> Result<(), Failed>
         ensures gathers { Gathers (O.written out.old) (O.written out.new) self.new (self.old ++ decimal n) result }
         ensures cause { HasCause (O.faults out.old) (O.faults out.new) result }
     {

@@ -33,15 +33,6 @@ impl Joint {
         self.target.allows(&self.environment, t, e, a)
     }
 
-    /// The actions that the target allows at a pair: bit a is set exactly where it allows a.
-    pub(crate) fn allowed_at(&self, p: u32) -> u32
-        requires { p < count (sizes_of (system_of self.now)) }
-        ensures { HasBits result ((numbered (system_of self.now)).allows p) }
-    {
-        self.known();
-        self.scene_at(p).allowed
-    }
-
     // What the target and the environment say of actions at a pair.
     pub(super) fn scene_at(&self, p: u32) -> Scene
         requires { p < count (sizes_of (system_of self.now)) }
