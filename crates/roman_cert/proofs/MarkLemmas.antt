@@ -35,11 +35,11 @@ module _ {N : Type 0} (A : Arena N) (same : IsSame A) (L : List (Entry N)) (orde
       let whole : L ≡ before ++ y ∷ (after ++ drop (i + 1) L) =
       sym (take-append-drop (i + 1) L) ∙ ap (λ M. M ++ drop (i + 1) L) cut ∙ append_assoc before (y ∷ after) (drop (i + 1) L) in
       let new : IsFalse (is_listed A before y.node) = (order_middle A before (after ++ drop (i + 1) L) y (subst (IsOrder A) whole order)).0 in
-      let front : entries_before A L y.node ≡ before = ap (λ M. entries_before A M y.node) whole ∙ before_is A before y (after ++ drop (i + 1) L) (same.itself y.node) new in
+      let prefix : entries_before A L y.node ≡ before = ap (λ M. entries_before A M y.node) whole ∙ before_is A before y (after ++ drop (i + 1) L) (same.itself y.node) new in
       let falls : length (entries_before A L x.node) < length (entries_before A L y.node) = before_falls A L y.node x.node (answer_before A L y.node x.node y.reason answered) in
       let place : length (entries_before A L x.node) ≡ length (take i L) = ap length (entries_at A same L i x order e) in
       let within : i < length L = slice_get_within L i x e in
-      let long : length (entries_before A L y.node) ≡ length before = ap length front in
+      let long : length (entries_before A L y.node) ≡ length before = ap length prefix in
       let short : length (take (i + 1) L) ≡ length (before ++ y ∷ after) = ap length cut in
       omega (arith, length-take i L, length-take (i + 1) L, length-append before (y ∷ after))
 

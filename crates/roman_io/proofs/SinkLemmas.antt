@@ -2,7 +2,7 @@
 use Rattle.std.proofs.Common.{◌≡◌, ℕ, ◌+◌, ◌≤◌, List, [], ◌++◌, length, take, min, Option, None, Some, Result, Ok, Err, sym, ap, ◌∙◌, arith, append_assoc}
 use Rattle.std.proofs.lemmas.List.{append-nil, take_all, take-append-le, take_min}
 use Rattle.std.proofs.Math.Seq.{take-append-add}
-use Rattle.roman_io.specs.Sink.{Wrote, WroteFront, Puts}
+use Rattle.roman_io.specs.Sink.{Wrote, WrotePrefix, Puts}
 
 -- nothing was written
 pub Wrote-nil : (told : Option (List ℕ)) → Wrote told told []
@@ -19,54 +19,54 @@ Wrote-then (Some old) (Some mid) None first second p q = q
 Wrote-then (Some old) (Some mid) (Some new) first second p q = q ∙ ap (λ (xs : List ℕ). xs ++ second) p ∙ append_assoc old first second
 
 -- a prefix of a piece is no more than the piece
-front_shorter : (n : ℕ) (piece rest : List ℕ) → take n piece ≡ take (min n (length piece)) (piece ++ rest)
-front_shorter n piece rest =
+prefix_shorter : (n : ℕ) (piece rest : List ℕ) → take n piece ≡ take (min n (length piece)) (piece ++ rest)
+prefix_shorter n piece rest =
     let within : min n (length piece) ≤ length piece = omega arith in
     sym (take-append-le (min n (length piece)) piece rest within ∙ take_min n piece)
 
 -- a prefix of a piece is a prefix of all that begins with the piece
-pub WroteFront-append : (old new : Option (List ℕ)) (piece rest : List ℕ) → WroteFront old new piece → WroteFront old new (piece ++ rest)
-WroteFront-append None None piece rest p = tt
-WroteFront-append None (Some new) piece rest p = p
-WroteFront-append (Some old) None piece rest p = p
-WroteFront-append (Some old) (Some new) piece rest p = (min p.0 (length piece), p.1 ∙ ap (λ (xs : List ℕ). old ++ xs) (front_shorter p.0 piece rest))
+pub WrotePrefix-append : (old new : Option (List ℕ)) (piece rest : List ℕ) → WrotePrefix old new piece → WrotePrefix old new (piece ++ rest)
+WrotePrefix-append None None piece rest p = tt
+WrotePrefix-append None (Some new) piece rest p = p
+WrotePrefix-append (Some old) None piece rest p = p
+WrotePrefix-append (Some old) (Some new) piece rest p = (min p.0 (length piece), p.1 ∙ ap (λ (xs : List ℕ). old ++ xs) (prefix_shorter p.0 piece rest))
 
 -- nothing is a prefix of every piece
-pub WroteFront-nil : (told : Option (List ℕ)) (piece : List ℕ) → WroteFront told told piece
-WroteFront-nil None piece = tt
-WroteFront-nil (Some old) piece = (0, sym (append-nil old))
+pub WrotePrefix-nil : (told : Option (List ℕ)) (piece : List ℕ) → WrotePrefix told told piece
+WrotePrefix-nil None piece = tt
+WrotePrefix-nil (Some old) piece = (0, sym (append-nil old))
 
 -- the whole piece is a prefix of itself
-pub WroteFront-from_Wrote : (old new : Option (List ℕ)) (piece : List ℕ) → Wrote old new piece → WroteFront old new piece
-WroteFront-from_Wrote None None piece p = tt
-WroteFront-from_Wrote None (Some new) piece p = p
-WroteFront-from_Wrote (Some old) None piece p = p
-WroteFront-from_Wrote (Some old) (Some new) piece p = (length piece, p ∙ ap (λ (xs : List ℕ). old ++ xs) (sym (take_all (length piece) piece (omega arith))))
+pub WrotePrefix-from_Wrote : (old new : Option (List ℕ)) (piece : List ℕ) → Wrote old new piece → WrotePrefix old new piece
+WrotePrefix-from_Wrote None None piece p = tt
+WrotePrefix-from_Wrote None (Some new) piece p = p
+WrotePrefix-from_Wrote (Some old) None piece p = p
+WrotePrefix-from_Wrote (Some old) (Some new) piece p = (length piece, p ∙ ap (λ (xs : List ℕ). old ++ xs) (sym (take_all (length piece) piece (omega arith))))
 
 -- one piece and then a prefix of another: a prefix of both, one after the other
-pub WroteFront-after : (old mid new : Option (List ℕ)) (first second : List ℕ) → Wrote old mid first → WroteFront mid new second → WroteFront old new (first ++ second)
-WroteFront-after None None None first second p q = tt
-WroteFront-after None None (Some new) first second p q = q
-WroteFront-after None (Some mid) new first second p q = absurd p
-WroteFront-after (Some old) None new first second p q = absurd p
-WroteFront-after (Some old) (Some mid) None first second p q = q
-WroteFront-after (Some old) (Some mid) (Some new) first second p q =
+pub WrotePrefix-after : (old mid new : Option (List ℕ)) (first second : List ℕ) → Wrote old mid first → WrotePrefix mid new second → WrotePrefix old new (first ++ second)
+WrotePrefix-after None None None first second p q = tt
+WrotePrefix-after None None (Some new) first second p q = q
+WrotePrefix-after None (Some mid) new first second p q = absurd p
+WrotePrefix-after (Some old) None new first second p q = absurd p
+WrotePrefix-after (Some old) (Some mid) None first second p q = q
+WrotePrefix-after (Some old) (Some mid) (Some new) first second p q =
     (length first + q.0, q.1 ∙ (ap (λ (xs : List ℕ). xs ++ take q.0 second) p ∙ (append_assoc old first (take q.0 second) ∙ ap (λ (xs : List ℕ). old ++ xs) (sym (take-append-add first second q.0)))))
 
 -- an error in a later put: a prefix of all that was to be written
-pub WroteFront-middle : (old mid new : Option (List ℕ)) (first second rest : List ℕ) → Wrote old mid first → WroteFront mid new second → WroteFront old new (first ++ (second ++ rest))
-WroteFront-middle old mid new first second rest p q =
-    WroteFront-after old mid new first (second ++ rest) p (WroteFront-append mid new second rest q)
+pub WrotePrefix-middle : (old mid new : Option (List ℕ)) (first second rest : List ℕ) → Wrote old mid first → WrotePrefix mid new second → WrotePrefix old new (first ++ (second ++ rest))
+WrotePrefix-middle old mid new first second rest p q =
+    WrotePrefix-after old mid new first (second ++ rest) p (WrotePrefix-append mid new second rest q)
 
 -- a put after others: all of it at Ok, a prefix at an error
 pub Puts-after : {T E : Type 0} (old mid new : Option (List ℕ)) (first second : List ℕ) (result : Result T E) → Wrote old mid first → Puts mid new second result → Puts old new (first ++ second) result
 Puts-after old mid new first second (Ok x) p q = Wrote-then old mid new first second p q
-Puts-after old mid new first second (Err e) p q = WroteFront-after old mid new first second p q
+Puts-after old mid new first second (Err e) p q = WrotePrefix-after old mid new first second p q
 
 -- whatever the answer, a prefix was written
-pub WroteFront-from_Puts : {T E : Type 0} (old new : Option (List ℕ)) (piece : List ℕ) (result : Result T E) → Puts old new piece result → WroteFront old new piece
-WroteFront-from_Puts old new piece (Ok x) p = WroteFront-from_Wrote old new piece p
-WroteFront-from_Puts old new piece (Err e) p = p
+pub WrotePrefix-from_Puts : {T E : Type 0} (old new : Option (List ℕ)) (piece : List ℕ) (result : Result T E) → Puts old new piece result → WrotePrefix old new piece
+WrotePrefix-from_Puts old new piece (Ok x) p = WrotePrefix-from_Wrote old new piece p
+WrotePrefix-from_Puts old new piece (Err e) p = p
 
 -- where the sink told before, it tells after
 pub Wrote-told : (old : List ℕ) (new : Option (List ℕ)) (piece : List ℕ) → Wrote (Some old) new piece → new ≡ Some (old ++ piece)

@@ -5,7 +5,7 @@ ghost use Rattle.roman_io.specs.Shelf.{Fetches, text_at};
 
 /// Copies as many bytes as there is room for from the beginning of `from` to that of `into`, and
 /// answers how many.
-pub fn copy_front(from: &[u8], into: &mut [u8]) -> usize
+pub fn copy_prefix(from: &[u8], into: &mut [u8]) -> usize
     ensures count { result ≡ min (length from.now) (length into.new) }
     ensures bytes { take result into.new ≡ take result from.now }
 {
@@ -25,7 +25,7 @@ pub fn copy_from(text: &[u8], at: u64, into: &mut [u8]) -> usize
     if at >= text.len() {
         return 0;
     }
-    copy_front(&text[at..], into)
+    copy_prefix(&text[at..], into)
 }
 
 /// The first text with this name.
@@ -48,7 +48,7 @@ pub fn copy_rest(bytes: &[u8], at: usize, into: &mut [u8]) -> usize
     ensures moves { drop at bytes.now ≡ take result into.new ++ drop (at + result) bytes.now }
     ensures within { at + result ≤ length bytes.now }
 {
-    copy_front(&bytes[at..], into)
+    copy_prefix(&bytes[at..], into)
 }
 
 /// Copies at most `piece` bytes, and as many of these as there is room for, from place `at` on, and
@@ -66,7 +66,7 @@ pub fn copy_piece(bytes: &[u8], at: usize, piece: usize, into: &mut [u8]) -> usi
 /// Appends the first half of a piece, rounded down, or nothing where memory is refused.
 pub fn append_half(written: &mut Vec<u8>, piece: &[u8])
     ensures half { (written.new.items ≡ written.old.items) ⊎ (written.new.items ≡ written.old.items ++ take (length piece.now / 2) piece.now) }
-    ensures front { (n : ℕ) × (written.new.items ≡ written.old.items ++ take n piece.now) }
+    ensures prefix { (n : ℕ) × (written.new.items ≡ written.old.items ++ take n piece.now) }
 {
     let half = piece.len() / 2;
     let _ = written.extend_from_slice(&piece[..half]);

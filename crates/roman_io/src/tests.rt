@@ -29,7 +29,7 @@ fn take_once<S: Source>(source: &mut S, into: &mut [u8]) -> Result<usize, Failed
 
 /// The first bytes of a text, by a source over the shelf, whose faults and texts the caller still
 /// knows.
-fn read_front<F: Shelf>(shelf: &mut F, name: &str, into: &mut [u8]) -> Result<usize, Failed>
+fn read_prefix<F: Shelf>(shelf: &mut F, name: &str, into: &mut [u8]) -> Result<usize, Failed>
     ensures cause { HasCause (F.faults shelf.old) (F.faults shelf.new) result }
     ensures texts { F.texts shelf.new ≡ F.texts shelf.old }
 {
@@ -55,7 +55,7 @@ fn readers(rt: HostRuntime) -> Result<(), Fail> {
     assert_eq!(rt; shelf.fetch("lamp", 0, &mut into), Ok(2));
     assert_eq!(rt; shelf.fetch("lamp", 0, &mut into), Err(Failed));
     let mut quiet = QuietShelf::new(files(alloc)?);
-    assert_eq!(rt; read_front(&mut quiet, "cell", &mut into), Ok(2));
+    assert_eq!(rt; read_prefix(&mut quiet, "cell", &mut into), Ok(2));
     let mut source = MemSource::new(b"abc".to_vec(alloc)?, 2, Vec::new(alloc));
     assert_eq!(rt; source.take(&mut into), Ok(2));
     assert_eq!(rt; QuietSource::new(Vec::new(alloc)).take(&mut into), Ok(0));

@@ -1,4 +1,4 @@
-mod FrontLemmas
+mod PrefixLemmas
 mod ReadingLemmas
 pub mod PlaceLemmas
 mod LibraryLemmas

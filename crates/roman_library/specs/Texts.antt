@@ -44,5 +44,5 @@ IsValueOf (Some texts) name (Err error.NotJson) = (json_of (shelf_text texts nam
 IsValueOf (Some texts) name (Err error.Memory) = Unit {0}
 
 -- the bytes are the first of the text
-pub record IsFront (bytes text : List ℕ) : Type 0 where
+pub record IsPrefix (bytes text : List ℕ) : Type 0 where
   pub same : take (length bytes) text ≡ bytes

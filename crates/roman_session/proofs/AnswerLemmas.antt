@@ -1,6 +1,6 @@
 -- What follows from the step of an answer.
 use Rattle.std.proofs.Common.{◌≡◌, ℕ, inl, inr, List, [], ◌++◌, Option, Result, Ok, Err, refl, sym, ap, ◌∙◌, subst}
-use Rattle.roman_io.specs.Sink.{WroteFront, Puts}
+use Rattle.roman_io.specs.Sink.{WrotePrefix, Puts}
 use Rattle.roman_text.specs.Pages.{Gathered, Gathers}
 use Rattle.roman_text.proofs.PageLemmas.{Puts-after_Gathered, Gathered-put}
 use Rattle.roman_text.specs.Shapes.{LineShape, ask, saw, shape_of}
@@ -49,12 +49,12 @@ answered_whole old new line before mid after held holds x result empty a puts = 
 }
 
 -- and one that wasn't taken whole
-pub answered_front : {T E T' E' : Type 0} (old new : Situation) (line : List ℕ) (before after : Option (List ℕ)) (held holds : List ℕ) (e : E) (e' : E') → held ≡ [] → AnsweredOn {T = T} {E = E} old line new before after held holds (Err e) →
+pub answered_prefix : {T E T' E' : Type 0} (old new : Situation) (line : List ℕ) (before after : Option (List ℕ)) (held holds : List ℕ) (e : E) (e' : E') → held ≡ [] → AnsweredOn {T = T} {E = E} old line new before after held holds (Err e) →
     Answered {T = T'} {E = E'} old line new before after (Err e')
-answered_front old new line before after held holds e e' empty a = record {
+answered_prefix old new line before after held holds e e' empty a = record {
   text = a.text;
   step = a.step;
-  puts = subst (λ (bs : List ℕ). WroteFront before after bs) (ap (λ (bs : List ℕ). bs ++ a.text) empty) a.gathers.0;
+  puts = subst (λ (bs : List ℕ). WrotePrefix before after bs) (ap (λ (bs : List ℕ). bs ++ a.text) empty) a.gathers.0;
 }
 
 -- ---- what the answer says

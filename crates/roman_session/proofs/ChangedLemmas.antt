@@ -51,7 +51,7 @@ seat_unready s k l frozen = ap is_ready (seat_is s k l) ∙ ap not frozen
 
 -- a prefix of a list and the rest have as many entries as they are counted
 pub record IsSplit (k n : ℕ) (L : List (Entry Pair)) : Type 0 where
-  pub front : length (take k L) ≡ k
+  pub prefix : length (take k L) ≡ k
   pub rest : length (drop k L) ≡ n
 
 split : (s : Sys) (list : List (Entry ℕ)) (k n : ℕ) → k + n ≡ length list → IsSplit k n (map (entry_at s) list)
@@ -59,7 +59,7 @@ split s list k n sum =
     let L = map (entry_at s) list in
     let long : length L ≡ length list = length-map list (entry_at s) in
     record {
-      front = omega (arith, length-take k L, long, sum);
+      prefix = omega (arith, length-take k L, long, sum);
       rest = omega (arith, length-drop k L, long, sum);
     }
 
@@ -119,7 +119,7 @@ changed a b x tally ok old_idle new_idle parts here repaired known pair counted 
         becomes = becomes;
         replays = begins_with a b x tally repaired;
         complete = subst (IsComplete new) (sym whole) repaired.relation.complete.list;
-        says = ap₂ (λ (kept added : ℕ). reply_text (reply.Kept kept added)) (sym counts.front) (sym counts.rest);
+        says = ap₂ (λ (kept added : ℕ). reply_text (reply.Kept kept added)) (sym counts.prefix) (sym counts.rest);
       };
     }
 

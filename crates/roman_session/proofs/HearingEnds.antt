@@ -4,7 +4,7 @@ use Rattle.std.proofs.Math.Seq.{take-append-add}
 use Rattle.std.proofs.lemmas.Bool.{cond-true, cond-false, or_from, lt-leb}
 use Rattle.roman_io.specs.Source.{Gave, EndsAt, Had, GaveAtMost}
 use Rattle.roman_io.proofs.SourceLemmas.{Gave-then}
-use Rattle.roman_io.proofs.SinkLemmas.{WroteFront-append}
+use Rattle.roman_io.proofs.SinkLemmas.{WrotePrefix-append}
 use Rattle.roman_model.specs.Lines.{lines, ended_lines, text_of_lines}
 use Rattle.roman_model.specs.declared.limits.TheConstants.{MAX_SESSION_BYTES}
 use Rattle.roman_model.proofs.Lists.{by_test}
@@ -13,7 +13,7 @@ use Rattle.roman_text.proofs.LineLemmas.{unfinished-nil, unfinished-free, lines_
 use Rattle.roman_session.specs.Situations.{Situation}
 use Rattle.roman_session.specs.Steps.{Told}
 use Rattle.roman_session.specs.Known.{AreBehaviours}
-use Rattle.roman_session.specs.Hearing.{has_quit, front_of, is_heard_out, heard_lines, GaveQuit, spot, hall, Tells, TellsFront, IsHeardOut, IsCutOff, StopsShort, TellsFrontOfAll}
+use Rattle.roman_session.specs.Hearing.{has_quit, prefix_of, is_heard_out, heard_lines, GaveQuit, spot, hall, Tells, TellsPrefix, IsHeardOut, IsCutOff, StopsShort, TellsPrefixOfAll}
 use Rattle.roman_session.specs.HearingBytes.{ear, IsHearing, StopsAtQuit, FallsShort, FailsIn, HearsPiece, HearsRest}
 use Rattle.roman_session.specs.declared.hearing.HearError.{HearError}
 use Rattle.roman_session.specs.declared.hearing.HearError.TheVariants.{ReadFault, WriteFault, TooLong}
@@ -47,21 +47,21 @@ gave_at_most most before mid now taken got first second few = record {
 -- ---- as much as is ever heard
 
 -- of bytes whose first ones are few enough
-front-append : (limit : ℕ) (heard rest : List ℕ) → length heard ≤ limit → take limit (heard ++ rest) ≡ heard ++ take (limit - length heard) rest
-front-append limit heard rest few =
+prefix-append : (limit : ℕ) (heard rest : List ℕ) → length heard ≤ limit → take limit (heard ++ rest) ≡ heard ++ take (limit - length heard) rest
+prefix-append limit heard rest few =
     let whole : limit ≡ length heard + (limit - length heard) = omega arith in
     ap (λ (n : ℕ). take n (heard ++ rest)) whole ∙ take-append-add heard rest (limit - length heard)
 
 -- a session that isn't longer is heard out
 pub short_out : (session : List ℕ) → length session ≤ MAX_SESSION_BYTES → IsTrue (is_heard_out session)
-short_out session few = ap (λ (b : Bool). b || has_quit (ended_lines (front_of session))) (le-leb (length session) MAX_SESSION_BYTES few)
+short_out session few = ap (λ (b : Bool). b || has_quit (ended_lines (prefix_of session))) (le-leb (length session) MAX_SESSION_BYTES few)
 
 -- so is one where a line `quit` ends in time
 quit_out : (heard rest : List ℕ) → length heard ≤ MAX_SESSION_BYTES → IsTrue (has_quit (ended_lines heard)) → IsTrue (is_heard_out (heard ++ rest))
 quit_out heard rest few quit =
     let (more, e) = ended_more heard (take (MAX_SESSION_BYTES - length heard) rest) in
-    or_right (nat_le (length (heard ++ rest)) MAX_SESSION_BYTES) (has_quit (ended_lines (front_of (heard ++ rest))))
-    (ap (λ (bytes : List ℕ). has_quit (ended_lines bytes)) (front-append MAX_SESSION_BYTES heard rest few) ∙ ap has_quit e ∙ quit_left (ended_lines heard) more quit)
+    or_right (nat_le (length (heard ++ rest)) MAX_SESSION_BYTES) (has_quit (ended_lines (prefix_of (heard ++ rest))))
+    (ap (λ (bytes : List ℕ). has_quit (ended_lines bytes)) (prefix-append MAX_SESSION_BYTES heard rest few) ∙ ap has_quit e ∙ quit_left (ended_lines heard) more quit)
   where
     or_right : (a b : Bool) → IsTrue b → IsTrue (a || b)
     or_right true b h = refl
@@ -71,17 +71,17 @@ quit_out heard rest few quit =
 heard_more : (heard rest : List ℕ) → length heard ≤ MAX_SESSION_BYTES → (more : List (List ℕ)) × (heard_lines (heard ++ rest) ≡ ended_lines heard ++ more)
 heard_more heard rest few = by_test (is_heard_out (heard ++ rest))
     (λ out.
-    let (front, e) = ended_more heard rest in
+    let (prefix, e) = ended_more heard rest in
     let (last, f) = lines_more (heard ++ rest) in (
-      front ++ last,
-      cond-true (is_heard_out (heard ++ rest)) (lines (heard ++ rest)) (ended_lines (front_of (heard ++ rest))) out
-          ∙ f ∙ ap (λ (ls : List (List ℕ)). ls ++ last) e ∙ append_assoc (ended_lines heard) front last,
+      prefix ++ last,
+      cond-true (is_heard_out (heard ++ rest)) (lines (heard ++ rest)) (ended_lines (prefix_of (heard ++ rest))) out
+          ∙ f ∙ ap (λ (ls : List (List ℕ)). ls ++ last) e ∙ append_assoc (ended_lines heard) prefix last,
     ))
     (λ long.
     let (more, e) = ended_more heard (take (MAX_SESSION_BYTES - length heard) rest) in (
       more,
-      cond-false (is_heard_out (heard ++ rest)) (lines (heard ++ rest)) (ended_lines (front_of (heard ++ rest))) long
-          ∙ ap ended_lines (front-append MAX_SESSION_BYTES heard rest few) ∙ e,
+      cond-false (is_heard_out (heard ++ rest)) (lines (heard ++ rest)) (ended_lines (prefix_of (heard ++ rest))) long
+          ∙ ap ended_lines (prefix-append MAX_SESSION_BYTES heard rest few) ∙ e,
     ))
 
 -- ---- at the end of the source
@@ -98,12 +98,12 @@ module _ (old new : Situation) (start mid : Option (List ℕ)) (taken : List ℕ
   }
 
   -- the answer to the last isn't written whole
-  fronts_rest : FallsShort (spot old before) (lines taken) (spot new now) → TellsFrontOfAll (hall old start before) now
-  fronts_rest fails = record {
+  prefixes_rest : FallsShort (spot old before) (lines taken) (spot new now) → TellsPrefixOfAll (hall old start before) now
+  prefixes_rest fails = record {
     session = taken;
     had = had_all start mid taken n gave ends none;
     last = new;
-    tells = subst (λ (ls : List (List ℕ)). TellsFront (spot old before) ls (spot new now)) (sym (cond-true (is_heard_out taken) (lines taken) (ended_lines (front_of taken)) (short_out taken few))) fails.tells;
+    tells = subst (λ (ls : List (List ℕ)). TellsPrefix (spot old before) ls (spot new now)) (sym (cond-true (is_heard_out taken) (lines taken) (ended_lines (prefix_of taken)) (short_out taken few))) fails.tells;
   }
 
   -- so by the answer of that call
@@ -111,11 +111,11 @@ module _ (old new : Situation) (start mid : Option (List ℕ)) (taken : List ℕ
   rest_out (Ok x) tells = out_at_end tells
   rest_out (Err error) h = tt
 
-  pub rest_fronts : (r : Result (Unit {0}) HearError) → HearsRest (spot old before) taken (spot new now) r → IsErrOf r WriteFault → TellsFrontOfAll (hall old start before) now
-  rest_fronts (Ok x) h is = absurd (let e : ⊥ = cc in e)
-  rest_fronts (Err ReadFault) h is = absurd h
-  rest_fronts (Err WriteFault) h is = fronts_rest h
-  rest_fronts (Err TooLong) h is = absurd h
+  pub rest_prefixes : (r : Result (Unit {0}) HearError) → HearsRest (spot old before) taken (spot new now) r → IsErrOf r WriteFault → TellsPrefixOfAll (hall old start before) now
+  rest_prefixes (Ok x) h is = absurd (let e : ⊥ = cc in e)
+  rest_prefixes (Err ReadFault) h is = absurd h
+  rest_prefixes (Err WriteFault) h is = prefixes_rest h
+  rest_prefixes (Err TooLong) h is = absurd h
 
 -- the last answer isn't written whole
 pub rest_stops_short : (old new : Situation) (start mid has : Option (List ℕ)) (taken into : List ℕ) (n : ℕ) (before now : Option (List ℕ)) (r : Result (Unit {0}) HearError) → Gave start mid taken →
@@ -166,10 +166,10 @@ quit_split taken part heard past e = ap (λ (part : List ℕ). taken ++ part) e 
 -- what is told of lines with a `quit` among them is told of all
 told_all : (old new : Situation) (heard rest text : List ℕ) → IsTrue (has_quit (ended_lines heard)) → Told old (ended_lines heard) text new → Told old (lines (heard ++ rest)) text new
 told_all old new heard rest text quit told =
-    let (front, e) = ended_more heard rest in
+    let (prefix, e) = ended_more heard rest in
     let (last, f) = lines_more (heard ++ rest) in
-    subst (λ (ls : List (List ℕ)). Told old ls text new) (sym (f ∙ ap (λ (ls : List (List ℕ)). ls ++ last) e ∙ append_assoc (ended_lines heard) front last))
-    (told_stops old new (ended_lines heard) (front ++ last) text quit told)
+    subst (λ (ls : List (List ℕ)). Told old ls text new) (sym (f ∙ ap (λ (ls : List (List ℕ)). ls ++ last) e ∙ append_assoc (ended_lines heard) prefix last))
+    (told_stops old new (ended_lines heard) (prefix ++ last) text quit told)
 
 module _ (old new : Situation) (start mid has : Option (List ℕ)) (taken got : List ℕ) (room : ℕ) (before now : Option (List ℕ)) (first : Gave start mid taken) (second : Gave mid has got)
     (fits : room + length taken ≡ MAX_SESSION_BYTES) where
@@ -230,15 +230,15 @@ module _ (old new : Situation) (start mid has : Option (List ℕ)) (taken got : 
   cut_off held hearing more =
       let (after, had) = had_after in
       let full : length (taken ++ take room got) ≡ MAX_SESSION_BYTES = omega (arith, length-append taken (take room got), length-take room got) in
-      let front : front_of ((taken ++ got) ++ after) ≡ taken ++ take room got =
+      let prefix : prefix_of ((taken ++ got) ++ after) ≡ taken ++ take room got =
       ap (take MAX_SESSION_BYTES) (whole_part after) ∙ take_at (taken ++ take room got) (drop room got ++ after) MAX_SESSION_BYTES full in
       record {
         session = (taken ++ got) ++ after;
         had = had;
-        long = or_from (nat_le (length ((taken ++ got) ++ after)) MAX_SESSION_BYTES) (has_quit (ended_lines (front_of ((taken ++ got) ++ after))))
+        long = or_from (nat_le (length ((taken ++ got) ++ after)) MAX_SESSION_BYTES) (has_quit (ended_lines (prefix_of ((taken ++ got) ++ after))))
             (lt-leb (length ((taken ++ got) ++ after)) MAX_SESSION_BYTES (omega (arith, length-append (taken ++ got) after, length-append taken got)))
-            (ap (λ (bytes : List ℕ). has_quit (ended_lines bytes)) front ∙ hearing.quitless);
-        tells = subst (λ (bytes : List ℕ). Tells (spot old before) (ended_lines bytes) (spot new now)) (sym front) (whole_told (spot old before) (spot new now) (ended_lines (taken ++ take room got)) hearing.tells);
+            (ap (λ (bytes : List ℕ). has_quit (ended_lines bytes)) prefix ∙ hearing.quitless);
+        tells = subst (λ (bytes : List ℕ). Tells (spot old before) (ended_lines bytes) (spot new now)) (sym prefix) (whole_told (spot old before) (spot new now) (ended_lines (taken ++ take room got)) hearing.tells);
       }
 
   -- the answer to a line isn't written whole
@@ -257,11 +257,11 @@ module _ (old new : Situation) (start mid has : Option (List ℕ)) (taken got : 
         gave = subst (Gave start has) parts (Gave-then start mid has taken got first second);
         few = omega (arith, part_fits, ap length fails.split, length-append fails.heard fails.past, ap length split, length-append whole (unfinished fails.heard));
         ends = inl (ap text_of_lines (sym ended));
-        tells = subst (λ (ls : List (List ℕ)). TellsFront (spot old before) ls (spot new now)) (sym all) fails.fails.tells;
+        tells = subst (λ (ls : List (List ℕ)). TellsPrefix (spot old before) ls (spot new now)) (sym all) fails.fails.tells;
       }
 
-  fronts_all : AreBehaviours old.parts → FailsIn (spot old before) (taken ++ take room got) (spot new now) → TellsFrontOfAll (hall old start before) now
-  fronts_all behaviours fails =
+  prefixes_all : AreBehaviours old.parts → FailsIn (spot old before) (taken ++ take room got) (spot new now) → TellsPrefixOfAll (hall old start before) now
+  prefixes_all behaviours fails =
       let (after, had) = had_after in
       let rest : List ℕ = fails.past ++ (drop room got ++ after) in
       let session : (taken ++ got) ++ after ≡ fails.heard ++ rest = part_split after fails.heard fails.past fails.split in
@@ -275,7 +275,7 @@ module _ (old new : Situation) (start mid has : Option (List ℕ)) (taken got : 
         tells = record {
           text = fails.fails.tells.text ++ text;
           told = subst (λ (ls : List (List ℕ)). Told old ls (fails.fails.tells.text ++ text) last) (sym (ap heard_lines session ∙ e)) told;
-          wrote = WroteFront-append before now fails.fails.tells.text text fails.fails.tells.wrote;
+          wrote = WrotePrefix-append before now fails.fails.tells.text text fails.fails.tells.wrote;
         };
       }
 
@@ -290,10 +290,10 @@ module _ (old new : Situation) (start mid has : Option (List ℕ)) (taken got : 
   piece_stops_short held WriteFault fails is = stops_short fails
   piece_stops_short held TooLong h is = absurd (let e : ⊥ = cc in e)
 
-  pub piece_fronts : (held : List ℕ) (error : HearError) → HearsPiece room (spot old before) taken got (ear new now [] held) (Err error) → error ≡ WriteFault → AreBehaviours old.parts → TellsFrontOfAll (hall old start before) now
-  piece_fronts held ReadFault h is behaviours = absurd h
-  piece_fronts held WriteFault fails is behaviours = fronts_all behaviours fails
-  piece_fronts held TooLong h is behaviours = absurd (let e : ⊥ = cc in e)
+  pub piece_prefixes : (held : List ℕ) (error : HearError) → HearsPiece room (spot old before) taken got (ear new now [] held) (Err error) → error ≡ WriteFault → AreBehaviours old.parts → TellsPrefixOfAll (hall old start before) now
+  piece_prefixes held ReadFault h is behaviours = absurd h
+  piece_prefixes held WriteFault fails is behaviours = prefixes_all behaviours fails
+  piece_prefixes held TooLong h is behaviours = absurd (let e : ⊥ = cc in e)
 
   pub piece_not_read : (held : List ℕ) (error : HearError) → HearsPiece room (spot old before) taken got (ear new now [] held) (Err error) → error ≡ ReadFault → ⊥
   piece_not_read held ReadFault h is = h

@@ -2,11 +2,11 @@
 use Rattle.std.proofs.Common.{◌≡◌, ℕ, ◌+◌, ◌<◌, ◌≤◌, true, false, List, [], ◌∷◌, ◌++◌, length, take, drop, get_or, min, nat_lt, Option, Result, Ok, Err, IsTrue, IsFalse, refl, sym, ap, ◌∙◌, subst, arith, append_assoc, append-nil, eqb-true}
 use Rattle.std.proofs.lemmas.Bool.{cond-true, cond-false}
 use Rattle.std.proofs.lemmas.List.{take_all, take_min, take_more, take-append-drop}
-use Rattle.roman_io.specs.Sink.{Wrote, WroteFront}
+use Rattle.roman_io.specs.Sink.{Wrote, WrotePrefix}
 use Rattle.roman_io.specs.declared.failed.Failed.{Failed}
-use Rattle.roman_io.proofs.SinkLemmas.{Wrote-then, WroteFront-after}
+use Rattle.roman_io.proofs.SinkLemmas.{Wrote-then, WrotePrefix-after}
 use Rattle.roman_text.specs.Pages.{Gathered}
-use Rattle.roman_text.proofs.PageLemmas.{Gathered-empty, Gathered-then, Gathered-put, WroteFront-gathered}
+use Rattle.roman_text.proofs.PageLemmas.{Gathered-empty, Gathered-then, Gathered-put, WrotePrefix-gathered}
 use Rattle.roman_model.specs.Lines.{lines, ended_lines}
 use Rattle.roman_model.proofs.Lists.{by_test}
 use Rattle.roman_text.specs.Lines.{is_newline, unfinished, kept}
@@ -15,7 +15,7 @@ use Rattle.roman_text.proofs.LineLemmas.{ended_lines-newline, ended_lines-other,
 use Rattle.roman_session.specs.Situations.{Situation, IsSituation}
 use Rattle.roman_session.specs.Steps.{Step}
 use Rattle.roman_session.specs.Answering.{Answered, AnsweredOn, next_of}
-use Rattle.roman_session.specs.Hearing.{ends_session, has_quit, Spot, spot, Tells, TellsFront}
+use Rattle.roman_session.specs.Hearing.{ends_session, has_quit, Spot, spot, Tells, TellsPrefix}
 use Rattle.roman_session.specs.HearingBytes.{ear, TellsOnPage, IsHearing, StopsAtQuit, FallsShort, FailsIn, HearsBytes}
 use Rattle.roman_session.specs.declared.next.Next.{Next}
 use Rattle.roman_session.specs.declared.next.Next.TheVariants.{More, Quit}
@@ -67,12 +67,12 @@ tells_more old mid new ls line more before wrote now quitless tells step wrote_m
 }
 
 fails_more : (old mid new : Situation) (ls : List (List ℕ)) (line more : List ℕ) (before wrote now : Option (List ℕ)) → IsFalse (has_quit ls) →
-    Tells (spot old before) ls (spot mid wrote) → Step mid line more new → WroteFront wrote now more → IsSituation new → FallsShort (spot old before) (ls ++ line ∷ []) (spot new now)
+    Tells (spot old before) ls (spot mid wrote) → Step mid line more new → WrotePrefix wrote now more → IsSituation new → FallsShort (spot old before) (ls ++ line ∷ []) (spot new now)
 fails_more old mid new ls line more before wrote now quitless tells step wrote_more known = record {
   tells = record {
     text = tells.text ++ more;
     told = told_push old mid new ls line tells.text more quitless tells.told step;
-    wrote = WroteFront-after before wrote now tells.text more tells.wrote wrote_more;
+    wrote = WrotePrefix-after before wrote now tells.text more tells.wrote wrote_more;
   };
   known = known;
 }
@@ -87,12 +87,12 @@ takes_more old mid new ls line more before wrote now page holds quitless takes s
 }
 
 takes_failed : (old mid new : Situation) (ls : List (List ℕ)) (line more : List ℕ) (before wrote now : Option (List ℕ)) (page : List ℕ) → IsFalse (has_quit ls) →
-    TellsOnPage (spot old before) ls (spot mid wrote) page → Step mid line more new → WroteFront wrote now (page ++ more) → IsSituation new → FallsShort (spot old before) (ls ++ line ∷ []) (spot new now)
-takes_failed old mid new ls line more before wrote now page quitless takes step front known = record {
+    TellsOnPage (spot old before) ls (spot mid wrote) page → Step mid line more new → WrotePrefix wrote now (page ++ more) → IsSituation new → FallsShort (spot old before) (ls ++ line ∷ []) (spot new now)
+takes_failed old mid new ls line more before wrote now page quitless takes step prefix known = record {
   tells = record {
     text = takes.text ++ more;
     told = told_push old mid new ls line takes.text more quitless takes.told step;
-    wrote = WroteFront-gathered before wrote now page takes.text more takes.gathered front;
+    wrote = WrotePrefix-gathered before wrote now page takes.text more takes.gathered prefix;
   };
   known = known;
 }
@@ -102,7 +102,7 @@ pub whole_told : (old new : Spot) (ls : List (List ℕ)) → TellsOnPage old ls 
 whole_told old new ls takes = record {
   text = takes.text;
   told = takes.told;
-  wrote = subst (Wrote old.written new.written) (sym (takes.gathered.rest ∙ append-nil takes.gathered.front)) takes.gathered.wrote;
+  wrote = subst (Wrote old.written new.written) (sym (takes.gathered.rest ∙ append-nil takes.gathered.prefix)) takes.gathered.wrote;
 }
 
 -- what a page holds is put
@@ -111,14 +111,14 @@ put_whole old mid wrote now ls page takes put = record {
   text = takes.text;
   told = takes.told;
   gathered = Gathered-put old.written now takes.text
-      (subst (Wrote old.written now) (sym takes.gathered.rest) (Wrote-then old.written wrote now takes.gathered.front page takes.gathered.wrote put));
+      (subst (Wrote old.written now) (sym takes.gathered.rest) (Wrote-then old.written wrote now takes.gathered.prefix page takes.gathered.wrote put));
 }
 
-put_front : (old : Spot) (mid : Situation) (wrote now : Option (List ℕ)) (ls : List (List ℕ)) (page : List ℕ) → TellsOnPage old ls (spot mid wrote) page → WroteFront wrote now page → TellsFront old ls (spot mid now)
-put_front old mid wrote now ls page takes front = record {
+put_prefix : (old : Spot) (mid : Situation) (wrote now : Option (List ℕ)) (ls : List (List ℕ)) (page : List ℕ) → TellsOnPage old ls (spot mid wrote) page → WrotePrefix wrote now page → TellsPrefix old ls (spot mid now)
+put_prefix old mid wrote now ls page takes prefix = record {
   text = takes.text;
   told = takes.told;
-  wrote = subst (WroteFront old.written now) (sym takes.gathered.rest) (WroteFront-after old.written wrote now takes.gathered.front page takes.gathered.wrote front);
+  wrote = subst (WrotePrefix old.written now) (sym takes.gathered.rest) (WrotePrefix-after old.written wrote now takes.gathered.prefix page takes.gathered.wrote prefix);
 }
 
 -- ---- one byte
@@ -173,22 +173,22 @@ module _ (old : Situation) (before : Option (List ℕ)) (taken : List ℕ) (mid 
 -- ---- bytes after bytes
 
 -- a line `quit` in a part of a piece
-pub stops_within : (old : Situation) (before : Option (List ℕ)) (taken front part back piece : List ℕ) (new : Situation) (now : Option (List ℕ)) (page : List ℕ) → piece ≡ front ++ (part ++ back) →
-    StopsAtQuit (spot old before) (taken ++ front) part (spot new now) page → StopsAtQuit (spot old before) taken piece (spot new now) page
-stops_within old before taken front part back piece new now page split stops = record {
-  heard = front ++ stops.heard;
+pub stops_within : (old : Situation) (before : Option (List ℕ)) (taken prefix part back piece : List ℕ) (new : Situation) (now : Option (List ℕ)) (page : List ℕ) → piece ≡ prefix ++ (part ++ back) →
+    StopsAtQuit (spot old before) (taken ++ prefix) part (spot new now) page → StopsAtQuit (spot old before) taken piece (spot new now) page
+stops_within old before taken prefix part back piece new now page split stops = record {
+  heard = prefix ++ stops.heard;
   past = stops.past ++ back;
-  split = split ∙ ap (λ (bytes : List ℕ). front ++ (bytes ++ back)) stops.split ∙ ap (λ (bytes : List ℕ). front ++ bytes) (append_assoc stops.heard (10 ∷ stops.past) back)
-      ∙ sym (append_assoc front stops.heard (10 ∷ (stops.past ++ back)));
-  first = subst (λ (bytes : List ℕ). IsFalse (has_quit (ended_lines bytes))) (append_assoc taken front stops.heard) stops.first;
-  quit = subst (λ (bytes : List ℕ). IsTrue (has_quit (ended_lines (bytes ++ 10 ∷ [])))) (append_assoc taken front stops.heard) stops.quit;
-  tells = subst (λ (bytes : List ℕ). TellsOnPage (spot old before) (ended_lines (bytes ++ 10 ∷ [])) (spot new now) page) (append_assoc taken front stops.heard) stops.tells;
+  split = split ∙ ap (λ (bytes : List ℕ). prefix ++ (bytes ++ back)) stops.split ∙ ap (λ (bytes : List ℕ). prefix ++ bytes) (append_assoc stops.heard (10 ∷ stops.past) back)
+      ∙ sym (append_assoc prefix stops.heard (10 ∷ (stops.past ++ back)));
+  first = subst (λ (bytes : List ℕ). IsFalse (has_quit (ended_lines bytes))) (append_assoc taken prefix stops.heard) stops.first;
+  quit = subst (λ (bytes : List ℕ). IsTrue (has_quit (ended_lines (bytes ++ 10 ∷ [])))) (append_assoc taken prefix stops.heard) stops.quit;
+  tells = subst (λ (bytes : List ℕ). TellsOnPage (spot old before) (ended_lines (bytes ++ 10 ∷ [])) (spot new now) page) (append_assoc taken prefix stops.heard) stops.tells;
 }
 
 -- a fault in a part of them
-pub fails_within : (old : Situation) (before : Option (List ℕ)) (front back bytes : List ℕ) (new : Situation) (now : Option (List ℕ)) → bytes ≡ front ++ back →
-    FailsIn (spot old before) front (spot new now) → FailsIn (spot old before) bytes (spot new now)
-fails_within old before front back bytes new now split fails = record {
+pub fails_within : (old : Situation) (before : Option (List ℕ)) (prefix back bytes : List ℕ) (new : Situation) (now : Option (List ℕ)) → bytes ≡ prefix ++ back →
+    FailsIn (spot old before) prefix (spot new now) → FailsIn (spot old before) bytes (spot new now)
+fails_within old before prefix back bytes new now split fails = record {
   heard = fails.heard;
   past = fails.past ++ back;
   split = split ∙ ap (λ (bytes : List ℕ). bytes ++ back) fails.split ∙ append_assoc fails.heard fails.past back;
@@ -198,7 +198,7 @@ fails_within old before front back bytes new now split fails = record {
 -- a list is what stands before a place, what stands there, and what follows
 at_place : (bytes : List ℕ) (i : ℕ) → i < length bytes → bytes ≡ take i bytes ++ (get_or bytes i 0 ∷ [] ++ drop (i + 1) bytes)
 at_place bytes i l =
-    sym (take-append-drop (i + 1) bytes) ∙ ap (λ (front : List ℕ). front ++ drop (i + 1) bytes) (take_more bytes i 0 l)
+    sym (take-append-drop (i + 1) bytes) ∙ ap (λ (prefix : List ℕ). prefix ++ drop (i + 1) bytes) (take_more bytes i 0 l)
     ∙ append_assoc (take i bytes) (get_or bytes i 0 ∷ []) (drop (i + 1) bytes)
 
 module _ (old : Situation) (before : Option (List ℕ)) (taken bytes : List ℕ) (i : ℕ) (new : Situation) (now : Option (List ℕ)) (l : i < length bytes) where
@@ -263,18 +263,18 @@ module _ (old : Situation) (before : Option (List ℕ)) (taken bytes : List ℕ)
   }
 
   -- or that failed
-  pub put_failed : (next : Next) → HearsBytes (spot old before) taken bytes (ear new wrote page held) (Ok next) → WroteFront wrote now page → IsSituation new → FailsIn (spot old before) (taken ++ bytes) (spot new now)
-  put_failed More is front known = record {
+  pub put_failed : (next : Next) → HearsBytes (spot old before) taken bytes (ear new wrote page held) (Ok next) → WrotePrefix wrote now page → IsSituation new → FailsIn (spot old before) (taken ++ bytes) (spot new now)
+  put_failed More is prefix known = record {
     heard = taken ++ bytes;
     past = [];
     split = sym (append-nil (taken ++ bytes));
-    fails = record { tells = put_front (spot old before) new wrote now (ended_lines (taken ++ bytes)) page is.tells front; known = known };
+    fails = record { tells = put_prefix (spot old before) new wrote now (ended_lines (taken ++ bytes)) page is.tells prefix; known = known };
   }
-  put_failed Quit stops front known = record {
+  put_failed Quit stops prefix known = record {
     heard = taken ++ stops.heard ++ 10 ∷ [];
     past = stops.past;
     split = ap (λ (part : List ℕ). taken ++ part) stops.split ∙ sym (append_assoc taken stops.heard (10 ∷ stops.past)) ∙ sym (append_assoc (taken ++ stops.heard) (10 ∷ []) stops.past);
-    fails = record { tells = put_front (spot old before) new wrote now (ended_lines (taken ++ stops.heard ++ 10 ∷ [])) page stops.tells front; known = known };
+    fails = record { tells = put_prefix (spot old before) new wrote now (ended_lines (taken ++ stops.heard ++ 10 ∷ [])) page stops.tells prefix; known = known };
   }
 
 -- ---- a piece, as far as there is room

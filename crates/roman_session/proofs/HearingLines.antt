@@ -74,15 +74,15 @@ all_lines ls h = ap until_quit (sym (append-nil ls)) ∙ goes_on ls [] h ∙ app
 -- some lines, and then others
 answers_then : (old mid new : Situation) (ls ms : List (List ℕ)) (text more : List ℕ) → Answers old ls text mid → Answers mid ms more new → Answers old (ls ++ ms) (text ++ more) new
 answers_then old mid new [] ms text more (none, same) rest =
-    subst (λ (s : Situation). Answers s ms (text ++ more) new) same (subst (λ (front : List ℕ). Answers mid ms (front ++ more) new) (sym none) rest)
+    subst (λ (s : Situation). Answers s ms (text ++ more) new) same (subst (λ (prefix : List ℕ). Answers mid ms (prefix ++ more) new) (sym none) rest)
 answers_then old mid new (line ∷ ls) ms text more (said, later, next, split, step, answers) rest =
-    (said, later ++ more, next, ap (λ (front : List ℕ). front ++ more) split ∙ append_assoc said later more, step, answers_then next mid new ls ms later more answers rest)
+    (said, later ++ more, next, ap (λ (prefix : List ℕ). prefix ++ more) split ∙ append_assoc said later more, step, answers_then next mid new ls ms later more answers rest)
 
 -- more lines
 pub told_then : (old mid new : Situation) (ls ms : List (List ℕ)) (text more : List ℕ) → IsFalse (has_quit ls) → Told old ls text mid → Told mid ms more new → Told old (ls ++ ms) (text ++ more) new
 told_then old mid new ls ms text more quitless told rest =
     subst (λ (all : List (List ℕ)). Answers old all (text ++ more) new) (sym (goes_on ls ms quitless))
-    (answers_then old mid new ls (until_quit ms) text more (subst (λ (front : List (List ℕ)). Answers old front text mid) (all_lines ls quitless) told) rest)
+    (answers_then old mid new ls (until_quit ms) text more (subst (λ (prefix : List (List ℕ)). Answers old prefix text mid) (all_lines ls quitless) told) rest)
 
 -- one line more
 pub told_push : (old mid new : Situation) (ls : List (List ℕ)) (line text more : List ℕ) → IsFalse (has_quit ls) → Told old ls text mid → Step mid line more new →

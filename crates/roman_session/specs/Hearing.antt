@@ -2,7 +2,7 @@
 use Rattle.std.specs.Prelude.{◌≡◌, ◌≢◌, ℕ, ◌≤◌, ◌⊎◌, Bool, ◌||◌, List, [], ◌∷◌, ◌++◌, length, take, nat_le, Option, Result, Err, IsErrOf, IsTrue, IsFalse, if◌then◌else◌}
 use Rattle.std.specs.List.{list_any}
 use Rattle.roman_io.specs.Faults.{Rose}
-use Rattle.roman_io.specs.Sink.{Wrote, WroteFront}
+use Rattle.roman_io.specs.Sink.{Wrote, WrotePrefix}
 use Rattle.roman_io.specs.Source.{Gave, Had}
 use Rattle.roman_model.specs.Lines.{lines, ended_lines, text_of_lines}
 use Rattle.roman_model.specs.declared.limits.TheConstants.{MAX_SESSION_BYTES}
@@ -22,16 +22,16 @@ abbrev pub has_quit : List (List ℕ) → Bool
 has_quit lines = list_any ends_session lines
 
 -- as much of a session as is ever heard
-abbrev pub front_of : List ℕ → List ℕ
-front_of session = take MAX_SESSION_BYTES session
+abbrev pub prefix_of : List ℕ → List ℕ
+prefix_of session = take MAX_SESSION_BYTES session
 
 -- the session has at most the greatest number of bytes, or a line `quit` ends within that many
 abbrev pub is_heard_out : List ℕ → Bool
-is_heard_out session = nat_le (length session) MAX_SESSION_BYTES || has_quit (ended_lines (front_of session))
+is_heard_out session = nat_le (length session) MAX_SESSION_BYTES || has_quit (ended_lines (prefix_of session))
 
 -- the lines of a session that are answered, as far as no `quit` comes: all, or those that end within as much as is ever heard
 abbrev pub heard_lines : List ℕ → List (List ℕ)
-heard_lines session = if is_heard_out session then lines session else ended_lines (front_of session)
+heard_lines session = if is_heard_out session then lines session else ended_lines (prefix_of session)
 
 -- the source gave a first line `quit`, and after its newline at most so many bytes
 pub record GaveQuit (most : ℕ) (before now : Option (List ℕ)) : Type 0 where
@@ -67,10 +67,10 @@ pub record Tells (old : Spot) (lines : List (List ℕ)) (new : Spot) : Type 0 wh
   pub wrote : Wrote old.written new.written text
 
 -- a prefix of what the session is told of those lines, where it stands there then, was written
-pub record TellsFront (old : Spot) (lines : List (List ℕ)) (new : Spot) : Type 0 where
+pub record TellsPrefix (old : Spot) (lines : List (List ℕ)) (new : Spot) : Type 0 where
   pub text : List ℕ
   pub told : Told old.situation lines text new.situation
-  pub wrote : WroteFront old.written new.written text
+  pub wrote : WrotePrefix old.written new.written text
 
 -- ---- how a session ends
 
@@ -86,7 +86,7 @@ pub record IsCutOff (old : Hall) (new : Spot) : Type 0 where
   pub session : List ℕ
   pub had : Had old.rest session
   pub long : IsFalse (is_heard_out session)
-  pub tells : Tells old.spot (ended_lines (front_of session)) new
+  pub tells : Tells old.spot (ended_lines (prefix_of session)) new
 
 -- it would go on: the source gave not too many bytes, and their whole lines are answered, none of which is `quit`
 pub record GoesOn (old new : Hall) : Type 0 where
@@ -108,14 +108,14 @@ pub record StopsShort (old new : Hall) : Type 0 where
   pub gave : Gave old.rest new.rest (heard ++ past)
   pub few : length heard ≤ MAX_SESSION_BYTES
   pub ends : AreWhole heard ⊎ Had old.rest heard
-  pub tells : TellsFront old.spot (lines heard) new.spot
+  pub tells : TellsPrefix old.spot (lines heard) new.spot
 
 -- a prefix of what may be told of the whole session was written
-pub record TellsFrontOfAll (old : Hall) (now : Option (List ℕ)) : Type 0 where
+pub record TellsPrefixOfAll (old : Hall) (now : Option (List ℕ)) : Type 0 where
   pub session : List ℕ
   pub had : Had old.rest session
   pub last : Situation
-  pub tells : TellsFront old.spot (heard_lines session) (spot last now)
+  pub tells : TellsPrefix old.spot (heard_lines session) (spot last now)
 
 -- a count of faults rose where that error is answered, and stayed elsewhere
 pub record CausedBy {T : Type 0} (fault : HearError) (old new : ℕ) (result : Result T HearError) : Type 0 where

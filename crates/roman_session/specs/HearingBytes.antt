@@ -6,7 +6,7 @@ use Rattle.roman_text.specs.Lines.{unfinished, kept}
 use Rattle.roman_text.specs.Pages.{Gathered}
 use Rattle.roman_session.specs.Situations.{Situation, IsSituation}
 use Rattle.roman_session.specs.Steps.{Told}
-use Rattle.roman_session.specs.Hearing.{has_quit, Spot, spot, Tells, TellsFront}
+use Rattle.roman_session.specs.Hearing.{has_quit, Spot, spot, Tells, TellsPrefix}
 use Rattle.roman_session.specs.declared.next.Next.{Next}
 use Rattle.roman_session.specs.declared.next.Next.TheVariants.{More, Quit}
 use Rattle.roman_session.specs.declared.hearing.HearError.{HearError}
@@ -45,7 +45,7 @@ pub record StopsAtQuit (old : Spot) (taken piece : List ℕ) (new : Spot) (page 
 
 -- the answer to the last of those lines wasn't written whole, and lines may follow
 pub record FallsShort (old : Spot) (lines : List (List ℕ)) (new : Spot) : Type 0 where
-  pub tells : TellsFront old lines new
+  pub tells : TellsPrefix old lines new
   pub known : IsSituation new.situation
 
 -- some prefix of the bytes ends with a line whose answer wasn't written whole

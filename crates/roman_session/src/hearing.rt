@@ -6,7 +6,7 @@ ghost use Rattle.roman_text.specs.Lines.{kept};
 ghost use Rattle.roman_session.specs.Situations.{Situation, IsSituation};
 ghost use Rattle.roman_session.specs.Answering.{Answered, AnsweredOn, next_of};
 ghost use Rattle.roman_session.specs.Known.{AreBehaviours};
-ghost use Rattle.roman_session.specs.Hearing.{GaveQuit, spot, hall, IsHeardOut, IsCutOff, GoesOn, StopsShort, TellsFrontOfAll, CausedBy};
+ghost use Rattle.roman_session.specs.Hearing.{GaveQuit, spot, hall, IsHeardOut, IsCutOff, GoesOn, StopsShort, TellsPrefixOfAll, CausedBy};
 ghost use Rattle.roman_session.specs.HearingBytes.{ear, IsHearing, HearsBytes, HearsPiece, HearsRest};
 
 use crate::next::Next;
@@ -55,7 +55,7 @@ pub fn hear<S: Source, O: Sink, L: Ledger>(
     // A fault has its cause, and each line of what was taken has its answer till then.
     ensures read_fault { IsErrOf result HearError.ReadFault → GoesOn (hall session.old (S.rest source.old) (O.written out.old)) (hall session.new (S.rest source.new) (O.written out.new)) }
     ensures write_fault { IsErrOf result HearError.WriteFault → StopsShort (hall session.old (S.rest source.old) (O.written out.old)) (hall session.new (S.rest source.new) (O.written out.new)) }
-    ensures front { IsErrOf result HearError.WriteFault → AreBehaviours session.old.parts → TellsFrontOfAll (hall session.old (S.rest source.old) (O.written out.old)) (O.written out.new) }
+    ensures prefix { IsErrOf result HearError.WriteFault → AreBehaviours session.old.parts → TellsPrefixOfAll (hall session.old (S.rest source.old) (O.written out.old)) (O.written out.new) }
     ensures reads { CausedBy HearError.ReadFault (S.faults source.old) (S.faults source.new) result }
     ensures writes { CausedBy HearError.WriteFault (O.faults out.old) (O.faults out.new) result }
 

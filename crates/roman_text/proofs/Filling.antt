@@ -1,10 +1,10 @@
 -- A page that is being filled: what it has taken so far, and what is left of a whole text.
 use Rattle.std.proofs.Common.{◌≡◌, ℕ, List, [], ◌++◌, Option, Result, Ok, Err, refl, sym, ap, ◌∙◌, subst, append_assoc}
 use Rattle.std.proofs.lemmas.List.{append-nil}
-use Rattle.roman_io.specs.Sink.{WroteFront, Puts}
-use Rattle.roman_io.proofs.SinkLemmas.{Wrote-nil, WroteFront-append}
+use Rattle.roman_io.specs.Sink.{WrotePrefix, Puts}
+use Rattle.roman_io.proofs.SinkLemmas.{Wrote-nil, WrotePrefix-append}
 use Rattle.roman_text.specs.Pages.{Gathered, Gathers}
-use Rattle.roman_text.proofs.PageLemmas.{Gathered-then, WroteFront-gathered, Puts-after_Gathered}
+use Rattle.roman_text.proofs.PageLemmas.{Gathered-then, WrotePrefix-gathered, Puts-after_Gathered}
 
 -- the page has taken a text, and with the rest it is the whole
 pub record IsFilling (old now : Option (List ℕ)) (held rest all : List ℕ) : Type 0 where
@@ -14,7 +14,7 @@ pub record IsFilling (old now : Option (List ℕ)) (held rest all : List ℕ) : 
 
 -- nothing of the rest is taken yet
 pub fill_begin : (old : Option (List ℕ)) (held rest : List ℕ) → IsFilling old old held rest (held ++ rest)
-fill_begin old held rest = record { text = held; gathered = record { front = []; wrote = Wrote-nil old; rest = refl }; left = refl }
+fill_begin old held rest = record { text = held; gathered = record { prefix = []; wrote = Wrote-nil old; rest = refl }; left = refl }
 
 -- the same on an empty page
 pub fill_whole : (old : Option (List ℕ)) (held rest all : List ℕ) → held ≡ [] → rest ≡ all → IsFilling old old held rest all
@@ -34,10 +34,10 @@ fill_more old mid new held after piece rest all f g = record {
 }
 
 -- a piece failed: a prefix of the whole was written
-pub fill_failed : (old mid new : Option (List ℕ)) (held piece rest all : List ℕ) → IsFilling old mid held (piece ++ rest) all → WroteFront mid new (held ++ piece) → WroteFront old new all
+pub fill_failed : (old mid new : Option (List ℕ)) (held piece rest all : List ℕ) → IsFilling old mid held (piece ++ rest) all → WrotePrefix mid new (held ++ piece) → WrotePrefix old new all
 fill_failed old mid new held piece rest all f w =
-    subst (WroteFront old new) (append_assoc f.text piece rest ∙ f.left)
-    (WroteFront-append old new (f.text ++ piece) rest (WroteFront-gathered old mid new held f.text piece f.gathered w))
+    subst (WrotePrefix old new) (append_assoc f.text piece rest ∙ f.left)
+    (WrotePrefix-append old new (f.text ++ piece) rest (WrotePrefix-gathered old mid new held f.text piece f.gathered w))
 
 -- the rest may be said otherwise
 pub fill_same : (old now : Option (List ℕ)) (held rest other all : List ℕ) → rest ≡ other → IsFilling old now held rest all → IsFilling old now held other all

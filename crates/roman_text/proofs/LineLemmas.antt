@@ -66,11 +66,11 @@ module _ {X : Type 0} (p : X → Bool) where
       let f = first_part xs in
       append_at (p x) x ys (slice_split p xs) (slice_split p (xs ++ ys)) f.0 f.1 refl f.2 (slice_split-append xs ys)
 
-  all_but_last-split : (front : List (List X)) (xs : List X) → all_but_last (front ++ slice_split p xs) ≡ front ++ all_but_last (slice_split p xs)
-  all_but_last-split front xs = let f = first_part xs in rw f.2 (all_but_last-append front f.0 f.1)
+  all_but_last-split : (prefix : List (List X)) (xs : List X) → all_but_last (prefix ++ slice_split p xs) ≡ prefix ++ all_but_last (slice_split p xs)
+  all_but_last-split prefix xs = let f = first_part xs in rw f.2 (all_but_last-append prefix f.0 f.1)
 
-  last_part-split : (front : List (List X)) (xs : List X) → last_part (front ++ slice_split p xs) ≡ last_part (slice_split p xs)
-  last_part-split front xs = let f = first_part xs in rw f.2 (last_part-append front f.0 f.1)
+  last_part-split : (prefix : List (List X)) (xs : List X) → last_part (prefix ++ slice_split p xs) ≡ last_part (slice_split p xs)
+  last_part-split prefix xs = let f = first_part xs in rw f.2 (last_part-append prefix f.0 f.1)
 
   last_step : (b : Bool) (x : X) (part : List X) (parts : List (List X)) → p x ≡ b → All (λ y. p y ≡ false) (last_part (part ∷ parts))
       → All (λ y. p y ≡ false) (last_part (cond b ([] ∷ part ∷ parts) (onto_first x (part ∷ parts))))
@@ -129,7 +129,7 @@ lines_of_parts (x ∷ xs) = let f = first_part is_newline xs in lines_at (is_new
 -- the lines of a text are those that end with a newline and what is unfinished
 lines_are_ended : (bytes : List ℕ) → lines bytes ≡ ended_lines bytes ++ last_line (unfinished bytes)
 unfolding whole_lines unfinished
-lines_are_ended bytes = lines_of_parts bytes ∙ ap (λ (front : List (List ℕ)). front ++ last_line (last_part (slice_split is_newline bytes))) (sym (ended_lines_are bytes))
+lines_are_ended bytes = lines_of_parts bytes ∙ ap (λ (prefix : List (List ℕ)). prefix ++ last_line (last_part (slice_split is_newline bytes))) (sym (ended_lines_are bytes))
 
 -- the lines of a text that goes on: those that have ended stay, and the unfinished one goes on
 pub ended_lines-append : (xs ys : List ℕ) → ended_lines (xs ++ ys) ≡ ended_lines xs ++ ended_lines (unfinished xs ++ ys)
@@ -306,7 +306,7 @@ HasTaken-start = record { whole = refl; rest = sym (ap kept unfinished-nil ∙ k
 pub HasTaken-newline : (bytes : List ℕ) (lines : List (List ℕ)) (held : List ℕ) (byte : ℕ) → is_newline byte ≡ true → HasTaken bytes lines held
     → HasTaken (bytes ++ byte ∷ []) (lines ++ unfinished bytes ∷ []) []
 HasTaken-newline bytes lines held byte e t = record {
-  whole = ap (λ (front : List (List ℕ)). front ++ unfinished bytes ∷ []) t.whole ∙ sym (ended_lines-newline bytes byte e);
+  whole = ap (λ (prefix : List (List ℕ)). prefix ++ unfinished bytes ∷ []) t.whole ∙ sym (ended_lines-newline bytes byte e);
   rest = sym (ap kept (unfinished-newline bytes byte e) ∙ kept-nil);
 }
 
@@ -324,7 +324,7 @@ HasTaken-other bytes lines held byte e t = record {
 pub push_room : (bytes held : List ℕ) (len byte : ℕ) → take len bytes ≡ held → length bytes ≡ 257 → len < 257 → take (len + 1) (set bytes len byte) ≡ kept (held ++ byte ∷ [])
 push_room bytes held len byte same size room =
     let in_bytes : len < length bytes = omega arith in
-    let front : length (take len bytes) ≤ len = omega (arith, length-take len bytes) in
+    let prefix : length (take len bytes) ≤ len = omega (arith, length-take len bytes) in
     let short : length (held ++ byte ∷ []) ≤ 257 = omega (arith, length-append held (byte ∷ []), ap length same) in
     rw add-one (take-suc-set bytes len byte in_bytes ∙ (ap (λ (xs : List ℕ). xs ++ byte ∷ []) same ∙ sym (kept-short (held ++ byte ∷ []) short)))
 

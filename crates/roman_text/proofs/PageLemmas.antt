@@ -1,47 +1,47 @@
 -- What a page writes and holds, over several calls.
 use Rattle.std.proofs.Common.{◌≡◌, ℕ, List, [], ◌++◌, Option, Result, Ok, Err, sym, ap, ◌∙◌, append_assoc}
 use Rattle.std.proofs.lemmas.List.{append-nil}
-use Rattle.roman_io.specs.Sink.{Wrote, WroteFront, Puts}
-use Rattle.roman_io.proofs.SinkLemmas.{Wrote-nil, Wrote-then, WroteFront-append, WroteFront-after, Puts-after}
+use Rattle.roman_io.specs.Sink.{Wrote, WrotePrefix, Puts}
+use Rattle.roman_io.proofs.SinkLemmas.{Wrote-nil, Wrote-then, WrotePrefix-append, WrotePrefix-after, Puts-after}
 use Rattle.roman_text.specs.Pages.{Gathered, Gathers}
 
 -- ---- for those who fill a page: the beginning, one more text, a fault, and the end
 
 -- an empty page has gathered nothing
 pub Gathered-empty : (told : Option (List ℕ)) (held : List ℕ) → held ≡ [] → Gathered told told held []
-Gathered-empty told held empty = record { front = []; wrote = Wrote-nil told; rest = sym empty }
+Gathered-empty told held empty = record { prefix = []; wrote = Wrote-nil told; rest = sym empty }
 
 -- one more text was taken
 pub Gathered-then : (old mid new : Option (List ℕ)) (held after text more : List ℕ) → Gathered old mid held text → Gathered mid new after (held ++ more) → Gathered old new after (text ++ more)
 Gathered-then old mid new held after text more g h = record {
-  front = g.front ++ h.front;
-  wrote = Wrote-then old mid new g.front h.front g.wrote h.wrote;
+  prefix = g.prefix ++ h.prefix;
+  wrote = Wrote-then old mid new g.prefix h.prefix g.wrote h.wrote;
   rest = ap (λ (xs : List ℕ). xs ++ more) g.rest
-      ∙ (append_assoc g.front held more ∙ (ap (λ (xs : List ℕ). g.front ++ xs) h.rest ∙ sym (append_assoc g.front h.front after)));
+      ∙ (append_assoc g.prefix held more ∙ (ap (λ (xs : List ℕ). g.prefix ++ xs) h.rest ∙ sym (append_assoc g.prefix h.prefix after)));
 }
 
 -- a fault while one more text was taken: a prefix of all was written
-pub WroteFront-gathered : (old mid new : Option (List ℕ)) (held text more : List ℕ) → Gathered old mid held text → WroteFront mid new (held ++ more) → WroteFront old new (text ++ more)
-WroteFront-gathered old mid new held text more g h =
-    let same : text ++ more ≡ g.front ++ (held ++ more) = ap (λ (xs : List ℕ). xs ++ more) g.rest ∙ append_assoc g.front held more in
-    rw same (WroteFront-after old mid new g.front (held ++ more) g.wrote h)
+pub WrotePrefix-gathered : (old mid new : Option (List ℕ)) (held text more : List ℕ) → Gathered old mid held text → WrotePrefix mid new (held ++ more) → WrotePrefix old new (text ++ more)
+WrotePrefix-gathered old mid new held text more g h =
+    let same : text ++ more ≡ g.prefix ++ (held ++ more) = ap (λ (xs : List ℕ). xs ++ more) g.rest ∙ append_assoc g.prefix held more in
+    rw same (WrotePrefix-after old mid new g.prefix (held ++ more) g.wrote h)
 
 -- one more text, whatever the answer
 pub Gathers-after : {T E : Type 0} (old mid new : Option (List ℕ)) (held after text more : List ℕ) (result : Result T E)
     → Gathered old mid held text → Gathers mid new after (held ++ more) result → Gathers old new after (text ++ more) result
 Gathers-after old mid new held after text more (Ok x) g h = Gathered-then old mid new held after text more g h
-Gathers-after old mid new held after text more (Err e) g h = (WroteFront-gathered old mid new held text more g h.0, h.1)
+Gathers-after old mid new held after text more (Err e) g h = (WrotePrefix-gathered old mid new held text more g h.0, h.1)
 
 -- what a page holds is put after what it wrote
 pub Puts-after_Gathered : {T E : Type 0} (old mid new : Option (List ℕ)) (held text : List ℕ) (result : Result T E)
     → Gathered old mid held text → Puts mid new held result → Puts old new text result
-Puts-after_Gathered old mid new held text result g p = rw g.rest (Puts-after old mid new g.front held result g.wrote p)
+Puts-after_Gathered old mid new held text result g p = rw g.rest (Puts-after old mid new g.prefix held result g.wrote p)
 
 -- ---- for a page itself
 
 -- bytes that were put at once
 pub Gathered-put : (old new : Option (List ℕ)) (bytes : List ℕ) → Wrote old new bytes → Gathered old new [] bytes
-Gathered-put old new bytes wrote = record { front = bytes; wrote = wrote; rest = sym (append-nil bytes) }
+Gathered-put old new bytes wrote = record { prefix = bytes; wrote = wrote; rest = sym (append-nil bytes) }
 
 -- bytes on a page whose content was put
 pub Gathers-flushed : {T E : Type 0} (old mid new : Option (List ℕ)) (held after more : List ℕ) (result : Result T E)
@@ -50,5 +50,5 @@ Gathers-flushed old mid new held after more result wrote h =
     Gathers-after old mid new [] after held more result (Gathered-put old mid held wrote) h
 
 -- where putting what is held failed, a prefix of it and of what was to follow was written
-pub Gathers-failed : (old new : Option (List ℕ)) (held after more : List ℕ) → WroteFront old new held → after ≡ [] → WroteFront old new (held ++ more) × (after ≡ [])
-Gathers-failed old new held after more wrote empty = (WroteFront-append old new held more wrote, empty)
+pub Gathers-failed : (old new : Option (List ℕ)) (held after more : List ℕ) → WrotePrefix old new held → after ≡ [] → WrotePrefix old new (held ++ more) × (after ≡ [])
+Gathers-failed old new held after more wrote empty = (WrotePrefix-append old new held more wrote, empty)

@@ -63,19 +63,19 @@ no_words line h =
     sym (words_of-start line) ∙ (ap words_of (drop_all (position_or_len is_part line) line end) ∙ words_of-nil)
 
 -- the parts of a line after its first one
-record IsFront (line : List ℕ) (n : ℕ) : Type 0 where
+record IsPrefix (line : List ℕ) (n : ℕ) : Type 0 where
   more : List (List ℕ)
   parts : slice_split is_blank line ≡ take n line ∷ more
   words : filter has_bytes more ≡ words_of (drop n line)
 
-front_step : (b : Bool) (x : ℕ) (xs : List ℕ) (n : ℕ) → is_blank x ≡ b → IsFront xs n → IsFront (x ∷ xs) (cond (not b) (1 + n) 0)
+prefix_step : (b : Bool) (x : ℕ) (xs : List ℕ) (n : ℕ) → is_blank x ≡ b → IsPrefix xs n → IsPrefix (x ∷ xs) (cond (not b) (1 + n) 0)
 unfolding words_of
-front_step true x xs n e f = record {
+prefix_step true x xs n e f = record {
   more = slice_split is_blank xs;
   parts = slice_split-cons_yes is_blank x xs e;
   words = sym (words_of-blank x xs e);
 }
-front_step false x xs n e f =
+prefix_step false x xs n e f =
     let next : 1 + n ≡ suc n = omega arith in
     record {
       more = f.more;
@@ -83,9 +83,9 @@ front_step false x xs n e f =
       words = rw next f.words;
     }
 
-front_of : (line : List ℕ) → IsFront line (position_or_len is_blank line)
-front_of [] = record { more = []; parts = refl; words = sym words_of-nil }
-front_of (x ∷ xs) = front_step (is_blank x) x xs (position_or_len is_blank xs) refl (front_of xs)
+prefix_of : (line : List ℕ) → IsPrefix line (position_or_len is_blank line)
+prefix_of [] = record { more = []; parts = refl; words = sym words_of-nil }
+prefix_of (x ∷ xs) = prefix_step (is_blank x) x xs (position_or_len is_blank xs) refl (prefix_of xs)
 
 word_step : (b : Bool) (x : ℕ) (xs : List ℕ) (n : ℕ) → b ≡ false → has_bytes (take (cond (not b) (1 + n) 0) (x ∷ xs)) ≡ true
 word_step b x xs n e = let next : 1 + n ≡ suc n = omega arith in rw (e, next)
@@ -95,7 +95,7 @@ word_at : (x : ℕ) (xs : List ℕ) → is_blank x ≡ false
     → words_of (x ∷ xs) ≡ take (position_or_len is_blank (x ∷ xs)) (x ∷ xs) ∷ words_of (drop (position_or_len is_blank (x ∷ xs)) (x ∷ xs))
 unfolding words_of
 word_at x xs e =
-    let f = front_of (x ∷ xs) in
+    let f = prefix_of (x ∷ xs) in
     let some = word_step (is_blank x) x xs (position_or_len is_blank xs) e in
     ap (filter has_bytes) f.parts ∙ keeps (take (position_or_len is_blank (x ∷ xs)) (x ∷ xs)) f.more some
     ∙ ap (λ (rest : List (List ℕ)). take (position_or_len is_blank (x ∷ xs)) (x ∷ xs) ∷ rest) f.words where

@@ -8,7 +8,7 @@ use Rattle.roman_model.specs.Numbers.{sizes_of, number, numbered}
 use Rattle.roman_model.specs.Certificate.{Verdict, Greatest, Rejected, TooLong, cert_verdict}
 use Rattle.roman_library.specs.Library.{PlainLibrary}
 use Rattle.roman_start.specs.Starts.{start_pair_of}
-use Rattle.roman_session.specs.Hearing.{front_of, is_heard_out}
+use Rattle.roman_session.specs.Hearing.{prefix_of, is_heard_out}
 use Rattle.roman_top.specs.Command.{Job, Synth, Run, Certify, Check, Shortest, Advise, Resilience, Command, On, Make}
 use Rattle.roman_top.specs.Complete.{Suffices, CanAnswer, IsAnswered, IsUndisturbed, AnswersWherePossible}
 use Rattle.roman_top.specs.Opening.{library_system, document_opening}
@@ -49,7 +49,7 @@ judged_answered TooLong text result short judges = absurd (short refl)
 
 talked_answered : (session : List ℕ) (library : PlainLibrary) (text : List ℕ) (result : Status) → IsTrue (is_heard_out session) → Talks session library text result → IsAnswered result
 talked_answered session library text result short talks =
-    is_done result (matched_true (is_heard_out session) (ToldFromStart library (lines session) text × (result ≡ status.Done)) (ToldFromStart library (ended_lines (front_of session)) text × (result ≡ status.TooLong)) short talks).1
+    is_done result (matched_true (is_heard_out session) (ToldFromStart library (lines session) text × (result ≡ status.Done)) (ToldFromStart library (ended_lines (prefix_of session)) text × (result ≡ status.TooLong)) short talks).1
 
 -- a job on its library gets its answer
 job_answered : (job : Job) (texts : Texts) (system : List ℕ) (rest : Option (List ℕ)) (session text : List ℕ) (library : PlainLibrary) (result : Status) → IsSessionText (Some (On system job)) texts rest session → Suffices job texts rest library →

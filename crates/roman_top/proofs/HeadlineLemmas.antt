@@ -12,7 +12,7 @@ use Rattle.roman_start.specs.Starts.{parts_of, start_pair_of}
 use Rattle.roman_session.specs.Starts.{IsStart}
 use Rattle.roman_session.specs.Words.{ReportsGreat}
 use Rattle.roman_session.specs.Steps.{until_quit, Answers}
-use Rattle.roman_session.specs.Hearing.{front_of, is_heard_out, heard_lines}
+use Rattle.roman_session.specs.Hearing.{prefix_of, is_heard_out, heard_lines}
 use Rattle.roman_session.specs.Known.{IsKnownSituation}
 use Rattle.roman_session.proofs.KnownLemmas.{steps_known}
 use Rattle.roman_session.proofs.WordLemmas.{answers_great, open_great, reports_great}
@@ -61,7 +61,7 @@ answers_lines texts system library ls text accepted tells =
 talked : (texts : Texts) (system session : List ℕ) (library : PlainLibrary) (text : List ℕ) (result : Status) → document_opening texts system ≡ Accepted library → Talks session library text result → AnswersLines library (heard_lines session) text
 talked texts system session library text result accepted talks =
     answers_lines texts system library (heard_lines session) text accepted
-    (heard_tells (is_heard_out session) library (lines session) (ended_lines (front_of session)) text (result ≡ status.Done) (result ≡ status.TooLong) talks)
+    (heard_tells (is_heard_out session) library (lines session) (ended_lines (prefix_of session)) text (result ≡ status.Done) (result ≡ status.TooLong) talks)
 
 -- the report of a synthesis
 reported : (texts : Texts) (system : List ℕ) (library : PlainLibrary) (text : List ℕ) (s : Situation) → document_opening texts system ≡ Accepted library → text ≡ report_text (parts_of library) (start_pair_of library) → IsStart library s → ReportsGreat s text

@@ -32,9 +32,9 @@ two_named parts k j seat other there there_too =
 
 -- Lines.
 
-pub line_pieces : (parts : NamedSys) (K : List ℕ) (way : Way) (left : Outlook) (front words : List ℕ) → front ≡ codes "without" ++ service_names parts K ++ way_word way → words ≡ outlook_words left →
-    front ++ (words ++ []) ≡ line_without parts K way left
-line_pieces parts K way left front words is_front is_words = ap (λ (x : List ℕ). front ++ x) (append-nil words) ∙ ap₂ (λ (x y : List ℕ). x ++ y) is_front is_words
+pub line_pieces : (parts : NamedSys) (K : List ℕ) (way : Way) (left : Outlook) (prefix words : List ℕ) → prefix ≡ codes "without" ++ service_names parts K ++ way_word way → words ≡ outlook_words left →
+    prefix ++ (words ++ []) ≡ line_without parts K way left
+line_pieces parts K way left prefix words is_prefix is_words = ap (λ (x : List ℕ). prefix ++ x) (append-nil words) ∙ ap₂ (λ (x y : List ℕ). x ++ y) is_prefix is_words
 
 pub both_lines : (parts : NamedSys) (p : Pair) (K : List ℕ) (frozen gone : Outlook) → frozen ≡ outlook (system_without Freeze K (system_of parts)) (pair_without Freeze K p) →
     gone ≡ outlook (system_without Die K (system_of parts)) (pair_without Die K p) → line_without parts K Freeze frozen ++ (line_without parts K Die gone ++ []) ≡ lines_without parts p K

@@ -4,13 +4,13 @@ use Rattle.roman_io.specs.Faults.{HasCause}
 use Rattle.roman_io.specs.Shelf.{Texts, shelf_text}
 use Rattle.roman_io.specs.Sink.{Wrote, Puts}
 use Rattle.roman_io.specs.Source.{Gave}
-use Rattle.roman_io.proofs.SinkLemmas.{WroteFront-from_Puts}
+use Rattle.roman_io.proofs.SinkLemmas.{WrotePrefix-from_Puts}
 use Rattle.roman_io.proofs.SourceLemmas.{Gave-nil}
 use Rattle.roman_library.specs.Library.{PlainLibrary}
 use Rattle.roman_top.specs.Causes.{ShelfCause, InputCause, SinkCause}
 use Rattle.roman_top.specs.Command.{Job, Synth, Run, Certify, Check, Shortest, Advise, Resilience, Command, On, Make, usage_line}
-use Rattle.roman_top.specs.Endings.{WritesText, WritesFront, Writes, EndsBare, DoesJob, TurnsAway, IsAway, Opens, Finishes, IsDone}
-use Rattle.roman_top.specs.Faults.{IsFree, AtShelfFault, HasRunFront, IsOfTaken, EndsInput}
+use Rattle.roman_top.specs.Endings.{WritesText, WritesPrefix, Writes, EndsBare, DoesJob, TurnsAway, IsAway, Opens, Finishes, IsDone}
+use Rattle.roman_top.specs.Faults.{IsFree, AtShelfFault, HasRunPrefix, IsOfTaken, EndsInput}
 use Rattle.roman_top.specs.Opening.{document_opening, OnOpening}
 use Rattle.roman_top.specs.Run.{JobDoes, Makes, IsSessionText, HasRun}
 use Rattle.roman_top.specs.Served.{Served, ServedBeside}
@@ -38,8 +38,8 @@ free_text IsRun old new status.WriteFault free w = absurd free
 free_text IsRun old new status.TooLong free w = w
 free_text IsRun old new status.Memory free w = absurd free
 
-front_text : (IsRun : List ℕ → Status → Type 0) (old new : Option (List ℕ)) (result : Status) → result ≡ status.WriteFault → Writes IsRun old new result → WritesFront IsRun old new
-front_text IsRun old new result is w = subst (Writes IsRun old new) is w
+prefix_text : (IsRun : List ℕ → Status → Type 0) (old new : Option (List ℕ)) (result : Status) → result ≡ status.WriteFault → Writes IsRun old new result → WritesPrefix IsRun old new
+prefix_text IsRun old new result is w = subst (Writes IsRun old new) is w
 
 unwritten_at : (old new : Option (List ℕ)) (result ends : Status) → EndsBare old new result → result ≡ ends → EndsBare old new ends
 unwritten_at old new result ends stops is = subst (EndsBare old new) is stops
@@ -76,15 +76,15 @@ ends_away system old new status.Memory away = tt
 record IsAside (job : Job) : Type 0 where
   given : (texts : Texts) (system : List ℕ) (rest : Option (List ℕ)) → (session : List ℕ) × IsSessionText (Some (On system job)) texts rest session
   shelf : (system : List ℕ) (old new : World) → IsUnwritten old new → AtShelfFault (Some (On system job)) old new
-  taken : (texts : Texts) (system : List ℕ) (old new : World) → Gave old.rest new.rest [] → HasRunFront (Some (On system (Run None))) texts (Some []) old new → IsOfTaken (Some (On system job)) texts old new
+  taken : (texts : Texts) (system : List ℕ) (old new : World) → Gave old.rest new.rest [] → HasRunPrefix (Some (On system (Run None))) texts (Some []) old new → IsOfTaken (Some (On system job)) texts old new
   ends : (system : List ℕ) (old new : World) (result : Status) → IsAway result → EndsInput (Some (On system job)) old new result
 
 aside : (job : Job) → IsAside job
-aside Synth = record { given = λ texts system rest. ([], tt); shelf = λ system old new w. w; taken = λ texts system old new gave front. tt; ends = λ system old new result away. tt }
+aside Synth = record { given = λ texts system rest. ([], tt); shelf = λ system old new w. w; taken = λ texts system old new gave prefix. tt; ends = λ system old new result away. tt }
 aside (Run None) = record {
   given = λ texts system rest. input_given system rest;
   shelf = λ system old new w. w;
-  taken = λ texts system old new gave front. record { taken = []; more = []; gave = gave; ends = inl refl; run = front };
+  taken = λ texts system old new gave prefix. record { taken = []; more = []; gave = gave; ends = inl refl; run = prefix };
   ends = ends_away;
 }
   where
@@ -94,23 +94,23 @@ aside (Run None) = record {
 aside (Run (Some name)) = record {
   given = λ texts system rest. (shelf_text texts name, refl);
   shelf = λ system old new w. inl w;
-  taken = λ texts system old new gave front. tt;
+  taken = λ texts system old new gave prefix. tt;
   ends = λ system old new result away. tt;
 }
-aside Certify = record { given = λ texts system rest. ([], tt); shelf = λ system old new w. w; taken = λ texts system old new gave front. tt; ends = λ system old new result away. tt }
-aside (Check certificate) = record { given = λ texts system rest. ([], tt); shelf = λ system old new w. w; taken = λ texts system old new gave front. tt; ends = λ system old new result away. tt }
-aside Shortest = record { given = λ texts system rest. ([], tt); shelf = λ system old new w. w; taken = λ texts system old new gave front. tt; ends = λ system old new result away. tt }
-aside (Advise costs requests) = record { given = λ texts system rest. ([], tt); shelf = λ system old new w. w; taken = λ texts system old new gave front. tt; ends = λ system old new result away. tt }
-aside Resilience = record { given = λ texts system rest. ([], tt); shelf = λ system old new w. w; taken = λ texts system old new gave front. tt; ends = λ system old new result away. tt }
+aside Certify = record { given = λ texts system rest. ([], tt); shelf = λ system old new w. w; taken = λ texts system old new gave prefix. tt; ends = λ system old new result away. tt }
+aside (Check certificate) = record { given = λ texts system rest. ([], tt); shelf = λ system old new w. w; taken = λ texts system old new gave prefix. tt; ends = λ system old new result away. tt }
+aside Shortest = record { given = λ texts system rest. ([], tt); shelf = λ system old new w. w; taken = λ texts system old new gave prefix. tt; ends = λ system old new result away. tt }
+aside (Advise costs requests) = record { given = λ texts system rest. ([], tt); shelf = λ system old new w. w; taken = λ texts system old new gave prefix. tt; ends = λ system old new result away. tt }
+aside Resilience = record { given = λ texts system rest. ([], tt); shelf = λ system old new w. w; taken = λ texts system old new gave prefix. tt; ends = λ system old new result away. tt }
 
 -- Documents that aren't document_opening
 
 -- a prefix of the line of such a document is one of a run of any job
-away_front : (texts : Texts) (system : List ℕ) (job : Job) (rest : Option (List ℕ)) (old new : World) (result : Status) → Writes (TurnsAway (document_opening texts system)) old.written new.written result → result ≡ status.WriteFault →
-    HasRunFront (Some (On system job)) texts rest old new
-away_front texts system job rest old new result writes is =
+away_prefix : (texts : Texts) (system : List ℕ) (job : Job) (rest : Option (List ℕ)) (old new : World) (result : Status) → Writes (TurnsAway (document_opening texts system)) old.written new.written result → result ≡ status.WriteFault →
+    HasRunPrefix (Some (On system job)) texts rest old new
+away_prefix texts system job rest old new result writes is =
     let (session, given) = (aside job).given texts system rest in
-    let w = front_text (TurnsAway (document_opening texts system)) old.written new.written result is writes in
+    let w = prefix_text (TurnsAway (document_opening texts system)) old.written new.written result is writes in
     record { session = session; given = given; text = w.text; ends = w.ends; run = away_is_run (JobDoes job texts session) (document_opening texts system) w.text w.ends w.run; wrote = w.wrote }
 
 pub away_served : {X : Type 0} (Holds : PlainLibrary → X → Type 0) (system : List ℕ) (job : Job) (old new : Desk) (result : Status) → Opens {X = X} Holds system old new (Err result) → ServedBeside (Some (On system job)) old new result
@@ -125,9 +125,9 @@ away_served {X} Holds system job old new result opens rest faults =
           record { session = session; given = given; text = w.text; run = away_is_run (JobDoes job texts session) (document_opening texts system) w.text result w.run; wrote = w.wrote });
       shelf_fault = λ is. (aside job).shelf system before after (unwritten_at old.written new.written result status.ShelfFault opens.leaves.stops is);
       read_fault = λ is. absurd (unwritten_at old.written new.written result status.ReadFault opens.leaves.stops is);
-      write_fault = λ is. told_more old.texts Away (λ texts. HasRunFront (Some (On system job)) texts rest before after × IsOfTaken (Some (On system job)) texts before after) opens.opens (λ texts writes. (
-        away_front texts system job rest before after result writes is,
-        (aside job).taken texts system before after (Gave-nil rest) (away_front texts system (Run None) (Some []) before after result writes is),
+      write_fault = λ is. told_more old.texts Away (λ texts. HasRunPrefix (Some (On system job)) texts rest before after × IsOfTaken (Some (On system job)) texts before after) opens.opens (λ texts writes. (
+        away_prefix texts system job rest before after result writes is,
+        (aside job).taken texts system before after (Gave-nil rest) (away_prefix texts system (Run None) (Some []) before after result writes is),
       ));
       memory = λ is. (refl, unwritten_at old.written new.written result status.Memory opens.leaves.stops is);
       shelf = opens.leaves.shelf;
@@ -171,8 +171,8 @@ job_served system job old new result plain does rest faults =
           record { session = []; given = is.given texts system rest; text = w.text; run = w.run; wrote = w.wrote });
       shelf_fault = λ stop. (aside job).shelf system before after (unwritten_at old.written new.written result status.ShelfFault does.stops stop);
       read_fault = λ stop. absurd (unwritten_at old.written new.written result status.ReadFault does.stops stop);
-      write_fault = λ stop. told_more old.texts Done (λ texts. HasRunFront (Some (On system job)) texts rest before after × IsOfTaken (Some (On system job)) texts before after) does.writes (λ texts writes.
-          let w = front_text (OnOpening (JobDoes job texts []) (document_opening texts system)) old.written new.written result stop writes in (
+      write_fault = λ stop. told_more old.texts Done (λ texts. HasRunPrefix (Some (On system job)) texts rest before after × IsOfTaken (Some (On system job)) texts before after) does.writes (λ texts writes.
+          let w = prefix_text (OnOpening (JobDoes job texts []) (document_opening texts system)) old.written new.written result stop writes in (
             record { session = []; given = is.given texts system rest; text = w.text; ends = w.ends; run = w.run; wrote = w.wrote },
             is.taken texts system before after,
           ));
@@ -221,7 +221,7 @@ made_served n told shelf rest input old new out out_now result writes done cause
   run = λ free. let w = free_text (Makes n) old new result free writes in record { session = []; given = tt; text = w.text; run = w.run; wrote = w.wrote };
   shelf_fault = λ is. absurd (never_of old new result status.ShelfFault done is);
   read_fault = λ is. absurd (never_of old new result status.ReadFault done is);
-  write_fault = λ is. let w = front_text (Makes n) old new result is writes in (record { session = []; given = tt; text = w.text; ends = w.ends; run = w.run; wrote = w.wrote }, tt);
+  write_fault = λ is. let w = prefix_text (Makes n) old new result is writes in (record { session = []; given = tt; text = w.text; ends = w.ends; run = w.run; wrote = w.wrote }, tt);
   memory = λ is. (refl, never_of old new result status.Memory done is);
   shelf = shelf_unasked old new shelf result done;
   input = input_unasked old new input result done;

@@ -13,9 +13,9 @@ use Rattle.roman_top.specs.declared.stage.Stage.{Stage}
 -- one more line is answered
 Answers-push : (old : Situation) (ls : List (List ℕ)) (text : List ℕ) (mid : Situation) (line more : List ℕ) (new : Situation) → Answers old ls text mid → Step mid line more new → Answers old (ls ++ line ∷ []) (text ++ more) new
 Answers-push old [] text mid line more new (nothing, same) step =
-    (more, [], new, ap (λ front. front ++ more) nothing ∙ sym (append-nil more), subst (λ s. Step s line more new) same step, (refl, refl))
+    (more, [], new, ap (λ prefix. prefix ++ more) nothing ∙ sym (append-nil more), subst (λ s. Step s line more new) same step, (refl, refl))
 Answers-push old (l ∷ ls) text mid line more new (first, rest, next, whole, step_first, answers) step =
-    (first, rest ++ more, next, ap (λ front. front ++ more) whole ∙ append_assoc first rest more, step_first, Answers-push next ls rest mid line more new answers step)
+    (first, rest ++ more, next, ap (λ prefix. prefix ++ more) whole ∙ append_assoc first rest more, step_first, Answers-push next ls rest mid line more new answers step)
 
 -- one more line of the script
 take_line : (xs : List (List ℕ)) (from i : ℕ) (line : List ℕ) → from ≤ i → i < length xs → slice_get xs i ≡ Some line → take (i + 1 - from) (drop from xs) ≡ take (i - from) (drop from xs) ++ line ∷ []
@@ -39,7 +39,7 @@ answered_more old mid new xs from i line before after result order within is so_
 -- a stage after those lines, and the further stages
 passes_on : (s next : Situation) (word : List ℕ) (lines : List (List ℕ)) (more : List (List ℕ × List (List ℕ))) (line rest : List ℕ) → HasComeTo s lines next → line ≡ standing word next → Passes next more rest →
     Passes s ((word, lines) ∷ more) (line ++ rest)
-passes_on s next word lines more line rest answered is passes = (answered.replies, rest, next, answered.answers, passes, ap (λ front. front ++ rest) is)
+passes_on s next word lines more line rest answered is passes = (answered.replies, rest, next, answered.answers, passes, ap (λ prefix. prefix ++ rest) is)
 
 -- a session that is given the whole script
 pub script_passes : (s0 s1 s2 s3 s4 s5 : Situation) (start freeze thaw die join round : Stage) →
@@ -62,7 +62,7 @@ script_passes s0 s1 s2 s3 s4 s5 start freeze thaw die join round at_start h1 at_
     let first = passes_on s0 s1 (codes "freeze") (take 1 script_lines)
     ((codes "thaw", take 1 (drop 1 script_lines)) ∷ (codes "die", take 1 (drop 2 script_lines)) ∷ (codes "join", take 1 (drop 3 script_lines)) ∷ (codes "round", take 9 (drop 4 script_lines)) ∷ [])
     (line_of_stage freeze) (lines_of (thaw ∷ die ∷ join ∷ round ∷ [])) h1 at_freeze second in
-    ([], lines_of (freeze ∷ thaw ∷ die ∷ join ∷ round ∷ []), s0, (refl, refl), first, ap (λ front. front ++ lines_of (freeze ∷ thaw ∷ die ∷ join ∷ round ∷ [])) at_start)
+    ([], lines_of (freeze ∷ thaw ∷ die ∷ join ∷ round ∷ []), s0, (refl, refl), first, ap (λ prefix. prefix ++ lines_of (freeze ∷ thaw ∷ die ∷ join ∷ round ∷ [])) at_start)
 
 -- ---- lines that are taken one after the other
 

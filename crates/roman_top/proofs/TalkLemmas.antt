@@ -11,7 +11,7 @@ use Rattle.roman_model.proofs.Lists.{by_test}
 use Rattle.roman_session.specs.Situations.{Situation}
 use Rattle.roman_session.specs.Starts.{IsStart}
 use Rattle.roman_session.specs.Steps.{Told}
-use Rattle.roman_session.specs.Hearing.{front_of, is_heard_out, GaveQuit, Hall, hall, spot, IsHeardOut, IsCutOff, GoesOn, StopsShort, TellsFrontOfAll, CausedBy}
+use Rattle.roman_session.specs.Hearing.{prefix_of, is_heard_out, GaveQuit, Hall, hall, spot, IsHeardOut, IsCutOff, GoesOn, StopsShort, TellsPrefixOfAll, CausedBy}
 use Rattle.roman_session.specs.Known.{AreBehaviours}
 use Rattle.roman_session.specs.declared.hearing.HearError.{HearError}
 use Rattle.roman_session.specs.declared.hearing.HearError.TheVariants as hear
@@ -19,7 +19,7 @@ use Rattle.roman_session.proofs.HearingEnds.{short_out}
 use Rattle.roman_top.specs.Causes.{ShelfCause, InputCause, SinkCause}
 use Rattle.roman_top.specs.Command.{Run, On}
 use Rattle.roman_top.specs.Endings.{Accepts, GoesOnFrom, HearsText, Opens, heard_status}
-use Rattle.roman_top.specs.Faults.{IsFree, HasAnswered, HasAnsweredFront, HasAnsweredInput, HasRunFront, HasFrontOfTaken, AtShelfFault, IsOfTaken, IsOfSession, TakesInput, EndsInput}
+use Rattle.roman_top.specs.Faults.{IsFree, HasAnswered, HasAnsweredPrefix, HasAnsweredInput, HasRunPrefix, HasPrefixOfTaken, AtShelfFault, IsOfTaken, IsOfSession, TakesInput, EndsInput}
 use Rattle.roman_top.specs.Opening.{document_opening}
 use Rattle.roman_top.specs.Run.{Talks, Runs, IsSessionText, HasRun}
 use Rattle.roman_top.specs.Served.{Served, ServedBeside}
@@ -38,7 +38,7 @@ pub record Heard (old new : Hall) (result : Result (Unit {0}) HearError) : Type 
   pub too_long : IsErrOf result hear.TooLong → IsCutOff old new.spot
   pub read_fault : IsErrOf result hear.ReadFault → GoesOn old new
   pub write_fault : IsErrOf result hear.WriteFault → StopsShort old new
-  pub front : IsErrOf result hear.WriteFault → AreBehaviours old.spot.situation.parts → TellsFrontOfAll old new.spot.written
+  pub prefix : IsErrOf result hear.WriteFault → AreBehaviours old.spot.situation.parts → TellsPrefixOfAll old new.spot.written
   pub taken : GaveAtMost (MAX_SESSION_BYTES + PIECE_BYTES) old.rest new.rest
   pub past : OnOk result (IsAtEnd new.rest ⊎ GaveQuit 4095 old.rest new.rest)
 
@@ -52,8 +52,8 @@ module _ (texts : Texts) (system : List ℕ) (start : Situation) (accepts : Acce
   talks_all : (session text : List ℕ) (now : Situation) → IsTrue (is_heard_out session) → Told start (lines session) text now → Talks session accepts.library text status.Done
   talks_all session text now out told = match_true (is_heard_out session) _ _ out (record { start = start; now = now; begins = accepts.holds; told = told }, refl)
 
-  talks_front : (session text : List ℕ) (now : Situation) → IsFalse (is_heard_out session) → Told start (ended_lines (front_of session)) text now → Talks session accepts.library text status.TooLong
-  talks_front session text now long told = match_false (is_heard_out session) _ _ long (record { start = start; now = now; begins = accepts.holds; told = told }, refl)
+  talks_prefix : (session text : List ℕ) (now : Situation) → IsFalse (is_heard_out session) → Told start (ended_lines (prefix_of session)) text now → Talks session accepts.library text status.TooLong
+  talks_prefix session text now long told = match_false (is_heard_out session) _ _ long (record { start = start; now = now; begins = accepts.holds; told = told }, refl)
 
   module _ (name : Option (List ℕ)) (old new : World) (from : Option (List ℕ)) (now : Situation) (given : (session : List ℕ) → Had from session → IsSessionText (Some (On system (Run name))) texts old.rest session) where
     -- heard to its end, or to `quit`
@@ -72,13 +72,13 @@ module _ (texts : Texts) (system : List ℕ) (start : Situation) (accepts : Acce
       session = h.session;
       given = given h.session h.had;
       text = h.tells.text;
-      run = talked name h.session h.tells.text status.TooLong (talks_front h.session h.tells.text now h.long h.tells.told);
+      run = talked name h.session h.tells.text status.TooLong (talks_prefix h.session h.tells.text now h.long h.tells.told);
       wrote = h.tells.wrote;
     }
 
     -- a prefix of what may be told of it
-    runs_front : TellsFrontOfAll (hall start from old.written) new.written → HasRunFront (Some (On system (Run name))) texts old.rest old new
-    runs_front h = by_test (is_heard_out h.session)
+    runs_prefix : TellsPrefixOfAll (hall start from old.written) new.written → HasRunPrefix (Some (On system (Run name))) texts old.rest old new
+    runs_prefix h = by_test (is_heard_out h.session)
         (λ out. record {
           session = h.session;
           given = given h.session h.had;
@@ -86,7 +86,7 @@ module _ (texts : Texts) (system : List ℕ) (start : Situation) (accepts : Acce
           ends = status.Done;
           run = talked name h.session h.tells.text status.Done
               (talks_all h.session h.tells.text h.last out
-              (subst (λ (ls : List (List ℕ)). Told start ls h.tells.text h.last) (cond-true (is_heard_out h.session) (lines h.session) (ended_lines (front_of h.session)) out) h.tells.told));
+              (subst (λ (ls : List (List ℕ)). Told start ls h.tells.text h.last) (cond-true (is_heard_out h.session) (lines h.session) (ended_lines (prefix_of h.session)) out) h.tells.told));
           wrote = h.tells.wrote;
         })
         (λ long. record {
@@ -95,8 +95,8 @@ module _ (texts : Texts) (system : List ℕ) (start : Situation) (accepts : Acce
           text = h.tells.text;
           ends = status.TooLong;
           run = talked name h.session h.tells.text status.TooLong
-              (talks_front h.session h.tells.text h.last long
-              (subst (λ (ls : List (List ℕ)). Told start ls h.tells.text h.last) (cond-false (is_heard_out h.session) (lines h.session) (ended_lines (front_of h.session)) long) h.tells.told));
+              (talks_prefix h.session h.tells.text h.last long
+              (subst (λ (ls : List (List ℕ)). Told start ls h.tells.text h.last) (cond-false (is_heard_out h.session) (lines h.session) (ended_lines (prefix_of h.session)) long) h.tells.told));
           wrote = h.tells.wrote;
         })
 
@@ -109,8 +109,8 @@ module _ (texts : Texts) (system : List ℕ) (start : Situation) (accepts : Acce
     heard_runs fault (Err hear.TooLong) is_fault out long free = runs_long (long refl)
 
   -- and of what is told of the lines that were taken
-  taken_front : (old new : World) (now : Situation) → StopsShort (hall start old.rest old.written) (hall now new.rest new.written) → HasFrontOfTaken texts system old new
-  taken_front old new now h = record {
+  taken_prefix : (old new : World) (now : Situation) → StopsShort (hall start old.rest old.written) (hall now new.rest new.written) → HasPrefixOfTaken texts system old new
+  taken_prefix old new now h = record {
     taken = h.heard;
     more = h.past;
     gave = h.gave;
@@ -248,10 +248,10 @@ heard_input system start now told told_mid shelf shelf_mid rest rest_now input i
       read_fault = λ is. told_more told Starts (λ texts. HasAnsweredInput texts system before after) opens (λ texts accepts.
           let goes = h.read_fault (input_failed heard is) in
           record { taken = goes.taken; gave = goes.gave; answered = answered texts system start accepts before after now rest rest_now goes });
-      write_fault = λ is. told_more told Starts (λ texts. HasRunFront (Some (On system (Run None))) texts rest before after × IsOfTaken (Some (On system (Run None))) texts before after) opens (λ texts accepts.
+      write_fault = λ is. told_more told Starts (λ texts. HasRunPrefix (Some (On system (Run None))) texts rest before after × IsOfTaken (Some (On system (Run None))) texts before after) opens (λ texts accepts.
           let failed = sink_failed_input heard is in (
-            runs_front texts system start accepts None before after rest now (λ session had. had) (h.front failed behaviours),
-            taken_front texts system start accepts before after now (h.write_fault failed),
+            runs_prefix texts system start accepts None before after rest now (λ session had. had) (h.prefix failed behaviours),
+            taken_prefix texts system start accepts before after now (h.write_fault failed),
           ));
       memory = λ is. absurd (never_memory_input heard is);
       shelf = shelf_stays shelf shelf_mid heard shelves;
@@ -291,7 +291,7 @@ broken_shelf : (texts : Texts) (system name : List ℕ) (start now : Situation) 
     GoesOnFrom (hall start (rest_from (Some texts) name 0) old.written) (spot now new.written) → AtShelfFault (Some (On system (Run (Some name)))) old new
 broken_shelf texts system name start now accepts old new told (has, goes) =
     let (left, e, split) = Gave-told (shelf_text texts name) has goes.taken goes.gave in
-    inr (subst (λ (o : Option Texts). IfSome o (λ texts. HasAnsweredFront texts system name old new)) (sym told)
+    inr (subst (λ (o : Option Texts). IfSome o (λ texts. HasAnsweredPrefix texts system name old new)) (sym told)
     (record { taken = goes.taken; rest = left; split = split; answered = answered texts system start accepts old new now (rest_from (Some texts) name 0) has goes }))
 
 heard_shelf : (system name : List ℕ) (start now : Situation) (told told_now : Option Texts) (shelf shelf_mid shelf_now : ℕ) (old new : Option (List ℕ)) (out out_mid out_now : ℕ) (heard : Result (Unit {0}) HearError) →
@@ -318,7 +318,7 @@ heard_shelf system name start now (Some held) told_now shelf shelf_mid shelf_now
       run = λ free. heard_runs held system start accepts (Some name) before after (rest_from (Some held) name 0) now (shelf_given held system name rest) status.ShelfFault heard (λ free. free) h.ok h.too_long free;
       shelf_fault = λ is. broken_shelf held system name start now accepts before after refl (h.read_fault (shelf_failed heard is));
       read_fault = λ is. absurd (never_input heard is);
-      write_fault = λ is. (runs_front held system start accepts (Some name) before after (rest_from (Some held) name 0) now (shelf_given held system name rest) (h.front (sink_failed_shelf heard is) behaviours), tt);
+      write_fault = λ is. (runs_prefix held system start accepts (Some name) before after (rest_from (Some held) name 0) now (shelf_given held system name rest) (h.prefix (sink_failed_shelf heard is) behaviours), tt);
       memory = λ is. absurd (never_memory_shelf heard is);
       shelf = shelf_cause shelf shelf_mid shelf_now heard shelves reads;
       input = input_stays input heard;
@@ -341,6 +341,6 @@ shelf_served system name start now told told_mid told_now shelf shelf_mid shelf_
 -- a session that was heard from a source over a whole text
 pub text_heard : (start now : Situation) (from given has : Option (List ℕ)) (old new : Option (List ℕ)) (heard : Result (Unit {0}) HearError) → given ≡ from → OnOk heard (IsHeardOut (hall start given old) (spot now new)) →
     (IsErrOf heard hear.TooLong → IsCutOff (hall start given old) (spot now new)) → (IsErrOf heard hear.ReadFault → GoesOn (hall start given old) (hall now has new)) →
-    (IsErrOf heard hear.WriteFault → AreBehaviours start.parts → TellsFrontOfAll (hall start given old) new) → HearsText (hall start from old) (spot now new) heard
-text_heard start now from given has old new heard same out long fault front =
-    subst (λ (rest : Option (List ℕ)). HearsText (hall start rest old) (spot now new) heard) same (record { ok = out; too_long = long; read_fault = λ is. (has, fault is); front = front })
+    (IsErrOf heard hear.WriteFault → AreBehaviours start.parts → TellsPrefixOfAll (hall start given old) new) → HearsText (hall start from old) (spot now new) heard
+text_heard start now from given has old new heard same out long fault prefix =
+    subst (λ (rest : Option (List ℕ)). HearsText (hall start rest old) (spot now new) heard) same (record { ok = out; too_long = long; read_fault = λ is. (has, fault is); prefix = prefix })

@@ -2,7 +2,7 @@
 use Rattle.std.specs.Prelude.{◌≡◌, ℕ, Bool, true, false, List, [], Option, IfSome, IfErr, Result, Ok, Err, OnOk, IsErrOf}
 use Rattle.roman_io.specs.Faults.{Rose}
 use Rattle.roman_io.specs.Shelf.{Texts}
-use Rattle.roman_io.specs.Sink.{Wrote, WroteFront}
+use Rattle.roman_io.specs.Sink.{Wrote, WrotePrefix}
 use Rattle.roman_model.specs.Arena.{Arena}
 use Rattle.roman_model.specs.Certificate.{TooLong, cert_verdict}
 use Rattle.roman_check.specs.Verdicts.{verdict_of}
@@ -12,7 +12,7 @@ use Rattle.roman_check.specs.declared.error.CheckError.TheVariants as check
 use Rattle.roman_library.specs.Documents.{library_of}
 use Rattle.roman_library.specs.Library.{PlainLibrary}
 use Rattle.roman_session.specs.Situations.{Situation, present_system}
-use Rattle.roman_session.specs.Hearing.{Spot, Hall, IsHeardOut, IsCutOff, GoesOn, TellsFrontOfAll}
+use Rattle.roman_session.specs.Hearing.{Spot, Hall, IsHeardOut, IsCutOff, GoesOn, TellsPrefixOfAll}
 use Rattle.roman_session.specs.Known.{AreBehaviours}
 use Rattle.roman_session.specs.Reports.{report_text}
 use Rattle.roman_session.specs.declared.hearing.HearError.{HearError}
@@ -32,17 +32,17 @@ pub record WritesText (IsRun : List ℕ → Status → Type 0) (old new : Option
   pub wrote : Wrote old new text
 
 -- a prefix of the text of such a run was written
-pub record WritesFront (IsRun : List ℕ → Status → Type 0) (old new : Option (List ℕ)) : Type 0 where
+pub record WritesPrefix (IsRun : List ℕ → Status → Type 0) (old new : Option (List ℕ)) : Type 0 where
   pub text : List ℕ
   pub ends : Status
   pub run : IsRun text ends
-  pub wrote : WroteFront old new text
+  pub wrote : WrotePrefix old new text
 
 -- the text of such a run, or a prefix of one where the sink failed; other faults and running out of memory say nothing of it
 abbrev pub Writes : (List ℕ → Status → Type 0) → Option (List ℕ) → Option (List ℕ) → Status → Type 0
 Writes IsRun old new status.ShelfFault = Unit {0}
 Writes IsRun old new status.ReadFault = Unit {0}
-Writes IsRun old new status.WriteFault = WritesFront IsRun old new
+Writes IsRun old new status.WriteFault = WritesPrefix IsRun old new
 Writes IsRun old new status.Memory = Unit {0}
 Writes IsRun old new result = WritesText IsRun old new result
 
@@ -157,7 +157,7 @@ pub record HearsText (old : Hall) (new : Spot) (result : Result (Unit {0}) HearE
   pub ok : OnOk result (IsHeardOut old new)
   pub too_long : IsErrOf result hear.TooLong → IsCutOff old new
   pub read_fault : IsErrOf result hear.ReadFault → GoesOnFrom old new
-  pub front : IsErrOf result hear.WriteFault → AreBehaviours old.spot.situation.parts → TellsFrontOfAll old new.written
+  pub prefix : IsErrOf result hear.WriteFault → AreBehaviours old.spot.situation.parts → TellsPrefixOfAll old new.written
 
 -- the status after a session was heard, where that one stands for a fault of what it comes from
 abbrev pub heard_status : Status → Result (Unit {0}) HearError → Status

@@ -1,7 +1,7 @@
 -- Runs that a fault or running out of memory has ended: what was written and taken by then.
 use Rattle.std.specs.Prelude.{◌≡◌, ℕ, ◌+◌, ◌⊎◌, List, ◌++◌, Option, None, Some, IfSome, IsSome}
 use Rattle.roman_io.specs.Shelf.{Texts, shelf_text}
-use Rattle.roman_io.specs.Sink.{Wrote, WroteFront}
+use Rattle.roman_io.specs.Sink.{Wrote, WrotePrefix}
 use Rattle.roman_io.specs.Source.{Gave, Had, IsAtEnd, GaveAtMost}
 use Rattle.roman_model.specs.declared.limits.TheConstants.{MAX_SESSION_BYTES, PIECE_BYTES}
 use Rattle.roman_library.specs.Library.{PlainLibrary}
@@ -33,7 +33,7 @@ pub record HasAnswered (texts : Texts) (system taken : List ℕ) (old new : Worl
   pub wrote : Wrote old.written new.written text
 
 -- a session on the shelf has taken some first bytes of its text
-pub record HasAnsweredFront (texts : Texts) (system name : List ℕ) (old new : World) : Type 0 where
+pub record HasAnsweredPrefix (texts : Texts) (system name : List ℕ) (old new : World) : Type 0 where
   pub taken : List ℕ
   pub rest : List ℕ
   pub split : shelf_text texts name ≡ taken ++ rest
@@ -41,7 +41,7 @@ pub record HasAnsweredFront (texts : Texts) (system name : List ℕ) (old new : 
 
 -- at a fault of the shelf, which `make` and words without a shape don't ask: of a session on the shelf replies were written, and else nothing
 abbrev pub AtShelfFault : Option Command → World → World → Type 0
-AtShelfFault (Some (On system (Run (Some name)))) old new = IsUnwritten old new ⊎ IfSome old.texts (λ texts. HasAnsweredFront texts system name old new)
+AtShelfFault (Some (On system (Run (Some name)))) old new = IsUnwritten old new ⊎ IfSome old.texts (λ texts. HasAnsweredPrefix texts system name old new)
 AtShelfFault (Some (On system job)) old new = IsUnwritten old new
 AtShelfFault _ old new = ⊥
 
@@ -57,30 +57,30 @@ AtReadFault (Some (On system (Run None))) old new = IfSome old.texts (λ texts. 
 AtReadFault _ old new = ⊥
 
 -- a prefix of the text of a run was written, where the input had that rest
-pub record HasRunFront (asked : Option Command) (texts : Texts) (rest : Option (List ℕ)) (old new : World) : Type 0 where
+pub record HasRunPrefix (asked : Option Command) (texts : Texts) (rest : Option (List ℕ)) (old new : World) : Type 0 where
   pub session : List ℕ
   pub given : IsSessionText asked texts rest session
   pub text : List ℕ
   pub ends : Status
   pub run : Runs asked texts session text ends
-  pub wrote : WroteFront old.written new.written text
+  pub wrote : WrotePrefix old.written new.written text
 
 -- a prefix of what a session is told of whole lines that the input gave, or of all that it had, was written
-pub record HasFrontOfTaken (texts : Texts) (system : List ℕ) (old new : World) : Type 0 where
+pub record HasPrefixOfTaken (texts : Texts) (system : List ℕ) (old new : World) : Type 0 where
   pub taken : List ℕ
   pub more : List ℕ
   pub gave : Gave old.rest new.rest (taken ++ more)
   pub ends : AreWhole taken ⊎ Had old.rest taken
-  pub run : HasRunFront (Some (On system (Run None))) texts (Some taken) old new
+  pub run : HasRunPrefix (Some (On system (Run None))) texts (Some taken) old new
 
 -- so it is for a session from the input; of other runs nothing more is said
 abbrev pub IsOfTaken : Option Command → Texts → World → World → Type 0
-IsOfTaken (Some (On system (Run None))) texts old new = HasFrontOfTaken texts system old new
+IsOfTaken (Some (On system (Run None))) texts old new = HasPrefixOfTaken texts system old new
 IsOfTaken _ texts old new = Unit {0}
 
 -- at a fault of the sink
 abbrev pub AtWriteFault : Option Command → World → World → Type 0
-AtWriteFault asked old new = WithTexts asked old.texts (λ texts. HasRunFront asked texts old.rest old new × IsOfTaken asked texts old new)
+AtWriteFault asked old new = WithTexts asked old.texts (λ texts. HasRunPrefix asked texts old.rest old new × IsOfTaken asked texts old new)
 
 -- where memory fails, which is asked for by commands alone: nothing was written
 abbrev pub AtMemory : Option Command → World → World → Type 0

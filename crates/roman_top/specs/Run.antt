@@ -12,7 +12,7 @@ use Rattle.roman_model.specs.Certificate.{Verdict, Greatest, Rejected, TooLong, 
 use Rattle.roman_library.specs.Library.{PlainLibrary}
 use Rattle.roman_session.specs.Reports.{report_text}
 use Rattle.roman_start.specs.Starts.{parts_of, start_pair_of}
-use Rattle.roman_session.specs.Hearing.{front_of, is_heard_out}
+use Rattle.roman_session.specs.Hearing.{prefix_of, is_heard_out}
 use Rattle.roman_rank.specs.DepthText.{TellsDepths}
 use Rattle.roman_top.specs.Command.{Job, Synth, Run, Certify, Check, Shortest, Advise, Resilience, Command, On, Make, usage_line}
 use Rattle.roman_top.specs.Advice.{GivesAdvice}
@@ -78,7 +78,7 @@ abbrev pub Talks : List ℕ → PlainLibrary → List ℕ → Status → Type 0
 Talks session library out result =
     MatchBool (is_heard_out session)
     (ToldFromStart library (lines session) out × (result ≡ status.Done))
-    (ToldFromStart library (ended_lines (front_of session)) out × (result ≡ status.TooLong))
+    (ToldFromStart library (ended_lines (prefix_of session)) out × (result ≡ status.TooLong))
 
 -- make: the summary of the system of n
 abbrev pub Makes : ℕ → List ℕ → Status → Type 0

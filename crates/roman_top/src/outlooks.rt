@@ -167,8 +167,8 @@ fn push_line<O: Sink>(
         (page.old ++ line_without joint.now (places first second) way (told left.now)) result }
     ensures cause { HasCause (O.faults out.old) (O.faults out.new) result }
 {
-    let front = names_piece(joint, first, second).text(way_word(way));
-    if let Err(failed) = page.push(front.bytes(), out) {
+    let prefix = names_piece(joint, first, second).text(way_word(way));
+    if let Err(failed) = page.push(prefix.bytes(), out) {
         return Err(failed);
     }
     page.push(outlook_piece(left).bytes(), out)

@@ -1,8 +1,8 @@
 use Rattle.std.proofs.Common.{◌≡◌, ℕ, List, [], ◌∷◌, ◌++◌, codes, decimal, refl, sym, ap, ◌∙◌, subst, append_assoc}
 use Rattle.std.proofs.lemmas.Fmt.{decimal_digit}
 use Rattle.std.proofs.lemmas.Result.{err_from_is_err_and}
-use Rattle.roman_io.specs.Sink.{WroteFront}
-use Rattle.roman_io.proofs.SinkLemmas.{WroteFront-append}
+use Rattle.roman_io.specs.Sink.{WrotePrefix}
+use Rattle.roman_io.proofs.SinkLemmas.{WrotePrefix-append}
 use Rattle.roman_model.specs.declared.reason.Reason.TheVariants.{Act}
 use Rattle.roman_model.specs.Lines.{text_of_lines}
 use Rattle.roman_model.specs.Certificate.{entry_line}
@@ -33,8 +33,8 @@ returns-in_err-push_number_then-clause-gathers g c =
     let p = err_from_is_err_and c.from_residual.result c.from_residual.ensures.1 in
     let failed = c.in_err-push_number_then.ensures.gathers in
     rw p.1 (
-      subst (WroteFront (g.O.Sink.written c.args.out.now) (g.O.Sink.written c.push_number_then-2.new.out)) (in_two c.args.page.now c.args.pair a a refl)
-          (WroteFront-append _ _ _ (decimal a ++ codes "\n") failed.0),
+      subst (WrotePrefix (g.O.Sink.written c.args.out.now) (g.O.Sink.written c.push_number_then-2.new.out)) (in_two c.args.page.now c.args.pair a a refl)
+          (WrotePrefix-append _ _ _ (decimal a ++ codes "\n") failed.0),
       failed.1,
     )
 

@@ -1,6 +1,6 @@
 use Rattle.std.proofs.Common.{rules, ◌≡◌, ℕ, length, subst, Option, IfSome}
 use Rattle.roman_io.specs.Shelf.{Fetches, Texts, shelf_text}
-use Rattle.roman_library.proofs.FrontLemmas.{fetched_more}
+use Rattle.roman_library.proofs.PrefixLemmas.{fetched_more}
 use Rattle.roman_library.proofs.text.whole_text.Goals as goal
 
 pub pieces-preserved : goal.pieces-preserved
@@ -13,5 +13,5 @@ pieces-preserved g c =
     record {
       texts = search rules;
       faults = search rules;
-      front = rw (c.in_ok-extend_from_slice.ensures.items) (fetched_more (g.F.Shelf.texts c.args.shelf.now) c.args.name.now c.pieces.text.items c.fetch.new.into c.in-Ok.count c.pieces.invariant.front fetched);
+      prefix = rw (c.in_ok-extend_from_slice.ensures.items) (fetched_more (g.F.Shelf.texts c.args.shelf.now) c.args.name.now c.pieces.text.items c.fetch.new.into c.in-Ok.count c.pieces.invariant.prefix fetched);
     }

@@ -1,13 +1,13 @@
 use Rattle.std.proofs.Common.{◌≡◌, ◌-◌, vec_len, IfSome}
 use Rattle.roman_io.specs.Shelf.{shelf_text}
-use Rattle.roman_library.specs.Texts.{IsFront}
+use Rattle.roman_library.specs.Texts.{IsPrefix}
 use Rattle.roman_library.proofs.text.whole_text.Given as goal
 
 abbrev pub invariant-pieces : goal.invariant-pieces
 invariant-pieces g l = record {
   texts : g.F.Shelf.texts l.shelf ≡ g.F.Shelf.texts l.initial.shelf;
   faults : g.F.Shelf.faults l.shelf ≡ g.F.Shelf.faults l.initial.shelf;
-  front : IfSome (g.F.Shelf.texts l.initial.shelf) (λ ts. IsFront l.text.items (shelf_text ts l.name));
+  prefix : IfSome (g.F.Shelf.texts l.initial.shelf) (λ ts. IsPrefix l.text.items (shelf_text ts l.name));
 }
 
 abbrev pub decreases-pieces : goal.decreases-pieces

@@ -1,7 +1,7 @@
 use Rattle.std.proofs.Common.{◌++◌, [], inr, take, refl, ◌∙◌, arith, length-append, length-take-le}
 use Rattle.roman_io.proofs.SourceLemmas.{Gave-nil, Gave-then}
 use Rattle.roman_session.proofs.HearingLemmas.{hearing_starts}
-use Rattle.roman_session.proofs.HearingEnds.{gave_at_most, rest_out, rest_stops_short, rest_fronts, rest_not_read, rest_not_long, out_at_quit, gave_quit, piece_cut_off, piece_stops_short, piece_fronts, piece_not_read}
+use Rattle.roman_session.proofs.HearingEnds.{gave_at_most, rest_out, rest_stops_short, rest_prefixes, rest_not_read, rest_not_long, out_at_quit, gave_quit, piece_cut_off, piece_stops_short, piece_prefixes, piece_not_read}
 use Rattle.roman_session.proofs.hearing.hear.Goals as goal
 
 pub takes-init : goal.takes-init
@@ -43,9 +43,9 @@ returns-then-count-eq0-clause-write_fault g c is =
     (c.in-Ok.ensures.ends (omega (arith, c.takes.invariant.piece, c.take.auto.into))) c.if-count-eq0.true (omega (arith, c.takes.invariant.room))
     (c.hear_rest.ensures.hears c.args.session.now (g.O.Sink.written c.args.out.now) c.takes.invariant.taken c.takes.invariant.hearing) is
 
-pub returns-then-count-eq0-clause-front : goal.returns-then-count-eq0-clause-front
-returns-then-count-eq0-clause-front g c is behaviours =
-    rest_fronts c.args.session.now c.hear_rest.new.session (g.S.Source.rest c.args.source.now) (g.S.Source.rest c.takes.source) c.takes.invariant.taken c.in-Ok.count
+pub returns-then-count-eq0-clause-prefix : goal.returns-then-count-eq0-clause-prefix
+returns-then-count-eq0-clause-prefix g c is behaviours =
+    rest_prefixes c.args.session.now c.hear_rest.new.session (g.S.Source.rest c.args.source.now) (g.S.Source.rest c.takes.source) c.takes.invariant.taken c.in-Ok.count
     (g.O.Sink.written c.args.out.now) (g.O.Sink.written c.hear_rest.new.out) c.takes.invariant.gave (c.in-Ok.ensures.ends (omega (arith, c.takes.invariant.piece, c.take.auto.into))) c.if-count-eq0.true
     (omega (arith, c.takes.invariant.room)) c.hear_rest.result (c.hear_rest.ensures.hears c.args.session.now (g.O.Sink.written c.args.out.now) c.takes.invariant.taken c.takes.invariant.hearing) is
 
@@ -121,9 +121,9 @@ returns-in-Err-clause-write_fault g c is =
     (take c.in-Ok.count c.take.new.into) c.takes.room (g.O.Sink.written c.args.out.now) (g.O.Sink.written c.hear_piece.new.out) c.takes.invariant.gave c.in-Ok.ensures.moves c.takes.invariant.room
     c.hear_piece.new.splitter c.in-Err.error (c.in-Err.ensures.hears c.args.session.now (g.O.Sink.written c.args.out.now) c.takes.invariant.taken c.takes.invariant.hearing) cc
 
-pub returns-in-Err-clause-front : goal.returns-in-Err-clause-front
-returns-in-Err-clause-front g c is behaviours =
-    piece_fronts c.args.session.now c.hear_piece.new.session (g.S.Source.rest c.args.source.now) (g.S.Source.rest c.takes.source) (g.S.Source.rest c.take.new.self) c.takes.invariant.taken
+pub returns-in-Err-clause-prefix : goal.returns-in-Err-clause-prefix
+returns-in-Err-clause-prefix g c is behaviours =
+    piece_prefixes c.args.session.now c.hear_piece.new.session (g.S.Source.rest c.args.source.now) (g.S.Source.rest c.takes.source) (g.S.Source.rest c.take.new.self) c.takes.invariant.taken
     (take c.in-Ok.count c.take.new.into) c.takes.room (g.O.Sink.written c.args.out.now) (g.O.Sink.written c.hear_piece.new.out) c.takes.invariant.gave c.in-Ok.ensures.moves c.takes.invariant.room
     c.hear_piece.new.splitter c.in-Err.error (c.in-Err.ensures.hears c.args.session.now (g.O.Sink.written c.args.out.now) c.takes.invariant.taken c.takes.invariant.hearing) (cc) behaviours
 

@@ -13,12 +13,12 @@ use Rattle.roman_top.proofs.outlooks.push_line.Goals as goal
 
 pub returns-in-Err-clause-gathers : goal.returns-in-Err-clause-gathers
 returns-in-Err-clause-gathers g c =
-    let front = c.bytes.ensures ∙ (c.text-front.ensures.text ∙ ap₂ (λ (x y : List ℕ). x ++ y) c.names_piece.ensures.text c.way_word.ensures.word) in
-    let e = line_pieces c.args.joint.now (places c.args.first c.args.second) c.args.way (told c.args.left.now) c.bytes.result.now (outlook_words (told c.args.left.now)) front refl in
+    let prefix = c.bytes.ensures ∙ (c.text-prefix.ensures.text ∙ ap₂ (λ (x y : List ℕ). x ++ y) c.names_piece.ensures.text c.way_word.ensures.word) in
+    let e = line_pieces c.args.joint.now (places c.args.first c.args.second) c.args.way (told c.args.left.now) c.bytes.result.now (outlook_words (told c.args.left.now)) prefix refl in
     (fill_failed _ _ _ _ _ _ _ (fill_behind _ _ _ _ e) c.in-Err.ensures.gathers.0, c.in-Err.ensures.gathers.1)
 
 pub returns-clause-gathers : goal.returns-clause-gathers
 returns-clause-gathers g c =
-    let front = c.bytes.ensures ∙ (c.text-front.ensures.text ∙ ap₂ (λ (x y : List ℕ). x ++ y) c.names_piece.ensures.text c.way_word.ensures.word) in
-    let e = line_pieces c.args.joint.now (places c.args.first c.args.second) c.args.way (told c.args.left.now) c.bytes.result.now c.bytes-2.result.now front (c.bytes-2.ensures ∙ c.outlook_piece.ensures) in
+    let prefix = c.bytes.ensures ∙ (c.text-prefix.ensures.text ∙ ap₂ (λ (x y : List ℕ). x ++ y) c.names_piece.ensures.text c.way_word.ensures.word) in
+    let e = line_pieces c.args.joint.now (places c.args.first c.args.second) c.args.way (told c.args.left.now) c.bytes.result.now c.bytes-2.result.now prefix (c.bytes-2.ensures ∙ c.outlook_piece.ensures) in
     fill_last _ _ _ _ _ _ _ c.push-2.result (fill_more _ _ _ _ _ _ _ _ (fill_behind _ _ _ _ e) c.in_default.ensures.gathers) c.push-2.ensures.gathers

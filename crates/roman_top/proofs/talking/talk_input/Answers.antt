@@ -17,7 +17,7 @@ returns-clause-served g c =
       too_long = c.hear.ensures.too_long;
       read_fault = c.hear.ensures.read_fault;
       write_fault = c.hear.ensures.write_fault;
-      front = c.hear.ensures.front;
+      prefix = c.hear.ensures.prefix;
       taken = c.hear.ensures.taken;
       past = c.hear.ensures.past;
     })
@@ -31,7 +31,7 @@ returns-clause-input g c =
       too_long = c.hear.ensures.too_long;
       read_fault = c.hear.ensures.read_fault;
       write_fault = c.hear.ensures.write_fault;
-      front = c.hear.ensures.front;
+      prefix = c.hear.ensures.prefix;
       taken = c.hear.ensures.taken;
       past = c.hear.ensures.past;
     })

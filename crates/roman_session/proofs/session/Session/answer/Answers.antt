@@ -1,8 +1,8 @@
-use Rattle.roman_session.proofs.AnswerLemmas.{names_some, stays_related, answered_whole, answered_front}
+use Rattle.roman_session.proofs.AnswerLemmas.{names_some, stays_related, answered_whole, answered_prefix}
 use Rattle.roman_session.proofs.session.Session.answer.Goals as goal
 
 pub returns-in-Err-clause-step : goal.returns-in-Err-clause-step
-returns-in-Err-clause-step g c = answered_front _ _ _ _ _ _ _ _ _ c.new-page.ensures.empty c.in-Err.ensures.step
+returns-in-Err-clause-step g c = answered_prefix _ _ _ _ _ _ _ _ _ c.new-page.ensures.empty c.in-Err.ensures.step
 
 pub returns-in-Err-clause-offered : goal.returns-in-Err-clause-offered
 returns-in-Err-clause-offered g c = names_some c.args.self.now c.args.line.now c.known.ensures

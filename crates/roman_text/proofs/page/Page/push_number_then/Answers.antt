@@ -1,8 +1,8 @@
 use Rattle.std.proofs.Common.{List, ℕ, ap, subst, decimal, arith, append_assoc, length, length-append}
 use Rattle.std.proofs.lemmas.Fmt.{length-decimal-le}
 use Rattle.std.proofs.lemmas.Result.{err_from_is_err_and}
-use Rattle.roman_io.specs.Sink.{WroteFront}
-use Rattle.roman_io.proofs.SinkLemmas.{WroteFront-append}
+use Rattle.roman_io.specs.Sink.{WrotePrefix}
+use Rattle.roman_io.proofs.SinkLemmas.{WrotePrefix-append}
 use Rattle.roman_text.specs.Pages.{Gathers}
 use Rattle.roman_text.proofs.PageLemmas.{Gathers-after}
 use Rattle.roman_text.proofs.page.Page.push_number_then.Goals as goal
@@ -12,8 +12,8 @@ returns-in_err-push_number-clause-gathers g c =
     let p = err_from_is_err_and c.from_residual.result c.from_residual.ensures.1 in
     let failed = c.in_err-push_number.ensures.gathers in
     rw p.1 (
-      subst (WroteFront (g.O.Sink.written c.args.out.now) (g.O.Sink.written c.push_number.new.out)) (append_assoc c.args.self.now (decimal c.args.n) c.args.behind.now)
-          (WroteFront-append _ _ _ c.args.behind.now failed.0),
+      subst (WrotePrefix (g.O.Sink.written c.args.out.now) (g.O.Sink.written c.push_number.new.out)) (append_assoc c.args.self.now (decimal c.args.n) c.args.behind.now)
+          (WrotePrefix-append _ _ _ c.args.behind.now failed.0),
       failed.1,
     )
 

@@ -1,0 +1,37 @@
+-- How the prefix of a text grows.
+use Rattle.std.proofs.Common.{◌≡◌, ℕ, ◌+◌, ◌≤◌, List, [], ◌++◌, length, take, drop, sym, ◌∙◌, ap, subst, arith, append-nil, length-append, Option, None, Some, IfSome}
+use Rattle.std.proofs.lemmas.List.{take-append-drop, length-take-le}
+use Rattle.std.proofs.Math.Seq.{take-append-add}
+use Rattle.roman_io.specs.Shelf.{Texts, Fetches, shelf_text}
+use Rattle.roman_library.specs.Texts.{IsPrefix}
+
+-- the text is its prefix and what is left behind it
+prefix_rest : (bytes text : List ℕ) → IsPrefix bytes text → bytes ++ drop (length bytes) text ≡ text
+prefix_rest bytes text prefix = ap (λ xs. xs ++ drop (length bytes) text) (sym prefix.same) ∙ take-append-drop (length bytes) text
+
+-- the next bytes of the text, behind its prefix
+prefix_more : (bytes piece text : List ℕ) (n : ℕ) → IsPrefix bytes text → take n piece ≡ take n (drop (length bytes) text) →
+    n ≤ length (drop (length bytes) text) → IsPrefix (bytes ++ take n piece) text
+prefix_more bytes piece text n prefix same within =
+    let size : length (bytes ++ take n piece) ≡ length bytes + n =
+    rw same (length-append bytes (take n (drop (length bytes) text)) ∙ ap (λ m. length bytes + m) (length-take-le n (drop (length bytes) text) within)) in
+    let taken : take (length bytes + n) (bytes ++ drop (length bytes) text) ≡ bytes ++ take n piece =
+    take-append-add bytes (drop (length bytes) text) n ∙ ap (λ xs. bytes ++ xs) (sym same) in
+    record { same = rw size (subst (λ t. take (length bytes + n) t ≡ bytes ++ take n piece) (prefix_rest bytes text prefix) taken) }
+
+-- where nothing is left behind the prefix, it is the text
+pub prefix_all : (bytes text : List ℕ) → IsPrefix bytes text → drop (length bytes) text ≡ [] → text ≡ bytes
+prefix_all bytes text prefix end =
+    sym (prefix_rest bytes text prefix) ∙ ap (λ xs. bytes ++ xs) end ∙ append-nil bytes
+
+-- a prefix is no longer than its text
+pub prefix_short : (bytes text : List ℕ) → IsPrefix bytes text → length bytes ≤ length text
+prefix_short bytes text prefix =
+    let e = ap length (prefix_rest bytes text prefix) in
+    omega (arith, length-append bytes (drop (length bytes) text), e)
+
+-- the same of a text of a shelf, where it is told
+pub fetched_more : (o : Option Texts) (name bytes into : List ℕ) (n : ℕ) → IfSome o (λ ts. IsPrefix bytes (shelf_text ts name)) →
+    IfSome o (λ ts. Fetches (shelf_text ts name) (length bytes) into n) → IfSome o (λ ts. IsPrefix (bytes ++ take n into) (shelf_text ts name))
+fetched_more None name bytes into n prefix fetches = prefix
+fetched_more (Some ts) name bytes into n prefix fetches = prefix_more bytes into (shelf_text ts name) n prefix fetches.bytes fetches.within
