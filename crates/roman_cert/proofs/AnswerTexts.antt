@@ -13,14 +13,12 @@ use Rattle.roman_model.specs.Numbers.{sizes_of, count, pair_at, numbered, entry_
 use Rattle.roman_model.specs.declared.reason.Reason.{Reason}
 use Rattle.roman_model.specs.declared.reason.Reason.TheVariants.{Final, Act}
 use Rattle.roman_model.specs.Explanation.{answer, answer_line}
-use Rattle.roman_model.proofs.Lists.{get_or-below, length-below}
-use Rattle.roman_model.proofs.NumberedArena.{AreNumbers}
-use Rattle.roman_model.proofs.ExplanationRenames.{answer_at}
+use Rattle.roman_model.proofs.CallerLemmas.{get_or-below, length-below, AreNumbers, answer_at}
 use Rattle.roman_joint.specs.NamedSys.{NamedSys, system_of, seat_of, IsNamedSys}
 use Rattle.roman_joint.specs.Names.{names_in}
 use Rattle.roman_order.specs.Board.{Board, pairs_of, as_entry, has_entry}
 use Rattle.roman_relation.specs.Greatest.{arena_of}
-use Rattle.roman_text.proofs.Filling.{IsFilling}
+use Rattle.roman_text.proofs.CallerLemmas.{IsFilling}
 use Rattle.roman_cert.specs.Slices.{answers_text}
 use Rattle.roman_cert.proofs.Texts.{text_of_lines-append}
 use Rattle.roman_cert.proofs.Answering.{entry_in, listed_numbers}

@@ -11,19 +11,15 @@ use Rattle.roman_model.specs.Arena.{Arena, Entry, is_listed, is_justified, IsOrd
 use Rattle.roman_model.specs.Explanation.{entries_before, answer}
 use Rattle.roman_model.specs.Numbers.{Sizes, sizes_of, count}
 use Rattle.roman_model.specs.declared.reason.Reason.TheVariants.{Act}
-use Rattle.roman_model.proofs.Lists.{by_test, empty_is, not_empty_in, find_some, any_from, contains_in, length-below}
-use Rattle.roman_model.proofs.NumberedArena.{AreNumbers}
-use Rattle.roman_model.proofs.ArenaLemmas.{IsSame, justified_is}
-use Rattle.roman_model.proofs.WorkLemmas.{order_middle}
-use Rattle.roman_model.proofs.ExplanationLemmas.{before_is}
+use Rattle.roman_model.proofs.CallerLemmas.{by_test, empty_is, not_empty_in, find_some, any_from, contains_in, length-below, AreNumbers, IsSame, justified_is, order_middle, before_is}
 use Rattle.roman_rules.specs.Numbered.{IsNumbered}
 use Rattle.roman_rules.specs.Finding.{IsFinding, HasFinding}
 use Rattle.roman_rules.specs.declared.finding.Finding.{Finding}
 use Rattle.roman_rules.specs.declared.finding.Finding.TheVariants.{Good, NoOutcome, Leaves}
-use Rattle.roman_rules.proofs.NumberedFacts.{numbered_same}
+use Rattle.roman_rules.proofs.CallerLemmas.{numbered_same}
 use Rattle.roman_order.specs.Board.{Board, pairs_of, has_entry, place_in_list}
-use Rattle.roman_order.proofs.Places.{is_some-place_in_list}
-use Rattle.roman_relation.proofs.Beginnings.{listed_is}
+use Rattle.roman_order.proofs.CallerLemmas.{is_some-place_in_list}
+use Rattle.roman_relation.proofs.CallerLemmas.{listed_is}
 use Rattle.roman_cert.proofs.Texts.{drop_at}
 
 -- Places

@@ -10,9 +10,7 @@ use Rattle.roman_model.specs.System.{Sys, Seat, IsSys, IsPair}
 use Rattle.roman_model.specs.Arena.{Entry}
 use Rattle.roman_model.specs.Numbers.{sizes_of, count, pair_at, entry_at, IsCompleteList}
 use Rattle.roman_model.specs.Certificate.{head_line, count_line, end_line, reason_text, entry_line, cert_text, IsWithinCells}
-use Rattle.roman_model.proofs.Lists.{in_map}
-use Rattle.roman_model.proofs.NumberedArena.{AreNumbers}
-use Rattle.roman_model.proofs.CertificateLaws.{written_is_greatest}
+use Rattle.roman_model.proofs.CallerLemmas.{in_map, AreNumbers, written_is_greatest}
 use Rattle.roman_joint.specs.NamedSys.{NamedSys, system_of, IsNamedSys}
 use Rattle.roman_cert.specs.Certified.{WroteGreatest}
 use Rattle.roman_cert.proofs.Texts.{text_of_lines-append, drop_at}

@@ -9,7 +9,7 @@ use Rattle.roman_model.specs.Numbers.{sizes_of, pair_at}
 use Rattle.roman_model.specs.Arena.{Entry}
 use Rattle.roman_model.specs.declared.reason.Reason.{Reason}
 use Rattle.roman_model.specs.Explanation.{Names, SeatNames, name_at, seat_names, state_names, reason_name, lost_line, answer_line}
-use Rattle.roman_model.proofs.NumberLemmas.{length-states_at}
+use Rattle.roman_model.proofs.CallerLemmas.{length-states_at}
 use Rattle.roman_joint.specs.NamedSys.{NamedSys, system_of, seat_of}
 use Rattle.roman_joint.specs.Names.{names_in, names_of_seat}
 use Rattle.roman_cert.specs.Slices.{lost_text}

@@ -8,10 +8,7 @@ use Rattle.roman_model.specs.Lists.{IsIn, below}
 use Rattle.roman_model.specs.Arena.{Arena, Entry, is_among, is_listed, IsOrder}
 use Rattle.roman_model.specs.Explanation.{entries_before, answer, ready_seats, answers, rests_on}
 use Rattle.roman_model.specs.declared.reason.Reason.TheVariants.{Act}
-use Rattle.roman_model.proofs.Lists.{same_test, any_true, any_from, any_within, in_append_right, from_append, split_at, by_test, list_any-flat_map}
-use Rattle.roman_model.proofs.ArenaLemmas.{IsSame, among_in}
-use Rattle.roman_model.proofs.WorkLemmas.{order_middle}
-use Rattle.roman_model.proofs.ExplanationLemmas.{before_falls, before_is, answer_before, rests_is}
+use Rattle.roman_model.proofs.CallerLemmas.{same_test, any_true, any_from, any_within, in_append_right, from_append, split_at, by_test, list_any-flat_map, IsSame, among_in, order_middle, before_falls, before_is, answer_before, rests_is}
 use Rattle.roman_rules.specs.Numbered.{IsNumbered}
 use Rattle.roman_cert.proofs.Texts.{drop_at, some_at}
 use Rattle.roman_cert.proofs.Answering.{entries_at, unready_answer}

@@ -7,7 +7,7 @@ use Rattle.roman_model.specs.Arena.{Entry, IsOrder}
 use Rattle.roman_model.specs.Numbers.{sizes_of, count}
 use Rattle.roman_model.specs.declared.reason.Reason.{Reason}
 use Rattle.roman_model.specs.declared.reason.Reason.TheVariants.{Final, Act}
-use Rattle.roman_model.proofs.NumberedLists.{numbered_is_arena}
+use Rattle.roman_model.proofs.CallerLemmas.{numbered_is_arena}
 use Rattle.roman_joint.specs.NamedSys.{NamedSys, system_of, IsNamedSys}
 use Rattle.roman_order.specs.Board.{Board, pairs_of, has_entry, is_marked}
 use Rattle.roman_relation.specs.Greatest.{arena_of}

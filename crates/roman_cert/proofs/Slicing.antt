@@ -8,12 +8,7 @@ use Rattle.roman_model.specs.Composition.{Great}
 use Rattle.roman_model.specs.Numbers.{sizes_of, count, pair_at, entry_at, IsCompleteList}
 use Rattle.roman_model.specs.Explanation.{rests_on, explanation, lost_line, answer_lines, entry_lines, explain_text, ExplainedOrder}
 use Rattle.roman_model.specs.Play.{OpponentWins}
-use Rattle.roman_model.proofs.Lists.{filter_same}
-use Rattle.roman_model.proofs.NumberLemmas.{numbers_are_pairs}
-use Rattle.roman_model.proofs.NumberedArena.{AreNumbers}
-use Rattle.roman_model.proofs.ExplanationLemmas.{explanation_is_least, explanation_is_order}
-use Rattle.roman_model.proofs.ExplanationRenames.{explanation_at}
-use Rattle.roman_model.proofs.PlayLemmas.{order_won}
+use Rattle.roman_model.proofs.CallerLemmas.{filter_same, numbers_are_pairs, AreNumbers, explanation_is_least, explanation_is_order, explanation_at, order_won}
 use Rattle.roman_joint.specs.NamedSys.{NamedSys, system_of, IsNamedSys}
 use Rattle.roman_joint.specs.Names.{names_in}
 use Rattle.roman_order.specs.Board.{Board, is_marked}

@@ -9,14 +9,12 @@ use Rattle.roman_model.specs.SystemArena.{same_numbers}
 use Rattle.roman_model.specs.Arena.{Arena, Entry, is_listed, is_justified}
 use Rattle.roman_model.specs.Certificate as text
 use Rattle.roman_model.specs.Certificate.{head_line, count_line, end_line, reasons, possible_entries, entry_of, entries_on, could_be_listed, unless_over, end_fault, entry_fault, body_fault, line_fault}
-use Rattle.roman_model.proofs.SystemLemmas.{same_numbers_is}
-use Rattle.roman_model.proofs.CertificateLemmas.{AreFew, from_possible, possible_small, entry_is_no_end, entry_of-is, entry_of_other}
-use Rattle.roman_model.proofs.VerdictLemmas.{fault_in_body, fault_after_end}
+use Rattle.roman_model.proofs.CallerLemmas.{same_numbers_is, AreFew, from_possible, possible_small, entry_is_no_end, entry_of-is, entry_of_other, fault_in_body, fault_after_end}
 use Rattle.roman_model.specs.declared.reason.Reason.{Reason}
 use Rattle.roman_model.specs.declared.reason.Reason.TheVariants.{Final, Act}
 use Rattle.roman_lanes.specs.Rows.{AreRows}
 use Rattle.roman_rules.specs.Asked.{HoldsWhereKept, IsReasonOf}
-use Rattle.roman_rules.proofs.Asking.{known_more}
+use Rattle.roman_rules.proofs.CallerLemmas.{known_more}
 use Rattle.roman_rules.specs.Numbered.{IsNumbered}
 use Rattle.roman_check.specs.declared.audit.Audit.{Audit}
 use Rattle.roman_check.specs.declared.audit.Due.{Due}

@@ -10,10 +10,7 @@ use Rattle.roman_model.specs.Arena.{Arena, Entry, is_listed}
 use Rattle.roman_model.specs.Certificate as text
 use Rattle.roman_model.specs.Certificate.{head_line, count_line, end_line, entry_of, entries_on, line_fault, IsClean, unlisted, cert_verdict}
 use Rattle.roman_model.specs.declared.limits.TheConstants.{MAX_CERTIFICATE_BYTES}
-use Rattle.roman_model.proofs.Lists.{by_test}
-use Rattle.roman_model.proofs.CertificateLemmas.{AreFew, entry_of_other}
-use Rattle.roman_model.proofs.CertificateLaws.{due_is}
-use Rattle.roman_model.proofs.VerdictLemmas.{fault_in_body, fault_after_end, verdict_at, verdict_ended, verdict_accepted}
+use Rattle.roman_model.proofs.CallerLemmas.{by_test, AreFew, entry_of_other, due_is, fault_in_body, fault_after_end, verdict_at, verdict_ended, verdict_accepted}
 use Rattle.roman_rules.specs.Numbered.{IsNumbered}
 use Rattle.roman_check.specs.declared.audit.Audit.{Audit}
 use Rattle.roman_check.specs.declared.audit.Due.TheVariants.{Nothing, Body}

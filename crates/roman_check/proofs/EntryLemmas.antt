@@ -11,9 +11,7 @@ use Rattle.roman_model.specs.Arena.{Entry}
 use Rattle.roman_model.specs.declared.reason.Reason.{Reason}
 use Rattle.roman_model.specs.declared.reason.Reason.TheVariants.{Final, Act}
 use Rattle.roman_model.specs.Certificate.{count_line, reason_text, entry_line, reasons, entry_of}
-use Rattle.roman_model.proofs.Lists.{from_map, from_below}
-use Rattle.roman_model.proofs.SystemLemmas.{same_numbers_itself}
-use Rattle.roman_model.proofs.CertificateLemmas.{IsSmall, AreFew, cut_at, decimal_without, act_reason, in_possible, from_possible, possible_small, entry_is_line, entry_of-line, entry_of-is, entry_of_none}
+use Rattle.roman_model.proofs.CallerLemmas.{from_map, from_below, same_numbers_itself, IsSmall, AreFew, cut_at, decimal_without, act_reason, in_possible, from_possible, possible_small, entry_is_line, entry_of-line, entry_of-is, entry_of_none}
 use Rattle.roman_check.specs.Readings.{IsEndedAt, ReadsOff}
 use Rattle.roman_check.specs.Decimals.{IsNumberTo}
 use Rattle.roman_check.proofs.DigitLemmas.{decimal_shape, no_stop_digit}

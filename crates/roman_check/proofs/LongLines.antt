@@ -9,10 +9,7 @@ use Rattle.roman_model.specs.Arena.{Arena, Entry}
 use Rattle.roman_model.specs.declared.reason.Reason.{Reason}
 use Rattle.roman_model.specs.declared.reason.Reason.TheVariants.{Final, Act}
 use Rattle.roman_model.specs.Certificate.{head_line, count_line, reason_text, entry_line, end_line, Form, reasons, possible_entries, entry_of, entries_on, unless_is, end_fault, entry_fault, line_fault}
-use Rattle.roman_model.proofs.Lists.{by_test}
-use Rattle.roman_model.proofs.SystemLemmas.{same_numbers_is}
-use Rattle.roman_model.proofs.CertificateLemmas.{from_possible, entry_of_none}
-use Rattle.roman_model.proofs.VerdictLemmas.{fault_in_body, fault_after_end}
+use Rattle.roman_model.proofs.CallerLemmas.{by_test, same_numbers_is, from_possible, entry_of_none, fault_in_body, fault_after_end}
 use Rattle.roman_rules.specs.Numbered.{IsNumbered}
 use Rattle.roman_check.proofs.ReasonLemmas.{given_action}
 

@@ -5,9 +5,7 @@ use Rattle.std.proofs.lemmas.List.{take-append-drop, take_more, take_rest, get_o
 use Rattle.roman_model.specs.Lines.{lines, text_of_lines, IsLine, AreLines}
 use Rattle.roman_model.specs.Arena.{Arena, Entry}
 use Rattle.roman_model.specs.Certificate.{entry_of, entry_fault}
-use Rattle.roman_model.proofs.Lists.{from_push}
-use Rattle.roman_model.proofs.LineLemmas.{text_of_lines-push, lines-text, lines_last}
-use Rattle.roman_model.proofs.CertificateLemmas.{append_line, clean_push}
+use Rattle.roman_model.proofs.CallerLemmas.{from_push, text_of_lines-push, lines-text, lines_last, append_line, clean_push}
 use Rattle.roman_check.specs.declared.reader.Reader.{Reader}
 use Rattle.roman_check.specs.declared.audit.Audit.{Audit}
 use Rattle.roman_check.specs.declared.audit.Due.TheVariants.{Body}

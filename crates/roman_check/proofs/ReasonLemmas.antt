@@ -11,7 +11,7 @@ use Rattle.roman_model.specs.Arena.{Arena}
 use Rattle.roman_model.specs.declared.reason.Reason.{Reason}
 use Rattle.roman_model.specs.declared.reason.Reason.TheVariants.{Final, Act}
 use Rattle.roman_model.specs.Certificate.{reasons}
-use Rattle.roman_model.proofs.Lists.{none_from, from_map, from_below, find_first, find_not_found, list_any-map}
+use Rattle.roman_model.proofs.CallerLemmas.{none_from, from_map, from_below, find_first, find_not_found, list_any-map}
 use Rattle.roman_lanes.specs.Rows.{is_on}
 use Rattle.roman_rules.specs.Numbered.{IsNumbered}
 

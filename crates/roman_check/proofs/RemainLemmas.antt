@@ -7,8 +7,8 @@ use Rattle.std.proofs.lemmas.Nat.{one_shl, same_from_place}
 use Rattle.std.proofs.lemmas.Nat.Bits.{ones_shr}
 use Rattle.roman_model.specs.Lists.{below}
 use Rattle.roman_lanes.specs.Rows.{is_on, HasLanes}
-use Rattle.roman_lanes.proofs.RowBits.{on_ones, on_ones_above, on_and, on_less, on_pow_same, on_pow_other}
-use Rattle.roman_rules.proofs.Asking.{count_below_more}
+use Rattle.roman_lanes.proofs.CallerLemmas.{on_ones, on_ones_above, on_and, on_less, on_pow_same, on_pow_other}
+use Rattle.roman_rules.proofs.CallerLemmas.{count_below_more}
 use Rattle.roman_check.specs.declared.table.Remaining.{Remaining}
 use Rattle.roman_check.specs.Remain.{Remain}
 

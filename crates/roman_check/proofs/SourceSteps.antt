@@ -2,15 +2,13 @@
 use Rattle.std.proofs.Common.{◌≡◌, ℕ, ◌+◌, ◌<◌, ◌≤◌, List, [], ◌∷◌, ◌++◌, length, take, drop, Option, Some, None, sym, ap, ◌∙◌, subst, arith, append_assoc, append-nil, length-append}
 use Rattle.std.proofs.lemmas.List.{take-append-drop, take-take, take_at}
 use Rattle.roman_io.specs.Source.{Gave, EndsAt, Had, IsAtEnd, GaveAtMost}
-use Rattle.roman_io.proofs.SourceLemmas.{Gave-then}
+use Rattle.roman_io.proofs.CallerLemmas.{Gave-then}
 use Rattle.roman_model.specs.Lines.{text_of_lines, ended_lines}
 use Rattle.roman_model.specs.Arena.{Arena}
 use Rattle.roman_model.specs.Certificate as text
 use Rattle.roman_model.specs.Certificate.{faults, cert_verdict}
 use Rattle.roman_model.specs.declared.limits.TheConstants.{MAX_CERTIFICATE_BYTES}
-use Rattle.roman_model.proofs.LineLemmas.{ended_lines-text, ended_lines_last}
-use Rattle.roman_model.proofs.CertificateLemmas.{faults_none}
-use Rattle.roman_model.proofs.VerdictLemmas.{verdict_rejected, verdict_too_long}
+use Rattle.roman_model.proofs.CallerLemmas.{ended_lines-text, ended_lines_last, faults_none, verdict_rejected, verdict_too_long}
 use Rattle.roman_check.specs.declared.reader.Reader.{Reader}
 use Rattle.roman_check.specs.declared.verdict.Why.{Why}
 use Rattle.roman_check.specs.Verdicts.{fault_of}

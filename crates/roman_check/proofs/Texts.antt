@@ -11,8 +11,7 @@ use Rattle.std.proofs.lemmas.List.Quantifiers.{position-Some}
 use Rattle.std.proofs.lemmas.Option.{none-some}
 use Rattle.roman_model.specs.System.{has}
 use Rattle.roman_model.specs.SystemArena.{same_numbers}
-use Rattle.roman_model.proofs.Lists.{same_test}
-use Rattle.roman_model.proofs.SystemLemmas.{same_numbers_is, same_numbers_itself}
+use Rattle.roman_model.proofs.CallerLemmas.{same_test, same_numbers_is, same_numbers_itself}
 
 -- a test of whether two texts are equal is the model's
 pub same_from : (b : Bool) (xs ys : List ℕ) → (IsTrue b → xs ≡ ys) → (xs ≡ ys → IsTrue b) → b ≡ same_numbers xs ys

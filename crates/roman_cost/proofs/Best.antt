@@ -3,9 +3,8 @@ use Rattle.std.proofs.Common.{◌≡◌, ◌≢◌, ℕ, ◌+◌, Bool, true, fa
 use Rattle.roman_model.specs.Lists.{IsIn, below}
 use Rattle.roman_model.specs.System.{has}
 use Rattle.roman_model.specs.Plans.{least_from, first_least}
-use Rattle.roman_model.proofs.Lists.{same_test, filter_same, filter_in, in_filter, filter_below_more}
-use Rattle.roman_model.proofs.AdviceLemmas.{least_from_push}
-use Rattle.roman_generator.proofs.OfferLemmas.{in_has, has_in}
+use Rattle.roman_model.proofs.CallerLemmas.{same_test, filter_same, filter_in, in_filter, filter_below_more, least_from_push}
+use Rattle.roman_generator.proofs.CallerLemmas.{in_has, has_in}
 use Rattle.roman_cost.specs.Filling.{better_of}
 
 -- the first of the least of a list, with its value

@@ -3,7 +3,7 @@ use Rattle.std.proofs.Common.{◌≡◌, ℕ, ◌+◌, ◌<◌, List, [], ◌∷
 use Rattle.std.specs.Prelude.{max}
 use Rattle.std.proofs.lemmas.List.{take_more}
 use Rattle.roman_model.specs.Plans.{max_over}
-use Rattle.roman_model.proofs.AdviceLemmas.{max_over_push, max_over-map, max_over-append}
+use Rattle.roman_model.proofs.CallerLemmas.{max_over_push, max_over-map, max_over-append}
 
 -- the next element is seen
 pub max_stepped : {X : Type 0} (f : X → ℕ) (xs : List X) (i : ℕ) (d : X) (best value new : ℕ) → best ≡ max_over f (take i xs) → i < length xs →

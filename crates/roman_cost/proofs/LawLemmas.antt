@@ -7,9 +7,7 @@ use Rattle.roman_model.specs.Lists.{IsIn, below}
 use Rattle.roman_model.specs.Numbers.{sizes_of, count, number, pair_at}
 use Rattle.roman_model.specs.Plans.{Costs, chosen, least, least_at, choice, through, allowed_actions}
 use Rattle.roman_model.specs.System.{Sys, Pair, IsSys, IsPair}
-use Rattle.roman_model.proofs.CompositionLemmas.{related_great, great_related}
-use Rattle.roman_model.proofs.NumberLemmas.{numbers_are_pairs}
-use Rattle.roman_model.proofs.PlanLemmas.{choice_is, plans_least}
+use Rattle.roman_model.proofs.CallerLemmas.{related_great, great_related, numbers_are_pairs, choice_is, plans_least}
 use Rattle.roman_joint.specs.NamedSys.{NamedSys, system_of}
 use Rattle.roman_cost.specs.AdviceText.{worst_line, choice_line, certificate_text, advice_text}
 use Rattle.roman_cost.specs.Advised.{related_pairs}

@@ -6,7 +6,7 @@ use Rattle.std.proofs.lemmas.List.{get_or_append_left, get_or_push, length_push,
 use Rattle.roman_model.specs.System.{Sys}
 use Rattle.roman_model.specs.SystemArena.{is_allowed}
 use Rattle.roman_model.specs.Numbers.{sizes_of, pair_at}
-use Rattle.roman_model.proofs.Lists.{by_test}
+use Rattle.roman_model.proofs.CallerLemmas.{by_test}
 use Rattle.roman_cost.specs.Filling.{IsOffers, AreOffers, HasOffers, PushesOffers}
 use Rattle.roman_cost.proofs.Rows.{range_left, range_seam}
 

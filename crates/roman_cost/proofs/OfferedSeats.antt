@@ -7,13 +7,7 @@ use Rattle.roman_model.specs.Arena.{is_beaten}
 use Rattle.roman_model.specs.Numbers.{sizes_of, count, pair_at, number, numbered}
 use Rattle.roman_model.specs.Offers.{is_related, offers}
 use Rattle.roman_model.specs.Plans.{Costs, max_over, first_least, least, least_at, choice, through}
-use Rattle.roman_model.proofs.Lists.{from_map, in_map, not_empty_in, ne_not_empty, not_empty_ne, in_not_empty}
-use Rattle.roman_model.proofs.SystemLemmas.{outcome_pair, outcome_seat}
-use Rattle.roman_model.proofs.CompositionLemmas.{great_related}
-use Rattle.roman_model.proofs.OfferLemmas.{offer_is}
-use Rattle.roman_model.proofs.NumberLemmas.{numbers_are_pairs}
-use Rattle.roman_model.proofs.AdviceLemmas.{through_numbered}
-use Rattle.roman_model.proofs.PlanLemmas.{max_over_same, max_over_le}
+use Rattle.roman_model.proofs.CallerLemmas.{from_map, in_map, not_empty_in, ne_not_empty, not_empty_ne, in_not_empty, outcome_pair, outcome_seat, great_related, offer_is, numbers_are_pairs, through_numbered, max_over_same, max_over_le}
 use Rattle.std.proofs.lemmas.Bool.{cond-true}
 use Rattle.roman_cost.specs.Advised.{related_pairs, HavePlaces}
 use Rattle.roman_cost.specs.Filling.{ranked, IsRanked, AreSmall}

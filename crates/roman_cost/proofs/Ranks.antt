@@ -8,10 +8,7 @@ use Rattle.roman_model.specs.Offers.{is_related}
 use Rattle.roman_model.specs.Plans.{Costs, least_at}
 use Rattle.roman_model.specs.System.{IsSys, IsPair}
 use Rattle.roman_model.specs.Composition.{Great}
-use Rattle.roman_model.proofs.NumberLemmas.{numbers_are_pairs}
-use Rattle.roman_model.proofs.CompositionLemmas.{great_related, related_great}
-use Rattle.roman_model.proofs.Lists.{same_test, filter_in, in_filter, in_below, from_below, length-below, get_or-below, filter_below_more}
-use Rattle.roman_model.proofs.TableLemmas.{rank, rank_at, table_at}
+use Rattle.roman_model.proofs.CallerLemmas.{numbers_are_pairs, great_related, related_great, same_test, filter_in, in_filter, in_below, from_below, length-below, get_or-below, filter_below_more, rank, rank_at, table_at}
 use Rattle.roman_cost.specs.Advised.{related_pairs, HavePlaces, AdviceTable, Advises}
 use Rattle.roman_cost.specs.Filling.{ranked}
 

@@ -8,9 +8,7 @@ use Rattle.roman_model.specs.Lists.{IsIn, below}
 use Rattle.roman_model.specs.System.{Sys}
 use Rattle.roman_model.specs.Numbers.{sizes_of, pair_at}
 use Rattle.roman_model.specs.Plans.{Costs, least_at}
-use Rattle.roman_model.proofs.Lists.{from_map, from_flat_map, from_below}
-use Rattle.roman_model.proofs.AdviceLemmas.{least_bound}
-use Rattle.roman_model.proofs.TableLemmas.{flat_map_row, length_rows}
+use Rattle.roman_model.proofs.CallerLemmas.{from_map, from_flat_map, from_below, least_bound, flat_map_row, length_rows}
 use Rattle.roman_cost.specs.Advised.{related_pairs, value_rows, AdviceTable, Advises}
 use Rattle.roman_cost.specs.Filling.{AreSmall}
 use Rattle.roman_cost.specs.declared.limits.TheConstants.{MAX_COST, MAX_REQUESTS}

@@ -75,7 +75,7 @@ fn costs_in(alloc: Global, joint: &Joint, v: &Value) -> Result<Costs, CostError>
     read_items(alloc, joint, items)
 }
 
-#[tactic(auto, using(roman_read::proofs::Each::each))]
+#[tactic(auto, using(roman_read::proofs::CallerLemmas::each))]
 // The costs that the items of a list are.
 fn read_items(alloc: Global, joint: &Joint, items: &[Value]) -> Result<Costs, CostError>
     requires few { length joint.now.catalogue ≤ MAX_BEHAVIOURS }
@@ -112,7 +112,7 @@ fn add_item(costs: &mut Costs, joint: &Joint, v: &Value, index: u32) -> Result<(
     Ok(())
 }
 
-#[tactic(auto, using(roman_parts::proofs::StepLemmas::items), unfolding(crate::specs::Costs::cost_item))]
+#[tactic(auto, using(roman_parts::proofs::CallerLemmas::items), unfolding(crate::specs::Costs::cost_item))]
 // One item, by the names of a system.
 fn read_item(joint: &Joint, v: &Value, index: u32) -> Result<Listed, CostError>
     requires { length joint.now.catalogue ≤ MAX_BEHAVIOURS }

@@ -9,16 +9,12 @@ use Rattle.roman_model.specs.SystemArena.{is_allowed}
 use Rattle.roman_model.specs.Arena.{is_listed, mask}
 use Rattle.roman_model.specs.Numbers.{sizes_of, count, pair_at}
 use Rattle.roman_model.specs.Offers.{is_related, offers}
-use Rattle.roman_model.proofs.Lists.{any_from, any_true, not_empty_in, ne_not_empty}
-use Rattle.roman_model.proofs.NumberLemmas.{numbers_are_pairs}
-use Rattle.roman_model.proofs.NumberedLists.{numbered_offers}
-use Rattle.roman_model.proofs.OfferLemmas.{related_offers, offer_is}
-use Rattle.roman_model.proofs.CompositionLemmas.{related_great}
+use Rattle.roman_model.proofs.CallerLemmas.{any_from, any_true, not_empty_in, ne_not_empty, numbers_are_pairs, numbered_offers, related_offers, offer_is, related_great}
 use Rattle.roman_rules.specs.Bits.{HasBits, bit_of}
 use Rattle.roman_joint.specs.NamedSys.{NamedSys, system_of, IsNamedSys}
 use Rattle.roman_order.specs.Board.{Board, pairs_of, has_entry}
 use Rattle.roman_relation.specs.Greatest.{arena_of, IsRelation}
-use Rattle.roman_relation.proofs.Relating.{listed_numbers}
+use Rattle.roman_relation.proofs.CallerLemmas.{listed_numbers}
 
 -- a number that is listed is had, and the other way
 pub in_has : (ns : List ℕ) (n : ℕ) → IsIn n ns → IsTrue (has ns n)

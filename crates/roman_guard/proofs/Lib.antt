@@ -3,3 +3,4 @@ pub mod MarkLemmas
 pub mod HoldsLemmas
 pub mod CommonLemmas
 pub mod SingleLemmas
+pub mod CallerLemmas

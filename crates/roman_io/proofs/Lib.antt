@@ -2,3 +2,4 @@ pub mod FaultLemmas
 pub mod ShelfLemmas
 pub mod SinkLemmas
 pub mod SourceLemmas
+pub mod CallerLemmas

@@ -3,7 +3,7 @@ use Rattle.std.proofs.Common.{◌≡◌, ℕ, ◌+◌, ◌*◌, ◌<◌, ◌≤�
 use Rattle.std.specs.List.{list_any}
 use Rattle.std.proofs.lemmas.Bool.{both_ways}
 use Rattle.roman_model.specs.Lists.{is_empty, all_below}
-use Rattle.roman_model.proofs.Lists.{by_test, all_below_at, all_below_from, not_empty_in}
+use Rattle.roman_model.proofs.CallerLemmas.{by_test, all_below_at, all_below_from, not_empty_in, AreBelow-length, IsPairOf-at}
 use Rattle.roman_model.specs.System.{Sys, Seat, is_final, all_final}
 use Rattle.roman_model.specs.SystemArena.{is_allowed, env_next, beh_next}
 use Rattle.roman_model.specs.Arena.{is_beaten, is_justified}
@@ -13,7 +13,6 @@ use Rattle.roman_rules.specs.Numbered.{IsNumbered}
 use Rattle.roman_joint.specs.Rows.{lanes_in, IsRow, IsTurn, is_open, may_rest}
 use Rattle.roman_joint.specs.declared.row.Row.{Row}
 use Rattle.roman_joint.specs.declared.turn.Turn.{Turn}
-use Rattle.roman_model.proofs.NumberLemmas.{AreBelow-length, IsPairOf-at}
 use Rattle.std.proofs.Math.Bool.{and-true, and_assoc}
 use Rattle.std.proofs.lemmas.Bool.Decides.{nat_tests}
 use Rattle.std.proofs.lemmas.List.{length-map}

@@ -1,10 +1,8 @@
 -- Arenas over numbers keep the laws of arenas.
 use Rattle.std.proofs.Common.{◌≡◌, ◌*◌, length, refl, sym, ap, arith}
 use Rattle.roman_model.specs.Lists.{below}
-use Rattle.roman_model.proofs.Lists.{in_below, from_below, length-below}
-use Rattle.roman_model.proofs.ArenaLemmas.{IsArena}
+use Rattle.roman_model.proofs.CallerLemmas.{in_below, from_below, length-below, IsArena, numbered_is_arena}
 use Rattle.roman_model.specs.Numbers.{sizes_of, count, numbered}
-use Rattle.roman_model.proofs.NumberedLists.{numbered_is_arena}
 use Rattle.roman_joint.specs.NamedSys.{NamedSys, system_of, IsNamedSys}
 use Rattle.roman_rules.specs.Numbered.{IsNumbered}
 use Rattle.roman_joint.proofs.Rows.{count_fits}

@@ -5,11 +5,7 @@ use Rattle.roman_model.specs.System.{Env, Sys, Seat, Pair, IsSys, IsPair, IsBeh,
 use Rattle.roman_model.specs.SystemArena.{env_prev, beh_prev, outcomes}
 use Rattle.roman_model.specs.Arena.{Delegation, back}
 use Rattle.roman_model.specs.Numbers.{sizes_of, count, number, pair_at, numbered}
-use Rattle.roman_model.proofs.Lists.{in_map, from_map, in_flat_map, from_flat_map, in_below, from_below, HasNoRepeats-below, HasNoRepeats-filter, HasNoRepeats-map, HasNoRepeats-flat_map}
-use Rattle.roman_model.proofs.SystemLemmas.{triple_in_range, move_in_range, in_env_prev, from_env_prev, in_beh_prev, from_beh_prev, seat_in, outcome_in, from_outcome, states_set, outcome_pair}
-use Rattle.roman_model.proofs.NumberLemmas.{numbers_are_pairs, IsPairOf-from, AreBelow-length}
-use Rattle.roman_model.proofs.NumberedLists.{numbered_is_same, numbered_is_arena}
-use Rattle.roman_model.proofs.ArenaLemmas.{in_back, from_back}
+use Rattle.roman_model.proofs.CallerLemmas.{in_map, from_map, in_flat_map, from_flat_map, in_below, from_below, HasNoRepeats-below, HasNoRepeats-filter, HasNoRepeats-map, HasNoRepeats-flat_map, triple_in_range, move_in_range, in_env_prev, from_env_prev, in_beh_prev, from_beh_prev, seat_in, outcome_in, from_outcome, states_set, outcome_pair, numbers_are_pairs, IsPairOf-from, AreBelow-length, numbered_is_same, numbered_is_arena, in_back, from_back}
 use Rattle.std.proofs.lemmas.Option.{slice_get_within}
 use Rattle.std.proofs.lemmas.List.{get_or-set_same, set-set, set-get_or, length-map}
 use Rattle.roman_joint.specs.Backward.{seat_prev, from_seat, from_target, from_env, from_action, from_all}

@@ -3,7 +3,7 @@ use Rattle.std.proofs.Common.{◌≡◌, ℕ, zero, suc, ◌+◌, ◌<◌, ◌�
 use Rattle.std.specs.List.{find, flat_map}
 use Rattle.std.specs.Option.{option_map, option_or}
 use Rattle.roman_model.specs.Lists.{IsIn, is_empty}
-use Rattle.roman_model.proofs.Lists.{in_map, in_flat_map, in_not_empty}
+use Rattle.roman_model.proofs.CallerLemmas.{in_map, in_flat_map, in_not_empty}
 use Rattle.std.specs.Option.{IfSome}
 use Rattle.std.proofs.lemmas.List.{drop_more, drop_all, map-append, nil_from_length}
 use Rattle.std.proofs.lemmas.Bool.{false≢true, eqb-true}

@@ -7,16 +7,14 @@ use Rattle.std.proofs.lemmas.Nat.{mul-add-lt, mul-le, mod_below, div_below, div-
 use Rattle.std.proofs.lemmas.Bool.{cases_lt, ne_eqb, lt-ltb, le-ltb}
 use Rattle.std.proofs.lemmas.Bool.Decides.{nat_tests}
 use Rattle.roman_model.specs.Lists.{IsIn, is_empty}
-use Rattle.roman_model.proofs.Lists.{length-below, by_test, any_same, any_true, any_from, empty_is, not_empty_in}
+use Rattle.roman_model.proofs.CallerLemmas.{length-below, by_test, any_same, any_true, any_from, empty_is, not_empty_in, triple_in_range, from_env_next, move_in_range, from_seat_next, seat_in}
 use Rattle.roman_model.specs.System.{Sys, Seat, IsSys}
 use Rattle.roman_model.specs.SystemArena.{seat_next}
-use Rattle.roman_model.proofs.SystemLemmas.{triple_in_range, from_env_next, move_in_range, from_seat_next, seat_in}
 use Rattle.roman_model.specs.Arena.{is_beaten}
 use Rattle.roman_model.specs.Numbers.{Sizes, sizes_of, count, numbered}
 use Rattle.roman_radix.specs.Radix.{IsSizes, stride_of, env_stride_of}
 use Rattle.roman_radix.specs.Rows.{low_of, lanes_of, env_rows_of, target_rows_of}
-use Rattle.roman_radix.proofs.Strides.{product_positive}
-use Rattle.roman_radix.proofs.RowLemmas.{low_of-le, lanes_few, lanes_positive, row_least, row_below, env_rows_are}
+use Rattle.roman_radix.proofs.CallerLemmas.{product_positive, low_of-le, lanes_few, lanes_positive, row_least, row_below, env_rows_are}
 use Rattle.roman_lanes.specs.Rows.{is_on, HasLanes, AreRows}
 use Rattle.roman_rules.specs.Numbered.{IsNumbered}
 use Rattle.roman_joint.specs.NamedSys.{NamedSys, system_of, seat_of, IsNamedSys}
@@ -27,7 +25,7 @@ use Rattle.roman_joint.specs.declared.turn.Turn.{Turn}
 use Rattle.roman_joint.proofs.ArenaFacts.{joint_numbered}
 use Rattle.roman_joint.proofs.OutcomeLemmas.{target_in_range}
 use Rattle.roman_joint.proofs.Rows.{size_of_seat}
-use Rattle.roman_lanes.proofs.RowBits.{on_zero}
+use Rattle.roman_lanes.proofs.CallerLemmas.{on_zero}
 use Rattle.roman_joint.proofs.WordLemmas.{on_shl, on_below, not_not}
 use Rattle.roman_joint.proofs.SplitLemmas.{joint_sizes, positive_of, factor}
 use Rattle.roman_joint.proofs.LeadLemmas.{Leads, leads_within, leads_served, leads_nothing, start_before, leads_before, lanes_parts, stride_positive, lane_state, leads_lanes}

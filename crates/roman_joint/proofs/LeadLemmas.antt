@@ -5,16 +5,14 @@ use Rattle.std.proofs.Math.Nat.{mul-add-mod_self_right}
 use Rattle.std.proofs.lemmas.Nat.{div-mul-add, div-add-mod', mul-add-lt, mod_below, div_below}
 use Rattle.std.proofs.lemmas.List.{length-map}
 use Rattle.roman_model.specs.Lists.{IsIn, is_empty, product_of}
-use Rattle.roman_model.proofs.Lists.{in_map, in_flat_map, any_same, list_any-map, list_any-flat_map, not_empty_in, any_true, any_from, same_test}
+use Rattle.roman_model.proofs.CallerLemmas.{in_map, in_flat_map, any_same, list_any-map, list_any-flat_map, not_empty_in, any_true, any_from, same_test, part_at}
 use Rattle.roman_model.specs.System.{Sys, Seat, IsSys}
 use Rattle.roman_model.specs.SystemArena.{env_next, beh_next, seat_next}
 use Rattle.roman_model.specs.Arena.{Arena, is_beaten}
 use Rattle.roman_model.specs.Numbers.{Sizes, sizes_of, count, pair_at, numbered}
-use Rattle.roman_model.proofs.NumberLemmas.{part_at}
 use Rattle.roman_radix.specs.Radix.{IsSizes, stride_of}
 use Rattle.roman_radix.specs.Rows.{low_of, lanes_of, env_rows_of, target_rows_of}
-use Rattle.roman_radix.proofs.Strides.{product_positive, AreSizes-drop, AreSizes-index, product_more}
-use Rattle.roman_radix.proofs.RowLemmas.{low_of-le, tails_from, row_mod, row_least, env_rows_are}
+use Rattle.roman_radix.proofs.CallerLemmas.{product_positive, AreSizes-drop, AreSizes-index, product_more, low_of-le, tails_from, row_mod, row_least, env_rows_are}
 use Rattle.roman_rules.specs.Numbered.{IsNumbered}
 use Rattle.roman_joint.proofs.OutcomeLemmas.{StartsAt, starts_at, numbers_are, target_in_range}
 use Rattle.roman_joint.proofs.Finds.{some_numbers, no_numbers}

@@ -17,3 +17,4 @@ pub mod AllowedLemmas
 pub mod MarkLemmas
 pub mod MoveLemmas
 pub mod NameLemmas
+pub mod CallerLemmas

@@ -9,18 +9,14 @@ use Rattle.std.proofs.lemmas.List.{get_or-set_same, get_or-set_other, length-set
 use Rattle.std.proofs.lemmas.List.Concat.{flat_map-append}
 use Rattle.std.proofs.lemmas.Nat.{same_from_place, div-add-mod', mod_below, div_below}
 use Rattle.roman_model.specs.Lists.{IsIn, below, product_of}
-use Rattle.roman_model.proofs.Lists.{in_below, no_longer}
+use Rattle.roman_model.proofs.CallerLemmas.{in_below, no_longer, triple_in_range, move_in_range, in_env_prev, in_beh_prev, seat_in, in_back, AreBelow-length, IsPairOf-at, number-moved, number-pair_at, numbered_is_arena}
 use Rattle.roman_model.specs.System.{Seat, Sys, Pair, IsSys, IsBeh}
 use Rattle.roman_model.specs.SystemArena.{env_prev, beh_prev}
-use Rattle.roman_model.proofs.SystemLemmas.{triple_in_range, move_in_range, in_env_prev, in_beh_prev, seat_in}
 use Rattle.roman_model.specs.Arena.{Delegation, back}
-use Rattle.roman_model.proofs.ArenaLemmas.{in_back}
 use Rattle.roman_model.specs.Numbers.{sizes_of, count, number, pair_at, numbered}
-use Rattle.roman_model.proofs.NumberLemmas.{AreBelow-length, IsPairOf-at, number-moved, number-pair_at}
-use Rattle.roman_model.proofs.NumberedLists.{numbered_is_arena}
 use Rattle.roman_radix.specs.Radix.{IsSizes, stride_of}
 use Rattle.roman_radix.specs.Rows.{env_rows_of, target_rows_of}
-use Rattle.roman_radix.proofs.RowLemmas.{row_mod, env_rows_are}
+use Rattle.roman_radix.proofs.CallerLemmas.{row_mod, env_rows_are}
 use Rattle.roman_lanes.specs.Rows.{is_on}
 use Rattle.roman_lanes.specs.Flags.{has_flag}
 use Rattle.roman_joint.specs.Backward.{seat_prev, from_seat, from_all}

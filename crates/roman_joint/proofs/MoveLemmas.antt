@@ -9,15 +9,14 @@ use Rattle.std.proofs.lemmas.List.{length-map, length-append, length-drop, map-a
 use Rattle.std.proofs.lemmas.List.Sums.{length-filter, count_by-le-length}
 use Rattle.std.proofs.lemmas.Option.{slice_get_within, slice_get-get_or}
 use Rattle.roman_model.specs.Lists.{IsIn, is_empty, below, product_of}
-use Rattle.roman_model.proofs.Lists.{in_map, from_map, in_filter, filter_in, in_below, from_below, any_true, any_from, any_same, same_test, filter_below_more, by_test, empty_is, length-below}
+use Rattle.roman_model.proofs.CallerLemmas.{in_map, from_map, in_filter, filter_in, in_below, from_below, any_true, any_from, any_same, same_test, filter_below_more, by_test, empty_is, length-below, seat_in}
 use Rattle.roman_model.specs.System.{Sys, Seat, Beh}
 use Rattle.roman_model.specs.SystemArena.{beh_next, seat_next}
 use Rattle.roman_model.specs.Arena.{is_beaten}
 use Rattle.roman_model.specs.Numbers.{Sizes, sizes_of, numbered}
 use Rattle.roman_radix.specs.Radix.{AreSizes, IsSizes, stride_of}
 use Rattle.roman_radix.specs.Rows.{low_of, lanes_of, env_rows_of}
-use Rattle.roman_radix.proofs.Strides.{AreSizes-index, AreSizes-drop, product_positive}
-use Rattle.roman_radix.proofs.RowLemmas.{lanes_few}
+use Rattle.roman_radix.proofs.CallerLemmas.{AreSizes-index, AreSizes-drop, product_positive, lanes_few}
 use Rattle.roman_lanes.specs.Rows.{is_on, HasLanes}
 use Rattle.roman_parts.specs.Named.{NamedBeh}
 use Rattle.roman_joint.specs.NamedSys.{NamedSys, system_of, seat_of}
@@ -32,12 +31,11 @@ use Rattle.roman_joint.specs.declared.moves.Span.{Span}
 use Rattle.roman_joint.specs.declared.moves.Moves.{Moves}
 use Rattle.roman_joint.specs.declared.ways.Ways.{Ways}
 use Rattle.roman_joint.proofs.Rows.{size_of_seat}
-use Rattle.roman_model.proofs.SystemLemmas.{seat_in}
 use Rattle.roman_joint.specs.Changes.{with_frozen}
 use Rattle.roman_joint.proofs.SeatChanges.{with_seats, frozen_sizes, frozen_at}
 use Rattle.roman_joint.proofs.SeatLemmas.{SeatRead, seat_read}
 use Rattle.roman_joint.proofs.OutcomeLemmas.{ready_next}
-use Rattle.roman_lanes.proofs.RowBits.{on_zero}
+use Rattle.roman_lanes.proofs.CallerLemmas.{on_zero}
 use Rattle.roman_joint.proofs.WordLemmas.{not_not}
 use Rattle.roman_joint.proofs.LeadLemmas.{Leads, leads_served, leads_nothing, any_turned, lane_state, leads_lanes}
 use Rattle.roman_joint.proofs.GoodLemmas.{Known, state_below}

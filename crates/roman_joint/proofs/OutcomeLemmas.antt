@@ -8,8 +8,7 @@ use Rattle.roman_model.specs.Lists.{IsIn, product_of}
 use Rattle.roman_model.specs.System.{Sys, Seat, Pair, IsSys, IsPair}
 use Rattle.roman_model.specs.SystemArena.{env_next, beh_next, seat_next, outcomes, is_ready}
 use Rattle.roman_model.specs.Numbers.{Sizes, IsPairOf, sizes_of, count, number, pair_at, states_number}
-use Rattle.roman_model.proofs.SystemLemmas.{triple_in_range, move_in_range, from_env_next, from_beh_next, seat_in, states_set}
-use Rattle.roman_model.proofs.NumberLemmas.{numbers_are_pairs, IsPairOf-from, IsPairOf-at, number-pair_at, AreBelow-length, number_below, parts_of_number, states_number-set}
+use Rattle.roman_model.proofs.CallerLemmas.{triple_in_range, move_in_range, from_env_next, from_beh_next, seat_in, states_set, numbers_are_pairs, IsPairOf-from, IsPairOf-at, number-pair_at, AreBelow-length, number_below, parts_of_number, states_number-set}
 use Rattle.roman_radix.specs.Radix.{stride_of, env_stride_of, target_stride_of, moved}
 use Rattle.roman_joint.specs.Outcomes.{IsPairWith}
 

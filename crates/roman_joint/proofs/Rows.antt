@@ -5,9 +5,9 @@ use Rattle.roman_model.specs.Lists.{product_of}
 use Rattle.roman_model.specs.System.{Sys, Seat, Pair, IsPair}
 use Rattle.roman_model.specs.Numbers.{sizes_of, count, number, pair_at, states_number}
 use Rattle.roman_model.specs.declared.limits.TheConstants.{MAX_CELLS}
-use Rattle.roman_model.proofs.NumberLemmas.{numbers_are_pairs, IsPairOf-from, number_below}
+use Rattle.roman_model.proofs.CallerLemmas.{numbers_are_pairs, IsPairOf-from, number_below}
 use Rattle.std.proofs.lemmas.List.{length-map}
-use Rattle.roman_radix.proofs.Moves.{Replaced, replaced}
+use Rattle.roman_radix.proofs.CallerLemmas.{Replaced, replaced}
 use Rattle.roman_radix.specs.Radix.{stride_of, env_stride_of, target_stride_of, with_part}
 use Rattle.roman_joint.specs.declared.walk.Walk.{Walk}
 use Rattle.roman_joint.specs.NamedSys.{NamedSys, system_of, IsNamedSys}

@@ -9,8 +9,7 @@ use Rattle.roman_model.specs.Lists.{IsIn}
 use Rattle.roman_model.specs.System.{Env, Beh, Sys, Pair, IsSys}
 use Rattle.roman_model.specs.SystemArena.{env_prev}
 use Rattle.roman_model.specs.Numbers.{sizes_of, pair_at, numbered}
-use Rattle.roman_model.proofs.Lists.{by_test, from_push}
-use Rattle.roman_model.proofs.NumberedLists.{numbered_is_arena}
+use Rattle.roman_model.proofs.CallerLemmas.{by_test, from_push, numbered_is_arena}
 use Rattle.roman_joint.specs.declared.scene.Scene.{Scene}
 use Rattle.roman_joint.specs.Backward.{from_target, from_env, from_action}
 use Rattle.roman_rules.specs.Bits.{bit_of, HasBits}

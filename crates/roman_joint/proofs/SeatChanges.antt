@@ -11,11 +11,7 @@ use Rattle.roman_model.specs.System.{Sys, IsSys, IsBeh}
 use Rattle.roman_model.specs.Change.{Change, Freeze, Thaw, Join, Die, set_frozen, after, CanChange}
 use Rattle.roman_model.specs.Numbers.{Sizes, sizes_of, count, grown_sizes, sizes_without}
 use Rattle.roman_model.specs.declared.limits.TheConstants.{MAX_SERVICES}
-use Rattle.roman_model.proofs.Lists.{HasNoRepeats-push}
-use Rattle.roman_model.proofs.ChangeLemmas.{states_frozen, remove_in}
-use Rattle.roman_model.proofs.ChangeLaws.{renaming_keeps}
-use Rattle.roman_model.proofs.NumberLemmas.{count-without}
-use Rattle.roman_model.proofs.SystemLemmas.{seat_in}
+use Rattle.roman_model.proofs.CallerLemmas.{HasNoRepeats-push, states_frozen, remove_in, renaming_keeps, count-without, seat_in}
 use Rattle.roman_parts.specs.Named.{NamedBeh}
 use Rattle.roman_joint.specs.declared.seat.Seat.{Seat}
 use Rattle.roman_joint.specs.NamedSys.{NamedSys, beh_at, seat_of, system_of, cells, IsNamedSys}

@@ -13,7 +13,7 @@ use Rattle.roman_model.specs.System.{Env, IsBeh, is_final, all_final, IsEnv, IsD
 use Rattle.roman_model.specs.Numbers.{sizes_of, Sizes}
 use Rattle.roman_parts.specs.Named.{NamedEnv, NamedBeh, IsOver}
 use Rattle.roman_radix.specs.Radix.{AreSizes}
-use Rattle.roman_radix.proofs.Strides.{product_positive, product_more, AreSizes-drop, AreSizes-index}
+use Rattle.roman_radix.proofs.CallerLemmas.{product_positive, product_more, AreSizes-drop, AreSizes-index}
 use Rattle.roman_joint.specs.declared.seat.Seat.{Seat}
 use Rattle.roman_joint.specs.NamedSys.{beh_at, seat_of, IsOverEnv, NamedSys, system_of, IsNamedSys}
 use Rattle.std.proofs.lemmas.Bool.{ne_eqb}

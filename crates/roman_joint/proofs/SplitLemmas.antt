@@ -7,11 +7,10 @@ use Rattle.std.proofs.Math.ListN.{set}
 use Rattle.roman_model.specs.Lists.{IsIn, product_of}
 use Rattle.roman_model.specs.System.{Sys, Seat, IsBeh}
 use Rattle.roman_model.specs.Numbers.{Sizes, IsPairOf, sizes_of, count, pair_at}
-use Rattle.roman_model.proofs.NumberLemmas.{part_at, IsPairOf-at, AreBelow-index}
+use Rattle.roman_model.proofs.CallerLemmas.{part_at, IsPairOf-at, AreBelow-index}
 use Rattle.roman_radix.specs.Radix.{AreSizes, IsSizes, stride_of, env_stride_of, target_stride_of}
 use Rattle.roman_radix.specs.Rows.{low_of, lanes_of, env_rows_of, target_rows_of}
-use Rattle.roman_radix.proofs.Strides.{product_positive, AreSizes-drop, AreSizes-index}
-use Rattle.roman_radix.proofs.RowLemmas.{low_of-le, lanes_positive, tails_from, exact, row_div, row_least, row_below, env_rows_are}
+use Rattle.roman_radix.proofs.CallerLemmas.{product_positive, AreSizes-drop, AreSizes-index, low_of-le, lanes_positive, tails_from, exact, row_div, row_least, row_below, env_rows_are}
 use Rattle.roman_lanes.specs.Rows.{is_on}
 use Rattle.roman_joint.specs.NamedSys.{NamedSys, system_of, IsNamedSys}
 use Rattle.roman_joint.specs.Rows.{lanes_in, low_in, lane_has_state, AreRowsOf, IsRow}

@@ -10,9 +10,7 @@ use Rattle.roman_model.specs.System.{Env, Beh, Sys, Seat, Pair, IsSys, IsPair, I
 use Rattle.roman_model.specs.SystemArena.{env_prev, beh_prev}
 use Rattle.roman_model.specs.Arena.{Delegation, back}
 use Rattle.roman_model.specs.Numbers.{sizes_of, count, number, pair_at, numbered}
-use Rattle.roman_model.proofs.Lists.{length-below, get_or-below}
-use Rattle.roman_model.proofs.NumberLemmas.{numbers_are_pairs}
-use Rattle.roman_model.proofs.SystemLemmas.{seat_in}
+use Rattle.roman_model.proofs.CallerLemmas.{length-below, get_or-below, numbers_are_pairs, seat_in}
 use Rattle.roman_joint.specs.declared.walk.Walk.{Walk}
 use Rattle.roman_joint.proofs.BackwardLemmas.{found_backwards}
 use Rattle.roman_joint.specs.Backward.{seat_prev, from_states, from_seat, from_target, from_env, from_action, from_all}

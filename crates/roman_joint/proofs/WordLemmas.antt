@@ -10,7 +10,7 @@ use Rattle.std.proofs.lemmas.Nat.Bits.{bit_at-zero, bit_at_ones, bit_at_ones_abo
 use Rattle.std.proofs.lemmas.List.{take_more}
 use Rattle.std.proofs.lemmas.List.Folds.{list_any-append}
 use Rattle.roman_lanes.specs.Rows.{is_on}
-use Rattle.roman_lanes.proofs.RowBits.{on_and, on_not}
+use Rattle.roman_lanes.proofs.CallerLemmas.{on_and, on_not}
 
 -- the first lanes
 pub on_first : (k i : ℕ) → is_on (2 ^ k - 1) i ≡ ltb i k

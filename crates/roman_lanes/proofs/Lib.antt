@@ -1,3 +1,4 @@
 pub mod RowBits
 mod Lanes
 mod Blocks
+pub mod CallerLemmas

@@ -3,7 +3,7 @@ use Rattle.std.proofs.Common.{◌≡◌, ℕ, List, length, ◌≤◌, Option, S
 use Rattle.serde_json.specs.Data.{Data}
 use Rattle.roman_io.specs.Shelf.{Texts}
 use Rattle.roman_read.specs.Items.{◌>>=◌}
-use Rattle.roman_read.proofs.Given.{same_ok, bind_ok}
+use Rattle.roman_read.proofs.CallerLemmas.{same_ok, bind_ok}
 use Rattle.roman_parts.specs.Named.{NamedEnv, NamedBeh}
 use Rattle.roman_multi.specs.Combining.{PlainCombined, forbidding, combined_parts}
 use Rattle.roman_multi.specs.declared.parts.Named.{Named}

@@ -13,21 +13,20 @@ use Rattle.roman_read.specs.Json.{member_of, number_of}
 use Rattle.roman_read.specs.Names.{place_of}
 use Rattle.roman_read.specs.declared.rules.Miss.{Miss}
 use Rattle.roman_read.specs.declared.rules.Kind.TheVariants as kind
-use Rattle.roman_read.proofs.Given.{same_ok, bind_ok}
+use Rattle.roman_read.proofs.CallerLemmas.{same_ok, bind_ok}
 use Rattle.roman_parts.specs.Lists.{place_in}
 use Rattle.roman_parts.specs.Named.{NamedEnv, NamedBeh, NamedTarget}
 use Rattle.roman_parts.specs.Parts.{environment_of, name_of, target_of}
 use Rattle.roman_parts.specs.Reading.{looked, found, check, counted_items}
 use Rattle.roman_parts.specs.declared.error.List.TheVariants as list
 use Rattle.roman_parts.specs.declared.error.PartError.{PartError}
-use Rattle.roman_parts.proofs.NormalLemmas.{IsOver-start}
-use Rattle.roman_parts.proofs.PartLemmas.{check_is, found_is, none_is, counted_are, place_below, IsEnvironment, environment_known, behaviour_known, target_known}
+use Rattle.roman_parts.proofs.CallerLemmas.{IsOver-start, check_is, found_is, none_is, counted_are, place_below, IsEnvironment, environment_known, behaviour_known, target_known}
 use Rattle.roman_library.specs.Documents.{PartAt, ReadAfter, value_at, part_of, limit_in, limit_of, version_of, optional, new_name_of, listed_in, listed_step, environment_in, new_behaviour_of, catalogue_in, target_in, named_target_of, targets_in, unless_broken, combined_of, parts_in, behaviour_place, state_of, frozen_of, rests_of, service_of, service_step, services_of, library_in, library_of}
 use Rattle.roman_library.specs.Known.{IsKnownLibrary, LibrariesAreKnown}
 use Rattle.roman_multi.specs.Combining.{PlainCombined, target_name, forbidding, combined_parts}
 use Rattle.roman_multi.specs.declared.parts.Named.{Named}
 use Rattle.roman_multi.specs.declared.error.CombineError.{CombineError}
-use Rattle.roman_multi.proofs.CombineLemmas.{request_count}
+use Rattle.roman_multi.proofs.CallerLemmas.{request_count}
 use Rattle.roman_library.proofs.TargetLemmas.{combined_parts_known}
 use Rattle.roman_library.specs.Library.{PlainLibrary, ArePartsOf, IsBehaviour, IsTarget, IsService, IsCatalogue, AreServices, behaviour_name, service_name}
 use Rattle.roman_library.specs.Refusals.{placed}

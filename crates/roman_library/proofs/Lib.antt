@@ -9,3 +9,4 @@ pub mod KnownLemmas
 pub mod CombinedLemmas
 mod ReadLemmas
 mod WrittenLemmas
+pub mod CallerLemmas

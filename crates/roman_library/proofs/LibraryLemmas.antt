@@ -8,12 +8,11 @@ use Rattle.serde_json.specs.Data.{Data}
 use Rattle.roman_model.specs.Lists.{IsIn, HasNoRepeats}
 use Rattle.roman_model.specs.System.{Env, Beh}
 use Rattle.roman_model.specs.declared.limits.TheConstants.{MAX_STATES}
-use Rattle.roman_model.proofs.Lists.{HasNoRepeats-push, any_from}
+use Rattle.roman_model.proofs.CallerLemmas.{HasNoRepeats-push, any_from}
 use Rattle.roman_read.specs.Names.{place_of}
 use Rattle.roman_parts.specs.Named.{NamedEnv, NamedBeh, NamedTarget, IsOver}
-use Rattle.roman_read.proofs.Given.{same_ok}
-use Rattle.roman_read.proofs.PlaceLemmas.{place_of-present}
-use Rattle.roman_parts.proofs.PartLemmas.{behaviour_known, target_known}
+use Rattle.roman_read.proofs.CallerLemmas.{same_ok, place_of-present}
+use Rattle.roman_parts.proofs.CallerLemmas.{behaviour_known, target_known}
 use Rattle.roman_parts.specs.Parts.{name_of, behaviour_of, target_of}
 use Rattle.roman_library.specs.Library.{IsBehaviour, IsCatalogue, IsService, AreServices, behaviour_name, service_name}
 use Rattle.roman_library.specs.declared.library.Service.{Service}

@@ -5,7 +5,7 @@ use Rattle.serde_json.specs.View.{view, items_view}
 use Rattle.serde_json.specs.declared.value.Value.{Value}
 use Rattle.roman_io.specs.Shelf.{Texts}
 use Rattle.roman_read.specs.Items.{each_item}
-use Rattle.roman_read.proofs.Each.{IsLeft, goes_on, ends, is_done, at_start}
+use Rattle.roman_read.proofs.CallerLemmas.{IsLeft, goes_on, ends, is_done, at_start}
 use Rattle.roman_parts.specs.Named.{NamedEnv, NamedBeh}
 use Rattle.roman_library.specs.Documents.{PartAt, ReadAfter, listed_in, listed_step, service_of, service_step}
 use Rattle.roman_library.specs.Refusals.{Stops, placed}

@@ -16,8 +16,7 @@ use Rattle.roman_multi.specs.declared.parts.Named.{Named}
 use Rattle.roman_multi.specs.declared.parts.Combined.{Combined}
 use Rattle.roman_multi.specs.declared.error.CombineError.{CombineError}
 use Rattle.roman_multi.specs.declared.error.CombineError.TheVariants as error
-use Rattle.roman_multi.proofs.CombineLemmas.{state_count}
-use Rattle.roman_multi.proofs.MadeKnown.{combined_behaviour_over, combined_is_system, combined_target_over}
+use Rattle.roman_multi.proofs.CallerLemmas.{state_count, combined_behaviour_over, combined_is_system, combined_target_over}
 use Rattle.roman_library.specs.Documents.{combined_of, broken_rule, unless_broken}
 use Rattle.roman_library.specs.Library.{ArePartsOf, IsBehaviour, IsCatalogue, IsService, IsTarget, AreServices, behaviour_name}
 use Rattle.roman_library.specs.declared.library.Service.{Service}

@@ -35,3 +35,4 @@ pub mod MadeLemmas
 pub mod CombinedLemmas
 pub mod CombinedLaws
 pub mod SeveralExamples
+pub mod CallerLemmas

@@ -6,7 +6,7 @@ use Rattle.roman_model.specs.Lists.{below, product_of}
 use Rattle.roman_model.specs.Combined.{target_sizes, combined_env, combined_target}
 use Rattle.roman_model.specs.declared.limits.TheConstants.{MAX_STATES, MAX_ACTIONS}
 use Rattle.roman_model.specs.declared.request.Request.{Request}
-use Rattle.roman_model.proofs.Lists.{length-below}
+use Rattle.roman_model.proofs.CallerLemmas.{length-below}
 use Rattle.roman_parts.specs.Named.{NamedEnv, NamedBeh, NamedTarget}
 use Rattle.roman_multi.specs.Combining.{PlainCombined, machines, combined_state_names, request_names, requests_in, has_many_states, has_bad_count, has_long_name, has_one_name, forbidding, Keeps, combined_parts, combined_behaviour}
 use Rattle.roman_multi.specs.Lists.{AreCombinedNames}

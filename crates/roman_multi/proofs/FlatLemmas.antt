@@ -6,7 +6,7 @@ use Rattle.roman_model.specs.Lists.{product_of}
 use Rattle.roman_multi.specs.Lists.{flat}
 use Rattle.roman_model.specs.Numbers.{Sizes, IsPairOf, count, states_number, states_at, number, pair_at}
 use Rattle.roman_model.specs.Combined.{target_sizes, combined_start}
-use Rattle.roman_model.proofs.NumberLemmas.{IsPairOf-at}
+use Rattle.roman_model.proofs.CallerLemmas.{IsPairOf-at}
 use Rattle.roman_model.specs.declared.limits.TheConstants.{MAX_STATES}
 use Rattle.roman_radix.specs.Radix.{with_part}
 use Rattle.roman_parts.specs.Named.{NamedEnv}

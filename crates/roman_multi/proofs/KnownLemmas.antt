@@ -10,10 +10,9 @@ use Rattle.roman_model.specs.System.{Env, Beh, IsEnv, IsBeh, IsDeterministic}
 use Rattle.roman_model.specs.Several.{Several}
 use Rattle.roman_model.specs.Combined.{target_sizes, IsSeveral}
 use Rattle.roman_model.specs.declared.limits.TheConstants.{MAX_STATES, MAX_ACTIONS}
-use Rattle.roman_model.proofs.Lists.{from_map}
-use Rattle.roman_model.proofs.CombinedLemmas.{target_size_at}
+use Rattle.roman_model.proofs.CallerLemmas.{from_map, target_size_at}
 use Rattle.roman_parts.specs.Named.{NamedEnv}
-use Rattle.roman_parts.proofs.NormalLemmas.{IsOver-states}
+use Rattle.roman_parts.proofs.CallerLemmas.{IsOver-states}
 use Rattle.roman_multi.specs.Combining.{IsKnown, machines, requests_in}
 use Rattle.roman_multi.specs.declared.parts.Named.{Named}
 

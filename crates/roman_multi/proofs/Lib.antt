@@ -9,3 +9,4 @@ pub mod PartLemmas
 pub mod TableLemmas
 pub mod CombineLemmas
 pub mod MadeKnown
+pub mod CallerLemmas

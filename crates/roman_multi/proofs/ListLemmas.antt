@@ -6,7 +6,7 @@ use Rattle.std.proofs.lemmas.Bool.{or_from}
 use Rattle.std.proofs.lemmas.List.Folds.{list_any-append}
 use Rattle.std.proofs.lemmas.Option.{slice_get-get_or, slice_get-map, slice_get_read}
 use Rattle.roman_model.specs.Lists.{below, is_empty}
-use Rattle.roman_model.proofs.Lists.{any_from, in_below}
+use Rattle.roman_model.proofs.CallerLemmas.{any_from, in_below}
 
 -- what a target's step says of its next states
 pub goes_is : (o : Option ℕ) (xs : List ℕ) → MatchOption o (xs ≡ []) (λ to. xs ≡ to ∷ []) → is_some o ≡ not (is_empty xs)

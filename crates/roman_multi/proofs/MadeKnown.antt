@@ -6,11 +6,10 @@ use Rattle.roman_model.specs.Made.{beh_from}
 use Rattle.roman_model.specs.Combined.{combined, combined_beh, combined_target, target_sizes}
 use Rattle.roman_model.specs.declared.limits.TheConstants.{MAX_STATES, MAX_ACTIONS}
 use Rattle.roman_model.specs.declared.request.Request.{Request}
-use Rattle.roman_model.proofs.MadeLemmas.{IsBeh-made}
-use Rattle.roman_model.proofs.CombinedLaws.{combined_system}
+use Rattle.roman_model.proofs.CallerLemmas.{IsBeh-made, combined_system}
 use Rattle.std.proofs.lemmas.Bool.{ltb-false}
 use Rattle.roman_parts.specs.Named.{NamedEnv, NamedBeh, IsOver}
-use Rattle.roman_parts.proofs.NormalLemmas.{IsOver-states, IsOver-start}
+use Rattle.roman_parts.proofs.CallerLemmas.{IsOver-states, IsOver-start}
 use Rattle.roman_multi.specs.Combining.{IsKnown, machines, requests_in, request_names, combined_state_names, has_many_states, has_bad_count, has_long_name, has_one_name, forbidding, combined_parts, combined_behaviour}
 use Rattle.roman_multi.specs.declared.parts.Named.{Named}
 use Rattle.roman_multi.specs.declared.error.CombineError.{CombineError}

@@ -11,12 +11,7 @@ use Rattle.roman_model.specs.Combined.{has_move_on, combined_beh, stands_in, use
 use Rattle.roman_model.specs.declared.request.Request.{Request}
 use Rattle.roman_parts.specs.Listed.{move_of, listed_beh, AreMoves}
 use Rattle.roman_multi.specs.Lists.{moves_in, moves_by, moves_from, listed_moves, moves_on, used_at, used_requests}
-use Rattle.roman_model.proofs.Lists.{same_test, any_true, any_from, in_map, from_map, in_flat_map, from_flat_map, in_below, from_below, in_filter, filter_in, filter_same}
-use Rattle.roman_model.proofs.SystemLemmas.{in_beh_next, from_beh_next}
-use Rattle.roman_model.proofs.ChangeLemmas.{flat_map_same_in}
-use Rattle.roman_model.proofs.MadeLemmas.{beh_from_same, move_test, move_passes}
-use Rattle.roman_model.proofs.Places.{get_in}
-use Rattle.roman_model.proofs.CombinedLemmas.{stands_uses}
+use Rattle.roman_model.proofs.CallerLemmas.{same_test, any_true, any_from, in_map, from_map, in_flat_map, from_flat_map, in_below, from_below, in_filter, filter_in, filter_same, in_beh_next, from_beh_next, flat_map_same_in, beh_from_same, move_test, move_passes, get_in, stands_uses}
 use Rattle.std.proofs.Common.{All}
 use Rattle.std.proofs.lemmas.List.{length-map}
 use Rattle.roman_parts.specs.Named.{NamedEnv}
@@ -24,7 +19,7 @@ use Rattle.roman_multi.specs.Combining.{IsKnown, machines, requests_in}
 use Rattle.roman_multi.specs.declared.parts.Named.{Named}
 use Rattle.roman_multi.proofs.KnownLemmas.{machines_known}
 use Rattle.roman_multi.proofs.TripleLemmas.{get_or_in}
-use Rattle.roman_guard.proofs.SingleLemmas.{states_of-single}
+use Rattle.roman_guard.proofs.CallerLemmas.{states_of-single}
 
 pub has_in : (ns : List ℕ) (n : ℕ) → IsTrue (has ns n) → IsIn n ns
 has_in ns n t = let (m, i, same) = any_true (λ m. m == n) ns t in subst (λ k. IsIn k ns) (eqb-true m n same) i

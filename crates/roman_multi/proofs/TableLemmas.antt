@@ -6,7 +6,7 @@ use Rattle.std.proofs.lemmas.List.{take_more, map-append, length-map, get_or-map
 use Rattle.std.proofs.lemmas.List.Elements.{All-push}
 use Rattle.roman_model.specs.Lists.{below}
 use Rattle.std.proofs.lemmas.Option.{none-some, same_Some}
-use Rattle.roman_model.proofs.Lists.{any_false}
+use Rattle.roman_model.proofs.CallerLemmas.{any_false}
 use Rattle.roman_read.specs.Names.{is_name, place_of}
 use Rattle.roman_multi.specs.Combining.{is_long, stands_before, has_repeats}
 use Rattle.roman_multi.specs.Lists.{is_word}

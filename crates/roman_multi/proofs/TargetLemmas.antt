@@ -12,12 +12,7 @@ use Rattle.roman_model.specs.Combined.{targets_go, target_sizes, combined_start,
 use Rattle.roman_model.specs.declared.request.Request.{Request}
 use Rattle.roman_parts.specs.Listed.{listed_beh, AreMoves}
 use Rattle.roman_multi.specs.Lists.{moves_in, listed_moves, member_next, next_of_all}
-use Rattle.roman_model.proofs.Lists.{same_test, in_map, from_map}
-use Rattle.roman_model.proofs.SystemLemmas.{in_beh_next, from_beh_next}
-use Rattle.roman_model.proofs.NumberLemmas.{states_number-at}
-use Rattle.roman_model.proofs.MadeLemmas.{beh_from_same, from_made_move, made_move}
-use Rattle.roman_model.proofs.Places.{get_in}
-use Rattle.roman_model.proofs.CombinedLemmas.{IsMemberStep, from_combined_target, combined_target_goes}
+use Rattle.roman_model.proofs.CallerLemmas.{same_test, in_map, from_map, in_beh_next, from_beh_next, states_number-at, beh_from_same, from_made_move, made_move, get_in, IsMemberStep, from_combined_target, combined_target_goes}
 use Rattle.roman_multi.proofs.MoveLemmas.{has_in, in_has, has-filter, listed_moves_made, moves_in_range, passing_below}
 
 from_next_of_all : (targets : List Beh) (ts : List ℕ) (e : ℕ) (o : Option Request) (t' : ℕ) → IsIn t' (next_of_all targets ts e o) →

@@ -8,9 +8,7 @@ use Rattle.roman_model.specs.Combined.{has_triple_on, combined_env}
 use Rattle.roman_model.specs.declared.request.Request.{Request}
 use Rattle.roman_parts.specs.Listed.{triple_of, listed_env, AreTriples}
 use Rattle.roman_multi.specs.Lists.{next_on, triples_by, listed_triples}
-use Rattle.roman_model.proofs.Lists.{same_test, any_true, any_from, in_map, from_map, in_flat_map, from_flat_map, in_below, from_below}
-use Rattle.roman_model.proofs.SystemLemmas.{triple_in_range, in_env_next, from_env_next}
-use Rattle.roman_model.proofs.MadeLemmas.{env_from_same}
+use Rattle.roman_model.proofs.CallerLemmas.{same_test, any_true, any_from, in_map, from_map, in_flat_map, from_flat_map, in_below, from_below, triple_in_range, in_env_next, from_env_next, env_from_same}
 
 from_next_on : (env : Env) (e : ℕ) (o : Option Request) (to : ℕ) → IsIn to (next_on env e o) → IsTrue (has_triple_on env o e to)
 from_next_on env e None to i = absurd i

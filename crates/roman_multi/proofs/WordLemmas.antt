@@ -10,7 +10,7 @@ use Rattle.std.proofs.lemmas.Map.Made.{AllPairs-from_IsDistinct}
 use Rattle.std.proofs.lemmas.Slice.Eq.{bytes_eq-Decides}
 use Rattle.roman_model.specs.Lists.{is_empty}
 use Rattle.roman_read.specs.Names.{is_name, is_name_byte, place_of}
-use Rattle.roman_read.proofs.PlaceLemmas.{place_of-absent}
+use Rattle.roman_read.proofs.CallerLemmas.{place_of-absent}
 use Rattle.roman_multi.specs.Combining.{joined, names_at, is_long}
 use Rattle.roman_multi.specs.Lists.{is_word}
 use Rattle.roman_multi.specs.declared.parts.Named.{Named}

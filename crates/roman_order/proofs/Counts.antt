@@ -7,7 +7,7 @@ use Rattle.std.proofs.lemmas.List.Sums.{sum_by_push}
 use Rattle.std.proofs.lemmas.Map.Keys.{IsDistinct-head, IsDistinct-tail}
 use Rattle.roman_model.specs.Arena.{Entry}
 use Rattle.roman_model.specs.Lists.{below}
-use Rattle.roman_model.proofs.Lists.{from_below, sum_by_same}
+use Rattle.roman_model.proofs.CallerLemmas.{from_below, sum_by_same}
 use Rattle.roman_order.specs.Board.{nodes_of, has_entry}
 use Rattle.roman_order.proofs.Places.{has_entry-nodes}
 

@@ -13,9 +13,9 @@ use Rattle.std.proofs.lemmas.Nat.Bits.{bit_at_clear_same, bit_at_clear_other}
 use Rattle.roman_model.specs.Lists.{IsIn, HasNoRepeats, below}
 use Rattle.roman_model.specs.Arena.{Entry}
 use Rattle.roman_model.specs.declared.reason.Reason.{Reason}
-use Rattle.roman_model.proofs.Lists.{filter_below_more, list_any-map, any_true, any_from, none_from, filter_in, in_filter, in_below, from_below, same_test, HasNoRepeats-filter, HasNoRepeats-below}
+use Rattle.roman_model.proofs.CallerLemmas.{filter_below_more, list_any-map, any_true, any_from, none_from, filter_in, in_filter, in_below, from_below, same_test, HasNoRepeats-filter, HasNoRepeats-below}
 use Rattle.roman_lanes.specs.Rows.{is_on, HasLanes, AreRows}
-use Rattle.roman_lanes.proofs.RowBits.{on_and, on_less, on_zero, on_ones, on_ones_above, on_pow_same, on_pow_other}
+use Rattle.roman_lanes.proofs.CallerLemmas.{on_and, on_less, on_zero, on_ones, on_ones_above, on_pow_same, on_pow_other}
 use Rattle.roman_order.specs.Board.{as_entry, set_lanes, entries_in, has_entry}
 
 -- ---- the lanes of a word, the first apart

@@ -6,3 +6,4 @@ pub mod Stamps
 pub mod Counts
 pub mod Lent
 pub mod Tables
+pub mod CallerLemmas

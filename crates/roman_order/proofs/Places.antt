@@ -9,7 +9,7 @@ use Rattle.std.proofs.lemmas.Map.Keys.{IsDistinct-push}
 use Rattle.std.proofs.lemmas.Map.Steps.{length-le_from_distinct_below}
 use Rattle.std.proofs.lemmas.List.Folds.{list_any-append}
 use Rattle.roman_model.specs.Arena.{Entry}
-use Rattle.roman_model.proofs.Lists.{list_any-map}
+use Rattle.roman_model.proofs.CallerLemmas.{list_any-map}
 use Rattle.roman_order.specs.Board.{nodes_of, has_entry, place_in_list}
 use Rattle.roman_order.specs.Sound.{IsPlaced, stamp_of}
 

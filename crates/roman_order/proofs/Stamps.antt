@@ -3,7 +3,7 @@ use Rattle.std.proofs.Common.{◌≡◌, ℕ, ◌+◌, ◌-◌, ◌^◌, ◌<◌
 use Rattle.std.specs.List.{position_from}
 use Rattle.std.proofs.lemmas.Bool.{eq-eqb}
 use Rattle.std.proofs.lemmas.List.Folds.{list_any_at}
-use Rattle.roman_model.proofs.Lists.{list_any-map}
+use Rattle.roman_model.proofs.CallerLemmas.{list_any-map}
 use Rattle.roman_model.specs.Arena.{Entry}
 use Rattle.roman_order.specs.Board.{has_entry}
 use Rattle.roman_order.specs.Sound.{entries_of}

@@ -8,7 +8,7 @@ use Rattle.std.proofs.lemmas.List.{get_or-set_same, get_or-set_other, get_or_app
 use Rattle.std.proofs.lemmas.Nat.Bits.{bit_at_set_same, bit_at_set_other, bit_at_clear_same, bit_at_clear_other}
 use Rattle.roman_lanes.specs.Rows.{is_on}
 use Rattle.roman_lanes.specs.Flags.{has_flag}
-use Rattle.roman_lanes.proofs.RowBits.{on_zero, on_ones, on_ones_above}
+use Rattle.roman_lanes.proofs.CallerLemmas.{on_zero, on_ones, on_ones_above}
 
 -- ---- tables that are blank from some place on
 

@@ -8,7 +8,7 @@ use Rattle.std.proofs.lemmas.List.{get_or-set_same, get_or-set_other, get_or-rep
 use Rattle.std.proofs.lemmas.List.Folds.{list_any_more}
 use Rattle.std.proofs.lemmas.Nat.{same_from_place}
 use Rattle.std.proofs.lemmas.Nat.Bits.{bit_at-zero, bit_at_set_same, bit_at_set_other}
-use Rattle.roman_model.proofs.Lists.{same_test}
+use Rattle.roman_model.proofs.CallerLemmas.{same_test}
 use Rattle.roman_guard.specs.Meaning.{has_state}
 use Rattle.roman_parts.specs.Cells.{cell_has, PutsIntoCell, is_triple, leads, leads_back, HasCells, is_move, goes, goes_back, HasGuardedCells, MarksMove}
 

@@ -6,7 +6,7 @@ use Rattle.std.proofs.lemmas.List.{get_or-map, get_or-take, length-map, length-t
 use Rattle.std.proofs.lemmas.Option.{slice_get-get_or}
 use Rattle.roman_model.specs.Lists.{below}
 use Rattle.roman_model.specs.System.{has}
-use Rattle.roman_model.proofs.Lists.{find_first, find_not_found, none_from, from_below}
+use Rattle.roman_model.proofs.CallerLemmas.{find_first, find_not_found, none_from, from_below}
 use Rattle.roman_guard.specs.Meaning.{has_state, has_both, states_of, states_below, least_below}
 use Rattle.roman_parts.specs.Listed.{move_of}
 use Rattle.roman_parts.specs.Choices.{first_below, choice_between, choice_at}

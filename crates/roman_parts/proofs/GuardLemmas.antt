@@ -10,7 +10,7 @@ use Rattle.roman_read.specs.Items.{◌>>=◌}
 use Rattle.roman_read.specs.Json.{list_of}
 use Rattle.roman_guard.specs.Meaning.{holds}
 use Rattle.roman_guard.specs.declared.formula.Guard.{Guard}
-use Rattle.roman_guard.proofs.HoldsLemmas.{holds-All, holds-Never, holds-Among, holds-Not, holds-Both, holds-Either}
+use Rattle.roman_guard.proofs.CallerLemmas.{holds-All, holds-Never, holds-Among, holds-Not, holds-Both, holds-Either}
 use Rattle.roman_parts.specs.Reading.{looked}
 use Rattle.roman_parts.specs.Guards.{sole_member, sole_of, no_guard, among_of, operator_of, guard_of, guards_of, each_guard}
 use Rattle.roman_parts.specs.declared.error.List.{List as Place}

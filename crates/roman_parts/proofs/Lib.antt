@@ -13,3 +13,4 @@ mod NormalForms
 pub mod PartLemmas
 pub mod ReadLemmas
 pub mod WrittenLemmas
+pub mod CallerLemmas

@@ -7,7 +7,7 @@ use Rattle.roman_model.specs.SystemArena.{env_next, env_prev, beh_next, beh_prev
 use Rattle.roman_model.specs.declared.limits.TheConstants.{MAX_STATES, MAX_ACTIONS}
 use Rattle.roman_model.specs.Normal.{normal_env, normal_beh, guard_of, guarded_step}
 use Rattle.roman_parts.specs.Named.{IsOver}
-use Rattle.roman_model.proofs.Lists.{same_test, any_true, any_from, in_map, from_map, in_flat_map, from_flat_map, in_filter, filter_in, in_below, from_below, filter_same, HasNoRepeats-below, HasNoRepeats-filter}
+use Rattle.roman_model.proofs.CallerLemmas.{same_test, any_true, any_from, in_map, from_map, in_flat_map, from_flat_map, in_filter, filter_in, in_below, from_below, filter_same, HasNoRepeats-below, HasNoRepeats-filter}
 
 -- an environment's step in the normal form is one of its own, in range
 pub from_normal_triples : (env : Env) (x : Triple) → IsIn x (normal_env env).triples →

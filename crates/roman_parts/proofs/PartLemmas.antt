@@ -13,7 +13,7 @@ use Rattle.roman_read.specs.Json.{member_of, text_of}
 use Rattle.roman_read.specs.Names.{is_name, place_of}
 use Rattle.roman_read.specs.declared.rules.Kind.{Kind}
 use Rattle.roman_read.specs.declared.rules.Kind.TheVariants as kind
-use Rattle.roman_read.proofs.Given.{same_ok, bind_ok}
+use Rattle.roman_read.proofs.CallerLemmas.{same_ok, bind_ok}
 use Rattle.roman_parts.specs.Choices.{choice_of, refuse_choice, single_of}
 use Rattle.roman_parts.specs.Lists.{name_in, name_step, names_of, place_in, start_of, finals_of}
 use Rattle.roman_parts.specs.Named.{NamedEnv, NamedBeh, NamedTarget, IsOver}

@@ -3,7 +3,7 @@ use Rattle.std.proofs.Common.{◌≡◌, ℕ, zero, suc, ◌<◌, Bool, inl, inr
 use Rattle.std.specs.List.{filter, flat_map}
 use Rattle.std.proofs.lemmas.Bool.{cond-true, cond-false}
 use Rattle.roman_model.specs.Lists.{IsIn, below}
-use Rattle.roman_model.proofs.Lists.{by_test, from_append, from_below, from_flat_map, from_map, filter_in}
+use Rattle.roman_model.proofs.CallerLemmas.{by_test, from_append, from_below, from_flat_map, from_map, filter_in}
 use Rattle.roman_parts.specs.Normals.{Rises, IsLess}
 
 module _ {X : Type 0} (Before : X → X → Type 0) where

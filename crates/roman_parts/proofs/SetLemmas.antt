@@ -6,7 +6,7 @@ use mir.Val.{bits}
 use Rattle.std.proofs.lemmas.Bool.{cases_order, cond-true, cond-false, cond_both}
 use Rattle.std.proofs.lemmas.Nat.Bits.{bit_at-zero, bit_at-trailing_zeros, bit_at_clear_same, bit_at_clear_other}
 use Rattle.roman_guard.specs.Meaning.{has_state, states_below, states_of}
-use Rattle.roman_guard.proofs.StateLemmas.{states_below-zero, states_below-suc}
+use Rattle.roman_guard.proofs.CallerLemmas.{states_below-zero, states_below-suc}
 
 -- a test that no number below the bound passes keeps nothing
 states_below-none : (p : ℕ → Bool) (bound : ℕ) → ((i : ℕ) → i < bound → p i ≡ false) → states_below p bound ≡ []

@@ -3,7 +3,7 @@ use Rattle.std.proofs.Common.{◌≡◌, List, [], ◌∷◌, length, get_or, So
 use Rattle.std.proofs.lemmas.List.{map_push}
 use Rattle.serde_json.specs.View.{view, items_view}
 use Rattle.serde_json.specs.declared.value.Value.{Value}
-use Rattle.roman_read.proofs.Each.{at_start, pushed_on, pushed_ends, is_done}
+use Rattle.roman_read.proofs.CallerLemmas.{at_start, pushed_on, pushed_ends, is_done}
 use Rattle.roman_parts.specs.Steps.{three_of, four_of}
 
 pub three_of-items : (items : List Value) (a b c : Value) → length items ≡ 3 → a ≡ get_or items 0 a → b ≡ get_or items 1 b → c ≡ get_or items 2 c

@@ -10,9 +10,9 @@ use Rattle.roman_model.specs.System.{Env, Beh, has_triple, has_move, has}
 use Rattle.roman_model.specs.SystemArena.{env_next, env_prev, beh_next, beh_prev}
 use Rattle.roman_model.specs.Normal.{normal_env, normal_beh, guarded_step}
 use Rattle.roman_model.specs.declared.limits.TheConstants.{MAX_STATES, MAX_ACTIONS}
-use Rattle.roman_model.proofs.Lists.{same_test, any_true, any_from, any_same, in_contains, in_below, from_below, in_filter, filter_in, filter_same, list_any-map, length-below, get_or-below}
+use Rattle.roman_model.proofs.CallerLemmas.{same_test, any_true, any_from, any_same, in_contains, in_below, from_below, in_filter, filter_in, filter_same, list_any-map, length-below, get_or-below}
 use Rattle.roman_guard.specs.Meaning.{has_state, states_below, states_of}
-use Rattle.roman_guard.proofs.StateLemmas.{states_below-zero, states_below-suc, states_below-same, states_below-past}
+use Rattle.roman_guard.proofs.CallerLemmas.{states_below-zero, states_below-suc, states_below-same, states_below-past}
 use Rattle.roman_parts.specs.Listed.{triple_of, listed_env, move_of, listed_beh, AreTriples, AreMoves}
 use Rattle.roman_parts.specs.Cells.{cell_has, is_triple, leads, leads_back, HasCells, is_move, goes, goes_back, HasGuardedCells}
 use Rattle.roman_parts.specs.Tables.{row_triples, HasRows, GuardedBeh, row_moves, HasGuardedRows}

@@ -8,19 +8,18 @@ use Rattle.serde_json.specs.Data.{Data, string, array}
 use Rattle.serde_json.specs.Find.{as_object}
 use Rattle.serde_json.specs.View.{items_of}
 use Rattle.roman_guard.specs.Meaning.{is_one_of, states_below}
-use Rattle.roman_guard.proofs.StateLemmas.{in_states_below, states_below_are, states_below-suc, states_below-zero}
+use Rattle.roman_guard.proofs.CallerLemmas.{in_states_below, states_below_are, states_below-suc, states_below-zero}
 use Rattle.roman_model.specs.Explanation.{name_at}
 use Rattle.roman_model.specs.Lists.{IsIn, HasNoRepeats, below}
 use Rattle.roman_model.specs.System.{Env, Beh, Triple, Move, IsEnv, IsBeh, IsDeterministic, has, has_triple, has_move, is_final}
 use Rattle.roman_model.specs.Normal.{normal_env, normal_beh}
 use Rattle.roman_model.specs.declared.limits.TheConstants.{MAX_STATES, MAX_ACTIONS, MAX_STEPS}
-use Rattle.roman_model.proofs.Lists.{by_test, same_test, none_from, find_not_found, in_contains, contains_in, filter_in, from_below}
-use Rattle.roman_model.proofs.OutcomeLemmas.{triple_listed, listed_triple, number_listed, listed_number, step_listed, listed_step}
+use Rattle.roman_model.proofs.CallerLemmas.{by_test, same_test, none_from, find_not_found, in_contains, contains_in, filter_in, from_below, triple_listed, listed_triple, number_listed, listed_number, step_listed, listed_step}
 use Rattle.roman_read.specs.Items.{◌>>=◌, each_item, pushing}
 use Rattle.roman_read.specs.Json.{member_of, text_of}
 use Rattle.roman_read.specs.Names.{is_name}
 use Rattle.roman_read.specs.Listed.{IsListAt, AreItems}
-use Rattle.roman_read.proofs.ListLemmas.{all_given}
+use Rattle.roman_read.proofs.CallerLemmas.{all_given}
 use Rattle.roman_parts.specs.Choices.{first_below, choice_between, choice_at, choice_with, choice_of, refuse_choice, single_of}
 use Rattle.roman_parts.specs.Guards.{state_in, among_of, guard_of, guarded_states}
 use Rattle.roman_parts.specs.Lists.{names_of, place_in, start_of, finals_of}

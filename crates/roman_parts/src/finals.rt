@@ -11,7 +11,7 @@ use roman_read::NameTable;
 use serde_json::Value;
 use std::alloc::Global;
 
-#[tactic(auto, using(roman_read::proofs::Each::pushes), unfolding(crate::specs::Lists::finals_of))]
+#[tactic(auto, using(roman_read::proofs::CallerLemmas::pushes), unfolding(crate::specs::Lists::finals_of))]
 /// The final states, in the order in which they stand. 2^32 of them or more are too many for memory.
 pub(crate) fn read_finals(
     alloc: Global,

@@ -113,7 +113,7 @@ fn read_among(
     Ok(Guard::Among(read_places(alloc, states, items, index)?))
 }
 
-#[tactic(auto, using(roman_read::proofs::Each::pushes), unfolding(crate::specs::Guards::state_in))]
+#[tactic(auto, using(roman_read::proofs::CallerLemmas::pushes), unfolding(crate::specs::Guards::state_in))]
 // The states that are listed.
 fn read_places(
     alloc: Global,

@@ -10,7 +10,7 @@ use roman_read::{AddError, Kind, Name, NameTable, member, text};
 use serde_json::Value;
 use std::alloc::Global;
 
-#[tactic(auto, using(roman_read::proofs::Each::each), unfolding(crate::specs::Lists::names_of))]
+#[tactic(auto, using(roman_read::proofs::CallerLemmas::each), unfolding(crate::specs::Lists::names_of))]
 /// The names of a member that is a list of 1 to `most` names.
 pub(crate) fn read_names(
     alloc: Global,

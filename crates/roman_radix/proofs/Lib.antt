@@ -4,3 +4,4 @@ pub mod Moves
 pub mod Shown
 mod Numbering
 pub mod RowLemmas
+pub mod CallerLemmas

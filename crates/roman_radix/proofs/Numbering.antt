@@ -3,7 +3,7 @@ use Rattle.std.proofs.Common.{◌≡◌, ℕ, ◌+◌, ◌-◌, ◌*◌, ◌%◌
 use Rattle.roman_model.specs.declared.limits.TheConstants.{MAX_SERVICES}
 use Rattle.roman_model.specs.System.{Pair}
 use Rattle.roman_model.specs.Numbers.{Sizes, IsPairOf, count, states_number, number, pair_at}
-use Rattle.roman_model.proofs.NumberLemmas.{AreBelow-length, number_below}
+use Rattle.roman_model.proofs.CallerLemmas.{AreBelow-length, number_below}
 use Rattle.roman_radix.specs.Radix.{with_part}
 use Rattle.roman_radix.specs.Layout.{sizes_in, IsLaidOut}
 use Rattle.roman_radix.specs.declared.shape.Shape.TheInside.{Inside}

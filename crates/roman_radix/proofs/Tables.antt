@@ -7,7 +7,7 @@ use Rattle.std.proofs.lemmas.List.{append_assoc, set_at, take_at, drop-replicate
 use Rattle.std.proofs.lemmas.List.Edits.{length-remove, remove-append_left}
 use Rattle.roman_model.specs.Numbers.{Sizes, grown_sizes, sizes_without, count}
 use Rattle.roman_model.specs.declared.limits.TheConstants.{MAX_SERVICES}
-use Rattle.roman_model.proofs.NumberLemmas.{count-without}
+use Rattle.roman_model.proofs.CallerLemmas.{count-without}
 use Rattle.roman_radix.specs.Radix.{AreSizes, IsSizes}
 use Rattle.roman_radix.specs.Places.{padded}
 use Rattle.roman_radix.proofs.Strides.{length-padded, AreSizes-drop, AreSizes-index}

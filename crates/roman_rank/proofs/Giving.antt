@@ -8,13 +8,12 @@ use Rattle.std.proofs.lemmas.List.{get_or-map, get_or-set_same, get_or-set_other
 use Rattle.std.proofs.lemmas.Option.{get_or_from_slice_get, slice_get_within}
 use Rattle.std.proofs.lemmas.Map.Keys.{apart_from_distinct}
 use Rattle.roman_model.specs.Arena.{Arena, Entry, is_listed, loses}
-use Rattle.roman_model.proofs.Lists.{by_test}
-use Rattle.roman_model.proofs.DepthLemmas.{loses_down, last_is_steady}
+use Rattle.roman_model.proofs.CallerLemmas.{by_test, loses_down, last_is_steady}
 use Rattle.roman_rules.specs.Numbered.{IsNumbered}
-use Rattle.roman_rules.proofs.NumberedFacts.{numbered_arena, in_nodes}
+use Rattle.roman_rules.proofs.CallerLemmas.{numbered_arena, in_nodes}
 use Rattle.roman_order.specs.Board.{nodes_of, has_entry}
 use Rattle.roman_relation.specs.Settled.{AreLevels}
-use Rattle.roman_relation.proofs.Beginnings.{listed_is}
+use Rattle.roman_relation.proofs.CallerLemmas.{listed_is}
 use Rattle.roman_rank.specs.Ranking.{IsRank, AreRanks, loses_before, AreRanksBelow, GivesLevel, HoldsAllLost}
 
 -- ---- places in a list

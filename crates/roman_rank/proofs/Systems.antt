@@ -5,19 +5,15 @@ use Rattle.std.proofs.lemmas.Bool.{not_from_false}
 use Rattle.roman_model.specs.Arena.{Arena}
 use Rattle.roman_model.specs.Numbers.{sizes_of, count, pair_at}
 use Rattle.roman_model.specs.Offers.{is_related}
-use Rattle.roman_model.proofs.Lists.{by_test, length-below}
-use Rattle.roman_model.proofs.CompositionLemmas.{lost_unrelated, related_great}
-use Rattle.roman_model.proofs.NumberLemmas.{numbers_are_pairs}
-use Rattle.roman_model.proofs.NumberedLists.{numbered_listed, numbered_loses}
+use Rattle.roman_model.proofs.CallerLemmas.{by_test, length-below, lost_unrelated, related_great, numbers_are_pairs, numbered_listed, numbered_loses, settled_exact, loses_up, last_is_steady}
 use Rattle.roman_joint.specs.NamedSys.{NamedSys, system_of, IsNamedSys}
 use Rattle.roman_order.specs.Board.{Board, pairs_of, has_entry}
 use Rattle.roman_relation.specs.Shaped.{IsShaped}
 use Rattle.roman_relation.specs.Settled.{IsSettled, AreLevels}
 use Rattle.roman_relation.specs.Greatest.{arena_of, row_lanes, HasCompleteList}
-use Rattle.roman_relation.proofs.Relating.{listed_numbers}
+use Rattle.roman_relation.proofs.CallerLemmas.{listed_numbers}
 use Rattle.roman_rules.specs.Numbered.{IsNumbered}
-use Rattle.roman_rules.proofs.NumberedFacts.{numbered_arena, in_nodes, from_nodes}
-use Rattle.roman_model.proofs.DepthLemmas.{settled_exact, loses_up, last_is_steady}
+use Rattle.roman_rules.proofs.CallerLemmas.{numbered_arena, in_nodes, from_nodes}
 use Rattle.std.proofs.lemmas.Bool.{cases_lt}
 use Rattle.roman_rank.specs.Ranking.{HoldsAllLost}
 

@@ -6,7 +6,7 @@ use Rattle.std.proofs.lemmas.Bool.{cases_eq, cases_lt, cond-true, cond-false, eq
 use Rattle.std.proofs.lemmas.List.{take_more}
 use Rattle.std.proofs.lemmas.List.Sums.{sum_by_push, sum_by-cons, count_by_more_yes, count_by_more_no}
 use Rattle.roman_model.specs.Lists.{below}
-use Rattle.roman_model.proofs.Lists.{by_test}
+use Rattle.roman_model.proofs.CallerLemmas.{by_test}
 use Rattle.roman_rank.specs.Ranking.{AreCounts, HasOneMore}
 
 -- what a test adds to a count

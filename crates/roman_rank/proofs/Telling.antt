@@ -14,14 +14,7 @@ use Rattle.roman_model.specs.Arena.{loses}
 use Rattle.roman_model.specs.Composition.{Great}
 use Rattle.roman_model.specs.Numbers.{sizes_of, count, number, pair_at, numbered}
 use Rattle.roman_model.specs.Offers.{is_related, related_count}
-use Rattle.roman_model.proofs.Lists.{by_test, same_test, in_filter, filter_in, all_below_at, all_below_from, HasNoRepeats-filter}
-use Rattle.roman_model.proofs.DepthLemmas.{loses_up}
-use Rattle.roman_model.proofs.DepthPlayLemmas.{depth_won, depth_least}
-use Rattle.roman_model.proofs.SystemLemmas.{in_pairs, from_pairs, pairs_once, outcome_pair}
-use Rattle.roman_model.proofs.CompositionLemmas.{lost_unrelated, related_great, great_related}
-use Rattle.roman_model.proofs.NumberLemmas.{numbers_are_pairs}
-use Rattle.roman_model.proofs.NumberedLists.{numbered_loses, length-pairs, sum_over_pairs}
-use Rattle.roman_model.proofs.TableLemmas.{flat_map_row}
+use Rattle.roman_model.proofs.CallerLemmas.{by_test, same_test, in_filter, filter_in, all_below_at, all_below_from, HasNoRepeats-filter, loses_up, depth_won, depth_least, in_pairs, from_pairs, pairs_once, outcome_pair, lost_unrelated, related_great, great_related, numbers_are_pairs, numbered_loses, length-pairs, sum_over_pairs, flat_map_row}
 use Rattle.roman_rank.specs.Depths.{IsLeast, IsDepth, has_depth, depth_count, IsGreatest, IsDeepest, HoldsOut, IsShortest}
 use Rattle.roman_rank.specs.Ranking.{depth_in, AreDepths, IsRanking, IsRank, AreRanks}
 use Rattle.roman_rank.specs.DepthText.{head_lines, level_line, level_lines, last_lines, depths_to, AreRelated, TellsDepths, PutsDepths}

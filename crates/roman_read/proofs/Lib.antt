@@ -4,3 +4,4 @@ pub mod PlaceLemmas
 pub mod Each
 pub mod Given
 pub mod ListLemmas
+pub mod CallerLemmas

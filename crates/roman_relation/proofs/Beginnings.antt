@@ -4,8 +4,7 @@ use Rattle.std.proofs.Math.Seq.{take-length}
 use Rattle.std.proofs.lemmas.Bool.{both_ways, or_left, false_from_ne_true}
 use Rattle.std.proofs.lemmas.List.{take-take, length-take, get_or-take}
 use Rattle.roman_model.specs.Arena.{Arena, Entry, is_listed}
-use Rattle.roman_model.proofs.Lists.{any_same}
-use Rattle.roman_model.proofs.ArenaLemmas.{listed_append}
+use Rattle.roman_model.proofs.CallerLemmas.{any_same, listed_append}
 use Rattle.roman_rules.specs.Numbered.{IsNumbered}
 use Rattle.roman_order.specs.Board.{has_entry}
 use Rattle.roman_relation.specs.Settled.{Begins}

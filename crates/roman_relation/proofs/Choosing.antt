@@ -2,7 +2,7 @@
 use Rattle.std.proofs.Common.{◌≡◌, ℕ, zero, suc, ◌+◌, ◌*◌, sum_by, sym, ap, ◌∙◌, arith}
 use Rattle.std.proofs.lemmas.List.Sums.{sum_by_push}
 use Rattle.roman_model.specs.Lists.{below}
-use Rattle.roman_rules.proofs.Serving.{sum_further}
+use Rattle.roman_rules.proofs.CallerLemmas.{sum_further}
 
 -- a sum over rows is one over all pairs
 pub sum_rows : (f : ℕ → ℕ) (lanes rows : ℕ) → sum_by (λ row. sum_by (λ lane. f (row * lanes + lane)) (below lanes)) (below rows) ≡ sum_by f (below (rows * lanes))

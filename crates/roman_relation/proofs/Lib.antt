@@ -7,3 +7,4 @@ pub mod Marks
 pub mod Rising
 pub mod Choosing
 pub mod Relating
+pub mod CallerLemmas

@@ -10,13 +10,11 @@ use Rattle.std.proofs.lemmas.Nat.Bits.{bit_at-zero}
 use Rattle.std.specs.Int.{bit_at}
 use Rattle.roman_model.specs.Lists.{IsIn, below}
 use Rattle.roman_model.specs.Arena.{Arena, Entry, is_listed, back, fall}
-use Rattle.roman_model.proofs.Lists.{by_test, contains_in, from_below, sum_by_same}
-use Rattle.roman_model.proofs.ArenaLemmas.{in_listed, listed_push}
-use Rattle.roman_model.proofs.WorkLemmas.{fall_push}
+use Rattle.roman_model.proofs.CallerLemmas.{by_test, contains_in, from_below, sum_by_same, in_listed, listed_push, fall_push}
 use Rattle.roman_lanes.specs.Rows.{is_on, HasLanes}
 use Rattle.roman_lanes.specs.Flags.{has_flag}
 use Rattle.roman_rules.specs.Numbered.{IsNumbered}
-use Rattle.roman_rules.proofs.NumberedFacts.{numbered_same}
+use Rattle.roman_rules.proofs.CallerLemmas.{numbered_same}
 use Rattle.roman_order.specs.Board.{Board, pairs_of, has_entry, is_marked}
 use Rattle.roman_relation.specs.Shaped.{IsShaped}
 use Rattle.roman_relation.specs.Rounds.{IsMarking, on_at}

@@ -8,10 +8,9 @@ use Rattle.roman_model.specs.Lists.{IsIn, below}
 use Rattle.roman_model.specs.Arena.{Arena, is_listed, is_justified, loses, IsOrder}
 use Rattle.roman_model.specs.declared.reason.Reason.{Reason}
 use Rattle.roman_model.specs.declared.reason.Reason.TheVariants.{Final, Act}
-use Rattle.roman_model.proofs.Lists.{by_test, same_test, any_true, any_same}
-use Rattle.roman_model.proofs.ArenaLemmas.{in_listed, justified_same, unallowed_unjustified}
+use Rattle.roman_model.proofs.CallerLemmas.{by_test, same_test, any_true, any_same, in_listed, justified_same, unallowed_unjustified}
 use Rattle.roman_rules.specs.Numbered.{IsNumbered}
-use Rattle.roman_rules.proofs.NumberedFacts.{numbered_same}
+use Rattle.roman_rules.proofs.CallerLemmas.{numbered_same}
 use Rattle.roman_order.specs.Board.{Board, has_entry, is_marked}
 use Rattle.roman_relation.specs.Settled.{Begins, IsSettled, HoldsLost}
 use Rattle.roman_relation.specs.Rounds.{AreUnlisted, AwaitsRound, InRound, IsJudged, IsPairJudged, IsMarking, on_at}

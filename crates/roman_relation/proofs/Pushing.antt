@@ -7,15 +7,13 @@ use Rattle.roman_model.specs.Lists.{IsIn, HasNoRepeats, below}
 use Rattle.roman_model.specs.Arena.{Arena, Entry, is_listed, is_justified, IsOrder}
 use Rattle.roman_model.specs.declared.reason.Reason.{Reason}
 use Rattle.roman_model.specs.declared.reason.Reason.TheVariants.{Final, Act}
-use Rattle.roman_model.proofs.Lists.{from_map, any_from, in_below}
-use Rattle.roman_model.proofs.ArenaLemmas.{listed_append, listed_push, listed_in, justified_more}
-use Rattle.roman_model.proofs.OrderLemmas.{order_push}
+use Rattle.roman_model.proofs.CallerLemmas.{from_map, any_from, in_below, listed_append, listed_push, listed_in, justified_more, order_push}
 use Rattle.roman_lanes.specs.Rows.{is_on, HasLanes, AreRows}
-use Rattle.roman_lanes.proofs.RowBits.{on_and}
+use Rattle.roman_lanes.proofs.CallerLemmas.{on_and}
 use Rattle.roman_rules.specs.Numbered.{IsNumbered}
-use Rattle.roman_rules.proofs.NumberedFacts.{numbered_same}
+use Rattle.roman_rules.proofs.CallerLemmas.{numbered_same}
 use Rattle.roman_order.specs.Board.{Board, as_entry, set_lanes, entries_in, has_entry}
-use Rattle.roman_order.proofs.Lanes.{in_lanes, lanes_once, has_entry-lane}
+use Rattle.roman_order.proofs.CallerLemmas.{in_lanes, lanes_once, has_entry-lane}
 use Rattle.roman_relation.specs.Shaped.{IsShaped}
 use Rattle.roman_relation.specs.Settled.{Begins}
 use Rattle.roman_relation.specs.Rounds.{AreUnlisted, InRound, IsJudged, falls}

@@ -9,12 +9,7 @@ use Rattle.roman_model.specs.Arena.{Arena, Entry, is_listed, choices}
 use Rattle.roman_model.specs.Composition.{Great}
 use Rattle.roman_model.specs.Numbers.{sizes_of, count, pair_at, numbered}
 use Rattle.roman_model.specs.Offers.{is_related, choice_count}
-use Rattle.roman_model.proofs.Lists.{length-below}
-use Rattle.roman_model.proofs.ArenaLemmas.{in_listed}
-use Rattle.roman_model.proofs.CompositionLemmas.{related_great, great_related}
-use Rattle.roman_model.proofs.NumberLemmas.{numbers_are_pairs}
-use Rattle.roman_model.proofs.NumberedArena.{AreNumbers}
-use Rattle.roman_model.proofs.NumberedLists.{numbered_is_same, numbered_completed_by, numbered_listed, numbered_choices, numbered_related_count}
+use Rattle.roman_model.proofs.CallerLemmas.{length-below, in_listed, related_great, great_related, numbers_are_pairs, AreNumbers, numbered_is_same, numbered_completed_by, numbered_listed, numbered_choices, numbered_related_count}
 use Rattle.roman_joint.specs.NamedSys.{NamedSys, system_of, IsNamedSys}
 use Rattle.roman_order.specs.Board.{Board, pairs_of, has_entry}
 use Rattle.roman_relation.specs.Settled.{IsSettled, AreLevels}

@@ -5,8 +5,7 @@ use Rattle.std.proofs.lemmas.List.{take-take, get_or_append_left, get_or-append_
 use Rattle.std.proofs.Math.Seq.{take-length}
 use Rattle.std.proofs.lemmas.Option.{get_or_from_slice_get, slice_get_within, slice_get-get_or}
 use Rattle.roman_model.specs.Arena.{Arena, Entry, is_listed, IsOrder}
-use Rattle.roman_model.proofs.DepthLemmas.{loses_up}
-use Rattle.roman_model.proofs.WorkLemmas.{order_entry}
+use Rattle.roman_model.proofs.CallerLemmas.{loses_up, order_entry}
 use Rattle.roman_rules.specs.Numbered.{IsNumbered}
 use Rattle.roman_order.specs.Board.{has_entry}
 use Rattle.roman_relation.specs.Settled.{Begins, HoldsLost, RisesByDepth, AreLevels}

@@ -8,13 +8,10 @@ use Rattle.roman_model.specs.System.{Seat, Sys}
 use Rattle.roman_model.specs.Arena.{Entry}
 use Rattle.roman_model.specs.Change.{without, may_go}
 use Rattle.roman_model.specs.Numbers.{Sizes, sizes_of, sizes_without, count, pair_at, numbered}
-use Rattle.roman_model.proofs.Lists.{by_test, list_any-map, length-below}
-use Rattle.roman_model.proofs.ChangeLemmas.{left}
-use Rattle.roman_model.proofs.NumberLemmas.{number_without-is, count-without}
-use Rattle.roman_model.proofs.NumberedChanges.{number_entry_without, first_numbers, sizes-left}
+use Rattle.roman_model.proofs.CallerLemmas.{by_test, list_any-map, length-below, left, number_without-is, count-without, number_entry_without, first_numbers, sizes-left}
 use Rattle.roman_radix.specs.Radix.{IsSizes}
 use Rattle.roman_radix.specs.Rows.{lanes_of}
-use Rattle.roman_radix.proofs.Strides.{AreSizes-index}
+use Rattle.roman_radix.proofs.CallerLemmas.{AreSizes-index}
 use Rattle.roman_joint.specs.NamedSys.{NamedSys, system_of}
 use Rattle.roman_joint.specs.Rows.{lanes_in}
 use Rattle.roman_order.specs.Board.{Board, pairs_of, has_entry, nodes_of}

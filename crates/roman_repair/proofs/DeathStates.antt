@@ -5,12 +5,12 @@ use Rattle.std.proofs.lemmas.Option.{same_Some}
 use Rattle.roman_model.specs.System.{Seat, is_final}
 use Rattle.roman_model.specs.Change.{Die, CanChange}
 use Rattle.roman_model.specs.Numbers.{sizes_of}
-use Rattle.roman_model.proofs.NumberedChanges.{size_at}
+use Rattle.roman_model.proofs.CallerLemmas.{size_at}
 use Rattle.roman_parts.specs.Named.{NamedBeh}
 use Rattle.roman_joint.specs.Behaviours.{IsSeatBehaviour}
 use Rattle.roman_joint.specs.NamedSys.{NamedSys, IsNamedSys, system_of, seat_of}
 use Rattle.roman_joint.specs.declared.seat.Seat as joint
-use Rattle.roman_joint.proofs.BehaviourLemmas.{Behaves, behaves, seat_read}
+use Rattle.roman_joint.proofs.CallerLemmas.{Behaves, behaves, seat_read}
 
 stands : {X : Type 0} (xs : List X) (k : ℕ) → k < length xs → (x : X) × (slice_get xs k ≡ Some x)
 stands [] k l = absurd (omega arith)

@@ -6,15 +6,13 @@ use Rattle.roman_model.specs.Arena.{Entry, IsOrder, replay}
 use Rattle.roman_model.specs.SystemArena.{arena}
 use Rattle.roman_model.specs.Change.{Change, after, CanChange}
 use Rattle.roman_model.specs.Numbers.{sizes_of, pair_at, numbered, entry_at, IsCompleteList}
-use Rattle.roman_model.proofs.Renames.{order_named}
-use Rattle.roman_model.proofs.NumberedChanges.{rename_numbers, NumbersReplay, numbers_replay}
-use Rattle.roman_model.proofs.NumberedArena.{IsNumber, AreNumbers, numbers_rename}
+use Rattle.roman_model.proofs.CallerLemmas.{order_named, rename_numbers, NumbersReplay, numbers_replay, IsNumber, AreNumbers, numbers_rename}
 use Rattle.roman_joint.specs.declared.seat.Seat.{Seat}
 use Rattle.roman_joint.specs.NamedSys.{NamedSys, system_of, IsNamedSys}
 use Rattle.roman_order.specs.Board.{Board, pairs_of, has_entry}
 use Rattle.roman_relation.specs.Settled.{Begins}
 use Rattle.roman_relation.specs.Greatest.{arena_of, HasCaps, IsRelation}
-use Rattle.roman_relation.proofs.Relating.{listed_numbers}
+use Rattle.roman_relation.proofs.CallerLemmas.{listed_numbers}
 use Rattle.roman_repair.specs.declared.tally.Tally.{Tally}
 use Rattle.roman_repair.specs.Repairs.{replayed, GoesOnFromReplay, IsRepaired, IsBegun}
 use Rattle.roman_repair.specs.Replays.{candidates, with_replay, IsReplayable}

@@ -7,20 +7,14 @@ use Rattle.roman_model.specs.Change.{Change, after}
 use Rattle.roman_model.specs.Numbers.{Sizes, sizes_of, count, numbered}
 use Rattle.roman_model.specs.declared.reason.Reason.{Reason}
 use Rattle.roman_model.specs.declared.reason.Reason.TheVariants.{Final, Act}
-use Rattle.roman_model.proofs.Lists.{length-below}
-use Rattle.roman_model.proofs.ArenaLemmas.{justified_is}
-use Rattle.roman_model.proofs.OrderLemmas.{order_new, new_once, order_justified}
-use Rattle.roman_model.proofs.ChangeLemmas.{turned}
-use Rattle.roman_model.proofs.NumberedArena.{AreNumbers}
-use Rattle.roman_model.proofs.NumberedLists.{numbered_is_same}
-use Rattle.roman_model.proofs.NumberedChanges.{sizes-turned, rename_numbers, NumbersReplay, number_allows-turned}
+use Rattle.roman_model.proofs.CallerLemmas.{length-below, justified_is, order_new, new_once, order_justified, turned, AreNumbers, numbered_is_same, sizes-turned, rename_numbers, NumbersReplay, number_allows-turned}
 use Rattle.roman_radix.specs.Rows.{lanes_of}
 use Rattle.roman_joint.specs.NamedSys.{NamedSys, system_of, IsNamedSys}
 use Rattle.roman_joint.specs.Rows.{lanes_in}
 use Rattle.roman_order.specs.Board.{Board, pairs_of, has_entry}
 use Rattle.roman_relation.specs.Shaped.{IsShaped}
 use Rattle.roman_relation.specs.Greatest.{arena_of, HasCaps, IsRelation}
-use Rattle.roman_relation.proofs.Relating.{listed_numbers, room_for_pairs}
+use Rattle.roman_relation.proofs.CallerLemmas.{listed_numbers, room_for_pairs}
 use Rattle.roman_relation.specs.Settled.{Begins}
 use Rattle.roman_repair.specs.declared.tally.Tally.{Tally}
 use Rattle.roman_repair.specs.Repairs.{IsRepaired}

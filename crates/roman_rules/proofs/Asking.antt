@@ -6,8 +6,7 @@ use Rattle.std.proofs.lemmas.Nat.Bits.{bit_at-zero, bit_at_ones, ones_shr}
 use Rattle.std.proofs.lemmas.List.Sums.{length-filter}
 use Rattle.roman_model.specs.Lists.{below}
 use Rattle.roman_model.specs.Arena.{Arena}
-use Rattle.roman_model.proofs.Lists.{filter_below_more}
-use Rattle.roman_model.proofs.ArenaLemmas.{justified_more}
+use Rattle.roman_model.proofs.CallerLemmas.{filter_below_more, justified_more}
 use Rattle.roman_lanes.specs.Rows.{is_on}
 use Rattle.roman_rules.specs.Bits.{bit_of}
 use Rattle.roman_rules.specs.Asked.{HoldsWhereKept, readings_of}

@@ -3,8 +3,7 @@ use Rattle.std.proofs.Common.{ℕ, ◌<◌, length, refl, sym, ◌∙◌, subst}
 use Rattle.std.proofs.lemmas.Bool.{eqb-true, eq-eqb}
 use Rattle.roman_model.specs.Lists.{IsIn, HasNoRepeats}
 use Rattle.roman_model.specs.Arena.{Arena}
-use Rattle.roman_model.proofs.Lists.{in_below, from_below, HasNoRepeats-below}
-use Rattle.roman_model.proofs.ArenaLemmas.{IsSame, IsArena}
+use Rattle.roman_model.proofs.CallerLemmas.{in_below, from_below, HasNoRepeats-below, IsSame, IsArena}
 use Rattle.roman_rules.specs.Numbered.{IsNumbered}
 
 pub numbered_same : (A : Arena ℕ) → IsNumbered A → IsSame A

@@ -9,8 +9,7 @@ use Rattle.std.proofs.lemmas.Nat.Bits.{bit_at-lt, bit_at-zero}
 use Rattle.roman_model.specs.Lists.{below, is_empty}
 use Rattle.roman_model.specs.System.{has}
 use Rattle.roman_model.specs.Arena.{Arena, is_beaten, mask}
-use Rattle.roman_model.proofs.Lists.{by_test, from_below, sum_by_same, empty_is, not_empty_in}
-use Rattle.roman_model.proofs.ArenaLemmas.{mask_none, mask_has, mask_has_past, beaten_none}
+use Rattle.roman_model.proofs.CallerLemmas.{by_test, from_below, sum_by_same, empty_is, not_empty_in, mask_none, mask_has, mask_has_past, beaten_none}
 use Rattle.roman_lanes.specs.Rows.{is_on, HasLanes}
 use Rattle.roman_rules.specs.Bits.{HasBits, bit_of}
 use Rattle.roman_rules.specs.Numbered.{IsNumbered}

@@ -2,7 +2,7 @@
 use Rattle.std.proofs.Common.{◌≡◌, ℕ, inl, inr, List, [], ◌++◌, Option, Result, Ok, Err, refl, sym, ap, ◌∙◌, subst}
 use Rattle.roman_io.specs.Sink.{WrotePrefix, Puts}
 use Rattle.roman_text.specs.Pages.{Gathered, Gathers}
-use Rattle.roman_text.proofs.PageLemmas.{Puts-after_Gathered, Gathered-put}
+use Rattle.roman_text.proofs.CallerLemmas.{Puts-after_Gathered, Gathered-put}
 use Rattle.roman_text.specs.Shapes.{LineShape, ask, saw, shape_of}
 use Rattle.roman_text.specs.declared.errors.LineError.{LineError}
 use Rattle.roman_text.specs.Replies.{reply_text}

@@ -10,8 +10,7 @@ use Rattle.roman_model.specs.CompleteLists.{IsComplete}
 use Rattle.roman_model.specs.Change.{CanChange, Freeze, Thaw, Join, Die, rename}
 use Rattle.roman_model.specs.Numbers.{Sizes, sizes_of, number, entry_at}
 use Rattle.roman_model.specs.declared.limits.TheConstants.{MAX_BEHAVIOURS, MAX_SERVICES}
-use Rattle.roman_model.proofs.ChangeLemmas.{turned, IsPair-turned, IsPair-grown, IsPair-without}
-use Rattle.roman_model.proofs.NumberedChanges.{sizes-turned}
+use Rattle.roman_model.proofs.CallerLemmas.{turned, IsPair-turned, IsPair-grown, IsPair-without, sizes-turned}
 use Rattle.roman_joint.specs.NamedSys.{NamedSys, IsNamedSys}
 use Rattle.roman_joint.specs.NamedSys as joint
 use Rattle.roman_relation.specs.declared.relation.Relation.{Relation}
@@ -24,7 +23,7 @@ use Rattle.roman_session.specs.Situations.{Situation, present_system, IsPhase}
 use Rattle.roman_session.specs.Rulings.{seat_at, with_room}
 use Rattle.roman_session.specs.Joins.{CanJoin}
 use Rattle.roman_session.specs.declared.events.Joining.{Joining}
-use Rattle.roman_generator.proofs.MoveLemmas.{states_long}
+use Rattle.roman_generator.proofs.CallerLemmas.{states_long}
 use Rattle.std.proofs.lemmas.Bool.{cases_lt}
 use Rattle.roman_session.specs.Steps.{Changing, freezing, thawing, dying, growing, parts_after, Does, Joins, Changes}
 use Rattle.roman_session.specs.Layout.{situation_in, IsSession}

@@ -3,13 +3,12 @@ use Rattle.std.proofs.Common.{◌≡◌, ℕ, ◌+◌, ◌-◌, ◌<◌, ◌≤�
 use Rattle.std.proofs.Math.Seq.{take-append-add}
 use Rattle.std.proofs.lemmas.Bool.{cond-true, cond-false, or_from, lt-leb}
 use Rattle.roman_io.specs.Source.{Gave, EndsAt, Had, GaveAtMost}
-use Rattle.roman_io.proofs.SourceLemmas.{Gave-then}
-use Rattle.roman_io.proofs.SinkLemmas.{WrotePrefix-append}
+use Rattle.roman_io.proofs.CallerLemmas.{Gave-then, WrotePrefix-append}
 use Rattle.roman_model.specs.Lines.{lines, ended_lines, text_of_lines}
 use Rattle.roman_model.specs.declared.limits.TheConstants.{MAX_SESSION_BYTES}
-use Rattle.roman_model.proofs.Lists.{by_test}
+use Rattle.roman_model.proofs.CallerLemmas.{by_test}
 use Rattle.roman_text.specs.Lines.{HasNoNewline, unfinished, kept}
-use Rattle.roman_text.proofs.LineLemmas.{unfinished-nil, unfinished-free, lines_are, lines_only, lines_none, kept-nil}
+use Rattle.roman_text.proofs.CallerLemmas.{unfinished-nil, unfinished-free, lines_are, lines_only, lines_none, kept-nil}
 use Rattle.roman_session.specs.Situations.{Situation}
 use Rattle.roman_session.specs.Steps.{Told}
 use Rattle.roman_session.specs.Known.{AreBehaviours}

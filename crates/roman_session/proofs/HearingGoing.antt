@@ -12,12 +12,8 @@ use Rattle.roman_model.specs.CompleteLists.{IsComplete}
 use Rattle.roman_model.specs.Change.{CanChange, rename, after}
 use Rattle.roman_model.specs.Explanation.{name_at, explain_text}
 use Rattle.roman_model.specs.declared.limits.TheConstants.{MAX_SERVICES}
-use Rattle.roman_model.proofs.Lists.{by_test, any_true, any_false, sublist_in}
-use Rattle.roman_model.proofs.SystemLemmas.{same_numbers_is, same_numbers_itself, from_allowed, outcome_in, from_outcome}
-use Rattle.roman_model.proofs.OrderLemmas.{replay_sublist}
-use Rattle.roman_model.proofs.ChangeLaws.{renaming_keeps}
-use Rattle.roman_model.proofs.CompletionLemmas.{order_goes_on}
-use Rattle.roman_read.proofs.Given.{bind_ok}
+use Rattle.roman_model.proofs.CallerLemmas.{by_test, any_true, any_false, sublist_in, same_numbers_is, same_numbers_itself, from_allowed, outcome_in, from_outcome, replay_sublist, renaming_keeps, order_goes_on}
+use Rattle.roman_read.proofs.CallerLemmas.{bind_ok}
 use Rattle.roman_text.specs.Shapes.{LineShape, nothing, ask, hand, saw, abort, freeze, thaw, die, join, jump, jump_env, report, explain, quit, shape_of}
 use Rattle.roman_text.specs.Replies.{reply_text}
 use Rattle.roman_text.specs.declared.errors.LineError.{LineError}
@@ -26,7 +22,7 @@ use Rattle.roman_text.specs.declared.replies.Reply.TheVariants as reply
 use Rattle.roman_joint.specs.NamedSys.{NamedSys, IsNamedSys, beh_at, seat_of}
 use Rattle.roman_joint.specs.NamedSys as joint
 use Rattle.roman_joint.specs.Names.{names_in}
-use Rattle.roman_joint.proofs.SeatChanges.{frozen_system, frozen_known, gone_system, gone_known, joined_system, joined_known}
+use Rattle.roman_joint.proofs.CallerLemmas.{frozen_system, frozen_known, gone_system, gone_known, joined_system, joined_known}
 use Rattle.roman_session.specs.Situations.{Situation, present_system, IsPhase, IsSituation}
 use Rattle.roman_session.specs.Rulings.{seat_at, asked, handed, seen, aborted, jumped, env_jumped, frozen, thawed, died, joining, join_of, unexplained}
 use Rattle.roman_session.specs.Reports.{report_text}

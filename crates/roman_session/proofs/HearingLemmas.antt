@@ -4,14 +4,13 @@ use Rattle.std.proofs.lemmas.Bool.{cond-true, cond-false}
 use Rattle.std.proofs.lemmas.List.{take_all, take_min, take_more, take-append-drop}
 use Rattle.roman_io.specs.Sink.{Wrote, WrotePrefix}
 use Rattle.roman_io.specs.declared.failed.Failed.{Failed}
-use Rattle.roman_io.proofs.SinkLemmas.{Wrote-then, WrotePrefix-after}
+use Rattle.roman_io.proofs.CallerLemmas.{Wrote-then, WrotePrefix-after}
 use Rattle.roman_text.specs.Pages.{Gathered}
-use Rattle.roman_text.proofs.PageLemmas.{Gathered-empty, Gathered-then, Gathered-put, WrotePrefix-gathered}
+use Rattle.roman_text.proofs.CallerLemmas.{Gathered-empty, Gathered-then, Gathered-put, WrotePrefix-gathered, ended_lines-newline, ended_lines-other, unfinished-newline, unfinished-nil, unfinished-other, kept-nil, kept-push, lines_rest, lines_none}
 use Rattle.roman_model.specs.Lines.{lines, ended_lines}
-use Rattle.roman_model.proofs.Lists.{by_test}
+use Rattle.roman_model.proofs.CallerLemmas.{by_test}
 use Rattle.roman_text.specs.Lines.{is_newline, unfinished, kept}
 use Rattle.roman_text.specs.Shapes.{shape_of}
-use Rattle.roman_text.proofs.LineLemmas.{ended_lines-newline, ended_lines-other, unfinished-newline, unfinished-nil, unfinished-other, kept-nil, kept-push, lines_rest, lines_none}
 use Rattle.roman_session.specs.Situations.{Situation, IsSituation}
 use Rattle.roman_session.specs.Steps.{Step}
 use Rattle.roman_session.specs.Answering.{Answered, AnsweredOn, next_of}

@@ -3,10 +3,10 @@ use Rattle.std.proofs.Common.{◌≡◌, ℕ, Bool, true, false, ◌||◌, List,
 use Rattle.std.proofs.lemmas.Bool.{cond-true, cond-false, or_parts, or_from}
 use Rattle.std.proofs.lemmas.List.Folds.{list_any-append}
 use Rattle.roman_model.specs.Lines.{lines, ended_lines}
-use Rattle.roman_model.proofs.Lists.{by_test}
+use Rattle.roman_model.proofs.CallerLemmas.{by_test}
 use Rattle.roman_text.specs.Lines.{unfinished, kept}
 use Rattle.roman_text.specs.Shapes.{shape_of}
-use Rattle.roman_text.proofs.LineLemmas.{ended_lines-append, lines_rest, lines_none}
+use Rattle.roman_text.proofs.CallerLemmas.{ended_lines-append, lines_rest, lines_none}
 use Rattle.roman_session.specs.Situations.{Situation}
 use Rattle.roman_session.specs.Steps.{is_quit, until_quit, Step, Answers, Told}
 use Rattle.roman_session.specs.Hearing.{ends_session, has_quit}

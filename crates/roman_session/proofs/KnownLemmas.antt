@@ -5,9 +5,8 @@ use Rattle.roman_model.specs.System.{Sys, IsPair}
 use Rattle.roman_model.specs.CompleteLists.{IsComplete}
 use Rattle.roman_model.specs.Offers.{offers}
 use Rattle.roman_model.specs.declared.limits.TheConstants.{MAX_SERVICES}
-use Rattle.roman_model.proofs.ChangeLemmas.{IsPair-turned, IsPair-grown, IsPair-without}
-use Rattle.roman_model.proofs.OutcomeLemmas.{number_listed}
-use Rattle.roman_read.proofs.Given.{same_ok, bind_ok}
+use Rattle.roman_model.proofs.CallerLemmas.{IsPair-turned, IsPair-grown, IsPair-without, number_listed}
+use Rattle.roman_read.proofs.CallerLemmas.{same_ok, bind_ok}
 use Rattle.roman_text.specs.Shapes.{LineShape, nothing, ask, hand, saw, abort, freeze, thaw, die, join, jump, jump_env, report, explain, quit, shape_of}
 use Rattle.roman_text.specs.declared.errors.LineError.{LineError}
 use Rattle.roman_text.specs.declared.replies.Reply.{Reply}
@@ -15,7 +14,7 @@ use Rattle.roman_text.specs.declared.replies.Reply.TheVariants as reply
 use Rattle.roman_parts.specs.Named.{NamedEnv}
 use Rattle.roman_joint.specs.NamedSys.{IsNamedSys, seat_of}
 use Rattle.roman_joint.specs.NamedSys as joint
-use Rattle.roman_joint.proofs.SeatChanges.{frozen_system, frozen_known, gone_system, gone_known, joined_system, joined_known}
+use Rattle.roman_joint.proofs.CallerLemmas.{frozen_system, frozen_known, gone_system, gone_known, joined_system, joined_known}
 use Rattle.roman_session.specs.Known.{AreBehaviours, AreNamed, StepsStayKnown}
 use Rattle.roman_session.specs.Situations.{Situation, present_system, is_idle, IsOpen, IsPhase, IsSituation}
 use Rattle.roman_session.specs.Rulings.{named, service_named, state_named, seat_at, asked, handed, seen, aborted, jumped, env_jumped, frozen, thawed, died, joining, join_of, unexplained}

@@ -18,3 +18,4 @@ pub mod WordLemmas
 pub mod HearingGoing
 pub mod HearingSteps
 pub mod HearingEnds
+pub mod CallerLemmas

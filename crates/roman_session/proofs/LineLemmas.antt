@@ -25,7 +25,7 @@ use Rattle.roman_session.specs.Situations.{Situation}
 use Rattle.roman_session.specs.Serving.{seats_set, served, served_text}
 use Rattle.roman_session.specs.Reports.{report_head, service_line, service_lines, offer_line, offer_lines, lines_text, report_text}
 use Rattle.roman_session.specs.Steps.{offer_text, service_at}
-use Rattle.roman_generator.proofs.MoveLemmas.{states_long}
+use Rattle.roman_generator.proofs.CallerLemmas.{states_long}
 use Rattle.roman_session.proofs.SituationLemmas.{mapped_at, there_is}
 use Rattle.roman_session.proofs.ServingLemmas.{from_place, from_end, offers_set}
 

@@ -9,9 +9,9 @@ use Rattle.std.proofs.lemmas.Option.{get_or_from_slice_get, slice_get-get_or, sl
 use Rattle.std.proofs.lemmas.List.{length-map}
 use Rattle.std.proofs.lemmas.List.Elements.{Contains-get_or}
 use Rattle.roman_model.specs.Lists.{IsIn}
-use Rattle.roman_model.proofs.Lists.{any_from, none_from, in_contains, contains_in}
+use Rattle.roman_model.proofs.CallerLemmas.{any_from, none_from, in_contains, contains_in}
 use Rattle.roman_read.specs.Names.{place_of}
-use Rattle.roman_read.proofs.PlaceLemmas.{position-none, position-some, place_of-present}
+use Rattle.roman_read.proofs.CallerLemmas.{position-none, position-some, place_of-present}
 use Rattle.std.proofs.lemmas.Slice.Eq.{bytes_eq-Decides}
 use Rattle.roman_text.specs.declared.replies.Reply.{Reply}
 use Rattle.roman_text.specs.declared.replies.Reply.TheVariants as reply

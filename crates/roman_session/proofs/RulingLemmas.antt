@@ -9,7 +9,7 @@ use Rattle.roman_model.specs.Change.{Join, after}
 use Rattle.roman_model.specs.declared.limits.TheConstants.{MAX_SERVICES}
 use Rattle.roman_read.specs.Items.{◌>>=◌}
 use Rattle.roman_read.specs.Names.{is_name}
-use Rattle.roman_read.proofs.Given.{bind_ok}
+use Rattle.roman_read.proofs.CallerLemmas.{bind_ok}
 use Rattle.roman_text.specs.declared.replies.Reply.{Reply}
 use Rattle.roman_text.specs.declared.replies.Reply.TheVariants as reply
 use Rattle.roman_joint.specs.NamedSys.{seat_of, cells}

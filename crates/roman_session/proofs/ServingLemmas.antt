@@ -10,8 +10,7 @@ use Rattle.roman_model.specs.System.{Sys, Pair, has}
 use Rattle.roman_model.specs.SystemArena.{is_allowed, arena}
 use Rattle.roman_model.specs.Arena.{is_beaten, mask}
 use Rattle.roman_model.specs.Offers.{is_related, offers}
-use Rattle.roman_model.proofs.Lists.{get_or-below, length-below, from_below, filter_same}
-use Rattle.roman_model.proofs.ArenaLemmas.{mask_has}
+use Rattle.roman_model.proofs.CallerLemmas.{get_or-below, length-below, from_below, filter_same, mask_has}
 use Rattle.roman_rules.specs.Bits.{HasBits, bit_of}
 use Rattle.roman_joint.specs.NamedSys.{NamedSys}
 use Rattle.roman_joint.specs.declared.seat.Seat.{Seat}

@@ -10,21 +10,16 @@ use Rattle.roman_model.specs.Several.{Several, GreatAll}
 use Rattle.roman_model.specs.Combined.{combined, combined_env, combined_beh, combined_target, combined_seat, couple_all, target_sizes, IsSeveral}
 use Rattle.roman_model.specs.declared.limits.TheConstants.{MAX_STATES}
 use Rattle.roman_model.specs.declared.request.Request.{Request}
-use Rattle.roman_model.proofs.Lists.{from_map}
-use Rattle.roman_model.proofs.CombinedLaws.{combined_is_all}
+use Rattle.roman_model.proofs.CallerLemmas.{from_map, combined_is_all}
 use Rattle.roman_parts.specs.Named.{NamedEnv, NamedBeh, NamedTarget}
 use Rattle.roman_joint.specs.NamedSys.{NamedSys, beh_at, seat_of}
 use Rattle.roman_joint.specs.declared.seat.Seat.{Seat}
-use Rattle.roman_joint.proofs.BehaviourLemmas.{beh_read}
+use Rattle.roman_joint.proofs.CallerLemmas.{beh_read}
 use Rattle.roman_multi.specs.Combining.{PlainCombined, combined_behaviour, combined_parts, machines, requests_in}
-use Rattle.roman_multi.proofs.CombineLemmas.{good_count}
-use Rattle.roman_multi.proofs.KnownLemmas.{all_in, machines_known}
-use Rattle.roman_multi.proofs.MadeKnown.{are_allowed}
+use Rattle.roman_multi.proofs.CallerLemmas.{good_count, all_in, machines_known, are_allowed}
 use Rattle.roman_library.specs.Library.{PlainLibrary}
 use Rattle.roman_library.specs.Targets.{PlainTargets, CombinesTargets}
-use Rattle.roman_library.proofs.TargetLemmas.{targets_known}
-use Rattle.roman_library.proofs.KnownLemmas.{libraries_known, behaviour_there}
-use Rattle.roman_library.proofs.CombinedLemmas.{targets_combined}
+use Rattle.roman_library.proofs.CallerLemmas.{targets_known, libraries_known, behaviour_there, targets_combined}
 use Rattle.roman_session.specs.Situations.{Situation, IsSituation, present_system}
 use Rattle.roman_session.specs.Steps.{Answers, until_quit}
 use Rattle.roman_session.specs.Known.{AreNamed, IsKnownSituation}

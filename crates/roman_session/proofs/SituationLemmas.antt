@@ -12,11 +12,7 @@ use Rattle.roman_model.specs.Explanation.{SeatNames, seat_names}
 use Rattle.roman_model.specs.Lists.{IsIn}
 use Rattle.roman_model.specs.Offers.{is_related, offers}
 use Rattle.roman_model.specs.Composition.{Great}
-use Rattle.roman_model.proofs.Lists.{not_empty_in, ne_not_empty, by_test}
-use Rattle.roman_model.proofs.CompositionLemmas.{related_great, great_related}
-use Rattle.roman_model.proofs.SystemLemmas.{outcome_seat, states_set}
-use Rattle.roman_model.proofs.OfferLemmas.{offer_is}
-use Rattle.roman_model.proofs.NumberLemmas.{numbers_are_pairs, states_below, AreBelow-index}
+use Rattle.roman_model.proofs.CallerLemmas.{not_empty_in, ne_not_empty, by_test, related_great, great_related, outcome_seat, states_set, offer_is, numbers_are_pairs, states_below, AreBelow-index}
 use Rattle.roman_radix.specs.Radix.{moved}
 use Rattle.roman_parts.specs.Named.{NamedBeh}
 use Rattle.roman_joint.specs.NamedSys.{NamedSys}
@@ -24,7 +20,7 @@ use Rattle.roman_joint.specs.NamedSys as joint
 use Rattle.roman_joint.specs.declared.seat.Seat.{Seat}
 use Rattle.roman_joint.specs.Behaviours.{IsSeatBehaviour}
 use Rattle.roman_joint.specs.Names.{seat_name, beh_states, names_of_seat, names_in}
-use Rattle.roman_generator.proofs.MoveLemmas.{states_long}
+use Rattle.roman_generator.proofs.CallerLemmas.{states_long}
 use Rattle.roman_session.specs.Situations.{Situation, present_system, IsOpen, IsPhase, IsSituation}
 use Rattle.roman_session.specs.Steps.{service_at}
 use Rattle.roman_session.specs.Layout.{situation_in, IsSession}

@@ -8,11 +8,7 @@ use Rattle.roman_model.specs.SystemArena.{outcomes, arena}
 use Rattle.roman_model.specs.Arena.{is_beaten}
 use Rattle.roman_model.specs.Composition.{Great}
 use Rattle.roman_model.specs.Offers.{is_related, offers}
-use Rattle.roman_model.proofs.Lists.{by_test, empty_is, any_true}
-use Rattle.roman_model.proofs.ArenaLemmas.{in_mask}
-use Rattle.roman_model.proofs.CompositionLemmas.{related_great, great_related}
-use Rattle.roman_model.proofs.OfferLemmas.{offer_is, related_offers}
-use Rattle.roman_model.proofs.SystemLemmas.{outcome_in, outcome_pair}
+use Rattle.roman_model.proofs.CallerLemmas.{by_test, empty_is, any_true, in_mask, related_great, great_related, offer_is, related_offers, outcome_in, outcome_pair}
 use Rattle.roman_session.specs.Situations.{Situation, present_system, IsSituation, IsPhase}
 use Rattle.roman_session.specs.Steps.{HasMoved, Moves, pair_after}
 use Rattle.roman_session.specs.Laws.{NotOfferedFails, RequestsAreOffered, OutcomesAreRelated}

@@ -8,11 +8,7 @@ use Rattle.roman_model.specs.System.{has}
 use Rattle.roman_model.specs.SystemArena.{is_allowed, pairs}
 use Rattle.roman_model.specs.Composition.{couple, Serves, GreatCouple, Great}
 use Rattle.roman_model.specs.Offers.{is_related, offers}
-use Rattle.roman_model.proofs.Lists.{any_from, filter_sublist, sublist_none, filter_in, in_filter, HasNoRepeats-filter, in_below}
-use Rattle.roman_model.proofs.SystemLemmas.{allowed_in, from_allowed, allowed_in_range, from_pairs, in_pairs, pairs_once}
-use Rattle.roman_model.proofs.CompositionLemmas.{related_great, great_related}
-use Rattle.roman_model.proofs.OfferLemmas.{offers_are}
-use Rattle.roman_model.proofs.OutcomeLemmas.{number_listed}
+use Rattle.roman_model.proofs.CallerLemmas.{any_from, filter_sublist, sublist_none, filter_in, in_filter, HasNoRepeats-filter, in_below, allowed_in, from_allowed, allowed_in_range, from_pairs, in_pairs, pairs_once, related_great, great_related, offers_are, number_listed}
 use Rattle.roman_read.specs.Items.{◌>>=◌}
 use Rattle.roman_read.specs.Names.{place_of}
 use Rattle.roman_text.specs.Replies.{reply_text}

@@ -7,7 +7,7 @@ use Rattle.roman_model.specs.Lists.{HasNoRepeats}
 use Rattle.roman_model.specs.System.{Beh, IsPair}
 use Rattle.roman_parts.specs.Named.{NamedBeh}
 use Rattle.roman_joint.specs.NamedSys.{beh_at, seat_of, still, system_of}
-use Rattle.roman_joint.proofs.BehaviourLemmas.{beh_read}
+use Rattle.roman_joint.proofs.CallerLemmas.{beh_read}
 use Rattle.roman_library.specs.Library.{PlainLibrary, IsService, IsLibrary, service_name}
 use Rattle.roman_library.specs.declared.library.Service.{Service}
 use Rattle.roman_start.specs.Starts.{seat_of_service, state_of_service, parts_of, start_pair_of}

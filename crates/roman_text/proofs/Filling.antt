@@ -2,7 +2,7 @@
 use Rattle.std.proofs.Common.{◌≡◌, ℕ, List, [], ◌++◌, Option, Result, Ok, Err, refl, sym, ap, ◌∙◌, subst, append_assoc}
 use Rattle.std.proofs.lemmas.List.{append-nil}
 use Rattle.roman_io.specs.Sink.{WrotePrefix, Puts}
-use Rattle.roman_io.proofs.SinkLemmas.{Wrote-nil, WrotePrefix-append}
+use Rattle.roman_io.proofs.CallerLemmas.{Wrote-nil, WrotePrefix-append}
 use Rattle.roman_text.specs.Pages.{Gathered, Gathers}
 use Rattle.roman_text.proofs.PageLemmas.{Gathered-then, WrotePrefix-gathered, Puts-after_Gathered}
 

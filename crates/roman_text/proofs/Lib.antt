@@ -3,3 +3,4 @@ mod WordLemmas
 pub mod ShapeLemmas
 pub mod PageLemmas
 pub mod Filling
+pub mod CallerLemmas

@@ -2,7 +2,7 @@
 use Rattle.std.proofs.Common.{◌≡◌, ℕ, List, [], ◌++◌, Option, Result, Ok, Err, sym, ap, ◌∙◌, append_assoc}
 use Rattle.std.proofs.lemmas.List.{append-nil}
 use Rattle.roman_io.specs.Sink.{Wrote, WrotePrefix, Puts}
-use Rattle.roman_io.proofs.SinkLemmas.{Wrote-nil, Wrote-then, WrotePrefix-append, WrotePrefix-after, Puts-after}
+use Rattle.roman_io.proofs.CallerLemmas.{Wrote-nil, Wrote-then, WrotePrefix-append, WrotePrefix-after, Puts-after}
 use Rattle.roman_text.specs.Pages.{Gathered, Gathers}
 
 -- ---- for those who fill a page: the beginning, one more text, a fault, and the end

@@ -8,9 +8,7 @@ use Rattle.roman_model.specs.Composition.{Great}
 use Rattle.roman_model.specs.System.{Sys, Pair, IsSys}
 use Rattle.roman_model.specs.Numbers.{sizes_of, count, pair_at}
 use Rattle.roman_model.specs.Offers.{is_related, related_count}
-use Rattle.roman_model.proofs.Lists.{by_test, same_test}
-use Rattle.roman_model.proofs.CompositionLemmas.{related_great, great_related}
-use Rattle.roman_model.proofs.NumberLemmas.{numbers_are_pairs}
+use Rattle.roman_model.proofs.CallerLemmas.{by_test, same_test, related_great, great_related, numbers_are_pairs}
 use Rattle.roman_read.specs.declared.rules.Kind.{Kind}
 use Rattle.roman_parts.specs.declared.error.PartError.{PartError}
 use Rattle.roman_parts.specs.declared.error.PartError.TheVariants as part_error

@@ -14,8 +14,7 @@ use Rattle.roman_session.specs.Words.{ReportsGreat}
 use Rattle.roman_session.specs.Steps.{until_quit, Answers}
 use Rattle.roman_session.specs.Hearing.{prefix_of, is_heard_out, heard_lines}
 use Rattle.roman_session.specs.Known.{IsKnownSituation}
-use Rattle.roman_session.proofs.KnownLemmas.{steps_known}
-use Rattle.roman_session.proofs.WordLemmas.{answers_great, open_great, reports_great}
+use Rattle.roman_session.proofs.CallerLemmas.{steps_known, answers_great, open_great, reports_great}
 use Rattle.roman_top.specs.Command.{Job, Synth, Run, Certify, Check, Shortest, Advise, Resilience, Command, On, Make}
 use Rattle.roman_top.specs.Headline.{Turn, line_of, turn_text, AreTurns, AnswersLines, KeepsPromise, HasHeadline}
 use Rattle.roman_top.specs.Opening.{Accepted, document_opening}

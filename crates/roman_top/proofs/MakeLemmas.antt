@@ -3,7 +3,7 @@ use Rattle.std.proofs.Common.{◌≡◌, ℕ, ◌<◌, ◌≤◌, ◌++◌, Bool
 use Rattle.std.proofs.lemmas.Bool.{leb-true}
 use Rattle.roman_io.specs.Sink.{Puts}
 use Rattle.roman_model.specs.Lists.{all_below}
-use Rattle.roman_model.proofs.Lists.{all_below_at}
+use Rattle.roman_model.proofs.CallerLemmas.{all_below_at}
 use Rattle.roman_library.specs.Library.{PlainLibrary}
 use Rattle.roman_make.specs.Made.{made, floor, worker, shift}
 use Rattle.roman_joint.specs.NamedSys.{cells}

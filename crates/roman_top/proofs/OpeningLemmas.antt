@@ -4,7 +4,7 @@ use Rattle.std.proofs.lemmas.Bool.{le-ltb}
 use Rattle.roman_io.specs.Faults.{HasCause, Rose}
 use Rattle.roman_io.specs.Shelf.{Texts}
 use Rattle.roman_io.specs.Sink.{Wrote, Puts}
-use Rattle.roman_io.proofs.SinkLemmas.{Wrote-nil}
+use Rattle.roman_io.proofs.CallerLemmas.{Wrote-nil}
 use Rattle.roman_joint.specs.NamedSys.{cells}
 use Rattle.roman_library.specs.Documents.{library_of}
 use Rattle.roman_library.specs.Library.{PlainLibrary}

@@ -4,8 +4,7 @@ use Rattle.roman_io.specs.Faults.{HasCause}
 use Rattle.roman_io.specs.Shelf.{Texts, shelf_text}
 use Rattle.roman_io.specs.Sink.{Wrote, Puts}
 use Rattle.roman_io.specs.Source.{Gave}
-use Rattle.roman_io.proofs.SinkLemmas.{WrotePrefix-from_Puts}
-use Rattle.roman_io.proofs.SourceLemmas.{Gave-nil}
+use Rattle.roman_io.proofs.CallerLemmas.{WrotePrefix-from_Puts, Gave-nil}
 use Rattle.roman_library.specs.Library.{PlainLibrary}
 use Rattle.roman_top.specs.Causes.{ShelfCause, InputCause, SinkCause}
 use Rattle.roman_top.specs.Command.{Job, Synth, Run, Certify, Check, Shortest, Advise, Resilience, Command, On, Make, usage_line}

@@ -5,9 +5,9 @@ use Rattle.std.proofs.lemmas.List.{length-map}
 use Rattle.roman_model.specs.Lists.{IsIn}
 use Rattle.roman_model.specs.System.{Pair, IsPair, IsBeh, IsSys}
 use Rattle.roman_model.specs.System as model
-use Rattle.roman_model.proofs.Lists.{from_map, in_contains}
+use Rattle.roman_model.proofs.CallerLemmas.{from_map, in_contains}
 use Rattle.roman_joint.specs.NamedSys.{NamedSys, IsNamedSys, beh_at, seat_of, system_of, cells}
-use Rattle.roman_joint.proofs.BehaviourLemmas.{beh_read}
+use Rattle.roman_joint.proofs.CallerLemmas.{beh_read}
 use Rattle.roman_library.specs.Documents.{library_of}
 use Rattle.roman_library.specs.Library.{PlainLibrary, IsService, IsLibrary}
 use Rattle.roman_library.specs.declared.library.Service.{Service}
@@ -16,14 +16,13 @@ use Rattle.roman_session.specs.Situations as situation
 use Rattle.roman_start.specs.Starts.{seat_of_service, parts_of, start_pair_of}
 use Rattle.roman_session.specs.Starts.{IsStart}
 use Rattle.roman_session.specs.Known.{AreNamed, IsKnownSituation}
-use Rattle.roman_session.proofs.ChangedLemmas.{is_within}
-use Rattle.roman_session.proofs.SituationLemmas.{there_is}
+use Rattle.roman_session.proofs.CallerLemmas.{is_within, there_is}
 use Rattle.roman_start.proofs.CallerLemmas.{behaviours_within, names_once, start_pair}
 use Rattle.roman_top.specs.Accepted.{StartsAreKnown}
 use Rattle.roman_top.specs.Opening.{is_past_limit}
 use Rattle.roman_top.proofs.EndingLemmas.{accepted_is}
 use Rattle.roman_library.specs.Known.{IsKnownLibrary}
-use Rattle.roman_library.proofs.KnownLemmas.{libraries_known, behaviour_there}
+use Rattle.roman_library.proofs.CallerLemmas.{libraries_known, behaviour_there}
 
 -- the behaviour of a service is over the environment
 service_beh : (library : PlainLibrary) (x : Service) → IsLibrary library → IsIn x library.services → IsBeh library.environment.env (beh_at library.catalogue x.behaviour)

@@ -5,7 +5,7 @@ use Rattle.roman_io.specs.Shelf.{Texts}
 use Rattle.roman_io.specs.Sink.{Puts}
 use Rattle.roman_model.specs.System.{Pair}
 use Rattle.roman_model.specs.Offers.{is_related}
-use Rattle.roman_model.proofs.CompositionLemmas.{related_great, great_related}
+use Rattle.roman_model.proofs.CallerLemmas.{related_great, great_related}
 use Rattle.roman_joint.specs.NamedSys.{NamedSys}
 use Rattle.roman_joint.specs.NamedSys as joint
 use Rattle.roman_session.specs.Situations.{Situation, present_system, IsSituation}

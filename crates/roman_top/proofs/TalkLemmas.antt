@@ -4,10 +4,10 @@ use Rattle.std.proofs.lemmas.Bool.{cond-true, cond-false}
 use Rattle.roman_io.specs.Faults.{Rose}
 use Rattle.roman_io.specs.Shelf.{Texts, shelf_text, rest_from}
 use Rattle.roman_io.specs.Source.{Had, IsAtEnd, GaveAtMost}
-use Rattle.roman_io.proofs.SourceLemmas.{Gave-told}
+use Rattle.roman_io.proofs.CallerLemmas.{Gave-told}
 use Rattle.roman_model.specs.Lines.{lines, ended_lines}
 use Rattle.roman_model.specs.declared.limits.TheConstants.{MAX_SESSION_BYTES, PIECE_BYTES}
-use Rattle.roman_model.proofs.Lists.{by_test}
+use Rattle.roman_model.proofs.CallerLemmas.{by_test}
 use Rattle.roman_session.specs.Situations.{Situation}
 use Rattle.roman_session.specs.Starts.{IsStart}
 use Rattle.roman_session.specs.Steps.{Told}
@@ -15,7 +15,7 @@ use Rattle.roman_session.specs.Hearing.{prefix_of, is_heard_out, GaveQuit, Hall,
 use Rattle.roman_session.specs.Known.{AreBehaviours}
 use Rattle.roman_session.specs.declared.hearing.HearError.{HearError}
 use Rattle.roman_session.specs.declared.hearing.HearError.TheVariants as hear
-use Rattle.roman_session.proofs.HearingEnds.{short_out}
+use Rattle.roman_session.proofs.CallerLemmas.{short_out}
 use Rattle.roman_top.specs.Causes.{ShelfCause, InputCause, SinkCause}
 use Rattle.roman_top.specs.Command.{Run, On}
 use Rattle.roman_top.specs.Endings.{Accepts, GoesOnFrom, HearsText, Opens, heard_status}

@@ -10,13 +10,7 @@ use Rattle.roman_model.specs.Offers.{is_related, related_count, choice_count}
 use Rattle.roman_model.specs.Without.{Outlook, outlook, system_without, pair_without}
 use Rattle.roman_model.specs.declared.way.Way.{Way}
 use Rattle.roman_model.specs.declared.way.Way.TheVariants as way
-use Rattle.roman_model.proofs.Lists.{same_test}
-use Rattle.roman_model.proofs.NumberLemmas.{number_without-is, pair_at-without, numbers_are_pairs}
-use Rattle.roman_model.proofs.CompositionLemmas.{related_great, great_related}
-use Rattle.roman_model.proofs.NumberedChanges.{sizes-turned, sizes-left}
-use Rattle.roman_model.proofs.ChangeLemmas.{length-remove, length-set_frozen}
-use Rattle.roman_model.proofs.Places.{get_map}
-use Rattle.roman_model.proofs.WithoutLemmas.{leave_one, freeze_one, without_changes}
+use Rattle.roman_model.proofs.CallerLemmas.{same_test, number_without-is, pair_at-without, numbers_are_pairs, related_great, great_related, sizes-turned, sizes-left, length-remove, length-set_frozen, get_map, leave_one, freeze_one, without_changes}
 use Rattle.roman_joint.specs.NamedSys.{NamedSys, seat_of, system_of, IsNamedSys}
 use Rattle.roman_joint.specs.Parts.{HasSameParts}
 use Rattle.roman_joint.specs.declared.seat.Seat as joint

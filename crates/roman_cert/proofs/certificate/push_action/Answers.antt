@@ -2,13 +2,13 @@ use Rattle.std.proofs.Common.{◌≡◌, ℕ, List, [], ◌∷◌, ◌++◌, cod
 use Rattle.std.proofs.lemmas.Fmt.{decimal_digit}
 use Rattle.std.proofs.lemmas.Result.{err_from_is_err_and}
 use Rattle.roman_io.specs.Sink.{WrotePrefix}
-use Rattle.roman_io.proofs.SinkLemmas.{WrotePrefix-append}
+use Rattle.roman_io.proofs.CallerLemmas.{WrotePrefix-append}
 use Rattle.roman_model.specs.declared.reason.Reason.TheVariants.{Act}
 use Rattle.roman_model.specs.Lines.{text_of_lines}
 use Rattle.roman_model.specs.Certificate.{entry_line}
 use Rattle.roman_order.specs.Board.{as_entry}
 use Rattle.roman_text.specs.Pages.{Gathers}
-use Rattle.roman_text.proofs.PageLemmas.{Gathers-after}
+use Rattle.roman_text.proofs.CallerLemmas.{Gathers-after}
 use Rattle.roman_cert.proofs.Certificates.{entry_parts}
 use Rattle.roman_cert.proofs.certificate.push_action.Goals as goal
 

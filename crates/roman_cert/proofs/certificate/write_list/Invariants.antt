@@ -1,6 +1,6 @@
 use Rattle.std.proofs.Common.{◌≡◌}
 use Rattle.roman_model.specs.Certificate.{cert_text}
-use Rattle.roman_text.proofs.Filling.{IsFilling}
+use Rattle.roman_text.proofs.CallerLemmas.{IsFilling}
 use Rattle.roman_cert.proofs.Certificates.{rest_from}
 use Rattle.roman_cert.proofs.certificate.write_list.Given as goal
 

@@ -5,11 +5,11 @@ use Rattle.roman_model.specs.Lists.{below}
 use Rattle.roman_model.specs.Numbers.{sizes_of, count}
 use Rattle.roman_model.specs.Arena.{Entry}
 use Rattle.roman_model.specs.declared.reason.Reason.TheVariants.{Act}
-use Rattle.roman_model.proofs.Lists.{length-below}
+use Rattle.roman_model.proofs.CallerLemmas.{length-below}
 use Rattle.roman_joint.specs.NamedSys.{system_of}
-use Rattle.roman_joint.proofs.Finds.{if_some}
+use Rattle.roman_joint.proofs.CallerLemmas.{if_some}
 use Rattle.roman_order.specs.Board.{as_entry}
-use Rattle.roman_text.proofs.Filling.{fill_behind, fill_same, fill_more, fill_failed, fill_end}
+use Rattle.roman_text.proofs.CallerLemmas.{fill_behind, fill_same, fill_more, fill_failed, fill_end}
 use Rattle.roman_cert.proofs.AnswerTexts.{entry_is, answers_from, answers_filling, no_answers, answers_next, answers_skip, answers_end}
 use Rattle.roman_cert.proofs.slice.push_answers.Goals as goal
 

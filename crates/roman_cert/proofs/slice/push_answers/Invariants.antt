@@ -1,5 +1,5 @@
 use Rattle.std.proofs.Common.{◌≡◌, ◌++◌}
-use Rattle.roman_text.proofs.Filling.{IsFilling}
+use Rattle.roman_text.proofs.CallerLemmas.{IsFilling}
 use Rattle.roman_cert.proofs.AnswerTexts.{answers_from}
 use Rattle.roman_cert.proofs.slice.push_answers.Given as goal
 

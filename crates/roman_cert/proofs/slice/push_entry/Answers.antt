@@ -1,7 +1,7 @@
 use Rattle.std.proofs.Common.{sym, append-nil}
 use Rattle.std.proofs.lemmas.Result.{err_from_is_err_and}
 use Rattle.roman_order.specs.Board.{as_entry}
-use Rattle.roman_text.proofs.Filling.{fill_behind, fill_same, fill_more, fill_failed, fill_last}
+use Rattle.roman_text.proofs.CallerLemmas.{fill_behind, fill_same, fill_more, fill_failed, fill_last}
 use Rattle.roman_cert.specs.Slices.{lost_text, answers_text}
 use Rattle.roman_cert.proofs.SliceTexts.{entry_pair, entry_reason, entry_lines_are}
 use Rattle.roman_cert.proofs.slice.push_entry.Goals as goal

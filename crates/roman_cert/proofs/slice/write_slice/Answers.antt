@@ -2,8 +2,7 @@ use Rattle.std.proofs.Common.{◌≡◌, ℕ, length, ap, sym, subst, ◌∙◌,
 use Rattle.roman_model.specs.Arena.{IsOrder}
 use Rattle.roman_model.specs.Explanation.{rests_on}
 use Rattle.roman_model.specs.Numbers.{sizes_of, count}
-use Rattle.roman_model.proofs.Lists.{length-below}
-use Rattle.roman_model.proofs.CertificateLaws.{complete_order}
+use Rattle.roman_model.proofs.CallerLemmas.{length-below, complete_order}
 use Rattle.roman_joint.specs.NamedSys.{system_of}
 use Rattle.roman_order.specs.Board.{Board, pairs_of, is_marked}
 use Rattle.roman_relation.specs.Greatest.{arena_of, IsRelation}

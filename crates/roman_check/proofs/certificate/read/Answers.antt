@@ -1,7 +1,7 @@
 use Rattle.std.proofs.Common.{◌++◌, take, drop, refl, ◌∙◌, subst, arith, length-append, length-drop, length-take-le}
 use Rattle.std.proofs.lemmas.List.{length-take}
 use Rattle.std.proofs.lemmas.Result.{err_from_is_err_and}
-use Rattle.roman_io.proofs.SourceLemmas.{Gave-then}
+use Rattle.roman_io.proofs.CallerLemmas.{Gave-then}
 use Rattle.roman_io.specs.Faults.{Rose}
 use Rattle.roman_check.specs.Readers.{IsReading}
 use Rattle.roman_check.proofs.SourceSteps.{had_all, at_end, gave_at_most, failed_clean, cut_piece, rejected_at, passed_limit}

@@ -1,6 +1,6 @@
 use Rattle.std.proofs.Common.{arith, sym, ◌∙◌}
 use Rattle.std.proofs.lemmas.List.{take_more}
-use Rattle.roman_model.proofs.CertificateLemmas.{act_reason}
+use Rattle.roman_model.proofs.CallerLemmas.{act_reason}
 use Rattle.roman_check.proofs.entries.front_reason.Goals as goal
 
 pub returns-then-bytes-eq10 : goal.returns-then-bytes-eq10

@@ -3,7 +3,7 @@ use Rattle.std.specs.Int.{trailing_zeros, w64}
 use Rattle.std.proofs.lemmas.Bool.{cases_eq}
 use Rattle.roman_model.specs.Certificate.{could_be_listed}
 use Rattle.roman_lanes.specs.Rows.{is_on}
-use Rattle.roman_lanes.proofs.RowBits.{on_zero}
+use Rattle.roman_lanes.proofs.CallerLemmas.{on_zero}
 use Rattle.roman_check.proofs.ReasonLemmas.{least_found, none_found, before_row, before_lane, row_ends, row_among, IsLowest, lowest, lowest_within}
 use Rattle.roman_check.proofs.missing.first_missing.Goals as goal
 

@@ -3,7 +3,7 @@ use Rattle.std.specs.List.{list_any}
 use Rattle.roman_model.specs.Arena.{is_justified}
 use Rattle.roman_model.specs.Certificate.{reasons}
 use Rattle.roman_lanes.specs.Rows.{is_on}
-use Rattle.roman_lanes.proofs.RowBits.{on_and, on_or}
+use Rattle.roman_lanes.proofs.CallerLemmas.{on_and, on_or}
 use Rattle.roman_check.proofs.ReasonLemmas.{only_final, one_more, and_none}
 use Rattle.roman_check.proofs.missing.missing_among.Goals as goal
 

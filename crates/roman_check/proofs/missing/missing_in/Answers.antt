@@ -3,7 +3,7 @@ use Rattle.std.specs.List.{list_any}
 use Rattle.roman_model.specs.Arena.{is_listed, is_justified}
 use Rattle.roman_model.specs.Certificate.{reasons}
 use Rattle.roman_lanes.specs.Rows.{is_on}
-use Rattle.roman_lanes.proofs.RowBits.{on_and, on_zero}
+use Rattle.roman_lanes.proofs.CallerLemmas.{on_and, on_zero}
 use Rattle.roman_check.proofs.RemainLemmas.{full_on, full_off}
 use Rattle.roman_check.proofs.ReasonLemmas.{row_starts, and_none, and_all}
 use Rattle.roman_check.proofs.missing.missing_in.Goals as goal

@@ -4,7 +4,7 @@ use Rattle.roman_model.specs.Lists.{below}
 use Rattle.roman_model.specs.Numbers.{sizes_of, pair_at}
 use Rattle.roman_model.specs.Plans.{max_over, least, choice, through}
 use Rattle.roman_model.specs.SystemArena.{is_allowed}
-use Rattle.roman_model.proofs.AdviceLemmas.{max_over_below}
+use Rattle.roman_model.proofs.CallerLemmas.{max_over_below}
 use Rattle.roman_parts.specs.Named.{NamedEnv}
 use Rattle.roman_joint.specs.NamedSys.{system_of}
 use Rattle.roman_cost.specs.Tables.{seat_costs}

@@ -1,5 +1,5 @@
 use Rattle.std.proofs.Common.{◌≡◌, ◌<◌, ◌≤◌, ℕ, Bool, Vec, Global, length, ap, sym, ◌∙◌, arith}
-use Rattle.roman_model.proofs.TableLemmas.{rank}
+use Rattle.roman_model.proofs.CallerLemmas.{rank}
 use Rattle.roman_model.specs.Numbers.{sizes_of, count}
 use Rattle.roman_joint.specs.NamedSys.{system_of}
 use Rattle.roman_cost.proofs.Ranks.{related_at, told_related, rank-le, ranks_more, pairs_taken, pairs_passed, ranks_done}

@@ -4,7 +4,7 @@ use Rattle.std.specs.Str.{bytes_eq}
 use Rattle.std.proofs.lemmas.Iterator.{YieldsList-from_slice}
 use Rattle.std.proofs.lemmas.Iterator.Search.{position_from_yields_List}
 use Rattle.roman_joint.specs.Names.{beh_name}
-use Rattle.roman_library.proofs.PlaceLemmas.{place_of-map}
+use Rattle.roman_library.proofs.CallerLemmas.{place_of-map}
 use Rattle.roman_cost.proofs.looks.place_of_behaviour.Goals as goal
 
 pub returns-clause-place : goal.returns-clause-place

@@ -1,7 +1,7 @@
 use Rattle.std.proofs.Common.{[], map}
 use Rattle.serde_json.specs.View.{items_view}
 use Rattle.roman_read.specs.Items.{each_item}
-use Rattle.roman_read.proofs.Each.{IsLeft}
+use Rattle.roman_read.proofs.CallerLemmas.{IsLeft}
 use Rattle.roman_joint.specs.Names.{beh_name}
 use Rattle.roman_cost.specs.Costs.{cost_step}
 use Rattle.roman_cost.specs.Tables.{AreOf}

@@ -5,14 +5,11 @@ use Rattle.roman_model.specs.Lists.{IsIn, below}
 use Rattle.roman_model.specs.Numbers.{sizes_of, count, pair_at}
 use Rattle.roman_model.specs.Offers.{is_related, offers}
 use Rattle.roman_model.specs.Plans.{first_least, least, choice, through}
-use Rattle.roman_model.proofs.PlanLemmas.{choice_is}
+use Rattle.roman_model.proofs.CallerLemmas.{choice_is, related_great, numbers_are_pairs, related_offers}
 use Rattle.roman_model.specs.System.{has, Sys, Pair}
 use Rattle.roman_model.specs.SystemArena.{is_allowed}
-use Rattle.roman_model.proofs.CompositionLemmas.{related_great}
-use Rattle.roman_model.proofs.NumberLemmas.{numbers_are_pairs}
-use Rattle.roman_model.proofs.OfferLemmas.{related_offers}
 use Rattle.roman_joint.specs.NamedSys.{NamedSys, IsNamedSys, system_of, seat_of}
-use Rattle.roman_generator.proofs.OfferLemmas.{has_in}
+use Rattle.roman_generator.proofs.CallerLemmas.{has_in}
 use Rattle.roman_cost.specs.Tables.{seat_costs}
 use Rattle.roman_cost.specs.declared.costs.Listed.{Listed}
 use Rattle.roman_cost.proofs.Best.{best_of, best_of-taken, best_of-passed, best_of-first}

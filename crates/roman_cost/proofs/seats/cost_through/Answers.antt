@@ -1,8 +1,7 @@
 use Rattle.std.proofs.Common.{◌≢◌, ◌<◌, [], get_or, All, ◌∙◌, subst, arith}
 use Rattle.roman_model.specs.Lists.{IsIn}
 use Rattle.roman_model.specs.Numbers.{sizes_of, pair_at}
-use Rattle.roman_model.proofs.Lists.{in_map, in_flat_map}
-use Rattle.roman_model.proofs.SystemLemmas.{allowed_in_range}
+use Rattle.roman_model.proofs.CallerLemmas.{in_map, in_flat_map, allowed_in_range}
 use Rattle.roman_joint.specs.NamedSys.{system_of}
 use Rattle.roman_joint.specs.Outcomes.{outcome_number, outcome_numbers}
 use Rattle.roman_cost.specs.Filling.{IsRanked}

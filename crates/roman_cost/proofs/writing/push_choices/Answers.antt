@@ -4,7 +4,7 @@ use Rattle.roman_parts.specs.Named.{NamedEnv}
 use Rattle.roman_joint.specs.NamedSys.{system_of}
 use Rattle.roman_cost.specs.AdviceText.{choice_line}
 use Rattle.roman_cost.specs.Tables.{seat_costs}
-use Rattle.roman_text.proofs.Filling.{fill_behind, fill_same, fill_more, fill_failed, fill_end}
+use Rattle.roman_text.proofs.CallerLemmas.{fill_behind, fill_same, fill_more, fill_failed, fill_end}
 use Rattle.roman_cost.proofs.Lines.{choices_from, as_taken, choices_begin, next_choice, next_unallowed, no_choice}
 use Rattle.roman_cost.proofs.writing.push_choices.Goals as goal
 

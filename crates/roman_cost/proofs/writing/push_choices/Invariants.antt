@@ -5,7 +5,7 @@ use Rattle.roman_model.specs.Plans.{allowed_actions}
 use Rattle.roman_joint.specs.NamedSys.{system_of}
 use Rattle.roman_cost.specs.AdviceText.{choice_line}
 use Rattle.roman_cost.specs.Tables.{seat_costs}
-use Rattle.roman_text.proofs.Filling.{IsFilling}
+use Rattle.roman_text.proofs.CallerLemmas.{IsFilling}
 use Rattle.roman_cost.proofs.Lines.{choices_from}
 use Rattle.roman_cost.proofs.writing.push_choices.Given as goal
 

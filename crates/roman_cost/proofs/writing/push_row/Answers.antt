@@ -1,6 +1,6 @@
 use Rattle.std.proofs.Common.{◌≡◌, ℕ, ◌<◌, ◌+◌, List, length, get_or, sym, ap, ◌∙◌, subst, arith}
 use Rattle.roman_model.specs.Lists.{IsIn}
-use Rattle.roman_text.proofs.Filling.{fill_same, fill_more, fill_failed}
+use Rattle.roman_text.proofs.CallerLemmas.{fill_same, fill_more, fill_failed}
 use Rattle.roman_cost.proofs.Lines.{next_value}
 use Rattle.roman_cost.proofs.Rows.{in_at}
 use Rattle.roman_cost.proofs.writing.push_row.Goals as goal

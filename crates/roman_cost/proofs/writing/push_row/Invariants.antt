@@ -4,7 +4,7 @@ use Rattle.roman_model.specs.Plans.{Costs, least_at}
 use Rattle.roman_model.specs.System.{Sys}
 use Rattle.roman_cost.specs.AdviceText.{value_line, value_lines}
 use Rattle.roman_cost.specs.Advised.{Advises}
-use Rattle.roman_text.proofs.Filling.{IsFilling}
+use Rattle.roman_text.proofs.CallerLemmas.{IsFilling}
 use Rattle.roman_cost.proofs.writing.push_row.Given as goal
 
 -- the lines of the pairs so far are taken

@@ -5,7 +5,7 @@ use Rattle.roman_model.specs.Plans.{Costs}
 use Rattle.roman_model.specs.System.{Sys}
 use Rattle.roman_cost.specs.AdviceText.{value_lines, certificate_text}
 use Rattle.roman_cost.specs.Advised.{Advises}
-use Rattle.roman_text.proofs.Filling.{IsFilling}
+use Rattle.roman_text.proofs.CallerLemmas.{IsFilling}
 use Rattle.roman_cost.proofs.writing.push_values.Given as goal
 
 -- the lines of the numbers of requests so far are taken

@@ -5,12 +5,11 @@ use Rattle.roman_model.specs.Lists.{IsIn}
 use Rattle.roman_model.specs.System.{Env, Beh, Seat, Pair, has}
 use Rattle.roman_model.specs.SystemArena.{env_next, beh_next, is_allowed}
 use Rattle.roman_model.specs.Numbers.{Sizes, sizes_of, count, number, pair_at}
-use Rattle.roman_model.proofs.SystemLemmas.{allowed_in_range}
-use Rattle.roman_model.proofs.NumberLemmas.{numbers_are_pairs}
+use Rattle.roman_model.proofs.CallerLemmas.{allowed_in_range, numbers_are_pairs}
 use Rattle.roman_parts.specs.Named.{NamedEnv, NamedBeh, NamedTarget}
 use Rattle.roman_radix.specs.Radix.{moved}
 use Rattle.roman_joint.specs.NamedSys.{NamedSys, system_of}
-use Rattle.roman_joint.proofs.BehaviourLemmas.{Behaves, behaves, seat_within}
+use Rattle.roman_joint.proofs.CallerLemmas.{Behaves, behaves, seat_within}
 use Rattle.roman_generator.proofs.MoveLemmas.{ready_seat, state_within, size_of_seat, env_stays, seat_stays, same_seat, has_below, all_move}
 use Rattle.roman_generator.proofs.moves.next_pair.Goals as goal
 

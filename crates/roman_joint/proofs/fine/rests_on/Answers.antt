@@ -2,7 +2,7 @@ use Rattle.std.proofs.Common.{◌<◌, ◌≤◌, ◌&&◌, ◌||◌, slice_get,
 use Rattle.roman_model.specs.Numbers.{sizes_of}
 use Rattle.roman_joint.specs.NamedSys.{system_of}
 use Rattle.roman_joint.specs.Rows.{low_in, may_rest}
-use Rattle.roman_lanes.proofs.RowBits.{on_zero}
+use Rattle.roman_lanes.proofs.CallerLemmas.{on_zero}
 use Rattle.roman_joint.proofs.SplitLemmas.{joint_sizes}
 use Rattle.roman_joint.proofs.LeadLemmas.{lane_part}
 use Rattle.roman_joint.proofs.GoodLemmas.{low_few, within, full_on}

@@ -3,11 +3,11 @@ use Rattle.std.proofs.lemmas.Bool.{le-ltb, lt-ltb}
 use Rattle.std.proofs.lemmas.Nat.{mod_below}
 use Rattle.roman_model.specs.Numbers.{sizes_of}
 use Rattle.roman_radix.specs.Radix.{stride_of}
-use Rattle.roman_radix.proofs.Strides.{AreSizes-index}
+use Rattle.roman_radix.proofs.CallerLemmas.{AreSizes-index}
 use Rattle.roman_lanes.specs.Rows.{is_on}
 use Rattle.roman_joint.specs.NamedSys.{system_of}
 use Rattle.roman_joint.specs.Rows.{lane_has_state, may_rest}
-use Rattle.roman_lanes.proofs.RowBits.{on_zero}
+use Rattle.roman_lanes.proofs.CallerLemmas.{on_zero}
 use Rattle.roman_joint.proofs.SplitLemmas.{joint_sizes}
 use Rattle.roman_joint.proofs.GoodLemmas.{within, below_more, state_is}
 use Rattle.roman_joint.proofs.AllowedLemmas.{same_state}

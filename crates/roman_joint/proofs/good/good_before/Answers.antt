@@ -1,6 +1,6 @@
 use Rattle.std.proofs.Common.{get_or, length, IsFalse, sym, ◌∙◌, arith}
 use Rattle.roman_model.specs.Lists.{is_empty}
-use Rattle.roman_model.proofs.Lists.{not_empty_in, empty_is}
+use Rattle.roman_model.proofs.CallerLemmas.{not_empty_in, empty_is}
 use Rattle.roman_joint.specs.NamedSys.{system_of}
 use Rattle.roman_joint.proofs.Finds.{in_at}
 use Rattle.roman_joint.proofs.SeatLemmas.{len_empty}

@@ -2,7 +2,7 @@ use Rattle.std.proofs.Common.{arith}
 use Rattle.std.proofs.lemmas.List.{length-map}
 use Rattle.roman_model.specs.System.{Seat}
 use Rattle.roman_model.specs.Numbers.{sizes_of}
-use Rattle.roman_radix.proofs.RowLemmas.{low_of-le}
+use Rattle.roman_radix.proofs.CallerLemmas.{low_of-le}
 use Rattle.roman_joint.specs.NamedSys.{system_of, seat_of}
 use Rattle.roman_joint.proofs.good.serving.Goals as goal
 

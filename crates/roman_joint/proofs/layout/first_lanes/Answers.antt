@@ -2,7 +2,7 @@ use Rattle.std.proofs.Common.{◌≡◌, ◌/◌, ◌%◌, Bool, true, false, co
 use Rattle.std.proofs.lemmas.Bool.{cases_eq}
 use Rattle.roman_lanes.specs.Rows.{is_on}
 use Rattle.roman_joint.specs.Rows.{lane_has_state}
-use Rattle.roman_lanes.proofs.RowBits.{on_zero}
+use Rattle.roman_lanes.proofs.CallerLemmas.{on_zero}
 use Rattle.roman_joint.proofs.GoodLemmas.{state_is}
 use Rattle.roman_joint.proofs.layout.first_lanes.Goals as goal
 

@@ -2,7 +2,7 @@ use Rattle.std.proofs.Common.{◌≡◌, ℕ, ◌+◌, ◌*◌, length, ap, arit
 use Rattle.std.proofs.lemmas.List.{length-map}
 use Rattle.roman_model.specs.System.{Seat}
 use Rattle.roman_model.specs.Numbers.{sizes_of}
-use Rattle.roman_radix.proofs.RowLemmas.{low_of-le}
+use Rattle.roman_radix.proofs.CallerLemmas.{low_of-le}
 use Rattle.roman_joint.specs.NamedSys.{system_of}
 use Rattle.roman_joint.specs.Backward.{from_seat}
 use Rattle.roman_joint.specs.Marks.{MarksSeat, row_at}

@@ -3,11 +3,11 @@ use Rattle.std.proofs.Math.Bool.{and-true, and-false}
 use Rattle.roman_model.specs.Numbers.{Sizes}
 use Rattle.roman_radix.specs.Radix.{IsSizes, stride_of}
 use Rattle.roman_radix.specs.Rows.{low_of}
-use Rattle.roman_radix.proofs.RowLemmas.{lanes_few}
+use Rattle.roman_radix.proofs.CallerLemmas.{lanes_few}
 use Rattle.roman_lanes.specs.Rows.{is_on}
 use Rattle.roman_joint.specs.Rows.{lane_has_state, AreRowsOf}
 use Rattle.roman_joint.specs.declared.layout.Rows.{Rows}
-use Rattle.roman_lanes.proofs.RowBits.{on_and}
+use Rattle.roman_lanes.proofs.CallerLemmas.{on_and}
 use Rattle.roman_joint.proofs.LeadLemmas.{stride_positive}
 use Rattle.roman_joint.proofs.GoodLemmas.{full_on, full_off, state_below, state_shift}
 use Rattle.roman_joint.proofs.states.state_lanes.Goals as goal

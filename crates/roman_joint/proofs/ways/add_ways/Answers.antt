@@ -5,7 +5,7 @@ use Rattle.std.proofs.lemmas.Bool.{cases_eq}
 use Rattle.std.proofs.lemmas.Bool.Decides.{nat_tests}
 use Rattle.std.proofs.lemmas.List.{get_or-set_same, get_or-set_other, length-set}
 use Rattle.roman_lanes.specs.Rows.{is_on}
-use Rattle.roman_lanes.proofs.RowBits.{on_or}
+use Rattle.roman_lanes.proofs.CallerLemmas.{on_or}
 use Rattle.roman_joint.proofs.WordLemmas.{some_more}
 use Rattle.roman_joint.proofs.ways.add_ways.Goals as goal
 

@@ -2,7 +2,7 @@ use Rattle.std.proofs.Common.{◌≡◌, ◌+◌, ◌-◌, Bool, true, false, no
 use Rattle.roman_lanes.specs.Rows.{is_on}
 use Rattle.roman_joint.specs.declared.moves.Move.{Move}
 use Rattle.roman_joint.proofs.Finds.{in_at}
-use Rattle.roman_lanes.proofs.RowBits.{on_and}
+use Rattle.roman_lanes.proofs.CallerLemmas.{on_and}
 use Rattle.roman_joint.proofs.WordLemmas.{alive_more, all_pass}
 use Rattle.roman_joint.proofs.words.moves_alive.Goals as goal
 

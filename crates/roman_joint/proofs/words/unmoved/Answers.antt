@@ -1,5 +1,5 @@
 use Rattle.std.proofs.Common.{arith}
-use Rattle.roman_lanes.proofs.RowBits.{on_or, on_not}
+use Rattle.roman_lanes.proofs.CallerLemmas.{on_or, on_not}
 use Rattle.std.specs.Int.{bit_not, w64}
 use Rattle.roman_joint.proofs.words.unmoved.Goals as goal
 

@@ -1,5 +1,5 @@
 use Rattle.std.proofs.Common.{arith}
-use Rattle.roman_lanes.proofs.RowBits.{on_or}
+use Rattle.roman_lanes.proofs.CallerLemmas.{on_or}
 use Rattle.roman_joint.proofs.words.with_lanes.Goals as goal
 
 pub returns-then-is_in : goal.returns-then-is_in

@@ -3,7 +3,7 @@ use Rattle.std.specs.List.{list_any}
 use Rattle.roman_model.specs.Lists.{below, is_empty}
 use Rattle.roman_model.specs.SystemArena.{beh_next}
 use Rattle.roman_model.specs.declared.limits.TheConstants.{MAX_STATES}
-use Rattle.roman_parts.proofs.NormalLemmas.{IsOver-states}
+use Rattle.roman_parts.proofs.CallerLemmas.{IsOver-states}
 use Rattle.roman_multi.proofs.ListLemmas.{any_at}
 use Rattle.roman_multi.proofs.asking.uses.Goals as goal
 

@@ -1,6 +1,6 @@
 use Rattle.std.proofs.Common.{◌≡◌, ◌≤◌, ap, ◌∙◌, length, arith}
 use Rattle.roman_model.specs.declared.limits.TheConstants.{MAX_STATES}
-use Rattle.roman_parts.proofs.NormalLemmas.{IsOver-states}
+use Rattle.roman_parts.proofs.CallerLemmas.{IsOver-states}
 use Rattle.roman_multi.proofs.behaviours.finals_of.Goals as goal
 
 pub overflow_cast-b-end : goal.overflow_cast-b-end

@@ -3,7 +3,7 @@ use Rattle.std.proofs.lemmas.List.{length-map}
 use Rattle.roman_model.specs.Lists.{below, product_of}
 use Rattle.roman_model.specs.Combined.{target_sizes}
 use Rattle.roman_multi.specs.Combining.{machines, combined_state_names}
-use Rattle.roman_model.proofs.Lists.{length-below}
+use Rattle.roman_model.proofs.CallerLemmas.{length-below}
 use Rattle.roman_multi.proofs.MoveLemmas.{requests_in_range}
 use Rattle.roman_multi.proofs.combining.names_of.Goals as goal
 

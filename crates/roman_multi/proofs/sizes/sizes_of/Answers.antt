@@ -1,7 +1,7 @@
 use Rattle.std.proofs.Common.{◌≡◌, ◌≤◌, ◌++◌, ◌∷◌, [], ap, ◌∙◌, sym, length, get_or, take, arith}
 use Rattle.roman_model.specs.Combined.{target_sizes}
 use Rattle.roman_model.specs.declared.limits.TheConstants.{MAX_STATES}
-use Rattle.roman_parts.proofs.NormalLemmas.{IsOver-states}
+use Rattle.roman_parts.proofs.CallerLemmas.{IsOver-states}
 use Rattle.roman_multi.specs.Combining.{IsKnown, machines}
 use Rattle.roman_multi.specs.declared.parts.Named.{Named}
 use Rattle.roman_multi.proofs.KnownLemmas.{known_more, sizes_more}

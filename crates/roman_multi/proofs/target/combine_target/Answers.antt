@@ -5,7 +5,7 @@ use Rattle.roman_model.specs.Numbers.{states_at}
 use Rattle.roman_model.specs.declared.limits.TheConstants.{MAX_STATES, MAX_ACTIONS}
 use Rattle.roman_model.specs.declared.request.Request.{Request}
 use Rattle.roman_model.specs.System.{IsDeterministic}
-use Rattle.roman_model.proofs.CombinedLaws.{combined_system}
+use Rattle.roman_model.proofs.CallerLemmas.{combined_system}
 use Rattle.roman_multi.specs.Combining.{machines}
 use Rattle.roman_multi.specs.Lists.{listed_moves, next_of_all}
 use Rattle.roman_multi.proofs.KnownLemmas.{several, several_is}

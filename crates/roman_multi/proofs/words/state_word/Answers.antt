@@ -4,7 +4,7 @@ use Rattle.std.proofs.lemmas.List.{take_all}
 use Rattle.std.proofs.lemmas.Option.{get_or_from_slice_get}
 use Rattle.roman_model.specs.Combined.{target_sizes}
 use Rattle.roman_model.specs.Numbers.{states_at}
-use Rattle.roman_model.proofs.NumberLemmas.{length-states_at}
+use Rattle.roman_model.proofs.CallerLemmas.{length-states_at}
 use Rattle.roman_multi.specs.Combining.{joined, machines, names_at}
 use Rattle.roman_multi.proofs.KnownLemmas.{sizes_length}
 use Rattle.roman_multi.proofs.FlatLemmas.{part_is, part_below}

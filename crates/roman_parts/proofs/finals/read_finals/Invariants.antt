@@ -3,7 +3,7 @@ use Rattle.std.proofs.Common.{◌<◌, [], length}
 use Rattle.std.specs.List.{All}
 use Rattle.serde_json.specs.View.{items_view}
 use Rattle.roman_read.specs.Items.{each_item, pushing}
-use Rattle.roman_read.proofs.Each.{IsLeft}
+use Rattle.roman_read.proofs.CallerLemmas.{IsLeft}
 use Rattle.roman_parts.specs.Lists.{place_in}
 use Rattle.roman_parts.specs.declared.error.List.TheVariants.{Finals}
 use Rattle.roman_parts.proofs.finals.read_finals.Given as goal

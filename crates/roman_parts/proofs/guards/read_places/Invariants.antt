@@ -2,7 +2,7 @@
 use Rattle.std.proofs.Common.{[]}
 use Rattle.serde_json.specs.View.{items_view}
 use Rattle.roman_read.specs.Items.{each_item, pushing}
-use Rattle.roman_read.proofs.Each.{IsLeft}
+use Rattle.roman_read.proofs.CallerLemmas.{IsLeft}
 use Rattle.roman_parts.specs.Guards.{state_in}
 use Rattle.roman_parts.proofs.guards.read_places.Given as goal
 

@@ -2,7 +2,7 @@
 use Rattle.std.proofs.Common.{◌≡◌, [], length}
 use Rattle.serde_json.specs.View.{items_view}
 use Rattle.roman_read.specs.Items.{each_item}
-use Rattle.roman_read.proofs.Each.{IsLeft}
+use Rattle.roman_read.proofs.CallerLemmas.{IsLeft}
 use Rattle.roman_parts.specs.Lists.{name_step}
 use Rattle.roman_parts.proofs.names.read_names.Given as goal
 

@@ -2,7 +2,7 @@
 use Rattle.std.proofs.Common.{[], length, map}
 use Rattle.serde_json.specs.View.{items_view}
 use Rattle.roman_read.specs.Items.{each_item, pushing}
-use Rattle.roman_read.proofs.Each.{IsLeft}
+use Rattle.roman_read.proofs.CallerLemmas.{IsLeft}
 use Rattle.roman_parts.specs.Listed.{triple_of, AreTriples}
 use Rattle.roman_parts.specs.Steps.{triple_item}
 use Rattle.roman_parts.proofs.steps.read_triples.Given as goal

@@ -1,5 +1,5 @@
 use Rattle.std.proofs.Common.{◌≡◌, ◌++◌, drop}
-use Rattle.roman_text.proofs.Filling.{IsFilling}
+use Rattle.roman_text.proofs.CallerLemmas.{IsFilling}
 use Rattle.roman_rank.specs.DepthText.{level_lines}
 use Rattle.roman_rank.proofs.text.push_levels.Given as goal
 

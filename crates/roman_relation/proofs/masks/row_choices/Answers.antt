@@ -1,7 +1,7 @@
 use Rattle.std.proofs.Common.{◌≡◌, ◌+◌, ◌*◌, length, sum_by, ap, ◌∙◌, arith}
 use Rattle.roman_model.specs.Lists.{below}
 use Rattle.roman_model.specs.Arena.{is_listed, mask}
-use Rattle.roman_rules.proofs.Serving.{sum_below_more, sum_turned}
+use Rattle.roman_rules.proofs.CallerLemmas.{sum_below_more, sum_turned}
 use Rattle.roman_relation.proofs.Lanes.{words_rows}
 use Rattle.roman_relation.proofs.masks.row_choices.Goals as goal
 

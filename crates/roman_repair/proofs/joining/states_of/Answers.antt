@@ -1,6 +1,6 @@
 use Rattle.std.proofs.Common.{length, ap, ◌∙◌, arith}
 use Rattle.roman_model.specs.System.{Beh}
-use Rattle.roman_joint.proofs.SeatLemmas.{seat_beh_read, states_range}
+use Rattle.roman_joint.proofs.CallerLemmas.{seat_beh_read, states_range}
 use Rattle.roman_repair.proofs.joining.states_of.Goals as goal
 
 pub overflow_cast-result : goal.overflow_cast-result

@@ -1,7 +1,7 @@
 use Rattle.std.proofs.Common.{◌≡◌, ◌++◌, ◌∷◌, [], true, false, refl, sym, ap, ◌∙◌, rules}
 use Rattle.roman_model.specs.Arena.{is_listed}
 use Rattle.roman_order.specs.Board.{Board, as_entry}
-use Rattle.roman_relation.proofs.Lanes.{words_rows}
+use Rattle.roman_relation.proofs.CallerLemmas.{words_rows}
 use Rattle.roman_repair.proofs.Keeping.{possible_reason, row_and_lane, known_kept, one_kept}
 use Rattle.roman_repair.proofs.replaying.keep_asking.Goals as goal
 

@@ -1,7 +1,7 @@
 use Rattle.std.proofs.Common.{◌≡◌, [], length, sym, ap, ◌∙◌, subst, arith, rules}
 use Rattle.roman_model.specs.Arena.{replay, readings}
 use Rattle.roman_joint.specs.NamedSys.{NamedSys}
-use Rattle.roman_joint.proofs.ArenaFacts.{joint_numbered}
+use Rattle.roman_joint.proofs.CallerLemmas.{joint_numbered}
 use Rattle.roman_relation.specs.Settled.{Begins}
 use Rattle.roman_relation.specs.Greatest.{arena_of}
 use Rattle.roman_repair.specs.Replays.{AreCandidates, candidates, with_replay}

@@ -4,7 +4,7 @@ use Rattle.std.proofs.lemmas.Nat.Bits.{shr_and_one}
 use Rattle.roman_model.specs.Lists.{below}
 use Rattle.roman_model.specs.Arena.{is_justified}
 use Rattle.roman_model.specs.declared.reason.Reason.TheVariants.{Act}
-use Rattle.roman_model.proofs.ArenaLemmas.{unallowed_unjustified}
+use Rattle.roman_model.proofs.CallerLemmas.{unallowed_unjustified}
 use Rattle.roman_rules.specs.Asked.{readings_of}
 use Rattle.roman_rules.specs.Bits.{bit_of}
 use Rattle.roman_rules.proofs.Asking.{none_on, all_on, bit_off, bit_on, readings_of-allowed}

@@ -1,5 +1,5 @@
 use Rattle.std.proofs.Common.{◌++◌, [], inr, take, refl, ◌∙◌, arith, length-append, length-take-le}
-use Rattle.roman_io.proofs.SourceLemmas.{Gave-nil, Gave-then}
+use Rattle.roman_io.proofs.CallerLemmas.{Gave-nil, Gave-then}
 use Rattle.roman_session.proofs.HearingLemmas.{hearing_starts}
 use Rattle.roman_session.proofs.HearingEnds.{gave_at_most, rest_out, rest_stops_short, rest_prefixes, rest_not_read, rest_not_long, out_at_quit, gave_quit, piece_cut_off, piece_stops_short, piece_prefixes, piece_not_read}
 use Rattle.roman_session.proofs.hearing.hear.Goals as goal

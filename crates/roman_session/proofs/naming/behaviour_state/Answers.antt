@@ -2,7 +2,7 @@ use Rattle.std.proofs.Common.{◌<◌, length, ap, arith}
 use Rattle.std.proofs.lemmas.Result.{IfOk-weaker}
 use Rattle.roman_model.specs.System.{Beh}
 use Rattle.roman_joint.specs.NamedSys.{beh_at}
-use Rattle.roman_joint.proofs.SeatLemmas.{seat_beh_read, states_range}
+use Rattle.roman_joint.proofs.CallerLemmas.{seat_beh_read, states_range}
 use Rattle.roman_session.proofs.naming.behaviour_state.Goals as goal
 
 pub place-requires : goal.place-requires

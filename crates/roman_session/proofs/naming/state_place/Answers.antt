@@ -1,9 +1,9 @@
 use Rattle.std.proofs.Common.{ℕ, ◌<◌, List, Option, IfSome, length, slice_get, sym, ap, ◌∙◌, subst, arith}
 use Rattle.std.proofs.lemmas.Result.{IfOk-weaker}
 use Rattle.roman_model.specs.System.{Beh, Seat}
-use Rattle.roman_model.proofs.SystemLemmas.{seat_in}
+use Rattle.roman_model.proofs.CallerLemmas.{seat_in}
 use Rattle.roman_joint.specs.NamedSys.{system_of}
-use Rattle.roman_joint.proofs.BehaviourLemmas.{behaves}
+use Rattle.roman_joint.proofs.CallerLemmas.{behaves}
 use Rattle.roman_session.specs.Rulings.{named}
 use Rattle.roman_session.proofs.SituationLemmas.{states_named}
 use Rattle.roman_session.proofs.naming.state_place.Goals as goal

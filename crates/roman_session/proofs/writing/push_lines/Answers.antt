@@ -1,7 +1,7 @@
 use Rattle.std.proofs.Common.{◌+◌, drop, ◌∙◌, arith}
 use Rattle.roman_text.specs.Report.{line_text}
 use Rattle.roman_session.specs.Reports.{lines_text}
-use Rattle.roman_text.proofs.Filling.{fill_same, fill_more, fill_failed, fill_end}
+use Rattle.roman_text.proofs.CallerLemmas.{fill_same, fill_more, fill_failed, fill_end}
 use Rattle.roman_session.proofs.LineLemmas.{next_line, no_line}
 use Rattle.roman_session.proofs.writing.push_lines.Goals as goal
 

@@ -2,7 +2,7 @@ use Rattle.std.proofs.Common.{◌++◌, ◌+◌, length, drop, codes, sym, ◌�
 use Rattle.std.specs.List.{filter}
 use Rattle.roman_model.specs.Lists.{below}
 use Rattle.roman_session.specs.Serving.{is_set, served_text}
-use Rattle.roman_text.proofs.Filling.{fill_same, fill_more, fill_failed, fill_end}
+use Rattle.roman_text.proofs.CallerLemmas.{fill_same, fill_more, fill_failed, fill_end}
 use Rattle.roman_session.proofs.ServingLemmas.{next_set, next_unset, none_set}
 use Rattle.roman_session.proofs.writing.push_served.Goals as goal
 

@@ -2,7 +2,7 @@ use Rattle.std.proofs.Common.{◌≡◌, ◌++◌, length, drop}
 use Rattle.std.specs.List.{filter}
 use Rattle.roman_model.specs.Lists.{below}
 use Rattle.roman_session.specs.Serving.{is_set, seats_set, served_text}
-use Rattle.roman_text.proofs.Filling.{IsFilling}
+use Rattle.roman_text.proofs.CallerLemmas.{IsFilling}
 use Rattle.roman_session.proofs.writing.push_served.Given as goal
 
 -- the names of the seats so far are taken

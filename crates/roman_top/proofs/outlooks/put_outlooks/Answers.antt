@@ -4,7 +4,7 @@ use Rattle.roman_model.specs.Numbers.{sizes_of, pair_at}
 use Rattle.roman_model.specs.Without.{outlook, system_without, pair_without}
 use Rattle.roman_model.specs.declared.way.Way.TheVariants.{Freeze, Die}
 use Rattle.roman_joint.specs.NamedSys.{system_of}
-use Rattle.roman_text.proofs.Filling.{fill_behind, fill_same, fill_more, fill_failed, fill_last, fill_end, fill_whole, fill_put}
+use Rattle.roman_text.proofs.CallerLemmas.{fill_behind, fill_same, fill_more, fill_failed, fill_last, fill_end, fill_whole, fill_put}
 use Rattle.roman_whatif.specs.Left.{places}
 use Rattle.roman_whatif.specs.Told.{told}
 use Rattle.roman_top.specs.Outlooks.{outlook_words, way_word, service_names, lines_without, ones, twos}

@@ -1,5 +1,5 @@
 use Rattle.std.proofs.Common.{◌≡◌, ◌++◌, drop}
-use Rattle.roman_text.proofs.Filling.{IsFilling}
+use Rattle.roman_text.proofs.CallerLemmas.{IsFilling}
 use Rattle.roman_top.specs.Stages.{lines_of}
 use Rattle.roman_top.proofs.summary.push_stages.Given as goal
 

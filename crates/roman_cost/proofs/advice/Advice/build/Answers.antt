@@ -1,6 +1,6 @@
 use Rattle.std.proofs.Common.{◌≡◌, suc, length, ap, sym, ◌∙◌, subst, arith}
 use Rattle.roman_model.specs.Plans.{least_at}
-use Rattle.roman_model.proofs.TableLemmas.{length_rows}
+use Rattle.roman_model.proofs.CallerLemmas.{length_rows}
 use Rattle.roman_joint.specs.NamedSys.{system_of}
 use Rattle.roman_cost.specs.Advised.{value_rows}
 use Rattle.roman_cost.specs.Filling.{AreSmall}

@@ -3,7 +3,7 @@ use Rattle.std.proofs.lemmas.Nat.{mul-add-lt}
 use Rattle.std.proofs.lemmas.List.{get_or_read}
 use Rattle.roman_model.specs.Lists.{IsIn}
 use Rattle.roman_model.specs.Plans.{least_at}
-use Rattle.roman_model.proofs.TableLemmas.{length_rows}
+use Rattle.roman_model.proofs.CallerLemmas.{length_rows}
 use Rattle.roman_cost.specs.Advised.{AdviceTable}
 use Rattle.roman_cost.proofs.Ranks.{value_at}
 use Rattle.roman_cost.proofs.advice.Advice.value.Goals as goal

@@ -3,9 +3,8 @@ use Rattle.std.proofs.lemmas.Nat.Bits.{shr_and_one}
 use Rattle.std.proofs.lemmas.List.{length-map}
 use Rattle.roman_model.specs.Arena.{is_beaten}
 use Rattle.roman_model.specs.Numbers.{sizes_of, numbered}
-use Rattle.roman_radix.proofs.RowLemmas.{lanes_few}
-use Rattle.roman_rules.proofs.Serving.{sum_below_more, sum_cut, ones_counted, ones_few, served_by, none_served, action_counted, none_chosen}
-use Rattle.roman_rules.proofs.Asking.{bit_off}
+use Rattle.roman_radix.proofs.CallerLemmas.{lanes_few}
+use Rattle.roman_rules.proofs.CallerLemmas.{sum_below_more, sum_cut, ones_counted, ones_few, served_by, none_served, action_counted, none_chosen, bit_off}
 use Rattle.roman_joint.specs.NamedSys.{system_of, seat_of}
 use Rattle.roman_joint.specs.Rows.{lanes_in, AreAlive}
 use Rattle.roman_joint.proofs.ArenaFacts.{joint_numbered}

@@ -2,7 +2,7 @@ use Rattle.std.proofs.Common.{◌≡◌, ℕ, ◌*◌, ◌≤◌, Bool, not, sum
 use Rattle.roman_model.specs.Lists.{below}
 use Rattle.roman_model.specs.Numbers.{numbered}
 use Rattle.roman_lanes.specs.Rows.{AreRows}
-use Rattle.roman_rules.proofs.Serving.{served_by}
+use Rattle.roman_rules.proofs.CallerLemmas.{served_by}
 use Rattle.roman_joint.specs.NamedSys.{system_of}
 use Rattle.roman_joint.specs.Rows.{lanes_in, IsRow}
 use Rattle.roman_joint.proofs.joint.Joint.choices.Given as goal

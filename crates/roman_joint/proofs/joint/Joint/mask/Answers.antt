@@ -4,10 +4,9 @@ use Rattle.std.proofs.lemmas.List.{length-map}
 use Rattle.roman_model.specs.System.{has}
 use Rattle.roman_model.specs.Arena.{mask}
 use Rattle.roman_model.specs.Numbers.{sizes_of, numbered}
-use Rattle.roman_radix.proofs.RowLemmas.{lanes_few}
+use Rattle.roman_radix.proofs.CallerLemmas.{lanes_few}
 use Rattle.roman_lanes.specs.Rows.{is_on}
-use Rattle.roman_rules.proofs.Serving.{has_good, mask_refused, mask_more, mask_all}
-use Rattle.roman_rules.proofs.Asking.{bit_off}
+use Rattle.roman_rules.proofs.CallerLemmas.{has_good, mask_refused, mask_more, mask_all, bit_off}
 use Rattle.roman_joint.specs.NamedSys.{system_of, seat_of}
 use Rattle.roman_joint.specs.Rows.{lanes_in, AreAlive}
 use Rattle.roman_joint.proofs.ArenaFacts.{joint_numbered}

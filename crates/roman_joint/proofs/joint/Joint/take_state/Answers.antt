@@ -2,7 +2,7 @@ use Rattle.std.proofs.Common.{◌≡◌, ◌<◌, length, get_or, slice_get, sli
 use Rattle.std.proofs.lemmas.List.{length-map}
 use Rattle.roman_model.specs.System.{Seat}
 use Rattle.roman_model.specs.Numbers.{sizes_of, number}
-use Rattle.roman_model.proofs.NumberLemmas.{AreBelow-index, IsPairOf-at}
+use Rattle.roman_model.proofs.CallerLemmas.{AreBelow-index, IsPairOf-at}
 use Rattle.roman_radix.specs.Radix.{stride_of}
 use Rattle.roman_joint.specs.NamedSys.{system_of, seat_of}
 use Rattle.roman_joint.specs.Backward.{seat_prev}

@@ -6,7 +6,7 @@ use Rattle.roman_model.specs.Numbers.{sizes_of, pair_at}
 use Rattle.roman_lanes.specs.Rows.{is_on}
 use Rattle.roman_joint.specs.NamedSys.{system_of, seat_of}
 use Rattle.roman_joint.specs.Rows.{lanes_in, may_rest}
-use Rattle.roman_lanes.proofs.RowBits.{on_zero, on_and}
+use Rattle.roman_lanes.proofs.CallerLemmas.{on_zero, on_and}
 use Rattle.roman_joint.proofs.GoodLemmas.{full_on, full_off}
 use Rattle.roman_joint.proofs.AllowedLemmas.{cut_off, fine_there}
 use Rattle.roman_joint.proofs.joint.Joint.unfine.Goals as goal

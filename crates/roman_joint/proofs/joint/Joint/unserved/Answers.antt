@@ -7,7 +7,7 @@ use Rattle.roman_model.specs.Numbers.{numbered}
 use Rattle.roman_lanes.specs.Rows.{is_on}
 use Rattle.roman_joint.specs.NamedSys.{system_of, seat_of}
 use Rattle.roman_joint.specs.Rows.{lanes_in}
-use Rattle.roman_lanes.proofs.RowBits.{on_zero}
+use Rattle.roman_lanes.proofs.CallerLemmas.{on_zero}
 use Rattle.roman_joint.proofs.WordLemmas.{all_pass}
 use Rattle.roman_joint.proofs.AllowedLemmas.{turn_open, refused, judged, and_nothing, cut_off}
 use Rattle.roman_joint.proofs.joint.Joint.unserved.Goals as goal

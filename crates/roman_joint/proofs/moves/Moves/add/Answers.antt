@@ -1,5 +1,5 @@
 use Rattle.std.proofs.Common.{◌≡◌, ℕ, ◌+◌, ◌-◌, ◌<◌, ◌≤◌, length, slice_index, refl, arith}
-use Rattle.roman_radix.proofs.Strides.{AreSizes-index}
+use Rattle.roman_radix.proofs.CallerLemmas.{AreSizes-index}
 use Rattle.roman_joint.specs.Moves.{lane_moves_from}
 use Rattle.roman_joint.proofs.GoodLemmas.{state_below}
 use Rattle.roman_joint.proofs.MoveLemmas.{moves_made, ways_few}

@@ -5,7 +5,7 @@ use Rattle.std.proofs.lemmas.Nat.{and_le_l}
 use Rattle.std.specs.Int.{w64, bit_not}
 use Rattle.roman_model.specs.Arena.{Entry}
 use Rattle.roman_lanes.specs.Rows.{is_on}
-use Rattle.roman_lanes.proofs.RowBits.{on_and}
+use Rattle.roman_lanes.proofs.CallerLemmas.{on_and}
 use Rattle.roman_order.specs.Board.{as_entry, set_lanes}
 use Rattle.roman_order.specs.Sound.{entries_of}
 use Rattle.roman_order.proofs.Lanes.{IsFirstOf, without_lane, without_first, without_first-less, set_lanes-first, set_lanes-zero}

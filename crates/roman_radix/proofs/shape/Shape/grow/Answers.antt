@@ -2,7 +2,7 @@ use Rattle.std.proofs.Common.{◌≡◌, ◌+◌, ◌*◌, ◌∷◌, ◌++◌, 
 use Rattle.std.proofs.lemmas.Bool.{false≢true}
 use Rattle.std.proofs.Math.ListN.{set}
 use Rattle.roman_model.specs.Numbers.{count, grown_sizes}
-use Rattle.roman_model.proofs.NumberLemmas.{count-grown}
+use Rattle.roman_model.proofs.CallerLemmas.{count-grown}
 use Rattle.roman_radix.specs.Radix.{IsSizes}
 use Rattle.roman_radix.proofs.Tables.{Has, has_pushed, IsSizes-grown, same_sizes}
 use Rattle.roman_radix.proofs.Shown.{Shows, shown}

@@ -1,6 +1,6 @@
 use Rattle.std.proofs.Common.{List, ℕ, length, ap, subst, arith}
 use Rattle.roman_model.specs.Numbers.{sizes_of, count}
-use Rattle.roman_model.proofs.Lists.{length-below}
+use Rattle.roman_model.proofs.CallerLemmas.{length-below}
 use Rattle.roman_joint.specs.NamedSys.{system_of}
 use Rattle.roman_relation.specs.Greatest.{arena_of}
 use Rattle.roman_rank.specs.Ranking.{AreCounts}

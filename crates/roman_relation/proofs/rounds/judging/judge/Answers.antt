@@ -2,7 +2,7 @@ use Rattle.std.proofs.Common.{◌≡◌, ◌+◌, ◌*◌, false, slice_index, i
 use Rattle.std.proofs.lemmas.Bool.{cases_eq, both_ways, not_from_false}
 use Rattle.roman_model.specs.Arena.{is_listed}
 use Rattle.roman_lanes.specs.Rows.{is_on}
-use Rattle.roman_lanes.proofs.RowBits.{on_zero}
+use Rattle.roman_lanes.proofs.CallerLemmas.{on_zero}
 use Rattle.roman_relation.proofs.Lanes.{words_row}
 use Rattle.roman_order.specs.Board.{Board}
 use Rattle.roman_relation.specs.Rounds.{IsJudged}

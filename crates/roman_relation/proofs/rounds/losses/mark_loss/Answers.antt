@@ -4,9 +4,9 @@ use Rattle.std.proofs.lemmas.Nat.{mod_below, div-add-mod'}
 use Rattle.roman_model.specs.Arena.{is_listed, back as predecessors}
 use Rattle.roman_lanes.specs.Rows.{is_on, HasLanes}
 use Rattle.roman_lanes.specs.Flags.{has_flag}
-use Rattle.roman_lanes.proofs.RowBits.{on_tested, off_tested}
+use Rattle.roman_lanes.proofs.CallerLemmas.{on_tested, off_tested}
 use Rattle.roman_order.specs.Board.{Board, has_entry}
-use Rattle.roman_order.proofs.Lent.{rewritten_whole}
+use Rattle.roman_order.proofs.CallerLemmas.{rewritten_whole}
 use Rattle.roman_relation.specs.Rounds.{on_at}
 use Rattle.roman_relation.proofs.Lanes.{words_row, unlisted_row, lane_place, shaped_row}
 use Rattle.roman_relation.proofs.Marks.{IsNoted, noted_own, noted_marking}

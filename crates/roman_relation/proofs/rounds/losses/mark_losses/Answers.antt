@@ -1,7 +1,7 @@
 use Rattle.std.proofs.Common.{◌≡◌, ℕ, ◌+◌, take, drop, length, slice_get, Some, sym, ap, ◌∙◌, arith, take-append-drop}
 use Rattle.std.proofs.lemmas.List.{take_all}
 use Rattle.roman_model.specs.Arena.{Entry, fall}
-use Rattle.roman_model.proofs.WorkLemmas.{fall_append}
+use Rattle.roman_model.proofs.CallerLemmas.{fall_append}
 use Rattle.roman_order.specs.Board.{Board, as_entry}
 use Rattle.roman_relation.proofs.Marks.{noted_more, entry_listed, fall_more, entry_within}
 use Rattle.roman_relation.proofs.rounds.losses.mark_losses.Goals as goal

@@ -1,4 +1,4 @@
-use Rattle.roman_lanes.proofs.RowBits.{on_less}
+use Rattle.roman_lanes.proofs.CallerLemmas.{on_less}
 use Rattle.roman_relation.proofs.rounds.losses.without.Goals as goal
 
 pub returns : goal.returns

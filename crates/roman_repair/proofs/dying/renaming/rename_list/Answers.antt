@@ -3,12 +3,11 @@ use Rattle.roman_model.specs.Lists.{IsIn}
 use Rattle.roman_model.specs.Arena.{Entry}
 use Rattle.roman_model.specs.Change.{Die}
 use Rattle.roman_model.specs.Numbers.{Sizes, sizes_of, sizes_without, count}
-use Rattle.roman_model.proofs.Lists.{length-below}
-use Rattle.roman_model.proofs.NumberedChanges.{rename_numbers}
+use Rattle.roman_model.proofs.CallerLemmas.{length-below, rename_numbers}
 use Rattle.roman_radix.specs.Rows.{lanes_of}
 use Rattle.roman_joint.specs.NamedSys.{system_of}
 use Rattle.roman_order.specs.Board.{Board, as_entry}
-use Rattle.roman_relation.proofs.Relating.{listed_numbers}
+use Rattle.roman_relation.proofs.CallerLemmas.{listed_numbers}
 use Rattle.roman_repair.specs.Deaths.{list_with}
 use Rattle.roman_repair.proofs.DeathStates.{seat_in_sizes}
 use Rattle.roman_repair.proofs.DeathEntries.{IsRenaming, renaming_step, fewer_pairs, small_pairs}

@@ -2,7 +2,7 @@ use Rattle.std.proofs.Common.{◌≡◌, ℕ, List, sym, ap, ◌∙◌, subst}
 use Rattle.roman_model.specs.Explanation.{explain_text}
 use Rattle.roman_model.specs.Numbers.{sizes_of, number}
 use Rattle.roman_io.specs.Sink.{Puts}
-use Rattle.roman_text.proofs.PageLemmas.{Gathers-flushed, Gathers-failed}
+use Rattle.roman_text.proofs.CallerLemmas.{Gathers-flushed, Gathers-failed}
 use Rattle.roman_joint.specs.Names.{names_in}
 use Rattle.roman_session.specs.Situations.{Situation, present_system}
 use Rattle.roman_session.specs.Layout.{situation_in}

@@ -1,7 +1,7 @@
 use Rattle.std.proofs.Common.{◌<◌, ◌++◌, ℕ, List, Result, codes, length, sym, ap, subst}
 use Rattle.roman_text.specs.Lines.{with_newline}
 use Rattle.roman_text.specs.declared.replies.Reply.{Reply}
-use Rattle.roman_generator.proofs.OfferLemmas.{has_in}
+use Rattle.roman_generator.proofs.CallerLemmas.{has_in}
 use Rattle.roman_model.specs.Offers.{offers}
 use Rattle.roman_session.specs.Situations.{Situation, present_system}
 use Rattle.roman_session.specs.Steps.{Does, Hands}

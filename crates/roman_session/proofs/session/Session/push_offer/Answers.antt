@@ -1,12 +1,12 @@
 use Rattle.std.proofs.Common.{◌<◌, ◌++◌, [], length, refl, sym, ap, ◌∙◌, subst}
 use Rattle.roman_model.specs.Explanation.{name_at}
-use Rattle.roman_model.proofs.SystemLemmas.{allowed_in_range}
+use Rattle.roman_model.proofs.CallerLemmas.{allowed_in_range}
 use Rattle.roman_joint.specs.NamedSys.{NamedSys, system_of}
 use Rattle.roman_text.specs.Report.{line_text}
 use Rattle.roman_text.specs.declared.report.ReportLine.TheVariants as line
 use Rattle.roman_session.specs.Situations.{present_system}
 use Rattle.roman_session.specs.Serving.{seats_set, served_text}
-use Rattle.roman_text.proofs.Filling.{fill_behind, fill_more, fill_failed, fill_last}
+use Rattle.roman_text.proofs.CallerLemmas.{fill_behind, fill_more, fill_failed, fill_last}
 use Rattle.roman_session.proofs.LineLemmas.{offer_line_is}
 use Rattle.roman_session.proofs.SituationLemmas.{parts_shown}
 use Rattle.roman_session.proofs.session.Session.push_offer.Goals as goal

@@ -2,7 +2,7 @@ use Rattle.std.proofs.Common.{◌++◌, [], length, refl}
 use Rattle.roman_text.specs.Replies.{reply_text}
 use Rattle.roman_text.specs.declared.replies.Reply.TheVariants as reply
 use Rattle.roman_session.specs.Serving.{seats_set, served_text}
-use Rattle.roman_text.proofs.Filling.{fill_behind, fill_more, fill_failed, fill_last}
+use Rattle.roman_text.proofs.CallerLemmas.{fill_behind, fill_more, fill_failed, fill_last}
 use Rattle.roman_session.proofs.LineLemmas.{offer_text_is}
 use Rattle.roman_session.proofs.SituationLemmas.{parts_shown, offered_open}
 use Rattle.roman_session.proofs.session.Session.push_offered.Goals as goal

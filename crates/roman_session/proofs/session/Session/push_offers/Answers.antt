@@ -1,6 +1,6 @@
 use Rattle.std.proofs.Common.{◌+◌, refl, sym, ◌∙◌, arith}
 use Rattle.roman_session.specs.Reports.{offer_line, lines_text}
-use Rattle.roman_text.proofs.Filling.{fill_behind, fill_same, fill_more, fill_failed, fill_end}
+use Rattle.roman_text.proofs.CallerLemmas.{fill_behind, fill_same, fill_more, fill_failed, fill_end}
 use Rattle.roman_session.proofs.LineLemmas.{lines_from, next_offer, next_unallowed, no_offer, offers_begin, no_offers}
 use Rattle.roman_session.proofs.session.Session.push_offers.Goals as goal
 

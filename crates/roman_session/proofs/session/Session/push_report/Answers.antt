@@ -3,7 +3,7 @@ use Rattle.roman_model.specs.Offers.{is_related}
 use Rattle.roman_text.specs.declared.report.ReportLine.TheVariants as line
 use Rattle.roman_session.specs.Situations.{present_system}
 use Rattle.roman_session.specs.Reports.{service_lines, offer_lines, lines_text}
-use Rattle.roman_text.proofs.Filling.{fill_behind, fill_more, fill_failed, fill_last}
+use Rattle.roman_text.proofs.CallerLemmas.{fill_behind, fill_more, fill_failed, fill_last}
 use Rattle.roman_session.proofs.LineLemmas.{report_is}
 use Rattle.roman_session.proofs.session.Session.push_report.Goals as goal
 

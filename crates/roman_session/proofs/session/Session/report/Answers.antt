@@ -1,6 +1,6 @@
 use Rattle.std.proofs.Common.{◌++◌, ℕ, List, ap, subst}
 use Rattle.roman_io.specs.Sink.{Puts}
-use Rattle.roman_text.proofs.PageLemmas.{Puts-after_Gathered}
+use Rattle.roman_text.proofs.CallerLemmas.{Puts-after_Gathered}
 use Rattle.roman_session.specs.Reports.{report_text}
 use Rattle.roman_session.proofs.session.Session.report.Goals as goal
 

@@ -2,7 +2,7 @@ use Rattle.std.proofs.Common.{List, ℕ, ap, subst, decimal, arith, append_assoc
 use Rattle.std.proofs.lemmas.Fmt.{length-decimal-le}
 use Rattle.std.proofs.lemmas.Result.{err_from_is_err_and}
 use Rattle.roman_io.specs.Sink.{WrotePrefix}
-use Rattle.roman_io.proofs.SinkLemmas.{WrotePrefix-append}
+use Rattle.roman_io.proofs.CallerLemmas.{WrotePrefix-append}
 use Rattle.roman_text.specs.Pages.{Gathers}
 use Rattle.roman_text.proofs.PageLemmas.{Gathers-after}
 use Rattle.roman_text.proofs.page.Page.push_number_then.Goals as goal

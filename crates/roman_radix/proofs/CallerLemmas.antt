@@ -1,0 +1,8 @@
+-- What the proofs of other crates may cite of this one. All else in proofs/ can be renamed freely.
+
+-- Products of sizes, and the table of strides.
+pub use Rattle.roman_radix.proofs.Strides.{AreSizes-drop, AreSizes-index, product_more, product_positive}
+-- How a pair's number moves with its states.
+pub use Rattle.roman_radix.proofs.Moves.{Replaced, replaced}
+-- Rows and lanes.
+pub use Rattle.roman_radix.proofs.RowLemmas.{env_rows_are, exact, lanes_few, lanes_positive, low_of-le, row_below, row_div, row_least, row_mod, tails_from}

@@ -1,0 +1,39 @@
+"""What holds of the sources as a whole, and no proof says."""
+
+import re
+import unittest
+from collections import defaultdict
+from pathlib import Path
+from typing import Dict, Iterator, List
+
+from . import TOP
+
+CRATES = TOP / "crates"
+CITED = re.compile(r"Rattle\.(roman_\w+)\.proofs\.(\w+)|\b(roman_\w+)::proofs::(\w+)")
+DEFINED = re.compile(r"^(?:abbrev pub|unfoldable pub|pub record|pub data) +([A-Za-z_]+)", re.M)
+
+
+def sources(part: str, ending: str) -> Iterator[Path]:
+    """The files below one part of each crate, as its `specs`, with that ending."""
+    for folder in sorted(CRATES.glob(f"*/{part}")):
+        yield from sorted(folder.rglob(f"*{ending}"))
+
+
+class Sources(unittest.TestCase):
+    def test_other_crates_are_cited_by_their_page_for_callers(self) -> None:
+        inside: List[str] = []
+        for part, ending in (("proofs", ".antt"), ("specs", ".antt"), ("src", ".rt")):
+            for file in sources(part, ending):
+                mine = file.relative_to(CRATES).parts[0]
+                for found in CITED.finditer(file.read_text(encoding="utf-8")):
+                    crate, page = found[1] or found[3], found[2] or found[4]
+                    if crate != mine and page != "CallerLemmas":
+                        inside.append(f"{file.relative_to(TOP)}: {found[0]}")
+        self.assertEqual(inside, [])
+
+    def test_a_definition_s_name_stands_for_one_thing(self) -> None:
+        places: Dict[str, List[str]] = defaultdict(list)
+        for file in sources("specs", ".antt"):
+            for found in DEFINED.finditer(file.read_text(encoding="utf-8")):
+                places[found[1]].append(str(file.relative_to(TOP)))
+        self.assertEqual({name: where for name, where in places.items() if len(where) > 1}, {})
