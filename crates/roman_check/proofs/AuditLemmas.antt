@@ -8,7 +8,7 @@ use Rattle.roman_model.specs.Lists.{IsIn}
 use Rattle.roman_model.specs.SystemArena.{same_numbers}
 use Rattle.roman_model.specs.Arena.{Arena, Entry, is_listed, is_justified}
 use Rattle.roman_model.specs.Certificate as text
-use Rattle.roman_model.specs.Certificate.{head_line, count_line, end_line, reasons, possible_entries, entry_of, entries_on, could_be_listed, unless_over, end_fault, entry_fault, body_fault, line_fault}
+use Rattle.roman_model.specs.Certificate.{head_line, count_line, end_line, reasons, entry_of, entries_on, could_be_listed, end_fault, entry_fault, body_fault, line_fault}
 use Rattle.roman_model.proofs.CallerLemmas.{same_numbers_is, AreFew, from_possible, possible_small, entry_is_no_end, entry_of-is, entry_of_other, fault_in_body, fault_after_end}
 use Rattle.roman_model.specs.declared.reason.Reason.{Reason}
 use Rattle.roman_model.specs.declared.reason.Reason.TheVariants.{Final, Act}

@@ -6,7 +6,7 @@ use Rattle.roman_io.proofs.CallerLemmas.{Gave-then}
 use Rattle.roman_model.specs.Lines.{text_of_lines, ended_lines}
 use Rattle.roman_model.specs.Arena.{Arena}
 use Rattle.roman_model.specs.Certificate as text
-use Rattle.roman_model.specs.Certificate.{faults, cert_verdict}
+use Rattle.roman_model.specs.Certificate.{faults}
 use Rattle.roman_model.specs.declared.limits.TheConstants.{MAX_CERTIFICATE_BYTES}
 use Rattle.roman_model.proofs.CallerLemmas.{ended_lines-text, ended_lines_last, faults_none, verdict_rejected, verdict_too_long}
 use Rattle.roman_check.specs.declared.reader.Reader.{Reader}

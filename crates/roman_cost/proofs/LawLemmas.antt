@@ -1,17 +1,16 @@
 -- The text of advice tells least costs.
-use Rattle.std.proofs.Common.{◌≡◌, ℕ, ◌-◌, List, ◌++◌, codes, refl, sym, ap, map}
+use Rattle.std.proofs.Common.{◌≡◌, ℕ, ◌-◌, List, ◌++◌, codes, sym, ap}
 use Rattle.std.specs.Prelude.{suc}
 use Rattle.std.specs.List.{flat_map}
 use Rattle.roman_model.specs.Composition.{Great}
-use Rattle.roman_model.specs.Lists.{IsIn, below}
-use Rattle.roman_model.specs.Numbers.{sizes_of, count, number, pair_at}
+use Rattle.roman_model.specs.Numbers.{sizes_of, number, pair_at}
 use Rattle.roman_model.specs.Plans.{Costs, chosen, least, least_at, choice, through, allowed_actions}
 use Rattle.roman_model.specs.System.{Sys, Pair, IsSys, IsPair}
 use Rattle.roman_model.proofs.CallerLemmas.{related_great, great_related, numbers_are_pairs, choice_is, plans_least}
 use Rattle.roman_joint.specs.NamedSys.{NamedSys, system_of}
 use Rattle.roman_cost.specs.AdviceText.{worst_line, choice_line, certificate_text, advice_text}
 use Rattle.roman_cost.specs.Advised.{related_pairs}
-use Rattle.roman_cost.specs.Laws.{IsLeastCost, TellsLeast, AdviceIsLeast}
+use Rattle.roman_cost.specs.Laws.{IsLeastCost, AdviceIsLeast}
 use Rattle.roman_cost.specs.Tables.{seat_costs}
 use Rattle.roman_cost.specs.declared.costs.Listed.{Listed}
 use Rattle.roman_cost.proofs.Ranks.{in_related, from_related}

@@ -6,12 +6,12 @@ use Rattle.std.proofs.Math.Seq.{drop-cons}
 use Rattle.std.proofs.lemmas.Bool.{cond-true, cond-false}
 use Rattle.std.proofs.lemmas.List.{append-nil, drop_all, length-map}
 use Rattle.std.proofs.lemmas.Option.{slice_get-map, get_or_from_slice_get}
-use Rattle.roman_model.specs.Lists.{IsIn, below}
+use Rattle.roman_model.specs.Lists.{below}
 use Rattle.roman_model.specs.System.{Sys, Pair, IsSys}
 use Rattle.roman_model.specs.SystemArena.{is_allowed}
 use Rattle.roman_model.specs.Explanation.{name_at}
 use Rattle.roman_model.specs.Numbers.{sizes_of, count, pair_at}
-use Rattle.roman_model.specs.Offers.{is_related, offers}
+use Rattle.roman_model.specs.Offers.{is_related}
 use Rattle.roman_model.specs.Plans.{Costs, allowed_actions, least, least_at, choice, through}
 use Rattle.roman_model.specs.System as model
 use Rattle.roman_model.proofs.CallerLemmas.{related_great, length-below, get_or-below, numbers_are_pairs, choice_is}
@@ -20,11 +20,9 @@ use Rattle.roman_joint.specs.NamedSys.{NamedSys, system_of, seat_of}
 use Rattle.roman_joint.specs.Names.{seat_name}
 use Rattle.roman_joint.specs.declared.seat.Seat.{Seat}
 use Rattle.roman_cost.specs.AdviceText.{worst_line, choice_line, value_line, value_lines, certificate_text, advice_text, service_text}
-use Rattle.roman_cost.specs.Advised.{related_pairs}
 use Rattle.roman_cost.specs.Tables.{seat_costs}
 use Rattle.roman_cost.specs.declared.costs.Listed.{Listed}
 use Rattle.roman_cost.proofs.OfferedSeats.{offered}
-use Rattle.roman_cost.proofs.Ranks.{in_related}
 
 -- the places from k on
 from_place : (n k : ℕ) → k < n → drop k (below n) ≡ k ∷ drop (k + 1) (below n)

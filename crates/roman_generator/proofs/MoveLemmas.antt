@@ -1,14 +1,13 @@
 -- Becomes by a request that is served.
-use Rattle.std.proofs.Common.{◌≡◌, ◌≢◌, ℕ, zero, suc, ◌<◌, ◌≤◌, Bool, true, false, List, [], ◌∷◌, Option, Some, None, IsTrue, IsFalse, All, length, map, slice_get, slice_index, slice_set, refl, sym, ap, ap₂, ◌∙◌, subst, arith}
-use Rattle.std.specs.List.{AllZip}
+use Rattle.std.proofs.Common.{◌≡◌, ◌≢◌, ℕ, zero, suc, ◌<◌, ◌≤◌, List, [], ◌∷◌, Option, Some, None, IsTrue, IsFalse, All, length, map, slice_get, slice_index, refl, sym, ap, ◌∙◌, subst, arith}
 use Rattle.std.proofs.lemmas.List.{get_or-set_same, length-map}
 use Rattle.std.proofs.lemmas.Bool.{both_ways, not-true}
 use Rattle.std.proofs.lemmas.Option.{slice_get_within}
 use Rattle.std.proofs.lemmas.List.Elements.{All-contains}
 use Rattle.roman_model.specs.Lists.{IsIn}
-use Rattle.roman_model.proofs.CallerLemmas.{in_contains, in_env_next, from_env_next, in_beh_next, from_beh_next, from_allowed, triple_in_range, move_in_range, seat_in, numbers_are_pairs, AreBelow-length, AreBelow-index, states_below, IsPairOf-from, IsPairOf-moved, pair_at-number}
-use Rattle.roman_model.specs.System.{Sys, IsSys, Seat, Pair, IsPair, SStep, has, has_triple, has_move}
-use Rattle.roman_model.specs.SystemArena.{env_next, beh_next, is_allowed, is_ready}
+use Rattle.roman_model.proofs.CallerLemmas.{in_contains, in_env_next, from_env_next, in_beh_next, from_beh_next, seat_in, numbers_are_pairs, AreBelow-length, AreBelow-index, states_below, IsPairOf-from, IsPairOf-moved, pair_at-number}
+use Rattle.roman_model.specs.System.{Sys, IsSys, Seat, Pair, IsPair, has, has_triple, has_move}
+use Rattle.roman_model.specs.SystemArena.{env_next, beh_next, is_ready}
 use Rattle.roman_model.specs.Numbers.{sizes_of, count, number, pair_at}
 use Rattle.roman_radix.specs.Radix.{moved}
 use Rattle.roman_generator.specs.Moves.{CanMove, Becomes}

@@ -9,7 +9,7 @@ use Rattle.std.proofs.lemmas.Nat.{div_below, mod_below}
 use Rattle.std.proofs.lemmas.List.Elements.{All-from_recursion}
 use Rattle.roman_model.specs.Lists.{IsIn, product_of, is_empty}
 use Rattle.roman_model.specs.System as model
-use Rattle.roman_model.specs.System.{Env, IsBeh, is_final, all_final, IsEnv, IsDeterministic, IsSys}
+use Rattle.roman_model.specs.System.{Env, IsBeh, IsEnv, IsDeterministic, IsSys}
 use Rattle.roman_model.specs.Numbers.{sizes_of, Sizes}
 use Rattle.roman_parts.specs.Named.{NamedEnv, NamedBeh, IsOver}
 use Rattle.roman_radix.specs.Radix.{AreSizes}

@@ -1,7 +1,7 @@
 -- A system with its names, and what holds of every joint.
 use Rattle.std.specs.Prelude.{◌≡◌, ℕ, zero, suc, ◌<◌, ◌≤◌, ◌*◌, List, [], ◌∷◌, map, length, All}
 use Rattle.roman_model.specs.Lists.{HasNoRepeats}
-use Rattle.roman_model.specs.System.{Env, Beh, Sys, IsSys}
+use Rattle.roman_model.specs.System.{Beh, Sys, IsSys}
 use Rattle.roman_model.specs.System as model
 use Rattle.roman_model.specs.Numbers.{sizes_of, count}
 use Rattle.roman_model.specs.declared.limits.TheConstants.{MAX_CELLS}

@@ -1,5 +1,5 @@
 -- The library of a document of several targets combines them.
-use Rattle.std.proofs.Common.{◌≡◌, ℕ, List, length, ◌≤◌, Option, Some, None, Result, Ok, refl, sym, ap, ◌∙◌, subst}
+use Rattle.std.proofs.Common.{◌≡◌, ℕ, List, ◌≤◌, Option, Some, None, Ok, refl, sym, ap, ◌∙◌, subst}
 use Rattle.serde_json.specs.Data.{Data}
 use Rattle.roman_io.specs.Shelf.{Texts}
 use Rattle.roman_read.specs.Items.{◌>>=◌}
@@ -11,7 +11,7 @@ use Rattle.roman_multi.specs.declared.error.CombineError.{CombineError}
 use Rattle.roman_library.specs.Documents.{value_at, version_of, limit_of, environment_in, catalogue_in, targets_in, unless_broken, combined_of, parts_in, services_of, library_in, library_of}
 use Rattle.roman_library.specs.Library.{PlainLibrary}
 use Rattle.roman_library.specs.Refusals.{placed}
-use Rattle.roman_library.specs.Targets.{PlainTargets, NamesTargets, CombinesTargets, TargetsAreCombined, AcceptedNameTargets}
+use Rattle.roman_library.specs.Targets.{CombinesTargets, TargetsAreCombined, AcceptedNameTargets}
 use Rattle.roman_library.specs.declared.refusal.Part.TheVariants as part
 use Rattle.roman_library.proofs.KnownLemmas.{placed_is, environment_in_known, catalogue_known, services_known, targets_in_known}
 

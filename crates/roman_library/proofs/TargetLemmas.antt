@@ -1,5 +1,5 @@
 -- Several targets of a document, and what is made of them.
-use Rattle.std.proofs.Common.{◌≡◌, ℕ, ◌<◌, List, [], ◌∷◌, ◌++◌, map, length, get_or, All, IfSome, Option, Some, None, Result, Ok, Err, slice_get, refl, sym, ap, ◌∙◌, subst}
+use Rattle.std.proofs.Common.{◌≡◌, ℕ, ◌<◌, List, [], ◌∷◌, ◌++◌, map, length, get_or, All, IfSome, Option, Some, None, Ok, Err, slice_get, refl, sym, ap, ◌∙◌, subst}
 use Rattle.std.proofs.lemmas.List.{length-map, get_or-map}
 use Rattle.std.proofs.lemmas.List.Elements.{All-push}
 use Rattle.std.proofs.lemmas.Option.{slice_get-map}
@@ -9,15 +9,14 @@ use Rattle.roman_model.specs.System.{IsEnv}
 use Rattle.roman_model.specs.declared.request.Request.{Request}
 use Rattle.roman_parts.specs.Named.{NamedEnv, NamedBeh}
 use Rattle.roman_parts.specs.Reading.{Gives}
-use Rattle.roman_parts.specs.declared.error.PartError.{PartError}
 use Rattle.roman_multi.specs.Combining as combining
-use Rattle.roman_multi.specs.Combining.{PlainCombined, IsKnown, IsOf, Keeps, combined_behaviour, combined_parts, forbidding, machines, requests_in}
+use Rattle.roman_multi.specs.Combining.{IsKnown, Keeps, combined_behaviour, combined_parts, forbidding, requests_in}
 use Rattle.roman_multi.specs.declared.parts.Named.{Named}
 use Rattle.roman_multi.specs.declared.parts.Combined.{Combined}
 use Rattle.roman_multi.specs.declared.error.CombineError.{CombineError}
 use Rattle.roman_multi.specs.declared.error.CombineError.TheVariants as error
 use Rattle.roman_multi.proofs.CallerLemmas.{state_count, combined_behaviour_over, combined_is_system, combined_target_over}
-use Rattle.roman_library.specs.Documents.{combined_of, broken_rule, unless_broken}
+use Rattle.roman_library.specs.Documents.{combined_of, broken_rule}
 use Rattle.roman_library.specs.Library.{ArePartsOf, IsBehaviour, IsCatalogue, IsService, IsTarget, AreServices, behaviour_name}
 use Rattle.roman_library.specs.declared.library.Service.{Service}
 

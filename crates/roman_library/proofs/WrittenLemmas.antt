@@ -1,21 +1,18 @@
 -- What is written of a library means that library.
-use Rattle.std.proofs.Common.{◌≡◌, ℕ, zero, suc, ◌<◌, ◌≤◌, ◌&&◌, List, [], ◌∷◌, ◌++◌, map, length, Bool, Option, None, Some, IfSome, codes, nat_le, Result, Ok, Err, IsTrue, All, slice_get, slice_index_or, inl, inr, refl, sym, ap, ◌∙◌, subst, arith}
+use Rattle.std.proofs.Common.{◌≡◌, ℕ, zero, suc, ◌<◌, ◌≤◌, ◌&&◌, List, [], ◌∷◌, ◌++◌, map, length, Bool, Option, Some, IfSome, nat_le, Ok, IsTrue, slice_get, inl, inr, refl, sym, ap, ◌∙◌, subst, arith}
 use Rattle.std.proofs.lemmas.Bool.{and_from, le-leb}
 use Rattle.std.proofs.lemmas.List.{length-map, map_push}
-use Rattle.std.proofs.lemmas.List.Elements.{All-get_or}
-use Rattle.std.proofs.lemmas.Option.{get_or_from_slice_get}
 use Rattle.serde_json.specs.Data.{Data}
 use Rattle.roman_io.specs.Shelf.{Texts}
 use Rattle.roman_model.specs.Lists.{IsIn, HasNoRepeats}
-use Rattle.roman_model.specs.declared.limits.TheConstants.{MAX_BEHAVIOURS, MAX_SERVICES, MAX_CELLS}
+use Rattle.roman_model.specs.declared.limits.TheConstants.{MAX_CELLS}
 use Rattle.roman_model.proofs.CallerLemmas.{in_map, from_push, in_contains}
 use Rattle.roman_read.specs.Items.{◌>>=◌}
 use Rattle.roman_read.specs.Listed.{AreItems}
-use Rattle.roman_read.specs.Names.{is_name, place_of}
+use Rattle.roman_read.specs.Names.{is_name}
 use Rattle.roman_parts.specs.Lists.{place_in}
 use Rattle.roman_parts.specs.Named.{NamedEnv, NamedBeh}
-use Rattle.roman_parts.specs.Parts.{behaviour_of, name_of}
-use Rattle.roman_parts.specs.Written.{list_value, place_value, environment_value, behaviour_value, target_value, IsSayableEnv, IsSayableBeh, IsSayableTarget}
+use Rattle.roman_parts.specs.Written.{list_value, place_value, behaviour_value, IsSayableEnv, IsSayableBeh, IsSayableTarget}
 use Rattle.roman_parts.specs.declared.error.List.TheVariants as list
 use Rattle.roman_parts.proofs.CallerLemmas.{ok_place, absent_none, is_place, name_said, parts_said, get_in}
 use Rattle.roman_library.specs.Documents.{version_of, limit_in, limit_of, file_of, part_of, listed_in, new_name_of, environment_in, new_behaviour_of, behaviour_in, catalogue_in, target_in, parts_in, behaviour_place, state_of, frozen_of, rests_of, service_of, services_of, library_in}

@@ -2,7 +2,7 @@
 use Rattle.std.proofs.Common.{◌≡◌, ℕ, ◌<◌, ◌≤◌, ◌==◌, Bool, ◌&&◌, IsTrue, List, [], ◌∷◌, map, filter, sym, ap, ap₂, ◌∙◌, subst, inl, inr, refl}
 use Rattle.std.proofs.lemmas.Bool.{eq-eqb, eqb-true, and_parts, and_from}
 use Rattle.roman_model.specs.Lists.{IsIn, below}
-use Rattle.roman_model.specs.System.{Triple, Env, Move, Beh, has, has_triple, has_move, IsEnv, IsBeh, is_final}
+use Rattle.roman_model.specs.System.{Triple, Env, Move, has, has_triple, has_move, IsEnv, IsBeh, is_final}
 use Rattle.roman_model.specs.declared.limits.TheConstants.{MAX_STATES, MAX_ACTIONS}
 use Rattle.roman_model.specs.Normal.{guarded_step}
 use Rattle.roman_model.specs.Made.{env_from, beh_from}

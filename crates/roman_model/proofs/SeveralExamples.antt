@@ -8,7 +8,6 @@ use Rattle.roman_model.specs.Made.{env_from, beh_from}
 use Rattle.roman_model.specs.Offers.{offers}
 use Rattle.roman_model.specs.Several.{Several}
 use Rattle.roman_model.specs.Combined.{IsSeveral, all_requests, combined}
-use Rattle.roman_model.specs.declared.request.Request.{Request}
 use Rattle.roman_model.proofs.Examples.{room, lamp, seat_of, pair_of, related_pairs, lamp_is_system}
 
 normal_env_is : (env : Env) → normal_env env ≡ env_from env.states env.actions env.start (has_triple env)

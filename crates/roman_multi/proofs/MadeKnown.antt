@@ -1,21 +1,21 @@
 -- Combined parts that no rule forbids are in range.
-use Rattle.std.proofs.Common.{◌≡◌, ℕ, ◌<◌, ◌≤◌, Bool, true, false, cond, List, length, map, All, Option, Some, None, IsFalse, refl, sym, ap, ◌∙◌, subst}
+use Rattle.std.proofs.Common.{◌≡◌, ℕ, ◌<◌, ◌≤◌, Bool, true, false, cond, List, length, All, Some, None, IsFalse, refl, ◌∙◌, subst}
 use Rattle.roman_model.specs.Lists.{product_of}
-use Rattle.roman_model.specs.System.{Env, Beh, Sys, IsEnv, IsBeh, IsSys, IsDeterministic, is_final}
+use Rattle.roman_model.specs.System.{IsEnv, IsBeh, IsSys, is_final}
 use Rattle.roman_model.specs.Made.{beh_from}
 use Rattle.roman_model.specs.Combined.{combined, combined_beh, combined_target, target_sizes}
-use Rattle.roman_model.specs.declared.limits.TheConstants.{MAX_STATES, MAX_ACTIONS}
+use Rattle.roman_model.specs.declared.limits.TheConstants.{MAX_STATES}
 use Rattle.roman_model.specs.declared.request.Request.{Request}
 use Rattle.roman_model.proofs.CallerLemmas.{IsBeh-made, combined_system}
 use Rattle.std.proofs.lemmas.Bool.{ltb-false}
 use Rattle.roman_parts.specs.Named.{NamedEnv, NamedBeh, IsOver}
 use Rattle.roman_parts.proofs.CallerLemmas.{IsOver-states, IsOver-start}
-use Rattle.roman_multi.specs.Combining.{IsKnown, machines, requests_in, request_names, combined_state_names, has_many_states, has_bad_count, has_long_name, has_one_name, forbidding, combined_parts, combined_behaviour}
+use Rattle.roman_multi.specs.Combining.{IsKnown, machines, requests_in, has_many_states, has_bad_count, has_long_name, has_one_name, forbidding}
 use Rattle.roman_multi.specs.declared.parts.Named.{Named}
 use Rattle.roman_multi.specs.declared.error.CombineError.{CombineError}
 use Rattle.roman_multi.specs.declared.error.CombineError.TheVariants as error
 use Rattle.roman_multi.proofs.KnownLemmas.{several, several_is}
-use Rattle.roman_multi.proofs.CombineLemmas.{good_count, state_count, request_count}
+use Rattle.roman_multi.proofs.CombineLemmas.{good_count}
 
 -- no rule is broken
 pub record AreAllowed (env : NamedEnv) (targets : List Named) : Type 0 where

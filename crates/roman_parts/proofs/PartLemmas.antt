@@ -10,7 +10,7 @@ use Rattle.roman_model.specs.System.{Beh, Move, IsEnv, IsDeterministic}
 use Rattle.roman_model.specs.declared.limits.TheConstants.{MAX_STATES, MAX_ACTIONS}
 use Rattle.roman_read.specs.Items.{each_item}
 use Rattle.roman_read.specs.Json.{member_of, text_of}
-use Rattle.roman_read.specs.Names.{is_name, place_of}
+use Rattle.roman_read.specs.Names.{place_of}
 use Rattle.roman_read.specs.declared.rules.Kind.{Kind}
 use Rattle.roman_read.specs.declared.rules.Kind.TheVariants as kind
 use Rattle.roman_read.proofs.CallerLemmas.{same_ok, bind_ok}

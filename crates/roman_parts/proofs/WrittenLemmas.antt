@@ -1,10 +1,10 @@
 -- What is written of a part means that part.
-use Rattle.std.proofs.Common.{◌≡◌, ◌≢◌, ℕ, zero, suc, ◌<◌, ◌≤◌, ◌==◌, ◌&&◌, not, cond, Bool, true, false, List, [], ◌∷◌, ◌++◌, map, length, Option, None, Some, is_some, find, codes, Result, Ok, Err, IsTrue, IsFalse, slice_get, slice_index_or, inl, inr, refl, sym, ap, ◌∙◌, subst, arith, eqb-true}
+use Rattle.std.proofs.Common.{◌≡◌, ◌≢◌, ℕ, zero, suc, ◌<◌, ◌≤◌, ◌==◌, ◌&&◌, not, cond, Bool, true, false, List, [], ◌∷◌, ◌++◌, map, length, Option, None, Some, is_some, find, codes, Result, Ok, IsTrue, slice_get, inl, inr, refl, sym, ap, ◌∙◌, subst, arith, eqb-true}
 use Rattle.std.specs.List.{AllZip}
 use Rattle.std.proofs.lemmas.Bool.{and_parts, not-true, both_ways, cond-true, cond-false, eq-eqb}
 use Rattle.std.proofs.lemmas.List.{length-map}
 use Rattle.std.proofs.lemmas.Option.{same_Some}
-use Rattle.serde_json.specs.Data.{Data, string, array}
+use Rattle.serde_json.specs.Data.{Data, string}
 use Rattle.serde_json.specs.Find.{as_object}
 use Rattle.serde_json.specs.View.{items_of}
 use Rattle.roman_guard.specs.Meaning.{is_one_of, states_below}
@@ -14,7 +14,7 @@ use Rattle.roman_model.specs.Lists.{IsIn, HasNoRepeats, below}
 use Rattle.roman_model.specs.System.{Env, Beh, Triple, Move, IsEnv, IsBeh, IsDeterministic, has, has_triple, has_move, is_final}
 use Rattle.roman_model.specs.Normal.{normal_env, normal_beh}
 use Rattle.roman_model.specs.declared.limits.TheConstants.{MAX_STATES, MAX_ACTIONS, MAX_STEPS}
-use Rattle.roman_model.proofs.CallerLemmas.{by_test, same_test, none_from, find_not_found, in_contains, contains_in, filter_in, from_below, triple_listed, listed_triple, number_listed, listed_number, step_listed, listed_step}
+use Rattle.roman_model.proofs.CallerLemmas.{by_test, same_test, none_from, find_not_found, in_contains, contains_in, filter_in, from_below, triple_listed, number_listed, listed_number, step_listed, listed_step}
 use Rattle.roman_read.specs.Items.{◌>>=◌, each_item, pushing}
 use Rattle.roman_read.specs.Json.{member_of, text_of}
 use Rattle.roman_read.specs.Names.{is_name}
@@ -22,7 +22,7 @@ use Rattle.roman_read.specs.Listed.{IsListAt, AreItems}
 use Rattle.roman_read.proofs.CallerLemmas.{all_given}
 use Rattle.roman_parts.specs.Choices.{first_below, choice_between, choice_at, choice_with, choice_of, refuse_choice, single_of}
 use Rattle.roman_parts.specs.Guards.{state_in, among_of, guard_of, guarded_states}
-use Rattle.roman_parts.specs.Lists.{names_of, place_in, start_of, finals_of}
+use Rattle.roman_parts.specs.Lists.{names_of, start_of, finals_of}
 use Rattle.roman_parts.specs.Named.{NamedEnv, NamedBeh, NamedTarget, IsOver}
 use Rattle.roman_parts.specs.Normals.{Rises, IsLess, IsNormalEnv, IsNormalBeh}
 use Rattle.roman_parts.specs.Parts.{environment_of, name_of, behaviour_of, target_of}

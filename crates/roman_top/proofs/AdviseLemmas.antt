@@ -1,9 +1,9 @@
 -- Advice by costs that were read, as part of a run.
-use Rattle.std.proofs.Common.{◌≡◌, ◌≢◌, ◌↔◌, ℕ, ◌*◌, ◌<◌, ◌≤◌, inl, inr, Bool, true, false, IsTrue, IsFalse, List, [], Option, Some, IfSome, Result, Ok, Err, refl, sym, ap, ◌∙◌, subst}
+use Rattle.std.proofs.Common.{◌≡◌, ◌≢◌, ◌↔◌, ℕ, ◌*◌, ◌<◌, ◌≤◌, inl, inr, Bool, IsTrue, IsFalse, List, [], Option, Some, IfSome, Result, Ok, Err, refl, sym, ap, ◌∙◌, subst}
 use Rattle.std.proofs.lemmas.Bool.{cond-true, cond-false, lt-ltb, le-ltb, cases_lt}
 use Rattle.roman_io.specs.Faults.{HasCause}
 use Rattle.roman_io.specs.Shelf.{Texts}
-use Rattle.roman_io.specs.Sink.{Wrote, Puts}
+use Rattle.roman_io.specs.Sink.{Puts}
 use Rattle.roman_model.specs.Composition.{Great}
 use Rattle.roman_model.specs.System.{Sys, Pair, IsSys}
 use Rattle.roman_model.specs.Numbers.{sizes_of, count, pair_at}

@@ -9,10 +9,10 @@ use Rattle.roman_joint.specs.NamedSys.{cells}
 use Rattle.roman_library.specs.Documents.{library_of}
 use Rattle.roman_library.specs.Library.{PlainLibrary}
 use Rattle.roman_library.specs.declared.refusal.Refusal.{Refusal}
-use Rattle.roman_top.specs.Endings.{Writes, TurnsAway, Accepts, OpensTo, ReadsTo, Leaves, Opens, OpensLibrary, Finishes}
+use Rattle.roman_top.specs.Endings.{Accepts, Leaves, Opens, OpensLibrary, Finishes}
 use Rattle.roman_top.specs.Opening.{document_opening, library_system, limit_line}
 use Rattle.roman_top.specs.RefusalLine.{refusal_line}
-use Rattle.roman_top.specs.World.{Desk, desk}
+use Rattle.roman_top.specs.World.{desk}
 use Rattle.roman_top.specs.declared.status.Status.{Status}
 use Rattle.roman_top.specs.declared.status.Status.TheVariants as status
 use Rattle.roman_top.proofs.EndingLemmas.{told_more, told_all, opens_accepted, refused, exceeded}

@@ -1,10 +1,9 @@
 -- The lines of `resilience`, taken one after the other.
-use Rattle.std.proofs.Common.{◌≡◌, ℕ, suc, ◌+◌, ◌<◌, ◌≤◌, List, [], ◌∷◌, ◌++◌, map, length, drop, Some, slice_get, codes, decimal, refl, sym, ap, ap₂, ◌∙◌, append_assoc, add-one}
+use Rattle.std.proofs.Common.{◌≡◌, ℕ, suc, ◌+◌, ◌<◌, ◌≤◌, List, [], ◌∷◌, ◌++◌, map, length, drop, Some, slice_get, codes, decimal, refl, sym, ap, ap₂, ◌∙◌, append_assoc}
 use Rattle.std.specs.List.{flat_map}
 use Rattle.std.proofs.lemmas.List.{append-nil}
 use Rattle.std.proofs.lemmas.List.Concat.{flat_map-append}
 use Rattle.roman_model.specs.Lists.{below}
-use Rattle.roman_model.specs.Explanation.{name_at}
 use Rattle.roman_model.specs.System.{Pair}
 use Rattle.roman_model.specs.Without.{Outlook, outlook, system_without, pair_without}
 use Rattle.roman_model.specs.declared.way.Way.{Way}

@@ -1,10 +1,10 @@
 -- What a call does, from what its parts do.
-use Rattle.std.proofs.Common.{◌≡◌, ℕ, List, [], Option, None, Some, IfSome, Result, Ok, Err, inl, inr, refl, sym, subst}
+use Rattle.std.proofs.Common.{◌≡◌, ℕ, List, [], Option, None, Some, Result, Ok, Err, inl, refl, sym, subst}
 use Rattle.roman_io.specs.Faults.{HasCause}
 use Rattle.roman_io.specs.Shelf.{Texts, shelf_text}
-use Rattle.roman_io.specs.Sink.{Wrote, Puts}
+use Rattle.roman_io.specs.Sink.{Puts}
 use Rattle.roman_io.specs.Source.{Gave}
-use Rattle.roman_io.proofs.CallerLemmas.{WrotePrefix-from_Puts, Gave-nil}
+use Rattle.roman_io.proofs.CallerLemmas.{Gave-nil}
 use Rattle.roman_library.specs.Library.{PlainLibrary}
 use Rattle.roman_top.specs.Causes.{ShelfCause, InputCause, SinkCause}
 use Rattle.roman_top.specs.Command.{Job, Synth, Run, Certify, Check, Shortest, Advise, Resilience, Command, On, Make, usage_line}

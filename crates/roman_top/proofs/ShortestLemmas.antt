@@ -1,14 +1,14 @@
 -- Depths that are told, as part of a run.
-use Rattle.std.proofs.Common.{◌≡◌, ℕ, ◌<◌, List, Option, Some, Result, Ok, Err, refl, sym, ap, ◌∙◌, subst}
+use Rattle.std.proofs.Common.{◌≡◌, ℕ, ◌<◌, List, Option, Some, Result, Ok, refl, sym, ap, ◌∙◌, subst}
 use Rattle.roman_io.specs.Shelf.{Texts}
-use Rattle.roman_model.specs.System.{Sys, Pair}
+use Rattle.roman_model.specs.System.{Pair}
 use Rattle.roman_model.specs.Numbers.{sizes_of, count, pair_at}
 use Rattle.roman_model.proofs.CallerLemmas.{numbers_are_pairs}
 use Rattle.roman_joint.specs.NamedSys.{NamedSys, system_of}
 use Rattle.roman_library.specs.Library.{PlainLibrary}
 use Rattle.roman_rank.specs.DepthText.{PutsDepths}
 use Rattle.roman_start.specs.Seating.{IsSeated}
-use Rattle.roman_start.specs.Starts.{parts_of, start_pair_of}
+use Rattle.roman_start.specs.Starts.{start_pair_of}
 use Rattle.roman_start.specs.declared.seating.Seated.{Seated}
 use Rattle.roman_top.specs.Causes.{SinkCause}
 use Rattle.roman_top.specs.Command.{Shortest, On}

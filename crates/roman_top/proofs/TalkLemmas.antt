@@ -23,10 +23,10 @@ use Rattle.roman_top.specs.Faults.{IsFree, HasAnswered, HasAnsweredPrefix, HasAn
 use Rattle.roman_top.specs.Opening.{document_opening}
 use Rattle.roman_top.specs.Run.{Talks, Runs, IsSessionText, HasRun}
 use Rattle.roman_top.specs.Served.{Served, ServedBeside}
-use Rattle.roman_top.specs.World.{World, Desk, world, desk}
+use Rattle.roman_top.specs.World.{World, world, desk}
 use Rattle.roman_top.specs.declared.status.Status.{Status}
 use Rattle.roman_top.specs.declared.status.Status.TheVariants as status
-use Rattle.roman_top.proofs.EndingLemmas.{told_more, told_all, match_true, match_false, on_accepted}
+use Rattle.roman_top.proofs.EndingLemmas.{told_more, match_true, match_false, on_accepted}
 
 -- a source over a whole text has that text
 pub text_source : (told given : Option Texts) (name given_name : List ℕ) (at : ℕ) → given ≡ told → given_name ≡ name → at ≡ 0 → rest_from given given_name at ≡ rest_from told name 0

@@ -9,7 +9,7 @@ use Rattle.roman_session.specs.Starts.{IsStart}
 use Rattle.roman_session.specs.Steps.{until_quit, Step}
 use Rattle.roman_session.specs.Hearing.{heard_lines}
 use Rattle.roman_session.specs.Words.{IsOpenGreat, KeepsWord, ReportsGreat}
-use Rattle.roman_top.specs.Command.{Job, Synth, Run, Command, On}
+use Rattle.roman_top.specs.Command.{Synth, Run, Command, On}
 use Rattle.roman_top.specs.Faults.{IsFree}
 use Rattle.roman_top.specs.Opening.{Accepted, document_opening}
 use Rattle.roman_top.specs.Run.{IsSessionText, WithTexts}

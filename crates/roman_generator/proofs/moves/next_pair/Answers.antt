@@ -1,15 +1,15 @@
-use Rattle.std.proofs.Common.{◌≡◌, ℕ, ◌<◌, List, [], ◌∷◌, IsTrue, IsFalse, length, map, slice_index, inl, refl, sym, ap, ap₂, ◌∙◌, subst, arith}
+use Rattle.std.proofs.Common.{◌≡◌, ℕ, ◌<◌, List, [], ◌∷◌, IsFalse, length, slice_index, inl, refl, sym, ap, ap₂, ◌∙◌, subst, arith}
 use Rattle.std.proofs.lemmas.List.{length-map}
 use Rattle.std.proofs.lemmas.Option.{slice_get_within}
 use Rattle.roman_model.specs.Lists.{IsIn}
-use Rattle.roman_model.specs.System.{Env, Beh, Seat, Pair, has}
-use Rattle.roman_model.specs.SystemArena.{env_next, beh_next, is_allowed}
+use Rattle.roman_model.specs.System.{Beh, Seat, has}
+use Rattle.roman_model.specs.SystemArena.{env_next, beh_next}
 use Rattle.roman_model.specs.Numbers.{Sizes, sizes_of, count, number, pair_at}
 use Rattle.roman_model.proofs.CallerLemmas.{allowed_in_range, numbers_are_pairs}
-use Rattle.roman_parts.specs.Named.{NamedEnv, NamedBeh, NamedTarget}
+use Rattle.roman_parts.specs.Named.{NamedEnv, NamedTarget}
 use Rattle.roman_radix.specs.Radix.{moved}
-use Rattle.roman_joint.specs.NamedSys.{NamedSys, system_of}
-use Rattle.roman_joint.proofs.CallerLemmas.{Behaves, behaves, seat_within}
+use Rattle.roman_joint.specs.NamedSys.{system_of}
+use Rattle.roman_joint.proofs.CallerLemmas.{behaves, seat_within}
 use Rattle.roman_generator.proofs.MoveLemmas.{ready_seat, state_within, size_of_seat, env_stays, seat_stays, same_seat, has_below, all_move}
 use Rattle.roman_generator.proofs.moves.next_pair.Goals as goal
 

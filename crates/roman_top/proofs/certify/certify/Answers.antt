@@ -1,7 +1,4 @@
-use Rattle.roman_start.specs.Seating.{IsSeated}
-use Rattle.roman_top.specs.Command.{Certify}
 use Rattle.roman_top.proofs.CertifyLemmas.{certify_served}
-use Rattle.roman_top.proofs.ServedLemmas.{away_served}
 use Rattle.roman_top.proofs.certify.certify.Goals as goal
 
 pub returns-in-Ok : goal.returns-in-Ok

@@ -1,6 +1,6 @@
 use Rattle.roman_library.specs.Library.{plain}
 use Rattle.roman_session.specs.Starts.{IsStart}
-use Rattle.roman_top.proofs.OpeningLemmas.{opens_away, opens_ok, opens_none, opens_past_limit}
+use Rattle.roman_top.proofs.OpeningLemmas.{opens_away, opens_none, opens_past_limit}
 use Rattle.roman_top.proofs.opening.open_session.Goals as goal
 
 pub returns-in-Err-clause-opens : goal.returns-in-Err-clause-opens

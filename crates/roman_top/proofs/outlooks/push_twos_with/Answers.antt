@@ -1,14 +1,9 @@
-use Rattle.std.proofs.Common.{◌≡◌, ℕ, ◌+◌, ◌<◌, ◌≤◌, List, [], ◌∷◌, ◌++◌, map, length, drop, codes, refl, sym, ap, ap₂, ◌∙◌, arith}
-use Rattle.roman_model.specs.Lists.{below}
+use Rattle.std.proofs.Common.{◌≡◌, ℕ, ◌+◌, ◌<◌, ◌≤◌, List, [], ◌∷◌, ◌++◌, length, ◌∙◌, arith}
 use Rattle.roman_model.specs.Numbers.{sizes_of, pair_at}
-use Rattle.roman_model.specs.Without.{outlook, system_without, pair_without}
-use Rattle.roman_model.specs.declared.way.Way.TheVariants.{Freeze, Die}
 use Rattle.roman_joint.specs.NamedSys.{system_of}
-use Rattle.roman_text.proofs.CallerLemmas.{fill_behind, fill_same, fill_more, fill_failed, fill_last, fill_end, fill_whole, fill_put}
-use Rattle.roman_whatif.specs.Left.{places}
-use Rattle.roman_whatif.specs.Told.{told}
-use Rattle.roman_top.specs.Outlooks.{outlook_words, way_word, service_names, lines_without, ones, twos}
-use Rattle.roman_top.proofs.OutlookLemmas.{one_named, two_named, line_pieces, both_lines, head_pieces, each_next, each_end, all_next, all_end, text_pieces}
+use Rattle.roman_text.proofs.CallerLemmas.{fill_same, fill_more, fill_failed, fill_end}
+use Rattle.roman_top.specs.Outlooks.{lines_without}
+use Rattle.roman_top.proofs.OutlookLemmas.{each_next, each_end}
 use Rattle.roman_top.proofs.outlooks.push_twos_with.Goals as goal
 
 pub returns-in-Err-clause-gathers : goal.returns-in-Err-clause-gathers

@@ -1,7 +1,6 @@
 use Rattle.std.proofs.Common.{◌<◌, sym, subst}
 use Rattle.roman_model.specs.Numbers.{sizes_of, count}
 use Rattle.roman_joint.specs.NamedSys.{NamedSys, system_of}
-use Rattle.roman_top.specs.Command.{Resilience}
 use Rattle.roman_top.proofs.ResilienceLemmas.{foresee_served}
 use Rattle.roman_top.proofs.resilience.foresee.Goals as goal
 
