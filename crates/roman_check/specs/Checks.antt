@@ -1,5 +1,5 @@
 -- What a check says of what its source had.
-use Rattle.std.specs.Prelude.{◌≡◌, ℕ, ◌≤◌, List, [], length, Option, Result, Ok, Err}
+use Rattle.std.specs.Prelude.{◌≡◌, ℕ, List, [], length, Option, Result, Ok, Err}
 use Rattle.roman_io.specs.Faults.{Rose}
 use Rattle.roman_io.specs.Source.{Gave, Had}
 use Rattle.roman_model.specs.Lines.{ended_lines}

@@ -32,7 +32,6 @@ pub(crate) fn choices<J: Rules>(joint: &J, order: &Order) -> u64
         result ≡ choices A (is_listed A order.now.list) }
 {
     joint.known();
-    joint.lanes();
     let mut count = 0;
     for x in 0..joint.rows() {
         count += row_choices(joint, order, x);
@@ -50,7 +49,6 @@ fn row_choices<J: Rules>(joint: &J, order: &Order, x: u32) -> u64
     ensures bound { result ≤ 65536 }
 {
     joint.known();
-    joint.lanes();
     order.known();
     let row = joint.row(x);
     let words = order.words();

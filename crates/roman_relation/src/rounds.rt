@@ -28,7 +28,6 @@ pub fn begin_rounds<J: Rules>(joint: &J, order: &mut Order)
     ensures lost { order.old.list ≡ [] → HoldsLost (J.arena joint.now) 0 order.new.list }
 {
     joint.known();
-    joint.lanes();
     list_unfine(joint, order);
     order.keep_before();
     order.mark_front(joint.rows());

@@ -147,7 +147,7 @@ impl Asked {
         ensures cost { let A = J.arena joint.now in let lanes = J.lanes joint.now in
             steps.new ≤ steps.old + readings_of_reason A (x * lanes + lane) reason }
     {
-        joint.lanes();
+        joint.known();
         let lanes = ask_row(joint, words, x, reason, steps);
         *self = Asked {
             row: x,

@@ -49,7 +49,8 @@ pub trait Rules {
 
     /// Tells a prover what all systems have in common. It does nothing.
     fn known(&self)
-        ensures { IsNumbered (arena self.now) };
+        ensures numbered { IsNumbered (arena self.now) }
+        ensures lanes { (0 < lanes self.now) × (lanes self.now ≤ 64) };
 
     /// How many pairs there are.
     fn pairs(&self) -> u32

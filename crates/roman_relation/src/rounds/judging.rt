@@ -22,7 +22,7 @@ pub(crate) fn judge_marked<J: Rules>(joint: &J, order: &mut Order)
         (start p : ℕ) → InRound A (J.lanes joint.now) start order.old → p < length A.nodes →
         is_marked order.old (p / J.lanes joint.now) ≡ true → IsPairJudged A start order.new p }
 {
-    joint.lanes();
+    joint.known();
     let rows = joint.rows();
     'rows: while let Some(x) = order.next_marked() {
         judge_if(joint, order, x, x < rows);
@@ -59,7 +59,6 @@ fn judge<J: Rules>(joint: &J, order: &mut Order, x: u32)
         IsPairJudged A start order.new (x * J.lanes joint.now + lane) }
 {
     joint.known();
-    joint.lanes();
     order.known();
     if order.words()[x as usize] == 0 {
         return;
@@ -88,7 +87,6 @@ fn judge_on<J: Rules>(joint: &J, order: &mut Order, row: &J::Row, x: u32, a: u8,
         IsJudged A start order.new (x * J.lanes joint.now + lane) a }
 {
     joint.known();
-    joint.lanes();
     order.known();
     if !is_allowed {
         return;

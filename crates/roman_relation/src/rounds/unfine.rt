@@ -20,7 +20,7 @@ pub(crate) fn list_unfine<J: Rules>(joint: &J, order: &mut Order)
         (p : ℕ) → IsTrue (is_listed A order.new.list p) →
         IsTrue (is_listed A order.old.list p) ⊎ IsFalse (A.fine p) }
 {
-    joint.lanes();
+    joint.known();
     for x in 0..joint.rows() {
         list_unfine_row(joint, order, x);
     }
@@ -41,7 +41,6 @@ fn list_unfine_row<J: Rules>(joint: &J, order: &mut Order, x: u32)
         IsTrue (is_listed A order.old.list p) ⊎ IsFalse (A.fine p) }
 {
     joint.known();
-    joint.lanes();
     order.known();
     let row = joint.row(x);
     let lost = joint.unfine(&row) & order.words()[x as usize];

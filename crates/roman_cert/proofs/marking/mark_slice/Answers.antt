@@ -11,7 +11,7 @@ loop-i-preserved g c =
     let list : c.loop-i.order.list ≡ L = ap (λ (b : Board). b.list) c.loop-i.invariant.rest in
     let begun : length c.mark.new.self.list ≡ length L = ap (λ (b : Board). length b.list) (c.mark.ensures.rest ∙ ap (λ (b : Board). record b { marks = c.mark.new.self.marks }) c.clear_marks.ensures.rest) in
     record {
-      marked = rests_back A (numbered_same A c.known.ensures) L c.requires.valid c.args.p c.loop-i.order.list c.loop-i.i (is_marked c.loop-i.order) (is_marked c.visit.new.order) list c.loop-i-test.true
+      marked = rests_back A (numbered_same A c.known.ensures.numbered) L c.requires.valid c.args.p c.loop-i.order.list c.loop-i.i (is_marked c.loop-i.order) (is_marked c.visit.new.order) list c.loop-i-test.true
           (omega (arith, c.len-i.ensures.value)) c.loop-i.invariant.marked c.visit.ensures.marked;
       rest = c.visit.ensures.rest ∙ ap (λ (b : Board). record b { marks = c.visit.new.order.marks }) c.loop-i.invariant.rest;
     }
@@ -21,4 +21,4 @@ returns-clause-marked g c q =
     let A = g.J.Rules.arena c.args.joint.now in
     let L = c.args.order.now.list in
     let first : c.loop-i.i ≡ 0 = omega arith in
-    c.loop-i.invariant.marked q ∙ ap (λ i. rests_from A L c.args.p i q) first ∙ rests_all A (numbered_same A c.known.ensures) L c.requires.valid c.args.p q
+    c.loop-i.invariant.marked q ∙ ap (λ i. rests_from A L c.args.p i q) first ∙ rests_all A (numbered_same A c.known.ensures.numbered) L c.requires.valid c.args.p q

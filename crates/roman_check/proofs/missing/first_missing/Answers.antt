@@ -9,12 +9,12 @@ use Rattle.roman_check.proofs.missing.first_missing.Goals as goal
 
 pub missing_in-missing-requires-clause-row : goal.missing_in-missing-requires-clause-row
 missing_in-missing-requires-clause-row g c =
-    row_among c.loop-x.x c.rows-x-end.result (length c.args.words.now) (g.J.Rules.lanes c.args.joint.now) c.loop-x-test.true (omega (arith, c.lanes-lanes.ensures.few, c.lanes-lanes.ensures.value)) (c.rows-x-end.ensures ∙ sym c.requires)
+    row_among c.loop-x.x c.rows-x-end.result (length c.args.words.now) (g.J.Rules.lanes c.args.joint.now) c.loop-x-test.true c.known.ensures.lanes.0 (c.rows-x-end.ensures ∙ sym c.requires)
 
 pub overflow_mul-result : goal.overflow_mul-result
 overflow_mul-result g c =
     let ends : c.loop-x.x * g.J.Rules.lanes c.args.joint.now + g.J.Rules.lanes c.args.joint.now ≤ length (g.J.Rules.arena c.args.joint.now).nodes = row_ends c.loop-x.x c.rows-x-end.result (g.J.Rules.lanes c.args.joint.now) _ c.loop-x-test.true c.rows-x-end.ensures in
-    let few : length (g.J.Rules.arena c.args.joint.now).nodes < 2 ^ 32 = c.known.ensures.few_nodes in
+    let few : length (g.J.Rules.arena c.args.joint.now).nodes < 2 ^ 32 = c.known.ensures.numbered.few_nodes in
     let fits : c.loop-x.x * c.lanes-lanes.result < 2 ^ 32 = subst (λ m. c.loop-x.x * m < 2 ^ 32) (sym c.lanes-lanes.ensures.value) (omega arith) in
     omega (arith, fits)
 
@@ -25,7 +25,7 @@ overflow_add-result g c =
     let first : IsLowest n (trailing_zeros w64 n) = lowest n c.if-missing-ne0.true (search rules) in
     let l : trailing_zeros w64 n < lanes = lowest_within n (trailing_zeros w64 n) lanes first c.missing_in-missing.ensures.within in
     let ends : c.loop-x.x * lanes + lanes ≤ length (g.J.Rules.arena c.args.joint.now).nodes = row_ends c.loop-x.x c.rows-x-end.result lanes _ c.loop-x-test.true c.rows-x-end.ensures in
-    let few : length (g.J.Rules.arena c.args.joint.now).nodes < 2 ^ 32 = c.known.ensures.few_nodes in
+    let few : length (g.J.Rules.arena c.args.joint.now).nodes < 2 ^ 32 = c.known.ensures.numbered.few_nodes in
     let fits : c.loop-x.x * c.lanes-lanes.result + trailing_zeros w64 n < 2 ^ 32 = subst (λ m. c.loop-x.x * m + trailing_zeros w64 n < 2 ^ 32) (sym c.lanes-lanes.ensures.value) (omega arith) in
     omega (arith, fits)
 
@@ -37,8 +37,8 @@ returns-then-missing-ne0 g c L rows =
     let first : IsLowest n (trailing_zeros w64 n) = lowest n c.if-missing-ne0.true (search rules) in
     let l : trailing_zeros w64 n < lanes = lowest_within n (trailing_zeros w64 n) lanes first c.missing_in-missing.ensures.within in
     let ends : c.loop-x.x * lanes + lanes ≤ length A.nodes = row_ends c.loop-x.x c.rows-x-end.result lanes _ c.loop-x-test.true c.rows-x-end.ensures in
-    let some : 0 < lanes = omega (arith, c.lanes-lanes.ensures.few, c.lanes-lanes.ensures.value) in
-    let found = least_found A c.known.ensures (could_be_listed A L) (c.loop-x.x * lanes + trailing_zeros w64 n) (omega arith) (sym (c.missing_in-missing.ensures.missing L rows (trailing_zeros w64 n) l) ∙ first.on)
+    let some : 0 < lanes = c.known.ensures.lanes.0 in
+    let found = least_found A c.known.ensures.numbered (could_be_listed A L) (c.loop-x.x * lanes + trailing_zeros w64 n) (omega arith) (sym (c.missing_in-missing.ensures.missing L rows (trailing_zeros w64 n) l) ∙ first.on)
     (before_lane lanes c.loop-x.x (trailing_zeros w64 n) (λ q. IsFalse (could_be_listed A L q)) some (λ y lane h m. c.loop-x.invariant L rows y lane h m)
     (λ lane m. sym (c.missing_in-missing.ensures.missing L rows lane (omega arith)) ∙ first.before lane m)) in
     ap (λ m. Some (c.loop-x.x * m + trailing_zeros w64 n)) c.lanes-lanes.ensures.value ∙ found
@@ -55,6 +55,6 @@ pub returns : goal.returns
 returns g c L rows =
     let A = g.J.Rules.arena c.args.joint.now in
     let lanes = g.J.Rules.lanes c.args.joint.now in
-    let some : 0 < lanes = omega (arith, c.lanes-lanes.ensures.few, c.lanes-lanes.ensures.value) in
+    let some : 0 < lanes = c.known.ensures.lanes.0 in
     let all : c.loop-x.x * lanes ≡ length A.nodes = ap (λ m. m * lanes) (omega arith) ∙ c.rows-x-end.ensures in
-    none_found A c.known.ensures (could_be_listed A L) (λ q l. before_row lanes c.loop-x.x (λ p. IsFalse (could_be_listed A L p)) some (λ y lane h m. c.loop-x.invariant L rows y lane h m) q (omega arith))
+    none_found A c.known.ensures.numbered (could_be_listed A L) (λ q l. before_row lanes c.loop-x.x (λ p. IsFalse (could_be_listed A L p)) some (λ y lane h m. c.loop-x.invariant L rows y lane h m) q (omega arith))

@@ -23,7 +23,7 @@ pub depths_by-requires-clause-levels : goal.depths_by-requires-clause-levels
 depths_by-requires-clause-levels g c = c.settle_list.ensures.levels (ap (λ (x : Board). x.list) c.shape_to.ensures.shaped)
 
 pub depths_by-requires-clause-all : goal.depths_by-requires-clause-all
-depths_by-requires-clause-all g c = settled_all (g.J.Rules.arena c.args.joint.now) c.settle_list.new.order c.known.ensures c.settle_list.ensures.settled
+depths_by-requires-clause-all g c = settled_all (g.J.Rules.arena c.args.joint.now) c.settle_list.new.order c.known.ensures.numbered c.settle_list.ensures.settled
 
 pub shape_to-requires-clause-pairs : goal.shape_to-requires-clause-pairs
 shape_to-requires-clause-pairs g c =

@@ -25,10 +25,10 @@ loop-n-preserved g c =
     record {
       start = end ∙ sym (start_next levels n);
       ranks = subst (λ xs. AreRanksBelow A (n + 1) xs) (sym back) (subst (λ m. AreRanksBelow A m new) (sym (add-one n))
-          (ranks_more A c.known.ensures levels L n old new c.requires.levels c.known-2.ensures.distinct (length-map L (λ x. x.node)) within few long gives c.loop-n.invariant.ranks));
+          (ranks_more A c.known.ensures.numbered levels L n old new c.requires.levels c.known-2.ensures.distinct (length-map L (λ x. x.node)) within few long gives c.loop-n.invariant.ranks));
     }
 
 pub returns : goal.returns
 returns g c =
-    ranks_all (g.J.Rules.arena c.args.joint.now) c.known.ensures c.args.order.now.levels c.args.order.now.list c.loop-n.n c.loop-n.depths.items c.requires.levels c.requires.all
+    ranks_all (g.J.Rules.arena c.args.joint.now) c.known.ensures.numbered c.args.order.now.levels c.args.order.now.list c.loop-n.n c.loop-n.depths.items c.requires.levels c.requires.all
     (omega (arith, c.loop-n-test.false, c.loop-n.auto.n-end, c.min-deepest.ensures, c.pairs-pairs.ensures, ap length c.levels.ensures)) c.loop-n.invariant.ranks

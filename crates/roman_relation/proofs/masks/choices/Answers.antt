@@ -24,4 +24,4 @@ returns g c =
     let f : ℕ → ℕ = λ p. sum_by (λ a. length (mask A gone p a)) (below A.actions) in
     let end : c.loop-x.x ≡ c.rows-x-end.result = omega (arith, c.loop-x-test.false) in
     let all : c.loop-x.x * n ≡ length A.nodes = ap (λ m. m * n) end ∙ c.rows-x-end.ensures in
-    c.loop-x.invariant.counted ∙ (sum_rows f n c.loop-x.x ∙ (ap (λ m. sum_by f (below m)) all ∙ ap (sum_by f) (sym c.known.ensures.nodes)))
+    c.loop-x.invariant.counted ∙ (sum_rows f n c.loop-x.x ∙ (ap (λ m. sum_by f (below m)) all ∙ ap (sum_by f) (sym c.known.ensures.numbered.nodes)))

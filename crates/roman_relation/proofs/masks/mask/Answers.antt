@@ -17,6 +17,6 @@ returns g c =
     let p = c.args.p in
     let m = c.lanes-lanes.result in
     let words = c.words.result.now in
-    let rows = words_rows A c.known.ensures n b words c.requires.shaped c.words.ensures.alive in
+    let rows = words_rows A c.known.ensures.numbered n b words c.requires.shaped c.words.ensures.alive in
     let place : p / m * n + p % m ≡ p = ap (λ j. p / m * j + p % m) (sym c.lanes-lanes.ensures.value) ∙ div-add-mod' p m in
     subst (λ q. HasBits c.mask.result (has (mask A (is_listed A b.list) q c.args.a))) place (c.mask.ensures (p / m) (is_listed A b.list) c.row-row.ensures rows)

@@ -11,7 +11,7 @@ loop-a-preserved g c =
     let n = g.J.Rules.lanes c.args.joint.now in
     let b = c.args.order.now in
     let words = c.words-words.result.now in
-    let rows = words_rows A c.known.ensures n b words c.requires.shaped c.words-words.ensures.alive in
+    let rows = words_rows A c.known.ensures.numbered n b words c.requires.shaped c.words-words.ensures.alive in
     let counted = c.choices.ensures.counted c.args.x (is_listed A b.list) c.row-row.ensures rows in
     let more = sum_below_more (λ a. sum_by (λ lane. length (mask A (is_listed A b.list) (c.args.x * n + lane) a)) (below n)) c.loop-a.a in
     record {

@@ -13,7 +13,7 @@ mark_front-requires g c =
     let A = g.J.Rules.arena c.args.joint.now in
     let n = g.J.Rules.lanes c.args.joint.now in
     let shaped = shaped_on A n c.args.order.now c.list_unfine.new.order c.requires.shaped c.list_unfine.ensures.goes_on in
-    omega (arith, mul-le c.rows.result 1 c.rows.result n (omega arith) (omega (arith, c.lanes.ensures.value, c.lanes.ensures.few.0)), c.rows.ensures, shaped.pairs, ap (λ (d : Board). pairs_of d) c.keep_before.ensures.rest)
+    omega (arith, mul-le c.rows.result 1 c.rows.result n (omega arith) c.known.ensures.lanes.0, c.rows.ensures, shaped.pairs, ap (λ (d : Board). pairs_of d) c.keep_before.ensures.rest)
 
 pub returns-clause-ready : goal.returns-clause-ready
 returns-clause-ready g c =
@@ -22,11 +22,11 @@ returns-clause-ready g c =
     let mid = c.list_unfine.new.order in
     let kept = c.keep_before.new.self in
     let d = c.mark_front.new.self in
-    let some : 0 < n = omega (arith, c.lanes.ensures.value, c.lanes.ensures.few.0) in
+    let some : 0 < n = c.known.ensures.lanes.0 in
     let shaped = shaped_on A n c.args.order.now mid c.requires.shaped c.list_unfine.ensures.goes_on in
     let list : d.list ≡ mid.list = ap (λ (y : Board). y.list) c.mark_front.ensures.rest ∙ ap (λ (y : Board). y.list) c.keep_before.ensures.rest in
     let before : d.before ≡ kept.before = ap (λ (y : Board). y.before) c.mark_front.ensures.rest in
-    let words = words_rows A c.known.ensures n mid kept.before shaped c.keep_before.ensures.kept in
+    let words = words_rows A c.known.ensures.numbered n mid kept.before shaped c.keep_before.ensures.kept in
     record {
       shaped = shaped_like A n mid d (subst (SameFrame mid) (sym c.mark_front.ensures.rest)
           (subst (SameFrame mid) (sym c.keep_before.ensures.rest) (refl, refl, refl, refl))) shaped;

@@ -46,7 +46,7 @@ returns g c =
         valid = subst (IsOrder A) (sym same) round.valid;
         kept = kept_ends A n start d (omega (arith, ready.shaped.lanes, c.len-start.ensures.lanes.0)) (omega (arith, long)) c.mark_losses.ensures.marking;
         fine = λ p l off. ready.fine p l (begins_unlisted A b.list m.list p begins (subst (λ L. IsFalse (is_listed A L p)) same off));
-        served = served_next A c.known.ensures n start d c.mark_losses.ensures.marking
+        served = served_next A c.known.ensures.numbered n start d c.mark_losses.ensures.marking
             (λ p l. subst (λ L. (a : ℕ) → IsFalse (is_listed A L p) → IsFalse (is_justified A (is_listed A (take start L)) p (Act a))) (sym same) (done p l));
       };
       goes_on = record {
@@ -55,10 +55,10 @@ returns g c =
         rest = c.mark_losses.ensures.rest ∙ (ap (λ (y : Board). record y { marks = d.marks; before = d.before }) c.judge_marked.ensures.rest
             ∙ ap (λ (L : List (Entry ℕ)). record b { list = L; marks = d.marks; before = d.before }) (sym same));
       };
-      lost = λ k holds. subst (HoldsLost A (suc k)) (sym same) (lost_more A c.known.ensures n start k b m c.len-start.ensures.value begins round done holds);
+      lost = λ k holds. subst (HoldsLost A (suc k)) (sym same) (lost_more A c.known.ensures.numbered n start k b m c.len-start.ensures.value begins round done holds);
       settled = λ as_long.
           let all : m.list ≡ b.list = same_list b.list m.list begins (sym (ap length same) ∙ as_long) in
-          subst (IsSettled A) (sym same) (settled_round A c.known.ensures start m round.valid (c.len-start.ensures.value ∙ sym (ap length all)) done
+          subst (IsSettled A) (sym same) (settled_round A c.known.ensures.numbered start m round.valid (c.len-start.ensures.value ∙ sym (ap length all)) done
           (λ p l off. ready.fine p l (subst (λ L. IsFalse (is_listed A L p)) all off))
           (λ p t. omega (arith, c.len-start.ensures.in_range p (sym (ap (λ L. has_entry L p) all) ∙ t), ready.shaped.pairs)));
       cost = search rules;

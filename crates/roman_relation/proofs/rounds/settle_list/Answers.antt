@@ -39,7 +39,7 @@ rounds-init g c =
             0,
             ap length levels,
             subst (HoldsLost A 0) (sym list) lost,
-            subst (RisesByDepth A) (sym list) (rises_start A c.known.ensures d.list in_range lost),
+            subst (RisesByDepth A) (sym list) (rises_start A c.known.ensures.numbered d.list in_range lost),
             subst (AreLevels A e.levels) (sym list) (subst (λ ks. AreLevels A ks d.list) (sym levels) (levels_first A d.list lost)),
           );
       stale = λ f. is.left f ∙ none;
@@ -81,7 +81,7 @@ rounds-preserved g c =
             suc n,
             omega (arith, ap length now, length_push old.levels (length d.list), long),
             subst (HoldsLost A (suc n)) (sym list) more,
-            subst (RisesByDepth A) (sym list) (rises_more A c.known.ensures n old.list d.list goes.begins goes.valid in_range lost more rises),
+            subst (RisesByDepth A) (sym list) (rises_more A c.known.ensures.numbered n old.list d.list goes.begins goes.valid in_range lost more rises),
             subst (AreLevels A e.levels) (sym list) (subst (λ ks. AreLevels A ks d.list) (sym now) (levels_more A n old.levels old.list d.list goes.begins long more are)),
           );
       stale = λ f. is.left f ∙ (levels ∙ c.rounds.invariant.stale f);

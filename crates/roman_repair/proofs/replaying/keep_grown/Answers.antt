@@ -10,14 +10,14 @@ overflow_mul-p g c =
     let x = as_entry c.args.entry in
     let is = ap (λ m. x.node * m + c.loop-b.b) c.from.ensures in
     let small = state_within _ c.args.order.now c.loop-b.order c.args.states x c.loop-b.b _ c.loop-b.invariant.replaying c.loop-b-test.true is in
-    omega (arith, small, c.known.ensures.few_nodes)
+    omega (arith, small, c.known.ensures.numbered.few_nodes)
 
 pub overflow_add-p : goal.overflow_add-p
 overflow_add-p g c =
     let x = as_entry c.args.entry in
     let is = ap₂ (λ m k. x.node * m + k) c.from.ensures c.from-in-loop-b.ensures in
     let small = state_within _ c.args.order.now c.loop-b.order c.args.states x c.loop-b.b _ c.loop-b.invariant.replaying c.loop-b-test.true is in
-    omega (arith, small, c.known.ensures.few_nodes)
+    omega (arith, small, c.known.ensures.numbered.few_nodes)
 
 pub keep-requires : goal.keep-requires
 keep-requires g c =

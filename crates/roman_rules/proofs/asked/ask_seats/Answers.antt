@@ -14,7 +14,7 @@ pub returns-then-row_actions-a-eq0-clause-lost : goal.returns-then-row_actions-a
 returns-then-row_actions-a-eq0-clause-lost g c x gone row words lane within =
     let A = g.J.Rules.arena c.args.joint.now in
     let p = x * g.J.Rules.lanes c.args.joint.now + lane in
-    let few = c.known.ensures.few_actions in
+    let few = c.known.ensures.numbered.few_actions in
     let bit : bit_at c.row_actions.result c.args.a ≡ bit_of (A.allows p c.args.a) = (c.row_actions.ensures x lane row within).each c.args.a (omega arith) in
     let off : IsFalse (A.allows p c.args.a) =
     bit_off (A.allows p c.args.a) (sym bit ∙ sym (shr_and_one c.row_actions.result c.args.a) ∙ c.if-row_actions-a-eq0.true) in
@@ -33,7 +33,7 @@ pub returns-clause-cost : goal.returns-clause-cost
 returns-clause-cost g c x lane row within =
     let A = g.J.Rules.arena c.args.joint.now in
     let p = x * g.J.Rules.lanes c.args.joint.now + lane in
-    let few = c.known.ensures.few_actions in
+    let few = c.known.ensures.numbered.few_actions in
     let bit : bit_at c.row_actions.result c.args.a ≡ bit_of (A.allows p c.args.a) = (c.row_actions.ensures x lane row within).each c.args.a (omega arith) in
     let on : IsTrue (A.allows p c.args.a) =
     bit_on (A.allows p c.args.a) (omega (arith, bit, shr_and_one c.row_actions.result c.args.a, c.if-row_actions-a-eq0.false)) in

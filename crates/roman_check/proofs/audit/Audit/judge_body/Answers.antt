@@ -28,4 +28,4 @@ returns-in-None-clause-fault g c L has =
 pub returns-in-None-clause-list : goal.returns-in-None-clause-list
 returns-in-None-clause-list g c L has none =
     let A = g.J.Rules.arena c.args.joint.now in
-    subst (λ M. HasListed A M (record { due = Nothing; left = c.args.self.now.left; asked = c.args.self.now.asked })) (ended_list A c.known.ensures L c.args.line.now (sym c.is_end.ensures ∙ c.if-not-is_end.false)) (record { left = has.left; known = has.known })
+    subst (λ M. HasListed A M (record { due = Nothing; left = c.args.self.now.left; asked = c.args.self.now.asked })) (ended_list A c.known.ensures.numbered L c.args.line.now (sym c.is_end.ensures ∙ c.if-not-is_end.false)) (record { left = has.left; known = has.known })

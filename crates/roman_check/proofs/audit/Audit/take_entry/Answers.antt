@@ -37,7 +37,7 @@ returns-clause-list g c L has none =
     let x = entry_with (c.args.pair, c.args.reason) in
     let place = c.place-row.ensures.pair in
     let absent = not-true (is_listed A L (c.place-row.result.0 * c.args.self.now.left.lanes + c.place-row.result.1)) (sym (c.has.ensures (length A.nodes) (is_listed A L) has.left) ∙ c.if-not-has.false) in
-    entry_listed A c.known.ensures L x (record { due = c.args.self.now.due; left = c.remove.new.self; asked = c.holds.new.asked })
+    entry_listed A c.known.ensures.numbered L x (record { due = c.args.self.now.due; left = c.remove.new.self; asked = c.holds.new.asked })
     (λ more. c.remove.ensures.removed (length A.nodes) (is_listed A L) (is_listed A (L ++ x ∷ [])) has.left (subst (λ p. p < length A.nodes) (sym place) c.requires.pair) absent
     (λ q. more q ∙ ap (λ p. is_listed A L q || q == p) (sym place)))
     (subst (λ m. HoldsWhereKept A m (is_listed A L) c.holds.new.asked) (sym c.remove.ensures.lanes) (c.holds.ensures.known (is_listed A L) has.left.rows has.known))

@@ -26,7 +26,7 @@ returns-in-Some-take_entry-clause-fault g c before so_far =
     let new = record c.loop-pair.self { audit = c.take_entry.new.self } in
     let start = c.loop-pair.start in
     let end = start + c.in-Some.len in
-    let (low, below, newline, line, judged) = entry_in_piece A c.known.ensures mid new c.args.piece.now start c.in-Some.len c.pairs-pairs.result c.actions-actions.result (entry_with (c.in-Some.pair, c.in-Some.reason))
+    let (low, below, newline, line, judged) = entry_in_piece A c.known.ensures.numbered mid new c.args.piece.now start c.in-Some.len c.pairs-pairs.result c.actions-actions.result (entry_with (c.in-Some.pair, c.in-Some.reason))
     c.take_entry.result c.pairs-pairs.ensures c.actions-actions.ensures c.in-Some.ensures.0 c.in-Some.ensures.1 c.loop-pair.invariant.due
     (λ bytes held. (c.is_empty.ensures.told bytes (subst (λ line. Holds line bytes) c.loop-pair.invariant.line held)).0 c.if-not-is_empty.false) c.take_entry.ensures.fault c.take_entry.ensures.list c.take_entry.ensures.due in
     stop_in_piece A before mid new c.args.piece.now start end c.in-Some-take_entry.why low below newline (c.loop-pair.invariant.reads before so_far)
@@ -39,7 +39,7 @@ loop-pair-preserved g c =
     let new = record c.loop-pair.self { audit = c.take_entry.new.self; lines = c.loop-pair.self.lines + 1 } in
     let start = c.loop-pair.start in
     let end = start + c.in-Some.len in
-    let (low, below, newline, line, judged) = entry_in_piece A c.known.ensures mid new c.args.piece.now start c.in-Some.len c.pairs-pairs.result c.actions-actions.result (entry_with (c.in-Some.pair, c.in-Some.reason))
+    let (low, below, newline, line, judged) = entry_in_piece A c.known.ensures.numbered mid new c.args.piece.now start c.in-Some.len c.pairs-pairs.result c.actions-actions.result (entry_with (c.in-Some.pair, c.in-Some.reason))
     c.take_entry.result c.pairs-pairs.ensures c.actions-actions.ensures c.in-Some.ensures.0 c.in-Some.ensures.1 c.loop-pair.invariant.due
     (λ bytes held. (c.is_empty.ensures.told bytes (subst (λ line. Holds line bytes) c.loop-pair.invariant.line held)).0 c.if-not-is_empty.false) c.take_entry.ensures.fault c.take_entry.ensures.list c.take_entry.ensures.due in
     record {

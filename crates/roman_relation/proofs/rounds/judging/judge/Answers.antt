@@ -48,7 +48,7 @@ loop-a-preserved g c =
 pub returns-clause-done : goal.returns-clause-done
 returns-clause-done g c start lane round l =
     let n = g.J.Rules.lanes c.args.joint.now in
-    done_all (g.J.Rules.arena c.args.joint.now) c.known.ensures start (c.args.x * n + lane) c.loop-a.a c.loop-a.order (omega (arith, c.loop-a-test.false, c.actions-a-end.ensures))
+    done_all (g.J.Rules.arena c.args.joint.now) c.known.ensures.numbered start (c.args.x * n + lane) c.loop-a.a c.loop-a.order (omega (arith, c.loop-a-test.false, c.actions-a-end.ensures))
     (λ a m. c.loop-a.invariant.judged start lane a round l m)
 
 -- a row of which all pairs are listed
@@ -58,6 +58,6 @@ returns-then-words-x-eq0-clause-done g c start lane round l a off =
     let n = g.J.Rules.lanes c.args.joint.now in
     let b = c.args.order.now in
     let words = c.words.result.now in
-    let row = words_row A c.known.ensures n c.args.x b words c.requires.shaped c.words.ensures.long c.requires.row c.words.ensures.alive in
+    let row = words_row A c.known.ensures.numbered n c.args.x b words c.requires.shaped c.words.ensures.long c.requires.row c.words.ensures.alive in
     let none : is_on (slice_index words c.args.x) lane ≡ false = ap (λ w. is_on w lane) c.if-words-x-eq0.true ∙ on_zero lane in
     absurd (both_ways (is_on (slice_index words c.args.x) lane) none (row.each lane l ∙ not_from_false (is_listed A b.list (c.args.x * n + lane)) off))

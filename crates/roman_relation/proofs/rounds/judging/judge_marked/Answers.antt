@@ -30,7 +30,7 @@ judge_if-requires g c =
     let b = c.args.order.now in
     let same : SameFrame b c.next_marked.new.self = subst (SameFrame b) (sym c.in-Some.ensures.rest)
     (subst (SameFrame b) (sym c.rows.invariant.rest) (refl, refl, refl, refl)) in
-    let some : 0 < n = omega (arith, c.lanes.ensures.value, c.lanes.ensures.few.0) in
+    let some : 0 < n = c.known.ensures.lanes.0 in
     record {
       shaped = shaped_like A n b c.next_marked.new.self same c.requires.shaped;
       row = ap (nat_lt c.in-Some.x) (shaped_rows A n c.rows-rows.result b c.requires.shaped some c.rows-rows.ensures ∙ sym same.1);
@@ -49,7 +49,7 @@ rows-preserved g c =
     let list : mid.list ≡ old.list = ap (λ (d : Board). d.list) next in
     let marks : new.marks ≡ mid.marks = ap (λ (d : Board). d.marks) c.judge_if.ensures.rest in
     let begins : Begins old.list new.list = subst (λ L. Begins L new.list) list c.judge_if.ensures.begins in
-    let some : 0 < n = omega (arith, c.lanes.ensures.value, c.lanes.ensures.few.0) in
+    let some : 0 < n = c.known.ensures.lanes.0 in
     record {
       round = λ start r. c.judge_if.ensures.round start (round_marks A n start old mid next (c.rows.invariant.round start r));
       begins = begins_on b.list old.list new.list c.rows.invariant.begins begins;

@@ -20,14 +20,14 @@ returns g c =
     let new = c.push_lanes.new.self in
     let gone = λ (start : ℕ). is_listed A (take start b.list) in
     let few : n ≤ 64 = omega (arith, c.requires.shaped.lanes, c.known-2.ensures.lanes.1) in
-    let row = words_row A c.known.ensures n x b c.words.result.now c.requires.shaped c.words.ensures.long c.requires.inside c.words.ensures.alive in
+    let row = words_row A c.known.ensures.numbered n x b c.words.result.now c.requires.shaped c.words.ensures.long c.requires.inside c.words.ensures.alive in
     let is = λ (start : ℕ) (round : InRound A n start b). lost_word A (gone start) b.list n x (Act a) lost _ few row
     (c.unserved-lost.ensures.lost x (gone start) c.requires.row (subst (AreUnlisted A n (take start b.list)) (sym c.before-2.ensures.value) round.kept))
     c.unserved-lost.ensures.within in
     let pushed = c.push_lanes.ensures ∙ ap (λ m. record b { list = b.list ++ entries_in m x lost (Act a) }) c.requires.shaped.lanes in
     record {
-      round = λ start round. lost_round A c.known.ensures n start x a lost b new c.requires.action (is start round) pushed round;
+      round = λ start round. lost_round A c.known.ensures.numbered n start x a lost b new c.requires.action (is start round) pushed round;
       begins = subst (λ (d : Board). Begins b.list d.list) (sym c.push_lanes.ensures) (begins_append b.list _);
       rest = search rules;
-      judged = λ start lane round l. lost_judged A c.known.ensures n start x a lost lane b new (is start round) pushed round.begun l;
+      judged = λ start lane round l. lost_judged A c.known.ensures.numbered n start x a lost lane b new (is start round) pushed round.begun l;
     }

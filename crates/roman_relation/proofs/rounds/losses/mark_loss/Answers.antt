@@ -29,15 +29,15 @@ returns g c =
     let x = p / c.lanes-lanes.result in
     let words = c.words.result.now in
     let before = c.before-2.result.now in
-    let some : 0 < n = omega (arith, c.lanes-lanes.ensures.value, c.lanes-lanes.ensures.few.0) in
+    let some : 0 < n = c.known.ensures.lanes.0 in
     let row_is : x ≡ p / n = ap (λ m. p / m) c.lanes-lanes.ensures.value in
     let inside : x < b.rows = omega (arith, shaped_row A n p b c.requires.shaped some c.requires.pair, row_is) in
-    let row = words_row A c.known.ensures n x b words c.requires.shaped c.words.ensures.long inside c.words.ensures.alive in
+    let row = words_row A c.known.ensures.numbered n x b words c.requires.shaped c.words.ensures.long inside c.words.ensures.alive in
     -- a pair of the row that is listed, whose bit was kept, is lost
     let lost = λ (lane : ℕ) (l : lane < n) (on : is_on (slice_index b.before x) lane ≡ true) (listed : IsTrue (is_listed A b.list (x * n + lane))).
     let kept : is_on (slice_index before x) lane ≡ true = ap (λ ws. is_on (slice_index ws x) lane) c.before-2.ensures.value ∙ on in
     let off : is_on (slice_index words x) lane ≡ false = row.each lane l ∙ not_from_true (is_listed A b.list (x * n + lane)) listed in
-    c.without-lost.ensures lane (omega (arith, c.lanes-lanes.ensures.value, c.lanes-lanes.ensures.few.1))
+    c.without-lost.ensures lane (omega (arith, c.known.ensures.lanes))
     ∙ and_from (is_on (slice_index before x) lane) (not (is_on (slice_index words x) lane)) kept (not_from_false (is_on (slice_index words x) lane) off) in
     let marks : d.marks ≡ c.mark_before.new.marks = ap (λ (y : Board). y.marks) c.keep_row.ensures.rest ∙ rewritten_whole b.marks c.mark_before.new.marks (c.mark_before.ensures.long ∙ ap length c.marks_mut.ensures.value) in
     let is : IsNoted A n x b d = record {
@@ -45,7 +45,7 @@ returns g c =
       same = ap (λ (y : Board). y.list) c.keep_row.ensures.rest;
       inside = omega (arith, inside, c.known-2.ensures.before);
       long = c.keep_row.ensures.long;
-      kept = unlisted_row A c.known.ensures n x b.list (slice_index d.before x)
+      kept = unlisted_row A c.known.ensures.numbered n x b.list (slice_index d.before x)
           (subst (λ m. HasLanes m x (λ q. not (has_entry b.list q)) (slice_index d.before x)) c.requires.shaped.lanes c.keep_row.ensures.kept);
       others = c.keep_row.ensures.others;
       still = λ y on. ap (λ ms. has_flag ms y) marks ∙ c.mark_before.ensures.still y (ap (λ ms. has_flag ms y) c.marks_mut.ensures.value ∙ on);

@@ -16,11 +16,11 @@ loop-i-preserved-then-p-first g c =
     let b = c.args.order.now in
     let d = c.loop-i.order in
     let p = c.entry-p.result.0 in
-    let listed = entry_listed A c.known.ensures d.list c.loop-i.i (as_entry c.entry-p.result) c.entry-p.ensures in
-    let pair = entry_within A c.known.ensures n c.loop-i.i b d (as_entry c.entry-p.result) c.requires.shaped c.len-i-end.ensures.in_range
+    let listed = entry_listed A c.known.ensures.numbered d.list c.loop-i.i (as_entry c.entry-p.result) c.entry-p.ensures in
+    let pair = entry_within A c.known.ensures.numbered n c.loop-i.i b d (as_entry c.entry-p.result) c.requires.shaped c.len-i-end.ensures.in_range
     (ap (λ (y : Board). y.list) c.loop-i.invariant.rest) c.entry-p.ensures in
     record {
-      marking = noted_more A c.known.ensures n c.args.start c.loop-i.i d (as_entry c.entry-p.result) c.entry-p.ensures (c.loop-i.invariant.row p pair c.if-first-p.true (omega (arith, c.if-p-first.true, c.lanes-lanes.ensures.value)) listed) c.loop-i.invariant.marking;
+      marking = noted_more A c.known.ensures.numbered n c.args.start c.loop-i.i d (as_entry c.entry-p.result) c.entry-p.ensures (c.loop-i.invariant.row p pair c.if-first-p.true (omega (arith, c.if-p-first.true, c.lanes-lanes.ensures.value)) listed) c.loop-i.invariant.marking;
       row = c.loop-i.invariant.row;
       rest = c.loop-i.invariant.rest;
       cost = omega (arith, c.loop-i.invariant.cost, fall_more A d.list c.loop-i.i (as_entry c.entry-p.result) c.entry-p.ensures);
@@ -28,12 +28,12 @@ loop-i-preserved-then-p-first g c =
 
 pub mark_loss-first-requires-clause-pair : goal.mark_loss-first-requires-clause-pair
 mark_loss-first-requires-clause-pair g c =
-    entry_within (g.J.Rules.arena c.args.joint.now) c.known.ensures (g.J.Rules.lanes c.args.joint.now) c.loop-i.i c.args.order.now c.loop-i.order (as_entry c.entry-p.result)
+    entry_within (g.J.Rules.arena c.args.joint.now) c.known.ensures.numbered (g.J.Rules.lanes c.args.joint.now) c.loop-i.i c.args.order.now c.loop-i.order (as_entry c.entry-p.result)
     c.requires.shaped c.len-i-end.ensures.in_range (ap (λ (y : Board). y.list) c.loop-i.invariant.rest) c.entry-p.ensures
 
 pub mark_loss-first-requires-clause-listed : goal.mark_loss-first-requires-clause-listed
 mark_loss-first-requires-clause-listed g c =
-    entry_listed (g.J.Rules.arena c.args.joint.now) c.known.ensures c.loop-i.order.list c.loop-i.i (as_entry c.entry-p.result) c.entry-p.ensures
+    entry_listed (g.J.Rules.arena c.args.joint.now) c.known.ensures.numbered c.loop-i.order.list c.loop-i.i (as_entry c.entry-p.result) c.entry-p.ensures
 
 pub loop-i-preserved : goal.loop-i-preserved
 loop-i-preserved g c =
@@ -49,7 +49,7 @@ loop-i-preserved g c =
     let front : fall A (take c.args.start new.list) ≡ fall A (take c.args.start d.list) = ap (λ L. fall A (take c.args.start L)) same in
     let now : fall A (take (c.loop-i.i + 1) new.list) ≡ fall A (take (c.loop-i.i + 1) d.list) = ap (λ L. fall A (take (c.loop-i.i + 1) L)) same in
     record {
-      marking = noted_more A c.known.ensures n c.args.start c.loop-i.i new x entry c.mark_loss-first.ensures.noted (c.mark_loss-first.ensures.marking c.args.start c.loop-i.i c.loop-i.invariant.marking);
+      marking = noted_more A c.known.ensures.numbered n c.args.start c.loop-i.i new x entry c.mark_loss-first.ensures.noted (c.mark_loss-first.ensures.marking c.args.start c.loop-i.i c.loop-i.invariant.marking);
       row = c.mark_loss-first.ensures.row;
       rest = c.mark_loss-first.ensures.rest ∙ ap (λ (y : Board). record y { marks = new.marks; before = new.before }) c.loop-i.invariant.rest;
       cost = omega (arith, c.loop-i.invariant.cost, c.mark_loss-first.ensures.cost, fell, front, now);

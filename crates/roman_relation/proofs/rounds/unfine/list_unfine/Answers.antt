@@ -19,7 +19,7 @@ list_unfine_row-requires g c =
     let A = g.J.Rules.arena c.args.joint.now in
     let n = g.J.Rules.lanes c.args.joint.now in
     let b = c.args.order.now in
-    let some : 0 < n = omega (arith, c.lanes.ensures.value, c.lanes.ensures.few.0) in
+    let some : 0 < n = c.known.ensures.lanes.0 in
     let rows = shaped_rows A n c.rows-x-end.result b c.requires.shaped some c.rows-x-end.ensures in
     record {
       shaped = shaped_on A n b c.loop-x.order c.requires.shaped c.loop-x.invariant.goes_on;

@@ -12,12 +12,12 @@ push_lanes-requires g c =
     let A = g.J.Rules.arena c.args.joint.now in
     let n = g.J.Rules.lanes c.args.joint.now in
     let b = c.args.order.now in
-    let is = lost_unfine A c.known.ensures n c.args.x c.unfine.result b c.words.result.now c.requires.shaped c.words.ensures.long c.requires.row
+    let is = lost_unfine A c.known.ensures.numbered n c.args.x c.unfine.result b c.words.result.now c.requires.shaped c.words.ensures.long c.requires.row
     c.known-2.ensures.lanes.1 c.words.ensures.alive (c.unfine.ensures c.args.x c.row-row.ensures) in
     record {
       row = c.requires.row;
       within = λ lane on. omega (arith, is.within lane on, c.requires.shaped.lanes);
-      alive = λ lane on. lost_free A c.known.ensures (is_listed A b.list) b n c.args.x Final _ lane c.requires.shaped.lanes is on;
+      alive = λ lane on. lost_free A c.known.ensures.numbered (is_listed A b.list) b n c.args.x Final _ lane c.requires.shaped.lanes is on;
     }
 
 pub returns : goal.returns
@@ -28,13 +28,13 @@ returns g c =
     let x = c.args.x in
     let gone = is_listed A b.list in
     let lost = bit_and c.unfine.result (slice_index c.words.result.now x) in
-    let is = lost_unfine A c.known.ensures n x c.unfine.result b c.words.result.now c.requires.shaped c.words.ensures.long c.requires.row
+    let is = lost_unfine A c.known.ensures.numbered n x c.unfine.result b c.words.result.now c.requires.shaped c.words.ensures.long c.requires.row
     c.known-2.ensures.lanes.1 c.words.ensures.alive (c.unfine.ensures x c.row-row.ensures) in
     let pushed = c.push_lanes.ensures ∙ ap (λ m. record b { list = b.list ++ entries_in m x lost Final }) c.requires.shaped.lanes in
     record {
-      goes_on = goes_on_added A b c.push_lanes.new.self _ (lost_order A c.known.ensures gone b.list n x Final lost is (λ q t. t) c.requires.valid) pushed;
+      goes_on = goes_on_added A b c.push_lanes.new.self _ (lost_order A c.known.ensures.numbered gone b.list n x Final lost is (λ q t. t) c.requires.valid) pushed;
       fine = λ lane l off. not-false (A.fine (x * n + lane))
-          (lost_left A c.known.ensures gone b.list n x Final lost lane is l (subst (λ (d : Board). IsFalse (is_listed A d.list (x * n + lane))) pushed off));
-      because = λ q t. elim (lost_because A c.known.ensures gone b.list n x Final lost q is
+          (lost_left A c.known.ensures.numbered gone b.list n x Final lost lane is l (subst (λ (d : Board). IsFalse (is_listed A d.list (x * n + lane))) pushed off));
+      because = λ q t. elim (lost_because A c.known.ensures.numbered gone b.list n x Final lost q is
           (subst (λ (d : Board). IsTrue (is_listed A d.list q)) pushed t)) [ inl old ↦ inl old | inr fails ↦ inr (not-true (A.fine q) fails) ];
     }
