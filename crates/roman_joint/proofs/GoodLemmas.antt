@@ -31,15 +31,14 @@ use Rattle.roman_joint.proofs.SplitLemmas.{joint_sizes, positive_of, factor}
 use Rattle.roman_joint.proofs.LeadLemmas.{Leads, leads_within, leads_served, leads_nothing, start_before, leads_before, lanes_parts, stride_positive, lane_state, leads_lanes}
 
 -- What is known of a row.
-pub record Known (s : Sys) (r : Rows) (x : ℕ) (row : Row) : Type 0 where
+pub record Known (s : Sys) (x : ℕ) (row : Row) : Type 0 where
   pub nodes : IsNumbered (numbered s)
   pub sys : IsSys s
   pub sizes : IsSizes (sizes_of s)
-  pub laid : AreRowsOf (sizes_of s) r
   pub looked : IsRow s x row
 
-pub known : (n : NamedSys) (r : Rows) (x : ℕ) (row : Row) → IsNamedSys n → AreRowsOf (sizes_of (system_of n)) r → IsRow (system_of n) x row → Known (system_of n) r x row
-known n r x row ok laid looked = record { nodes = joint_numbered n ok; sys = ok.system; sizes = joint_sizes n ok; laid = laid; looked = looked }
+pub known : (n : NamedSys) (x : ℕ) (row : Row) → IsNamedSys n → IsRow (system_of n) x row → Known (system_of n) x row
+known n x row ok looked = record { nodes = joint_numbered n ok; sys = ok.system; sizes = joint_sizes n ok; looked = looked }
 
 pub width_positive : (s : Sys) → IsSizes (sizes_of s) → 0 < lanes_in s
 width_positive s sizes = lanes_positive (sizes_of s).seats sizes.seats
@@ -91,8 +90,8 @@ pub record RowsThere (r : Rows) (turn : Turn) (long : ℕ) : Type 0 where
   pub there : (e : ℕ) → IsIn e turn.envs.now → turn.base + e * r.env_rows < long
   pub few : long < 2 ^ 32
 
-pub rows_there : (s : Sys) (r : Rows) (x a long : ℕ) (row : Row) (turn : Turn) → Known s r x row → IsTurn s row a turn → long * lanes_in s ≡ count (sizes_of s) → RowsThere r turn long
-rows_there s r x a long row turn h ok room =
+pub rows_there : (s : Sys) (r : Rows) (x a long : ℕ) (row : Row) (turn : Turn) → Known s x row → AreRowsOf (sizes_of s) r → IsTurn s row a turn → long * lanes_in s ≡ count (sizes_of s) → RowsThere r turn long
+rows_there s r x a long row turn h laid ok room =
     let n = sizes_of s in
     let in_target : ok.to < s.target.states = target_in_range s row.target row.env a ok.to h.sys ok.target in
     let all = rows_all s long h.sizes room in
@@ -105,7 +104,7 @@ rows_there s r x a long row turn h ok room =
           let env : e < s.env.states = (triple_in_range s.env row.env a e h.sys.env (from_env_next s.env row.env a e (subst (λ es. IsIn e es) ok.worlds i))).2 in
           let at : ok.to * (s.env.states * env_rows_of n) + row.part + e * env_rows_of n < s.target.states * s.env.states * env_rows_of n =
           row_there s.target.states s.env.states (env_rows_of n) ok.to e row.part in_target env part in
-          let rows : e * r.env_rows ≡ e * env_rows_of n = ap (λ m. e * m) h.laid.env in
+          let rows : e * r.env_rows ≡ e * env_rows_of n = ap (λ m. e * m) laid.env in
           omega (arith, at, all, ok.base, rows);
       few = rows_few s long h.sizes room;
     }
@@ -116,31 +115,31 @@ pub record RowsBefore (r : Rows) (turn : Turn) (k part long : ℕ) (states : Lis
   pub taken : part * slice_index r.strides k ≤ turn.base
   pub there : (e b : ℕ) → IsIn e turn.envs.now → IsIn b states → turn.base - part * slice_index r.strides k + e * r.env_rows + b * slice_index r.strides k < long
 
-pub rows_before : (s : Sys) (r : Rows) (x a k part long : ℕ) (row : Row) (turn : Turn) (states : List ℕ) → Known s r x row → IsTurn s row a turn → k < low_in s → long * lanes_in s ≡ count (sizes_of s) →
+pub rows_before : (s : Sys) (r : Rows) (x a k part long : ℕ) (row : Row) (turn : Turn) (states : List ℕ) → Known s x row → AreRowsOf (sizes_of s) r → IsTurn s row a turn → k < low_in s → long * lanes_in s ≡ count (sizes_of s) →
     states ≡ seat_next (slice_get s.seats k) (slice_index row.states k) row.env a → part ≡ slice_index row.states k → RowsBefore r turn k part long states
-rows_before s r x a k part long row turn states h ok before room is_states is_part =
+rows_before s r x a k part long row turn states h laid ok before room is_states is_part =
     let n = sizes_of s in
     let w = lanes_in s in
     let u = slice_index r.strides k in
     let own = slice_index row.states k in
     let pos : 0 < w = width_positive s h.sizes in
     let in_target : ok.to < s.target.states = target_in_range s row.target row.env a ok.to h.sys ok.target in
-    let start = start_before s row x 0 k ok.to u h.sys h.looked pos before in_target (h.laid.before k before) in
+    let start = start_before s row x 0 k ok.to u h.sys h.looked pos before in_target (laid.before k before) in
     let product : own * (u * w) ≡ own * u * w = omega arith in
     let sum : ok.to * target_rows_of n * w + (row.part * w + 0) ≡ (ok.to * target_rows_of n + row.part) * w + 0 = omega arith in
     let taken : own * u ≤ ok.to * target_rows_of n + row.part = row_least (own * u) (ok.to * target_rows_of n + row.part) w 0 pos (omega (arith, start.taken, product, sum)) in
     let same : part * u ≡ own * u = ap (λ m. m * u) is_part in
     let base : turn.base - part * u ≡ ok.to * target_rows_of n + row.part - own * u = ap₂ (λ m l. m - l) ok.base same in
-    let leads = leads_before s row x 0 a k ok.to (turn.base - part * u) u turn.envs.now states h.sys h.looked pos before (h.laid.before k before) ok.target ok.worlds is_states base in
+    let leads = leads_before s row x 0 a k ok.to (turn.base - part * u) u turn.envs.now states h.sys h.looked pos before (laid.before k before) ok.target ok.worlds is_states base in
     record {
-      turn_rows = rows_there s r x a long row turn h ok room;
+      turn_rows = rows_there s r x a long row turn h laid ok room;
       taken = omega (arith, taken, same, ok.base);
       there = λ e b i j.
           let below : (turn.base - part * u + e * env_rows_of n + b * u) * w + 0 < length (numbered s).nodes =
           leads_within (numbered s) (x * w + 0) a k e b turn.envs.now states (λ c d. (turn.base - part * u + c * env_rows_of n + d * u) * w + 0) h.nodes
           (omega (arith, h.looked.below 0 pos, length-below (count n))) leads i j in
           let row_in : turn.base - part * u + e * env_rows_of n + b * u < long = row_below (turn.base - part * u + e * env_rows_of n + b * u) w 0 long (omega (arith, below, room, length-below (count n))) in
-          let rows : e * r.env_rows ≡ e * env_rows_of n = ap (λ m. e * m) h.laid.env in
+          let rows : e * r.env_rows ≡ e * env_rows_of n = ap (λ m. e * m) laid.env in
           omega (arith, row_in, rows);
     }
 
@@ -151,53 +150,53 @@ pub full_off : (n : Sizes) (r : Rows) (lane : ℕ) → AreRowsOf n r → lanes_o
 full_off n r lane laid l = laid.full lane ∙ le-ltb lane (lanes_of n.seats) l
 
 -- where a seat before the lanes serves
-pub serves_before : (s : Sys) (r : Rows) (x a k part word : ℕ) (row : Row) (turn : Turn) (states words : List ℕ) (gone : ℕ → Bool) → Known s r x row → IsTurn s row a turn → k < low_in s →
+pub serves_before : (s : Sys) (r : Rows) (x a k part word : ℕ) (row : Row) (turn : Turn) (states words : List ℕ) (gone : ℕ → Bool) → Known s x row → AreRowsOf (sizes_of s) r → IsTurn s row a turn → k < low_in s →
     length words * lanes_in s ≡ count (sizes_of s) → states ≡ seat_next (slice_get s.seats k) (slice_index row.states k) row.env a → part ≡ slice_index row.states k → IsFalse (is_empty states) →
     AreRows (lanes_in s) (λ q. not (gone q)) words →
     ((lane : ℕ) → is_on word lane ≡ (is_on r.full lane && not (list_any (λ e. list_any (λ b. not (is_on (slice_index words (turn.base - part * slice_index r.strides k + e * r.env_rows + b * slice_index r.strides k)) lane)) states) turn.envs.now))) →
     HasLanes (lanes_in s) x (λ p. not (is_beaten (numbered s) gone p a k)) word
-serves_before s r x a k part word row turn states words gone h ok before room is_states is_part some rows told =
+serves_before s r x a k part word row turn states words gone h laid ok before room is_states is_part some rows told =
     let n = sizes_of s in
     let w = lanes_in s in
     let u = slice_index r.strides k in
     let test = λ (lane e b : ℕ). not (is_on (slice_index words (turn.base - part * u + e * r.env_rows + b * u)) lane) in
     let to = λ (lane e b : ℕ). (turn.base - part * u + e * env_rows_of n + b * u) * w + lane in
     let same : (lane e b : ℕ) → lane < w → IsIn e turn.envs.now → IsIn b states → test lane e b ≡ gone (to lane e b) = λ lane e b l i j.
-    let all = rows_before s r x a k part (length words) row turn states h ok before room is_states is_part in
+    let all = rows_before s r x a k part (length words) row turn states h laid ok before room is_states is_part in
     let here = (rows.each (turn.base - part * u + e * r.env_rows + b * u) (all.there e b i j)).each lane l in
-    ap not here ∙ (sym (not_not (gone ((turn.base - part * u + e * r.env_rows + b * u) * w + lane))) ∙ ap (λ m. gone ((turn.base - part * u + e * m + b * u) * w + lane)) h.laid.env) in
+    ap not here ∙ (sym (not_not (gone ((turn.base - part * u + e * r.env_rows + b * u) * w + lane))) ∙ ap (λ m. gone ((turn.base - part * u + e * m + b * u) * w + lane)) laid.env) in
     record {
-      each = λ lane l. told lane ∙ (ap (λ b. b && not (list_any (λ e. list_any (test lane e) states) turn.envs.now)) (full_on n r lane h.laid l)
+      each = λ lane l. told lane ∙ (ap (λ b. b && not (list_any (λ e. list_any (test lane e) states) turn.envs.now)) (full_on n r lane laid l)
           ∙ leads_served (numbered s) gone (x * w + lane) a k turn.envs.now states (to lane) (test lane)
-          (leads_before s row x lane a k ok.to (turn.base - part * u) u turn.envs.now states h.sys h.looked l before (h.laid.before k before) ok.target ok.worlds is_states (ap₂ (λ m d. m - d * u) ok.base is_part))
+          (leads_before s row x lane a k ok.to (turn.base - part * u) u turn.envs.now states h.sys h.looked l before (laid.before k before) ok.target ok.worlds is_states (ap₂ (λ m d. m - d * u) ok.base is_part))
           ok.some some (λ e b i j. same lane e b l i j));
-      rest = λ lane l. told lane ∙ ap (λ b. b && not (list_any (λ e. list_any (test lane e) states) turn.envs.now)) (full_off n r lane h.laid l);
+      rest = λ lane l. told lane ∙ ap (λ b. b && not (list_any (λ e. list_any (test lane e) states) turn.envs.now)) (full_off n r lane laid l);
     }
 
-pub beaten_before : (s : Sys) (r : Rows) (x a k : ℕ) (row : Row) (turn : Turn) (states : List ℕ) (gone : ℕ → Bool) → Known s r x row → IsTurn s row a turn → k < low_in s →
+pub beaten_before : (s : Sys) (r : Rows) (x a k : ℕ) (row : Row) (turn : Turn) (states : List ℕ) (gone : ℕ → Bool) → Known s x row → AreRowsOf (sizes_of s) r → IsTurn s row a turn → k < low_in s →
     states ≡ seat_next (slice_get s.seats k) (slice_index row.states k) row.env a → states ≡ [] → HasLanes (lanes_in s) x (λ p. not (is_beaten (numbered s) gone p a k)) 0
-beaten_before s r x a k row turn states gone h ok before is_states none = record {
+beaten_before s r x a k row turn states gone h laid ok before is_states none = record {
   each = λ lane l. on_zero lane ∙ sym (ap not (leads_nothing (numbered s) gone (x * lanes_in s + lane) a k turn.envs.now states
       (λ e b. (ok.to * target_rows_of (sizes_of s) + row.part - slice_index row.states k * slice_index r.strides k + e * env_rows_of (sizes_of s) + b * slice_index r.strides k) * lanes_in s + lane)
-      (leads_before s row x lane a k ok.to (ok.to * target_rows_of (sizes_of s) + row.part - slice_index row.states k * slice_index r.strides k) (slice_index r.strides k) turn.envs.now states h.sys h.looked l before (h.laid.before k before) ok.target ok.worlds is_states refl)
+      (leads_before s row x lane a k ok.to (ok.to * target_rows_of (sizes_of s) + row.part - slice_index row.states k * slice_index r.strides k) (slice_index r.strides k) turn.envs.now states h.sys h.looked l before (laid.before k before) ok.target ok.worlds is_states refl)
       none));
   rest = λ lane l. on_zero lane;
 }
 
 -- the lanes at which the rows of a turn are alive
-pub alive_there : (s : Sys) (r : Rows) (x a alive : ℕ) (row : Row) (turn : Turn) (words : List ℕ) (gone : ℕ → Bool) → Known s r x row → IsTurn s row a turn → length words * lanes_in s ≡ count (sizes_of s) →
+pub alive_there : (s : Sys) (r : Rows) (x a alive : ℕ) (row : Row) (turn : Turn) (words : List ℕ) (gone : ℕ → Bool) → Known s x row → AreRowsOf (sizes_of s) r → IsTurn s row a turn → length words * lanes_in s ≡ count (sizes_of s) →
     AreRows (lanes_in s) (λ q. not (gone q)) words →
     ((lane : ℕ) → is_on alive lane ≡ (is_on r.full lane && not (list_any (λ e. not (is_on (slice_index words (turn.base + e * r.env_rows)) lane)) turn.envs.now))) → AreAlive s gone turn alive
-alive_there s r x a alive row turn words gone h ok room rows told = record {
-  each = λ lane l. told lane ∙ (ap (λ b. b && not (list_any (λ e. not (is_on (slice_index words (turn.base + e * r.env_rows)) lane)) turn.envs.now)) (full_on (sizes_of s) r lane h.laid l)
+alive_there s r x a alive row turn words gone h laid ok room rows told = record {
+  each = λ lane l. told lane ∙ (ap (λ b. b && not (list_any (λ e. not (is_on (slice_index words (turn.base + e * r.env_rows)) lane)) turn.envs.now)) (full_on (sizes_of s) r lane laid l)
       ∙ ap not (any_same (λ e. not (is_on (slice_index words (turn.base + e * r.env_rows)) lane)) (λ e. gone ((turn.base + e * env_rows_of (sizes_of s)) * lanes_in s + lane)) turn.envs.now (λ e i. same lane e l i)));
 }
   where
     same : (lane e : ℕ) → lane < lanes_in s → IsIn e turn.envs.now → not (is_on (slice_index words (turn.base + e * r.env_rows)) lane) ≡ gone ((turn.base + e * env_rows_of (sizes_of s)) * lanes_in s + lane)
     same lane e l i =
-        let all = rows_there s r x a (length words) row turn h ok room in
+        let all = rows_there s r x a (length words) row turn h laid ok room in
         let here : is_on (slice_index words (turn.base + e * r.env_rows)) lane ≡ not (gone ((turn.base + e * r.env_rows) * lanes_in s + lane)) = (rows.each (turn.base + e * r.env_rows) (all.there e i)).each lane l in
-        ap not here ∙ (sym (not_not (gone ((turn.base + e * r.env_rows) * lanes_in s + lane))) ∙ ap (λ m. gone ((turn.base + e * m) * lanes_in s + lane)) h.laid.env)
+        ap not here ∙ (sym (not_not (gone ((turn.base + e * r.env_rows) * lanes_in s + lane))) ∙ ap (λ m. gone ((turn.base + e * m) * lanes_in s + lane)) laid.env)
 
 -- a state's lanes begin within the lanes
 pub state_below : (n : Sizes) (k b : ℕ) → IsSizes n → low_of n.seats ≤ k → k < length n.seats → b < slice_index n.seats k → b * stride_of n k < 64
@@ -252,9 +251,9 @@ state_shift first b st size lane is pos l low = elim (cases_lt lane (b * st)) [
         turned m r b size k l (inr e) = grind (arith, nat_tests)
 
 -- where no lane is left alive a seat within the lanes serves nothing
-pub beaten_dead : (s : Sys) (r : Rows) (x a k lane : ℕ) (row : Row) (turn : Turn) (gone : ℕ → Bool) → Known s r x row → IsTurn s row a turn → low_in s ≤ k → k < length s.seats → AreAlive s gone turn 0 → lane < lanes_in s →
+pub beaten_dead : (s : Sys) (x a k lane : ℕ) (row : Row) (turn : Turn) (gone : ℕ → Bool) → Known s x row → IsTurn s row a turn → low_in s ≤ k → k < length s.seats → AreAlive s gone turn 0 → lane < lanes_in s →
     is_beaten (numbered s) gone (x * lanes_in s + lane) a k ≡ true
-beaten_dead s r x a k lane row turn gone h ok within seat living in_lanes =
+beaten_dead s x a k lane row turn gone h ok within seat living in_lanes =
     let n = sizes_of s in
     let st = stride_of n k in
     let digit = lane / st % slice_index n.seats k in

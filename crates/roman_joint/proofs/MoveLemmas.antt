@@ -23,7 +23,6 @@ use Rattle.roman_joint.specs.NamedSys.{NamedSys, system_of, seat_of}
 use Rattle.roman_joint.specs.declared.seat.Seat as declared
 use Rattle.roman_joint.specs.Rows.{lanes_in, low_in, IsTurn, AreAlive}
 use Rattle.roman_joint.specs.Moves.{lane_state_of, GoesTo, AreMovesOf, AreWays, lane_move, lane_moves_from, ways_room, within_in, IsSpan, HoldsSpans, HoldsMoves, IsAdded, IsKept, AreSeatsOf}
-use Rattle.roman_joint.specs.declared.layout.Rows.{Rows}
 use Rattle.roman_joint.specs.declared.row.Row.{Row}
 use Rattle.roman_joint.specs.declared.turn.Turn.{Turn}
 use Rattle.roman_joint.specs.declared.moves.Move.{Move}
@@ -150,12 +149,12 @@ moves_made n k last e a beh ways h within seat states size ok = assumption (ok, 
         )
 
 -- where a service within the lanes serves, by its moves
-pub serves_within : (s : Sys) (r : Rows) (x a k some good alive : ℕ) (row : Row) (turn : Turn) (seat : Seat) (moves : List Move) (gone : ℕ → Bool) → Known s r x row → IsTurn s row a turn → low_in s ≤ k →
+pub serves_within : (s : Sys) (x a k some good alive : ℕ) (row : Row) (turn : Turn) (seat : Seat) (moves : List Move) (gone : ℕ → Bool) → Known s x row → IsTurn s row a turn → low_in s ≤ k →
     slice_get s.seats k ≡ Some seat → IsFalse seat.frozen → AreMovesOf (sizes_of s) k seat.beh row.env a some moves → AreAlive s gone turn alive →
     ((lane : ℕ) → lane < 64 → ((move : Move) → IsIn move moves → is_on move.lanes lane ≡ true → (move.from ≤ lane) × (lane + move.to - move.from < 64)) →
     is_on good lane ≡ (is_on some lane && not (list_any (λ move. is_on move.lanes lane && not (is_on alive (lane + move.to - move.from))) moves))) →
     ((lane : ℕ) → is_on some lane ≡ false → is_on good lane ≡ false) → HasLanes (lanes_in s) x (λ p. not (is_beaten (numbered s) gone p a k)) good
-serves_within s r x a k some good alive row turn seat moves gone h ok within seated ready are living told off = record {
+serves_within s x a k some good alive row turn seat moves gone h ok within seated ready are living told off = record {
   each = λ lane l. each lane l;
   rest = λ lane l. off lane (are.rest lane l);
 }
@@ -220,9 +219,9 @@ serves_within s r x a k some good alive row turn seat moves gone h ok within sea
         ∙ (ap₂ (λ y z. y && not z) (are.each lane l ∙ ap not full) (same_any lane l) ∙ all_alive lane l full))
 
 -- a frozen service serves nowhere
-pub beaten_frozen : (s : Sys) (r : Rows) (x a k : ℕ) (row : Row) (turn : Turn) (seat : Seat) (gone : ℕ → Bool) → Known s r x row → IsTurn s row a turn → low_in s ≤ k →
+pub beaten_frozen : (s : Sys) (x a k : ℕ) (row : Row) (turn : Turn) (seat : Seat) (gone : ℕ → Bool) → Known s x row → IsTurn s row a turn → low_in s ≤ k →
     slice_get s.seats k ≡ Some seat → IsTrue seat.frozen → HasLanes (lanes_in s) x (λ p. not (is_beaten (numbered s) gone p a k)) 0
-beaten_frozen s r x a k row turn seat gone h ok within seated frozen = record {
+beaten_frozen s x a k row turn seat gone h ok within seated frozen = record {
   each = λ lane l.
       let n = sizes_of s in
       let digit = lane_state_of n k lane in

@@ -72,7 +72,7 @@ fn good_within(joint: &Joint, row: &Row, alive: u64, a: u8, k: u8) -> u64
         IsTurn (system_of joint.now) row.now a turn → AreAlive (system_of joint.now) gone turn alive →
         HasLanes (lanes_in (system_of joint.now)) x (λ p. not (is_beaten (numbered (system_of joint.now)) gone p a k)) result }
 {
-    joint.layout();
+    joint.known();
     if joint.seat(k).frozen {
         return 0;
     }
@@ -152,7 +152,7 @@ impl Joint {
             AreRows (lanes_in (system_of self.now)) (λ q. not (gone q)) words.now →
             HasBits result (has (mask_of (numbered (system_of self.now)) gone (x * lanes_in (system_of self.now) + lane) a)) }
     {
-        self.layout();
+        self.known();
         if (self.row_actions(row) >> a) & 1 == 0 {
             return 0;
         }
@@ -180,7 +180,7 @@ impl Joint {
             result ≡ sum_by (λ lane. length (mask_of (numbered (system_of self.now)) gone (x * lanes_in (system_of self.now) + lane) a)) (below (lanes_in (system_of self.now))) }
         ensures few { result ≤ 2048 }
     {
-        self.layout();
+        self.known();
         if (self.row_actions(row) >> a) & 1 == 0 {
             return 0;
         }

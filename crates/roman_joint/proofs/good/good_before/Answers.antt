@@ -25,9 +25,9 @@ returns-then-is_empty c x gone ok rows =
     let n = c.args.joint.now in
     let s = system_of n in
     let r = c.layout-rows.result.now in
-    let h : Known s r x c.args.row.now = known n r x c.args.row.now c.layout-rows.ensures.known c.layout-rows.ensures.rows ok in
+    let h : Known s x c.args.row.now = known n x c.args.row.now c.layout-rows.ensures.known ok in
     let states = c.next_states-states.result.now in
-    beaten_before s r x c.args.a c.args.k c.args.row.now c.args.turn.now states gone h c.requires.turn c.requires.seat c.next_states-states.ensures.next
+    beaten_before s r x c.args.a c.args.k c.args.row.now c.args.turn.now states gone h c.layout-rows.ensures.rows c.requires.turn c.requires.seat c.next_states-states.ensures.next
     (empty_is states (sym (len_empty states) ∙ (sym c.is_empty.ensures ∙ c.if-is_empty.true)))
 
 -- the rows to which the seat goes
@@ -37,7 +37,7 @@ rows_to c =
     let r = c.layout-rows.result.now in
     let (x, ok) = c.requires.row in
     rows_before (system_of n) r x c.args.a c.args.k c.from.result (length c.args.words.now) c.args.row.now c.args.turn.now c.next_states-states.result.now
-    (known n r x c.args.row.now c.layout-rows.ensures.known c.layout-rows.ensures.rows ok) c.requires.turn c.requires.seat c.requires.room c.next_states-states.ensures.next c.from.ensures
+    (known n x c.args.row.now c.layout-rows.ensures.known ok) c.layout-rows.ensures.rows c.requires.turn c.requires.seat c.requires.room c.next_states-states.ensures.next c.from.ensures
 
 pub overflow_mul-base : goal.overflow_mul-base
 overflow_mul-base c = let to = rows_to (goal.at.overflow_mul-base c).After-from in omega (arith, to.taken, to.turn_rows.inside, to.turn_rows.few)
@@ -68,8 +68,8 @@ returns c x gone ok rows =
     let n = c.args.joint.now in
     let s = system_of n in
     let r = c.layout-rows.result.now in
-    let h : Known s r x c.args.row.now = known n r x c.args.row.now c.layout-rows.ensures.known c.layout-rows.ensures.rows ok in
+    let h : Known s x c.args.row.now = known n x c.args.row.now c.layout-rows.ensures.known ok in
     let states = c.next_states-states.result.now in
     let some : IsFalse (is_empty states) = sym (len_empty states) ∙ (sym c.is_empty.ensures ∙ c.if-is_empty.false) in
-    serves_before s r x c.args.a c.args.k c.from.result c.all_alive.result c.args.row.now c.args.turn.now states c.args.words.now gone h c.requires.turn c.requires.seat c.requires.room
+    serves_before s r x c.args.a c.args.k c.from.result c.all_alive.result c.args.row.now c.args.turn.now states c.args.words.now gone h c.layout-rows.ensures.rows c.requires.turn c.requires.seat c.requires.room
     c.next_states-states.ensures.next c.from.ensures some rows c.all_alive.ensures

@@ -7,9 +7,8 @@ use Rattle.roman_joint.proofs.good.good_within.Goals as goal
 pub returns-then-seat : goal.returns-then-seat
 returns-then-seat c x gone turn ok turned living =
     let n = c.args.joint.now in
-    let r = c.layout.result.now in
-    let h = known n r x c.args.row.now c.layout.ensures.known c.layout.ensures.rows ok in
-    beaten_frozen (system_of n) r x c.args.a c.args.k c.args.row.now turn (seat_of n.catalogue c.seat.result.now) gone h turned c.requires.within (seat_placed n c.args.k c.seat.result.now c.seat.ensures) c.if-seat.true
+    let h = known n x c.args.row.now c.known.ensures ok in
+    beaten_frozen (system_of n) x c.args.a c.args.k c.args.row.now turn (seat_of n.catalogue c.seat.result.now) gone h turned c.requires.within (seat_placed n c.args.k c.seat.result.now c.seat.ensures) c.if-seat.true
 
 pub lane_moves-some-requires-clause-env : goal.lane_moves-some-requires-clause-env
 lane_moves-some-requires-clause-env c = c.requires.row.1.env_range
@@ -24,9 +23,8 @@ pub returns : goal.returns
 returns c x gone turn ok turned living =
     let n = c.args.joint.now in
     let s = system_of n in
-    let r = c.layout.result.now in
-    let h = known n r x c.args.row.now c.layout.ensures.known c.layout.ensures.rows ok in
+    let h = known n x c.args.row.now c.known.ensures ok in
     let seat = seat_of n.catalogue c.seat.result.now in
     let seated = seat_placed n c.args.k c.seat.result.now c.seat.ensures in
-    serves_within s r x c.args.a c.args.k c.lane_moves-some.result.0 c.moves_alive.result c.args.alive c.args.row.now turn seat c.lane_moves-some.result.1.now gone h turned c.requires.within
+    serves_within s x c.args.a c.args.k c.lane_moves-some.result.0 c.moves_alive.result c.args.alive c.args.row.now turn seat c.lane_moves-some.result.1.now gone h turned c.requires.within
     seated c.if-seat.false (c.lane_moves-some.ensures seat seated) living (λ lane l in_range. c.moves_alive.ensures.alive lane l in_range) (λ lane off. c.moves_alive.ensures.within lane off)

@@ -18,7 +18,7 @@ returns-then-row_actions-a-eq0-clause-counted c x gone ok rows =
     let s = system_of c.args.self.now in
     let w = lanes_in s in
     none_chosen (numbered s) gone w x c.args.a (λ lane l.
-    let bit = (c.row_actions.ensures x lane ok l).each c.args.a (let few = c.layout.ensures.known.system.env.actions.1 in omega arith) in
+    let bit = (c.row_actions.ensures x lane ok l).each c.args.a (let few = c.known.ensures.system.env.actions.1 in omega arith) in
     bit_off ((numbered s).allows (x * w + lane) c.args.a) (sym bit ∙ sym (shr_and_one c.row_actions.result c.args.a) ∙ c.if-row_actions-a-eq0.true))
 
 pub returns-in_default-clause-counted : goal.returns-in_default-clause-counted
@@ -46,11 +46,11 @@ returns-clause-counted c x gone ok rows =
     let s = system_of n in
     let w = lanes_in s in
     let seats = length-map n.seats (seat_of n.catalogue) in
-    let h = known n c.layout.result.now x c.args.row.now c.layout.ensures.known c.layout.ensures.rows ok in
+    let h = known n x c.args.row.now c.known.ensures ok in
     let living = c.alive_on-alive.ensures gone rows in
     c.loop-k.invariant.counted x gone ok rows
     ∙ (sum_cut (served_by (numbered s) gone w x c.args.a) c.loop-k.k (length s.seats) (omega (arith, seats, c.serving-k-end.ensures.few))
     (λ k past l.
     let (within, dead) = c.serving-k-end.ensures.rest k (omega arith) (omega (arith, seats)) in
-    none_served (numbered s) gone w x c.args.a k (λ lane in_lanes. beaten_dead s c.layout.result.now x c.args.a k lane c.args.row.now c.in-Some.turn gone h c.in-Some.ensures within l (subst (AreAlive s gone c.in-Some.turn) dead living) in_lanes))
-    ∙ action_counted (numbered s) (joint_numbered n c.layout.ensures.known) gone w x c.args.a)
+    none_served (numbered s) gone w x c.args.a k (λ lane in_lanes. beaten_dead s x c.args.a k lane c.args.row.now c.in-Some.turn gone h c.in-Some.ensures within l (subst (AreAlive s gone c.in-Some.turn) dead living) in_lanes))
+    ∙ action_counted (numbered s) (joint_numbered n c.known.ensures) gone w x c.args.a)

@@ -19,7 +19,7 @@ pub returns-then-row_actions-a-eq0 : goal.returns-then-row_actions-a-eq0
 returns-then-row_actions-a-eq0 c x gone ok rows =
     let s = system_of c.args.self.now in
     let p = x * lanes_in s + c.args.lane in
-    let bit = (c.row_actions.ensures x c.args.lane ok c.requires.lane).each c.args.a (let few = c.layout.ensures.known.system.env.actions.1 in omega arith) in
+    let bit = (c.row_actions.ensures x c.args.lane ok c.requires.lane).each c.args.a (let few = c.known.ensures.system.env.actions.1 in omega arith) in
     mask_refused (numbered s) gone p c.args.a (bit_off ((numbered s).allows p c.args.a) (sym bit ∙ sym (shr_and_one c.row_actions.result c.args.a) ∙ c.if-row_actions-a-eq0.true))
 
 pub returns-in_default : goal.returns-in_default
@@ -44,7 +44,7 @@ loop-k-preserved c = record {
       let seat : k < A.seats = omega (arith, length-map n.seats (seat_of n.catalogue), c.serving-k-end.ensures.few, c.loop-k-test.true) in
       let word = c.good_on-good.ensures x gone ok rows (c.alive_on-alive.ensures gone rows) in
       let good : eqb (bit_and (c.good_on-good.result / 2 ^ c.args.lane) 1) 1 ≡ has (mask A gone p c.args.a) k =
-      ap (λ w. eqb w 1) (shr_and_one c.good_on-good.result c.args.lane) ∙ (word.each c.args.lane c.requires.lane ∙ sym (has_good A (joint_numbered n c.layout.ensures.known) gone p c.args.a k seat)) in
+      ap (λ w. eqb w 1) (shr_and_one c.good_on-good.result c.args.lane) ∙ (word.each c.args.lane c.requires.lane ∙ sym (has_good A (joint_numbered n c.known.ensures) gone p c.args.a k seat)) in
       mask_more A gone p c.args.a k c.loop-k.mask c.with_bit-mask.result _ good c.with_bit-mask.ensures.own c.with_bit-mask.ensures.others (c.loop-k.invariant.bits x gone ok rows) c.loop-k.invariant.rest;
   rest = λ j l. c.with_bit-mask.ensures.others j (omega arith) ∙ c.loop-k.invariant.rest j (omega arith);
 }
@@ -54,10 +54,10 @@ returns c x gone ok rows =
     let n = c.args.self.now in
     let s = system_of n in
     let seats = length-map n.seats (seat_of n.catalogue) in
-    let h = known n c.layout.result.now x c.args.row.now c.layout.ensures.known c.layout.ensures.rows ok in
+    let h = known n x c.args.row.now c.known.ensures ok in
     let living = c.alive_on-alive.ensures gone rows in
-    mask_all (numbered s) (joint_numbered n c.layout.ensures.known) gone (x * lanes_in s + c.args.lane) c.args.a c.loop-k.k c.loop-k.mask
+    mask_all (numbered s) (joint_numbered n c.known.ensures) gone (x * lanes_in s + c.args.lane) c.args.a c.loop-k.k c.loop-k.mask
     (λ k past l.
     let (within, dead) = c.serving-k-end.ensures.rest k (omega arith) (omega (arith, seats)) in
-    beaten_dead s c.layout.result.now x c.args.a k c.args.lane c.args.row.now c.in-Some.turn gone h c.in-Some.ensures within l (subst (AreAlive s gone c.in-Some.turn) dead living) c.requires.lane)
+    beaten_dead s x c.args.a k c.args.lane c.args.row.now c.in-Some.turn gone h c.in-Some.ensures within l (subst (AreAlive s gone c.in-Some.turn) dead living) c.requires.lane)
     (c.loop-k.invariant.bits x gone ok rows) c.loop-k.invariant.rest

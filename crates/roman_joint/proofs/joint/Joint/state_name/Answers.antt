@@ -1,4 +1,4 @@
-use Rattle.std.proofs.Common.{◌≡◌, ◌<◌, ℕ, List, length, slice_index, sym, ap₂, ◌∙◌, subst}
+use Rattle.std.proofs.Common.{◌<◌, ℕ, List, length, slice_index, sym, ap₂, ◌∙◌, subst}
 use Rattle.roman_model.specs.Explanation.{name_at}
 use Rattle.roman_model.specs.Numbers.{sizes_of}
 use Rattle.roman_joint.specs.NamedSys.{system_of}
