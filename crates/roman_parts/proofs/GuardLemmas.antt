@@ -46,46 +46,28 @@ pub ruleset soles = (sole_of-none, sole_of-entry, sole_of-entries)
 module _ (states : List (List ℕ)) (i : ℕ) where
   pub guard_of-boolean : (d : Data) (b : Bool) → Some b ≡ as_bool d → guard_of states i d ≡ Ok (λ _. b)
   unfolding guard_of
-  guard_of-boolean null b h = cc
   guard_of-boolean (boolean c) b h = let same : c ≡ b = cc in rw same
-  guard_of-boolean (number n) b h = cc
-  guard_of-boolean (string s) b h = cc
-  guard_of-boolean (array ds) b h = cc
-  guard_of-boolean (object ms) b h = cc
+  guard_of-boolean _ b h = cc
 
   pub guard_of-array : (d : Data) (items : Items) → Some items ≡ as_array d → guard_of states i d ≡ among_of states i items
   unfolding guard_of
-  guard_of-array null items h = cc
-  guard_of-array (boolean c) items h = cc
-  guard_of-array (number n) items h = cc
-  guard_of-array (string s) items h = cc
   guard_of-array (array ds) items h = let same : ds ≡ items = cc in rw same
-  guard_of-array (object ms) items h = cc
+  guard_of-array _ items h = cc
 
   pub guard_of-sole : (d : Data) (name : List ℕ) (e : Data) → Some (name, e) ≡ sole_of d
       → guard_of states i d ≡ operator_of i name (guard_of states i e) (guards_of states i e)
   unfolding guard_of
-  guard_of-sole null name e h = cc
-  guard_of-sole (boolean c) name e h = cc
-  guard_of-sole (number n) name e h = cc
-  guard_of-sole (string s) name e h = cc
-  guard_of-sole (array ds) name e h = cc
-  guard_of-sole (object no_members) name e h = cc
   guard_of-sole (object (member k d no_members)) name e h =
       let same : ◌≡◌ {A = List ℕ × Data} (k, d) (name, e) = cc in
       rw (ap (λ (m : List ℕ × Data). m.0) same, ap (λ (m : List ℕ × Data). m.1) same)
-  guard_of-sole (object (member k d (member l f ms))) name e h = cc
+  guard_of-sole _ name e h = cc
 
   pub guard_of-none : (d : Data) → None ≡ as_bool d → None ≡ as_array d → None ≡ sole_of d → guard_of states i d ≡ no_guard i
   unfolding guard_of
-  guard_of-none null h j k = refl
   guard_of-none (boolean c) h j k = cc
-  guard_of-none (number n) h j k = refl
-  guard_of-none (string s) h j k = refl
   guard_of-none (array ds) h j k = cc
-  guard_of-none (object no_members) h j k = refl
   guard_of-none (object (member name d no_members)) h j k = cc
-  guard_of-none (object (member name d (member l f ms))) h j k = refl
+  guard_of-none _ h j k = refl
 
   pub guards_of-list : (d : Data) → guards_of states i d ≡ (looked Steps i (list_of d) >>= each_guard states i)
   unfolding guards_of
@@ -98,17 +80,11 @@ module _ (states : List (List ℕ)) (i : ℕ) where
 
 -- the only member of an object nests less
 pub sole-depth : (d : Data) (name : List ℕ) (e : Data) → Some (name, e) ≡ sole_of d → depth e < depth d
-sole-depth null name e h = cc
-sole-depth (boolean c) name e h = cc
-sole-depth (number n) name e h = cc
-sole-depth (string s) name e h = cc
-sole-depth (array ds) name e h = cc
-sole-depth (object no_members) name e h = cc
 sole-depth (object (member k d no_members)) name e h =
     let same : ◌≡◌ {A = List ℕ × Data} (k, d) (name, e) = cc in
     let less : depth d ≡ depth e = ap (λ (m : List ℕ × Data). depth m.1) same in
     omega arith
-sole-depth (object (member k d (member l f ms))) name e h = cc
+sole-depth _ name e h = cc
 
 item-depth : (items : List Value) (k : ℕ) (x : Value) → k < length items → depth (view (get_or items k x)) ≤ items_depth (items_view items)
 item-depth [] k x h = absurd (omega arith)
@@ -116,12 +92,8 @@ item-depth (v ∷ items) zero x h = omega arith
 item-depth (v ∷ items) (suc k) x h = let rest : depth (view (get_or items k x)) ≤ items_depth (items_view items) = item-depth items k x (omega arith) in omega arith
 
 list-depth : (list : Place) (i : ℕ) (d : Data) (ds : Items) → looked list i (list_of d) ≡ Ok ds → items_depth ds < depth d
-list-depth list i null ds h = cc
-list-depth list i (boolean c) ds h = cc
-list-depth list i (number n) ds h = cc
-list-depth list i (string s) ds h = cc
 list-depth list i (array es) ds h = let same : es ≡ ds = cc in let less : items_depth es ≡ items_depth ds = ap items_depth same in omega arith
-list-depth list i (object ms) ds h = cc
+list-depth list i _ ds h = cc
 
 -- each item of a list nests less
 pub listed-depth : (list : Place) (i : ℕ) (d : Data) (items : List Value) (k : ℕ) (x : Value) → looked list i (list_of d) ≡ Ok (items_view items)

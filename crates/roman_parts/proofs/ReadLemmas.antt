@@ -400,53 +400,32 @@ row_there : (i : ℕ) (d : Data) (items : Items) → looked list.Steps i (list_o
 row_there i d items h = looked_ok list.Steps i (list_of d) items h ∙ ap Ok (sym (items_listed items))
 
 three_is : (items : Items) (a b c : Data) → three_of items ≡ Some (a, b, c) → items ≡ items_of (a ∷ b ∷ c ∷ [])
-three_is no_items a b c h = cc
-three_is (item x no_items) a b c h = cc
-three_is (item x (item y no_items)) a b c h = cc
 three_is (item x (item y (item z no_items))) a b c h =
     let same = same_Some (x, y, z) (a, b, c) h in
     rw (ap (λ (p : Data × Data × Data). p.0) same, ap (λ (p : Data × Data × Data). p.1) same, ap (λ (p : Data × Data × Data). p.2) same) refl
-three_is (item x (item y (item z (item w items)))) a b c h = cc
+three_is _ a b c h = cc
 
 not_three : (items : Items) → three_of items ≡ None → length (listed items) ≢ 3
-not_three no_items h = λ e. omega (arith, e)
-not_three (item x no_items) h = λ e. omega (arith, e)
-not_three (item x (item y no_items)) h = λ e. omega (arith, e)
 not_three (item x (item y (item z no_items))) h = cc
-not_three (item x (item y (item z (item w items)))) h = λ e. omega (arith, e)
+not_three _ h = λ e. omega (arith, e)
 
 no_three : (ds : List Data) → length ds ≢ 3 → three_of (items_of ds) ≡ None
-no_three [] h = refl
-no_three (x ∷ []) h = refl
-no_three (x ∷ y ∷ []) h = refl
 no_three (x ∷ y ∷ z ∷ []) h = absurd (h refl)
-no_three (x ∷ y ∷ z ∷ w ∷ ds) h = refl
+no_three _ h = refl
 
 four_is : (items : Items) (a b c d : Data) → four_of items ≡ Some (a, b, c, d) → items ≡ items_of (a ∷ b ∷ c ∷ d ∷ [])
-four_is no_items a b c d h = cc
-four_is (item x no_items) a b c d h = cc
-four_is (item x (item y no_items)) a b c d h = cc
-four_is (item x (item y (item z no_items))) a b c d h = cc
 four_is (item x (item y (item z (item w no_items)))) a b c d h =
     let same = same_Some (x, y, z, w) (a, b, c, d) h in
     rw (ap (λ (p : Data × Data × Data × Data). p.0) same, ap (λ (p : Data × Data × Data × Data). p.1) same, ap (λ (p : Data × Data × Data × Data). p.2) same, ap (λ (p : Data × Data × Data × Data). p.3) same) refl
-four_is (item x (item y (item z (item w (item v items))))) a b c d h = cc
+four_is _ a b c d h = cc
 
 not_four : (items : Items) → four_of items ≡ None → length (listed items) ≢ 4
-not_four no_items h = λ e. omega (arith, e)
-not_four (item x no_items) h = λ e. omega (arith, e)
-not_four (item x (item y no_items)) h = λ e. omega (arith, e)
-not_four (item x (item y (item z no_items))) h = λ e. omega (arith, e)
 not_four (item x (item y (item z (item w no_items)))) h = cc
-not_four (item x (item y (item z (item w (item v items))))) h = λ e. omega (arith, e)
+not_four _ h = λ e. omega (arith, e)
 
 no_four : (ds : List Data) → length ds ≢ 4 → four_of (items_of ds) ≡ None
-no_four [] h = refl
-no_four (x ∷ []) h = refl
-no_four (x ∷ y ∷ []) h = refl
-no_four (x ∷ y ∷ z ∷ []) h = refl
 no_four (x ∷ y ∷ z ∷ w ∷ []) h = absurd (h refl)
-no_four (x ∷ y ∷ z ∷ w ∷ v ∷ ds) h = refl
+no_four _ h = refl
 
 -- Steps of environments
 

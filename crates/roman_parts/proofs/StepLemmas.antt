@@ -8,35 +8,21 @@ use Rattle.roman_parts.specs.Steps.{three_of, four_of}
 
 pub three_of-items : (items : List Value) (a b c : Value) → length items ≡ 3 → a ≡ get_or items 0 a → b ≡ get_or items 1 b → c ≡ get_or items 2 c
     → three_of (items_view items) ≡ Some (view a, view b, view c)
-three_of-items [] a b c h p q r = absurd (omega (arith, h))
-three_of-items (x ∷ []) a b c h p q r = absurd (omega (arith, h))
-three_of-items (x ∷ y ∷ []) a b c h p q r = absurd (omega (arith, h))
 three_of-items (x ∷ y ∷ z ∷ []) a b c h p q r = rw (p, q, r)
-three_of-items (x ∷ y ∷ z ∷ w ∷ items) a b c h p q r = absurd (omega (arith, h))
+three_of-items _ a b c h p q r = absurd (omega (arith, h))
 
 pub three_of-others : (items : List Value) → (length items ≡ 3 → ⊥) → three_of (items_view items) ≡ None
-three_of-others [] h = refl
-three_of-others (x ∷ []) h = refl
-three_of-others (x ∷ y ∷ []) h = refl
 three_of-others (x ∷ y ∷ z ∷ []) h = absurd (h refl)
-three_of-others (x ∷ y ∷ z ∷ w ∷ items) h = refl
+three_of-others _ h = refl
 
 pub four_of-items : (items : List Value) (a b c d : Value) → length items ≡ 4 → a ≡ get_or items 0 a → b ≡ get_or items 1 b → c ≡ get_or items 2 c → d ≡ get_or items 3 d
     → four_of (items_view items) ≡ Some (view a, view b, view c, view d)
-four_of-items [] a b c d h p q r s = absurd (omega (arith, h))
-four_of-items (x ∷ []) a b c d h p q r s = absurd (omega (arith, h))
-four_of-items (x ∷ y ∷ []) a b c d h p q r s = absurd (omega (arith, h))
-four_of-items (x ∷ y ∷ z ∷ []) a b c d h p q r s = absurd (omega (arith, h))
 four_of-items (x ∷ y ∷ z ∷ w ∷ []) a b c d h p q r s = rw (p, q, r, s)
-four_of-items (x ∷ y ∷ z ∷ w ∷ v ∷ items) a b c d h p q r s = absurd (omega (arith, h))
+four_of-items _ a b c d h p q r s = absurd (omega (arith, h))
 
 pub four_of-others : (items : List Value) → (length items ≡ 4 → ⊥) → four_of (items_view items) ≡ None
-four_of-others [] h = refl
-four_of-others (x ∷ []) h = refl
-four_of-others (x ∷ y ∷ []) h = refl
-four_of-others (x ∷ y ∷ z ∷ []) h = refl
 four_of-others (x ∷ y ∷ z ∷ w ∷ []) h = absurd (h refl)
-four_of-others (x ∷ y ∷ z ∷ w ∷ v ∷ items) h = refl
+four_of-others _ h = refl
 
 -- what the parts of a step rest on
 pub ruleset items = (three_of-items, three_of-others, four_of-items, four_of-others)
