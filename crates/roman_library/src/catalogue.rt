@@ -69,7 +69,7 @@ impl Listed for Behaviour {
             return Err(refused(Kind::Repeated, List::Name));
         }
         let behaviour = read_behaviour(alloc, v, environment)?;
-        let _names = behaviour.states();
+        behaviour.known();
         Ok(behaviour)
     }
 }

@@ -83,7 +83,7 @@ pub(crate) fn target_over(
 {
     match read_target(alloc, v, environment) {
         Ok(target) => {
-            let _names = target.states();
+            target.known();
             Ok(target)
         }
         Err(error) => Err(error),

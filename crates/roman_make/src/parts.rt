@@ -24,7 +24,7 @@ pub(crate) fn make_floor(alloc: Global) -> Result<Environment, AllocError>
     let states = names_of(alloc, &FLOOR_STATES)?;
     let actions = names_of(alloc, &ACTIONS)?;
     let floor = Environment::from_lists(alloc, states, actions, 0, &FLOOR_STEPS)?;
-    let _states = floor.states();
+    floor.known();
     Ok(floor)
 }
 
@@ -58,7 +58,7 @@ pub(crate) fn make_worker(alloc: Global, env: &Environment) -> Result<Behaviour,
     let states = names_of(alloc, &WORKER_STATES)?;
     let steps = steps_of(alloc, &WORKER_STEPS)?;
     let worker = Behaviour::from_lists(alloc, name, states, 0, &WORKER_FINALS, &steps, env)?;
-    let _states = worker.states();
+    worker.known();
     Ok(worker)
 }
 
@@ -71,7 +71,7 @@ pub(crate) fn make_shift(alloc: Global, env: &Environment) -> Result<Target, All
     let states = names_of(alloc, &SHIFT_STATES)?;
     let steps = steps_of(alloc, &SHIFT_STEPS)?;
     let shift = Target::from_lists(alloc, states, 0, &SHIFT_FINALS, &steps, env)?;
-    let _states = shift.states();
+    shift.known();
     Ok(shift)
 }
 

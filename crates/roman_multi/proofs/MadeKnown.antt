@@ -1,5 +1,5 @@
 -- Combined parts that no rule forbids are in range.
-use Rattle.std.proofs.Common.{◌≡◌, ℕ, ◌<◌, ◌≤◌, Bool, true, false, cond, List, length, All, Some, None, IsFalse, refl, ◌∙◌, subst}
+use Rattle.std.proofs.Common.{◌≡◌, ℕ, ◌<◌, ◌≤◌, Bool, true, false, cond, List, length, All, Some, None, IsFalse, refl, subst}
 use Rattle.roman_model.specs.Lists.{product_of}
 use Rattle.roman_model.specs.System.{IsEnv, IsBeh, IsSys, is_final}
 use Rattle.roman_model.specs.Made.{beh_from}
@@ -12,7 +12,6 @@ use Rattle.roman_parts.specs.Named.{NamedEnv, NamedBeh, IsOver}
 use Rattle.roman_parts.proofs.CallerLemmas.{IsOver-states, IsOver-start}
 use Rattle.roman_multi.specs.Combining.{IsKnown, machines, requests_in, has_many_states, has_bad_count, has_long_name, has_one_name, forbidding}
 use Rattle.roman_multi.specs.declared.parts.Named.{Named}
-use Rattle.roman_multi.specs.declared.error.CombineError.{CombineError}
 use Rattle.roman_multi.specs.declared.error.CombineError.TheVariants as error
 use Rattle.roman_multi.proofs.KnownLemmas.{several, several_is}
 use Rattle.roman_multi.proofs.CombineLemmas.{good_count}

@@ -40,7 +40,7 @@ fn push_move(
     ensures { IfOk result (λ _. steps.new.items ≡ steps.old.items
         ++ moves_in t n e (next_of_all (machines targets.now) (states_at (target_sizes (machines targets.now)) t) e (Some request.now))) }
 {
-    let _states = env.states();
+    env.known();
     let member = &targets[request.target as usize].target;
     let state = shape.part_of(u32::from(t), request.target);
     match member.step(state, e, request.action) {
@@ -213,7 +213,7 @@ pub(crate) fn combine_target(
     ensures target { IfOk result
         (λ made. made.beh ≡ combined_target env.now.env.states requests.now (machines targets.now)) }
 {
-    let _states = env.states();
+    env.known();
     let finals = finals_of(alloc, env, targets, shape)?;
     let start = start_of(alloc, env, targets, shape)?;
     let steps = moves_of(alloc, env, targets, shape, requests)?;

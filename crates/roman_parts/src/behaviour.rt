@@ -89,6 +89,15 @@ impl Behaviour {
         })
     }
 
+    /// Tells a prover what holds of every behaviour: each of its states has a name, and its numbers are
+    /// in range. It does nothing.
+    pub fn known(&self)
+        ensures names { length self.now.states ≡ self.now.beh.states }
+        ensures over { IsOver self.now.env_states self.now.actions self.now.beh }
+    {
+        let _states = &self.states;
+    }
+
     /// The behaviour's name.
     pub fn name(&self) -> &Name
         ensures { result.now ≡ self.now.name }

@@ -98,6 +98,13 @@ impl Environment {
         })
     }
 
+    /// Tells a prover what holds of every environment: its numbers are in range. It does nothing.
+    pub fn known(&self)
+        ensures { IsEnv self.now.env }
+    {
+        let _states = &self.states;
+    }
+
     /// The names of the states, by number.
     pub fn states(&self) -> &NameTable
         ensures names { result.now ≡ self.now.states }

@@ -84,6 +84,16 @@ impl Target {
         })
     }
 
+    /// Tells a prover what holds of every target: each of its states has a name, its numbers are in
+    /// range, and it is deterministic. It does nothing.
+    pub fn known(&self)
+        ensures names { length self.now.states ≡ self.now.beh.states }
+        ensures over { IsOver self.now.env_states self.now.actions self.now.beh }
+        ensures single { IsDeterministic self.now.beh }
+    {
+        let _states = &self.states;
+    }
+
     /// The names of the states, by number.
     pub fn states(&self) -> &NameTable
         ensures names { result.now ≡ self.now.states }

@@ -9,7 +9,7 @@ returns-in-Ok-clause-known c =
     record {
       env_states = over.0;
       actions = over.1;
-      names = c.states-names.ensures.count;
-      known = c.states-names.ensures.known;
-      single = c.states-names.ensures.single;
+      names = c.known.ensures.names;
+      known = c.known.ensures.over;
+      single = c.known.ensures.single;
     }
