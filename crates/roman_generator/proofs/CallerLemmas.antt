@@ -2,5 +2,5 @@
 
 -- The mask of a complete list has the offers.
 pub use Rattle.roman_generator.proofs.OfferLemmas.{has_in, in_has}
--- Becomes by a request that is served.
+-- Moves by a request that is served.
 pub use Rattle.roman_generator.proofs.MoveLemmas.{state_within, states_long}

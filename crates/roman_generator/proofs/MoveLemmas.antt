@@ -1,16 +1,16 @@
--- Becomes by a request that is served.
-use Rattle.std.proofs.Common.{◌≡◌, ◌≢◌, ℕ, zero, suc, ◌<◌, ◌≤◌, List, [], ◌∷◌, Option, Some, None, IsTrue, IsFalse, All, length, map, slice_get, slice_index, refl, sym, ap, ◌∙◌, subst, arith}
+-- Moves by a request that is served.
+use Rattle.std.proofs.Common.{◌≡◌, ℕ, zero, suc, ◌<◌, List, [], ◌∷◌, Option, Some, None, IsTrue, IsFalse, IfSome, IfNone, MatchOption, inl, length, map, slice_get, slice_index, refl, sym, ap, ◌∙◌, subst, arith}
 use Rattle.std.proofs.lemmas.List.{get_or-set_same, length-map}
 use Rattle.std.proofs.lemmas.Bool.{both_ways, not-true}
 use Rattle.std.proofs.lemmas.Option.{slice_get_within}
-use Rattle.std.proofs.lemmas.List.Elements.{All-contains}
 use Rattle.roman_model.specs.Lists.{IsIn}
-use Rattle.roman_model.proofs.CallerLemmas.{in_contains, in_env_next, from_env_next, in_beh_next, from_beh_next, seat_in, numbers_are_pairs, AreBelow-length, AreBelow-index, states_below, IsPairOf-from, IsPairOf-moved, pair_at-number}
-use Rattle.roman_model.specs.System.{Sys, IsSys, Seat, Pair, IsPair, has, has_triple, has_move}
+use Rattle.roman_model.proofs.CallerLemmas.{in_env_next, from_env_next, in_beh_next, from_beh_next, move_in_range, triple_in_range, seat_in, numbers_are_pairs, AreBelow-length, AreBelow-index, states_below, IsPairOf-from, IsPairOf-moved, pair_at-number}
+use Rattle.roman_model.specs.System.{Sys, IsSys, Seat, Pair, IsPair, TStep, Allows, has, has_move}
 use Rattle.roman_model.specs.SystemArena.{env_next, beh_next, is_ready}
 use Rattle.roman_model.specs.Numbers.{sizes_of, count, number, pair_at}
 use Rattle.roman_radix.specs.Radix.{moved}
-use Rattle.roman_generator.specs.Moves.{CanMove, Becomes}
+use Rattle.roman_generator.specs.Moves.{CanMove, Becomes, IsServed}
+use Rattle.roman_generator.specs.declared.sight.Sight.{Sight}
 use Rattle.roman_generator.proofs.OfferLemmas.{in_has, has_in}
 
 -- a pair has a state for each seat
@@ -20,56 +20,6 @@ states_long s p pair = AreBelow-length (sizes_of s).seats p.bs (states_below s.s
 -- two seats at one place are one
 pub same_seat : (s : Sys) (k : ℕ) (x y : Seat) → slice_get s.seats k ≡ Some x → slice_get s.seats k ≡ Some y → x ≡ y
 same_seat s k x y h g = cc
-
--- what a system step asks of the environment and of the seat
-pub can_move_is : (s : Sys) (p : Pair) (a k b e : ℕ) (seat : Seat) → IsPair s p → slice_get s.seats k ≡ Some seat → CanMove s p a k b e →
-    IsTrue (has_triple s.env p.e a e) × IsTrue (has_move seat.beh (slice_index p.bs k) p.e a b)
-can_move_is s p a k b e seat pair seated step =
-    let same : step.seat ≡ seat = same_seat s k step.seat seat step.seated seated in
-    let within : k < length p.bs = omega (arith, states_long s p pair, slice_get_within s.seats k seat seated) in
-    let to : b ≡ step.to =
-    sym (get_or-set_same p.bs k b 0 within) ∙ ap (λ (bs : List ℕ). slice_index bs k) step.is ∙ get_or-set_same p.bs k step.to 0 within in (
-      step.world,
-      subst (λ (c : ℕ). IsTrue (has_move seat.beh (slice_index p.bs k) p.e a c)) (sym to)
-          (subst (λ (x : Seat). IsTrue (has_move x.beh (slice_index p.bs k) p.e a step.to)) same step.moves),
-    )
-
-pub can_move_from : (s : Sys) (p : Pair) (a k b e : ℕ) (seat : Seat) → slice_get s.seats k ≡ Some seat → IsFalse seat.frozen →
-    IsTrue (has_triple s.env p.e a e) → IsTrue (has_move seat.beh (slice_index p.bs k) p.e a b) → CanMove s p a k b e
-can_move_from s p a k b e seat seated ready world moves = record { seat = seat; seated = seated; ready = ready; world = world; to = b; moves = moves; is = refl }
-
--- no step, where the environment has none
-pub env_stays : (s : Sys) (p : Pair) (a k b e : ℕ) (seat : Seat) → IsSys s → IsPair s p → slice_get s.seats k ≡ Some seat → IsFalse (has (env_next s.env p.e a) e) → CanMove s p a k b e → ⊥
-env_stays s p a k b e seat ok pair seated out step =
-    both_ways (has (env_next s.env p.e a) e) out (in_has (env_next s.env p.e a) e (in_env_next s.env p.e a e ok.env (can_move_is s p a k b e seat pair seated step).0))
-
--- nor where the service has none
-pub seat_stays : (s : Sys) (p : Pair) (a k b e : ℕ) (seat : Seat) → IsSys s → IsPair s p → slice_get s.seats k ≡ Some seat → IsFalse (has (beh_next seat.beh (slice_index p.bs k) p.e a) b) → CanMove s p a k b e → ⊥
-seat_stays s p a k b e seat ok pair seated out step =
-    both_ways (has (beh_next seat.beh (slice_index p.bs k) p.e a) b) out
-    (in_has (beh_next seat.beh (slice_index p.bs k) p.e a) b
-    (in_beh_next s.env seat.beh (slice_index p.bs k) p.e a b (ok.seats seat (seat_in s.seats k seat seated)) (can_move_is s p a k b e seat pair seated step).1))
-
--- where all three have a step the pair moves
-pub all_move : (s : Sys) (p : ℕ) (a k b e to q : ℕ) (seat : Seat) → IsSys s → p < count (sizes_of s) → slice_get s.seats k ≡ Some seat → IsFalse seat.frozen →
-    IsTrue (has (env_next s.env (pair_at (sizes_of s) p).e a) e) → IsTrue (has (beh_next seat.beh (slice_index (pair_at (sizes_of s) p).bs k) (pair_at (sizes_of s) p).e a) b) →
-    IsIn to (beh_next s.target (pair_at (sizes_of s) p).t (pair_at (sizes_of s) p).e a) →
-    q ≡ number (sizes_of s) (moved (pair_at (sizes_of s) p) to e k b) → q < count (sizes_of s) → e < s.env.states → to < s.target.states → b < slice_index (sizes_of s).seats k →
-    Becomes s (pair_at (sizes_of s) p) a k b e q
-all_move s p a k b e to q seat ok l seated ready has_e has_b has_to is below env_within to_within b_within =
-    let n = sizes_of s in
-    let here = pair_at n p in
-    let world = from_env_next s.env here.e a e (has_in (env_next s.env here.e a) e has_e) in
-    let moves = from_beh_next seat.beh (slice_index here.bs k) here.e a b (has_in (beh_next seat.beh (slice_index here.bs k) here.e a) b has_b) in
-    let target = from_beh_next s.target here.t here.e a to has_to in
-    let there = IsPairOf-moved n here to e k b (IsPairOf-from s here ((numbers_are_pairs s).pair p l)) to_within env_within b_within in
-    record {
-      to = to;
-      target = (world, target);
-      system = can_move_from s here a k b e seat seated ready world moves;
-      below = below;
-      pair = ap (pair_at n) is ∙ pair_at-number n (moved here to e k b) there;
-    }
 
 -- a seat that is ready is there
 pub ready_seat : (o : Option Seat) → IsTrue (is_ready o) → (seat : Seat) × (o ≡ Some seat) × IsFalse seat.frozen
@@ -82,6 +32,98 @@ size_of_seat [] k seat h = cc
 size_of_seat (x ∷ seats) zero seat h = let e : x ≡ seat = cc in ap (λ (y : Seat). y.beh.states) e
 size_of_seat (x ∷ seats) (suc k) seat h = size_of_seat seats k seat h
 
+-- what a system step asks of the environment and of the seat
+pub served_is : (s : Sys) (p : Pair) (x : Sight) → IsPair s p → CanMove s p x.action x.seat x.state x.env → IsServed s p.e (slice_index p.bs x.seat) x
+served_is s p x pair step =
+    let within : x.seat < length p.bs = omega (arith, states_long s p pair, slice_get_within s.seats x.seat step.seat step.seated) in
+    let to : x.state ≡ step.to =
+    sym (get_or-set_same p.bs x.seat x.state 0 within) ∙ ap (λ (bs : List ℕ). slice_index bs x.seat) step.is ∙ get_or-set_same p.bs x.seat step.to 0 within in
+    record {
+      seat = step.seat;
+      seated = step.seated;
+      ready = step.ready;
+      world = step.world;
+      moves = subst (λ (b : ℕ). IsTrue (has_move step.seat.beh (slice_index p.bs x.seat) p.e x.action b)) (sym to) step.moves;
+    }
+
+-- so no step leads where nothing is served
+pub none_moves : (s : Sys) (p : Pair) (x : Sight) (o : Option ℕ) → IsPair s p → IfNone o (IsServed s p.e (slice_index p.bs x.seat) x → ⊥) → IfNone o (CanMove s p x.action x.seat x.state x.env → ⊥)
+none_moves s p x None pair none = λ step. none (served_is s p x pair step)
+none_moves s p x (Some to) pair none = tt
+
+-- and the other way
+pub served_moves : (s : Sys) (p : Pair) (x : Sight) → IsServed s p.e (slice_index p.bs x.seat) x → CanMove s p x.action x.seat x.state x.env
+served_moves s p x served = record { seat = served.seat; seated = served.seated; ready = served.ready; world = served.world; to = x.state; moves = served.moves; is = refl }
+
+-- no action is served, where the environment has no step
+pub env_stays : (s : Sys) (e b : ℕ) (x : Sight) → IsSys s → IsFalse (has (env_next s.env e x.action) x.env) → IsServed s e b x → ⊥
+env_stays s e b x ok out served =
+    let next = env_next s.env e x.action in
+    both_ways (has next x.env) out (in_has next x.env (in_env_next s.env e x.action x.env ok.env served.world))
+
+-- nor where the service has none
+pub seat_stays : (s : Sys) (e b : ℕ) (x : Sight) (seat : Seat) → IsSys s → slice_get s.seats x.seat ≡ Some seat → IsFalse (has (beh_next seat.beh b e x.action) x.state) → IsServed s e b x → ⊥
+seat_stays s e b x seat ok seated out served =
+    let next = beh_next seat.beh b e x.action in
+    let same : served.seat ≡ seat = same_seat s x.seat served.seat seat served.seated seated in
+    let moves = subst (λ (y : Seat). IsTrue (has_move y.beh b e x.action x.state)) same served.moves in
+    both_ways (has next x.state) out (in_has next x.state (in_beh_next s.env seat.beh b e x.action x.state (ok.seats seat (seat_in s.seats x.seat seat seated)) moves))
+
+-- where both have a step the action is served
+pub served_from : (s : Sys) (e b : ℕ) (x : Sight) (seat : Seat) → slice_get s.seats x.seat ≡ Some seat → IsTrue (is_ready (slice_get s.seats x.seat)) →
+    IsTrue (has (env_next s.env e x.action) x.env) → IsTrue (has (beh_next seat.beh b e x.action) x.state) → IsServed s e b x
+served_from s e b x seat seated ready has_e has_b =
+    let (y, y_seated, y_ready) = ready_seat (slice_get s.seats x.seat) ready in
+    record {
+      seat = seat;
+      seated = seated;
+      ready = subst (λ (y : Seat). IsFalse y.frozen) (same_seat s x.seat y seat y_seated seated) y_ready;
+      world = from_env_next s.env e x.action x.env (has_in (env_next s.env e x.action) x.env has_e);
+      moves = from_beh_next seat.beh b e x.action x.state (has_in (beh_next seat.beh b e x.action) x.state has_b);
+    }
+
+-- the target then goes to the state that is looked up
+pub target_goes : (s : Sys) (t e b : ℕ) (x : Sight) (o : Option ℕ) → IsServed s e b x →
+    MatchOption o (beh_next s.target t e x.action ≡ []) (λ to. beh_next s.target t e x.action ≡ to ∷ []) → IfSome o (λ to. TStep s t e x.action to x.env × IsServed s e b x)
+target_goes s t e b x None served next = tt
+target_goes s t e b x (Some to) served next = ((served.world, from_beh_next s.target t e x.action to (subst (IsIn to) (sym next) (inl refl))), served)
+
+-- and there is one, where the action is allowed
+pub target_there : (s : Sys) (t e b : ℕ) (x : Sight) (o : Option ℕ) → IsSys s → Allows s t e x.action →
+    MatchOption o (beh_next s.target t e x.action ≡ []) (λ to. beh_next s.target t e x.action ≡ to ∷ []) → IfNone o (IsServed s e b x → ⊥)
+target_there s t e b x None ok (to, e', step) next = λ served. subst (IsIn to) next (in_beh_next s.env s.target t e x.action to ok.target step.1)
+target_there s t e b x (Some to) ok allowed next = tt
+
+-- where an action is allowed all is in range
+pub allowed_within : (s : Sys) (t e a : ℕ) → IsSys s → Allows s t e a → (t < s.target.states) × (e < s.env.states) × (a < s.env.actions)
+allowed_within s t e a ok (to, e', step) =
+    let (from, env, action, there) = move_in_range s.env s.target t e a to ok.target step.1 in
+    (from, env, action)
+
+-- a service is seen in one of its states
+pub served_within : (s : Sys) (e b : ℕ) (x : Sight) → IsSys s → IsServed s e b x → x.state < slice_index (sizes_of s).seats x.seat
+served_within s e b x ok served =
+    let within = (move_in_range s.env served.seat.beh b e x.action x.state (ok.seats served.seat (seat_in s.seats x.seat served.seat served.seated)) served.moves).3 in
+    omega (arith, within, size_of_seat s.seats x.seat served.seat served.seated)
+
+-- where all three have a step the pair moves
+pub all_move : (s : Sys) (p : ℕ) (x : Sight) (to q : ℕ) → IsSys s → p < count (sizes_of s) →
+    TStep s (pair_at (sizes_of s) p).t (pair_at (sizes_of s) p).e x.action to x.env → IsServed s (pair_at (sizes_of s) p).e (slice_index (pair_at (sizes_of s) p).bs x.seat) x →
+    q ≡ number (sizes_of s) (moved (pair_at (sizes_of s) p) to x.env x.seat x.state) → q < count (sizes_of s) → Becomes s (pair_at (sizes_of s) p) x.action x.seat x.state x.env q
+all_move s p x to q ok l target served is below =
+    let n = sizes_of s in
+    let here = pair_at n p in
+    let to_within = (move_in_range s.env s.target here.t here.e x.action to ok.target target.1).3 in
+    let env_within = (triple_in_range s.env here.e x.action x.env ok.env target.0).2 in
+    let there = IsPairOf-moved n here to x.env x.seat x.state (IsPairOf-from s here ((numbers_are_pairs s).pair p l)) to_within env_within (served_within s here.e (slice_index here.bs x.seat) x ok served) in
+    record {
+      to = to;
+      target = target;
+      system = served_moves s here x served;
+      below = below;
+      pair = ap (pair_at n) is ∙ pair_at-number n (moved here to x.env x.seat x.state) there;
+    }
+
 -- the state of a seat is one of its behaviour
 pub state_within : (s : Sys) (p : Pair) (k : ℕ) (seat : Seat) → IsPair s p → slice_get s.seats k ≡ Some seat → slice_index p.bs k < seat.beh.states
 state_within s p k seat pair seated =
@@ -89,6 +131,12 @@ state_within s p k seat pair seated =
     let below = AreBelow-index (sizes_of s).seats p.bs k (states_below s.seats p.bs pair.bs) (omega (arith, l, length-map s.seats (λ (x : Seat). x.beh.states))) in
     subst (λ (n : ℕ). slice_index p.bs k < n) (size_of_seat s.seats k seat seated) below
 
--- a state that is had is one of those below
-pub has_below : (states : List ℕ) (b n : ℕ) → All (λ x. x < n) states → IsTrue (has states b) → b < n
-has_below states b n all h = All-contains (λ x. x < n) states b all (in_contains states b (has_in states b h))
+-- and is there for the seat of a service that is ready
+pub state_seated : (s : Sys) (p : Pair) (k : ℕ) → IsPair s p → IsTrue (is_ready (slice_get s.seats k)) → IfSome (slice_get s.seats k) (λ seat. slice_index p.bs k < seat.beh.states)
+state_seated s p k pair ready =
+    let (seat, seated, unfrozen) = ready_seat (slice_get s.seats k) ready in
+    subst (λ (o : Option Seat). IfSome o (λ seat. slice_index p.bs k < seat.beh.states)) (sym seated) (state_within s p k seat pair seated)
+
+-- so that it is a state of any behaviour of that seat
+pub state_of_seat : (s : Sys) (k b : ℕ) (seat : Seat) → slice_get s.seats k ≡ Some seat → IfSome (slice_get s.seats k) (λ seat. b < seat.beh.states) → b < seat.beh.states
+state_of_seat s k b seat seated within = subst (λ (o : Option Seat). IfSome o (λ seat. b < seat.beh.states)) seated within

@@ -1,11 +1,12 @@
 //! Moves from pair to pair.
-ghost use Rattle.std.specs.Prelude.{◌≡◌, ◌<◌, length, IsTrue, IfSome, IfNone, slice_get};
-ghost use Rattle.roman_model.specs.System.{has};
+ghost use Rattle.std.specs.Prelude.{◌≡◌, ◌<◌, IsTrue, IfSome, IfNone, slice_get};
+ghost use Rattle.roman_model.specs.System.{Pair, IsPair, TStep, Allows, has};
 ghost use Rattle.roman_model.specs.SystemArena.{is_allowed, is_ready};
 ghost use Rattle.roman_model.specs.Numbers.{sizes_of, count, pair_at};
 ghost use Rattle.roman_joint.specs.NamedSys.{system_of};
-ghost use Rattle.roman_generator.specs.Moves.{CanMove, Becomes};
+ghost use Rattle.roman_generator.specs.Moves.{CanMove, Becomes, IsServed};
 
+use crate::sight::Sight;
 use roman_joint::Joint;
 
 /// The number of the pair after the action `a`, which is allowed at the pair `p`, served by the service
@@ -21,16 +22,53 @@ pub fn next_pair(joint: &Joint, p: u32, a: u8, k: u8, b2: u8, e2: u8) -> Option<
 {
     joint.known();
     let shape = joint.shape();
+    let t = shape.target_of(p);
     let e = shape.env_of(p);
-    if !holds(joint.environment().next(e, a), e2) {
-        return None;
-    }
-    let behaviour = joint.behaviour(k);
-    if !holds(behaviour.out(shape.part_of(p, k), e, a), b2) {
-        return None;
-    }
-    let to = joint.target().step(shape.target_of(p), e, a)?;
+    let b = shape.part_of(p, k);
+    let sight = Sight {
+        action: a,
+        seat: k,
+        state: b2,
+        env: e2,
+    };
+    let to = target_after(joint, t, e, b, sight)?;
     Some(shape.moved(p, to, e2, k, b2))
+}
+
+/// The target's state after what is seen, where the target was in state `t`, the environment in `e`
+/// and the services in these states. The action is allowed there, and its service is ready. The two
+/// states that are seen may be any numbers: `None` comes exactly where no step of the system leads
+/// there. No memory is taken.
+pub fn next_target(joint: &Joint, t: u8, e: u8, states: &[u8], sight: Sight) -> Option<u8>
+    requires pair { IsPair (system_of joint.now) (record { t = t; e = e; bs = states.now }) }
+    requires allowed { IsTrue (is_allowed (system_of joint.now) (record { t = t; e = e; bs = states.now }) sight.action) }
+    requires ready { IsTrue (is_ready (slice_get (system_of joint.now).seats sight.seat)) }
+    ensures moves { let p : Pair = record { t = t; e = e; bs = states.now } in
+        IfSome result (λ to. TStep (system_of joint.now) t e sight.action to sight.env × CanMove (system_of joint.now) p sight.action sight.seat sight.state sight.env) }
+    ensures none { let p : Pair = record { t = t; e = e; bs = states.now } in
+        IfNone result (CanMove (system_of joint.now) p sight.action sight.seat sight.state sight.env → ⊥) }
+{
+    target_after(joint, t, e, states[sight.seat as usize], sight)
+}
+
+// The target's state after what is seen, where the target was in state t, the environment in e and
+// the service in b.
+fn target_after(joint: &Joint, t: u8, e: u8, b: u8, sight: Sight) -> Option<u8>
+    requires allowed { Allows (system_of joint.now) t e sight.action }
+    requires ready { IsTrue (is_ready (slice_get (system_of joint.now).seats sight.seat)) }
+    requires state { IfSome (slice_get (system_of joint.now).seats sight.seat) (λ seat. b < seat.beh.states) }
+    ensures moves { IfSome result (λ to. TStep (system_of joint.now) t e sight.action to sight.env × IsServed (system_of joint.now) e b sight) }
+    ensures none { IfNone result (IsServed (system_of joint.now) e b sight → ⊥) }
+{
+    joint.known();
+    if !holds(joint.environment().next(e, sight.action), sight.env) {
+        return None;
+    }
+    let behaviour = joint.behaviour(sight.seat);
+    if !holds(behaviour.out(b, e, sight.action), sight.state) {
+        return None;
+    }
+    joint.target().step(t, e, sight.action)
 }
 
 // Whether a state is one of these.

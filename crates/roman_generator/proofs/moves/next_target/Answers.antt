@@ -1,0 +1,33 @@
+use Rattle.std.proofs.Common.{arith}
+use Rattle.std.proofs.lemmas.Option.{slice_get_within, IfSome_then}
+use Rattle.roman_model.specs.System.{Pair}
+use Rattle.roman_model.proofs.CallerLemmas.{from_allowed}
+use Rattle.roman_joint.specs.NamedSys.{system_of}
+use Rattle.roman_generator.proofs.MoveLemmas.{ready_seat, states_long, state_seated, served_moves, none_moves}
+use Rattle.roman_generator.proofs.moves.next_target.Goals as goal
+
+pub bounds-states-sight : goal.bounds-states-sight
+bounds-states-sight c =
+    let s = system_of c.args.joint.now in
+    let p : Pair = record { t = c.args.t; e = c.args.e; bs = c.args.states.now } in
+    let (seat, seated, ready) = ready_seat _ c.requires.ready in
+    let l = slice_get_within s.seats c.args.sight.seat seat seated in
+    omega (arith, l, states_long s p c.requires.pair)
+
+pub target_after-requires-clause-allowed : goal.target_after-requires-clause-allowed
+target_after-requires-clause-allowed c =
+    from_allowed (system_of c.args.joint.now) (record { t = c.args.t; e = c.args.e; bs = c.args.states.now }) c.args.sight.action c.requires.allowed
+
+pub target_after-requires-clause-state : goal.target_after-requires-clause-state
+target_after-requires-clause-state c =
+    state_seated (system_of c.args.joint.now) (record { t = c.args.t; e = c.args.e; bs = c.args.states.now }) c.args.sight.seat c.requires.pair c.requires.ready
+
+pub returns-clause-moves : goal.returns-clause-moves
+returns-clause-moves c =
+    let p : Pair = record { t = c.args.t; e = c.args.e; bs = c.args.states.now } in
+    IfSome_then c.target_after.result c.target_after.ensures.moves (λ to h. (h.0, served_moves (system_of c.args.joint.now) p c.args.sight h.1))
+
+pub returns-clause-none : goal.returns-clause-none
+returns-clause-none c =
+    let p : Pair = record { t = c.args.t; e = c.args.e; bs = c.args.states.now } in
+    none_moves (system_of c.args.joint.now) p c.args.sight c.target_after.result c.requires.pair c.target_after.ensures.none
