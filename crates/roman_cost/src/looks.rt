@@ -1,8 +1,7 @@
 //! Looks into a text of costs, with the refusal of what is missed.
-ghost use Rattle.std.specs.Prelude.{◌≡◌, ◌<◌, true, false, map, length, IfOk, IfSome};
+ghost use Rattle.std.specs.Prelude.{◌≡◌, ◌<◌, true, false, map, length, IfOk};
 ghost use Rattle.serde_json.specs.View.{view, items_view};
 ghost use Rattle.roman_read.specs.Json.{list_of, text_of, number_of};
-ghost use Rattle.roman_read.specs.Names.{place_of};
 ghost use Rattle.roman_read.specs.declared.rules.Kind.TheVariants.{Form};
 ghost use Rattle.roman_parts.specs.Lists.{place_in};
 ghost use Rattle.roman_parts.specs.Reading.{looked};
@@ -12,6 +11,7 @@ ghost use Rattle.roman_cost.specs.Refusals.{ReadsAs, IsFaultless, place_of_rule}
 ghost use Rattle.roman_cost.specs.declared.error.CostError.TheVariants.{Refused};
 
 use crate::error::CostError;
+use roman_library::place_of_behaviour;
 use roman_parts::Behaviour;
 use roman_read::{Kind, NameTable, list, number, text};
 use serde_json::Value;
@@ -107,14 +107,4 @@ pub(crate) fn action_at(actions: &NameTable, v: &Value, index: u32) -> Result<u3
         Some(place) => Ok(place),
         None => Err(refused_at(Kind::Unknown, index)),
     }
-}
-
-// The place of the behaviour with this name.
-fn place_of_behaviour(catalogue: &[Behaviour], name: &[u8]) -> Option<usize>
-    ensures place { result ≡ place_of (map beh_name catalogue.now) name.now }
-    ensures within { IfSome result (λ place. place < length catalogue.now) }
-{
-    catalogue
-        .iter()
-        .position(|behaviour| name == behaviour.name().bytes())
 }

@@ -29,5 +29,6 @@ pub use laws::{
 };
 pub use library::{Library, Service};
 pub use loading::load;
+pub use names::place_of_behaviour;
 pub use refusal::{LoadError, Part, Refusal};
 pub use text::{DocError, document};

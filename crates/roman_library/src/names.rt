@@ -8,8 +8,9 @@ use crate::library::Service;
 use roman_multi::Named;
 use roman_parts::Behaviour;
 
-/// The place of the behaviour with this name.
-pub(crate) fn place_of_behaviour(catalogue: &[Behaviour], name: &[u8]) -> Option<usize>
+/// The place in a catalogue of the behaviour with this name; `None` exactly where none has it. No
+/// memory is taken.
+pub fn place_of_behaviour(catalogue: &[Behaviour], name: &[u8]) -> Option<usize>
     ensures place { result ≡ place_of (map behaviour_name catalogue.now) name.now }
     ensures within { IfSome result (λ place. place < length catalogue.now) }
 {
