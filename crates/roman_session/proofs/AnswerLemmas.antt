@@ -12,7 +12,7 @@ use Rattle.roman_session.specs.Situations.{Situation, IsSituation}
 use Rattle.roman_session.specs.Rulings.{asked}
 use Rattle.roman_session.specs.Steps.{Does, Asks, Sees, Step, StepOn, StepBy, offer_text}
 use Rattle.roman_session.specs.Answering.{Answered, AnsweredOn, DoneOn, NamesSome, SeenStaysRelated}
-use Rattle.roman_session.specs.declared.events.Sight.{Sight}
+use Rattle.roman_generator.specs.declared.sight.Sight.{Sight}
 use Rattle.roman_session.specs.declared.phase.Phase.{Phase}
 use Rattle.roman_session.specs.declared.phase.Phase.TheVariants.{Offered}
 use Rattle.roman_session.proofs.StepLemmas.{requests_offered, outcomes_related}

@@ -22,7 +22,7 @@ use Rattle.roman_session.specs.Steps.{Asks, Hands, Sees, Aborts, Jumps, EnvJumps
 use Rattle.roman_session.specs.declared.events.Handing.{Handing}
 use Rattle.roman_session.specs.declared.events.Joining.{Joining}
 use Rattle.roman_session.specs.declared.events.Jump.{Jump}
-use Rattle.roman_session.specs.declared.events.Sight.{Sight}
+use Rattle.roman_generator.specs.declared.sight.Sight.{Sight}
 use Rattle.roman_session.specs.declared.phase.Phase.TheVariants.{Idle}
 use Rattle.roman_session.proofs.KeepLemmas.{line_keeps, behaviours_stay}
 use Rattle.roman_session.proofs.RulingLemmas.{checked, asked_is, handed_is, jumped_idle, env_jumped_idle, frozen_is, thawed_is, died_idle, joining_idle, cells_with}

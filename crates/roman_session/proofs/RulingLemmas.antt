@@ -19,14 +19,9 @@ use Rattle.roman_session.specs.Rulings.{named, service_named, state_named, deman
 use Rattle.roman_session.specs.declared.events.Handing.{Handing}
 use Rattle.roman_session.specs.declared.events.Joining.{Joining}
 use Rattle.roman_session.specs.declared.events.Jump.{Jump}
-use Rattle.roman_session.specs.declared.events.Sight.{Sight}
+use Rattle.roman_generator.specs.declared.sight.Sight.{Sight}
 use Rattle.roman_session.specs.declared.phase.Phase.{Phase}
 use Rattle.roman_session.specs.declared.phase.Phase.TheVariants.{Idle, Offered, Delegated}
-
--- a test that isn't refused holds
-check_ok : (test : Bool) (refusal : Reply) (x : Unit {0}) → demand test refusal ≡ Ok x → IsTrue test
-check_ok true refusal x h = refl
-check_ok false refusal x h = cc
 
 -- after a test that holds comes what follows
 pub checked : {Y : Type 0} (test : Bool) (refusal : Reply) (f : Unit {0} → Result Y Reply) (y : Y) → (demand test refusal >>= f) ≡ Ok y → IsTrue test × (f tt ≡ Ok y)

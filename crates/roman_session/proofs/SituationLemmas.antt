@@ -88,12 +88,6 @@ pub holds_here : (P : Sys → Pair → Type 0) (s : Situation) (n : NamedSys) (p
 holds_here P s n p is same h there =
     subst (P (present_system s)) (here_pair s p is h) (subst (λ (n : NamedSys). P (joint.system_of n) (pair_at (sizes_of (joint.system_of n)) p)) same there)
 
--- and the other way
-pub holds_there : (P : Sys → Pair → Type 0) (s : Situation) (n : NamedSys) (p : ℕ) → IsSituation s → n ≡ s.parts → p ≡ number (sizes_of (present_system s)) s.here →
-    P (present_system s) s.here → P (joint.system_of n) (pair_at (sizes_of (joint.system_of n)) p)
-holds_there P s n p is same h here =
-    subst (λ (n : NamedSys). P (joint.system_of n) (pair_at (sizes_of (joint.system_of n)) p)) (sym same) (subst (P (present_system s)) (sym (here_pair s p is h)) here)
-
 -- a test that tells whether the current pair is related is the definition's
 pub related_is : (s : Situation) (n : NamedSys) (p : ℕ) (r : Bool) → IsSituation s → n ≡ s.parts → p ≡ number (sizes_of (present_system s)) s.here →
     IsTrue r ↔ Great (joint.system_of n) (pair_at (sizes_of (joint.system_of n)) p) → r ≡ is_related (present_system s) s.here

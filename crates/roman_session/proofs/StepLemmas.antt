@@ -12,7 +12,7 @@ use Rattle.roman_model.proofs.CallerLemmas.{by_test, empty_is, any_true, in_mask
 use Rattle.roman_session.specs.Situations.{Situation, present_system, IsSituation, IsPhase}
 use Rattle.roman_session.specs.Steps.{HasMoved, Moves, pair_after}
 use Rattle.roman_session.specs.Laws.{NotOfferedFails, RequestsAreOffered, OutcomesAreRelated}
-use Rattle.roman_session.specs.declared.events.Sight.{Sight}
+use Rattle.roman_generator.specs.declared.sight.Sight.{Sight}
 use Rattle.roman_session.proofs.RulingLemmas.{asked_is, seen_is}
 
 -- a seat that is beaten has no outcome, or one that isn't related

@@ -8,7 +8,7 @@ use Rattle.roman_text.specs.declared.errors.LineError.{LineError}
 use Rattle.roman_session.specs.Situations.{Situation, present_system}
 use Rattle.roman_session.specs.Rulings.{asked, seen}
 use Rattle.roman_session.specs.Steps.{Step, StepOn, CanBe, is_quit}
-use Rattle.roman_session.specs.declared.events.Sight.{Sight}
+use Rattle.roman_generator.specs.declared.sight.Sight.{Sight}
 use Rattle.roman_session.specs.declared.next.Next.{Next}
 use Rattle.roman_session.specs.declared.next.Next.TheVariants.{More, Quit}
 

@@ -6,7 +6,7 @@ use Rattle.roman_model.specs.SystemArena.{outcomes, is_allowed}
 use Rattle.roman_model.specs.Offers.{is_related, offers}
 use Rattle.roman_session.specs.Situations.{Situation, present_system, IsSituation}
 use Rattle.roman_session.specs.Rulings.{asked, seen}
-use Rattle.roman_session.specs.declared.events.Sight.{Sight}
+use Rattle.roman_generator.specs.declared.sight.Sight.{Sight}
 use Rattle.roman_session.specs.Steps.{Moves}
 use Rattle.roman_session.specs.Reports.{report_text}
 use Rattle.roman_start.specs.Starts.{parts_of, start_pair_of}

@@ -24,7 +24,7 @@ use Rattle.roman_session.specs.Reports.{report_text}
 use Rattle.roman_session.specs.declared.events.Handing.{Handing}
 use Rattle.roman_session.specs.declared.events.Joining.{Joining}
 use Rattle.roman_session.specs.declared.events.Jump.{Jump}
-use Rattle.roman_session.specs.declared.events.Sight.{Sight}
+use Rattle.roman_generator.specs.declared.sight.Sight.{Sight}
 use Rattle.roman_session.specs.declared.phase.Phase.TheVariants.{Idle, Offered, Delegated}
 
 -- ---- what each event does, where it isn't refused

@@ -9,15 +9,6 @@ pub(crate) struct Handing {
     pub(crate) seat: u8,
 }
 
-/// What is seen of a delegated action: the states that its service and the environment are in.
-#[derive(Clone, Copy)]
-pub(crate) struct Sight {
-    pub(crate) action: u8,
-    pub(crate) seat: u8,
-    pub(crate) state: u8,
-    pub(crate) env: u8,
-}
-
 /// A service, by its seat, and the state that it is in.
 #[derive(Clone, Copy)]
 pub(crate) struct Jump {

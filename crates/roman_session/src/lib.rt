@@ -8,7 +8,6 @@
 mod events;
 mod hearing;
 mod laws;
-mod naming;
 mod next;
 mod phase;
 mod session;

@@ -17,6 +17,7 @@ mod answering;
 mod building;
 mod changes;
 mod jumps;
+mod naming;
 mod replying;
 mod reports;
 mod requests;
@@ -113,16 +114,6 @@ impl Session {
         self.number
     }
 
-    // The number of the current pair with the target, the environment and the service at place k in
-    // other states.
-    fn number_moved(&self, t: u8, e: u8, k: u8, b: u8) -> u32
-        requires pair { IsPair (present_system self.now) (moved self.now.here t e k b) }
-        requires seat { k < length self.now.parts.seats }
-        ensures { result ≡ number (sizes_of (present_system self.now)) (moved self.now.here t e k b) }
-    {
-        self.relation.joint.shape().moved(self.here(), t, e, k, b)
-    }
-
     // The state of the service at place k.
     fn state(&self, k: u8) -> u8
         requires { k < length self.now.parts.seats }
@@ -130,13 +121,6 @@ impl Session {
         ensures within { (seat : model.Seat) → slice_get (present_system self.now).seats k ≡ Some seat → result < seat.beh.states }
     {
         self.states[k as usize]
-    }
-
-    // The number of actions.
-    fn actions(&self) -> u8
-        ensures { result ≡ (present_system self.now).env.actions }
-    {
-        self.relation.joint.environment().actions().len() as u8
     }
 
     // Whether the target allows the action at the current pair.
@@ -220,7 +204,7 @@ impl Session {
         requires seat { k < length self.old.parts.seats }
         ensures { self.new ≡ record self.old { here = moved self.old.here t e k b; phase = Phase.Idle } }
     {
-        self.number = self.number_moved(t, e, k, b);
+        self.number = self.relation.joint.shape().moved(self.here(), t, e, k, b);
         self.target = t;
         self.env = e;
         self.states[k as usize] = b;

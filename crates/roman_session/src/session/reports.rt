@@ -110,7 +110,8 @@ impl Session {
         if !self.composes() {
             return Ok(());
         }
-        for a in 0..self.actions() {
+        let actions = self.relation.joint.environment().actions().len() as u8;
+        for a in 0..actions {
             if !self.allows(a) {
                 continue;
             }

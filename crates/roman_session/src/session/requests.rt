@@ -1,15 +1,14 @@
 //! Requests, and what comes of them.
-ghost use Rattle.std.specs.Prelude.{◌≡◌, IfSome, IfNone, MatchResult, Ok, Err};
+ghost use Rattle.std.specs.Prelude.{◌≡◌, MatchResult, Ok, Err};
 ghost use Rattle.roman_text.specs.Replies.{reply_text};
 ghost use Rattle.roman_text.specs.Shapes.{hand, saw, abort};
-ghost use Rattle.roman_session.specs.Situations.{present_system};
 ghost use Rattle.roman_session.specs.Rulings.{asked};
-ghost use Rattle.roman_session.specs.Steps.{HasMoved, CanBe, StepOn};
+ghost use Rattle.roman_session.specs.Steps.{StepOn};
 
 use super::Session;
-use crate::events::{Handing, Sight};
+use crate::events::Handing;
 use crate::phase::Phase;
-use roman_generator::next_pair;
+use roman_generator::next_target;
 use roman_read::Name;
 use roman_text::Reply;
 
@@ -49,24 +48,6 @@ impl Session {
         Reply::Aborted
     }
 
-    // The target's state after what is seen, where some step of the system leads there.
-    fn target_after(&self, sight: Sight) -> Option<u8>
-        requires { self.now.phase ≡ Phase.Delegated sight.action sight.seat }
-        ensures moves { IfSome result (λ to. HasMoved self.now sight to) }
-        ensures none { IfNone result (CanBe self.now sight → ⊥) }
-    {
-        let Sight {
-            action,
-            seat,
-            state,
-            env,
-        } = sight;
-        match next_pair(&self.relation.joint, self.here(), action, seat, state, env) {
-            Some(pair) => Some(self.relation.joint.shape().target_of(pair)),
-            None => None,
-        }
-    }
-
     // `saw B E`.
     pub(super) fn see(&mut self, state: &[u8], env: &[u8]) -> Reply
         ensures { StepOn self.old (saw state.now env.now) (reply_text result) self.new }
@@ -76,7 +57,8 @@ impl Session {
             Err(refusal) => return refusal,
         };
         self.known();
-        let Some(to) = self.target_after(sight) else {
+        let joint = &self.relation.joint;
+        let Some(to) = next_target(joint, self.target, self.env, &self.states, sight) else {
             return Reply::Impossible;
         };
         self.move_to(to, sight.env, sight.seat, sight.state);

@@ -1,82 +1,26 @@
 //! What events name, or the first refusal of their row.
-ghost use Rattle.std.specs.Prelude.{◌≡◌, ◌<◌, length, map, IfOk, IfSome, slice_get};
-ghost use Rattle.roman_joint.specs.Names.{beh_name};
+ghost use Rattle.std.specs.Prelude.{◌≡◌, ◌<◌, length, IfOk, IfSome, slice_get};
 ghost use Rattle.roman_session.specs.Joins.{CanJoin};
 ghost use Rattle.roman_session.specs.Situations.{present_system};
-ghost use Rattle.roman_session.specs.Rulings.{named, service_named, state_named, seat_at, offered_action, delegation, asked, handed, seen, aborted, jumped, env_jumped, frozen, thawed, died, joining};
+ghost use Rattle.roman_session.specs.Rulings.{seat_at, asked, handed, seen, aborted, jumped, env_jumped, frozen, thawed, died, joining};
 
 use super::Session;
-use crate::events::{Handing, Joining, Jump, Sight};
-use crate::naming::{behaviour_place, behaviour_state, place, service_place, state_place};
+use super::naming::place;
+use crate::events::{Handing, Joining, Jump};
 use crate::phase::Phase;
+use roman_generator::Sight;
 use roman_joint::Seat;
+use roman_library::place_of_behaviour;
 use roman_read::Name;
 use roman_text::Reply;
 
 impl Session {
-    // The action with this name.
-    fn action_place(&self, name: &[u8]) -> Result<u8, Reply>
-        ensures place { result ≡ named self.now.parts.environment.actions name.now }
-        ensures within { IfOk result (λ a. a < (present_system self.now).env.actions) }
-    {
-        place(self.relation.joint.environment().actions(), name)
-    }
-
-    // The state of the environment with this name.
-    fn env_place(&self, name: &[u8]) -> Result<u8, Reply>
-        ensures place { result ≡ named self.now.parts.environment.states name.now }
-        ensures within { IfOk result (λ e. e < (present_system self.now).env.states) }
-    {
-        place(self.relation.joint.environment().states(), name)
-    }
-
-    // The present service with this name.
-    fn service_place(&self, name: &[u8]) -> Result<u8, Reply>
-        ensures place { result ≡ service_named self.now name.now }
-        ensures within { IfOk result (λ k. k < length self.now.parts.seats) }
-    {
-        service_place(&self.relation.joint, name)
-    }
-
-    // The state with this name of the service at place k.
-    fn state_place(&self, k: u8, name: &[u8]) -> Result<u8, Reply>
-        requires { k < length self.now.parts.seats }
-        ensures place { result ≡ state_named self.now k name.now }
-        ensures within { IfOk result (λ b. IfSome (slice_get (present_system self.now).seats k) (λ seat. b < seat.beh.states)) }
-    {
-        state_place(&self.relation.joint, k, name)
-    }
-
-    // The action for which services were offered.
-    fn offered_action(&self) -> Result<u8, Reply>
-        ensures action { result ≡ offered_action self.now.phase }
-        ensures phase { IfOk result (λ a. self.now.phase ≡ Phase.Offered a) }
-    {
-        match self.phase {
-            Phase::Offered(a) => Ok(a),
-            Phase::Idle => Err(Reply::ErrorIdle),
-            Phase::Delegated(..) => Err(Reply::ErrorIdle),
-        }
-    }
-
-    // What was delegated and isn't answered yet.
-    fn delegation(&self) -> Result<Handing, Reply>
-        ensures delegation { result ≡ delegation self.now.phase }
-        ensures within { IfOk result (λ x. x.seat < length self.now.parts.seats) }
-    {
-        match self.phase {
-            Phase::Delegated(action, seat) => Ok(Handing { action, seat }),
-            Phase::Idle => Err(Reply::ErrorIdle),
-            Phase::Offered(_) => Err(Reply::ErrorIdle),
-        }
-    }
-
     #[tactic(auto, unfolding(crate::specs::Rulings::asked))]
     // What `do` asks for.
     pub(super) fn asked(&self, action: &[u8]) -> Result<u8, Reply>
         ensures { result ≡ asked self.now action.now }
     {
-        let a = self.action_place(action)?;
+        let a = place(self.relation.joint.environment().actions(), action)?;
         if !self.is_idle() {
             return Err(Reply::ErrorBusy);
         }
@@ -95,7 +39,9 @@ impl Session {
         ensures { result ≡ handed self.now service.now }
     {
         let seat = self.service_place(service)?;
-        let action = self.offered_action()?;
+        let Phase::Offered(action) = self.phase else {
+            return Err(Reply::ErrorIdle);
+        };
         if !self.is_offered(action, seat) {
             return Err(Reply::NotOffered);
         }
@@ -107,7 +53,9 @@ impl Session {
     pub(super) fn seen(&self, state: &[u8], env: &[u8]) -> Result<Sight, Reply>
         ensures { result ≡ seen self.now state.now env.now }
     {
-        let Handing { action, seat } = self.delegation()?;
+        let Phase::Delegated(action, seat) = self.phase else {
+            return Err(Reply::ErrorIdle);
+        };
         let state = self.state_place(seat, state)?;
         let env = self.env_place(env)?;
         Ok(Sight {
@@ -210,14 +158,6 @@ impl Session {
         Ok(seat)
     }
 
-    // The behaviour with this name.
-    fn behaviour_place(&self, name: &[u8]) -> Result<u8, Reply>
-        ensures place { result ≡ named (map beh_name self.now.parts.catalogue) name.now }
-        ensures within { IfOk result (λ i. i < length self.now.parts.catalogue) }
-    {
-        behaviour_place(self.relation.joint.catalogue(), name)
-    }
-
     #[tactic(auto, unfolding(crate::specs::Rulings::joining))]
     // The service that `join` adds, and the state that it is in.
     pub(super) fn joining(
@@ -233,8 +173,11 @@ impl Session {
         let Some(name) = Name::new(service) else {
             return Err(Reply::ErrorName);
         };
-        let behaviour = self.behaviour_place(behaviour)?;
-        let state = behaviour_state(self.relation.joint.catalogue(), behaviour, state)?;
+        let catalogue = self.relation.joint.catalogue();
+        let Some(behaviour) = place_of_behaviour(catalogue, behaviour) else {
+            return Err(Reply::ErrorName);
+        };
+        let state = place(catalogue[behaviour].states(), state)?;
         if !self.is_idle() {
             return Err(Reply::ErrorBusy);
         }
@@ -243,7 +186,7 @@ impl Session {
         }
         let seat = Seat {
             name,
-            behaviour,
+            behaviour: behaviour as u8,
             frozen: false,
             rests: !loose,
         };

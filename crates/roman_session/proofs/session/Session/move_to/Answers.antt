@@ -1,8 +1,69 @@
-use Rattle.std.proofs.Common.{arith}
-use Rattle.roman_session.proofs.SituationLemmas.{state_there}
+use Rattle.std.proofs.Common.{◌≡◌, ◌<◌, length, slice_index, sym, ap, ◌∙◌, subst, arith}
+use Rattle.std.proofs.lemmas.List.{length-map}
+use Rattle.roman_model.specs.System.{Pair, Seat, IsPair}
+use Rattle.roman_model.specs.Numbers.{Sizes, sizes_of, count, number, pair_at}
+use Rattle.roman_radix.specs.Radix.{moved}
+use Rattle.roman_joint.specs.NamedSys.{NamedSys, system_of, seat_of}
+use Rattle.roman_session.specs.Situations.{Situation, present_system}
+use Rattle.roman_session.specs.Layout.{situation_in}
+use Rattle.roman_session.proofs.SituationLemmas.{situation_known, parts_shown, here_pair, moved_within, state_there}
 use Rattle.roman_session.proofs.session.Session.move_to.Goals as goal
+
+pub moved-self-inside-requires-clause-pair : goal.moved-self-inside-requires-clause-pair
+moved-self-inside-requires-clause-pair c =
+    let sizes = c.shape.ensures ∙ ap (λ (n : NamedSys). sizes_of (system_of n)) (parts_shown c.self.inside c.args.self.now c.self.view_is) in
+    subst (λ (m : Sizes). c.here.result < count m) (sym sizes) c.here.ensures.below
+
+pub moved-self-inside-requires-clause-t : goal.moved-self-inside-requires-clause-t
+moved-self-inside-requires-clause-t c =
+    let sizes = c.shape.ensures ∙ ap (λ (n : NamedSys). sizes_of (system_of n)) (parts_shown c.self.inside c.args.self.now c.self.view_is) in
+    subst (λ (m : Sizes). c.args.t < m.target) (sym sizes) c.requires.pair.t
+
+pub moved-self-inside-requires-clause-e : goal.moved-self-inside-requires-clause-e
+moved-self-inside-requires-clause-e c =
+    let sizes = c.shape.ensures ∙ ap (λ (n : NamedSys). sizes_of (system_of n)) (parts_shown c.self.inside c.args.self.now c.self.view_is) in
+    subst (λ (m : Sizes). c.args.e < m.env) (sym sizes) c.requires.pair.e
+
+pub moved-self-inside-requires-clause-component : goal.moved-self-inside-requires-clause-component
+moved-self-inside-requires-clause-component c =
+    let s = c.args.self.now in
+    let sizes = c.shape.ensures ∙ ap (λ (n : NamedSys). sizes_of (system_of n)) (parts_shown c.self.inside s c.self.view_is) in
+    subst (λ (m : Sizes). c.args.k < length m.seats) (sym sizes)
+    (omega (arith, c.requires.seat, length-map s.parts.seats (seat_of s.parts.catalogue), length-map (present_system s).seats (λ (x : Seat). x.beh.states)))
+
+pub moved-self-inside-requires-clause-state : goal.moved-self-inside-requires-clause-state
+moved-self-inside-requires-clause-state c =
+    let s = c.args.self.now in
+    let sizes = c.shape.ensures ∙ ap (λ (n : NamedSys). sizes_of (system_of n)) (parts_shown c.self.inside s c.self.view_is) in
+    let is = situation_known c.self.inside s c.self.invariant c.self.view_is in
+    let l : c.args.k < length (present_system s).seats = omega (arith, c.requires.seat, length-map s.parts.seats (seat_of s.parts.catalogue)) in
+    subst (λ (m : Sizes). c.args.b < slice_index m.seats c.args.k) (sym sizes)
+    (moved_within (present_system s) s.here c.args.t c.args.e c.args.k c.args.b is.here c.requires.pair l)
 
 pub index_mut-requires : goal.index_mut-requires
 index_mut-requires c =
     let a = c.self.inside in
     omega (arith, state_there a c.args.self.now c.args.k c.self.invariant c.self.view_is c.requires.seat, a.states.ok.0)
+
+pub invariant_of-self : goal.invariant_of-self
+invariant_of-self c =
+    let a = c.self.inside in
+    let s = situation_in a in
+    let known = c.self.invariant.known in
+    let here = subst (λ (s : Situation). c.here.result ≡ number (sizes_of (present_system s)) s.here) (sym c.self.view_is) c.here.ensures.number in
+    record {
+      relation = c.self.invariant.relation;
+      known = record {
+        parts = known.parts;
+        here = subst (λ (s : Situation). IsPair (present_system s) (moved s.here c.args.t c.args.e c.args.k c.args.b)) (sym c.self.view_is) c.requires.pair;
+        list = known.list;
+        phase = tt;
+      };
+      few = c.self.invariant.few;
+      room = c.self.invariant.room;
+      numbered =
+          c.moved-self-inside.ensures.number
+          ∙ ap (λ (m : Sizes). number m (moved (pair_at m c.here.result) c.args.t c.args.e c.args.k c.args.b)) c.shape.ensures
+          ∙ ap (λ (p : Pair). number (sizes_of (present_system s)) (moved p c.args.t c.args.e c.args.k c.args.b)) (here_pair s c.here.result known here);
+      offered = λ action is. cc;
+    }

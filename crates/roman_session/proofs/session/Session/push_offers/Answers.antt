@@ -1,4 +1,4 @@
-use Rattle.std.proofs.Common.{◌+◌, refl, sym, ◌∙◌, arith}
+use Rattle.std.proofs.Common.{◌≡◌, ◌+◌, refl, sym, ◌∙◌, arith, rules}
 use Rattle.roman_session.specs.Reports.{offer_line, lines_text}
 use Rattle.roman_text.proofs.CallerLemmas.{fill_behind, fill_same, fill_more, fill_failed, fill_end}
 use Rattle.roman_session.proofs.LineLemmas.{lines_from, next_offer, next_unallowed, no_offer, offers_begin, no_offers}
@@ -17,14 +17,16 @@ loop-a-init g c =
 pub loop-a-preserved-then-not-allows : goal.loop-a-preserved-then-not-allows
 loop-a-preserved-then-not-allows g c =
     let s = c.args.self.now in
-    let next = next_unallowed s.parts s.here c.loop-a.a (omega arith) (sym c.if-not-allows.ensures) in
+    let all : c.len-actions.result ≡ s.parts.environment.env.actions = search rules in
+    let next = next_unallowed s.parts s.here c.loop-a.a (omega (arith, all)) (sym c.if-not-allows.ensures) in
     record { filling = fill_same _ _ _ _ _ _ next c.loop-a.invariant.filling; cause = c.loop-a.invariant.cause }
 
 pub returns-in-Err-clause-gathers : goal.returns-in-Err-clause-gathers
 returns-in-Err-clause-gathers g c =
     let s = c.args.self.now in
+    let all : c.len-actions.result ≡ s.parts.environment.env.actions = search rules in
     let a = c.loop-a.a in
-    let next = next_offer s.parts s.here a (omega arith) (sym c.if-not-allows.ensures) in (
+    let next = next_offer s.parts s.here a (omega (arith, all)) (sym c.if-not-allows.ensures) in (
       fill_failed _ _ _ _ (lines_text (offer_line s.parts s.here a)) (lines_from s.parts s.here (a + 1)) _ (fill_same _ _ _ _ _ _ next c.loop-a.invariant.filling)
           c.in-Err.ensures.gathers.0,
       c.in-Err.ensures.gathers.1,
@@ -33,8 +35,9 @@ returns-in-Err-clause-gathers g c =
 pub loop-a-preserved : goal.loop-a-preserved
 loop-a-preserved g c =
     let s = c.args.self.now in
+    let all : c.len-actions.result ≡ s.parts.environment.env.actions = search rules in
     let a = c.loop-a.a in
-    let next = next_offer s.parts s.here a (omega arith) (sym c.if-not-allows.ensures) in
+    let next = next_offer s.parts s.here a (omega (arith, all)) (sym c.if-not-allows.ensures) in
     record {
       filling = fill_more _ _ _ _ _ (lines_text (offer_line s.parts s.here a)) (lines_from s.parts s.here (a + 1)) _ (fill_same _ _ _ _ _ _ next c.loop-a.invariant.filling)
           c.in_default.ensures.gathers;
@@ -44,4 +47,5 @@ loop-a-preserved g c =
 pub returns-clause-gathers : goal.returns-clause-gathers
 returns-clause-gathers g c =
     let s = c.args.self.now in
-    fill_end _ _ _ _ (fill_same _ _ _ _ _ _ (no_offer s.parts s.here c.loop-a.a (omega arith)) c.loop-a.invariant.filling)
+    let all : c.len-actions.result ≡ s.parts.environment.env.actions = search rules in
+    fill_end _ _ _ _ (fill_same _ _ _ _ _ _ (no_offer s.parts s.here c.loop-a.a (omega (arith, all))) c.loop-a.invariant.filling)

@@ -1,0 +1,53 @@
+//! What names stand for.
+ghost use Rattle.std.specs.Prelude.{◌≡◌, ◌<◌, ◌≤◌, length, IfOk, IfSome, slice_get};
+ghost use Rattle.roman_session.specs.Situations.{present_system};
+ghost use Rattle.roman_session.specs.Rulings.{named, service_named, state_named};
+
+use super::Session;
+use roman_read::NameTable;
+use roman_text::Reply;
+
+// The number of a name, where the table has it.
+pub(super) fn place(names: &NameTable, name: &[u8]) -> Result<u8, Reply>
+    requires { length names.now ≤ 64 }
+    ensures place { result ≡ named names.now name.now }
+    ensures within { IfOk result (λ i. i < length names.now) }
+{
+    match names.find(name) {
+        Some(i) => Ok(i as u8),
+        None => Err(Reply::ErrorName),
+    }
+}
+
+impl Session {
+    // The state of the environment with this name.
+    pub(super) fn env_place(&self, name: &[u8]) -> Result<u8, Reply>
+        ensures place { result ≡ named self.now.parts.environment.states name.now }
+        ensures within { IfOk result (λ e. e < (present_system self.now).env.states) }
+    {
+        place(self.relation.joint.environment().states(), name)
+    }
+
+    // The place of the service with this name, where one is present.
+    pub(super) fn service_place(&self, name: &[u8]) -> Result<u8, Reply>
+        ensures place { result ≡ service_named self.now name.now }
+        ensures within { IfOk result (λ k. k < length self.now.parts.seats) }
+    {
+        let joint = &self.relation.joint;
+        for k in 0..joint.seats() {
+            if name == joint.seat(k).name.bytes() {
+                return Ok(k);
+            }
+        }
+        Err(Reply::ErrorName)
+    }
+
+    // The state with this name of the service at place k.
+    pub(super) fn state_place(&self, k: u8, name: &[u8]) -> Result<u8, Reply>
+        requires { k < length self.now.parts.seats }
+        ensures place { result ≡ state_named self.now k name.now }
+        ensures within { IfOk result (λ b. IfSome (slice_get (present_system self.now).seats k) (λ seat. b < seat.beh.states)) }
+    {
+        place(self.relation.joint.behaviour(k).states(), name)
+    }
+}
