@@ -1,6 +1,5 @@
 pub mod RulingLemmas
 pub mod StepLemmas
-pub mod ReportLemmas
 pub mod SituationLemmas
 pub mod NameLemmas
 pub mod ServingLemmas
@@ -8,14 +7,4 @@ pub mod LineLemmas
 pub mod BeginLemmas
 pub mod AnswerLemmas
 pub mod ChangedLemmas
-pub mod HearingLines
-pub mod HearingLemmas
-pub mod WithinLemmas
-pub mod KeepLemmas
-pub mod KnownLemmas
-pub mod SeveralLemmas
-pub mod WordLemmas
-pub mod HearingGoing
-pub mod HearingSteps
-pub mod HearingEnds
 pub mod CallerLemmas

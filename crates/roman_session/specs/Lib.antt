@@ -5,11 +5,5 @@ pub mod Serving
 pub mod Reports
 pub mod Steps
 pub mod Starts
-pub mod Laws
 pub mod Layout
 pub mod Answering
-pub mod Known
-pub mod Words
-pub mod Several
-pub mod Hearing
-pub mod HearingBytes

@@ -1,9 +1,7 @@
--- How a session begins, and what a library is that begins where a session stands.
-use Rattle.std.specs.Prelude.{◌≡◌, ℕ, List, [], ◌∷◌}
+-- How a session begins.
+use Rattle.std.specs.Prelude.{◌≡◌}
 use Rattle.roman_model.specs.CompleteLists.{IsComplete}
-use Rattle.roman_joint.specs.declared.seat.Seat.{Seat}
 use Rattle.roman_library.specs.Library.{PlainLibrary}
-use Rattle.roman_library.specs.declared.library.Service.{Service}
 use Rattle.roman_start.specs.Starts.{parts_of, start_pair_of}
 use Rattle.roman_session.specs.Situations.{Situation, present_system}
 use Rattle.roman_session.specs.declared.phase.Phase.TheVariants.{Idle}
@@ -14,20 +12,3 @@ pub record IsStart (library : PlainLibrary) (s : Situation) : Type 0 where
   pub here : s.here ≡ start_pair_of library
   pub phase : s.phase ≡ Idle
   pub list : IsComplete (present_system s) s.list
-
--- the services, each in its present state
-abbrev pub services_in : List Seat → List ℕ → List Service
-services_in [] bs = []
-services_in (seat ∷ seats) [] = []
-services_in (seat ∷ seats) (b ∷ bs) =
-    record { name = seat.name; behaviour = seat.behaviour; state = b; frozen = seat.frozen; rests = seat.rests } ∷ services_in seats bs
-
--- the library with the present services, that begins in the present states
-abbrev pub afresh : Situation → PlainLibrary
-afresh s = record {
-  environment = record s.parts.environment { env = record s.parts.environment.env { start = s.here.e } };
-  catalogue = s.parts.catalogue;
-  services = services_in s.parts.seats s.here.bs;
-  target = record s.parts.target { beh = record s.parts.target.beh { start = s.here.t } };
-  limit = s.parts.limit;
-}

@@ -1,5 +1,5 @@
 -- What a session answers, and what it knows then.
-use Rattle.std.specs.Prelude.{◌≡◌, ℕ, Bool, true, false, ◌⊎◌, List, [], ◌∷◌, ◌++◌, map, length, Result, Ok, Err, if◌then◌else◌, slice_set}
+use Rattle.std.specs.Prelude.{◌≡◌, ℕ, Bool, true, false, ◌⊎◌, List, [], ◌∷◌, ◌++◌, map, length, Result, Ok, Err, slice_set}
 use Rattle.std.specs.List.{flat_map, remove}
 use Rattle.roman_model.specs.System.{TStep, SStep}
 use Rattle.roman_model.specs.Arena.{Entry, replay}
@@ -175,24 +175,7 @@ StepBy old (Ok shape) text new = StepOn old shape text new
 unfoldable pub Step : Situation → List ℕ → List ℕ → Situation → Type 0
 Step old line text new = StepBy old (shape_of line) text new
 
--- ---- runs
-
 -- the event that ends a session
 abbrev pub is_quit : Result LineShape LineError → Bool
 is_quit (Ok quit) = true
 is_quit _ = false
-
--- the lines up to the first that ends the session
-abbrev pub until_quit : List (List ℕ) → List (List ℕ)
-until_quit [] = []
-until_quit (line ∷ lines) = if is_quit (shape_of line) then line ∷ [] else line ∷ until_quit lines
-
--- step from line to line
-abbrev pub Answers : Situation → List (List ℕ) → List ℕ → Situation → Type 0
-Answers old [] out new = (out ≡ []) × (new ≡ old)
-Answers old (line ∷ lines) out new =
-    (text more : List ℕ) × (mid : Situation) × (out ≡ text ++ more) × Step old line text mid × Answers mid lines more new
-
--- what is told to a session that is given these lines, and ends after the first `quit`
-abbrev pub Told : Situation → List (List ℕ) → List ℕ → Situation → Type 0
-Told old lines out new = Answers old (until_quit lines) out new

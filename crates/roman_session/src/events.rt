@@ -1,24 +1,31 @@
-//! What events name, where they aren't refused.
+//! What events name, where they aren't refused. No call gives it out: the definitions of steps speak of
+//! it, and so do the laws on them.
 
 use roman_joint::Seat;
 
-/// An action, and the seat of the service to which it is delegated.
+/// An action, and the service to which it is delegated.
 #[derive(Clone, Copy)]
-pub(crate) struct Handing {
-    pub(crate) action: u8,
-    pub(crate) seat: u8,
+pub struct Handing {
+    /// The number of the action.
+    pub action: u8,
+    /// The place of the service.
+    pub seat: u8,
 }
 
-/// A service, by its seat, and the state that it is in.
+/// A service, and the state that it is in.
 #[derive(Clone, Copy)]
-pub(crate) struct Jump {
-    pub(crate) seat: u8,
-    pub(crate) state: u8,
+pub struct Jump {
+    /// The place of the service.
+    pub seat: u8,
+    /// The number of its state.
+    pub state: u8,
 }
 
 /// A service that joins, and the state that it is in.
 #[derive(Clone, Copy)]
-pub(crate) struct Joining {
-    pub(crate) seat: Seat,
-    pub(crate) state: u8,
+pub struct Joining {
+    /// The service, with its name and its behaviour.
+    pub seat: Seat,
+    /// The number of its state.
+    pub state: u8,
 }

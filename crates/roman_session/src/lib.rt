@@ -6,8 +6,6 @@
 #![tactic(auto)]
 
 mod events;
-mod hearing;
-mod laws;
 mod next;
 mod phase;
 mod session;
@@ -15,11 +13,7 @@ mod session;
 mod tests;
 mod writing;
 
-pub use hearing::{HearError, hear};
-pub use laws::{
-    answers_are_great, open_is_great, outcomes_are_related, reports_are_afresh,
-    requests_are_offered, services_not_offered_fail, several_are_served, steps_stay_known,
-};
+pub use events::{Handing, Joining, Jump};
 pub use next::Next;
 pub use phase::Phase;
 pub use roman_joint::JointError as BuildError;

@@ -8,7 +8,7 @@ use Rattle.roman_model.specs.Numbers.{sizes_of, number, numbered}
 use Rattle.roman_model.specs.Certificate.{Verdict, Greatest, Rejected, TooLong, cert_verdict}
 use Rattle.roman_library.specs.Library.{PlainLibrary}
 use Rattle.roman_start.specs.Starts.{start_pair_of}
-use Rattle.roman_session.specs.Hearing.{prefix_of, is_heard_out}
+use Rattle.roman_hearing.specs.Hearing.{prefix_of, is_heard_out}
 use Rattle.roman_top.specs.Command.{Job, Synth, Run, Certify, Check, Shortest, Advise, Resilience, Command, On, Make}
 use Rattle.roman_top.specs.Complete.{Suffices, CanAnswer, IsAnswered, IsUndisturbed, AnswersWherePossible}
 use Rattle.roman_top.specs.Opening.{library_system, document_opening}

@@ -10,11 +10,11 @@ use Rattle.roman_session.specs.Situations.{Situation}
 use Rattle.roman_session.specs.Reports.{report_text}
 use Rattle.roman_start.specs.Starts.{parts_of, start_pair_of}
 use Rattle.roman_session.specs.Starts.{IsStart}
-use Rattle.roman_session.specs.Words.{ReportsGreat}
-use Rattle.roman_session.specs.Steps.{until_quit, Answers}
-use Rattle.roman_session.specs.Hearing.{prefix_of, is_heard_out, heard_lines}
-use Rattle.roman_session.specs.Known.{IsKnownSituation}
-use Rattle.roman_session.proofs.CallerLemmas.{steps_known, answers_great, open_great, reports_great}
+use Rattle.roman_hearing.specs.Words.{ReportsGreat}
+use Rattle.roman_hearing.specs.Told.{until_quit, Answers}
+use Rattle.roman_hearing.specs.Hearing.{prefix_of, is_heard_out, heard_lines}
+use Rattle.roman_hearing.specs.Known.{IsKnownSituation}
+use Rattle.roman_hearing.proofs.CallerLemmas.{steps_known, answers_great, open_great, reports_great}
 use Rattle.roman_top.specs.Command.{Synth, Run, Certify, Check, Shortest, Advise, Resilience, Command, On, Make}
 use Rattle.roman_top.specs.Headline.{Turn, line_of, turn_text, AreTurns, AnswersLines, KeepsPromise, HasHeadline}
 use Rattle.roman_top.specs.Opening.{Accepted, document_opening}

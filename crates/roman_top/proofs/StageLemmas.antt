@@ -4,8 +4,9 @@ use Rattle.std.proofs.lemmas.List.{append-nil, drop_all, get_or-drop, length-dro
 use Rattle.std.proofs.lemmas.Option.{get_or_from_slice_get}
 use Rattle.roman_make.specs.Script.{script_lines}
 use Rattle.roman_session.specs.Situations.{Situation}
-use Rattle.roman_session.specs.Steps.{Answers, Step}
+use Rattle.roman_session.specs.Steps.{Step}
 use Rattle.roman_session.specs.Answering.{Answered}
+use Rattle.roman_hearing.specs.Told.{Answers}
 use Rattle.roman_top.specs.Made.{made_line, standing, stages, Passes}
 use Rattle.roman_top.specs.Stages.{HasComeTo, line_of_stage, lines_of}
 use Rattle.roman_top.specs.declared.stage.Stage.{Stage}

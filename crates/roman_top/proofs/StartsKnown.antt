@@ -15,9 +15,9 @@ use Rattle.roman_session.specs.Situations.{Situation, IsPhase}
 use Rattle.roman_session.specs.Situations as situation
 use Rattle.roman_start.specs.Starts.{seat_of_service, parts_of, start_pair_of}
 use Rattle.roman_session.specs.Starts.{IsStart}
-use Rattle.roman_session.specs.Known.{AreNamed, IsKnownSituation}
 use Rattle.roman_session.proofs.CallerLemmas.{is_within, there_is}
 use Rattle.roman_start.proofs.CallerLemmas.{behaviours_within, names_once, start_pair}
+use Rattle.roman_hearing.specs.Known.{AreNamed, IsKnownSituation}
 use Rattle.roman_top.specs.Accepted.{StartsAreKnown}
 use Rattle.roman_top.specs.Opening.{is_past_limit}
 use Rattle.roman_top.proofs.EndingLemmas.{accepted_is}

@@ -10,12 +10,12 @@ use Rattle.roman_model.specs.declared.limits.TheConstants.{MAX_SESSION_BYTES, PI
 use Rattle.roman_model.proofs.CallerLemmas.{by_test}
 use Rattle.roman_session.specs.Situations.{Situation}
 use Rattle.roman_session.specs.Starts.{IsStart}
-use Rattle.roman_session.specs.Steps.{Told}
-use Rattle.roman_session.specs.Hearing.{prefix_of, is_heard_out, GaveQuit, Hall, hall, spot, IsHeardOut, IsCutOff, GoesOn, StopsShort, TellsPrefixOfAll, CausedBy}
-use Rattle.roman_session.specs.Known.{AreBehaviours}
-use Rattle.roman_session.specs.declared.hearing.HearError.{HearError}
-use Rattle.roman_session.specs.declared.hearing.HearError.TheVariants as hear
-use Rattle.roman_session.proofs.CallerLemmas.{short_out}
+use Rattle.roman_hearing.specs.Told.{Told}
+use Rattle.roman_hearing.specs.Hearing.{prefix_of, is_heard_out, GaveQuit, Hall, hall, spot, IsHeardOut, IsCutOff, GoesOn, StopsShort, TellsPrefixOfAll, CausedBy}
+use Rattle.roman_hearing.specs.Known.{AreBehaviours}
+use Rattle.roman_hearing.specs.declared.hearing.HearError.{HearError}
+use Rattle.roman_hearing.specs.declared.hearing.HearError.TheVariants as hear
+use Rattle.roman_hearing.proofs.CallerLemmas.{short_out}
 use Rattle.roman_top.specs.Causes.{ShelfCause, InputCause, SinkCause}
 use Rattle.roman_top.specs.Command.{Run, On}
 use Rattle.roman_top.specs.Endings.{Accepts, GoesOnFrom, HearsText, Opens, heard_status}

@@ -4,7 +4,7 @@ use Rattle.roman_io.specs.Shelf.{Texts}
 use Rattle.roman_library.specs.Library.{PlainLibrary}
 use Rattle.roman_session.specs.Situations.{Situation}
 use Rattle.roman_session.specs.Starts.{IsStart}
-use Rattle.roman_session.specs.Known.{IsKnownSituation}
+use Rattle.roman_hearing.specs.Known.{IsKnownSituation}
 use Rattle.roman_top.specs.Opening.{Accepted, document_opening}
 
 -- an accepted document within its limit starts a well-formed situation

@@ -6,7 +6,7 @@ use Rattle.roman_model.specs.Numbers.{sizes_of, number, numbered}
 use Rattle.roman_model.specs.Certificate.{TooLong, cert_verdict}
 use Rattle.roman_library.specs.Library.{PlainLibrary}
 use Rattle.roman_start.specs.Starts.{start_pair_of}
-use Rattle.roman_session.specs.Hearing.{is_heard_out}
+use Rattle.roman_hearing.specs.Hearing.{is_heard_out}
 use Rattle.roman_top.specs.Command.{Job, Synth, Run, Certify, Check, Shortest, Advise, Resilience, Command, On, Make}
 use Rattle.roman_top.specs.Advice.{Affords}
 use Rattle.roman_top.specs.Opening.{Accepted, document_opening, library_system}

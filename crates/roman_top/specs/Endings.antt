@@ -12,11 +12,11 @@ use Rattle.roman_check.specs.declared.error.CheckError.TheVariants as check
 use Rattle.roman_library.specs.Documents.{library_of}
 use Rattle.roman_library.specs.Library.{PlainLibrary}
 use Rattle.roman_session.specs.Situations.{Situation, present_system}
-use Rattle.roman_session.specs.Hearing.{Spot, Hall, IsHeardOut, IsCutOff, GoesOn, TellsPrefixOfAll}
-use Rattle.roman_session.specs.Known.{AreBehaviours}
 use Rattle.roman_session.specs.Reports.{report_text}
-use Rattle.roman_session.specs.declared.hearing.HearError.{HearError}
-use Rattle.roman_session.specs.declared.hearing.HearError.TheVariants as hear
+use Rattle.roman_hearing.specs.Hearing.{Spot, Hall, IsHeardOut, IsCutOff, GoesOn, TellsPrefixOfAll}
+use Rattle.roman_hearing.specs.Known.{AreBehaviours}
+use Rattle.roman_hearing.specs.declared.hearing.HearError.{HearError}
+use Rattle.roman_hearing.specs.declared.hearing.HearError.TheVariants as hear
 use Rattle.roman_top.specs.Causes.{ShelfCause, SinkCause, CauseIn}
 use Rattle.roman_top.specs.Command.{Job}
 use Rattle.roman_top.specs.Opening.{Accepted, Opening, document_opening, OnOpening}

@@ -5,7 +5,7 @@ use Rattle.roman_io.specs.Sink.{Wrote, WrotePrefix}
 use Rattle.roman_io.specs.Source.{Gave, Had, IsAtEnd, GaveAtMost}
 use Rattle.roman_model.specs.declared.limits.TheConstants.{MAX_SESSION_BYTES, PIECE_BYTES}
 use Rattle.roman_library.specs.Library.{PlainLibrary}
-use Rattle.roman_session.specs.Hearing.{AreWhole, GaveQuit}
+use Rattle.roman_hearing.specs.Hearing.{AreWhole, GaveQuit}
 use Rattle.roman_top.specs.Command.{Run, Command, On}
 use Rattle.roman_top.specs.Opening.{Accepted, document_opening}
 use Rattle.roman_top.specs.Run.{Runs, IsSessionText, WithTexts}

@@ -6,9 +6,10 @@ use Rattle.roman_io.specs.Sink.{Wrote}
 use Rattle.roman_library.specs.Library.{PlainLibrary}
 use Rattle.roman_session.specs.Situations.{Situation, IsSituation}
 use Rattle.roman_session.specs.Starts.{IsStart}
-use Rattle.roman_session.specs.Steps.{until_quit, Step}
-use Rattle.roman_session.specs.Hearing.{heard_lines}
-use Rattle.roman_session.specs.Words.{IsOpenGreat, KeepsWord, ReportsGreat}
+use Rattle.roman_session.specs.Steps.{Step}
+use Rattle.roman_hearing.specs.Told.{until_quit}
+use Rattle.roman_hearing.specs.Hearing.{heard_lines}
+use Rattle.roman_hearing.specs.Words.{IsOpenGreat, KeepsWord, ReportsGreat}
 use Rattle.roman_top.specs.Command.{Synth, Run, Command, On}
 use Rattle.roman_top.specs.Faults.{IsFree}
 use Rattle.roman_top.specs.Opening.{Accepted, document_opening}

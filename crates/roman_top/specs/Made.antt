@@ -6,7 +6,7 @@ use Rattle.roman_make.specs.Made.{made}
 use Rattle.roman_make.specs.Script.{script_lines}
 use Rattle.roman_session.specs.Situations.{Situation, present_system}
 use Rattle.roman_session.specs.Starts.{IsStart}
-use Rattle.roman_session.specs.Steps.{Answers}
+use Rattle.roman_hearing.specs.Told.{Answers}
 
 -- `WORD pairs P related R composition`, or `none` in place of `composition`
 abbrev pub stage_line : List ℕ → ℕ → ℕ → Bool → List ℕ

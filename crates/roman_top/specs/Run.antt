@@ -12,7 +12,7 @@ use Rattle.roman_model.specs.Certificate.{Verdict, Greatest, Rejected, TooLong, 
 use Rattle.roman_library.specs.Library.{PlainLibrary}
 use Rattle.roman_session.specs.Reports.{report_text}
 use Rattle.roman_start.specs.Starts.{parts_of, start_pair_of}
-use Rattle.roman_session.specs.Hearing.{prefix_of, is_heard_out}
+use Rattle.roman_hearing.specs.Hearing.{prefix_of, is_heard_out}
 use Rattle.roman_rank.specs.DepthText.{TellsDepths}
 use Rattle.roman_top.specs.Command.{Job, Synth, Run, Certify, Check, Shortest, Advise, Resilience, Command, On, Make, usage_line}
 use Rattle.roman_top.specs.Advice.{GivesAdvice}

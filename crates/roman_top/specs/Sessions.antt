@@ -5,8 +5,8 @@ use Rattle.roman_model.specs.declared.limits.TheConstants.{MAX_SESSION_BYTES}
 use Rattle.roman_library.specs.Library.{PlainLibrary}
 use Rattle.roman_session.specs.Situations.{Situation}
 use Rattle.roman_session.specs.Starts.{IsStart}
-use Rattle.roman_session.specs.Steps.{Told}
-use Rattle.roman_session.specs.Hearing.{has_quit}
+use Rattle.roman_hearing.specs.Told.{Told}
+use Rattle.roman_hearing.specs.Hearing.{has_quit}
 
 -- what a session of that library is told of those lines, from some start on
 pub record ToldFromStart (library : PlainLibrary) (lines : List (List ℕ)) (text : List ℕ) : Type 0 where

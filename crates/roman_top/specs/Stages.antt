@@ -1,7 +1,7 @@
 -- The stages of a script, as the program has them.
 use Rattle.std.specs.Prelude.{ℕ, List, [], ◌∷◌, ◌++◌, codes}
 use Rattle.roman_session.specs.Situations.{Situation}
-use Rattle.roman_session.specs.Steps.{Answers}
+use Rattle.roman_hearing.specs.Told.{Answers}
 use Rattle.roman_top.specs.Made.{stage_line}
 use Rattle.roman_top.specs.declared.stage.Stage.{Stage}
 

@@ -3,8 +3,8 @@ ghost use Rattle.std.specs.Prelude.{◌≤◌, length, IfOk};
 ghost use Rattle.roman_model.specs.declared.limits.TheConstants.{MAX_BEHAVIOURS};
 ghost use Rattle.roman_library.specs.Library.{PlainLibrary, IsLibrary, plain};
 ghost use Rattle.roman_start.specs.Seating.{IsSeated};
-ghost use Rattle.roman_session.specs.Known.{AreBehaviours};
 ghost use Rattle.roman_session.specs.Starts.{IsStart};
+ghost use Rattle.roman_hearing.specs.Known.{AreBehaviours};
 ghost use Rattle.roman_top.specs.Endings.{Opens, OpensLibrary};
 ghost use Rattle.roman_top.specs.World.{desk};
 

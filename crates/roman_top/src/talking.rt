@@ -1,7 +1,7 @@
 //! `run SYSTEM` and `run SYSTEM SESSION`.
 ghost use Rattle.std.specs.Prelude.{◌≡◌, ◌⊎◌, None, Some, OnOk, IsErrOf};
 ghost use Rattle.roman_io.specs.Shelf.{rest_from};
-ghost use Rattle.roman_session.specs.Hearing.{hall, spot, CausedBy};
+ghost use Rattle.roman_hearing.specs.Hearing.{hall, spot, CausedBy};
 ghost use Rattle.roman_top.specs.Command.{Run, On};
 ghost use Rattle.roman_top.specs.Endings.{HearsText, heard_status};
 ghost use Rattle.roman_top.specs.Faults.{TakesInput};
@@ -10,8 +10,9 @@ ghost use Rattle.roman_top.specs.World.{world, desk};
 
 use crate::opening::open_session;
 use crate::status::Status;
+use roman_hearing::{HearError, hear};
 use roman_io::{Shelf, ShelfSource, Sink, Source, Steps};
-use roman_session::{HearError, Session, hear};
+use roman_session::Session;
 use std::alloc::Global;
 use std::sync::ledger::Ledger;
 

@@ -64,7 +64,7 @@ impl Session {
 
     /// Answers a line as [`Session::answer`] does, but on a page: the answer is taken behind what
     /// it holds.
-    pub(crate) fn answer_on<O: Sink, L: Ledger>(
+    pub fn answer_on<O: Sink, L: Ledger>(
         &mut self,
         line: &[u8],
         page: &mut Page,

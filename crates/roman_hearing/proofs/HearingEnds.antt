@@ -1,0 +1,300 @@
+-- How a session that is heard from a source ends.
+use Rattle.std.proofs.Common.{◌≡◌, ℕ, ◌+◌, ◌-◌, ◌<◌, ◌≤◌, Bool, true, false, ◌||◌, List, [], ◌∷◌, ◌++◌, length, take, drop, nat_le, ltb, Option, None, Some, Result, Ok, Err, OnOk, IsErrOf, IsTrue, inl, inr, refl, sym, ap, ◌∙◌, subst, arith, append_assoc, append-nil, length-append, length-take, take-append-drop, take_at, le-leb}
+use Rattle.std.proofs.Math.Seq.{take-append-add}
+use Rattle.std.proofs.lemmas.Bool.{cond-true, cond-false, or_from, lt-leb}
+use Rattle.roman_io.specs.Source.{Gave, EndsAt, Had, GaveAtMost}
+use Rattle.roman_io.proofs.CallerLemmas.{Gave-then, WrotePrefix-append}
+use Rattle.roman_model.specs.Lines.{lines, ended_lines, text_of_lines}
+use Rattle.roman_model.specs.declared.limits.TheConstants.{MAX_SESSION_BYTES}
+use Rattle.roman_model.proofs.CallerLemmas.{by_test}
+use Rattle.roman_text.specs.Lines.{HasNoNewline, unfinished, kept}
+use Rattle.roman_text.proofs.CallerLemmas.{unfinished-nil, unfinished-free, lines_are, lines_only, lines_none, kept-nil}
+use Rattle.roman_session.specs.Situations.{Situation}
+use Rattle.roman_hearing.specs.Told.{Told}
+use Rattle.roman_hearing.specs.Known.{AreBehaviours}
+use Rattle.roman_hearing.specs.Hearing.{has_quit, prefix_of, is_heard_out, heard_lines, GaveQuit, spot, hall, Tells, TellsPrefix, IsHeardOut, IsCutOff, StopsShort, TellsPrefixOfAll}
+use Rattle.roman_hearing.specs.HearingBytes.{ear, IsHearing, StopsAtQuit, FallsShort, FailsIn, HearsPiece, HearsRest}
+use Rattle.roman_hearing.specs.declared.hearing.HearError.{HearError}
+use Rattle.roman_hearing.specs.declared.hearing.HearError.TheVariants.{ReadFault, WriteFault, TooLong}
+use Rattle.roman_hearing.proofs.HearingLines.{ended_more, lines_more, quit_left, told_stops}
+use Rattle.roman_hearing.proofs.HearingSteps.{told_more}
+use Rattle.roman_hearing.proofs.HearingLemmas.{whole_told}
+
+-- ---- what the source had
+
+-- what it had is what it gave, and some more
+had_more : (before now : Option (List ℕ)) (taken : List ℕ) → Gave before now taken → (after : List ℕ) × Had before (taken ++ after)
+had_more None None taken gave = ([], tt)
+had_more None (Some new) taken gave = absurd gave
+had_more (Some old) None taken gave = absurd gave
+had_more (Some old) (Some new) taken gave = (new, gave)
+
+-- or no more, where it is at its end
+had_all : (before now : Option (List ℕ)) (taken : List ℕ) (n : ℕ) → Gave before now taken → EndsAt now n → n ≡ 0 → Had before taken
+had_all None None taken n gave ends none = tt
+had_all None (Some new) taken n gave ends none = absurd gave
+had_all (Some old) None taken n gave ends none = absurd gave
+had_all (Some old) (Some new) taken n gave ends none = gave ∙ ap (λ (rest : List ℕ). taken ++ rest) (ends.0 none) ∙ append-nil taken
+
+pub gave_at_most : (most : ℕ) (before mid now : Option (List ℕ)) (taken got : List ℕ) → Gave before mid taken → Gave mid now got → length taken + length got ≤ most → GaveAtMost most before now
+gave_at_most most before mid now taken got first second few = record {
+  taken = taken ++ got;
+  gave = Gave-then before mid now taken got first second;
+  few = omega (arith, length-append taken got);
+}
+
+-- ---- as much as is ever heard
+
+-- of bytes whose first ones are few enough
+prefix-append : (limit : ℕ) (heard rest : List ℕ) → length heard ≤ limit → take limit (heard ++ rest) ≡ heard ++ take (limit - length heard) rest
+prefix-append limit heard rest few =
+    let whole : limit ≡ length heard + (limit - length heard) = omega arith in
+    ap (λ (n : ℕ). take n (heard ++ rest)) whole ∙ take-append-add heard rest (limit - length heard)
+
+-- a session that isn't longer is heard out
+pub short_out : (session : List ℕ) → length session ≤ MAX_SESSION_BYTES → IsTrue (is_heard_out session)
+short_out session few = ap (λ (b : Bool). b || has_quit (ended_lines (prefix_of session))) (le-leb (length session) MAX_SESSION_BYTES few)
+
+-- so is one where a line `quit` ends in time
+quit_out : (heard rest : List ℕ) → length heard ≤ MAX_SESSION_BYTES → IsTrue (has_quit (ended_lines heard)) → IsTrue (is_heard_out (heard ++ rest))
+quit_out heard rest few quit =
+    let (more, e) = ended_more heard (take (MAX_SESSION_BYTES - length heard) rest) in
+    or_right (nat_le (length (heard ++ rest)) MAX_SESSION_BYTES) (has_quit (ended_lines (prefix_of (heard ++ rest))))
+    (ap (λ (bytes : List ℕ). has_quit (ended_lines bytes)) (prefix-append MAX_SESSION_BYTES heard rest few) ∙ ap has_quit e ∙ quit_left (ended_lines heard) more quit)
+  where
+    or_right : (a b : Bool) → IsTrue b → IsTrue (a || b)
+    or_right true b h = refl
+    or_right false b h = h
+
+-- the lines that are answered begin with the whole ones of bytes that are few enough
+heard_more : (heard rest : List ℕ) → length heard ≤ MAX_SESSION_BYTES → (more : List (List ℕ)) × (heard_lines (heard ++ rest) ≡ ended_lines heard ++ more)
+heard_more heard rest few = by_test (is_heard_out (heard ++ rest))
+    (λ out.
+    let (prefix, e) = ended_more heard rest in
+    let (last, f) = lines_more (heard ++ rest) in (
+      prefix ++ last,
+      cond-true (is_heard_out (heard ++ rest)) (lines (heard ++ rest)) (ended_lines (prefix_of (heard ++ rest))) out
+          ∙ f ∙ ap (λ (ls : List (List ℕ)). ls ++ last) e ∙ append_assoc (ended_lines heard) prefix last,
+    ))
+    (λ long.
+    let (more, e) = ended_more heard (take (MAX_SESSION_BYTES - length heard) rest) in (
+      more,
+      cond-false (is_heard_out (heard ++ rest)) (lines (heard ++ rest)) (ended_lines (prefix_of (heard ++ rest))) long
+          ∙ ap ended_lines (prefix-append MAX_SESSION_BYTES heard rest few) ∙ e,
+    ))
+
+-- ---- at the end of the source
+
+module _ (old new : Situation) (start mid : Option (List ℕ)) (taken : List ℕ) (n : ℕ) (before now : Option (List ℕ)) (gave : Gave start mid taken) (ends : EndsAt mid n) (none : n ≡ 0)
+    (few : length taken ≤ MAX_SESSION_BYTES) where
+  -- all lines are answered
+  pub out_at_end : Tells (spot old before) (lines taken) (spot new now) → IsHeardOut (hall old start before) (spot new now)
+  out_at_end tells = record {
+    session = taken;
+    had = had_all start mid taken n gave ends none;
+    out = short_out taken few;
+    tells = tells;
+  }
+
+  -- the answer to the last isn't written whole
+  prefixes_rest : FallsShort (spot old before) (lines taken) (spot new now) → TellsPrefixOfAll (hall old start before) now
+  prefixes_rest fails = record {
+    session = taken;
+    had = had_all start mid taken n gave ends none;
+    last = new;
+    tells = subst (λ (ls : List (List ℕ)). TellsPrefix (spot old before) ls (spot new now)) (sym (cond-true (is_heard_out taken) (lines taken) (ended_lines (prefix_of taken)) (short_out taken few))) fails.tells;
+  }
+
+  -- so by the answer of that call
+  pub rest_out : (r : Result (Unit {0}) HearError) → HearsRest (spot old before) taken (spot new now) r → OnOk r (IsHeardOut (hall old start before) (spot new now))
+  rest_out (Ok x) tells = out_at_end tells
+  rest_out (Err error) h = tt
+
+  pub rest_prefixes : (r : Result (Unit {0}) HearError) → HearsRest (spot old before) taken (spot new now) r → IsErrOf r WriteFault → TellsPrefixOfAll (hall old start before) now
+  rest_prefixes (Ok x) h is = absurd (let e : ⊥ = cc in e)
+  rest_prefixes (Err ReadFault) h is = absurd h
+  rest_prefixes (Err WriteFault) h is = prefixes_rest h
+  rest_prefixes (Err TooLong) h is = absurd h
+
+-- the last answer isn't written whole
+pub rest_stops_short : (old new : Situation) (start mid has : Option (List ℕ)) (taken into : List ℕ) (n : ℕ) (before now : Option (List ℕ)) (r : Result (Unit {0}) HearError) → Gave start mid taken →
+    Gave mid has (take n into) → EndsAt mid n → n ≡ 0 → length taken ≤ MAX_SESSION_BYTES → HearsRest (spot old before) taken (spot new now) r → IsErrOf r WriteFault → StopsShort (hall old start before) (hall new has now)
+rest_stops_short old new start mid has taken into n before now (Ok x) first second ends none few h is = absurd (let e : ⊥ = cc in e)
+rest_stops_short old new start mid has taken into n before now (Err ReadFault) first second ends none few h is = absurd h
+rest_stops_short old new start mid has taken into n before now (Err TooLong) first second ends none few h is = absurd h
+rest_stops_short old new start mid has taken into n before now (Err WriteFault) first second ends none few fails is =
+    let got : take n into ≡ [] = ap (λ (n : ℕ). take n into) none in
+    record {
+      heard = taken;
+      past = [];
+      gave = subst (Gave start has) (ap (λ (bytes : List ℕ). taken ++ bytes) got) (Gave-then start mid has taken (take n into) first second);
+      few = few;
+      ends = inr (had_all start mid taken n first ends none);
+      tells = fails.tells;
+    }
+
+-- no other error comes of it
+pub rest_not_read : (old new : Situation) (taken : List ℕ) (before now : Option (List ℕ)) (r : Result (Unit {0}) HearError) → HearsRest (spot old before) taken (spot new now) r → IsErrOf r ReadFault → ⊥
+rest_not_read old new taken before now (Ok x) h is = cc
+rest_not_read old new taken before now (Err ReadFault) h is = h
+rest_not_read old new taken before now (Err WriteFault) h is = cc
+rest_not_read old new taken before now (Err TooLong) h is = h
+
+pub rest_not_long : (old new : Situation) (taken : List ℕ) (before now : Option (List ℕ)) (r : Result (Unit {0}) HearError) → HearsRest (spot old before) taken (spot new now) r → IsErrOf r TooLong → ⊥
+rest_not_long old new taken before now (Ok x) h is = cc
+rest_not_long old new taken before now (Err ReadFault) h is = h
+rest_not_long old new taken before now (Err WriteFault) h is = cc
+rest_not_long old new taken before now (Err TooLong) h is = h
+
+-- ---- the whole lines of bytes, as a text
+
+-- its lines are these, and they are whole
+whole_lines : (bytes : List ℕ) → (ended_lines (text_of_lines (ended_lines bytes)) ≡ ended_lines bytes) × (lines (text_of_lines (ended_lines bytes)) ≡ ended_lines bytes)
+whole_lines bytes =
+    let ls : List (List ℕ) = ended_lines bytes in
+    let (ended, none) = lines_only (text_of_lines ls) ls [] (record { whole = sym (append-nil (text_of_lines ls)); each = (lines_are bytes).each; last = subst HasNoNewline unfinished-nil (unfinished-free []) }) in
+    let empty : ltb 0 (length (kept (unfinished (text_of_lines ls)))) ≡ false = ap (λ (rest : List ℕ). ltb 0 (length (kept rest))) (sym none) ∙ ap (λ (rest : List ℕ). ltb 0 (length rest)) kept-nil in
+    (sym ended, lines_none (text_of_lines ls) empty ∙ sym ended)
+
+-- ---- within a piece
+
+-- the bytes up to a newline
+quit_split : (taken part heard past : List ℕ) → part ≡ heard ++ 10 ∷ past → taken ++ part ≡ (taken ++ heard ++ 10 ∷ []) ++ past
+quit_split taken part heard past e = ap (λ (part : List ℕ). taken ++ part) e ∙ sym (append_assoc taken heard (10 ∷ past)) ∙ sym (append_assoc (taken ++ heard) (10 ∷ []) past)
+
+-- what is told of lines with a `quit` among them is told of all
+told_all : (old new : Situation) (heard rest text : List ℕ) → IsTrue (has_quit (ended_lines heard)) → Told old (ended_lines heard) text new → Told old (lines (heard ++ rest)) text new
+told_all old new heard rest text quit told =
+    let (prefix, e) = ended_more heard rest in
+    let (last, f) = lines_more (heard ++ rest) in
+    subst (λ (ls : List (List ℕ)). Told old ls text new) (sym (f ∙ ap (λ (ls : List (List ℕ)). ls ++ last) e ∙ append_assoc (ended_lines heard) prefix last))
+    (told_stops old new (ended_lines heard) (prefix ++ last) text quit told)
+
+module _ (old new : Situation) (start mid has : Option (List ℕ)) (taken got : List ℕ) (room : ℕ) (before now : Option (List ℕ)) (first : Gave start mid taken) (second : Gave mid has got)
+    (fits : room + length taken ≡ MAX_SESSION_BYTES) where
+  -- what was taken, up to where the room ends and past it
+  whole_part : (after : List ℕ) → (taken ++ got) ++ after ≡ (taken ++ take room got) ++ (drop room got ++ after)
+  whole_part after =
+      ap (λ (piece : List ℕ). (taken ++ piece) ++ after) (sym (take-append-drop room got)) ∙ ap (λ (bytes : List ℕ). bytes ++ after) (sym (append_assoc taken (take room got) (drop room got)))
+      ∙ append_assoc (taken ++ take room got) (drop room got) after
+
+  part_fits : length (taken ++ take room got) ≤ MAX_SESSION_BYTES
+  part_fits = omega (arith, length-append taken (take room got), length-take room got)
+
+  -- the bytes that go on after a prefix of that
+  part_split : (after heard past : List ℕ) → taken ++ take room got ≡ heard ++ past → (taken ++ got) ++ after ≡ heard ++ (past ++ (drop room got ++ after))
+  part_split after heard past split = whole_part after ∙ ap (λ (bytes : List ℕ). bytes ++ (drop room got ++ after)) split ∙ append_assoc heard past (drop room got ++ after)
+
+  had_after : (after : List ℕ) × Had start ((taken ++ got) ++ after)
+  had_after = had_more start has (taken ++ got) (Gave-then start mid has taken got first second)
+
+  -- a line `quit` ends there
+  pub out_at_quit : StopsAtQuit (spot old before) taken (take room got) (spot new now) [] → IsHeardOut (hall old start before) (spot new now)
+  out_at_quit stops =
+      let (after, had) = had_after in
+      let heard : List ℕ = taken ++ stops.heard ++ 10 ∷ [] in
+      let rest : List ℕ = stops.past ++ (drop room got ++ after) in
+      let split : taken ++ take room got ≡ heard ++ stops.past = quit_split taken (take room got) stops.heard stops.past stops.split in
+      let session : (taken ++ got) ++ after ≡ heard ++ rest = part_split after heard stops.past split in
+      let few : length heard ≤ MAX_SESSION_BYTES = omega (arith, part_fits, ap length split, length-append heard stops.past) in
+      let whole = whole_told (spot old before) (spot new now) (ended_lines heard) stops.tells in
+      record {
+        session = (taken ++ got) ++ after;
+        had = had;
+        out = subst (λ (bytes : List ℕ). IsTrue (is_heard_out bytes)) (sym session) (quit_out heard rest few stops.quit);
+        tells = record {
+          text = whole.text;
+          told = subst (λ (bytes : List ℕ). Told old (lines bytes) whole.text new) (sym session) (told_all old new heard rest whole.text stops.quit whole.told);
+          wrote = whole.wrote;
+        };
+      }
+
+  -- not many bytes follow its newline
+  pub gave_quit : (most : ℕ) → length got ≤ most + 1 → StopsAtQuit (spot old before) taken (take room got) (spot new now) [] → GaveQuit most start has
+  gave_quit most l stops =
+      let whole : taken ++ got ≡ (taken ++ stops.heard) ++ 10 ∷ (stops.past ++ drop room got) =
+      ap (λ (piece : List ℕ). taken ++ piece) (sym (take-append-drop room got) ∙ ap (λ (part : List ℕ). part ++ drop room got) stops.split ∙ append_assoc stops.heard (10 ∷ stops.past) (drop room got))
+      ∙ sym (append_assoc taken stops.heard (10 ∷ (stops.past ++ drop room got))) in
+      record {
+        heard = taken ++ stops.heard;
+        past = stops.past ++ drop room got;
+        gave = subst (Gave start has) whole (Gave-then start mid has taken got first second);
+        first = stops.first;
+        quit = stops.quit;
+        few = omega (arith, ap length whole, length-append taken got, length-append taken stops.heard, length-append (taken ++ stops.heard) (10 ∷ (stops.past ++ drop room got)));
+      }
+
+  -- there are more bytes than there is room for
+  pub cut_off : (held : List ℕ) → IsHearing (spot old before) (taken ++ take room got) (ear new now [] held) → room < length got → IsCutOff (hall old start before) (spot new now)
+  cut_off held hearing more =
+      let (after, had) = had_after in
+      let full : length (taken ++ take room got) ≡ MAX_SESSION_BYTES = omega (arith, length-append taken (take room got), length-take room got) in
+      let prefix : prefix_of ((taken ++ got) ++ after) ≡ taken ++ take room got =
+      ap (take MAX_SESSION_BYTES) (whole_part after) ∙ take_at (taken ++ take room got) (drop room got ++ after) MAX_SESSION_BYTES full in
+      record {
+        session = (taken ++ got) ++ after;
+        had = had;
+        long = or_from (nat_le (length ((taken ++ got) ++ after)) MAX_SESSION_BYTES) (has_quit (ended_lines (prefix_of ((taken ++ got) ++ after))))
+            (lt-leb (length ((taken ++ got) ++ after)) MAX_SESSION_BYTES (omega (arith, length-append (taken ++ got) after, length-append taken got)))
+            (ap (λ (bytes : List ℕ). has_quit (ended_lines bytes)) prefix ∙ hearing.quitless);
+        tells = subst (λ (bytes : List ℕ). Tells (spot old before) (ended_lines bytes) (spot new now)) (sym prefix) (whole_told (spot old before) (spot new now) (ended_lines (taken ++ take room got)) hearing.tells);
+      }
+
+  -- the answer to a line isn't written whole
+  stops_short : FailsIn (spot old before) (taken ++ take room got) (spot new now) → StopsShort (hall old start before) (hall new has now)
+  stops_short fails =
+      let rest : List ℕ = fails.past ++ (drop room got ++ []) in
+      let given : taken ++ got ≡ fails.heard ++ rest = sym (append-nil (taken ++ got)) ∙ part_split [] fails.heard fails.past fails.split in
+      let whole : List ℕ = text_of_lines (ended_lines fails.heard) in
+      let split : fails.heard ≡ whole ++ unfinished fails.heard = (lines_are fails.heard).whole in
+      let (ended, all) = whole_lines fails.heard in
+      let parts : taken ++ got ≡ whole ++ (unfinished fails.heard ++ rest) =
+      given ∙ ap (λ (bytes : List ℕ). bytes ++ rest) split ∙ append_assoc whole (unfinished fails.heard) rest in
+      record {
+        heard = whole;
+        past = unfinished fails.heard ++ rest;
+        gave = subst (Gave start has) parts (Gave-then start mid has taken got first second);
+        few = omega (arith, part_fits, ap length fails.split, length-append fails.heard fails.past, ap length split, length-append whole (unfinished fails.heard));
+        ends = inl (ap text_of_lines (sym ended));
+        tells = subst (λ (ls : List (List ℕ)). TellsPrefix (spot old before) ls (spot new now)) (sym all) fails.fails.tells;
+      }
+
+  prefixes_all : AreBehaviours old.parts → FailsIn (spot old before) (taken ++ take room got) (spot new now) → TellsPrefixOfAll (hall old start before) now
+  prefixes_all behaviours fails =
+      let (after, had) = had_after in
+      let rest : List ℕ = fails.past ++ (drop room got ++ after) in
+      let session : (taken ++ got) ++ after ≡ fails.heard ++ rest = part_split after fails.heard fails.past fails.split in
+      let few : length fails.heard ≤ MAX_SESSION_BYTES = omega (arith, part_fits, ap length fails.split, length-append fails.heard fails.past) in
+      let (more, e) = heard_more fails.heard rest few in
+      let (text, last, told) = told_more old new (ended_lines fails.heard) more fails.fails.tells.text behaviours fails.fails.known fails.fails.tells.told in
+      record {
+        session = (taken ++ got) ++ after;
+        had = had;
+        last = last;
+        tells = record {
+          text = fails.fails.tells.text ++ text;
+          told = subst (λ (ls : List (List ℕ)). Told old ls (fails.fails.tells.text ++ text) last) (sym (ap heard_lines session ∙ e)) told;
+          wrote = WrotePrefix-append before now fails.fails.tells.text text fails.fails.tells.wrote;
+        };
+      }
+
+  -- by the error of a piece
+  pub piece_cut_off : (held : List ℕ) (error : HearError) → HearsPiece room (spot old before) taken got (ear new now [] held) (Err error) → error ≡ TooLong → IsCutOff (hall old start before) (spot new now)
+  piece_cut_off held ReadFault h is = absurd h
+  piece_cut_off held WriteFault h is = absurd (let e : ⊥ = cc in e)
+  piece_cut_off held TooLong (hearing, more) is = cut_off held hearing more
+
+  pub piece_stops_short : (held : List ℕ) (error : HearError) → HearsPiece room (spot old before) taken got (ear new now [] held) (Err error) → error ≡ WriteFault → StopsShort (hall old start before) (hall new has now)
+  piece_stops_short held ReadFault h is = absurd h
+  piece_stops_short held WriteFault fails is = stops_short fails
+  piece_stops_short held TooLong h is = absurd (let e : ⊥ = cc in e)
+
+  pub piece_prefixes : (held : List ℕ) (error : HearError) → HearsPiece room (spot old before) taken got (ear new now [] held) (Err error) → error ≡ WriteFault → AreBehaviours old.parts → TellsPrefixOfAll (hall old start before) now
+  piece_prefixes held ReadFault h is behaviours = absurd h
+  piece_prefixes held WriteFault fails is behaviours = prefixes_all behaviours fails
+  piece_prefixes held TooLong h is behaviours = absurd (let e : ⊥ = cc in e)
+
+  pub piece_not_read : (held : List ℕ) (error : HearError) → HearsPiece room (spot old before) taken got (ear new now [] held) (Err error) → error ≡ ReadFault → ⊥
+  piece_not_read held ReadFault h is = h
+  piece_not_read held WriteFault h is = cc
+  piece_not_read held TooLong h is = cc

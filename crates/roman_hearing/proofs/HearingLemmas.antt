@@ -1,0 +1,287 @@
+-- Bytes that are heard one after the other.
+use Rattle.std.proofs.Common.{◌≡◌, ℕ, ◌+◌, ◌<◌, ◌≤◌, true, false, List, [], ◌∷◌, ◌++◌, length, take, drop, get_or, min, nat_lt, Option, Result, Ok, Err, IsTrue, IsFalse, refl, sym, ap, ◌∙◌, subst, arith, append_assoc, append-nil, eqb-true}
+use Rattle.std.proofs.lemmas.Bool.{cond-true, cond-false}
+use Rattle.std.proofs.lemmas.List.{take_all, take_min, take_more, take-append-drop}
+use Rattle.roman_io.specs.Sink.{Wrote, WrotePrefix}
+use Rattle.roman_io.specs.declared.failed.Failed.{Failed}
+use Rattle.roman_io.proofs.CallerLemmas.{Wrote-then, WrotePrefix-after}
+use Rattle.roman_text.specs.Pages.{Gathered}
+use Rattle.roman_text.proofs.CallerLemmas.{Gathered-empty, Gathered-then, Gathered-put, WrotePrefix-gathered, ended_lines-newline, ended_lines-other, unfinished-newline, unfinished-nil, unfinished-other, kept-nil, kept-push, lines_rest, lines_none}
+use Rattle.roman_model.specs.Lines.{lines, ended_lines}
+use Rattle.roman_model.proofs.CallerLemmas.{by_test}
+use Rattle.roman_text.specs.Lines.{is_newline, unfinished, kept}
+use Rattle.roman_text.specs.Shapes.{shape_of}
+use Rattle.roman_session.specs.Situations.{Situation, IsSituation}
+use Rattle.roman_session.specs.Steps.{Step}
+use Rattle.roman_session.specs.Answering.{Answered, AnsweredOn, next_of}
+use Rattle.roman_session.specs.declared.next.Next.{Next}
+use Rattle.roman_session.specs.declared.next.Next.TheVariants.{More, Quit}
+use Rattle.roman_hearing.specs.Hearing.{ends_session, has_quit, Spot, spot, Tells, TellsPrefix}
+use Rattle.roman_hearing.specs.HearingBytes.{ear, TellsOnPage, IsHearing, StopsAtQuit, FallsShort, FailsIn, HearsBytes}
+use Rattle.roman_hearing.proofs.HearingLines.{quit_last, quitless_last, told_push}
+
+-- ---- one line
+
+-- a line is answered by its shape
+step_alike : (old new : Situation) (line held text : List ℕ) → shape_of held ≡ shape_of line → Step old held text new → Step old line text new
+unfolding Step
+step_alike old new line held text same step = rw (sym same) step
+
+-- so it is answered by as much of it as tells its shape
+pub answered_alike : {T E : Type 0} (old new : Situation) (line held : List ℕ) (before now : Option (List ℕ)) (result : Result T E) → shape_of held ≡ shape_of line →
+    Answered old held new before now result → Answered old line new before now result
+answered_alike old new line held before now result same answered = record {
+  text = answered.text;
+  step = step_alike old new line held answered.text same answered.step;
+  puts = answered.puts;
+}
+
+pub answered_on_alike : {T E : Type 0} (old new : Situation) (line held : List ℕ) (before now : Option (List ℕ)) (page holds : List ℕ) (result : Result T E) → shape_of held ≡ shape_of line →
+    AnsweredOn old held new before now page holds result → AnsweredOn old line new before now page holds result
+answered_on_alike old new line held before now page holds result same answered = record {
+  text = answered.text;
+  step = step_alike old new line held answered.text same answered.step;
+  gathers = answered.gathers;
+}
+
+-- whether the session goes on
+next_more : (line : List ℕ) → More ≡ next_of line → IsFalse (ends_session line)
+next_more line e = by_test (ends_session line)
+    (λ quit. let other : More ≡ Quit = e ∙ cond-true (ends_session line) Quit More quit in let h : ⊥ = cc in absurd h)
+    (λ other. other)
+
+next_quit : (line : List ℕ) → Quit ≡ next_of line → IsTrue (ends_session line)
+next_quit line e = by_test (ends_session line)
+    (λ quit. quit)
+    (λ other. let more : Quit ≡ More = e ∙ cond-false (ends_session line) Quit More other in let h : ⊥ = cc in absurd h)
+
+-- ---- what is told of one line more
+
+tells_more : (old mid new : Situation) (ls : List (List ℕ)) (line more : List ℕ) (before wrote now : Option (List ℕ)) → IsFalse (has_quit ls) →
+    Tells (spot old before) ls (spot mid wrote) → Step mid line more new → Wrote wrote now more → Tells (spot old before) (ls ++ line ∷ []) (spot new now)
+tells_more old mid new ls line more before wrote now quitless tells step wrote_more = record {
+  text = tells.text ++ more;
+  told = told_push old mid new ls line tells.text more quitless tells.told step;
+  wrote = Wrote-then before wrote now tells.text more tells.wrote wrote_more;
+}
+
+fails_more : (old mid new : Situation) (ls : List (List ℕ)) (line more : List ℕ) (before wrote now : Option (List ℕ)) → IsFalse (has_quit ls) →
+    Tells (spot old before) ls (spot mid wrote) → Step mid line more new → WrotePrefix wrote now more → IsSituation new → FallsShort (spot old before) (ls ++ line ∷ []) (spot new now)
+fails_more old mid new ls line more before wrote now quitless tells step wrote_more known = record {
+  tells = record {
+    text = tells.text ++ more;
+    told = told_push old mid new ls line tells.text more quitless tells.told step;
+    wrote = WrotePrefix-after before wrote now tells.text more tells.wrote wrote_more;
+  };
+  known = known;
+}
+
+-- the same on a page
+takes_more : (old mid new : Situation) (ls : List (List ℕ)) (line more : List ℕ) (before wrote now : Option (List ℕ)) (page holds : List ℕ) → IsFalse (has_quit ls) →
+    TellsOnPage (spot old before) ls (spot mid wrote) page → Step mid line more new → Gathered wrote now holds (page ++ more) → TellsOnPage (spot old before) (ls ++ line ∷ []) (spot new now) holds
+takes_more old mid new ls line more before wrote now page holds quitless takes step gathered = record {
+  text = takes.text ++ more;
+  told = told_push old mid new ls line takes.text more quitless takes.told step;
+  gathered = Gathered-then before wrote now page holds takes.text more takes.gathered gathered;
+}
+
+takes_failed : (old mid new : Situation) (ls : List (List ℕ)) (line more : List ℕ) (before wrote now : Option (List ℕ)) (page : List ℕ) → IsFalse (has_quit ls) →
+    TellsOnPage (spot old before) ls (spot mid wrote) page → Step mid line more new → WrotePrefix wrote now (page ++ more) → IsSituation new → FallsShort (spot old before) (ls ++ line ∷ []) (spot new now)
+takes_failed old mid new ls line more before wrote now page quitless takes step prefix known = record {
+  tells = record {
+    text = takes.text ++ more;
+    told = told_push old mid new ls line takes.text more quitless takes.told step;
+    wrote = WrotePrefix-gathered before wrote now page takes.text more takes.gathered prefix;
+  };
+  known = known;
+}
+
+-- where a page holds nothing, all was written
+pub whole_told : (old new : Spot) (ls : List (List ℕ)) → TellsOnPage old ls new [] → Tells old ls new
+whole_told old new ls takes = record {
+  text = takes.text;
+  told = takes.told;
+  wrote = subst (Wrote old.written new.written) (sym (takes.gathered.rest ∙ append-nil takes.gathered.prefix)) takes.gathered.wrote;
+}
+
+-- what a page holds is put
+put_whole : (old : Spot) (mid : Situation) (wrote now : Option (List ℕ)) (ls : List (List ℕ)) (page : List ℕ) → TellsOnPage old ls (spot mid wrote) page → Wrote wrote now page → TellsOnPage old ls (spot mid now) []
+put_whole old mid wrote now ls page takes put = record {
+  text = takes.text;
+  told = takes.told;
+  gathered = Gathered-put old.written now takes.text
+      (subst (Wrote old.written now) (sym takes.gathered.rest) (Wrote-then old.written wrote now takes.gathered.prefix page takes.gathered.wrote put));
+}
+
+put_prefix : (old : Spot) (mid : Situation) (wrote now : Option (List ℕ)) (ls : List (List ℕ)) (page : List ℕ) → TellsOnPage old ls (spot mid wrote) page → WrotePrefix wrote now page → TellsPrefix old ls (spot mid now)
+put_prefix old mid wrote now ls page takes prefix = record {
+  text = takes.text;
+  told = takes.told;
+  wrote = subst (WrotePrefix old.written now) (sym takes.gathered.rest) (WrotePrefix-after old.written wrote now takes.gathered.prefix page takes.gathered.wrote prefix);
+}
+
+-- ---- one byte
+
+-- before the first byte
+pub hearing_starts : (s : Situation) (told : Option (List ℕ)) (held : List ℕ) → held ≡ [] → IsHearing (spot s told) [] (ear s told [] held)
+hearing_starts s told held empty = record {
+  quitless = refl;
+  tells = record { text = []; told = (refl, refl); gathered = Gathered-empty told [] refl };
+  rest = empty ∙ sym (ap kept unfinished-nil ∙ kept-nil);
+}
+
+module _ (old : Situation) (before : Option (List ℕ)) (taken : List ℕ) (mid : Situation) (wrote : Option (List ℕ)) (page held : List ℕ) (byte : ℕ) (is : IsHearing (spot old before) taken (ear mid wrote page held)) where
+  -- a byte within a line
+  pub hears_other : (after : List ℕ) → is_newline byte ≡ false → after ≡ kept (held ++ byte ∷ []) → IsHearing (spot old before) (taken ++ byte ∷ []) (ear mid wrote page after)
+  hears_other after other e = record {
+    quitless = rw (ended_lines-other taken byte other) is.quitless;
+    tells = rw (ended_lines-other taken byte other) is.tells;
+    rest = e ∙ ap (λ (held : List ℕ). kept (held ++ byte ∷ [])) is.rest ∙ kept-push (unfinished taken) byte ∙ sym (ap kept (unfinished-other taken byte other));
+  }
+
+  -- a newline
+  pub hears_line : (new : Situation) (now : Option (List ℕ)) (holds after : List ℕ) (next : Next) → is_newline byte ≡ true → after ≡ [] → AnsweredOn {E = Failed} mid (unfinished taken) new wrote now page holds (Ok next) →
+      next ≡ next_of (unfinished taken) → HearsBytes (spot old before) taken (byte ∷ []) (ear new now holds after) (Ok next)
+  hears_line new now holds after More newline empty answered next = record {
+    quitless = rw (ended_lines-newline taken byte newline) (quitless_last (ended_lines taken) (unfinished taken) is.quitless (next_more (unfinished taken) next));
+    tells = rw (ended_lines-newline taken byte newline) (takes_more old mid new (ended_lines taken) (unfinished taken) answered.text before wrote now page holds is.quitless is.tells answered.step answered.gathers);
+    rest = empty ∙ sym (ap kept (unfinished-newline taken byte newline) ∙ kept-nil);
+  }
+  hears_line new now holds after Quit newline empty answered next =
+      let is_ten : byte ≡ 10 = eqb-true byte 10 newline in
+      let whole : ended_lines (taken ++ [] ++ 10 ∷ []) ≡ ended_lines taken ++ unfinished taken ∷ [] = ap (λ (bytes : List ℕ). ended_lines (bytes ++ 10 ∷ [])) (append-nil taken) ∙ ended_lines-newline taken 10 refl in
+      record {
+        heard = [];
+        past = [];
+        split = ap (λ (b : ℕ). b ∷ []) is_ten;
+        first = rw (append-nil taken) is.quitless;
+        quit = rw whole (quit_last (ended_lines taken) (unfinished taken) (next_quit (unfinished taken) next));
+        tells = rw whole (takes_more old mid new (ended_lines taken) (unfinished taken) answered.text before wrote now page holds is.quitless is.tells answered.step answered.gathers);
+      }
+
+  -- a newline, where the answer to its line isn't written whole
+  pub hears_failed : (new : Situation) (now : Option (List ℕ)) (holds : List ℕ) (failed : Failed) → is_newline byte ≡ true → AnsweredOn {T = Next} mid (unfinished taken) new wrote now page holds (Err failed) → IsSituation new →
+      FailsIn (spot old before) (taken ++ byte ∷ []) (spot new now)
+  hears_failed new now holds failed newline answered known = record {
+    heard = taken ++ byte ∷ [];
+    past = [];
+    split = sym (append-nil (taken ++ byte ∷ []));
+    fails = rw (ended_lines-newline taken byte newline) (takes_failed old mid new (ended_lines taken) (unfinished taken) answered.text before wrote now page is.quitless is.tells answered.step answered.gathers.0 known);
+  }
+
+-- ---- bytes after bytes
+
+-- a line `quit` in a part of a piece
+pub stops_within : (old : Situation) (before : Option (List ℕ)) (taken prefix part back piece : List ℕ) (new : Situation) (now : Option (List ℕ)) (page : List ℕ) → piece ≡ prefix ++ (part ++ back) →
+    StopsAtQuit (spot old before) (taken ++ prefix) part (spot new now) page → StopsAtQuit (spot old before) taken piece (spot new now) page
+stops_within old before taken prefix part back piece new now page split stops = record {
+  heard = prefix ++ stops.heard;
+  past = stops.past ++ back;
+  split = split ∙ ap (λ (bytes : List ℕ). prefix ++ (bytes ++ back)) stops.split ∙ ap (λ (bytes : List ℕ). prefix ++ bytes) (append_assoc stops.heard (10 ∷ stops.past) back)
+      ∙ sym (append_assoc prefix stops.heard (10 ∷ (stops.past ++ back)));
+  first = subst (λ (bytes : List ℕ). IsFalse (has_quit (ended_lines bytes))) (append_assoc taken prefix stops.heard) stops.first;
+  quit = subst (λ (bytes : List ℕ). IsTrue (has_quit (ended_lines (bytes ++ 10 ∷ [])))) (append_assoc taken prefix stops.heard) stops.quit;
+  tells = subst (λ (bytes : List ℕ). TellsOnPage (spot old before) (ended_lines (bytes ++ 10 ∷ [])) (spot new now) page) (append_assoc taken prefix stops.heard) stops.tells;
+}
+
+-- a fault in a part of them
+pub fails_within : (old : Situation) (before : Option (List ℕ)) (prefix back bytes : List ℕ) (new : Situation) (now : Option (List ℕ)) → bytes ≡ prefix ++ back →
+    FailsIn (spot old before) prefix (spot new now) → FailsIn (spot old before) bytes (spot new now)
+fails_within old before prefix back bytes new now split fails = record {
+  heard = fails.heard;
+  past = fails.past ++ back;
+  split = split ∙ ap (λ (bytes : List ℕ). bytes ++ back) fails.split ∙ append_assoc fails.heard fails.past back;
+  fails = fails.fails;
+}
+
+-- a list is what stands before a place, what stands there, and what follows
+at_place : (bytes : List ℕ) (i : ℕ) → i < length bytes → bytes ≡ take i bytes ++ (get_or bytes i 0 ∷ [] ++ drop (i + 1) bytes)
+at_place bytes i l =
+    sym (take-append-drop (i + 1) bytes) ∙ ap (λ (prefix : List ℕ). prefix ++ drop (i + 1) bytes) (take_more bytes i 0 l)
+    ∙ append_assoc (take i bytes) (get_or bytes i 0 ∷ []) (drop (i + 1) bytes)
+
+module _ (old : Situation) (before : Option (List ℕ)) (taken bytes : List ℕ) (i : ℕ) (new : Situation) (now : Option (List ℕ)) (l : i < length bytes) where
+  -- the byte at place i was heard after those before it
+  pub hears_at : (page held : List ℕ) → IsHearing (spot old before) (taken ++ take i bytes ++ get_or bytes i 0 ∷ []) (ear new now page held) → IsHearing (spot old before) (taken ++ take (i + 1) bytes) (ear new now page held)
+  hears_at page held hearing =
+      subst (λ (xs : List ℕ). IsHearing (spot old before) xs (ear new now page held))
+      (append_assoc taken (take i bytes) (get_or bytes i 0 ∷ []) ∙ ap (λ (xs : List ℕ). taken ++ xs) (sym (take_more bytes i 0 l))) hearing
+
+  -- the byte at place i ends a line `quit`
+  pub stops_at : (page : List ℕ) → StopsAtQuit (spot old before) (taken ++ take i bytes) (get_or bytes i 0 ∷ []) (spot new now) page → StopsAtQuit (spot old before) taken bytes (spot new now) page
+  stops_at page stops = stops_within old before taken (take i bytes) (get_or bytes i 0 ∷ []) (drop (i + 1) bytes) bytes new now page (at_place bytes i l) stops
+
+  -- it ends a line whose answer isn't written whole
+  pub fails_at : FailsIn (spot old before) (taken ++ take i bytes ++ get_or bytes i 0 ∷ []) (spot new now) → FailsIn (spot old before) (taken ++ bytes) (spot new now)
+  fails_at fails = fails_within old before (taken ++ take i bytes ++ get_or bytes i 0 ∷ []) (drop (i + 1) bytes) (taken ++ bytes) new now
+      (ap (λ (xs : List ℕ). taken ++ xs) (at_place bytes i l) ∙ sym (append_assoc taken (take i bytes) (get_or bytes i 0 ∷ [] ++ drop (i + 1) bytes))
+      ∙ sym (append_assoc (taken ++ take i bytes) (get_or bytes i 0 ∷ []) (drop (i + 1) bytes)))
+      fails
+
+-- ---- the last line
+
+module _ (old : Situation) (before : Option (List ℕ)) (taken : List ℕ) (mid : Situation) (wrote : Option (List ℕ)) (held : List ℕ) (is : IsHearing (spot old before) taken (ear mid wrote [] held)) where
+  told : Tells (spot old before) (ended_lines taken) (spot mid wrote)
+  told = whole_told (spot old before) (spot mid wrote) (ended_lines taken) is.tells
+
+  -- no bytes of a last line are left
+  pub hears_no_rest : nat_lt 0 (length held) ≡ false → Tells (spot old before) (lines taken) (spot mid wrote)
+  hears_no_rest none = rw (lines_none taken (subst (λ (held : List ℕ). nat_lt 0 (length held) ≡ false) is.rest none)) told
+
+  -- they are its line
+  rest_line : nat_lt 0 (length held) ≡ true → ended_lines taken ++ unfinished taken ∷ [] ≡ lines taken
+  rest_line some = sym (lines_rest taken (subst (λ (held : List ℕ). nat_lt 0 (length held) ≡ true) is.rest some))
+
+  pub hears_rest : (new : Situation) (now : Option (List ℕ)) (next : Next) → nat_lt 0 (length held) ≡ true → Answered {E = Failed} mid (unfinished taken) new wrote now (Ok next) →
+      Tells (spot old before) (lines taken) (spot new now)
+  hears_rest new now next some answered =
+      subst (λ (ls : List (List ℕ)). Tells (spot old before) ls (spot new now)) (rest_line some)
+      (tells_more old mid new (ended_lines taken) (unfinished taken) answered.text before wrote now is.quitless told answered.step answered.puts)
+
+  pub fails_rest : (new : Situation) (now : Option (List ℕ)) (failed : Failed) → nat_lt 0 (length held) ≡ true → Answered {T = Next} mid (unfinished taken) new wrote now (Err failed) → IsSituation new →
+      FallsShort (spot old before) (lines taken) (spot new now)
+  fails_rest new now failed some answered known =
+      subst (λ (ls : List (List ℕ)). FallsShort (spot old before) ls (spot new now)) (rest_line some)
+      (fails_more old mid new (ended_lines taken) (unfinished taken) answered.text before wrote now is.quitless told answered.step answered.puts known)
+
+-- ---- what a page holds at the end of a piece
+
+module _ (old : Situation) (before : Option (List ℕ)) (taken bytes : List ℕ) (new : Situation) (wrote now : Option (List ℕ)) (page held : List ℕ) where
+  -- it is put
+  pub put_hearing : IsHearing (spot old before) (taken ++ bytes) (ear new wrote page held) → Wrote wrote now page → IsHearing (spot old before) (taken ++ bytes) (ear new now [] held)
+  put_hearing is put = record { quitless = is.quitless; tells = put_whole (spot old before) new wrote now (ended_lines (taken ++ bytes)) page is.tells put; rest = is.rest }
+
+  pub put_quit : StopsAtQuit (spot old before) taken bytes (spot new wrote) page → Wrote wrote now page → StopsAtQuit (spot old before) taken bytes (spot new now) []
+  put_quit stops put = record {
+    heard = stops.heard;
+    past = stops.past;
+    split = stops.split;
+    first = stops.first;
+    quit = stops.quit;
+    tells = put_whole (spot old before) new wrote now (ended_lines (taken ++ stops.heard ++ 10 ∷ [])) page stops.tells put;
+  }
+
+  -- or that failed
+  pub put_failed : (next : Next) → HearsBytes (spot old before) taken bytes (ear new wrote page held) (Ok next) → WrotePrefix wrote now page → IsSituation new → FailsIn (spot old before) (taken ++ bytes) (spot new now)
+  put_failed More is prefix known = record {
+    heard = taken ++ bytes;
+    past = [];
+    split = sym (append-nil (taken ++ bytes));
+    fails = record { tells = put_prefix (spot old before) new wrote now (ended_lines (taken ++ bytes)) page is.tells prefix; known = known };
+  }
+  put_failed Quit stops prefix known = record {
+    heard = taken ++ stops.heard ++ 10 ∷ [];
+    past = stops.past;
+    split = ap (λ (part : List ℕ). taken ++ part) stops.split ∙ sym (append_assoc taken stops.heard (10 ∷ stops.past)) ∙ sym (append_assoc (taken ++ stops.heard) (10 ∷ []) stops.past);
+    fails = record { tells = put_prefix (spot old before) new wrote now (ended_lines (taken ++ stops.heard ++ 10 ∷ [])) page stops.tells prefix; known = known };
+  }
+
+-- ---- a piece, as far as there is room
+
+-- as much as is due is as much as there is room for
+pub due_part : (room due : ℕ) (piece : List ℕ) → due ≡ min (length piece) room → take due piece ≡ take room piece
+due_part room due piece e = ap (λ (n : ℕ). take n piece) (let same : due ≡ min room (length piece) = omega arith in same) ∙ take_min room piece
+
+-- all of it is due
+pub due_whole : (room due : ℕ) (piece : List ℕ) → due ≡ min (length piece) room → length piece ≤ due → (take due piece ≡ piece) × (length piece ≤ room)
+due_whole room due piece e all = (take_all due piece all, omega arith)

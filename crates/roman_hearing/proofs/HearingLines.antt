@@ -1,0 +1,94 @@
+-- What is told of lines that follow one another, up to the first that ends the session.
+use Rattle.std.proofs.Common.{◌≡◌, ℕ, Bool, true, false, ◌||◌, List, [], ◌∷◌, ◌++◌, length, nat_lt, IsTrue, IsFalse, refl, sym, ap, ◌∙◌, subst, append_assoc, append-nil}
+use Rattle.std.proofs.lemmas.Bool.{cond-true, cond-false, or_parts, or_from}
+use Rattle.std.proofs.lemmas.List.Folds.{list_any-append}
+use Rattle.roman_model.specs.Lines.{lines, ended_lines}
+use Rattle.roman_model.proofs.CallerLemmas.{by_test}
+use Rattle.roman_text.specs.Lines.{unfinished, kept}
+use Rattle.roman_text.specs.Shapes.{shape_of}
+use Rattle.roman_text.proofs.CallerLemmas.{ended_lines-append, lines_rest, lines_none}
+use Rattle.roman_session.specs.Situations.{Situation}
+use Rattle.roman_session.specs.Steps.{is_quit, Step}
+use Rattle.roman_hearing.specs.Told.{until_quit, Answers, Told}
+use Rattle.roman_hearing.specs.Hearing.{ends_session, has_quit}
+
+-- ---- lines of bytes that go on
+
+-- bytes that go on keep their whole lines
+pub ended_more : (xs ys : List ℕ) → (more : List (List ℕ)) × (ended_lines (xs ++ ys) ≡ ended_lines xs ++ more)
+ended_more xs ys = (ended_lines (unfinished xs ++ ys), ended_lines-append xs ys)
+
+-- all lines of bytes begin with the whole ones
+pub lines_more : (bytes : List ℕ) → (more : List (List ℕ)) × (lines bytes ≡ ended_lines bytes ++ more)
+lines_more bytes = by_test (nat_lt 0 (length (kept (unfinished bytes))))
+    (λ some. (unfinished bytes ∷ [], lines_rest bytes some))
+    (λ none. ([], lines_none bytes none ∙ sym (append-nil (ended_lines bytes))))
+
+-- ---- where lines end the session
+
+pub quit_left : (ls ms : List (List ℕ)) → IsTrue (has_quit ls) → IsTrue (has_quit (ls ++ ms))
+quit_left ls ms h = list_any-append ends_session ls ms ∙ ap (λ (b : Bool). b || has_quit ms) h
+
+pub quitless_both : (ls ms : List (List ℕ)) → IsFalse (has_quit ls) → IsFalse (has_quit ms) → IsFalse (has_quit (ls ++ ms))
+quitless_both ls ms h i = list_any-append ends_session ls ms ∙ or_from (has_quit ls) (has_quit ms) h i
+
+pub quit_last : (ls : List (List ℕ)) (line : List ℕ) → IsTrue (ends_session line) → IsTrue (has_quit (ls ++ line ∷ []))
+quit_last ls line h = list_any-append ends_session ls (line ∷ []) ∙ (rw h (or_true (has_quit ls)))
+  where
+    or_true : (b : Bool) → (b || true) ≡ true
+    or_true true = refl
+    or_true false = refl
+
+pub quitless_last : (ls : List (List ℕ)) (line : List ℕ) → IsFalse (has_quit ls) → IsFalse (ends_session line) → IsFalse (has_quit (ls ++ line ∷ []))
+quitless_last ls line h i = quitless_both ls (line ∷ []) h (or_from (ends_session line) false i refl)
+
+-- lines go on after lines none of which ends the session
+goes_on : (ls ms : List (List ℕ)) → IsFalse (has_quit ls) → until_quit (ls ++ ms) ≡ ls ++ until_quit ms
+goes_on [] ms h = refl
+goes_on (line ∷ ls) ms h =
+    let (first, others) = or_parts (ends_session line) (has_quit ls) h in
+    cond-false (is_quit (shape_of line)) (line ∷ []) (line ∷ until_quit (ls ++ ms)) first ∙ ap (λ (rest : List (List ℕ)). line ∷ rest) (goes_on ls ms others)
+
+-- and don't after others
+stops : (ls ms : List (List ℕ)) → IsTrue (has_quit ls) → until_quit (ls ++ ms) ≡ until_quit ls
+stops [] ms h = absurd (let e : ⊥ = cc in e)
+stops (line ∷ ls) ms h = by_test (is_quit (shape_of line))
+    (λ quit. cond-true (is_quit (shape_of line)) (line ∷ []) (line ∷ until_quit (ls ++ ms)) quit ∙ sym (cond-true (is_quit (shape_of line)) (line ∷ []) (line ∷ until_quit ls) quit))
+    (λ other. cond-false (is_quit (shape_of line)) (line ∷ []) (line ∷ until_quit (ls ++ ms)) other
+    ∙ ap (λ (rest : List (List ℕ)). line ∷ rest) (stops ls ms (rw other at h))
+    ∙ sym (cond-false (is_quit (shape_of line)) (line ∷ []) (line ∷ until_quit ls) other))
+
+-- a last line is answered, whatever it is
+until_last : (line : List ℕ) → until_quit (line ∷ []) ≡ line ∷ []
+until_last line = by_test (is_quit (shape_of line))
+    (λ quit. cond-true (is_quit (shape_of line)) (line ∷ []) (line ∷ []) quit)
+    (λ other. cond-false (is_quit (shape_of line)) (line ∷ []) (line ∷ []) other)
+
+all_lines : (ls : List (List ℕ)) → IsFalse (has_quit ls) → until_quit ls ≡ ls
+all_lines ls h = ap until_quit (sym (append-nil ls)) ∙ goes_on ls [] h ∙ append-nil ls
+
+-- ---- what is told
+
+-- some lines, and then others
+answers_then : (old mid new : Situation) (ls ms : List (List ℕ)) (text more : List ℕ) → Answers old ls text mid → Answers mid ms more new → Answers old (ls ++ ms) (text ++ more) new
+answers_then old mid new [] ms text more (none, same) rest =
+    subst (λ (s : Situation). Answers s ms (text ++ more) new) same (subst (λ (prefix : List ℕ). Answers mid ms (prefix ++ more) new) (sym none) rest)
+answers_then old mid new (line ∷ ls) ms text more (said, later, next, split, step, answers) rest =
+    (said, later ++ more, next, ap (λ (prefix : List ℕ). prefix ++ more) split ∙ append_assoc said later more, step, answers_then next mid new ls ms later more answers rest)
+
+-- more lines
+pub told_then : (old mid new : Situation) (ls ms : List (List ℕ)) (text more : List ℕ) → IsFalse (has_quit ls) → Told old ls text mid → Told mid ms more new → Told old (ls ++ ms) (text ++ more) new
+told_then old mid new ls ms text more quitless told rest =
+    subst (λ (all : List (List ℕ)). Answers old all (text ++ more) new) (sym (goes_on ls ms quitless))
+    (answers_then old mid new ls (until_quit ms) text more (subst (λ (prefix : List (List ℕ)). Answers old prefix text mid) (all_lines ls quitless) told) rest)
+
+-- one line more
+pub told_push : (old mid new : Situation) (ls : List (List ℕ)) (line text more : List ℕ) → IsFalse (has_quit ls) → Told old ls text mid → Step mid line more new →
+    Told old (ls ++ line ∷ []) (text ++ more) new
+told_push old mid new ls line text more quitless told step =
+    told_then old mid new ls (line ∷ []) text more quitless told
+    (subst (λ (last : List (List ℕ)). Answers mid last more new) (sym (until_last line)) (more, [], new, sym (append-nil more), step, (refl, refl)))
+
+-- nothing is told after a line that ends the session
+pub told_stops : (old new : Situation) (ls ms : List (List ℕ)) (text : List ℕ) → IsTrue (has_quit ls) → Told old ls text new → Told old (ls ++ ms) text new
+told_stops old new ls ms text quit told = subst (λ (rest : List (List ℕ)). Answers old rest text new) (sym (stops ls ms quit)) told

@@ -1,0 +1,28 @@
+-- What is told of some lines can always go on.
+use Rattle.std.proofs.Common.{ℕ, List, [], ◌∷◌, ◌++◌, refl, sym, subst, append-nil}
+use Rattle.roman_model.proofs.CallerLemmas.{by_test}
+use Rattle.roman_session.specs.Situations.{Situation, IsSituation}
+use Rattle.roman_hearing.specs.Told.{until_quit, Answers, Told}
+use Rattle.roman_hearing.specs.Hearing.{has_quit}
+use Rattle.roman_hearing.specs.Known.{AreBehaviours}
+use Rattle.roman_hearing.proofs.HearingGoing.{IsGoing, can_go_on, step_there}
+use Rattle.roman_hearing.proofs.HearingLines.{told_stops, told_then}
+use Rattle.roman_hearing.proofs.KeepLemmas.{behaviours_stay}
+
+-- lines have their answers
+answers_there : (s : Situation) (ls : List (List ℕ)) → IsGoing s → (text : List ℕ) × (new : Situation) × Answers s ls text new
+answers_there s [] is = ([], s, (refl, refl))
+answers_there s (line ∷ ls) is =
+    let first = step_there s line is in
+    let (more, new, answers) = answers_there first.new ls first.going in
+    (first.text ++ more, new, (first.text, more, first.new, refl, first.acts, answers))
+
+-- what is told of some lines can be followed by what is told of more
+pub told_more : (old mid : Situation) (ls ms : List (List ℕ)) (text : List ℕ) → AreBehaviours old.parts → IsSituation mid → Told old ls text mid →
+    (more : List ℕ) × (last : Situation) × Told old (ls ++ ms) (text ++ more) last
+told_more old mid ls ms text behaviours known told = by_test (has_quit ls)
+    (λ quit. ([], mid, subst (λ (text : List ℕ). Told old (ls ++ ms) text mid) (sym (append-nil text)) (told_stops old mid ls ms text quit told)))
+    (λ quitless.
+    let is = can_go_on mid known (behaviours_stay old mid (until_quit ls) text told behaviours) in
+    let (more, last, answers) = answers_there mid (until_quit ms) is in
+    (more, last, told_then old mid last ls ms text more quitless told answers))

@@ -1,0 +1,192 @@
+-- Steps lead from well-formed situations to well-formed ones.
+use Rattle.std.proofs.Common.{◌≡◌, ℕ, ◌<◌, Bool, true, false, List, [], ◌∷◌, ◌++◌, length, IfSome, Result, Ok, Err, inl, inr, slice_get, slice_set, nat_lt, nat_le, refl, sym, subst, arith, ltb-true, leb-true, append-nil}
+use Rattle.std.proofs.lemmas.Option.{get_or_from_slice_get}
+use Rattle.roman_model.specs.System.{Sys, IsPair}
+use Rattle.roman_model.specs.CompleteLists.{IsComplete}
+use Rattle.roman_model.specs.Offers.{offers}
+use Rattle.roman_model.specs.declared.limits.TheConstants.{MAX_SERVICES}
+use Rattle.roman_model.proofs.CallerLemmas.{IsPair-turned, IsPair-grown, IsPair-without, number_listed}
+use Rattle.roman_read.proofs.CallerLemmas.{same_ok, bind_ok}
+use Rattle.roman_text.specs.Shapes.{LineShape, nothing, ask, hand, saw, abort, freeze, thaw, die, join, jump, jump_env, report, explain, quit, shape_of}
+use Rattle.roman_text.specs.declared.errors.LineError.{LineError}
+use Rattle.roman_text.specs.declared.replies.Reply.{Reply}
+use Rattle.roman_text.specs.declared.replies.Reply.TheVariants as reply
+use Rattle.roman_parts.specs.Named.{NamedEnv}
+use Rattle.roman_joint.specs.NamedSys.{IsNamedSys, seat_of}
+use Rattle.roman_joint.specs.NamedSys as joint
+use Rattle.roman_joint.proofs.CallerLemmas.{frozen_system, frozen_known, gone_system, gone_known, joined_system, joined_known}
+use Rattle.roman_session.specs.Situations.{Situation, present_system, is_idle, IsOpen, IsPhase, IsSituation}
+use Rattle.roman_session.specs.Rulings.{named, service_named, state_named, seat_at, asked, handed, seen, aborted, jumped, env_jumped, frozen, thawed, died, joining, join_of, unexplained}
+use Rattle.roman_session.specs.Steps.{Asks, Hands, Sees, Aborts, Jumps, EnvJumps, Changing, Changes, Freezes, Thaws, Dies, Joins, freezing, thawing, dying, growing, Explains, Does, StepOn, StepBy, Step, parts_after}
+use Rattle.roman_session.specs.declared.events.Handing.{Handing}
+use Rattle.roman_session.specs.declared.events.Joining.{Joining}
+use Rattle.roman_session.specs.declared.events.Jump.{Jump}
+use Rattle.roman_generator.specs.declared.sight.Sight.{Sight}
+use Rattle.roman_session.specs.declared.phase.Phase.TheVariants.{Idle}
+use Rattle.roman_session.proofs.CallerLemmas.{checked, asked_is, handed_is, jumped_idle, env_jumped_idle, frozen_is, thawed_is, died_idle, joining_idle, cells_with, there_is, jumped_pair, moved_pair}
+use Rattle.roman_hearing.specs.Known.{AreBehaviours, AreNamed, StepsStayKnown}
+use Rattle.roman_hearing.proofs.KeepLemmas.{line_keeps, behaviours_stay}
+use Rattle.roman_hearing.proofs.WithinLemmas.{named_within, seat_within, state_within, frozen_within, thawed_within, died_within, joining_new, joining_beh}
+
+-- events that change little
+
+does_known : {X : Type 0} (Act : Situation → X → List ℕ → Situation → Type 0) (old new : Situation) (r : Result X Reply) (text : List ℕ) → IsSituation old →
+    ((x : X) → r ≡ Ok x → Act old x text new → IsSituation new) → Does Act old r text new → IsSituation new
+does_known Act old new (Err refusal) text is act step = subst IsSituation (sym step.1) is
+does_known Act old new (Ok x) text is act step = act x refl step
+
+asks_known : (old new : Situation) (action text : List ℕ) (a : ℕ) → IsSituation old → asked old action ≡ Ok a → Asks old a text new → IsSituation new
+asks_known old new action text a is ok asks =
+    let asked = asked_is old action a ok in
+    subst IsSituation (sym asks.1) (record { parts = is.parts; here = is.here; list = is.list; phase = (asked.related, asked.allowed) })
+
+hands_known : (old new : Situation) (service text : List ℕ) (x : Handing) → IsSituation old → handed old service ≡ Ok x → Hands old x text new → IsSituation new
+hands_known old new service text x is ok hands =
+    let handed = handed_is old service x ok in
+    let is_open : IsOpen old x.action = subst (IsPhase old) handed.phase is.phase in
+    subst IsSituation (sym hands.1) (record {
+      parts = is.parts;
+      here = is.here;
+      list = is.list;
+      phase = (is_open, number_listed (offers (present_system old) old.here x.action) x.seat handed.offered);
+    })
+
+sees_known : (old new : Situation) (x : Sight) (text : List ℕ) → IsSituation old → Sees old x text new → IsSituation new
+sees_known old new x text is (inl moves) =
+    subst IsSituation (sym moves.becomes) (record { parts = is.parts; here = moved_pair old x moves.to is moves.moved; list = is.list; phase = tt })
+sees_known old new x text is (inr (never, says, same)) = subst IsSituation (sym same) is
+
+aborts_known : (old new : Situation) (x : Unit {0}) (text : List ℕ) → IsSituation old → Aborts old x text new → IsSituation new
+aborts_known old new x text is aborts = subst IsSituation (sym aborts.1) (record { parts = is.parts; here = is.here; list = is.list; phase = tt })
+
+-- jumps
+
+record IsJump (s : Situation) (x : Jump) : Type 0 where
+  seat : x.seat < length s.parts.seats
+  state : IfSome (slice_get (present_system s).seats x.seat) (λ seat. x.state < seat.beh.states)
+
+jump_is : (s : Situation) (service state : List ℕ) (x : Jump) → IsSituation s → AreBehaviours s.parts → jumped s service state ≡ Ok x → IsJump s x
+unfolding jumped
+jump_is s service state x is behaviours h =
+    let (k, e, h1) = bind_ok (service_named s service) _ x h in
+    let (b, eb, h2) = bind_ok (state_named s k state) _ x h1 in
+    let (idle, h3) = checked (is_idle s.phase) reply.ErrorBusy _ x h2 in
+    let whole = same_ok _ x h3 in
+    let l = seat_within s service k e in
+    subst (IsJump s) whole (record { seat = l; state = state_within s k b state is behaviours l eb })
+
+jumps_known : (old new : Situation) (service state text : List ℕ) (x : Jump) → IsSituation old → AreBehaviours old.parts → jumped old service state ≡ Ok x → Jumps old x text new → IsSituation new
+jumps_known old new service state text x is behaviours ok jumps =
+    let jump = jump_is old service state x is behaviours ok in
+    let next : Situation = record old { here = record old.here { bs = slice_set old.here.bs x.seat x.state } } in
+    let idle = jumped_idle old service state x ok in
+    subst IsSituation (sym jumps.1) (record {
+      parts = is.parts;
+      here = jumped_pair old x.seat x.state is jump.seat jump.state;
+      list = is.list;
+      phase = subst (IsPhase next) (sym idle) tt;
+    })
+
+env_state_is : (s : Situation) (env : List ℕ) (e : ℕ) → AreNamed s.parts → env_jumped s env ≡ Ok e → e < (present_system s).env.states
+unfolding env_jumped
+env_state_is s env e are h =
+    let (i, ei, h1) = bind_ok (named s.parts.environment.states env) _ e h in
+    let (idle, h2) = checked (is_idle s.phase) reply.ErrorBusy _ e h1 in
+    let same : i ≡ e = cc in
+    omega (arith, same, named_within s.parts.environment.states env i ei, are.environment)
+
+env_jumps_known : (old new : Situation) (env text : List ℕ) (e : ℕ) → IsSituation old → AreNamed old.parts → env_jumped old env ≡ Ok e → EnvJumps old e text new → IsSituation new
+env_jumps_known old new env text e is are ok jumps =
+    let idle = env_jumped_idle old env e ok in
+    let next : Situation = record old { here = record old.here { e = e } } in
+    subst IsSituation (sym jumps.1) (record {
+      parts = is.parts;
+      here = record { t = is.here.t; e = env_state_is old env e are ok; bs = is.here.bs };
+      list = is.list;
+      phase = subst (IsPhase next) (sym idle) tt;
+    })
+
+-- changes of the services
+
+changes_known : (old new : Situation) (x : Changing) (text : List ℕ) → old.phase ≡ Idle → IsNamedSys (parts_after old x) → IsPair (joint.system_of (parts_after old x)) x.here → Changes old x text new →
+    IsSituation new
+changes_known old new x text idle known pair changes =
+    let next : Situation = record { parts = parts_after old x; here = x.here; phase = old.phase; list = changes.kept ++ changes.added } in
+    subst IsSituation (sym changes.becomes) (record {
+      parts = known;
+      here = pair;
+      list = subst (λ (s : Situation). IsComplete (present_system s) (changes.kept ++ changes.added)) changes.becomes changes.complete;
+      phase = subst (IsPhase next) (sym idle) tt;
+    })
+
+freezes_known : (old new : Situation) (service text : List ℕ) (k : ℕ) → IsSituation old → frozen old service ≡ Ok k → Freezes old k text new → IsSituation new
+freezes_known old new service text k is ok changes =
+    changes_known old new (freezing old k) text (frozen_is old service k ok).idle (frozen_known old.parts k true is.parts (frozen_within old service k ok))
+    (subst (λ (s : Sys). IsPair s old.here) (sym (frozen_system old.parts k true)) (IsPair-turned (present_system old) k true old.here is.here)) changes
+
+thaws_known : (old new : Situation) (service text : List ℕ) (k : ℕ) → IsSituation old → thawed old service ≡ Ok k → Thaws old k text new → IsSituation new
+thaws_known old new service text k is ok changes =
+    changes_known old new (thawing old k) text (thawed_is old service k ok).idle (frozen_known old.parts k false is.parts (thawed_within old service k ok))
+    (subst (λ (s : Sys). IsPair s old.here) (sym (frozen_system old.parts k false)) (IsPair-turned (present_system old) k false old.here is.here)) changes
+
+dies_known : (old new : Situation) (service text : List ℕ) (k : ℕ) → IsSituation old → died old service ≡ Ok k → Dies old k text new → IsSituation new
+dies_known old new service text k is ok changes =
+    let l = died_within old service k ok in
+    let (x, there) = there_is old.parts.seats k l in
+    let next = dying old k in
+    changes_known old new next text (died_idle old service k ok) (gone_known old.parts k x is.parts l (sym (get_or_from_slice_get old.parts.seats k x x there)))
+    (subst (λ (s : Sys). IsPair s next.here) (sym (gone_system old.parts k (seat_at old k))) (IsPair-without (present_system old) k old.here is.here)) changes
+
+joins_known : (old new : Situation) (service behaviour state text : List ℕ) (loose : Bool) (x : Joining) → IsSituation old → AreBehaviours old.parts →
+    join_of old service behaviour state loose ≡ Ok x → Joins old x text new → IsSituation new
+joins_known old new service behaviour state text loose x is behaviours ok changes =
+    let (y, e, h1) = bind_ok (joining old service behaviour state loose) _ x ok in
+    let (few, h2) = checked (nat_lt (length old.parts.seats) MAX_SERVICES) reply.ErrorFull _ x h1 in
+    let (fits, h3) = checked (nat_le (cells_with old y) old.parts.limit) reply.ErrorLimit _ x h2 in
+    let same : x ≡ y = sym (same_ok y x h3) in
+    let fresh = joining_new old service behaviour state loose y behaviours e in
+    let beh = joining_beh old y.seat.behaviour behaviours fresh.behaviour in
+    let room : length old.parts.seats < MAX_SERVICES = ltb-true (length old.parts.seats) MAX_SERVICES few in
+    let next = growing old y in
+    changes_known old new next text (joining_idle old service behaviour state loose y e)
+    (joined_known old.parts y.seat is.parts room fresh.behaviour beh fresh.name (leb-true (cells_with old y) old.parts.limit fits))
+    (subst (λ (s : Sys). IsPair s next.here) (sym (joined_system old.parts y.seat)) (IsPair-grown (present_system old) (seat_of old.parts.catalogue y.seat) old.here y.state is.here fresh.state))
+    (subst (λ (x : Joining). Joins old x text new) same changes)
+
+-- any line
+
+on_known : (old new : Situation) (shape : LineShape) (text : List ℕ) → IsSituation old → AreNamed old.parts → StepOn old shape text new → IsSituation new
+on_known old new nothing text is are step = subst IsSituation (sym step.1) is
+on_known old new (ask action) text is are step = does_known Asks old new (asked old action) text is (λ a ok. asks_known old new action text a is ok) step
+on_known old new (hand service) text is are step = does_known Hands old new (handed old service) text is (λ x ok. hands_known old new service text x is ok) step
+on_known old new (saw state env) text is are step = does_known Sees old new (seen old state env) text is (λ x ok. sees_known old new x text is) step
+on_known old new abort text is are step = does_known Aborts old new (aborted old) text is (λ x ok. aborts_known old new x text is) step
+on_known old new (freeze service) text is are step = does_known Freezes old new (frozen old service) text is (λ k ok. freezes_known old new service text k is ok) step
+on_known old new (thaw service) text is are step = does_known Thaws old new (thawed old service) text is (λ k ok. thaws_known old new service text k is ok) step
+on_known old new (die service) text is are step = does_known Dies old new (died old service) text is (λ k ok. dies_known old new service text k is ok) step
+on_known old new (join service behaviour state loose) text is are step =
+    does_known Joins old new (join_of old service behaviour state loose) text is (λ x ok. joins_known old new service behaviour state text loose x is are.behaviours ok) step
+on_known old new (jump service state) text is are step =
+    does_known Jumps old new (jumped old service state) text is (λ x ok. jumps_known old new service state text x is are.behaviours ok) step
+on_known old new (jump_env env) text is are step = does_known EnvJumps old new (env_jumped old env) text is (λ e ok. env_jumps_known old new env text e is are ok) step
+on_known old new report text is are step = subst IsSituation (sym step.1) is
+on_known old new explain text is are step = does_known Explains old new (unexplained old) text is (λ x ok explains. subst IsSituation (sym explains.1) is) step
+on_known old new quit text is are step = subst IsSituation (sym step.1) is
+
+by_known : (old new : Situation) (shape : Result LineShape LineError) (text : List ℕ) → IsSituation old → AreNamed old.parts → StepBy old shape text new → IsSituation new
+by_known old new (Err why) text is are step = subst IsSituation (sym step.1) is
+by_known old new (Ok shape) text is are step = on_known old new shape text is are step
+
+line_known : (old new : Situation) (line text : List ℕ) → IsSituation old → AreNamed old.parts → Step old line text new → IsSituation new
+unfolding Step
+line_known old new line text is are step = by_known old new (shape_of line) text is are step
+
+-- Steps lead from well-formed situations to well-formed ones.
+pub steps_known : StepsStayKnown
+steps_known old new line text known step = record {
+  situation = line_known old new line text known.situation known.named step;
+  named = record {
+    behaviours = behaviours_stay old new (line ∷ []) text (text, [], new, sym (append-nil text), step, (refl, refl)) known.named.behaviours;
+    environment = subst (λ (environment : NamedEnv). length environment.states ≡ environment.env.states) (sym (line_keeps old new line text step).environment) known.named.environment;
+  };
+}

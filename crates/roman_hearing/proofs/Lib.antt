@@ -1,0 +1,13 @@
+pub mod OfferLemmas
+pub mod ReportLemmas
+pub mod HearingLines
+pub mod HearingLemmas
+pub mod WithinLemmas
+pub mod KeepLemmas
+pub mod KnownLemmas
+pub mod SeveralLemmas
+pub mod WordLemmas
+pub mod HearingGoing
+pub mod HearingSteps
+pub mod HearingEnds
+pub mod CallerLemmas

@@ -1,0 +1,27 @@
+-- A service that isn't offered would fail.
+use Rattle.std.proofs.Common.{◌≡◌, ℕ, not, ◌⊎◌, inl, inr, [], IsTrue, IsFalse}
+use Rattle.std.specs.List.{list_any}
+use Rattle.std.proofs.lemmas.Bool.{or_cases, not-true}
+use Rattle.roman_model.specs.Lists.{IsIn, is_empty}
+use Rattle.roman_model.specs.System.{Sys, Pair}
+use Rattle.roman_model.specs.SystemArena.{outcomes, arena}
+use Rattle.roman_model.specs.Arena.{is_beaten}
+use Rattle.roman_model.specs.Offers.{is_related}
+use Rattle.roman_model.proofs.CallerLemmas.{by_test, empty_is, any_true, in_mask}
+use Rattle.roman_hearing.specs.Laws.{NotOfferedFails}
+
+-- a seat that is beaten has no outcome, or one that isn't related
+beaten_fails : (s : Sys) (p : Pair) (a k : ℕ) → IsTrue (is_beaten (arena s) (λ q. not (is_related s q)) p a k) →
+    (outcomes s p a k ≡ []) ⊎ ((q : Pair) × IsIn q (outcomes s p a k) × IsFalse (is_related s q))
+beaten_fails s p a k beaten =
+    elim (or_cases (is_empty (outcomes s p a k)) (list_any (λ q. not (is_related s q)) (outcomes s p a k)) beaten) [
+      | inl none ↦ inl (empty_is (outcomes s p a k) none)
+      | inr some ↦
+          let (q, i, gone) = any_true (λ q. not (is_related s q)) (outcomes s p a k) some in
+          inr (q, i, not-true (is_related s q) gone)
+    ]
+
+pub not_offered_fails : NotOfferedFails
+not_offered_fails s p a k l allowed out =
+    by_test (is_beaten (arena s) (λ q. not (is_related s q)) p a k) (beaten_fails s p a k)
+    (λ unbeaten. absurd (out (in_mask (arena s) (λ q. not (is_related s q)) p a k allowed l unbeaten)))

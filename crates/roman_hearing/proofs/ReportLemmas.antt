@@ -1,0 +1,49 @@
+-- The report of a session is that of the library that begins where the session stands.
+use Rattle.std.proofs.Common.{◌≡◌, ℕ, ◌<◌, List, [], ◌∷◌, map, refl, ap, sym, ◌∙◌}
+use Rattle.std.specs.List.{AllZip}
+use Rattle.roman_parts.specs.Named.{NamedBeh}
+use Rattle.roman_joint.specs.NamedSys.{NamedSys, seat_of}
+use Rattle.roman_joint.specs.declared.seat.Seat.{Seat}
+use Rattle.roman_session.specs.Situations.{Situation}
+use Rattle.roman_session.specs.Reports.{lines_text, report_text}
+use Rattle.roman_start.specs.Starts.{seat_of_service, parts_of}
+use Rattle.roman_hearing.specs.Afresh.{services_in, afresh}
+use Rattle.roman_hearing.specs.Laws.{ReportsAreAfresh}
+
+-- the services that are present take the same seats again
+seats_again : (catalogue : List NamedBeh) (seats : List Seat) (bs : List ℕ) → AllZip (λ seat b. b < seat.beh.states) (map (seat_of catalogue) seats) bs →
+    map seat_of_service (services_in seats bs) ≡ seats
+seats_again catalogue [] bs zip = refl
+seats_again catalogue (seat ∷ seats) [] zip = absurd zip
+seats_again catalogue (seat ∷ seats) (b ∷ bs) zip = ap (λ (xs : List Seat). seat ∷ xs) (seats_again catalogue seats bs zip.1)
+
+-- and begin in the same states
+states_again : (catalogue : List NamedBeh) (seats : List Seat) (bs : List ℕ) → AllZip (λ seat b. b < seat.beh.states) (map (seat_of catalogue) seats) bs →
+    map (λ x. x.state) (services_in seats bs) ≡ bs
+states_again catalogue [] [] zip = refl
+states_again catalogue [] (b ∷ bs) zip = absurd zip
+states_again catalogue (seat ∷ seats) [] zip = absurd zip
+states_again catalogue (seat ∷ seats) (b ∷ bs) zip = ap (λ (xs : List ℕ). b ∷ xs) (states_again catalogue seats bs zip.1)
+
+-- the parts that begin in these states, with those seats
+abbrev begun : Situation → List Seat → NamedSys
+begun s seats = record {
+  environment = record s.parts.environment { env = record s.parts.environment.env { start = s.here.e } };
+  catalogue = s.parts.catalogue;
+  target = record s.parts.target { beh = record s.parts.target.beh { start = s.here.t } };
+  seats = seats;
+  limit = s.parts.limit;
+}
+
+-- where a library begins is no part of the report
+start_unsaid : (s : Situation) → report_text s.parts s.here ≡ report_text (begun s s.parts.seats) s.here
+unfolding report_text lines_text
+start_unsaid s = refl
+
+pub reports_afresh : ReportsAreAfresh
+reports_afresh s is =
+    let seats = seats_again s.parts.catalogue s.parts.seats s.here.bs is.here.bs in
+    let bs = states_again s.parts.catalogue s.parts.seats s.here.bs is.here.bs in
+    start_unsaid s
+    ∙ ap (λ (seats : List Seat). report_text (begun s seats) s.here) (sym seats)
+    ∙ ap (λ (bs : List ℕ). report_text (parts_of (afresh s)) (record { t = s.here.t; e = s.here.e; bs = bs })) (sym bs)

@@ -1,0 +1,138 @@
+-- In a session of a document with several targets the present system combines them, whatever lines came.
+use Rattle.std.proofs.Common.{◌≡◌, ◌↔◌, ℕ, zero, suc, ◌<◌, List, [], ◌∷◌, map, length, get_or, All, refl, sym, ap, ap₂, ◌∙◌, subst, arith}
+use Rattle.std.proofs.lemmas.Bool.{ltb-false}
+use Rattle.std.proofs.lemmas.List.{length-map}
+use Rattle.roman_model.specs.Lists.{IsIn, product_of}
+use Rattle.roman_model.specs.System.{Beh, Sys, Pair, IsBeh, IsPair}
+use Rattle.roman_model.specs.System as model
+use Rattle.roman_model.specs.Composition.{Great}
+use Rattle.roman_model.specs.Several.{Several, GreatAll}
+use Rattle.roman_model.specs.Combined.{combined, combined_env, combined_beh, combined_target, combined_seat, couple_all, target_sizes, IsSeveral}
+use Rattle.roman_model.specs.declared.limits.TheConstants.{MAX_STATES}
+use Rattle.roman_model.specs.declared.request.Request.{Request}
+use Rattle.roman_model.proofs.CallerLemmas.{from_map, combined_is_all}
+use Rattle.roman_parts.specs.Named.{NamedEnv, NamedBeh, NamedTarget}
+use Rattle.roman_joint.specs.NamedSys.{NamedSys, beh_at, seat_of}
+use Rattle.roman_joint.specs.declared.seat.Seat.{Seat}
+use Rattle.roman_joint.proofs.CallerLemmas.{beh_read}
+use Rattle.roman_multi.specs.Combining.{PlainCombined, combined_behaviour, combined_parts, machines, requests_in}
+use Rattle.roman_multi.proofs.CallerLemmas.{good_count, all_in, machines_known, are_allowed}
+use Rattle.roman_library.specs.Library.{PlainLibrary}
+use Rattle.roman_library.specs.Targets.{PlainTargets, CombinesTargets}
+use Rattle.roman_library.proofs.CallerLemmas.{targets_known, libraries_known, behaviour_there, targets_combined}
+use Rattle.roman_session.specs.Situations.{Situation, IsSituation, present_system}
+use Rattle.roman_session.proofs.CallerLemmas.{there_is}
+use Rattle.roman_hearing.specs.Told.{Answers, until_quit}
+use Rattle.roman_hearing.specs.Known.{AreNamed, IsKnownSituation}
+use Rattle.roman_hearing.specs.Several.{several_in, MeansAll, SeveralAreServed}
+use Rattle.roman_hearing.proofs.KeepLemmas.{answers_keep}
+use Rattle.roman_hearing.proofs.KnownLemmas.{steps_known}
+
+-- The system over combined actions
+
+-- the behaviour at a place of the combined catalogue
+beh_combined : (env : NamedEnv) (requests : List Request) (catalogue : List NamedBeh) (i : ℕ) → i < length catalogue →
+    beh_at (map (combined_behaviour env requests) catalogue) i ≡ combined_beh env.env.states requests (beh_at catalogue i)
+beh_combined env requests [] i l = absurd (omega (arith, l))
+beh_combined env requests (b ∷ bs) zero l = refl
+beh_combined env requests (b ∷ bs) (suc i) l = beh_combined env requests bs i (omega (arith, l))
+
+seats_combined : (env : NamedEnv) (requests : List Request) (catalogue : List NamedBeh) (seats : List Seat) → All (λ seat. seat.behaviour < length catalogue) seats →
+    map (seat_of (map (combined_behaviour env requests) catalogue)) seats ≡ map (combined_seat env.env.states requests) (map (seat_of catalogue) seats)
+seats_combined env requests catalogue [] all = refl
+seats_combined env requests catalogue (seat ∷ seats) all =
+    ap₂ (λ (b : Beh) (xs : List model.Seat). record { beh = b; frozen = seat.frozen; rests = seat.rests } ∷ xs)
+    (beh_combined env requests catalogue seat.behaviour (all 0 seat (omega arith)))
+    (seats_combined env requests catalogue seats (λ k d l. all (suc k) d (omega (arith, l))))
+
+-- the system that parts and seats make
+abbrev made_system : PlainCombined → List Seat → Sys
+made_system made seats = record { env = made.environment.env; target = made.target.beh; seats = map (seat_of made.catalogue) seats }
+
+-- the targets with those seats
+abbrev with_seats : PlainTargets → List Seat → Several
+with_seats said seats = record { env = said.environment.env; targets = machines said.targets; seats = map (seat_of said.catalogue) seats }
+
+made_combined : (said : PlainTargets) (seats : List Seat) → All (λ seat. seat.behaviour < length said.catalogue) seats →
+    made_system (combined_parts said.environment said.catalogue said.targets) seats ≡ combined (with_seats said seats)
+unfolding combined_parts
+made_combined said seats all =
+    let requests = requests_in said.environment said.targets in
+    ap (λ (xs : List model.Seat).
+    record { env = combined_env requests said.environment.env; target = combined_target said.environment.env.states requests (machines said.targets); seats = xs })
+    (seats_combined said.environment requests said.catalogue seats all)
+
+catalogue_length : (said : PlainTargets) → length (combined_parts said.environment said.catalogue said.targets).catalogue ≡ length said.catalogue
+unfolding combined_parts
+catalogue_length said = length-map said.catalogue (combined_behaviour said.environment (requests_in said.environment said.targets))
+
+-- A situation with a library's parts
+
+-- the parts of a situation, without the services
+abbrev parts_in : Situation → PlainCombined
+parts_in s = record { environment = s.parts.environment; catalogue = s.parts.catalogue; target = s.parts.target }
+
+module _ (said : PlainTargets) (library : PlainLibrary) (s : Situation) (combines : CombinesTargets said library) (is : IsSituation s)
+    (has : parts_in s ≡ record { environment = library.environment; catalogue = library.catalogue; target = library.target }) where
+  parts_are : parts_in s ≡ combined_parts said.environment said.catalogue said.targets
+  parts_are = has ∙ sym combines.parts
+
+  -- the services have behaviours of the document
+  seats_within : All (λ seat. seat.behaviour < length said.catalogue) s.parts.seats
+  seats_within k d l =
+      let same : length s.parts.catalogue ≡ length said.catalogue = ap (λ (made : PlainCombined). length made.catalogue) parts_are ∙ catalogue_length said in
+      subst (λ (n : ℕ). (get_or s.parts.seats k d).behaviour < n) same (is.parts.behaviours k d l)
+
+  system_is : present_system s ≡ combined (several_in said s)
+  system_is = ap (λ (made : PlainCombined). made_system made s.parts.seats) parts_are ∙ made_combined said s.parts.seats seats_within
+
+  seat_known : (seat : Seat) → seat.behaviour < length said.catalogue → IsBeh said.environment.env (beh_at said.catalogue seat.behaviour)
+  seat_known seat l =
+      let (b, there) = there_is said.catalogue seat.behaviour l in
+      let known = behaviour_there said.environment said.catalogue seat.behaviour b combines.behaviours there in
+      subst (IsBeh said.environment.env) (sym (beh_read said.catalogue seat.behaviour b there)) (known.known said.environment.env (sym known.env_states) (sym known.actions))
+
+  seats_known : (x : model.Seat) → IsIn x (several_in said s).seats → IsBeh said.environment.env x.beh
+  seats_known x i =
+      let (seat, j, same) = from_map (seat_of said.catalogue) x s.parts.seats i in
+      subst (λ (x : model.Seat). IsBeh said.environment.env x.beh) (sym same)
+      (seat_known seat (all_in (λ (seat : Seat). seat.behaviour < length said.catalogue) s.parts.seats seat seats_within j))
+
+  several_are : IsSeveral (several_in said s)
+  several_are =
+      let allowed = are_allowed said.environment said.targets combines.allowed in
+      record {
+        env = combines.known;
+        targets = machines_known said.environment said.targets (targets_known said.environment said.targets combines.targets);
+        seats = seats_known;
+        few = omega (arith, is.parts.system.few, length-map s.parts.seats (seat_of s.parts.catalogue), length-map s.parts.seats (seat_of said.catalogue));
+        states = ltb-false MAX_STATES (product_of (target_sizes (machines said.targets))) allowed.states;
+        actions = good_count (requests_in said.environment said.targets) allowed.actions;
+      }
+
+  means_all : MeansAll said s
+  means_all = record {
+    system = system_is;
+    great =
+        subst (λ (sys : Sys). (p : Pair) → IsPair sys p → Great sys p ↔ GreatAll (several_in said s) (couple_all (several_in said s) p)) (sym system_is)
+        (combined_is_all (several_in said s) several_are).great;
+  }
+
+-- Sessions
+
+answers_known : (old new : Situation) (ls : List (List ℕ)) (text : List ℕ) → IsKnownSituation old → Answers old ls text new → IsKnownSituation new
+answers_known old new [] text known (none, same) = subst IsKnownSituation (sym same) known
+answers_known old new (line ∷ ls) text known (said, more, mid, split, step, answers) = answers_known mid new ls more (steps_known old mid line said known step) answers
+
+pub several_served : SeveralAreServed
+several_served texts document library said start now lines text accepted names begins is told =
+    let library_is = libraries_known texts document library accepted in
+    let named : AreNamed start.parts = subst AreNamed (sym begins.parts) (record { behaviours = library_is.known.catalogue.known; environment = library_is.states }) in
+    let known = answers_known start now (until_quit lines) text (record { situation = is; named = named }) told in
+    let keeps = answers_keep start now (until_quit lines) text told in
+    let environment = keeps.environment ∙ ap (λ (n : NamedSys). n.environment) begins.parts in
+    let catalogue = keeps.catalogue ∙ ap (λ (n : NamedSys). n.catalogue) begins.parts in
+    let target = keeps.target ∙ ap (λ (n : NamedSys). n.target) begins.parts in
+    means_all said library now (targets_combined texts document library said accepted names) known.situation
+    (ap₂ (λ (env : NamedEnv) (behs : List NamedBeh). record { environment = env; catalogue = behs; target = now.parts.target }) environment catalogue
+    ∙ ap (λ (t : NamedTarget). record { environment = library.environment; catalogue = library.catalogue; target = t }) target)

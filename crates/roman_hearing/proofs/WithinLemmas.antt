@@ -1,0 +1,125 @@
+-- What an event names is there: a place of a service, a state or a behaviour.
+use Rattle.std.proofs.Common.{◌≡◌, ℕ, ◌<◌, Bool, List, [], map, length, not, Option, None, Some, ok_or, is_none, is_ok, IfSome, false, Ok, IsTrue, slice_get, refl, sym, ap, ◌∙◌, subst, arith}
+use Rattle.std.specs.List.{position}
+use Rattle.std.specs.Str.{bytes_eq}
+use Rattle.std.proofs.lemmas.List.{length-map}
+use Rattle.std.proofs.lemmas.List.Quantifiers.{position-Some}
+use Rattle.std.proofs.lemmas.List.Elements.{All-get_or}
+use Rattle.std.proofs.lemmas.Option.{get_or_from_slice_get}
+use Rattle.roman_model.specs.Lists.{IsIn}
+use Rattle.roman_model.specs.System.{Seat, IsBeh, Beh}
+use Rattle.roman_model.specs.Explanation.{seat_names}
+use Rattle.roman_read.specs.Names.{is_name, place_of}
+use Rattle.roman_read.proofs.CallerLemmas.{same_ok, bind_ok}
+use Rattle.roman_text.specs.declared.replies.Reply.TheVariants as reply
+use Rattle.roman_parts.specs.Named.{NamedBeh}
+use Rattle.roman_joint.specs.NamedSys.{beh_at}
+use Rattle.roman_joint.specs.Names.{seat_name, beh_name, beh_states, states_of_behaviour, names_in}
+use Rattle.roman_joint.proofs.CallerLemmas.{beh_read, seat_read}
+use Rattle.roman_joint.specs.declared.seat.Seat.{Seat as Place}
+use Rattle.roman_library.specs.Library.{IsBehaviour}
+use Rattle.roman_session.specs.Situations.{Situation, present_system, is_idle, IsSituation}
+use Rattle.roman_session.specs.Rulings.{named, service_named, state_named, seat_at, frozen, thawed, died, joining}
+use Rattle.roman_session.specs.declared.events.Joining.{Joining}
+use Rattle.roman_session.proofs.CallerLemmas.{name_is_new, checked, there_is, mapped_at, states_named}
+use Rattle.roman_hearing.specs.Known.{AreBehaviours}
+
+-- what is named is one of the names
+pub named_within : (names : List (List ℕ)) (name : List ℕ) (i : ℕ) → named names name ≡ Ok i → i < length names
+named_within names name i h = (position-Some (bytes_eq name) names i [] (some_of (position (bytes_eq name) names) h)).0
+  where
+    some_of : (o : Option ℕ) → ok_or o reply.ErrorName ≡ Ok i → o ≡ Some i
+    some_of None e = cc
+    some_of (Some j) e = let same : j ≡ i = cc in ap Some same
+
+-- a service that is named is present
+pub seat_within : (s : Situation) (service : List ℕ) (k : ℕ) → service_named s service ≡ Ok k → k < length s.parts.seats
+seat_within s service k h = omega (arith, named_within (map seat_name s.parts.seats) service k h, length-map s.parts.seats seat_name)
+
+-- the behaviour at a place of the catalogue has a name for each of its states
+pub placed_behaviour : (s : Situation) (i : ℕ) → AreBehaviours s.parts → i < length s.parts.catalogue → (y : NamedBeh) × (slice_get s.parts.catalogue i ≡ Some y) × IsBehaviour s.parts.environment y
+placed_behaviour s i behaviours l =
+    let (y, there) = there_is s.parts.catalogue i l in
+    (y, there, subst (IsBehaviour s.parts.environment) (get_or_from_slice_get s.parts.catalogue i y y there) (All-get_or (IsBehaviour s.parts.environment) s.parts.catalogue i y l behaviours))
+
+pub states_counted : (s : Situation) (i : ℕ) → AreBehaviours s.parts → i < length s.parts.catalogue → length (states_of_behaviour s.parts.catalogue i) ≡ (beh_at s.parts.catalogue i).states
+states_counted s i behaviours l =
+    let (y, there, is) = placed_behaviour s i behaviours l in
+    ap (λ (names : List (List ℕ)). length names) (mapped_at beh_states s.parts.catalogue i y [] there)
+    ∙ is.names ∙ ap (λ (b : Beh). b.states) (sym (beh_read s.parts.catalogue i y there))
+
+-- a state that is named is one of the service's
+pub state_within : (s : Situation) (k b : ℕ) (state : List ℕ) → IsSituation s → AreBehaviours s.parts → k < length s.parts.seats → state_named s k state ≡ Ok b →
+    IfSome (slice_get (present_system s).seats k) (λ seat. b < seat.beh.states)
+state_within s k b state is behaviours l h =
+    let (seat, seated) = there_is s.parts.seats k l in
+    let inside : seat.behaviour < length s.parts.catalogue =
+    subst (λ (x : Place). x.behaviour < length s.parts.catalogue) (get_or_from_slice_get s.parts.seats k seat seat seated)
+    (All-get_or (λ (x : Place). x.behaviour < length s.parts.catalogue) s.parts.seats k seat l is.parts.behaviours) in
+    let (beh, placed, known) = placed_behaviour s seat.behaviour behaviours inside in
+    let names = states_named s.parts k beh (record { seat = seat; seated = seated; placed = placed }) in
+    let less : b < length (seat_names (names_in s.parts) k).states = named_within (seat_names (names_in s.parts) k).states state b h in
+    let count : length (seat_names (names_in s.parts) k).states ≡ (beh_at s.parts.catalogue seat.behaviour).states =
+    ap (λ (names : List (List ℕ)). length names) names ∙ known.names ∙ ap (λ (b : Beh). b.states) (sym (beh_read s.parts.catalogue seat.behaviour beh placed)) in
+    let fits : b < (beh_at s.parts.catalogue seat.behaviour).states = omega (arith, less, count) in
+    subst (λ (o : Option Seat). IfSome o (λ seat. b < seat.beh.states)) (sym (seat_read s.parts k seat seated)) fits
+
+pub frozen_within : (s : Situation) (service : List ℕ) (k : ℕ) → frozen s service ≡ Ok k → k < length s.parts.seats
+unfolding frozen
+frozen_within s service k h =
+    let (j, e, h1) = bind_ok (service_named s service) _ k h in
+    let (idle, h2) = checked (is_idle s.phase) reply.ErrorBusy _ k h1 in
+    let (ready, h3) = checked (not (seat_at s j).frozen) reply.ErrorFrozen _ k h2 in
+    let same : j ≡ k = cc in
+    subst (λ (k : ℕ). k < length s.parts.seats) same (seat_within s service j e)
+
+pub thawed_within : (s : Situation) (service : List ℕ) (k : ℕ) → thawed s service ≡ Ok k → k < length s.parts.seats
+unfolding thawed
+thawed_within s service k h =
+    let (j, e, h1) = bind_ok (service_named s service) _ k h in
+    let (idle, h2) = checked (is_idle s.phase) reply.ErrorBusy _ k h1 in
+    let (frozen, h3) = checked (seat_at s j).frozen reply.ErrorReady _ k h2 in
+    let same : j ≡ k = cc in
+    subst (λ (k : ℕ). k < length s.parts.seats) same (seat_within s service j e)
+
+pub died_within : (s : Situation) (service : List ℕ) (k : ℕ) → died s service ≡ Ok k → k < length s.parts.seats
+unfolding died
+died_within s service k h =
+    let (j, e, h1) = bind_ok (service_named s service) _ k h in
+    let (idle, h2) = checked (is_idle s.phase) reply.ErrorBusy _ k h1 in
+    let same : j ≡ k = cc in
+    subst (λ (k : ℕ). k < length s.parts.seats) same (seat_within s service j e)
+
+-- a service that joins is new, its behaviour is one of the catalogue, and its state is one of that behaviour
+pub record IsNew (s : Situation) (x : Joining) : Type 0 where
+  pub name : IsIn x.seat.name (map seat_name s.parts.seats) → ⊥
+  pub behaviour : x.seat.behaviour < length s.parts.catalogue
+  pub state : x.state < (beh_at s.parts.catalogue x.seat.behaviour).states
+
+pub joining_new : (s : Situation) (service behaviour state : List ℕ) (loose : Bool) (x : Joining) → AreBehaviours s.parts → joining s service behaviour state loose ≡ Ok x → IsNew s x
+unfolding joining
+joining_new s service behaviour state loose x behaviours h =
+    let (good, h1) = checked (is_name service) reply.ErrorName _ x h in
+    let (i, named_i, h2) = bind_ok (named (map beh_name s.parts.catalogue) behaviour) _ x h1 in
+    let (b, named_b, h3) = bind_ok (named (states_of_behaviour s.parts.catalogue i) state) _ x h2 in
+    let (idle, h4) = checked (is_idle s.phase) reply.ErrorBusy _ x h3 in
+    let (free, h5) = checked (is_none (place_of (map seat_name s.parts.seats) service)) reply.ErrorTaken _ x h4 in
+    let whole = same_ok _ x h5 in
+    let names = map seat_name s.parts.seats in
+    let l : i < length s.parts.catalogue = omega (arith, named_within (map beh_name s.parts.catalogue) behaviour i named_i, length-map s.parts.catalogue beh_name) in
+    let less = named_within (states_of_behaviour s.parts.catalogue i) state b named_b in
+    subst (IsNew s) whole (record {
+      name = name_is_new names service (named names service) refl (not_ok (place_of names service) free);
+      behaviour = l;
+      state = omega (arith, less, states_counted s i behaviours l);
+    })
+  where
+    not_ok : (o : Option ℕ) → IsTrue (is_none o) → is_ok (ok_or o reply.ErrorName) ≡ false
+    not_ok None h = refl
+    not_ok (Some k) h = absurd (let e : ⊥ = cc in e)
+
+-- its behaviour is one over the environment
+pub joining_beh : (s : Situation) (i : ℕ) → AreBehaviours s.parts → i < length s.parts.catalogue → IsBeh s.parts.environment.env (beh_at s.parts.catalogue i)
+joining_beh s i behaviours l =
+    let (y, there, is) = placed_behaviour s i behaviours l in
+    subst (IsBeh s.parts.environment.env) (sym (beh_read s.parts.catalogue i y there)) (is.known s.parts.environment.env (sym is.env_states) (sym is.actions))

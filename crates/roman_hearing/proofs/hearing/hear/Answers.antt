@@ -1,0 +1,141 @@
+use Rattle.std.proofs.Common.{◌++◌, [], inr, take, refl, ◌∙◌, arith, length-append, length-take-le}
+use Rattle.roman_io.proofs.CallerLemmas.{Gave-nil, Gave-then}
+use Rattle.roman_hearing.proofs.HearingLemmas.{hearing_starts}
+use Rattle.roman_hearing.proofs.HearingEnds.{gave_at_most, rest_out, rest_stops_short, rest_prefixes, rest_not_read, rest_not_long, out_at_quit, gave_quit, piece_cut_off, piece_stops_short, piece_prefixes, piece_not_read}
+use Rattle.roman_hearing.proofs.hearing.hear.Goals as goal
+
+pub takes-init : goal.takes-init
+takes-init g c = record {
+  taken = [];
+  gave = Gave-nil (g.S.Source.rest c.args.source.now);
+  hearing = hearing_starts c.args.session.now (g.O.Sink.written c.args.out.now) c.new-splitter.result c.new-splitter.ensures.empty;
+  page = c.new-page.ensures.empty;
+  room = refl;
+  piece = refl;
+  reads = refl;
+  writes = refl;
+  borrowed = refl;
+  texts = refl;
+}
+
+-- ---- at the end of the source
+
+pub returns-then-count-eq0-clause-ok : goal.returns-then-count-eq0-clause-ok
+returns-then-count-eq0-clause-ok g c =
+    rest_out c.args.session.now c.hear_rest.new.session (g.S.Source.rest c.args.source.now) (g.S.Source.rest c.takes.source) c.takes.invariant.taken c.in-Ok.count
+    (g.O.Sink.written c.args.out.now) (g.O.Sink.written c.hear_rest.new.out) c.takes.invariant.gave (c.in-Ok.ensures.ends (omega (arith, c.takes.invariant.piece, c.take.auto.into))) c.if-count-eq0.true
+    (omega (arith, c.takes.invariant.room)) c.hear_rest.result (c.hear_rest.ensures.hears c.args.session.now (g.O.Sink.written c.args.out.now) c.takes.invariant.taken c.takes.invariant.hearing)
+
+pub returns-then-count-eq0-clause-too_long : goal.returns-then-count-eq0-clause-too_long
+returns-then-count-eq0-clause-too_long g c is =
+    absurd (rest_not_long c.args.session.now c.hear_rest.new.session c.takes.invariant.taken (g.O.Sink.written c.args.out.now) (g.O.Sink.written c.hear_rest.new.out) c.hear_rest.result
+    (c.hear_rest.ensures.hears c.args.session.now (g.O.Sink.written c.args.out.now) c.takes.invariant.taken c.takes.invariant.hearing) is)
+
+pub returns-then-count-eq0-clause-read_fault : goal.returns-then-count-eq0-clause-read_fault
+returns-then-count-eq0-clause-read_fault g c is =
+    absurd (rest_not_read c.args.session.now c.hear_rest.new.session c.takes.invariant.taken (g.O.Sink.written c.args.out.now) (g.O.Sink.written c.hear_rest.new.out) c.hear_rest.result
+    (c.hear_rest.ensures.hears c.args.session.now (g.O.Sink.written c.args.out.now) c.takes.invariant.taken c.takes.invariant.hearing) is)
+
+pub returns-then-count-eq0-clause-write_fault : goal.returns-then-count-eq0-clause-write_fault
+returns-then-count-eq0-clause-write_fault g c is =
+    rest_stops_short c.args.session.now c.hear_rest.new.session (g.S.Source.rest c.args.source.now) (g.S.Source.rest c.takes.source) (g.S.Source.rest c.take.new.self) c.takes.invariant.taken
+    c.take.new.into c.in-Ok.count (g.O.Sink.written c.args.out.now) (g.O.Sink.written c.hear_rest.new.out) c.hear_rest.result c.takes.invariant.gave c.in-Ok.ensures.moves
+    (c.in-Ok.ensures.ends (omega (arith, c.takes.invariant.piece, c.take.auto.into))) c.if-count-eq0.true (omega (arith, c.takes.invariant.room))
+    (c.hear_rest.ensures.hears c.args.session.now (g.O.Sink.written c.args.out.now) c.takes.invariant.taken c.takes.invariant.hearing) is
+
+pub returns-then-count-eq0-clause-prefix : goal.returns-then-count-eq0-clause-prefix
+returns-then-count-eq0-clause-prefix g c is behaviours =
+    rest_prefixes c.args.session.now c.hear_rest.new.session (g.S.Source.rest c.args.source.now) (g.S.Source.rest c.takes.source) c.takes.invariant.taken c.in-Ok.count
+    (g.O.Sink.written c.args.out.now) (g.O.Sink.written c.hear_rest.new.out) c.takes.invariant.gave (c.in-Ok.ensures.ends (omega (arith, c.takes.invariant.piece, c.take.auto.into))) c.if-count-eq0.true
+    (omega (arith, c.takes.invariant.room)) c.hear_rest.result (c.hear_rest.ensures.hears c.args.session.now (g.O.Sink.written c.args.out.now) c.takes.invariant.taken c.takes.invariant.hearing) is
+
+pub returns-then-count-eq0-clause-reads : goal.returns-then-count-eq0-clause-reads
+returns-then-count-eq0-clause-reads g c = record {
+  rose = λ is. absurd (rest_not_read c.args.session.now c.hear_rest.new.session c.takes.invariant.taken (g.O.Sink.written c.args.out.now) (g.O.Sink.written c.hear_rest.new.out) c.hear_rest.result
+      (c.hear_rest.ensures.hears c.args.session.now (g.O.Sink.written c.args.out.now) c.takes.invariant.taken c.takes.invariant.hearing) is);
+  stayed = λ is. c.in-Ok.ensures.cause.stays ∙ c.takes.invariant.reads;
+}
+
+-- ---- within a piece
+
+pub overflow_sub-room : goal.overflow_sub-room
+overflow_sub-room g c =
+    let h = rw c.in-Ok-More.field-0-is at (c.in-Ok-More.ensures.hears c.args.session.now (g.O.Sink.written c.args.out.now) c.takes.invariant.taken c.takes.invariant.hearing) in
+    omega (arith, h.1, c.in-Ok.ensures.bound, length-take-le c.in-Ok.count c.take.new.into c.in-Ok.ensures.bound)
+
+pub takes-smaller : goal.takes-smaller
+takes-smaller g c =
+    let h = rw c.in-Ok-More.field-0-is at (c.in-Ok-More.ensures.hears c.args.session.now (g.O.Sink.written c.args.out.now) c.takes.invariant.taken c.takes.invariant.hearing) in
+    omega (arith, h.1, c.if-count-eq0.false, c.in-Ok.ensures.bound, length-take-le c.in-Ok.count c.take.new.into c.in-Ok.ensures.bound)
+
+pub takes-preserved : goal.takes-preserved
+takes-preserved g c =
+    let h = rw c.in-Ok-More.field-0-is at (c.in-Ok-More.ensures.hears c.args.session.now (g.O.Sink.written c.args.out.now) c.takes.invariant.taken c.takes.invariant.hearing) in
+    record {
+      taken = c.takes.invariant.taken ++ take c.in-Ok.count c.take.new.into;
+      gave = Gave-then (g.S.Source.rest c.args.source.now) (g.S.Source.rest c.takes.source) (g.S.Source.rest c.take.new.self) c.takes.invariant.taken (take c.in-Ok.count c.take.new.into)
+          c.takes.invariant.gave c.in-Ok.ensures.moves;
+      hearing = h.0;
+      page = c.in-Ok-More.ensures.empty;
+      room = omega (arith, h.1, c.takes.invariant.room, length-append c.takes.invariant.taken (take c.in-Ok.count c.take.new.into), length-take-le c.in-Ok.count c.take.new.into c.in-Ok.ensures.bound);
+      piece = c.take.auto.into ∙ c.takes.invariant.piece;
+      reads = c.in-Ok.ensures.cause.stays ∙ c.takes.invariant.reads;
+      writes = c.in-Ok-More.ensures.cause.stayed (λ e. cc) ∙ c.takes.invariant.writes;
+      borrowed = c.in-Ok.ensures.borrowed ∙ c.takes.invariant.borrowed;
+      texts = c.in-Ok.ensures.texts ∙ c.takes.invariant.texts;
+    }
+
+pub returns-in-Ok-Quit-clause-ok : goal.returns-in-Ok-Quit-clause-ok
+returns-in-Ok-Quit-clause-ok g c =
+    out_at_quit c.args.session.now c.hear_piece.new.session (g.S.Source.rest c.args.source.now) (g.S.Source.rest c.takes.source) (g.S.Source.rest c.take.new.self) c.takes.invariant.taken
+    (take c.in-Ok.count c.take.new.into) c.takes.room (g.O.Sink.written c.args.out.now) (g.O.Sink.written c.hear_piece.new.out) c.takes.invariant.gave c.in-Ok.ensures.moves c.takes.invariant.room
+    (rw c.in-Ok-Quit.field-0-is at (c.in-Ok-Quit.ensures.hears c.args.session.now (g.O.Sink.written c.args.out.now) c.takes.invariant.taken c.takes.invariant.hearing))
+
+pub returns-in-Ok-Quit-clause-taken : goal.returns-in-Ok-Quit-clause-taken
+returns-in-Ok-Quit-clause-taken g c =
+    gave_at_most 16781312 (g.S.Source.rest c.args.source.now) (g.S.Source.rest c.takes.source) (g.S.Source.rest c.take.new.self) c.takes.invariant.taken (take c.in-Ok.count c.take.new.into)
+    c.takes.invariant.gave c.in-Ok.ensures.moves (omega (arith, c.takes.invariant.room, c.takes.invariant.piece, c.take.auto.into, c.in-Ok.ensures.bound, length-take-le c.in-Ok.count c.take.new.into c.in-Ok.ensures.bound))
+
+pub returns-in-Ok-Quit-clause-past : goal.returns-in-Ok-Quit-clause-past
+returns-in-Ok-Quit-clause-past g c =
+    inr (gave_quit c.args.session.now c.hear_piece.new.session (g.S.Source.rest c.args.source.now) (g.S.Source.rest c.takes.source) (g.S.Source.rest c.take.new.self) c.takes.invariant.taken
+    (take c.in-Ok.count c.take.new.into) c.takes.room (g.O.Sink.written c.args.out.now) (g.O.Sink.written c.hear_piece.new.out) c.takes.invariant.gave c.in-Ok.ensures.moves c.takes.invariant.room 4095
+    (omega (arith, c.takes.invariant.piece, c.take.auto.into, c.in-Ok.ensures.bound, length-take-le c.in-Ok.count c.take.new.into c.in-Ok.ensures.bound))
+    (rw c.in-Ok-Quit.field-0-is at (c.in-Ok-Quit.ensures.hears c.args.session.now (g.O.Sink.written c.args.out.now) c.takes.invariant.taken c.takes.invariant.hearing)))
+
+pub returns-in-Err-clause-too_long : goal.returns-in-Err-clause-too_long
+returns-in-Err-clause-too_long g c is =
+    piece_cut_off c.args.session.now c.hear_piece.new.session (g.S.Source.rest c.args.source.now) (g.S.Source.rest c.takes.source) (g.S.Source.rest c.take.new.self) c.takes.invariant.taken
+    (take c.in-Ok.count c.take.new.into) c.takes.room (g.O.Sink.written c.args.out.now) (g.O.Sink.written c.hear_piece.new.out) c.takes.invariant.gave c.in-Ok.ensures.moves c.takes.invariant.room
+    c.hear_piece.new.splitter c.in-Err.error (c.in-Err.ensures.hears c.args.session.now (g.O.Sink.written c.args.out.now) c.takes.invariant.taken c.takes.invariant.hearing) cc
+
+pub returns-in-Err-clause-read_fault : goal.returns-in-Err-clause-read_fault
+returns-in-Err-clause-read_fault g c is =
+    absurd (piece_not_read c.args.session.now c.hear_piece.new.session (g.S.Source.rest c.args.source.now) (g.S.Source.rest c.takes.source) (g.S.Source.rest c.take.new.self) c.takes.invariant.taken
+    (take c.in-Ok.count c.take.new.into) c.takes.room (g.O.Sink.written c.args.out.now) (g.O.Sink.written c.hear_piece.new.out) c.takes.invariant.gave c.in-Ok.ensures.moves c.takes.invariant.room
+    c.hear_piece.new.splitter c.in-Err.error (c.in-Err.ensures.hears c.args.session.now (g.O.Sink.written c.args.out.now) c.takes.invariant.taken c.takes.invariant.hearing) cc)
+
+pub returns-in-Err-clause-write_fault : goal.returns-in-Err-clause-write_fault
+returns-in-Err-clause-write_fault g c is =
+    piece_stops_short c.args.session.now c.hear_piece.new.session (g.S.Source.rest c.args.source.now) (g.S.Source.rest c.takes.source) (g.S.Source.rest c.take.new.self) c.takes.invariant.taken
+    (take c.in-Ok.count c.take.new.into) c.takes.room (g.O.Sink.written c.args.out.now) (g.O.Sink.written c.hear_piece.new.out) c.takes.invariant.gave c.in-Ok.ensures.moves c.takes.invariant.room
+    c.hear_piece.new.splitter c.in-Err.error (c.in-Err.ensures.hears c.args.session.now (g.O.Sink.written c.args.out.now) c.takes.invariant.taken c.takes.invariant.hearing) cc
+
+pub returns-in-Err-clause-prefix : goal.returns-in-Err-clause-prefix
+returns-in-Err-clause-prefix g c is behaviours =
+    piece_prefixes c.args.session.now c.hear_piece.new.session (g.S.Source.rest c.args.source.now) (g.S.Source.rest c.takes.source) (g.S.Source.rest c.take.new.self) c.takes.invariant.taken
+    (take c.in-Ok.count c.take.new.into) c.takes.room (g.O.Sink.written c.args.out.now) (g.O.Sink.written c.hear_piece.new.out) c.takes.invariant.gave c.in-Ok.ensures.moves c.takes.invariant.room
+    c.hear_piece.new.splitter c.in-Err.error (c.in-Err.ensures.hears c.args.session.now (g.O.Sink.written c.args.out.now) c.takes.invariant.taken c.takes.invariant.hearing) (cc) behaviours
+
+pub returns-in-Err-clause-reads : goal.returns-in-Err-clause-reads
+returns-in-Err-clause-reads g c = record {
+  rose = λ is. absurd (piece_not_read c.args.session.now c.hear_piece.new.session (g.S.Source.rest c.args.source.now) (g.S.Source.rest c.takes.source) (g.S.Source.rest c.take.new.self) c.takes.invariant.taken
+      (take c.in-Ok.count c.take.new.into) c.takes.room (g.O.Sink.written c.args.out.now) (g.O.Sink.written c.hear_piece.new.out) c.takes.invariant.gave c.in-Ok.ensures.moves c.takes.invariant.room
+      c.hear_piece.new.splitter c.in-Err.error (c.in-Err.ensures.hears c.args.session.now (g.O.Sink.written c.args.out.now) c.takes.invariant.taken c.takes.invariant.hearing) cc);
+  stayed = λ is. c.in-Ok.ensures.cause.stays ∙ c.takes.invariant.reads;
+}
+
+pub returns-in-Err-clause-taken : goal.returns-in-Err-clause-taken
+returns-in-Err-clause-taken g c =
+    gave_at_most 16781312 (g.S.Source.rest c.args.source.now) (g.S.Source.rest c.takes.source) (g.S.Source.rest c.take.new.self) c.takes.invariant.taken (take c.in-Ok.count c.take.new.into)
+    c.takes.invariant.gave c.in-Ok.ensures.moves (omega (arith, c.takes.invariant.room, c.takes.invariant.piece, c.take.auto.into, c.in-Ok.ensures.bound, length-take-le c.in-Ok.count c.take.new.into c.in-Ok.ensures.bound))

@@ -1,0 +1,23 @@
+use Rattle.std.proofs.Common.{◌≡◌, ◌+◌, List, [], ℕ, length}
+use Rattle.roman_io.specs.Source.{Gave}
+use Rattle.roman_model.specs.declared.limits.TheConstants.{MAX_SESSION_BYTES}
+use Rattle.roman_hearing.specs.Hearing.{spot}
+use Rattle.roman_hearing.specs.HearingBytes.{ear, IsHearing}
+use Rattle.roman_hearing.proofs.hearing.hear.Given as goal
+
+abbrev pub invariant-takes : goal.invariant-takes
+invariant-takes g l = record {
+  taken : List ℕ;
+  gave : Gave (g.S.Source.rest l.initial.source) (g.S.Source.rest l.source) taken;
+  hearing : IsHearing (spot l.initial.session (g.O.Sink.written l.initial.out)) taken (ear l.session (g.O.Sink.written l.out) [] l.splitter);
+  page : l.page ≡ [];
+  room : l.room + length taken ≡ MAX_SESSION_BYTES;
+  piece : length l.piece ≡ 4096;
+  reads : g.S.Source.faults l.source ≡ g.S.Source.faults l.initial.source;
+  writes : g.O.Sink.faults l.out ≡ g.O.Sink.faults l.initial.out;
+  borrowed : g.S.Source.borrowed l.source ≡ g.S.Source.borrowed l.initial.source;
+  texts : g.S.Source.texts l.source ≡ g.S.Source.texts l.initial.source;
+}
+
+abbrev pub decreases-takes : goal.decreases-takes
+decreases-takes g l = l.room

@@ -1,0 +1,124 @@
+-- Sessions that are heard from a stream: which of its lines are answered, and what is written by then.
+use Rattle.std.specs.Prelude.{◌≡◌, ◌≢◌, ℕ, ◌≤◌, ◌⊎◌, Bool, ◌||◌, List, [], ◌∷◌, ◌++◌, length, take, nat_le, Option, Result, Err, IsErrOf, IsTrue, IsFalse, if◌then◌else◌}
+use Rattle.std.specs.List.{list_any}
+use Rattle.roman_io.specs.Faults.{Rose}
+use Rattle.roman_io.specs.Sink.{Wrote, WrotePrefix}
+use Rattle.roman_io.specs.Source.{Gave, Had}
+use Rattle.roman_model.specs.Lines.{lines, ended_lines, text_of_lines}
+use Rattle.roman_model.specs.declared.limits.TheConstants.{MAX_SESSION_BYTES}
+use Rattle.roman_text.specs.Shapes.{shape_of}
+use Rattle.roman_session.specs.Situations.{Situation}
+use Rattle.roman_session.specs.Steps.{is_quit}
+use Rattle.roman_hearing.specs.Told.{Told}
+use Rattle.roman_hearing.specs.declared.hearing.HearError.{HearError}
+
+-- ---- which lines are answered
+
+-- the line ends a session
+abbrev pub ends_session : List ℕ → Bool
+ends_session line = is_quit (shape_of line)
+
+-- one of the lines ends the session
+abbrev pub has_quit : List (List ℕ) → Bool
+has_quit lines = list_any ends_session lines
+
+-- as much of a session as is ever heard
+abbrev pub prefix_of : List ℕ → List ℕ
+prefix_of session = take MAX_SESSION_BYTES session
+
+-- the session has at most the greatest number of bytes, or a line `quit` ends within that many
+abbrev pub is_heard_out : List ℕ → Bool
+is_heard_out session = nat_le (length session) MAX_SESSION_BYTES || has_quit (ended_lines (prefix_of session))
+
+-- the lines of a session that are answered, as far as no `quit` comes: all, or those that end within as much as is ever heard
+abbrev pub heard_lines : List ℕ → List (List ℕ)
+heard_lines session = if is_heard_out session then lines session else ended_lines (prefix_of session)
+
+-- the source gave a first line `quit`, and after its newline at most so many bytes
+pub record GaveQuit (most : ℕ) (before now : Option (List ℕ)) : Type 0 where
+  pub heard : List ℕ
+  pub past : List ℕ
+  pub gave : Gave before now (heard ++ 10 ∷ past)
+  pub first : IsFalse (has_quit (ended_lines heard))
+  pub quit : IsTrue (has_quit (ended_lines (heard ++ 10 ∷ [])))
+  pub few : length past ≤ most
+
+-- ---- a session, its source and its sink
+
+-- where a session stands, and what was written by then, where that is told
+pub record Spot : Type 0 where
+  pub situation : Situation
+  pub written : Option (List ℕ)
+
+abbrev pub spot : Situation → Option (List ℕ) → Spot
+spot situation written = record { situation = situation; written = written }
+
+-- the same with what its source has left, where that is told
+pub record Hall : Type 0 where
+  pub spot : Spot
+  pub rest : Option (List ℕ)
+
+abbrev pub hall : Situation → Option (List ℕ) → Option (List ℕ) → Hall
+hall situation rest written = record { spot = spot situation written; rest = rest }
+
+-- what the session is told of those lines, where it stands there then, was written
+pub record Tells (old : Spot) (lines : List (List ℕ)) (new : Spot) : Type 0 where
+  pub text : List ℕ
+  pub told : Told old.situation lines text new.situation
+  pub wrote : Wrote old.written new.written text
+
+-- a prefix of what the session is told of those lines, where it stands there then, was written
+pub record TellsPrefix (old : Spot) (lines : List (List ℕ)) (new : Spot) : Type 0 where
+  pub text : List ℕ
+  pub told : Told old.situation lines text new.situation
+  pub wrote : WrotePrefix old.written new.written text
+
+-- ---- how a session ends
+
+-- it was heard to its end, or to `quit`
+pub record IsHeardOut (old : Hall) (new : Spot) : Type 0 where
+  pub session : List ℕ
+  pub had : Had old.rest session
+  pub out : IsTrue (is_heard_out session)
+  pub tells : Tells old.spot (lines session) new
+
+-- it is too long
+pub record IsCutOff (old : Hall) (new : Spot) : Type 0 where
+  pub session : List ℕ
+  pub had : Had old.rest session
+  pub long : IsFalse (is_heard_out session)
+  pub tells : Tells old.spot (ended_lines (prefix_of session)) new
+
+-- it would go on: the source gave not too many bytes, and their whole lines are answered, none of which is `quit`
+pub record GoesOn (old new : Hall) : Type 0 where
+  pub taken : List ℕ
+  pub gave : Gave old.rest new.rest taken
+  pub few : length taken ≤ MAX_SESSION_BYTES
+  pub quitless : IsFalse (has_quit (ended_lines taken))
+  pub tells : Tells old.spot (ended_lines taken) new.spot
+
+-- the bytes are whole lines
+abbrev pub AreWhole : List ℕ → Type 0
+AreWhole bytes = bytes ≡ text_of_lines (ended_lines bytes)
+
+-- the lines of the first bytes that the source gave are answered, but the last answer wasn't written whole; these bytes are
+-- whole lines, or all that the source had
+pub record StopsShort (old new : Hall) : Type 0 where
+  pub heard : List ℕ
+  pub past : List ℕ
+  pub gave : Gave old.rest new.rest (heard ++ past)
+  pub few : length heard ≤ MAX_SESSION_BYTES
+  pub ends : AreWhole heard ⊎ Had old.rest heard
+  pub tells : TellsPrefix old.spot (lines heard) new.spot
+
+-- a prefix of what may be told of the whole session was written
+pub record TellsPrefixOfAll (old : Hall) (now : Option (List ℕ)) : Type 0 where
+  pub session : List ℕ
+  pub had : Had old.rest session
+  pub last : Situation
+  pub tells : TellsPrefix old.spot (heard_lines session) (spot last now)
+
+-- a count of faults rose where that error is answered, and stayed elsewhere
+pub record CausedBy {T : Type 0} (fault : HearError) (old new : ℕ) (result : Result T HearError) : Type 0 where
+  pub rose : IsErrOf result fault → Rose old new
+  pub stayed : result ≢ Err fault → new ≡ old

@@ -1,0 +1,77 @@
+-- How a session is heard byte by byte: what holds between two bytes of its stream.
+use Rattle.std.specs.Prelude.{◌≡◌, ℕ, ◌<◌, ◌≤◌, List, [], ◌∷◌, ◌++◌, length, take, Option, Result, Ok, Err, IsTrue, IsFalse}
+use Rattle.roman_io.specs.declared.failed.Failed.{Failed}
+use Rattle.roman_model.specs.Lines.{lines, ended_lines}
+use Rattle.roman_text.specs.Lines.{unfinished, kept}
+use Rattle.roman_text.specs.Pages.{Gathered}
+use Rattle.roman_session.specs.Situations.{Situation, IsSituation}
+use Rattle.roman_session.specs.declared.next.Next.{Next}
+use Rattle.roman_session.specs.declared.next.Next.TheVariants.{More, Quit}
+use Rattle.roman_hearing.specs.Told.{Told}
+use Rattle.roman_hearing.specs.Hearing.{has_quit, Spot, spot, Tells, TellsPrefix}
+use Rattle.roman_hearing.specs.declared.hearing.HearError.{HearError}
+use Rattle.roman_hearing.specs.declared.hearing.HearError.TheVariants.{ReadFault, WriteFault, TooLong}
+
+-- where a session stands within a line: a page holds what isn't written of the answers, and as much of the line is held as
+-- tells its shape
+pub record Ear : Type 0 where
+  pub spot : Spot
+  pub page : List ℕ
+  pub held : List ℕ
+
+abbrev pub ear : Situation → Option (List ℕ) → List ℕ → List ℕ → Ear
+ear situation written page held = record { spot = spot situation written; page = page; held = held }
+
+-- of what the session is told of those lines, where it stands there then, a prefix was written, and the page holds the rest
+pub record TellsOnPage (old : Spot) (lines : List (List ℕ)) (new : Spot) (page : List ℕ) : Type 0 where
+  pub text : List ℕ
+  pub told : Told old.situation lines text new.situation
+  pub gathered : Gathered old.written new.written page text
+
+-- the whole lines of those bytes are answered, none of which is `quit`, and as much of the next is held as tells its shape
+pub record IsHearing (old : Spot) (taken : List ℕ) (new : Ear) : Type 0 where
+  pub quitless : IsFalse (has_quit (ended_lines taken))
+  pub tells : TellsOnPage old (ended_lines taken) new.spot new.page
+  pub rest : new.held ≡ kept (unfinished taken)
+
+-- after those bytes a first line `quit` ends in the piece, and is answered
+pub record StopsAtQuit (old : Spot) (taken piece : List ℕ) (new : Spot) (page : List ℕ) : Type 0 where
+  pub heard : List ℕ
+  pub past : List ℕ
+  pub split : piece ≡ heard ++ 10 ∷ past
+  pub first : IsFalse (has_quit (ended_lines (taken ++ heard)))
+  pub quit : IsTrue (has_quit (ended_lines (taken ++ heard ++ 10 ∷ [])))
+  pub tells : TellsOnPage old (ended_lines (taken ++ heard ++ 10 ∷ [])) new page
+
+-- the answer to the last of those lines wasn't written whole, and lines may follow
+pub record FallsShort (old : Spot) (lines : List (List ℕ)) (new : Spot) : Type 0 where
+  pub tells : TellsPrefix old lines new
+  pub known : IsSituation new.situation
+
+-- some prefix of the bytes ends with a line whose answer wasn't written whole
+pub record FailsIn (old : Spot) (bytes : List ℕ) (new : Spot) : Type 0 where
+  pub heard : List ℕ
+  pub past : List ℕ
+  pub split : bytes ≡ heard ++ past
+  pub fails : FallsShort old (ended_lines heard) new
+
+-- the bytes were heard after what was taken before, up to a `quit` or to a fault of the sink
+abbrev pub HearsBytes : Spot → List ℕ → List ℕ → Ear → Result Next Failed → Type 0
+HearsBytes old taken bytes new (Ok More) = IsHearing old (taken ++ bytes) new
+HearsBytes old taken bytes new (Ok Quit) = StopsAtQuit old taken bytes new.spot new.page
+HearsBytes old taken bytes new (Err failed) = FailsIn old (taken ++ bytes) new.spot
+
+-- so was as much of a piece as there is room for; where there is too little, the session is too long
+abbrev pub HearsPiece : ℕ → Spot → List ℕ → List ℕ → Ear → Result Next HearError → Type 0
+HearsPiece room old taken piece new (Ok More) = IsHearing old (taken ++ piece) new × (length piece ≤ room)
+HearsPiece room old taken piece new (Ok Quit) = StopsAtQuit old taken (take room piece) new.spot new.page
+HearsPiece room old taken piece new (Err ReadFault) = ⊥
+HearsPiece room old taken piece new (Err WriteFault) = FailsIn old (taken ++ take room piece) new.spot
+HearsPiece room old taken piece new (Err TooLong) = IsHearing old (taken ++ take room piece) new × (room < length piece)
+
+-- the last line, where its newline is missing, was answered as well
+abbrev pub HearsRest : Spot → List ℕ → Spot → Result (Unit {0}) HearError → Type 0
+HearsRest old taken new (Ok x) = Tells old (lines taken) new
+HearsRest old taken new (Err ReadFault) = ⊥
+HearsRest old taken new (Err WriteFault) = FallsShort old (lines taken) new
+HearsRest old taken new (Err TooLong) = ⊥

@@ -1,0 +1,31 @@
+-- The laws of sessions, over the definitions alone.
+use Rattle.std.specs.Prelude.{◌≡◌, ◌≢◌, ℕ, ◌<◌, ◌⊎◌, List, [], length, Ok, IsTrue, IsFalse}
+use Rattle.roman_model.specs.Lists.{IsIn}
+use Rattle.roman_model.specs.System.{Sys, Pair}
+use Rattle.roman_model.specs.SystemArena.{outcomes, is_allowed}
+use Rattle.roman_model.specs.Offers.{is_related, offers}
+use Rattle.roman_session.specs.Situations.{Situation, present_system, IsSituation}
+use Rattle.roman_session.specs.Rulings.{asked, seen}
+use Rattle.roman_generator.specs.declared.sight.Sight.{Sight}
+use Rattle.roman_session.specs.Steps.{Moves}
+use Rattle.roman_session.specs.Reports.{report_text}
+use Rattle.roman_start.specs.Starts.{parts_of, start_pair_of}
+use Rattle.roman_hearing.specs.Afresh.{afresh}
+
+-- a request that isn't refused is offered to some service
+abbrev pub RequestsAreOffered : Type 0
+RequestsAreOffered = (s : Situation) (action : List ℕ) (a : ℕ) → IsSituation s → asked s action ≡ Ok a → offers (present_system s) s.here a ≢ []
+
+-- after an outcome that is possible the current pair is related
+abbrev pub OutcomesAreRelated : Type 0
+OutcomesAreRelated = (old new : Situation) (state env text : List ℕ) (x : Sight) → IsSituation old → seen old state env ≡ Ok x → Moves old x text new →
+    IsTrue (is_related (present_system new) new.here)
+
+-- a seat that isn't offered for an allowed action has no outcome, or one that isn't related
+abbrev pub NotOfferedFails : Type 0
+NotOfferedFails = (s : Sys) (p : Pair) (a k : ℕ) → k < length s.seats → IsTrue (is_allowed s p a) → (IsIn k (offers s p a) → ⊥) →
+    (outcomes s p a k ≡ []) ⊎ ((q : Pair) × IsIn q (outcomes s p a k) × IsFalse (is_related s q))
+
+-- the report is that of the library that begins where the session stands
+abbrev pub ReportsAreAfresh : Type 0
+ReportsAreAfresh = (s : Situation) → IsSituation s → report_text s.parts s.here ≡ report_text (parts_of (afresh s)) (start_pair_of (afresh s))

@@ -1,0 +1,30 @@
+-- Sessions of documents with several targets: what a related pair says of all of them.
+use Rattle.std.specs.Prelude.{◌≡◌, ◌↔◌, ℕ, List, map, Ok}
+use Rattle.roman_io.specs.Shelf.{Texts}
+use Rattle.roman_model.specs.System.{Pair, IsPair}
+use Rattle.roman_model.specs.Composition.{Great}
+use Rattle.roman_model.specs.Several.{Several, GreatAll}
+use Rattle.roman_model.specs.Combined.{combined, couple_all}
+use Rattle.roman_joint.specs.NamedSys.{seat_of}
+use Rattle.roman_multi.specs.Combining.{machines}
+use Rattle.roman_library.specs.Documents.{library_of}
+use Rattle.roman_library.specs.Library.{PlainLibrary}
+use Rattle.roman_library.specs.Targets.{PlainTargets, NamesTargets}
+use Rattle.roman_session.specs.Situations.{Situation, IsSituation, present_system}
+use Rattle.roman_session.specs.Starts.{IsStart}
+use Rattle.roman_hearing.specs.Told.{Told}
+
+-- the targets as the document names them, over its plain actions, with the services now present
+abbrev pub several_in : PlainTargets → Situation → Several
+several_in said s = record { env = said.environment.env; targets = machines said.targets; seats = map (seat_of said.catalogue) s.parts.seats }
+
+-- the present system is the one that stands for all of them, and a pair of it is related exactly where some simulation of them all holds it
+pub record MeansAll (said : PlainTargets) (s : Situation) : Type 0 where
+  pub system : present_system s ≡ combined (several_in said s)
+  pub great : (p : Pair) → IsPair (present_system s) p → Great (present_system s) p ↔ GreatAll (several_in said s) (couple_all (several_in said s) p)
+
+-- so it is in every session of an accepted document of several targets, after any lines
+abbrev pub SeveralAreServed : Type 0
+SeveralAreServed =
+    (texts : Texts) (document : List ℕ) (library : PlainLibrary) (said : PlainTargets) (start now : Situation) (lines : List (List ℕ)) (text : List ℕ) →
+    library_of texts document ≡ Ok library → NamesTargets texts document said → IsStart library start → IsSituation start → Told start lines text now → MeansAll said now

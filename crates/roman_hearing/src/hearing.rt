@@ -1,0 +1,220 @@
+//! Sessions whose lines come from a stream.
+ghost use Rattle.std.specs.Prelude.{◌≡◌, ℕ, ◌+◌, ◌-◌, ◌⊎◌, ◌∷◌, List, [], Option, IfOk, IsErrOf, OnOk};
+ghost use Rattle.roman_io.specs.Faults.{HasCause};
+ghost use Rattle.roman_io.specs.Source.{IsAtEnd, GaveAtMost};
+ghost use Rattle.roman_text.specs.Lines.{kept};
+ghost use Rattle.roman_session.specs.Situations.{Situation, IsSituation};
+ghost use Rattle.roman_session.specs.Answering.{Answered, AnsweredOn, next_of};
+ghost use Rattle.roman_hearing.specs.Known.{AreBehaviours};
+ghost use Rattle.roman_hearing.specs.Hearing.{GaveQuit, spot, hall, IsHeardOut, IsCutOff, GoesOn, StopsShort, TellsPrefixOfAll, CausedBy};
+ghost use Rattle.roman_hearing.specs.HearingBytes.{ear, IsHearing, HearsBytes, HearsPiece, HearsRest};
+
+use roman_io::{Failed, Sink, Source, Steps};
+use roman_model::{MAX_SESSION_BYTES, PIECE_BYTES};
+use roman_session::{Next, Session};
+use roman_text::laws::keep_shapes;
+use roman_text::{Page, Splitter};
+use std::sync::ledger::Ledger;
+use thiserror::Error;
+
+/// Why a session isn't heard to its end.
+#[derive(Clone, Copy, Debug, PartialEq, Eq, Error)]
+pub enum HearError {
+    /// The source failed, and its count of faults rose. The replies to all lines that were taken whole
+    /// stand in the sink.
+    #[error("the source of the session failed")]
+    ReadFault,
+    /// The sink failed, and its count of faults rose. A prefix of the replies stands in it.
+    #[error("the sink of the session failed")]
+    WriteFault,
+    /// The session has more than [`MAX_SESSION_BYTES`], and no line `quit` that ends within them. The
+    /// replies to the lines that end within them stand in the sink.
+    #[error("the session is too long")]
+    TooLong,
+}
+
+/// Hears a session line by line, to its end or to its first line `quit`, and writes the reply to each.
+/// It takes 4,096 bytes at a time, and answers the lines that end in them before it takes more. The
+/// last line may lack its newline.
+///
+/// The bytes may come in any pieces, and without an end: no more than the greatest number of a session
+/// is heard, and each variant of [`HearError`] says when it comes. No memory is taken. Where the source
+/// tells nothing of its bytes, the clauses speak of some bytes that it may have had.
+pub fn hear<S: Source, O: Sink, L: Ledger>(
+    session: &mut Session,
+    source: &mut S,
+    out: &mut O,
+    steps: &mut Steps<L>,
+) -> Result<(), HearError>
+    // What is told of the whole session was written, and of a session that is too long what is
+    // told of the lines that end within the limit.
+    ensures ok { OnOk result (IsHeardOut (hall session.old (S.rest source.old) (O.written out.old)) (spot session.new (O.written out.new))) }
+    ensures too_long { IsErrOf result HearError.TooLong → IsCutOff (hall session.old (S.rest source.old) (O.written out.old)) (spot session.new (O.written out.new)) }
+
+    // A fault has its cause, and each line of what was taken has its answer till then.
+    ensures read_fault { IsErrOf result HearError.ReadFault → GoesOn (hall session.old (S.rest source.old) (O.written out.old)) (hall session.new (S.rest source.new) (O.written out.new)) }
+    ensures write_fault { IsErrOf result HearError.WriteFault → StopsShort (hall session.old (S.rest source.old) (O.written out.old)) (hall session.new (S.rest source.new) (O.written out.new)) }
+    ensures prefix { IsErrOf result HearError.WriteFault → AreBehaviours session.old.parts → TellsPrefixOfAll (hall session.old (S.rest source.old) (O.written out.old)) (O.written out.new) }
+    ensures reads { CausedBy HearError.ReadFault (S.faults source.old) (S.faults source.new) result }
+    ensures writes { CausedBy HearError.WriteFault (O.faults out.old) (O.faults out.new) result }
+
+    ensures taken { GaveAtMost (MAX_SESSION_BYTES + PIECE_BYTES) (S.rest source.old) (S.rest source.new) }
+    ensures past { OnOk result (IsAtEnd (S.rest source.new) ⊎ GaveQuit (PIECE_BYTES - 1) (S.rest source.old) (S.rest source.new)) }
+    ensures borrowed { S.borrowed source.new ≡ S.borrowed source.old }
+    ensures texts { S.texts source.new ≡ S.texts source.old }
+{
+    let mut splitter = Splitter::new();
+    let mut page = Page::new();
+    let mut piece = [0u8; PIECE_BYTES];
+    let mut room = MAX_SESSION_BYTES as usize;
+    'takes: loop {
+        let Ok(count) = source.take(&mut piece) else {
+            return Err(HearError::ReadFault);
+        };
+        if count == 0 {
+            return hear_rest(session, &splitter, out, steps);
+        }
+        match hear_piece(
+            session,
+            &mut splitter,
+            room,
+            &piece[..count],
+            &mut page,
+            out,
+            steps,
+        ) {
+            Ok(Next::More) => room -= count,
+            Ok(Next::Quit) => return Ok(()),
+            Err(error) => return Err(error),
+        }
+    }
+}
+
+// Hears a piece, as far as there is room for its bytes. The answers to its lines are put together.
+fn hear_piece<O: Sink, L: Ledger>(
+    session: &mut Session,
+    splitter: &mut Splitter,
+    room: usize,
+    piece: &[u8],
+    page: &mut Page,
+    out: &mut O,
+    steps: &mut Steps<L>,
+) -> Result<Next, HearError>
+    requires { page.old ≡ [] }
+    ensures hears { (old : Situation) (before : Option (List ℕ)) (taken : List ℕ) → IsHearing (spot old before) taken (ear session.old (O.written out.old) [] splitter.old) →
+        HearsPiece room (spot old before) taken piece.now (ear session.new (O.written out.new) [] splitter.new) result }
+    ensures empty { IfOk result (λ _. page.new ≡ []) }
+    ensures cause { CausedBy HearError.WriteFault (O.faults out.old) (O.faults out.new) result }
+{
+    let due = piece.len().min(room);
+    let Ok(next) = hear_bytes(session, splitter, &piece[..due], page, out, steps) else {
+        return Err(HearError::WriteFault);
+    };
+    session.known();
+    if let Err(_failed) = page.flush(out) {
+        return Err(HearError::WriteFault);
+    }
+    match next {
+        Next::More if due < piece.len() => Err(HearError::TooLong),
+        _ => Ok(next),
+    }
+}
+
+// Hears bytes, up to the newline of a line `quit`.
+fn hear_bytes<O: Sink, L: Ledger>(
+    session: &mut Session,
+    splitter: &mut Splitter,
+    bytes: &[u8],
+    page: &mut Page,
+    out: &mut O,
+    steps: &mut Steps<L>,
+) -> Result<Next, Failed>
+    ensures hears { (old : Situation) (before : Option (List ℕ)) (taken : List ℕ) → IsHearing (spot old before) taken (ear session.old (O.written out.old) page.old splitter.old) →
+        HearsBytes (spot old before) taken bytes.now (ear session.new (O.written out.new) page.new splitter.new) result }
+    ensures cause { HasCause (O.faults out.old) (O.faults out.new) result }
+{
+    for byte in bytes {
+        if let Next::Quit = hear_byte(session, splitter, *byte, page, out, steps)? {
+            return Ok(Next::Quit);
+        }
+    }
+    Ok(Next::More)
+}
+
+// Hears a byte, and answers the line that it ends.
+fn hear_byte<O: Sink, L: Ledger>(
+    session: &mut Session,
+    splitter: &mut Splitter,
+    byte: u8,
+    page: &mut Page,
+    out: &mut O,
+    steps: &mut Steps<L>,
+) -> Result<Next, Failed>
+    ensures hears { (old : Situation) (before : Option (List ℕ)) (taken : List ℕ) → IsHearing (spot old before) taken (ear session.old (O.written out.old) page.old splitter.old) →
+        HearsBytes (spot old before) taken (byte ∷ []) (ear session.new (O.written out.new) page.new splitter.new) result }
+    ensures cause { HasCause (O.faults out.old) (O.faults out.new) result }
+{
+    if !splitter.push(byte) {
+        return Ok(Next::More);
+    }
+    let next = hear_line(session, splitter, page, out, steps)?;
+    splitter.clear();
+    Ok(next)
+}
+
+// Hears the last line, where bytes of it are left.
+fn hear_rest<O: Sink, L: Ledger>(
+    session: &mut Session,
+    splitter: &Splitter,
+    out: &mut O,
+    steps: &mut Steps<L>,
+) -> Result<(), HearError>
+    ensures hears { (old : Situation) (before : Option (List ℕ)) (taken : List ℕ) → IsHearing (spot old before) taken (ear session.old (O.written out.old) [] splitter.now) →
+        HearsRest (spot old before) taken (spot session.new (O.written out.new)) result }
+    ensures cause { CausedBy HearError.WriteFault (O.faults out.old) (O.faults out.new) result }
+{
+    if !splitter.rest() {
+        return Ok(());
+    }
+    match hear_last(session, splitter, out, steps) {
+        Ok(_) => Ok(()),
+        Err(_) => Err(HearError::WriteFault),
+    }
+}
+
+// Answers the line that is held, on a page. Of a long line as much is held as tells its shape.
+fn hear_line<O: Sink, L: Ledger>(
+    session: &mut Session,
+    splitter: &Splitter,
+    page: &mut Page,
+    out: &mut O,
+    steps: &mut Steps<L>,
+) -> Result<Next, Failed>
+    ensures step { (line : List ℕ) → splitter.now ≡ kept line → AnsweredOn session.old line session.new (O.written out.old) (O.written out.new) page.old page.new result }
+    ensures next { (line : List ℕ) → splitter.now ≡ kept line → IfOk result (λ next. next ≡ next_of line) }
+    ensures known { IsSituation session.new }
+    ensures cause { HasCause (O.faults out.old) (O.faults out.new) result }
+{
+    keep_shapes();
+    let answered = session.answer_on(splitter.line(), page, out, steps);
+    session.known();
+    answered
+}
+
+// Answers the last line, and writes the answer.
+fn hear_last<O: Sink, L: Ledger>(
+    session: &mut Session,
+    splitter: &Splitter,
+    out: &mut O,
+    steps: &mut Steps<L>,
+) -> Result<Next, Failed>
+    ensures step { (line : List ℕ) → splitter.now ≡ kept line → Answered session.old line session.new (O.written out.old) (O.written out.new) result }
+    ensures next { (line : List ℕ) → splitter.now ≡ kept line → IfOk result (λ next. next ≡ next_of line) }
+    ensures known { IsSituation session.new }
+    ensures cause { HasCause (O.faults out.old) (O.faults out.new) result }
+{
+    keep_shapes();
+    let answered = session.answer(splitter.line(), out, steps);
+    session.known();
+    answered
+}

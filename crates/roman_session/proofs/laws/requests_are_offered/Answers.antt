@@ -1,5 +1,0 @@
-use Rattle.roman_session.proofs.StepLemmas.{requests_offered}
-use Rattle.roman_session.proofs.laws.requests_are_offered.Goals as goal
-
-pub returns : goal.returns
-returns c = record { offered = requests_offered }

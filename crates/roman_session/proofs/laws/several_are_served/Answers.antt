@@ -1,5 +1,0 @@
-use Rattle.roman_session.proofs.SeveralLemmas.{several_served}
-use Rattle.roman_session.proofs.laws.several_are_served.Goals as goal
-
-pub returns : goal.returns
-returns c = record { served = several_served }
