@@ -1,7 +1,7 @@
 -- Tables of offers, one pair after another.
-use Rattle.std.proofs.Common.{◌≡◌, ◌≢◌, ℕ, suc, ◌+◌, ◌*◌, ◌<◌, ◌≤◌, true, false, List, [], ◌∷◌, ◌++◌, length, get_or, take, slice_index, slice_range, inl, inr, refl, sym, ap, ◌∙◌, subst, arith, length-append}
+use Rattle.std.proofs.Common.{◌≡◌, ℕ, suc, ◌+◌, ◌*◌, ◌<◌, ◌≤◌, true, false, List, [], ◌∷◌, ◌++◌, length, get_or, take, slice_index, slice_range, IsTrue, IsFalse, eqb, inl, inr, refl, sym, ap, ◌∙◌, subst, arith, length-append}
 use Rattle.std.proofs.Math.Nat.{mul-le-mul_left}
-use Rattle.std.proofs.lemmas.Bool.{cases_eq}
+use Rattle.std.proofs.lemmas.Bool.{cases_eq, both_ways, eq-eqb, eqb-true}
 use Rattle.std.proofs.lemmas.List.{get_or_append_left, get_or_push, length_push, take_more, take_all}
 use Rattle.roman_model.specs.System.{Sys}
 use Rattle.roman_model.specs.SystemArena.{is_allowed}
@@ -10,12 +10,12 @@ use Rattle.roman_model.proofs.CallerLemmas.{by_test}
 use Rattle.roman_cost.specs.Filling.{IsOffers, AreOffers, HasOffers, PushesOffers}
 use Rattle.roman_cost.proofs.Rows.{range_left, range_seam}
 
--- an action is allowed where some bit is set, and else it isn't
-pub set_allowed : (s : Sys) (p a bits : ℕ) → IsOffers s p a bits → bits ≢ 0 → is_allowed s (pair_at (sizes_of s) p) a ≡ true
-set_allowed s p a bits are set = by_test (is_allowed s (pair_at (sizes_of s) p) a) (λ t. t) (λ f. absurd (set (are.none f)))
+-- an action is allowed where some seat is offered for it, and else it isn't
+pub set_allowed : (s : Sys) (p a bits : ℕ) → IsOffers s p a bits → IsFalse (eqb bits 0) → is_allowed s (pair_at (sizes_of s) p) a ≡ true
+set_allowed s p a bits are some = by_test (is_allowed s (pair_at (sizes_of s) p) a) (λ t. t) (λ f. absurd (both_ways (eqb bits 0) some (eq-eqb bits 0 (are.none f))))
 
-pub unset_allowed : (s : Sys) (p a bits : ℕ) → IsOffers s p a bits → bits ≡ 0 → is_allowed s (pair_at (sizes_of s) p) a ≡ false
-unset_allowed s p a bits are unset = by_test (is_allowed s (pair_at (sizes_of s) p) a) (λ t. absurd (are.some t unset)) (λ f. f)
+pub unset_allowed : (s : Sys) (p a bits : ℕ) → IsOffers s p a bits → IsTrue (eqb bits 0) → is_allowed s (pair_at (sizes_of s) p) a ≡ false
+unset_allowed s p a bits are none = by_test (is_allowed s (pair_at (sizes_of s) p) a) (λ t. absurd (are.some t (eqb-true bits 0 none))) (λ f. f)
 
 -- the offers of the first actions at a pair stand behind an old table
 pub record IsBegun (s : Sys) (p : ℕ) (old table : List ℕ) (n : ℕ) : Type 0 where

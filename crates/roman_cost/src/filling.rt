@@ -15,6 +15,7 @@ use crate::outcomes::greater;
 use crate::seats::cheapest;
 use roman_joint::Joint;
 use roman_relation::Relation;
+use roman_rules::SeatSet;
 use std::alloc::{AllocError, Global};
 
 /// The related pairs, rising, and for each pair how many related pairs come before it.
@@ -47,7 +48,7 @@ pub(crate) fn push_row(
     costs: &Costs,
     pairs: &[u32],
     ranks: &[u32],
-    offered: &[u32],
+    offered: &[SeatSet],
     h: u8,
 ) -> Result<(), AllocError>
     requires costs { AreOf joint.now costs.now }
@@ -72,7 +73,7 @@ pub(crate) fn push_row(
 }
 
 /// The row at place `i` of a table whose rows have `n` values each.
-pub(crate) fn row_of(table: &[u32], i: usize, n: usize) -> &[u32]
+pub(crate) fn row_of<T>(table: &[T], i: usize, n: usize) -> &[T]
     requires { i * n + n ≤ length table.now }
     ensures { result.now ≡ slice_range table.now (i * n) (i * n + n) }
 {
@@ -81,7 +82,14 @@ pub(crate) fn row_of(table: &[u32], i: usize, n: usize) -> &[u32]
 }
 
 // What a related pair costs at worst for one request more than the row has.
-fn dearest(joint: &Joint, costs: &Costs, ranks: &[u32], row: &[u32], p: u32, offered: &[u32]) -> u32
+fn dearest(
+    joint: &Joint,
+    costs: &Costs,
+    ranks: &[u32],
+    row: &[u32],
+    p: u32,
+    offered: &[SeatSet],
+) -> u32
     requires costs { AreOf joint.now costs.now }
     requires pair { p < count (sizes_of (system_of joint.now)) }
     requires related { IsTrue (is_related (system_of joint.now) (pair_at (sizes_of (system_of joint.now)) p)) }
@@ -97,7 +105,7 @@ fn dearest(joint: &Joint, costs: &Costs, ranks: &[u32], row: &[u32], p: u32, off
     let mut worst = 0;
     for a in 0..joint.environment().actions().len() as u8 {
         let seats = offered[a as usize];
-        if seats != 0 {
+        if !seats.is_empty() {
             let (_, cost) = cheapest(joint, costs, ranks, row, p, a, seats);
             worst = greater(worst, cost);
         }

@@ -9,14 +9,15 @@ ghost use Rattle.roman_cost.specs.Filling.{IsOffers, HasOffers, PushesOffers};
 
 use roman_generator::offers;
 use roman_relation::Relation;
+use roman_rules::SeatSet;
 use std::alloc::{AllocError, Global};
 
-/// For each of the related pairs and each action the services that may be offered, by their bits.
+/// For each of the related pairs and each action the services that may be offered.
 pub(crate) fn offered_seats(
     alloc: Global,
     relation: &Relation,
     pairs: &[u32],
-) -> Result<Vec<u32>, AllocError>
+) -> Result<Vec<SeatSet>, AllocError>
     requires relation { IsRelation relation.now.joint relation.now.order }
     requires pairs { pairs.now ≡ related_pairs (system_of relation.now.joint) }
     ensures { IfOk result (λ table. HasOffers (system_of relation.now.joint) pairs.now table.items) }
@@ -30,7 +31,7 @@ pub(crate) fn offered_seats(
 }
 
 // Puts behind the table the services that may be offered at a related pair, for each action.
-fn push_offers(table: &mut Vec<u32>, relation: &Relation, p: u32) -> Result<(), AllocError>
+fn push_offers(table: &mut Vec<SeatSet>, relation: &Relation, p: u32) -> Result<(), AllocError>
     requires relation { IsRelation relation.now.joint relation.now.order }
     requires pair { p < count (sizes_of (system_of relation.now.joint)) }
     requires related { IsTrue (is_related (system_of relation.now.joint) (pair_at (sizes_of (system_of relation.now.joint)) p)) }
@@ -43,7 +44,7 @@ fn push_offers(table: &mut Vec<u32>, relation: &Relation, p: u32) -> Result<(), 
 }
 
 // The services that may be offered for an action at a related pair; none where it isn't allowed.
-fn offers_at(relation: &Relation, p: u32, a: u8) -> u32
+fn offers_at(relation: &Relation, p: u32, a: u8) -> SeatSet
     requires relation { IsRelation relation.now.joint relation.now.order }
     requires pair { p < count (sizes_of (system_of relation.now.joint)) }
     requires related { IsTrue (is_related (system_of relation.now.joint) (pair_at (sizes_of (system_of relation.now.joint)) p)) }
@@ -54,6 +55,6 @@ fn offers_at(relation: &Relation, p: u32, a: u8) -> u32
     if relation.joint.allowed(p, a) {
         offers(relation, p, a)
     } else {
-        0
+        SeatSet::EMPTY
     }
 }

@@ -1,5 +1,5 @@
 //! What is least of the offered services.
-ghost use Rattle.std.specs.Prelude.{◌≡◌, ◌≢◌, ℕ, Bool, ◌+◌, ◌*◌, ◌<◌, ◌≤◌, [], All, map, length, IsTrue};
+ghost use Rattle.std.specs.Prelude.{◌≡◌, ◌≢◌, ℕ, ◌+◌, ◌*◌, ◌<◌, ◌≤◌, [], All, map, length, IsTrue};
 ghost use Rattle.roman_model.specs.System.{has};
 ghost use Rattle.roman_model.specs.SystemArena.{is_allowed};
 ghost use Rattle.roman_model.specs.Numbers.{sizes_of, count, pair_at, numbered};
@@ -14,9 +14,10 @@ ghost use Rattle.roman_cost.specs.Tables.{seat_costs, AreOf};
 use crate::costs::Costs;
 use crate::outcomes::greatest_outcome;
 use roman_joint::Joint;
+use roman_rules::SeatSet;
 
 /// The least of the offered services through which an action costs least at a related pair, and that
-/// cost. The row has what the requests after it cost, and the bits say which services are offered.
+/// cost. The row has what the requests after it cost.
 pub(crate) fn cheapest(
     joint: &Joint,
     costs: &Costs,
@@ -24,7 +25,7 @@ pub(crate) fn cheapest(
     row: &[u32],
     p: u32,
     a: u8,
-    offered: u32,
+    offered: SeatSet,
 ) -> (u8, u32)
     requires costs { AreOf joint.now costs.now }
     requires pair { p < count (sizes_of (system_of joint.now)) }
@@ -45,20 +46,12 @@ pub(crate) fn cheapest(
     joint.known();
     let mut best = None;
     for k in 0..joint.seats() {
-        if is_set(offered, k) {
+        if offered.has(k) {
             let cost = cost_through(joint, costs, ranks, row, p, a, k);
             best = better(best, k, cost);
         }
     }
     best.unwrap()
-}
-
-// Whether bit k is set.
-fn is_set(mask: u32, k: u8) -> bool
-    requires { k < 32 }
-    ensures { (test : ℕ → Bool) → HasBits mask test → result ≡ test k }
-{
-    (mask >> k) & 1 == 1
 }
 
 // What an action costs at worst at a pair that is delegated to a service, where it has outcomes.

@@ -9,14 +9,15 @@ ghost use Rattle.roman_joint.specs.NamedSys.{system_of};
 ghost use Rattle.roman_relation.specs.Greatest.{IsRelation};
 
 use roman_relation::Relation;
+use roman_rules::SeatSet;
 
 /// The services that may be offered for the action `a` at the pair `p`, which is related, where `a` is
-/// allowed: bit k is set exactly where the service k may serve it, whatever comes of it. At least one
-/// bit is set, and no memory is taken.
+/// allowed: those that may serve it, whatever comes of it. There is at least one, and no memory is
+/// taken.
 ///
 /// These are the offers of the orchestrator generator of De Giacomo, Patrizi and Sardina, "Automatic
 /// Behavior Composition Synthesis" (Artificial Intelligence 196, 2013).
-pub fn offers(relation: &Relation, p: u32, a: u8) -> u32
+pub fn offers(relation: &Relation, p: u32, a: u8) -> SeatSet
     requires complete { IsRelation relation.now.joint relation.now.order }
     requires pair { p < count (sizes_of (system_of relation.now.joint)) }
     requires related { IsTrue (is_related (system_of relation.now.joint) (pair_at (sizes_of (system_of relation.now.joint)) p)) }

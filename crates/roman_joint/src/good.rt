@@ -19,7 +19,7 @@ use crate::row::Row;
 use crate::states::next_states;
 use crate::turn::{Turn, turn_of};
 use crate::words::{all_alive, less, moves_alive, rows_alive};
-use roman_rules::with_bit;
+use roman_rules::SeatSet;
 
 /// The lanes at which a seat before the lanes serves the action.
 fn good_before(joint: &Joint, words: &[u64], row: &Row, turn: &Turn<'_>, a: u8, k: u8) -> u64
@@ -140,10 +140,10 @@ impl Joint {
         good_on(self, words, row, &turn, alive, a, k)
     }
 
-    /// The mask of the pair at a lane of a row and the action `a`: bit k is set exactly where the
-    /// service k is ready and has an outcome there, and none that is gone. The words tell the pairs
-    /// that aren't gone, row by row. It is empty where the target doesn't allow the action.
-    pub fn mask(&self, row: &Row, words: &[u64], a: u8, lane: u32) -> u32
+    /// The mask of the pair at a lane of a row and the action `a`: the services that are ready and have
+    /// an outcome there, and none that is gone. The words tell the pairs that aren't gone, row by row.
+    /// It is empty where the target doesn't allow the action.
+    pub fn mask(&self, row: &Row, words: &[u64], a: u8, lane: u32) -> SeatSet
         requires row { (x : ℕ) × IsRow (system_of self.now) x row.now }
         requires action { a < (system_of self.now).env.actions }
         requires lane { lane < lanes_in (system_of self.now) }
@@ -154,16 +154,16 @@ impl Joint {
     {
         self.known();
         if (self.row_actions(row) >> a) & 1 == 0 {
-            return 0;
+            return SeatSet::EMPTY;
         }
         let Some(turn) = turn_of(self, row, a) else {
-            return 0;
+            return SeatSet::EMPTY;
         };
         let alive = alive_on(self, words, &turn);
-        let mut mask = 0;
+        let mut mask = SeatSet::EMPTY;
         for k in 0..serving(self, alive) {
             let good = good_on(self, words, row, &turn, alive, a, k);
-            mask = with_bit(mask, k, (good >> lane) & 1 == 1);
+            mask = mask.with(k, (good >> lane) & 1 == 1);
         }
         mask
     }

@@ -4,7 +4,7 @@ use crate::joint::Joint;
 use crate::row::Row;
 use crate::walk::Walk;
 use roman_io::Steps;
-use roman_rules::{Finding, Rules};
+use roman_rules::{Finding, Rules, SeatSet};
 use std::sync::ledger::Ledger;
 
 #[tactic(auto, using(crate::proofs::ArenaFacts::pair_count))]
@@ -78,7 +78,7 @@ impl Rules for Joint {
         Joint::unfine(self, row)
     }
 
-    fn mask(&self, row: &Row, words: &[u64], a: u8, lane: u32) -> u32 {
+    fn mask(&self, row: &Row, words: &[u64], a: u8, lane: u32) -> SeatSet {
         Joint::mask(self, row, words, a, lane)
     }
 

@@ -7,11 +7,11 @@ ghost use Rattle.roman_rules.specs.Bits.{HasBits};
 ghost use Rattle.roman_relation.specs.Shaped.{IsShaped};
 
 use roman_order::Order;
-use roman_rules::Rules;
+use roman_rules::{Rules, SeatSet};
 
 /// The mask of the pair `p` and the action `a`: the seats that have an outcome there, and none that is
 /// listed.
-pub(crate) fn mask<J: Rules>(joint: &J, order: &Order, p: u32, a: u8) -> u32
+pub(crate) fn mask<J: Rules>(joint: &J, order: &Order, p: u32, a: u8) -> SeatSet
     requires shaped { IsShaped (J.arena joint.now) (J.lanes joint.now) order.now }
     requires pair { p < length (J.arena joint.now).nodes }
     requires action { a < (J.arena joint.now).actions }

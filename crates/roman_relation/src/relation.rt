@@ -20,7 +20,7 @@ use crate::rounds::settle_list;
 use roman_io::Steps;
 use roman_joint::Joint;
 use roman_order::Order;
-use roman_rules::Rules;
+use roman_rules::{Rules, SeatSet};
 use std::alloc::{AllocError, Global};
 use std::sync::ledger::Ledger;
 
@@ -115,10 +115,10 @@ impl Relation {
         self.order.unlisted()
     }
 
-    /// The mask of the pair `p` and the action `a`, whether the pair is related or not: bit k is set
-    /// exactly where the service k is ready and has an outcome there, and none that is listed. It is
-    /// empty where the target doesn't allow the action. It is asked of the services, and not stored.
-    pub fn mask(&self, p: u32, a: u8) -> u32
+    /// The mask of the pair `p` and the action `a`, whether the pair is related or not: the services
+    /// that are ready and have an outcome there, and none that is listed. It is empty where the target
+    /// doesn't allow the action. It is asked of the services, and not stored.
+    pub fn mask(&self, p: u32, a: u8) -> SeatSet
         requires shaped { IsShaped (arena_of self.now.joint) (row_lanes self.now.joint) self.now.order }
         requires pair { p < count (sizes_of (system_of self.now.joint)) }
         requires action { a < (system_of self.now.joint).env.actions }

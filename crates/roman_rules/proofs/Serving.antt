@@ -1,5 +1,5 @@
 -- The bits of masks, and how many seats the masks of a row's pairs have.
-use Rattle.std.proofs.Common.{◌≡◌, ℕ, zero, suc, ◌+◌, ◌-◌, ◌*◌, ◌%◌, ◌^◌, ◌<◌, ◌≤◌, Bool, true, cond, not, ◌&&◌, [], length, filter, sum_by, count_ones, IsTrue, IsFalse, inl, inr, refl, sym, ap, ap₂, ◌∙◌, subst, arith, eqb}
+use Rattle.std.proofs.Common.{◌≡◌, ℕ, zero, suc, ◌+◌, ◌-◌, ◌*◌, ◌%◌, ◌^◌, ◌<◌, ◌≤◌, Bool, true, false, cond, not, ◌&&◌, [], length, filter, sum_by, count_ones, IsTrue, IsFalse, inl, inr, refl, sym, ap, ap₂, ◌∙◌, subst, arith, eqb}
 use Rattle.std.specs.Int.{bit_at}
 use Rattle.std.proofs.Math.Pow.{pow_pos}
 use Rattle.std.proofs.lemmas.Bool.{cases_eq, cases_lt, cond-true, cond-false, both_ways, not_from_true, eq-eqb, ne_eqb}
@@ -11,7 +11,7 @@ use Rattle.roman_model.specs.System.{has}
 use Rattle.roman_model.specs.Arena.{Arena, is_beaten, mask}
 use Rattle.roman_model.proofs.CallerLemmas.{by_test, from_below, sum_by_same, empty_is, not_empty_in, mask_none, mask_has, mask_has_past, beaten_none}
 use Rattle.roman_lanes.specs.Rows.{is_on, HasLanes}
-use Rattle.roman_rules.specs.Bits.{HasBits, bit_of}
+use Rattle.roman_rules.specs.Bits.{HasBits, bit_of, has_seat}
 use Rattle.roman_rules.specs.Numbered.{IsNumbered}
 
 -- ---- an action that isn't allowed
@@ -23,6 +23,14 @@ refused_beaten A ok gone p a k refused = by_test (is_empty (A.outcomes p a k))
     (λ f. let (q, i) = not_empty_in (A.outcomes p a k) f in absurd (both_ways (A.allows p a) refused (ok.served p a k q i).0))
 
 -- ---- the bits of a mask
+
+-- a seat is in the set exactly where it passes the test that the bits tell
+pub has_seat_is : (bits : ℕ) (test : ℕ → Bool) (k : ℕ) → HasBits bits test → k < 32 → has_seat bits k ≡ test k
+has_seat_is bits test k is l = ap (λ n. eqb n 1) (is.each k l) ∙ one_is (test k)
+  where
+    one_is : (b : Bool) → eqb (bit_of b) 1 ≡ b
+    one_is true = refl
+    one_is false = refl
 
 -- a seat is in the mask where it isn't beaten
 pub has_good : (A : Arena ℕ) → IsNumbered A → (gone : ℕ → Bool) (p a k : ℕ) → k < A.seats → has (mask A gone p a) k ≡ not (is_beaten A gone p a k)

@@ -2,17 +2,20 @@
 //!
 //! [`Rules`] is the interface: pairs are numbers, a system says which actions are allowed at a pair,
 //! which seats are ready, and to which pairs a delegation may lead. Pairs lie in rows of up to 64
-//! neighbours, a word to a row; what a system says of a row it says of all its pairs at once. Contracts
-//! see a system as an arena over numbers (`specs/Numbered`), so that algorithms and their proofs know
-//! nothing of environments, guards or the numbering.
+//! neighbours, a word to a row; what a system says of a row it says of all its pairs at once. The seats
+//! that can serve an action at a pair are a [`SeatSet`]. Contracts see a system as an arena over numbers
+//! (`specs/Numbered`), so that algorithms and their proofs know nothing of environments, guards or the
+//! numbering.
 #![tactic(auto)]
 
 mod asked;
 mod bits;
 mod finding;
 mod rules;
+mod seat_set;
 
 pub use asked::Asked;
 pub use bits::with_bit;
 pub use finding::Finding;
 pub use rules::Rules;
+pub use seat_set::SeatSet;

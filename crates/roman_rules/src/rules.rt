@@ -12,6 +12,7 @@ ghost use Rattle.roman_rules.specs.Numbered.{IsNumbered};
 ghost use Rattle.roman_rules.specs.Finding.{HasFinding};
 
 use crate::finding::Finding;
+use crate::seat_set::SeatSet;
 use roman_io::Steps;
 use roman_model::Reason;
 use std::sync::ledger::Ledger;
@@ -108,9 +109,9 @@ pub trait Rules {
         ensures { (x : ℕ) → is_row self.now x row.now →
             HasLanes (lanes self.now) x (λ p. not ((arena self.now).fine p)) result };
 
-    /// The mask of the pair at a lane of a row and the action `a`: bit k is set exactly where seat k has
-    /// an outcome there, and none that is gone. The words tell the pairs that aren't gone, row by row.
-    fn mask(&self, row: &Self::Row, words: &[u64], a: u8, lane: u32) -> u32
+    /// The mask of the pair at a lane of a row and the action `a`: the seats that have an outcome there,
+    /// and none that is gone. The words tell the pairs that aren't gone, row by row.
+    fn mask(&self, row: &Self::Row, words: &[u64], a: u8, lane: u32) -> SeatSet
         requires row { (x : ℕ) × is_row self.now x row.now }
         requires action { a < (arena self.now).actions }
         requires lane { lane < lanes self.now }

@@ -1,6 +1,5 @@
 -- The seats of a mask, one after the other.
-use Rattle.std.proofs.Common.{◌≡◌, ℕ, ◌<◌, ◌≤◌, ◌+◌, Bool, true, false, List, [], ◌∷◌, ◌++◌, Some, IsTrue, IsFalse, length, drop, slice_get, refl, sym, ap, ◌∙◌, arith, add-one, suc, codes, eqb, not, ◌&&◌}
-use Rattle.std.specs.Int.{bit_at}
+use Rattle.std.proofs.Common.{◌≡◌, ℕ, ◌<◌, ◌≤◌, ◌+◌, Bool, List, [], ◌∷◌, ◌++◌, Some, IsTrue, IsFalse, length, drop, slice_get, sym, ap, ◌∙◌, arith, add-one, suc, codes, not, ◌&&◌}
 use Rattle.std.specs.List.{filter, flat_map}
 use Rattle.std.proofs.Math.Seq.{drop-cons}
 use Rattle.std.proofs.lemmas.List.{drop_all}
@@ -11,11 +10,12 @@ use Rattle.roman_model.specs.SystemArena.{is_allowed, arena}
 use Rattle.roman_model.specs.Arena.{is_beaten, mask}
 use Rattle.roman_model.specs.Offers.{is_related, offers}
 use Rattle.roman_model.proofs.CallerLemmas.{get_or-below, length-below, from_below, filter_same, mask_has}
-use Rattle.roman_rules.specs.Bits.{HasBits, bit_of}
+use Rattle.roman_rules.specs.Bits.{HasBits, has_seat}
+use Rattle.roman_rules.proofs.CallerLemmas.{has_seat_is}
 use Rattle.roman_joint.specs.NamedSys.{NamedSys}
 use Rattle.roman_joint.specs.declared.seat.Seat.{Seat}
 use Rattle.roman_joint.specs.Names.{seat_name}
-use Rattle.roman_session.specs.Serving.{is_set, seats_set, served, served_text}
+use Rattle.roman_session.specs.Serving.{seats_set, served, served_text}
 use Rattle.roman_session.proofs.SituationLemmas.{mapped_at}
 
 -- the numbers from k on
@@ -31,40 +31,35 @@ pub from_end : (n k : ℕ) → n ≤ k → drop k (below n) ≡ []
 from_end n k l = drop_all k (below n) (omega (arith, length-below n))
 
 -- a seat that is set comes next
-pub next_set : (parts : NamedSys) (mask n k : ℕ) (seat : Seat) → k < n → IsTrue (is_set mask k) → slice_get parts.seats k ≡ Some seat →
-    served_text parts (filter (is_set mask) (drop k (below n))) ≡ (codes " " ++ seat.name) ++ served_text parts (filter (is_set mask) (drop (k + 1) (below n)))
+pub next_set : (parts : NamedSys) (mask n k : ℕ) (seat : Seat) → k < n → IsTrue (has_seat mask k) → slice_get parts.seats k ≡ Some seat →
+    served_text parts (filter (has_seat mask) (drop k (below n))) ≡ (codes " " ++ seat.name) ++ served_text parts (filter (has_seat mask) (drop (k + 1) (below n)))
 unfolding served_text
 next_set parts mask n k seat l set seated =
-    let rest = filter (is_set mask) (drop (k + 1) (below n)) in
-    ap (λ (ks : List ℕ). flat_map (served parts) (filter (is_set mask) ks)) (from_place n k l)
-    ∙ ap (flat_map (served parts)) (cond-true (is_set mask k) (k ∷ rest) rest set)
+    let rest = filter (has_seat mask) (drop (k + 1) (below n)) in
+    ap (λ (ks : List ℕ). flat_map (served parts) (filter (has_seat mask) ks)) (from_place n k l)
+    ∙ ap (flat_map (served parts)) (cond-true (has_seat mask k) (k ∷ rest) rest set)
     ∙ ap (λ (name : List ℕ). (codes " " ++ name) ++ flat_map (served parts) rest) (mapped_at seat_name parts.seats k seat [] seated)
 
 -- a seat that isn't set is passed over
-pub next_unset : (parts : NamedSys) (mask n k : ℕ) → k < n → IsFalse (is_set mask k) →
-    served_text parts (filter (is_set mask) (drop k (below n))) ≡ served_text parts (filter (is_set mask) (drop (k + 1) (below n)))
+pub next_unset : (parts : NamedSys) (mask n k : ℕ) → k < n → IsFalse (has_seat mask k) →
+    served_text parts (filter (has_seat mask) (drop k (below n))) ≡ served_text parts (filter (has_seat mask) (drop (k + 1) (below n)))
 next_unset parts mask n k l unset =
-    let rest = filter (is_set mask) (drop (k + 1) (below n)) in
-    ap (λ (ks : List ℕ). served_text parts (filter (is_set mask) ks)) (from_place n k l)
-    ∙ ap (served_text parts) (cond-false (is_set mask k) (k ∷ rest) rest unset)
+    let rest = filter (has_seat mask) (drop (k + 1) (below n)) in
+    ap (λ (ks : List ℕ). served_text parts (filter (has_seat mask) ks)) (from_place n k l)
+    ∙ ap (served_text parts) (cond-false (has_seat mask k) (k ∷ rest) rest unset)
 
 -- nothing is left at the end
-pub none_set : (parts : NamedSys) (mask n k : ℕ) → n ≤ k → served_text parts (filter (is_set mask) (drop k (below n))) ≡ []
+pub none_set : (parts : NamedSys) (mask n k : ℕ) → n ≤ k → served_text parts (filter (has_seat mask) (drop k (below n))) ≡ []
 unfolding served_text
-none_set parts mask n k l = ap (λ (ks : List ℕ). flat_map (served parts) (filter (is_set mask) ks)) (from_end n k l)
+none_set parts mask n k l = ap (λ (ks : List ℕ). flat_map (served parts) (filter (has_seat mask) ks)) (from_end n k l)
 
 -- the seats of a mask that has the offers' bits are the offers
 pub offers_set : (s : Sys) (p : Pair) (a mask : ℕ) → IsTrue (is_allowed s p a) → length s.seats ≤ 32 → HasBits mask (has (offers s p a)) → seats_set mask (length s.seats) ≡ offers s p a
 offers_set s p a bits allowed few has_bits =
     let gone : Pair → Bool = λ q. not (is_related s q) in
     let unbeaten : ℕ → Bool = λ k. not (is_beaten (arena s) gone p a k) in
-    let same : (k : ℕ) → IsIn k (below (length s.seats)) → is_set bits k ≡ unbeaten k =
+    let same : (k : ℕ) → IsIn k (below (length s.seats)) → has_seat bits k ≡ unbeaten k =
     λ k i.
     let l = from_below (length s.seats) k i in
-    let bit : bit_at bits k ≡ bit_of (has (offers s p a) k) = has_bits.each k (omega arith) in
-    ap (λ (n : ℕ). eqb n 1) bit ∙ one_is (has (offers s p a) k) ∙ mask_has (arena s) gone p a k l ∙ ap (λ (b : Bool). b && unbeaten k) allowed in
-    filter_same (is_set bits) unbeaten (below (length s.seats)) same ∙ sym (cond-true (is_allowed s p a) (filter unbeaten (below (length s.seats))) [] allowed)
-  where
-    one_is : (b : Bool) → eqb (bit_of b) 1 ≡ b
-    one_is true = refl
-    one_is false = refl
+    has_seat_is bits (has (offers s p a)) k has_bits (omega arith) ∙ mask_has (arena s) gone p a k l ∙ ap (λ (b : Bool). b && unbeaten k) allowed in
+    filter_same (has_seat bits) unbeaten (below (length s.seats)) same ∙ sym (cond-true (is_allowed s p a) (filter unbeaten (below (length s.seats))) [] allowed)

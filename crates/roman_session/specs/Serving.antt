@@ -1,19 +1,15 @@
 -- The names of the services of a mask.
-use Rattle.std.specs.Prelude.{ℕ, ◌==◌, Bool, List, ◌++◌, map, codes}
-use Rattle.std.specs.Int.{bit_at}
+use Rattle.std.specs.Prelude.{ℕ, List, ◌++◌, map, codes}
 use Rattle.std.specs.List.{filter, flat_map}
 use Rattle.roman_model.specs.Lists.{below}
 use Rattle.roman_model.specs.Explanation.{name_at}
+use Rattle.roman_rules.specs.Bits.{has_seat}
 use Rattle.roman_joint.specs.NamedSys.{NamedSys}
 use Rattle.roman_joint.specs.Names.{seat_name}
 
--- bit k is set
-abbrev pub is_set : ℕ → ℕ → Bool
-is_set mask k = bit_at mask k == 1
-
--- the seats below n whose bits are set
+-- the seats below n of a set
 abbrev pub seats_set : ℕ → ℕ → List ℕ
-seats_set mask n = filter (is_set mask) (below n)
+seats_set mask n = filter (has_seat mask) (below n)
 
 -- a space and the name of seat k
 abbrev pub served : NamedSys → ℕ → List ℕ

@@ -28,6 +28,7 @@ use roman_generator::offers;
 use roman_joint::Joint;
 use roman_read::Name;
 use roman_relation::Relation;
+use roman_rules::SeatSet;
 use std::marker::Model;
 
 /// One session: the services now present with the greatest relation of their system, the present
@@ -44,8 +45,8 @@ pub struct Session {
     // the number of the current pair
     number: u32,
     phase: Phase,
-    // the services that are offered, one bit each, where a request is open that has no delegate
-    mask: u32,
+    // the services that are offered, where a request is open that has no delegate
+    mask: SeatSet,
 }
 
 impl Model for Session {
@@ -131,16 +132,16 @@ impl Session {
         self.relation.joint.allowed(self.here(), a)
     }
 
-    // The services that may be offered for the action, one bit each.
-    fn offers(&self, a: u8) -> u32
+    // The services that may be offered for the action.
+    fn offers(&self, a: u8) -> SeatSet
         requires { IsOpen self.now a }
         ensures { HasBits result (has (offers (present_system self.now) self.now.here a)) }
     {
         offers(&self.relation, self.here(), a)
     }
 
-    // The services that are offered for the action that is asked for, one bit each.
-    fn offered(&self, a: u8) -> u32
+    // The services that are offered for the action that is asked for.
+    fn offered(&self, a: u8) -> SeatSet
         requires { self.now.phase ≡ Phase.Offered a }
         ensures { HasBits result (has (offers (present_system self.now) self.now.here a)) }
     {
@@ -161,7 +162,7 @@ impl Session {
         ensures { result ≡ has (offers (present_system self.now) self.now.here a) k }
     {
         self.known();
-        (self.offered(a) >> k) & 1 == 1
+        self.offered(a).has(k)
     }
 
     // The name of the target's present state.

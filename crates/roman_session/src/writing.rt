@@ -6,24 +6,17 @@ ghost use Rattle.roman_text.specs.Pages.{Gathers};
 ghost use Rattle.roman_joint.specs.NamedSys.{system_of};
 ghost use Rattle.roman_joint.specs.declared.seat.Seat.{Seat};
 ghost use Rattle.roman_session.specs.Reports.{service_line, lines_text};
-ghost use Rattle.roman_session.specs.Serving.{is_set, seats_set, served_text};
+ghost use Rattle.roman_session.specs.Serving.{seats_set, served_text};
 
 use roman_io::{Failed, Sink};
 use roman_joint::Joint;
+use roman_rules::SeatSet;
 use roman_text::{Page, ReportLine};
 
-/// Whether bit k is set.
-pub(crate) fn is_set(mask: u32, k: u8) -> bool
-    requires { k < 32 }
-    ensures { result ≡ is_set mask k }
-{
-    (mask >> k) & 1 == 1
-}
-
-/// Takes the names of the services whose bits are set, each after a space.
+/// Takes the names of the services of a set, each after a space.
 pub(crate) fn push_served<O: Sink>(
     joint: &Joint,
-    mask: u32,
+    mask: SeatSet,
     page: &mut Page,
     out: &mut O,
 ) -> Result<(), Failed>
@@ -31,7 +24,7 @@ pub(crate) fn push_served<O: Sink>(
     ensures cause { HasCause (O.faults out.old) (O.faults out.new) result }
 {
     for k in 0..joint.seats() {
-        if !is_set(mask, k) {
+        if !mask.has(k) {
             continue;
         }
         if let Err(failed) = page.push_name(b' ', &joint.seat(k).name, out) {

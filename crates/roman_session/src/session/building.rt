@@ -11,6 +11,7 @@ use roman_io::Steps;
 use roman_joint::JointError;
 use roman_library::Library;
 use roman_relation::Relation;
+use roman_rules::SeatSet;
 use roman_start::{Seated, seat_library};
 use std::alloc::Global;
 use std::sync::ledger::Ledger;
@@ -45,7 +46,7 @@ impl Session {
             states,
             number: start,
             phase: Phase::Idle,
-            mask: 0,
+            mask: SeatSet::EMPTY,
         })
     }
 }

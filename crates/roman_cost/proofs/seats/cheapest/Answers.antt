@@ -8,6 +8,8 @@ use Rattle.roman_model.specs.Plans.{first_least, least, choice, through}
 use Rattle.roman_model.proofs.CallerLemmas.{choice_is, related_great, numbers_are_pairs, related_offers}
 use Rattle.roman_model.specs.System.{has, Sys, Pair}
 use Rattle.roman_model.specs.SystemArena.{is_allowed}
+use Rattle.roman_rules.specs.Bits.{HasBits, has_seat}
+use Rattle.roman_rules.proofs.CallerLemmas.{has_seat_is}
 use Rattle.roman_joint.specs.NamedSys.{NamedSys, IsNamedSys, system_of, seat_of}
 use Rattle.roman_generator.proofs.CallerLemmas.{has_in}
 use Rattle.roman_cost.specs.Tables.{seat_costs}
@@ -15,7 +17,7 @@ use Rattle.roman_cost.specs.declared.costs.Listed.{Listed}
 use Rattle.roman_cost.proofs.Best.{best_of, best_of-taken, best_of-passed, best_of-first}
 use Rattle.roman_cost.proofs.OfferedSeats.{offered, offered_ranked, offers_among, cost_by, cost_is, best_is_choice}
 use Rattle.roman_cost.proofs.seats.cheapest.Goals as goal
-use Rattle.roman_cost.proofs.seats.cheapest.Goals.{then-is_set, else-is_set}
+use Rattle.roman_cost.proofs.seats.cheapest.Goals.{then-has, else-has}
 
 -- how many pairs there are, and the pair of a number
 abbrev pairs_of : NamedSys → ℕ
@@ -24,25 +26,29 @@ pairs_of n = count (sizes_of (system_of n))
 abbrev at : NamedSys → ℕ → Pair
 at n p = pair_at (sizes_of (system_of n)) p
 
+-- a seat of the offered ones is offered
+seat_in : (seats : List ℕ) (bits k : ℕ) (has_it : Bool) → HasBits bits (has seats) → k < 32 → has_it ≡ has_seat bits k → IsTrue has_it → IsIn k seats
+seat_in seats bits k has_it tell l is it = has_in seats k (sym (has_seat_is bits (has seats) k tell l) ∙ (sym is ∙ it))
+
 pub cost_through-cost-requires-clause-ready : goal.cost_through-cost-requires-clause-ready
 cost_through-cost-requires-clause-ready c =
     let s = system_of c.args.joint.now in
     let P = pair_at (sizes_of s) c.args.p in
-    let i : IsIn c.loop-k.k (offers s P c.args.a) = has_in (offers s P c.args.a) c.loop-k.k (sym (c.is_set.ensures (has (offers s P c.args.a)) c.requires.offered) ∙ c.if-is_set.true) in
+    let i : IsIn c.loop-k.k (offers s P c.args.a) = seat_in (offers s P c.args.a) c.args.offered c.loop-k.k c.has.result c.requires.offered (omega arith) c.has.ensures c.if-has.true in
     (offered s c.args.p c.args.a c.loop-k.k c.known.ensures.system c.requires.pair i).ready
 
 pub cost_through-cost-requires-clause-some : goal.cost_through-cost-requires-clause-some
 cost_through-cost-requires-clause-some c =
     let s = system_of c.args.joint.now in
     let P = pair_at (sizes_of s) c.args.p in
-    let i : IsIn c.loop-k.k (offers s P c.args.a) = has_in (offers s P c.args.a) c.loop-k.k (sym (c.is_set.ensures (has (offers s P c.args.a)) c.requires.offered) ∙ c.if-is_set.true) in
+    let i : IsIn c.loop-k.k (offers s P c.args.a) = seat_in (offers s P c.args.a) c.args.offered c.loop-k.k c.has.result c.requires.offered (omega arith) c.has.ensures c.if-has.true in
     (offered s c.args.p c.args.a c.loop-k.k c.known.ensures.system c.requires.pair i).some
 
 pub cost_through-cost-requires-clause-ranked : goal.cost_through-cost-requires-clause-ranked
 cost_through-cost-requires-clause-ranked c =
     let s = system_of c.args.joint.now in
     let P = pair_at (sizes_of s) c.args.p in
-    let i : IsIn c.loop-k.k (offers s P c.args.a) = has_in (offers s P c.args.a) c.loop-k.k (sym (c.is_set.ensures (has (offers s P c.args.a)) c.requires.offered) ∙ c.if-is_set.true) in
+    let i : IsIn c.loop-k.k (offers s P c.args.a) = seat_in (offers s P c.args.a) c.args.offered c.loop-k.k c.has.result c.requires.offered (omega arith) c.has.ensures c.if-has.true in
     offered_ranked s c.args.p c.args.a c.loop-k.k c.args.ranks.now c.args.row.now (offered s c.args.p c.args.a c.loop-k.k c.known.ensures.system c.requires.pair i) c.requires.ranks c.requires.row
 
 pub loop-k-preserved : goal.loop-k-preserved
@@ -51,12 +57,12 @@ loop-k-preserved c =
     let C = seat_costs c.args.joint.now c.args.costs.now.listed in
     let test : ℕ → Bool = has (offers s (pair_at (sizes_of s) c.args.p) c.args.a) in
     let cost : ℕ → ℕ = cost_by s C c.args.ranks.now c.args.row.now c.args.p c.args.a in
-    let told : c.is_set.result ≡ test c.loop-k.k = c.is_set.ensures test c.requires.offered in
-    elim c.if-is_set.branch [
-      | then-is_set w ↦
-          w.best-is ∙ best_of-taken cost test c.loop-k.k w.cost_through-cost.result c.loop-k.best w.better-best.result (sym told ∙ w.if-is_set.true) c.loop-k.invariant
+    let told : c.has.result ≡ test c.loop-k.k = c.has.ensures ∙ has_seat_is c.args.offered test c.loop-k.k c.requires.offered (omega arith) in
+    elim c.if-has.branch [
+      | then-has w ↦
+          w.best-is ∙ best_of-taken cost test c.loop-k.k w.cost_through-cost.result c.loop-k.best w.better-best.result (sym told ∙ w.if-has.true) c.loop-k.invariant
           w.cost_through-cost.ensures w.better-best.ensures
-      | else-is_set w ↦ w.best-is ∙ best_of-passed cost test c.loop-k.k c.loop-k.best (sym told ∙ w.if-is_set.false) c.loop-k.invariant
+      | else-has w ↦ w.best-is ∙ best_of-passed cost test c.loop-k.k c.loop-k.best (sym told ∙ w.if-has.false) c.loop-k.invariant
     ]
 
 -- the best of all offered seats

@@ -1,7 +1,8 @@
 use Rattle.std.proofs.Common.{◌≡◌, ◌++◌, length, drop}
 use Rattle.std.specs.List.{filter}
 use Rattle.roman_model.specs.Lists.{below}
-use Rattle.roman_session.specs.Serving.{is_set, seats_set, served_text}
+use Rattle.roman_rules.specs.Bits.{has_seat}
+use Rattle.roman_session.specs.Serving.{seats_set, served_text}
 use Rattle.roman_text.proofs.CallerLemmas.{IsFilling}
 use Rattle.roman_session.proofs.writing.push_served.Given as goal
 
@@ -10,6 +11,6 @@ abbrev pub invariant-loop-k : goal.invariant-loop-k
 invariant-loop-k g l =
     let n = length l.joint.seats in
     record {
-      filling : IsFilling (g.O.Sink.written l.fn.out) (g.O.Sink.written l.out) l.page (served_text l.joint (filter (is_set l.mask) (drop l.k (below n)))) (l.fn.page ++ served_text l.joint (seats_set l.mask n));
+      filling : IsFilling (g.O.Sink.written l.fn.out) (g.O.Sink.written l.out) l.page (served_text l.joint (filter (has_seat l.mask) (drop l.k (below n)))) (l.fn.page ++ served_text l.joint (seats_set l.mask n));
       cause : g.O.Sink.faults l.out ≡ g.O.Sink.faults l.fn.out;
     }

@@ -6,6 +6,7 @@ use Rattle.roman_model.specs.Arena.{mask}
 use Rattle.roman_model.specs.Numbers.{sizes_of, numbered}
 use Rattle.roman_radix.proofs.CallerLemmas.{lanes_few}
 use Rattle.roman_lanes.specs.Rows.{is_on}
+use Rattle.roman_rules.specs.Bits.{HasBits}
 use Rattle.roman_rules.proofs.CallerLemmas.{has_good, mask_refused, mask_more, mask_all, bit_off}
 use Rattle.roman_joint.specs.NamedSys.{system_of, seat_of}
 use Rattle.roman_joint.specs.Rows.{lanes_in, AreAlive}
@@ -45,8 +46,8 @@ loop-k-preserved c = record {
       let word = c.good_on-good.ensures x gone ok rows (c.alive_on-alive.ensures gone rows) in
       let good : eqb (bit_and (c.good_on-good.result / 2 ^ c.args.lane) 1) 1 ≡ has (mask A gone p c.args.a) k =
       ap (λ w. eqb w 1) (shr_and_one c.good_on-good.result c.args.lane) ∙ (word.each c.args.lane c.requires.lane ∙ sym (has_good A (joint_numbered n c.known.ensures) gone p c.args.a k seat)) in
-      mask_more A gone p c.args.a k c.loop-k.mask c.with_bit-mask.result _ good c.with_bit-mask.ensures.own c.with_bit-mask.ensures.others (c.loop-k.invariant.bits x gone ok rows) c.loop-k.invariant.rest;
-  rest = λ j l. c.with_bit-mask.ensures.others j (omega arith) ∙ c.loop-k.invariant.rest j (omega arith);
+      mask_more A gone p c.args.a k c.loop-k.mask c.with-mask.result _ good c.with-mask.ensures.own c.with-mask.ensures.others (c.loop-k.invariant.bits x gone ok rows) c.loop-k.invariant.rest;
+  rest = λ j l. c.with-mask.ensures.others j (omega arith) ∙ c.loop-k.invariant.rest j (omega arith);
 }
 
 pub returns : goal.returns
@@ -56,8 +57,10 @@ returns c x gone ok rows =
     let seats = length-map n.seats (seat_of n.catalogue) in
     let h = known n x c.args.row.now c.known.ensures ok in
     let living = c.alive_on-alive.ensures gone rows in
-    mask_all (numbered s) (joint_numbered n c.known.ensures) gone (x * lanes_in s + c.args.lane) c.args.a c.loop-k.k c.loop-k.mask
+    let p = x * lanes_in s + c.args.lane in
+    subst (λ bits. HasBits bits (has (mask (numbered s) gone p c.args.a))) (sym c.mask.view_is)
+    (mask_all (numbered s) (joint_numbered n c.known.ensures) gone p c.args.a c.loop-k.k c.loop-k.mask
     (λ k past l.
     let (within, dead) = c.serving-k-end.ensures.rest k (omega arith) (omega (arith, seats)) in
     beaten_dead s x c.args.a k c.args.lane c.args.row.now c.in-Some.turn gone h c.in-Some.ensures within l (subst (AreAlive s gone c.in-Some.turn) dead living) c.requires.lane)
-    (c.loop-k.invariant.bits x gone ok rows) c.loop-k.invariant.rest
+    (c.loop-k.invariant.bits x gone ok rows) c.loop-k.invariant.rest)

@@ -1,0 +1,55 @@
+//! Sets of seats in one word.
+ghost use Rattle.std.specs.Prelude.{◌≡◌, ◌≢◌, ℕ, ◌<◌, ◌==◌, if◌then◌else◌};
+ghost use Rattle.std.specs.Int.{bit_at};
+ghost use Rattle.roman_rules.specs.Bits.{has_seat};
+
+use crate::bits::with_bit;
+use std::marker::Model;
+
+/// A set of seats, of which there are at most 32, `Copy`. Contracts see the word whose bit `k` is 1
+/// exactly where seat `k` is in the set.
+#[derive(Clone, Copy, Debug, PartialEq, Eq)]
+pub struct SeatSet {
+    bits: u32,
+}
+
+impl Model for SeatSet {
+    ghost use Rattle.std.specs.Prelude.{ℕ};
+
+    ghost Value = { ℕ };
+
+    ghost view = { λ s. s.bits };
+
+    ghost inverse = { λ word. record { bits = word } };
+}
+
+impl SeatSet {
+    /// The set without seats.
+    pub const EMPTY: SeatSet = SeatSet { bits: 0 };
+
+    /// The set, with seat `k`, below 32, added where `is_in` says so.
+    pub fn with(self, k: u8, is_in: bool) -> SeatSet
+        requires { k < 32 }
+        ensures own { bit_at result k ≡ (if is_in then 1 else bit_at self k) }
+        ensures others { (j : ℕ) → j ≢ k → bit_at result j ≡ bit_at self j }
+    {
+        SeatSet {
+            bits: with_bit(self.bits, k, is_in),
+        }
+    }
+
+    /// Whether seat `k`, below 32, is in the set.
+    pub fn has(self, k: u8) -> bool
+        requires { k < 32 }
+        ensures { result ≡ has_seat self k }
+    {
+        (self.bits >> k) & 1 == 1
+    }
+
+    /// Whether the set has no seat.
+    pub fn is_empty(self) -> bool
+        ensures { result ≡ (self == 0) }
+    {
+        self.bits == 0
+    }
+}
