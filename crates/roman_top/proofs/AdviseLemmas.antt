@@ -94,28 +94,16 @@ finished_sink ends old new result (Ok x) stays finishes cause = subst (SinkCause
 finished_sink ends old new result (Err e) stays finishes cause = subst (SinkCause old new) (sym finishes) cause.failed
 
 pub spoken_stops : (old new : Option (List ℕ)) (result : Status) → IsSpoken old new result → EndsBare old new result
-spoken_stops old new status.Done spoken = tt
-spoken_stops old new status.No spoken = tt
 spoken_stops old new status.Usage spoken = absurd spoken
-spoken_stops old new status.Refused spoken = tt
-spoken_stops old new status.Limit spoken = tt
 spoken_stops old new status.ShelfFault spoken = absurd spoken
 spoken_stops old new status.ReadFault spoken = absurd spoken
-spoken_stops old new status.WriteFault spoken = tt
 spoken_stops old new status.TooLong spoken = absurd spoken
 spoken_stops old new status.Memory spoken = spoken
+spoken_stops old new _ spoken = tt
 
 spoken_shelf : (old new : Option (List ℕ)) (n n_now : ℕ) (result : Status) → IsSpoken old new result → n_now ≡ n → ShelfCause n n_now result
-spoken_shelf old new n n_now status.Done spoken same = same
-spoken_shelf old new n n_now status.No spoken same = same
-spoken_shelf old new n n_now status.Usage spoken same = same
-spoken_shelf old new n n_now status.Refused spoken same = same
-spoken_shelf old new n n_now status.Limit spoken same = same
 spoken_shelf old new n n_now status.ShelfFault spoken same = absurd spoken
-spoken_shelf old new n n_now status.ReadFault spoken same = same
-spoken_shelf old new n n_now status.WriteFault spoken same = same
-spoken_shelf old new n n_now status.TooLong spoken same = same
-spoken_shelf old new n n_now status.Memory spoken same = same
+spoken_shelf old new n n_now _ spoken same = same
 
 -- costs that were read
 pub read_caused : (read : Result CostTable CostError) (costs : CostTable) (old new : Option (List ℕ)) (result : Status) → read ≡ Ok costs → IsSpoken old new result → CausedByRead read result
@@ -169,7 +157,7 @@ advised_is_run texts system name requests seated read old new result accepts rea
     on_accepted (GivesAdvice name requests texts) (document_opening texts system) library text ends accepts.accepted
     (told_of name n requests start read (costs_of texts name n) read_here text ends tells)) at_start
 
--- so advice on an document_opening document does its job
+-- so advice on an opened document does its job
 pub advise_served : (system name : List ℕ) (requests : ℕ) (seated : Seated) (told told_mid told_now : Option Texts) (shelf shelf_mid shelf_now : ℕ) (old mid new : Option (List ℕ)) (out out_mid out_now : ℕ) (read : Result CostTable CostError) (result : Status) →
     Opens IsSeated system (desk told shelf old out) (desk told_mid shelf_mid mid out_mid) (Ok seated) → IfSome told_mid (λ texts. ReadsAs (λ costs. costs.listed) read (costs_of texts name seated.joint)) →
     told_now ≡ told_mid → HasCostCause shelf_mid shelf_now read → Writes (TellsRead name seated.joint requests (pair_at (sizes_of (system_of seated.joint)) seated.start) read) mid new result →

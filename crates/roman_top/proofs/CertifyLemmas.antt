@@ -52,29 +52,15 @@ finished_cause old new result (Err e) finishes cause = subst (SinkCause old new)
 -- nothing else stopped it
 pub done_stops : (old new : Option (List ℕ)) (result : Status) → IsDone old new result → EndsBare old new result
 done_stops old new status.Done done = tt
-done_stops old new status.No done = absurd done
-done_stops old new status.Usage done = absurd done
-done_stops old new status.Refused done = absurd done
-done_stops old new status.Limit done = absurd done
-done_stops old new status.ShelfFault done = absurd done
-done_stops old new status.ReadFault done = absurd done
 done_stops old new status.WriteFault done = tt
-done_stops old new status.TooLong done = absurd done
 done_stops old new status.Memory done = done
+done_stops old new _ done = absurd done
 
 pub done_shelf : (old new : Option (List ℕ)) (n n_now : ℕ) (result : Status) → IsDone old new result → n_now ≡ n → ShelfCause n n_now result
-done_shelf old new n n_now status.Done done same = same
-done_shelf old new n n_now status.No done same = same
-done_shelf old new n n_now status.Usage done same = same
-done_shelf old new n n_now status.Refused done same = same
-done_shelf old new n n_now status.Limit done same = same
 done_shelf old new n n_now status.ShelfFault done same = absurd done
-done_shelf old new n n_now status.ReadFault done same = same
-done_shelf old new n n_now status.WriteFault done same = same
-done_shelf old new n n_now status.TooLong done same = same
-done_shelf old new n n_now status.Memory done same = same
+done_shelf old new n n_now _ done same = same
 
--- the certificate of an document_opening document
+-- the certificate of an opened document
 pub certify_served : (system : List ℕ) (seated : Seated) (told told_now : Option Texts) (shelf shelf_now : ℕ) (old mid new : Option (List ℕ)) (out out_mid out_now : ℕ) (result : Status) →
     Opens IsSeated system (desk told shelf old out) (desk told_now shelf_now mid out_mid) (Ok seated) → Writes (CertifiesSystem (system_of seated.joint)) mid new result → IsDone mid new result → SinkCause out_mid out_now result →
     ServedBeside (Some (On system Certify)) (desk told shelf old out) (desk told_now shelf_now new out_now) result

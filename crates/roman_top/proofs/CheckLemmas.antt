@@ -39,9 +39,8 @@ found_text : (A : Arena ℕ) (start : ℕ) (told : Option Texts) (name : List �
     (IsErrOf result check.TooLong → HaveVerdict A start (rest_from told name 0) TooLong) → IfSome told (λ texts. FindsVerdict A start (shelf_text texts name) result)
 found_text A start None name result whole long = tt
 found_text A start (Some texts) name (Ok verdict) whole long = had_text A start texts name (verdict_of verdict) whole
-found_text A start (Some texts) name (Err check.Fault) whole long = tt
 found_text A start (Some texts) name (Err check.TooLong) whole long = had_text A start texts name TooLong (long refl)
-found_text A start (Some texts) name (Err check.Memory) whole long = tt
+found_text A start (Some texts) name _ whole long = tt
 
 -- the same of a source that began with that text
 pub finds_text : (A : Arena ℕ) (start : ℕ) (told given : Option Texts) (name given_name : List ℕ) (at : ℕ) (result : Result Verdict CheckError) → given ≡ told → given_name ≡ name → at ≡ 0 →
@@ -54,10 +53,8 @@ finds_text A start told given name given_name at result same_texts same_name at_
 
 -- a fault of the check is its cause
 pub check_cause : (old new : ℕ) (result : Result Verdict CheckError) → (IsErrOf result check.Fault → Rose old new) → ((result ≡ Err check.Fault → ⊥) → new ≡ old) → CheckCause old new result
-check_cause old new (Ok verdict) rose stayed = stayed (λ e. cc)
 check_cause old new (Err check.Fault) rose stayed = rose refl
-check_cause old new (Err check.TooLong) rose stayed = stayed (λ e. cc)
-check_cause old new (Err check.Memory) rose stayed = stayed (λ e. cc)
+check_cause old new _ rose stayed = stayed (λ e. cc)
 
 -- the verdict on the certificate is the run's
 judged : (A : Arena ℕ) (start : ℕ) (certificate : List ℕ) (checked : Result Verdict CheckError) → FindsVerdict A start certificate checked → (text : List ℕ) (ends : Status) → JudgesCheck checked text ends → SaysVerdict (cert_verdict A start certificate) text ends
@@ -80,7 +77,7 @@ checked_is_run texts system certificate seated checked old new result accepts fi
     on_accepted (Checks (shelf_text texts certificate)) (document_opening texts system) library text ends accepts.accepted
     (judged (numbered s) (number (sizes_of s) (start_pair_of library)) (shelf_text texts certificate) checked found text ends judges)) writes
 
--- so a check of an document_opening document does its job
+-- so a check of an opened document does its job
 pub check_served : (system certificate : List ℕ) (seated : Seated) (told told_mid told_now : Option Texts) (shelf shelf_mid shelf_now : ℕ) (old mid new : Option (List ℕ)) (out out_mid out_now : ℕ) (checked : Result Verdict CheckError) (result : Status) →
     Opens IsSeated system (desk told shelf old out) (desk told_mid shelf_mid mid out_mid) (Ok seated) → IfSome told_mid (λ texts. FindsVerdict (numbered (system_of seated.joint)) seated.start (shelf_text texts certificate) checked) →
     told_now ≡ told_mid → CheckCause shelf_mid shelf_now checked → Writes (JudgesCheck checked) mid new result → EndsBare mid new result → CausedByCheck checked result → SinkCause out_mid out_now result →

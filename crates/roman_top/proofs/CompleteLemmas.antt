@@ -33,14 +33,8 @@ is_done result e = subst IsAnswered (sym e) tt
 ends_answered : (s : Sys) (p : Pair) (result : Status) → EndsBy s p result → IsAnswered result
 ends_answered s p status.Done ends = tt
 ends_answered s p status.No ends = tt
-ends_answered s p status.Usage ends = ends
-ends_answered s p status.Refused ends = ends
-ends_answered s p status.Limit ends = ends
-ends_answered s p status.ShelfFault ends = ends
-ends_answered s p status.ReadFault ends = ends
-ends_answered s p status.WriteFault ends = ends
-ends_answered s p status.TooLong ends = ends
 ends_answered s p status.Memory ends = tt
+ends_answered s p _ ends = ends
 
 judged_answered : (verdict : Verdict) (text : List ℕ) (result : Status) → verdict ≢ TooLong → SaysVerdict verdict text result → IsAnswered result
 judged_answered (Greatest related start) text result short judges = is_done result judges.1
@@ -73,20 +67,12 @@ answered (Some (Make n)) texts old new result run can = is_done result run.run.1
 
 -- where no count of faults rose, the command gets its answer if it can
 by_status : (asked : Option Command) (old new : World) (result : Status) → Served asked old new result → IsUndisturbed old new → IfSome (texts_for asked old.texts) (λ texts. CanAnswer asked texts old.rest → IsAnswered result)
-by_status asked old new status.Done served quiet = told_all (texts_for asked old.texts) (λ texts. CanAnswer asked texts old.rest → IsAnswered status.Done) (λ texts can. tt)
-by_status asked old new status.No served quiet = told_all (texts_for asked old.texts) (λ texts. CanAnswer asked texts old.rest → IsAnswered status.No) (λ texts can. tt)
-by_status asked old new status.Usage served quiet =
-    told_more (texts_for asked old.texts) (λ texts. HasRun asked texts old new status.Usage) (λ texts. CanAnswer asked texts old.rest → IsAnswered status.Usage) (served.run tt) (λ texts run can. answered asked texts old new status.Usage run can)
-by_status asked old new status.Refused served quiet =
-    told_more (texts_for asked old.texts) (λ texts. HasRun asked texts old new status.Refused) (λ texts. CanAnswer asked texts old.rest → IsAnswered status.Refused) (served.run tt) (λ texts run can. answered asked texts old new status.Refused run can)
-by_status asked old new status.Limit served quiet =
-    told_more (texts_for asked old.texts) (λ texts. HasRun asked texts old new status.Limit) (λ texts. CanAnswer asked texts old.rest → IsAnswered status.Limit) (served.run tt) (λ texts run can. answered asked texts old new status.Limit run can)
 by_status asked old new status.ShelfFault served quiet = absurd (quiet.shelf served.shelf)
 by_status asked old new status.ReadFault served quiet = absurd (quiet.input served.input)
 by_status asked old new status.WriteFault served quiet = absurd (quiet.out served.out)
-by_status asked old new status.TooLong served quiet =
-    told_more (texts_for asked old.texts) (λ texts. HasRun asked texts old new status.TooLong) (λ texts. CanAnswer asked texts old.rest → IsAnswered status.TooLong) (served.run tt) (λ texts run can. answered asked texts old new status.TooLong run can)
 by_status asked old new status.Memory served quiet = told_all (texts_for asked old.texts) (λ texts. CanAnswer asked texts old.rest → IsAnswered status.Memory) (λ texts can. tt)
+by_status asked old new result served quiet =
+    told_more (texts_for asked old.texts) (λ texts. HasRun asked texts old new result) (λ texts. CanAnswer asked texts old.rest → IsAnswered result) (served.run tt) (λ texts run can. answered asked texts old new result run can)
 
 pub completes : (asked : Option Command) (old new : World) (result : Status) → Served asked old new result → AnswersWherePossible asked old new result
 completes asked old new result served quiet = by_status asked old new result served quiet

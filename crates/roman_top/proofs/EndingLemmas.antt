@@ -79,16 +79,11 @@ exceeded Holds told name library old mid new result r means past same puts finis
 
 -- the text of a run is that of another
 pub writes_weaker : (One Other : List ℕ → Status → Type 0) (old new : Option (List ℕ)) (result : Status) → ((text : List ℕ) (ends : Status) → One text ends → Other text ends) → Writes One old new result → Writes Other old new result
-writes_weaker One Other old new status.Done weaker w = record { text = w.text; run = weaker w.text status.Done w.run; wrote = w.wrote }
-writes_weaker One Other old new status.No weaker w = record { text = w.text; run = weaker w.text status.No w.run; wrote = w.wrote }
-writes_weaker One Other old new status.Usage weaker w = record { text = w.text; run = weaker w.text status.Usage w.run; wrote = w.wrote }
-writes_weaker One Other old new status.Refused weaker w = record { text = w.text; run = weaker w.text status.Refused w.run; wrote = w.wrote }
-writes_weaker One Other old new status.Limit weaker w = record { text = w.text; run = weaker w.text status.Limit w.run; wrote = w.wrote }
 writes_weaker One Other old new status.ShelfFault weaker w = tt
 writes_weaker One Other old new status.ReadFault weaker w = tt
 writes_weaker One Other old new status.WriteFault weaker w = record { text = w.text; ends = w.ends; run = weaker w.text w.ends w.run; wrote = w.wrote }
-writes_weaker One Other old new status.TooLong weaker w = record { text = w.text; run = weaker w.text status.TooLong w.run; wrote = w.wrote }
 writes_weaker One Other old new status.Memory weaker w = tt
+writes_weaker One Other old new result weaker w = record { text = w.text; run = weaker w.text result w.run; wrote = w.wrote }
 
 pub match_true : (b : Bool) (P Q : Type 0) → IsTrue b → P → MatchBool b P Q
 match_true true P Q e p = p

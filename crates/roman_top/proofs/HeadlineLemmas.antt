@@ -70,7 +70,6 @@ reported texts system library text s accepted says start =
 
 -- a run keeps the promise
 keeps_promise : (asked : Option Command) (texts : Texts) (old new : World) (result : Status) → HasRun asked texts old new result → KeepsPromise asked texts old new
-keeps_promise None texts old new result run = tt
 keeps_promise (Some (On system Synth)) texts old new result run = λ library accepted. record {
   text = run.text;
   great = λ s start. reported texts system library run.text s accepted (work_of Synthesises (document_opening texts system) library run.text result accepted run.run).0 start;
@@ -83,12 +82,7 @@ keeps_promise (Some (On system (Run name))) texts old new result run = λ librar
   answers = talked texts system run.session library run.text result accepted (work_of (Talks run.session) (document_opening texts system) library run.text result accepted run.run);
   wrote = run.wrote;
 }
-keeps_promise (Some (On system Certify)) texts old new result run = tt
-keeps_promise (Some (On system (Check certificate))) texts old new result run = tt
-keeps_promise (Some (On system Shortest)) texts old new result run = tt
-keeps_promise (Some (On system (Advise costs requests))) texts old new result run = tt
-keeps_promise (Some (On system Resilience)) texts old new result run = tt
-keeps_promise (Some (Make n)) texts old new result run = tt
+keeps_promise _ texts old new result run = tt
 
 pub has_headline : (asked : Option Command) (old new : World) (result : Status) → Served asked old new result → HasHeadline asked old new result
 has_headline asked old new result served free =

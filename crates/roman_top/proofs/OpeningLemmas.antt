@@ -1,4 +1,4 @@
--- Documents that are document_opening, and what becomes of a run without one.
+-- Documents that are opened, and what becomes of a run without one.
 use Rattle.std.proofs.Common.{◌≡◌, ℕ, ◌<◌, ◌≤◌, List, [], Option, IfSome, Result, Ok, Err, refl, sym, ◌∙◌, subst}
 use Rattle.std.proofs.lemmas.Bool.{le-ltb}
 use Rattle.roman_io.specs.Faults.{HasCause, Rose}

@@ -46,7 +46,7 @@ foreseen_is_run texts system seated old new result accepts writes =
     (λ (text : List ℕ) (ends : Status) (says : EndsWith (text_at seated.joint seated.start) status.Done text ends).
     on_accepted Foresees (document_opening texts system) accepts.library text ends accepts.accepted (subst (λ (t : List ℕ). EndsWith t status.Done text ends) same says)) writes
 
--- the outlooks of an document_opening document
+-- the outlooks of an opened document
 pub foresee_served : (system : List ℕ) (seated : Seated) (told told_now : Option Texts) (shelf shelf_now : ℕ) (old mid new : Option (List ℕ)) (out out_mid out_now : ℕ) (result : Status) →
     Opens IsSeated system (desk told shelf old out) (desk told_now shelf_now mid out_mid) (Ok seated) → Writes (EndsWith (text_at seated.joint seated.start) status.Done) mid new result → IsDone mid new result → SinkCause out_mid out_now result →
     ServedBeside (Some (On system Resilience)) (desk told shelf old out) (desk told_now shelf_now new out_now) result

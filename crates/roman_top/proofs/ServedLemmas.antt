@@ -26,16 +26,11 @@ served_as asked other old new result same served = subst (λ (a : Option Command
 
 -- the whole text was written where neither a fault nor running out of memory ended the run
 pub free_text : (IsRun : List ℕ → Status → Type 0) (old new : Option (List ℕ)) (result : Status) → IsFree result → Writes IsRun old new result → WritesText IsRun old new result
-free_text IsRun old new status.Done free w = w
-free_text IsRun old new status.No free w = w
-free_text IsRun old new status.Usage free w = w
-free_text IsRun old new status.Refused free w = w
-free_text IsRun old new status.Limit free w = w
 free_text IsRun old new status.ShelfFault free w = absurd free
 free_text IsRun old new status.ReadFault free w = absurd free
 free_text IsRun old new status.WriteFault free w = absurd free
-free_text IsRun old new status.TooLong free w = w
 free_text IsRun old new status.Memory free w = absurd free
+free_text IsRun old new _ free w = w
 
 prefix_text : (IsRun : List ℕ → Status → Type 0) (old new : Option (List ℕ)) (result : Status) → result ≡ status.WriteFault → Writes IsRun old new result → WritesPrefix IsRun old new
 prefix_text IsRun old new result is w = subst (Writes IsRun old new) is w
@@ -45,31 +40,15 @@ unwritten_at old new result ends stops is = subst (EndsBare old new) is stops
 
 -- the input isn't read
 input_stays : (old new : Option (List ℕ)) (n : ℕ) (result : Status) → EndsBare old new result → InputCause n n result
-input_stays old new n status.Done stops = refl
-input_stays old new n status.No stops = refl
-input_stays old new n status.Usage stops = refl
-input_stays old new n status.Refused stops = refl
-input_stays old new n status.Limit stops = refl
-input_stays old new n status.ShelfFault stops = refl
 input_stays old new n status.ReadFault stops = absurd stops
-input_stays old new n status.WriteFault stops = refl
-input_stays old new n status.TooLong stops = refl
-input_stays old new n status.Memory stops = refl
+input_stays old new n _ stops = refl
 
 -- By the job
 
--- a session from the input isn't done where its document isn't document_opening
+-- a session from the input isn't done where its document isn't opened
 ends_away : (system : List ℕ) (old new : World) (result : Status) → IsAway result → EndsInput (Some (On system (Run None))) old new result
 ends_away system old new status.Done away = absurd away
-ends_away system old new status.No away = tt
-ends_away system old new status.Usage away = tt
-ends_away system old new status.Refused away = tt
-ends_away system old new status.Limit away = tt
-ends_away system old new status.ShelfFault away = tt
-ends_away system old new status.ReadFault away = tt
-ends_away system old new status.WriteFault away = tt
-ends_away system old new status.TooLong away = tt
-ends_away system old new status.Memory away = tt
+ends_away system old new _ away = tt
 
 -- what a job says where it takes nothing from the input
 record IsAside (job : Job) : Type 0 where
@@ -79,7 +58,6 @@ record IsAside (job : Job) : Type 0 where
   ends : (system : List ℕ) (old new : World) (result : Status) → IsAway result → EndsInput (Some (On system job)) old new result
 
 aside : (job : Job) → IsAside job
-aside Synth = record { given = λ texts system rest. ([], tt); shelf = λ system old new w. w; taken = λ texts system old new gave prefix. tt; ends = λ system old new result away. tt }
 aside (Run None) = record {
   given = λ texts system rest. input_given system rest;
   shelf = λ system old new w. w;
@@ -96,13 +74,9 @@ aside (Run (Some name)) = record {
   taken = λ texts system old new gave prefix. tt;
   ends = λ system old new result away. tt;
 }
-aside Certify = record { given = λ texts system rest. ([], tt); shelf = λ system old new w. w; taken = λ texts system old new gave prefix. tt; ends = λ system old new result away. tt }
-aside (Check certificate) = record { given = λ texts system rest. ([], tt); shelf = λ system old new w. w; taken = λ texts system old new gave prefix. tt; ends = λ system old new result away. tt }
-aside Shortest = record { given = λ texts system rest. ([], tt); shelf = λ system old new w. w; taken = λ texts system old new gave prefix. tt; ends = λ system old new result away. tt }
-aside (Advise costs requests) = record { given = λ texts system rest. ([], tt); shelf = λ system old new w. w; taken = λ texts system old new gave prefix. tt; ends = λ system old new result away. tt }
-aside Resilience = record { given = λ texts system rest. ([], tt); shelf = λ system old new w. w; taken = λ texts system old new gave prefix. tt; ends = λ system old new result away. tt }
+aside _ = record { given = λ texts system rest. ([], tt); shelf = λ system old new w. w; taken = λ texts system old new gave prefix. tt; ends = λ system old new result away. tt }
 
--- Documents that aren't document_opening
+-- Documents that aren't opened
 
 -- a prefix of the line of such a document is one of a run of any job
 away_prefix : (texts : Texts) (system : List ℕ) (job : Job) (rest : Option (List ℕ)) (old new : World) (result : Status) → Writes (TurnsAway (document_opening texts system)) old.written new.written result → result ≡ status.WriteFault →
@@ -150,13 +124,8 @@ record IsSilent (job : Job) : Type 0 where
   ends : (system : List ℕ) (old new : World) (result : Status) → EndsInput (Some (On system job)) old new result
 
 silent : (job : Job) → IsPlain job → IsSilent job
-silent Synth plain = record { given = λ texts system rest. tt; taken = λ texts system old new. tt; ends = λ system old new result. tt }
 silent (Run name) plain = absurd plain
-silent Certify plain = record { given = λ texts system rest. tt; taken = λ texts system old new. tt; ends = λ system old new result. tt }
-silent (Check certificate) plain = record { given = λ texts system rest. tt; taken = λ texts system old new. tt; ends = λ system old new result. tt }
-silent Shortest plain = record { given = λ texts system rest. tt; taken = λ texts system old new. tt; ends = λ system old new result. tt }
-silent (Advise costs requests) plain = record { given = λ texts system rest. tt; taken = λ texts system old new. tt; ends = λ system old new result. tt }
-silent Resilience plain = record { given = λ texts system rest. tt; taken = λ texts system old new. tt; ends = λ system old new result. tt }
+silent _ plain = record { given = λ texts system rest. tt; taken = λ texts system old new. tt; ends = λ system old new result. tt }
 
 pub job_served : (system : List ℕ) (job : Job) (old new : Desk) (result : Status) → IsPlain job → DoesJob system job old new result → ServedBeside (Some (On system job)) old new result
 job_served system job old new result plain does rest faults =
@@ -191,28 +160,12 @@ never_of : (old new : Option (List ℕ)) (result ends : Status) → IsDone old n
 never_of old new result ends done is = subst (IsDone old new) is done
 
 shelf_unasked : (old new : Option (List ℕ)) (n : ℕ) (result : Status) → IsDone old new result → ShelfCause n n result
-shelf_unasked old new n status.Done done = refl
-shelf_unasked old new n status.No done = refl
-shelf_unasked old new n status.Usage done = refl
-shelf_unasked old new n status.Refused done = refl
-shelf_unasked old new n status.Limit done = refl
 shelf_unasked old new n status.ShelfFault done = absurd done
-shelf_unasked old new n status.ReadFault done = refl
-shelf_unasked old new n status.WriteFault done = refl
-shelf_unasked old new n status.TooLong done = refl
-shelf_unasked old new n status.Memory done = refl
+shelf_unasked old new n _ done = refl
 
 input_unasked : (old new : Option (List ℕ)) (n : ℕ) (result : Status) → IsDone old new result → InputCause n n result
-input_unasked old new n status.Done done = refl
-input_unasked old new n status.No done = refl
-input_unasked old new n status.Usage done = refl
-input_unasked old new n status.Refused done = refl
-input_unasked old new n status.Limit done = refl
-input_unasked old new n status.ShelfFault done = refl
 input_unasked old new n status.ReadFault done = absurd done
-input_unasked old new n status.WriteFault done = refl
-input_unasked old new n status.TooLong done = refl
-input_unasked old new n status.Memory done = refl
+input_unasked old new n _ done = refl
 
 pub made_served : (n : ℕ) (told : Option Texts) (shelf : ℕ) (rest : Option (List ℕ)) (input : ℕ) (old new : Option (List ℕ)) (out out_now : ℕ) (result : Status) →
     Writes (Makes n) old new result → IsDone old new result → SinkCause out out_now result → Served (Some (Make n)) (world told shelf rest input old out) (world told shelf rest input new out_now) result

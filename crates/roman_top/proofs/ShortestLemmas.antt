@@ -56,7 +56,7 @@ shortened_is_run texts system seated old new result accepts writes =
 pub start_below : (library : PlainLibrary) (seated : Seated) → IsSeated library seated → seated.start < count (sizes_of (system_of seated.joint))
 start_below library seated is = subst (λ (n : NamedSys). seated.start < count (sizes_of (system_of n))) (sym is.parts) is.below
 
--- the depths of an document_opening document
+-- the depths of an opened document
 pub shortest_served : (system : List ℕ) (seated : Seated) (told told_now : Option Texts) (shelf shelf_now : ℕ) (old mid new : Option (List ℕ)) (out out_mid out_now : ℕ) (result : Status) →
     Opens IsSeated system (desk told shelf old out) (desk told_now shelf_now mid out_mid) (Ok seated) → Writes (ShortensSystem (system_of seated.joint) (start_pair seated)) mid new result → IsDone mid new result → SinkCause out_mid out_now result →
     ServedBeside (Some (On system Shortest)) (desk told shelf old out) (desk told_now shelf_now new out_now) result

@@ -56,29 +56,15 @@ reported_is_run texts system s old new result accepts writes =
 told_stops : (old new : Option (List ℕ)) (result : Status) → IsTold result → EndsBare old new result
 told_stops old new status.Done told = tt
 told_stops old new status.No told = tt
-told_stops old new status.Usage told = absurd told
-told_stops old new status.Refused told = absurd told
-told_stops old new status.Limit told = absurd told
-told_stops old new status.ShelfFault told = absurd told
-told_stops old new status.ReadFault told = absurd told
 told_stops old new status.WriteFault told = tt
-told_stops old new status.TooLong told = absurd told
-told_stops old new status.Memory told = absurd told
+told_stops old new _ told = absurd told
 
 -- nor did the shelf fail
 told_shelf : (old new : ℕ) (result : Status) → IsTold result → new ≡ old → ShelfCause old new result
-told_shelf old new status.Done told same = same
-told_shelf old new status.No told same = same
-told_shelf old new status.Usage told same = absurd told
-told_shelf old new status.Refused told same = absurd told
-told_shelf old new status.Limit told same = absurd told
 told_shelf old new status.ShelfFault told same = absurd told
-told_shelf old new status.ReadFault told same = absurd told
-told_shelf old new status.WriteFault told same = same
-told_shelf old new status.TooLong told same = absurd told
-told_shelf old new status.Memory told same = absurd told
+told_shelf old new _ told same = same
 
--- the report on the start of an document_opening document
+-- the report on the start of an opened document
 pub synth_served : (system : List ℕ) (s : Situation) (told told_now : Option Texts) (shelf shelf_now : ℕ) (old mid new : Option (List ℕ)) (out out_mid out_now : ℕ) (result : Status) →
     Opens IsStart system (desk told shelf old out) (desk told_now shelf_now mid out_mid) (Ok s) → Writes (Reports s) mid new result → IsTold result → SinkCause out_mid out_now result →
     ServedBeside (Some (On system Synth)) (desk told shelf old out) (desk told_now shelf_now new out_now) result

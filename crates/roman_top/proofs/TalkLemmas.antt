@@ -139,10 +139,9 @@ module _ (texts : Texts) (system : List ℕ) (start : Situation) (accepts : Acce
 
 -- which fault ended it
 sink_failed : (fault : Status) (heard : Result (Unit {0}) HearError) → (fault ≡ status.WriteFault → ⊥) → heard_status fault heard ≡ status.WriteFault → IsErrOf heard hear.WriteFault
-sink_failed fault (Ok x) other is = absurd (let e : ⊥ = cc in e)
 sink_failed fault (Err hear.ReadFault) other is = absurd (other is)
 sink_failed fault (Err hear.WriteFault) other is = refl
-sink_failed fault (Err hear.TooLong) other is = absurd (let e : ⊥ = cc in e)
+sink_failed fault _ other is = absurd (let e : ⊥ = cc in e)
 
 sink_failed_input : (heard : Result (Unit {0}) HearError) → heard_status status.ReadFault heard ≡ status.WriteFault → IsErrOf heard hear.WriteFault
 sink_failed_input heard is = sink_failed status.ReadFault heard (λ e. cc) is
@@ -151,16 +150,12 @@ sink_failed_shelf : (heard : Result (Unit {0}) HearError) → heard_status statu
 sink_failed_shelf heard is = sink_failed status.ShelfFault heard (λ e. cc) is
 
 input_failed : (heard : Result (Unit {0}) HearError) → heard_status status.ReadFault heard ≡ status.ReadFault → IsErrOf heard hear.ReadFault
-input_failed (Ok x) is = absurd (let e : ⊥ = cc in e)
 input_failed (Err hear.ReadFault) is = refl
-input_failed (Err hear.WriteFault) is = absurd (let e : ⊥ = cc in e)
-input_failed (Err hear.TooLong) is = absurd (let e : ⊥ = cc in e)
+input_failed _ is = absurd (let e : ⊥ = cc in e)
 
 shelf_failed : (heard : Result (Unit {0}) HearError) → heard_status status.ShelfFault heard ≡ status.ShelfFault → IsErrOf heard hear.ReadFault
-shelf_failed (Ok x) is = absurd (let e : ⊥ = cc in e)
 shelf_failed (Err hear.ReadFault) is = refl
-shelf_failed (Err hear.WriteFault) is = absurd (let e : ⊥ = cc in e)
-shelf_failed (Err hear.TooLong) is = absurd (let e : ⊥ = cc in e)
+shelf_failed _ is = absurd (let e : ⊥ = cc in e)
 
 -- the session has begun, so memory isn't asked for, and no other fault comes
 never_other : (fault other : Status) (heard : Result (Unit {0}) HearError) → (status.Done ≡ other → ⊥) → (fault ≡ other → ⊥) → (status.WriteFault ≡ other → ⊥) → (status.TooLong ≡ other → ⊥) →
@@ -183,9 +178,6 @@ never_input : (heard : Result (Unit {0}) HearError) → heard_status status.Shel
 never_input heard is = never_other status.ShelfFault status.ReadFault heard (λ e. cc) (λ e. cc) (λ e. cc) (λ e. cc) is
 
 -- counts of faults
-ok_stays : (fault : HearError) (old new : ℕ) (x : Unit {0}) → CausedBy fault old new (Ok x) → new ≡ old
-ok_stays fault old new x cause = cause.stayed (λ e. cc)
-
 shelf_stays : (old new : ℕ) (heard : Result (Unit {0}) HearError) → new ≡ old → ShelfCause old new (heard_status status.ReadFault heard)
 shelf_stays old new (Ok x) same = same
 shelf_stays old new (Err hear.ReadFault) same = same
@@ -193,23 +185,18 @@ shelf_stays old new (Err hear.WriteFault) same = same
 shelf_stays old new (Err hear.TooLong) same = same
 
 shelf_cause : (old mid new : ℕ) (heard : Result (Unit {0}) HearError) → mid ≡ old → CausedBy hear.ReadFault mid new heard → ShelfCause old new (heard_status status.ShelfFault heard)
-shelf_cause old mid new (Ok x) same cause = ok_stays hear.ReadFault mid new x cause ∙ same
 shelf_cause old mid new (Err hear.ReadFault) same cause = subst (λ (n : ℕ). Rose n new) same (cause.rose refl)
-shelf_cause old mid new (Err hear.WriteFault) same cause = cause.stayed (λ e. cc) ∙ same
-shelf_cause old mid new (Err hear.TooLong) same cause = cause.stayed (λ e. cc) ∙ same
+shelf_cause old mid new _ same cause = cause.stayed (λ e. cc) ∙ same
 
 input_cause : (old new : ℕ) (heard : Result (Unit {0}) HearError) → CausedBy hear.ReadFault old new heard → InputCause old new (heard_status status.ReadFault heard)
-input_cause old new (Ok x) cause = ok_stays hear.ReadFault old new x cause
 input_cause old new (Err hear.ReadFault) cause = cause.rose refl
-input_cause old new (Err hear.WriteFault) cause = cause.stayed (λ e. cc)
-input_cause old new (Err hear.TooLong) cause = cause.stayed (λ e. cc)
+input_cause old new _ cause = cause.stayed (λ e. cc)
 
 sink_cause : (old mid new : ℕ) (fault : Status) (heard : Result (Unit {0}) HearError) → mid ≡ old → CausedBy hear.WriteFault mid new heard → (new ≡ old → SinkCause old new fault) →
     SinkCause old new (heard_status fault heard)
-sink_cause old mid new fault (Ok x) same cause other = ok_stays hear.WriteFault mid new x cause ∙ same
 sink_cause old mid new fault (Err hear.ReadFault) same cause other = other (cause.stayed (λ e. cc) ∙ same)
 sink_cause old mid new fault (Err hear.WriteFault) same cause other = subst (λ (n : ℕ). Rose n new) same (cause.rose refl)
-sink_cause old mid new fault (Err hear.TooLong) same cause other = cause.stayed (λ e. cc) ∙ same
+sink_cause old mid new fault _ same cause other = cause.stayed (λ e. cc) ∙ same
 
 input_stays : (n : ℕ) (heard : Result (Unit {0}) HearError) → InputCause n n (heard_status status.ShelfFault heard)
 input_stays n (Ok x) = refl

@@ -74,7 +74,7 @@ pub record Accepts (opening : Opening) (Holds : PlainLibrary → Type 0) : Type 
   pub accepted : opening ≡ Accepted library
   pub holds : Holds library
 
--- a document is document_opening, or turned away with its line
+-- a document is opened, or turned away with its line
 abbrev pub OpensTo : {X : Type 0} → (PlainLibrary → X → Type 0) → Opening → Option (List ℕ) → Option (List ℕ) → Result X Status → Type 0
 OpensTo Holds opening old new (Ok x) = Accepts opening (λ library. Holds library x)
 OpensTo Holds opening old new (Err result) = Writes (TurnsAway opening) old new result
@@ -89,7 +89,7 @@ abbrev pub StopsIn : {X : Type 0} → Option (List ℕ) → Option (List ℕ) �
 StopsIn old new (Ok x) = new ≡ old
 StopsIn old new (Err result) = EndsBare old new result
 
--- such a document, a fault or running out of memory kept a document from being document_opening
+-- such a document, a fault or running out of memory kept a document from being opened
 abbrev pub IsAway : Status → Type 0
 IsAway status.Refused = Unit {0}
 IsAway status.Limit = Unit {0}
@@ -106,7 +106,7 @@ pub record Leaves {X : Type 0} (old new : Desk) (result : Result X Status) : Typ
   pub shelf : CauseIn ShelfCause old.shelf_faults new.shelf_faults result
   pub out : CauseIn SinkCause old.out_faults new.out_faults result
 
--- the document of that name is document_opening or turned away
+-- the document of that name is opened or turned away
 pub record Opens {X : Type 0} (Holds : PlainLibrary → X → Type 0) (name : List ℕ) (old new : Desk) (result : Result X Status) : Type 0 where
   pub opens : IfSome old.texts (λ texts. OpensTo Holds (document_opening texts name) old.written new.written result)
   pub leaves : Leaves old new result
