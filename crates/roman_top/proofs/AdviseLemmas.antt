@@ -1,5 +1,5 @@
 -- Advice by costs that were read, as part of a run.
-use Rattle.std.proofs.Common.{◌≡◌, ◌≢◌, ◌↔◌, ℕ, ◌*◌, ◌<◌, ◌≤◌, inl, inr, Bool, IsTrue, IsFalse, List, [], Option, Some, IfSome, Result, Ok, Err, refl, sym, ap, ◌∙◌, subst}
+use Rattle.std.proofs.Common.{◌≡◌, ◌≢◌, ◌↔◌, ℕ, ◌*◌, ◌<◌, ◌≤◌, inl, inr, Bool, IsTrue, IsFalse, List, Option, Some, IfSome, Result, Ok, Err, refl, sym, ap, ◌∙◌, subst}
 use Rattle.std.proofs.lemmas.Bool.{cond-true, cond-false, lt-ltb, le-ltb, cases_lt}
 use Rattle.roman_io.specs.Faults.{HasCause}
 use Rattle.roman_io.specs.Shelf.{Texts}

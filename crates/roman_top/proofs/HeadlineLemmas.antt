@@ -1,5 +1,5 @@
 -- What was written of a session keeps its word.
-use Rattle.std.proofs.Common.{◌≡◌, ℕ, Bool, true, false, MatchBool, cond, List, [], ◌∷◌, ◌++◌, Option, None, Some, map, refl, sym, ap, ap₂, ◌∙◌}
+use Rattle.std.proofs.Common.{◌≡◌, ℕ, Bool, true, false, MatchBool, cond, List, [], ◌∷◌, ◌++◌, Option, Some, map, refl, sym, ap, ap₂, ◌∙◌}
 use Rattle.std.specs.List.{flat_map}
 use Rattle.roman_io.specs.Shelf.{Texts}
 use Rattle.roman_model.specs.Lines.{lines, ended_lines}
@@ -15,7 +15,7 @@ use Rattle.roman_hearing.specs.Told.{until_quit, Answers}
 use Rattle.roman_hearing.specs.Hearing.{prefix_of, is_heard_out, heard_lines}
 use Rattle.roman_hearing.specs.Known.{IsKnownSituation}
 use Rattle.roman_hearing.proofs.CallerLemmas.{steps_known, answers_great, open_great, reports_great}
-use Rattle.roman_top.specs.Command.{Synth, Run, Certify, Check, Shortest, Advise, Resilience, Command, On, Make}
+use Rattle.roman_top.specs.Command.{Synth, Run, Command, On}
 use Rattle.roman_top.specs.Headline.{Turn, line_of, turn_text, AreTurns, AnswersLines, KeepsPromise, HasHeadline}
 use Rattle.roman_top.specs.Opening.{Accepted, document_opening}
 use Rattle.roman_top.specs.Run.{Talks, Synthesises, HasRun, texts_for}

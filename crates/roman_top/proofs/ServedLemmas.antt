@@ -7,7 +7,7 @@ use Rattle.roman_io.specs.Source.{Gave}
 use Rattle.roman_io.proofs.CallerLemmas.{Gave-nil}
 use Rattle.roman_library.specs.Library.{PlainLibrary}
 use Rattle.roman_top.specs.Causes.{ShelfCause, InputCause, SinkCause}
-use Rattle.roman_top.specs.Command.{Job, Synth, Run, Certify, Check, Shortest, Advise, Resilience, Command, On, Make, usage_line}
+use Rattle.roman_top.specs.Command.{Job, Run, Command, On, Make, usage_line}
 use Rattle.roman_top.specs.Endings.{WritesText, WritesPrefix, Writes, EndsBare, DoesJob, TurnsAway, IsAway, Opens, Finishes, IsDone}
 use Rattle.roman_top.specs.Faults.{IsFree, AtShelfFault, HasRunPrefix, IsOfTaken, EndsInput}
 use Rattle.roman_top.specs.Opening.{document_opening, OnOpening}

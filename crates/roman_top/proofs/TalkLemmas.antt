@@ -1,5 +1,5 @@
 -- Sessions, as part of a run.
-use Rattle.std.proofs.Common.{◌≡◌, ℕ, ◌+◌, List, [], Option, None, Some, IfSome, Result, Ok, Err, OnOk, IsErrOf, IsTrue, IsFalse, ◌⊎◌, inl, inr, refl, sym, ◌∙◌, subst}
+use Rattle.std.proofs.Common.{◌≡◌, ℕ, ◌+◌, List, Option, None, Some, IfSome, Result, Ok, Err, OnOk, IsErrOf, IsTrue, IsFalse, ◌⊎◌, inl, inr, refl, sym, ◌∙◌, subst}
 use Rattle.std.proofs.lemmas.Bool.{cond-true, cond-false}
 use Rattle.roman_io.specs.Faults.{Rose}
 use Rattle.roman_io.specs.Shelf.{Texts, shelf_text, rest_from}

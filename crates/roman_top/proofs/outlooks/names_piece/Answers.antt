@@ -1,4 +1,4 @@
-use Rattle.std.proofs.Common.{◌≡◌, ℕ, List, ◌++◌, codes, sym, ap, ◌∙◌}
+use Rattle.std.proofs.Common.{ℕ, List, ◌++◌, codes, sym, ap, ◌∙◌}
 use Rattle.roman_whatif.specs.Left.{places}
 use Rattle.roman_top.specs.Outlooks.{service_names}
 use Rattle.roman_top.proofs.OutlookLemmas.{one_named, two_named}

@@ -1,8 +1,8 @@
-use Rattle.std.proofs.Common.{◌≡◌, ℕ, ◌+◌, ◌<◌, ◌≤◌, List, [], ◌∷◌, ◌++◌, refl, ap₂, ◌∙◌}
+use Rattle.std.proofs.Common.{ℕ, List, ◌++◌, refl, ap₂, ◌∙◌}
 use Rattle.roman_text.proofs.CallerLemmas.{fill_behind, fill_more, fill_failed, fill_last}
 use Rattle.roman_whatif.specs.Left.{places}
 use Rattle.roman_whatif.specs.Told.{told}
-use Rattle.roman_top.specs.Outlooks.{outlook_words, way_word}
+use Rattle.roman_top.specs.Outlooks.{outlook_words}
 use Rattle.roman_top.proofs.OutlookLemmas.{line_pieces}
 use Rattle.roman_top.proofs.outlooks.push_line.Goals as goal
 
