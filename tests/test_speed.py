@@ -16,7 +16,7 @@ LIMIT = 16_777_216
 # Millions of instructions of each command on each system; `talk` is `run` with many requests.
 INSTRUCTIONS = {
     "workers": {"synth": 21.7, "certify": 37.5, "check": 34.1, "run": 280.1, "shortest": 26.6, "resilience": 796.0},
-    "lamps": {"synth": 21.6, "certify": 57.3, "check": 67.0, "run": 411.5, "shortest": 32.9, "talk": 40.8},
+    "lamps": {"synth": 21.6, "certify": 57.3, "check": 67.0, "run": 411.5, "shortest": 32.9, "talk": 37.8},
     "cycle": {"synth": 163.1, "shortest": 170.4},
 }
 # Megabytes of each command on each system.
