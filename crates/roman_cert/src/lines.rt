@@ -1,5 +1,5 @@
 //! The lines of an explanation.
-ghost use Rattle.std.specs.Prelude.{◌≡◌, ◌<◌, ◌≤◌, ◌++◌, [], ◌∷◌, length, codes, slice_index, IfSome};
+ghost use Rattle.std.specs.Prelude.{◌≡◌, ◌<◌, ◌≤◌, ◌++◌, [], ◌∷◌, length, codes, slice_index};
 ghost use Rattle.std.specs.Option.{ForSome, option_map};
 ghost use Rattle.roman_io.specs.Faults.{HasCause};
 ghost use Rattle.roman_text.specs.Pages.{Gathers};

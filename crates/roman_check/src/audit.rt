@@ -8,7 +8,7 @@ ghost use Rattle.roman_lanes.specs.Rows.{AreRows};
 ghost use Rattle.roman_rules.specs.Asked.{HoldsWhereKept, IsReasonOf};
 ghost use Rattle.roman_check.specs.Readings.{entry_with};
 ghost use Rattle.roman_check.specs.Verdicts.{fault_of};
-ghost use Rattle.roman_check.specs.Audits.{IsInRows, HasListed, HasRead, Judges};
+ghost use Rattle.roman_check.specs.Audits.{IsInRows, HasListed, Judges};
 
 use crate::entries::{entry, is_count, is_end, is_head};
 use crate::missing::first_missing;

@@ -1,5 +1,5 @@
 //! The check of a certificate.
-ghost use Rattle.std.specs.Prelude.{◌≡◌, ◌≢◌, ℕ, ◌+◌, ◌<◌, ◌≤◌, [], length, Err, IfOk, IsErrOf};
+ghost use Rattle.std.specs.Prelude.{◌≡◌, ◌≢◌, ◌+◌, ◌<◌, [], length, Err, IfOk, IsErrOf};
 ghost use Rattle.roman_io.specs.Faults.{Rose};
 ghost use Rattle.roman_io.specs.Source.{IsAtEnd, GaveAtMost};
 ghost use Rattle.roman_model.specs.Certificate.{TooLong};

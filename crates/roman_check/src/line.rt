@@ -1,5 +1,5 @@
 //! A line that isn't read to its end yet.
-ghost use Rattle.std.specs.Prelude.{ℕ, ◌≡◌, ◌<◌, [], ◌∷◌, ◌++◌, List, length, IsTrue, ◌↔◌, MatchOption};
+ghost use Rattle.std.specs.Prelude.{ℕ, ◌≡◌, ◌<◌, [], ◌++◌, List, length, IsTrue, ◌↔◌, MatchOption};
 ghost use Rattle.roman_check.specs.Lines.{Holds};
 
 /// As many bytes as each line has that isn't at fault, and some more.

@@ -1,5 +1,5 @@
 -- Listed costs, and the cells that tell them.
-use Rattle.std.proofs.Common.{◌≡◌, ◌≢◌, ℕ, zero, suc, ◌+◌, ◌-◌, ◌*◌, ◌<◌, ◌≤◌, ◌==◌, ◌&&◌, Bool, true, false, cond, not, List, [], ◌∷◌, ◌++◌, length, get_or, set, Option, Some, None, unwrap_or, is_some, slice_get, slice_index, All, IsTrue, IsFalse, inl, inr, refl, sym, ap, ◌∙◌, subst, arith}
+use Rattle.std.proofs.Common.{◌≡◌, ◌≢◌, ℕ, zero, suc, ◌+◌, ◌-◌, ◌*◌, ◌<◌, ◌≤◌, ◌==◌, ◌&&◌, Bool, true, false, cond, List, [], ◌∷◌, ◌++◌, length, get_or, set, Option, Some, None, unwrap_or, slice_get, slice_index, All, IsTrue, IsFalse, inl, inr, refl, sym, ap, ◌∙◌, subst, arith}
 use Rattle.std.specs.Option.{option_or}
 use Rattle.std.proofs.lemmas.Bool.{cases_order, eq-eqb, eqb-true, and_parts, and_from, cond-false, cond-true}
 use Rattle.std.proofs.lemmas.Nat.{mul-add-lt}
@@ -102,13 +102,6 @@ seat_costs_small n listed each k a = by (slice_get n.seats k)
     by (Some seat) = cost_of_small listed each seat.behaviour a
 
 -- What a cell tells.
-
-pub cell_told : (o : Option ℕ) (cell : ℕ) → cell ≡ cell_of o → not (cell == 0) ≡ is_some o
-cell_told None cell e = ap (λ n. not (n == 0)) e
-cell_told (Some c) cell e = ap (λ n. not (n == 0)) e ∙ ap not (other c)
-  where
-    other : (c : ℕ) → (c + 1 == 0) ≡ false
-    other c = by_test (c + 1 == 0) (λ t. let z : c + 1 ≡ 0 = eqb-true (c + 1) 0 t in absurd (omega arith)) (λ f. f)
 
 pub cell_less : (o : Option ℕ) (cell : ℕ) → cell ≡ cell_of o → cell - 1 ≡ unwrap_or o 0
 cell_less None cell e = omega arith

@@ -1,6 +1,5 @@
 -- The text of advice tells least costs.
 use Rattle.std.proofs.Common.{◌≡◌, ℕ, ◌-◌, List, ◌++◌, codes, sym, ap}
-use Rattle.std.specs.Prelude.{suc}
 use Rattle.std.specs.List.{flat_map}
 use Rattle.roman_model.specs.Composition.{Great}
 use Rattle.roman_model.specs.Numbers.{sizes_of, number, pair_at}

@@ -3,7 +3,7 @@ use Rattle.std.proofs.Common.{◌≡◌, ℕ, zero, suc, ◌+◌, ◌-◌, ◌*�
 use Rattle.std.proofs.Math.Nat.{mul-le-mul_left}
 use Rattle.std.proofs.Math.Seq.{drop-append_seam}
 use Rattle.std.proofs.lemmas.Bool.{cases_eq}
-use Rattle.std.proofs.lemmas.List.{take-append-le, drop-append-le, length-drop, length-map, take_more, map_push, take_all}
+use Rattle.std.proofs.lemmas.List.{take-append-le, drop-append-le, length-drop, length-map, take_more, map_push}
 use Rattle.roman_model.specs.Lists.{IsIn, below}
 use Rattle.roman_model.specs.System.{Sys}
 use Rattle.roman_model.specs.Numbers.{sizes_of, pair_at}
@@ -118,9 +118,3 @@ row_more f rows pairs values new i value l before is next =
     append_again : (xs ys zs : List ℕ) → (xs ++ ys) ++ zs ≡ xs ++ (ys ++ zs)
     append_again [] ys zs = refl
     append_again (x ∷ xs) ys zs = ap (λ ws. x ∷ ws) (append_again xs ys zs)
-
--- a row that is done
-pub row_done : (s : Sys) (C : Costs) (pairs values : List ℕ) (n i : ℕ) → length pairs ≤ i → values ≡ value_rows s C pairs n ++ map (least_at s C n) (take i pairs) →
-    values ≡ value_rows s C pairs (suc n)
-row_done s C pairs values n i l is =
-    is ∙ ap (λ ps. value_rows s C pairs n ++ map (least_at s C n) ps) (take_all i pairs l) ∙ sym (flat_map_row (λ h. map (least_at s C h) pairs) n)

@@ -1,5 +1,5 @@
 //! Advice: the least that requests cost at worst.
-ghost use Rattle.std.specs.Prelude.{◌≡◌, ℕ, suc, ◌+◌, ◌-◌, ◌*◌, ◌<◌, ◌≤◌, ◌↔◌, length, Err, IfOk, IsTrue};
+ghost use Rattle.std.specs.Prelude.{◌≡◌, ◌+◌, ◌-◌, ◌*◌, ◌<◌, ◌≤◌, ◌↔◌, Err, IfOk, IsTrue};
 ghost use Rattle.roman_model.specs.Lists.{IsIn};
 ghost use Rattle.roman_model.specs.System.{Sys};
 ghost use Rattle.roman_model.specs.SystemArena.{is_allowed};
@@ -37,7 +37,7 @@ pub struct Advice {
 }
 
 impl Model for Advice {
-    ghost use Rattle.std.specs.Prelude.{◌≡◌, ◌+◌, ◌*◌, ◌≤◌, length};
+    ghost use Rattle.std.specs.Prelude.{◌≡◌, ◌+◌, ◌*◌, ◌≤◌};
     ghost use Rattle.roman_cost.specs.Advised.{AdviceTable, HasRanks};
 
     ghost Value = { AdviceTable };

@@ -1,13 +1,13 @@
 //! Looks into a text of costs, with the refusal of what is missed.
 ghost use Rattle.std.specs.Prelude.{◌≡◌, ◌<◌, true, false, map, length, IfOk};
 ghost use Rattle.serde_json.specs.View.{view, items_view};
-ghost use Rattle.roman_read.specs.Json.{list_of, text_of, number_of};
+ghost use Rattle.roman_read.specs.Json.{list_of, number_of};
 ghost use Rattle.roman_read.specs.declared.rules.Kind.TheVariants.{Form};
 ghost use Rattle.roman_parts.specs.Lists.{place_in};
 ghost use Rattle.roman_parts.specs.Reading.{looked};
 ghost use Rattle.roman_parts.specs.declared.error.List.TheVariants as list;
 ghost use Rattle.roman_joint.specs.Names.{beh_name};
-ghost use Rattle.roman_cost.specs.Refusals.{ReadsAs, IsFaultless, place_of_rule};
+ghost use Rattle.roman_cost.specs.Refusals.{ReadsAs, IsFaultless};
 ghost use Rattle.roman_cost.specs.declared.error.CostError.TheVariants.{Refused};
 
 use crate::error::CostError;

@@ -1,6 +1,5 @@
 //! What is worst of the outcomes of a delegation.
-ghost use Rattle.std.specs.Prelude.{◌≡◌, ◌+◌, ◌*◌, ◌^◌, ◌<◌, All, map, max};
-ghost use Rattle.std.specs.List.{flat_map};
+ghost use Rattle.std.specs.Prelude.{◌≡◌, ◌+◌, ◌*◌, ◌^◌, ◌<◌, All, max};
 ghost use Rattle.roman_model.specs.Plans.{max_over};
 ghost use Rattle.roman_joint.specs.Outcomes.{outcome_number, outcome_numbers};
 ghost use Rattle.roman_cost.specs.Filling.{ranked, IsRanked};

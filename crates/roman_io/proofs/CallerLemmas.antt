@@ -1,6 +1,6 @@
 -- What the proofs of other crates may cite of this one. All else in proofs/ can be renamed freely.
 
 -- What several puts wrote together.
-pub use Rattle.roman_io.proofs.SinkLemmas.{Puts-after, Wrote-nil, Wrote-then, WrotePrefix-after, WrotePrefix-append, WrotePrefix-from_Puts}
+pub use Rattle.roman_io.proofs.SinkLemmas.{Puts-after, Wrote-nil, Wrote-then, WrotePrefix-after, WrotePrefix-append}
 -- What several takes moved together.
 pub use Rattle.roman_io.proofs.SourceLemmas.{Gave-nil, Gave-then, Gave-told}

@@ -1,4 +1,3 @@
-pub mod FaultLemmas
 pub mod ShelfLemmas
 pub mod SinkLemmas
 pub mod SourceLemmas

@@ -1,6 +1,6 @@
 -- What several puts wrote together.
 use Rattle.std.proofs.Common.{◌≡◌, ℕ, ◌+◌, ◌≤◌, List, [], ◌++◌, length, take, min, Option, None, Some, Result, Ok, Err, sym, ap, ◌∙◌, arith, append_assoc}
-use Rattle.std.proofs.lemmas.List.{append-nil, take_all, take-append-le, take_min}
+use Rattle.std.proofs.lemmas.List.{append-nil, take-append-le, take_min}
 use Rattle.std.proofs.Math.Seq.{take-append-add}
 use Rattle.roman_io.specs.Sink.{Wrote, WrotePrefix, Puts}
 
@@ -31,18 +31,6 @@ WrotePrefix-append None (Some new) piece rest p = p
 WrotePrefix-append (Some old) None piece rest p = p
 WrotePrefix-append (Some old) (Some new) piece rest p = (min p.0 (length piece), p.1 ∙ ap (λ (xs : List ℕ). old ++ xs) (prefix_shorter p.0 piece rest))
 
--- nothing is a prefix of every piece
-pub WrotePrefix-nil : (told : Option (List ℕ)) (piece : List ℕ) → WrotePrefix told told piece
-WrotePrefix-nil None piece = tt
-WrotePrefix-nil (Some old) piece = (0, sym (append-nil old))
-
--- the whole piece is a prefix of itself
-pub WrotePrefix-from_Wrote : (old new : Option (List ℕ)) (piece : List ℕ) → Wrote old new piece → WrotePrefix old new piece
-WrotePrefix-from_Wrote None None piece p = tt
-WrotePrefix-from_Wrote None (Some new) piece p = p
-WrotePrefix-from_Wrote (Some old) None piece p = p
-WrotePrefix-from_Wrote (Some old) (Some new) piece p = (length piece, p ∙ ap (λ (xs : List ℕ). old ++ xs) (sym (take_all (length piece) piece (omega arith))))
-
 -- one piece and then a prefix of another: a prefix of both, one after the other
 pub WrotePrefix-after : (old mid new : Option (List ℕ)) (first second : List ℕ) → Wrote old mid first → WrotePrefix mid new second → WrotePrefix old new (first ++ second)
 WrotePrefix-after None None None first second p q = tt
@@ -53,22 +41,7 @@ WrotePrefix-after (Some old) (Some mid) None first second p q = q
 WrotePrefix-after (Some old) (Some mid) (Some new) first second p q =
     (length first + q.0, q.1 ∙ (ap (λ (xs : List ℕ). xs ++ take q.0 second) p ∙ (append_assoc old first (take q.0 second) ∙ ap (λ (xs : List ℕ). old ++ xs) (sym (take-append-add first second q.0)))))
 
--- an error in a later put: a prefix of all that was to be written
-pub WrotePrefix-middle : (old mid new : Option (List ℕ)) (first second rest : List ℕ) → Wrote old mid first → WrotePrefix mid new second → WrotePrefix old new (first ++ (second ++ rest))
-WrotePrefix-middle old mid new first second rest p q =
-    WrotePrefix-after old mid new first (second ++ rest) p (WrotePrefix-append mid new second rest q)
-
 -- a put after others: all of it at Ok, a prefix at an error
 pub Puts-after : {T E : Type 0} (old mid new : Option (List ℕ)) (first second : List ℕ) (result : Result T E) → Wrote old mid first → Puts mid new second result → Puts old new (first ++ second) result
 Puts-after old mid new first second (Ok x) p q = Wrote-then old mid new first second p q
 Puts-after old mid new first second (Err e) p q = WrotePrefix-after old mid new first second p q
-
--- whatever the answer, a prefix was written
-pub WrotePrefix-from_Puts : {T E : Type 0} (old new : Option (List ℕ)) (piece : List ℕ) (result : Result T E) → Puts old new piece result → WrotePrefix old new piece
-WrotePrefix-from_Puts old new piece (Ok x) p = WrotePrefix-from_Wrote old new piece p
-WrotePrefix-from_Puts old new piece (Err e) p = p
-
--- where the sink told before, it tells after
-pub Wrote-told : (old : List ℕ) (new : Option (List ℕ)) (piece : List ℕ) → Wrote (Some old) new piece → new ≡ Some (old ++ piece)
-Wrote-told old None piece p = absurd p
-Wrote-told old (Some new) piece p = ap Some p

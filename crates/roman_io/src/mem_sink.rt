@@ -1,5 +1,5 @@
 //! A sink in memory whose calls can be made to fail.
-ghost use Rattle.std.specs.Prelude.{◌≡◌, ◌/◌, ◌++◌, ◌⊎◌, [], length, take, not, Some, true, false, OnOk, OnErr};
+ghost use Rattle.std.specs.Prelude.{◌≡◌, ◌/◌, ◌++◌, ◌⊎◌, [], length, take, Some, true, false, OnOk, OnErr};
 ghost use Rattle.roman_io.specs.Calls.{no_calls, is_failing, after_call, after_failed};
 ghost use Rattle.roman_io.specs.Faults.{HasCause};
 ghost use Rattle.roman_io.specs.Memory.{SinkState};

@@ -1,5 +1,5 @@
 //! Which pairs of a row don't meet clause 2.
-ghost use Rattle.std.specs.Prelude.{◌≡◌, ℕ, ◌+◌, ◌*◌, ◌/◌, ◌%◌, ◌<◌, ◌≤◌, Bool, not, ◌&&◌, ◌||◌, length, slice_get, slice_index};
+ghost use Rattle.std.specs.Prelude.{◌≡◌, ℕ, ◌+◌, ◌*◌, ◌/◌, ◌%◌, ◌<◌, ◌≤◌, not, length, slice_get, slice_index};
 ghost use Rattle.roman_model.specs.Numbers.{sizes_of, pair_at, numbered};
 ghost use Rattle.roman_radix.specs.Radix.{stride_of};
 ghost use Rattle.roman_lanes.specs.Rows.{is_on, HasLanes};

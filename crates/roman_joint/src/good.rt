@@ -1,16 +1,14 @@
 //! At which pairs of a row a seat serves an action, and how many seats do.
-ghost use Rattle.std.specs.Prelude.{◌≡◌, ℕ, ◌+◌, ◌*◌, ◌<◌, ◌≤◌, Bool, not, ◌&&◌, false, length, slice_get, slice_index, sum_by, All};
+ghost use Rattle.std.specs.Prelude.{◌≡◌, ℕ, ◌+◌, ◌*◌, ◌<◌, ◌≤◌, Bool, not, ◌&&◌, false, length, sum_by};
 ghost use Rattle.roman_model.specs.Lists.{below};
 ghost use Rattle.roman_model.specs.System.{has};
-ghost use Rattle.roman_model.specs.SystemArena.{seat_next};
 ghost use Rattle.roman_model.specs.Arena.{is_beaten, is_justified, mask as mask_of};
 ghost use Rattle.roman_model.specs.Numbers.{sizes_of, count, numbered};
 ghost use Rattle.roman_model.specs.declared.reason.Reason.TheVariants.{Act};
-ghost use Rattle.roman_radix.specs.Radix.{stride_of};
 ghost use Rattle.roman_lanes.specs.Rows.{is_on, HasLanes, AreRows};
 ghost use Rattle.roman_rules.specs.Bits.{HasBits};
 ghost use Rattle.roman_joint.specs.NamedSys.{system_of};
-ghost use Rattle.roman_joint.specs.Rows.{lanes_in, low_in, lane_has_state, IsRow, IsTurn, AreAlive};
+ghost use Rattle.roman_joint.specs.Rows.{lanes_in, low_in, IsRow, IsTurn, AreAlive};
 ghost use Rattle.roman_joint.specs.declared.row.Row.{Row};
 ghost use Rattle.roman_joint.specs.declared.turn.Turn.{Turn};
 

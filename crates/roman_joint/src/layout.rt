@@ -1,5 +1,5 @@
 //! How the numbers of pairs split into rows and lanes.
-ghost use Rattle.std.specs.Prelude.{◌≡◌, ◌≢◌, ℕ, ◌/◌, ◌<◌, ◌≤◌, ltb, length, slice_index, if◌then◌else◌, true};
+ghost use Rattle.std.specs.Prelude.{◌≡◌, ◌≢◌, ℕ, ◌/◌, ◌<◌, ◌≤◌, ltb, if◌then◌else◌, true};
 ghost use Rattle.roman_lanes.specs.Rows.{is_on};
 ghost use Rattle.roman_joint.specs.Rows.{lane_has_state, AreRowsOf};
 

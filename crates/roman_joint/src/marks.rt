@@ -9,7 +9,7 @@ ghost use Rattle.roman_lanes.specs.Flags.{has_flag};
 ghost use Rattle.roman_joint.specs.NamedSys.{system_of};
 ghost use Rattle.roman_joint.specs.Backward.{from_seat, from_target, from_env, from_action};
 ghost use Rattle.roman_joint.specs.Rows.{lanes_in, low_in, IsRow};
-ghost use Rattle.roman_joint.specs.Marks.{IsMarked, Grows, row_at, MarksSeat, MarksTurn, MarksEnv, MarksAction, IsAt};
+ghost use Rattle.roman_joint.specs.Marks.{IsMarked, Grows, MarksSeat, MarksTurn, MarksEnv, MarksAction, IsAt};
 
 use crate::joint::Joint;
 use crate::row::Row;

@@ -1,6 +1,6 @@
 //! Moves of services within the lanes: for each of them, each action and each state of the environment
 //! the lanes that have an outcome, and together those that go the same way.
-ghost use Rattle.std.specs.Prelude.{◌≡◌, ℕ, ◌+◌, ◌-◌, ◌*◌, ◌<◌, ◌≤◌, ◌++◌, ◌∷◌, [], ◌==◌, ◌^◌, if◌then◌else◌, length, slice_index, slice_range, vec_len, vec_capacity, IfOk};
+ghost use Rattle.std.specs.Prelude.{◌≡◌, ◌+◌, ◌-◌, ◌*◌, ◌<◌, ◌≤◌, ◌++◌, ◌∷◌, [], ◌==◌, ◌^◌, if◌then◌else◌, length, slice_index, slice_range, vec_len, vec_capacity, IfOk};
 ghost use Rattle.roman_radix.specs.Rows.{low_of};
 ghost use Rattle.roman_joint.specs.NamedSys.{NamedSys, system_of};
 ghost use Rattle.roman_joint.specs.Rows.{AreRowsOf};

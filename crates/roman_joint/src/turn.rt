@@ -1,5 +1,5 @@
 //! Where an action leads from a row, whoever serves it.
-ghost use Rattle.std.specs.Prelude.{◌≡◌, ℕ, ◌<◌, IsFalse, MatchOption};
+ghost use Rattle.std.specs.Prelude.{ℕ, ◌<◌, IsFalse, MatchOption};
 ghost use Rattle.roman_joint.specs.NamedSys.{system_of};
 ghost use Rattle.roman_joint.specs.Rows.{IsRow, IsTurn, is_open};
 

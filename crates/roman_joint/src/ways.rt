@@ -1,5 +1,5 @@
 //! The ways that a service within the lanes goes on one action while the environment is in one state.
-ghost use Rattle.std.specs.Prelude.{◌≡◌, ℕ, ◌+◌, ◌<◌, ◌≤◌, ◌==◌, Bool, ◌&&◌, ◌||◌, All, length, slice_index};
+ghost use Rattle.std.specs.Prelude.{◌≡◌, ℕ, ◌+◌, ◌<◌, ◌≤◌, ◌==◌, ◌&&◌, ◌||◌, All, length, slice_index};
 ghost use Rattle.std.specs.List.{list_any};
 ghost use Rattle.roman_radix.specs.Rows.{low_of};
 ghost use Rattle.roman_lanes.specs.Rows.{is_on};

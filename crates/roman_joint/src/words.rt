@@ -1,5 +1,5 @@
 //! Words of lanes: what several rows have in common.
-ghost use Rattle.std.specs.Prelude.{◌≡◌, ℕ, ◌+◌, ◌-◌, ◌*◌, ◌^◌, ◌<◌, ◌≤◌, Bool, false, not, true, ◌&&◌, ◌||◌, All, length, slice_index};
+ghost use Rattle.std.specs.Prelude.{◌≡◌, ℕ, ◌+◌, ◌-◌, ◌*◌, ◌^◌, ◌<◌, ◌≤◌, false, not, true, ◌&&◌, ◌||◌, All, length, slice_index};
 ghost use Rattle.std.specs.List.{list_any};
 ghost use Rattle.roman_model.specs.Lists.{IsIn};
 ghost use Rattle.roman_lanes.specs.Rows.{is_on};

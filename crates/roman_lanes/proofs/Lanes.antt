@@ -1,6 +1,6 @@
 -- Lanes without a bit.
-use Rattle.std.proofs.Common.{◌≡◌, ℕ, ◌+◌, ◌-◌, ◌*◌, ◌<◌, ◌≤◌, zero, suc, Bool, true, false, not, cond, eqb, List, [], ◌∷◌, length, map, drop, get_or, bit_or, refl, sym, ap, ◌∙◌, arith, eqb-true}
-use Rattle.std.specs.Simd.Lanes.{zip2, chunk, mask_l}
+use Rattle.std.proofs.Common.{◌≡◌, ℕ, ◌+◌, ◌-◌, ◌*◌, ◌<◌, ◌≤◌, zero, suc, Bool, true, false, not, cond, List, [], ◌∷◌, length, drop, get_or, bit_or, refl, sym, ap, ◌∙◌, arith}
+use Rattle.std.specs.Simd.Lanes.{zip2, chunk}
 use Rattle.std.proofs.lemmas.Nat.{le_or_l, le_or_r}
 use Rattle.std.proofs.lemmas.List.{get_or-take, get_or-drop}
 use Rattle.roman_lanes.specs.Words.{AreClear}
@@ -24,13 +24,6 @@ either_clear (x ∷ xs) (y ∷ ys) same clear =
 unset : (t : Bool) (n : ℕ) → cond (not t) 1 0 + 2 * n ≡ 0 → (t ≡ true) × (n ≡ 0)
 unset true n e = (refl, omega arith)
 unset false n e = absurd (omega arith)
-
-pub clear_of_mask : (xs : List ℕ) → mask_l (map (λ x. not (eqb x 0)) xs) ≡ 0 → AreClear xs
-clear_of_mask [] e = λ i. refl
-clear_of_mask (x ∷ xs) e =
-    let here = unset (eqb x 0) (mask_l (map (λ y. not (eqb y 0)) xs)) e in
-    let rest = clear_of_mask xs here.1 in
-    elim [ zero ↦ eqb-true _ _ here.0 | suc i ↦ rest i ]
 
 -- an element of a block is one of the list
 in_chunk : (at n i : ℕ) (xs : List ℕ) → i < n → get_or (chunk at n xs) i 0 ≡ get_or xs (at + i) 0

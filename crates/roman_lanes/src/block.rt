@@ -1,6 +1,6 @@
 //! Blocks of neighbouring words or numbers, as vectors.
 ghost use Rattle.std.specs.Prelude.{◌≡◌, ℕ, ◌+◌, ◌<◌, ◌≤◌, length, slice_index, count_by, ◌==◌, IsTrue};
-ghost use Rattle.std.specs.Simd.Lanes.{chunk, zip2};
+ghost use Rattle.std.specs.Simd.Lanes.{chunk};
 ghost use Rattle.roman_lanes.specs.Words.{AreClear};
 
 use std::simd::prelude::*;

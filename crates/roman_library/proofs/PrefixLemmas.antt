@@ -1,5 +1,5 @@
 -- How the prefix of a text grows.
-use Rattle.std.proofs.Common.{◌≡◌, ℕ, ◌+◌, ◌≤◌, List, [], ◌++◌, length, take, drop, sym, ◌∙◌, ap, subst, arith, append-nil, length-append, Option, None, Some, IfSome}
+use Rattle.std.proofs.Common.{◌≡◌, ℕ, ◌+◌, ◌≤◌, List, ◌++◌, length, take, drop, sym, ◌∙◌, ap, subst, length-append, Option, None, Some, IfSome}
 use Rattle.std.proofs.lemmas.List.{take-append-drop, length-take-le}
 use Rattle.std.proofs.Math.Seq.{take-append-add}
 use Rattle.roman_io.specs.Shelf.{Texts, Fetches, shelf_text}
@@ -18,17 +18,6 @@ prefix_more bytes piece text n prefix same within =
     let taken : take (length bytes + n) (bytes ++ drop (length bytes) text) ≡ bytes ++ take n piece =
     take-append-add bytes (drop (length bytes) text) n ∙ ap (λ xs. bytes ++ xs) (sym same) in
     record { same = rw size (subst (λ t. take (length bytes + n) t ≡ bytes ++ take n piece) (prefix_rest bytes text prefix) taken) }
-
--- where nothing is left behind the prefix, it is the text
-pub prefix_all : (bytes text : List ℕ) → IsPrefix bytes text → drop (length bytes) text ≡ [] → text ≡ bytes
-prefix_all bytes text prefix end =
-    sym (prefix_rest bytes text prefix) ∙ ap (λ xs. bytes ++ xs) end ∙ append-nil bytes
-
--- a prefix is no longer than its text
-pub prefix_short : (bytes text : List ℕ) → IsPrefix bytes text → length bytes ≤ length text
-prefix_short bytes text prefix =
-    let e = ap length (prefix_rest bytes text prefix) in
-    omega (arith, length-append bytes (drop (length bytes) text), e)
 
 -- the same of a text of a shelf, where it is told
 pub fetched_more : (o : Option Texts) (name bytes into : List ℕ) (n : ℕ) → IfSome o (λ ts. IsPrefix bytes (shelf_text ts name)) →

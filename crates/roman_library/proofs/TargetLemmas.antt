@@ -1,7 +1,6 @@
 -- Several targets of a document, and what is made of them.
-use Rattle.std.proofs.Common.{◌≡◌, ℕ, ◌<◌, List, [], ◌∷◌, ◌++◌, map, length, get_or, All, IfSome, Option, Some, None, Ok, Err, slice_get, refl, sym, ap, ◌∙◌, subst}
+use Rattle.std.proofs.Common.{◌≡◌, ◌<◌, List, [], ◌∷◌, map, length, get_or, All, IfSome, Option, Some, None, Ok, Err, slice_get, refl, sym, ap, subst}
 use Rattle.std.proofs.lemmas.List.{length-map, get_or-map}
-use Rattle.std.proofs.lemmas.List.Elements.{All-push}
 use Rattle.std.proofs.lemmas.Option.{slice_get-map}
 use Rattle.std.specs.Option.{option_map}
 use Rattle.roman_model.specs.Lists.{HasNoRepeats}
@@ -19,9 +18,6 @@ use Rattle.roman_multi.proofs.CallerLemmas.{state_count, combined_behaviour_over
 use Rattle.roman_library.specs.Documents.{combined_of, broken_rule}
 use Rattle.roman_library.specs.Library.{ArePartsOf, IsBehaviour, IsCatalogue, IsService, IsTarget, AreServices, behaviour_name}
 use Rattle.roman_library.specs.declared.library.Service.{Service}
-
-pub all_known_push : {X : Type 0} (P : X → Type 0) (before after : List X) (x : X) → All P before → P x → after ≡ before ++ x ∷ [] → All P after
-all_known_push P before after x all here is = subst (All P) (sym is) (All-push P before x all here)
 
 -- a target of a document is known over its environment
 pub target_known : (env : NamedEnv) (named : Named) → IsTarget env named.target → IsKnown env named.target

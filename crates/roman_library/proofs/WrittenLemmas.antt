@@ -1,5 +1,5 @@
 -- What is written of a library means that library.
-use Rattle.std.proofs.Common.{◌≡◌, ℕ, zero, suc, ◌<◌, ◌≤◌, ◌&&◌, List, [], ◌∷◌, ◌++◌, map, length, Bool, Option, Some, IfSome, nat_le, Ok, IsTrue, slice_get, inl, inr, refl, sym, ap, ◌∙◌, subst, arith}
+use Rattle.std.proofs.Common.{◌≡◌, ℕ, zero, suc, ◌<◌, ◌≤◌, ◌&&◌, List, [], ◌∷◌, ◌++◌, map, length, Bool, Option, Some, IfSome, nat_le, Ok, IsTrue, slice_get, inl, inr, refl, sym, ap, subst, arith}
 use Rattle.std.proofs.lemmas.Bool.{and_from, le-leb}
 use Rattle.std.proofs.lemmas.List.{length-map, map_push}
 use Rattle.serde_json.specs.Data.{Data}
@@ -7,7 +7,6 @@ use Rattle.roman_io.specs.Shelf.{Texts}
 use Rattle.roman_model.specs.Lists.{IsIn, HasNoRepeats}
 use Rattle.roman_model.specs.declared.limits.TheConstants.{MAX_CELLS}
 use Rattle.roman_model.proofs.CallerLemmas.{in_map, from_push, in_contains}
-use Rattle.roman_read.specs.Items.{◌>>=◌}
 use Rattle.roman_read.specs.Listed.{AreItems}
 use Rattle.roman_read.specs.Names.{is_name}
 use Rattle.roman_parts.specs.Lists.{place_in}
@@ -20,7 +19,6 @@ use Rattle.roman_library.specs.Library.{PlainLibrary, IsService, behaviour_name,
 use Rattle.roman_library.specs.Refusals.{placed}
 use Rattle.roman_library.specs.Written.{catalogue_states, service_value, library_value, IsSayable, LibrariesAreSaid}
 use Rattle.roman_library.specs.declared.library.Service.{Service}
-use Rattle.roman_library.specs.declared.refusal.Part.{Part}
 use Rattle.roman_library.specs.declared.refusal.Part.TheVariants as part
 use Rattle.roman_library.proofs.ReadLemmas.{document_lists_read}
 

@@ -151,11 +151,7 @@ named_target_of env before d = do
   target ← target_of env d
   Ok (record { name = name; target = target })
 
--- target i, after those before it
-abbrev pub named_target_in : Texts → List ℕ → NamedEnv → List Named → ℕ → Data → Result Named Refusal
-named_target_in texts document env before i d = listed_in part.Target named_target_of texts document env before i d
-
--- the same, put behind those before it
+-- target i, put behind those before it
 abbrev pub target_step : Texts → List ℕ → NamedEnv → ℕ → List Named → Data → Result (List Named) Refusal
 target_step texts document env = listed_step part.Target named_target_of texts document env
 

@@ -1,5 +1,5 @@
 //! The version of a document, and its limit on cells.
-ghost use Rattle.std.specs.Prelude.{◌≡◌, ◌<◌, ◌≤◌, IfOk};
+ghost use Rattle.std.specs.Prelude.{◌<◌, ◌≤◌, IfOk};
 ghost use Rattle.serde_json.specs.View.{view};
 ghost use Rattle.roman_parts.specs.Reading.{Gives};
 ghost use Rattle.roman_library.specs.Documents.{version_of, limit_of, limit_in};

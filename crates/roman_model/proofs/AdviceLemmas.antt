@@ -1,12 +1,12 @@
 -- Least worst costs, found one action, one seat and one outcome after another.
-use Rattle.std.proofs.Common.{◌≡◌, ◌≢◌, ℕ, zero, suc, ◌+◌, ◌*◌, ◌<◌, ◌≤◌, Bool, true, false, cond, List, [], ◌∷◌, ◌++◌, map, filter, nat_le, refl, ap, ◌∙◌, arith, add-one, append-nil}
+use Rattle.std.proofs.Common.{◌≡◌, ℕ, zero, suc, ◌+◌, ◌*◌, ◌<◌, ◌≤◌, Bool, true, false, cond, List, [], ◌∷◌, ◌++◌, map, filter, nat_le, refl, ap, ◌∙◌, arith, add-one, append-nil}
 use Rattle.std.specs.Prelude.{max}
 use Rattle.std.proofs.lemmas.List.Elements.{filter-append}
 use Rattle.roman_model.specs.Lists.{below}
 use Rattle.roman_model.specs.System.{Sys, Pair, IsSys}
 use Rattle.roman_model.specs.SystemArena.{outcomes}
 use Rattle.roman_model.specs.Numbers.{sizes_of, pair_at, number, count, numbered}
-use Rattle.roman_model.specs.Plans.{Costs, max_over, allowed_actions, least_from, first_least, through, least, choice, least_at}
+use Rattle.roman_model.specs.Plans.{Costs, max_over, allowed_actions, least_from, through, least, choice, least_at}
 use Rattle.roman_model.proofs.SystemLemmas.{outcome_pair}
 use Rattle.roman_model.proofs.NumberLemmas.{numbers_are_pairs}
 use Rattle.roman_model.proofs.PlanLemmas.{max_over_le, max_over_same}
@@ -54,10 +54,6 @@ least_from_push f x (z ∷ xs) y = by (nat_le (f x) (f z)) (least_from_push f x 
         ≡ cond (nat_le (f (cond b (least_from f x xs) (least_from f z xs))) (f y)) (cond b (least_from f x xs) (least_from f z xs)) y
     by true here there = here
     by false here there = there
-
-pub first_least_push : (f : ℕ → ℕ) (xs : List ℕ) (y : ℕ) → xs ≢ [] → first_least f (xs ++ y ∷ []) ≡ cond (nat_le (f (first_least f xs)) (f y)) (first_least f xs) y
-first_least_push f [] y some = absurd (some refl)
-first_least_push f (x ∷ xs) y some = least_from_push f x xs y
 
 -- Over the numbers of pairs.
 

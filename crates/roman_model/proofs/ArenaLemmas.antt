@@ -8,7 +8,7 @@ use Rattle.roman_model.specs.System.{has}
 use Rattle.roman_model.specs.Arena.{Arena, Entry, is_among, is_listed, is_beaten, is_justified, mask, Survives, Delegation, delegations, back}
 use Rattle.roman_model.specs.declared.reason.Reason.{Reason}
 use Rattle.roman_model.specs.declared.reason.Reason.TheVariants.{Final, Act}
-use Rattle.roman_model.proofs.Lists.{by_test, same_test, in_map, from_map, in_flat_map, from_flat_map, in_filter, filter_in, any_true, any_from, any_false, none_from, any_more, any_same, list_any-map, empty_is, not_empty_ne, ne_not_empty, in_below, from_below, all_below_at, all_below_from, all_below_false, all_below_more, all_below_same, filter_same, HasNoRepeats-map, HasNoRepeats-flat_map, HasNoRepeats-filter, HasNoRepeats-below}
+use Rattle.roman_model.proofs.Lists.{by_test, same_test, in_map, from_map, in_flat_map, from_flat_map, in_filter, filter_in, any_true, any_from, any_false, none_from, any_more, any_same, list_any-map, empty_is, not_empty_ne, ne_not_empty, in_below, from_below, all_below_at, all_below_from, all_below_false, all_below_more, all_below_same, filter_same}
 
 -- the arena's test of two nodes is equality
 pub record IsSame {N : Type 0} (A : Arena N) : Type 0 where
@@ -28,9 +28,6 @@ pub record IsArena {N : Type 0} (A : Arena N) : Type 0 where
 
 pub same_from : {N : Type 0} (A : Arena N) → IsSame A → (p q : N) → p ≡ q → IsTrue (A.same p q)
 same_from A E p q e = subst (λ r. IsTrue (A.same p r)) e (E.itself p)
-
-pub same_sym : {N : Type 0} (A : Arena N) → IsSame A → (p q : N) → A.same p q ≡ A.same q p
-same_sym A E p q = same_test (A.same p q) (A.same q p) (λ t. same_from A E q p (sym (E.is p q t))) (λ t. same_from A E p q (sym (E.is q p t)))
 
 pub among_in : {N : Type 0} (A : Arena N) → IsSame A → (ps : List N) (p : N) → IsTrue (is_among A ps p) → IsIn p ps
 among_in A E ps p h = let (q, i, t) = any_true (A.same p) ps h in subst (λ r. IsIn r ps) (sym (E.is p q t)) i
@@ -92,26 +89,6 @@ pub unbeaten_from : {N : Type 0} (A : Arena N) (gone : N → Bool) (p : N) (a k 
     ((q : N) → IsIn q (A.outcomes p a k) → IsFalse (gone q)) → IsFalse (is_beaten A gone p a k)
 unbeaten_from A gone p a k some all =
     or_from (is_empty (A.outcomes p a k)) (list_any gone (A.outcomes p a k)) (ne_not_empty (A.outcomes p a k) some) (none_from gone (A.outcomes p a k) all)
-
--- after one more entry a seat is beaten where it was, or where the entry's node is an outcome
-pub beaten_push : {N : Type 0} (A : Arena N) → IsSame A → (L : List (Entry N)) (x : Entry N) (p : N) (a k : ℕ) →
-    is_beaten A (is_listed A (L ++ x ∷ [])) p a k ≡ (is_beaten A (is_listed A L) p a k || is_among A (A.outcomes p a k) x.node)
-beaten_push A E L x p a k = same_test (is_beaten A (is_listed A (L ++ x ∷ [])) p a k) (is_beaten A (is_listed A L) p a k || is_among A (A.outcomes p a k) x.node)
-    (λ b. elim (beaten_is A (is_listed A (L ++ x ∷ [])) p a k b) [
-      | inl none ↦ or_left (is_beaten A (is_listed A L) p a k) (is_among A (A.outcomes p a k) x.node) (beaten_none A (is_listed A L) p a k none)
-      | inr some ↦
-          let (q, i, g) = some in
-          elim (or_cases (is_listed A L q) (A.same q x.node) (sym (listed_push A L x q) ∙ g)) [
-            | inl old ↦ or_left (is_beaten A (is_listed A L) p a k) (is_among A (A.outcomes p a k) x.node) (beaten_by A (is_listed A L) p a k q i old)
-            | inr new ↦ or_right (is_beaten A (is_listed A L) p a k) (is_among A (A.outcomes p a k) x.node)
-                (in_among A E (A.outcomes p a k) x.node (subst (λ r. IsIn r (A.outcomes p a k)) (E.is q x.node new) i))
-          ]
-    ])
-    (λ b. elim (or_cases (is_beaten A (is_listed A L) p a k) (is_among A (A.outcomes p a k) x.node) b) [
-      | inl old ↦ beaten_more A (is_listed A L) (is_listed A (L ++ x ∷ [])) p a k (λ q i t. listed_push A L x q ∙ or_left (is_listed A L q) (A.same q x.node) t) old
-      | inr new ↦ beaten_by A (is_listed A (L ++ x ∷ [])) p a k x.node (among_in A E (A.outcomes p a k) x.node new)
-          (listed_push A L x x.node ∙ or_right (is_listed A L x.node) (A.same x.node x.node) (E.itself x.node))
-    ])
 
 -- Reasons.
 
@@ -276,31 +253,3 @@ from_back A E q d i =
     let (j, t) = filter_in (λ d. is_among A (A.outcomes d.node d.action d.seat) q) d (delegations A) i in
     let (node, action, seat) = from_delegations A d j in
     (node, action, seat, among_in A E (A.outcomes d.node d.action d.seat) q t)
-
-pub delegations_once : {N : Type 0} (A : Arena N) → HasNoRepeats A.nodes → HasNoRepeats (delegations A)
-delegations_once {N} A once =
-    HasNoRepeats-flat_map at_node A.nodes
-    (λ p i. HasNoRepeats-flat_map (at_action p) (below A.actions)
-    (λ a j. HasNoRepeats-map (λ k. record { node = p; action = a; seat = k }) (below A.seats) (λ k l m n e. ap (λ (d : Delegation N). d.seat) e) (HasNoRepeats-below A.seats))
-    (λ a b d j k l m. sym (action_of p a d l) ∙ action_of p b d m)
-    (HasNoRepeats-below A.actions))
-    (λ p q d i j k l. sym (node_of p d k) ∙ node_of q d l)
-    once
-  where
-    at_action : N → ℕ → List (Delegation N)
-    at_action p a = map (λ k. record { node = p; action = a; seat = k }) (below A.seats)
-
-    at_node : N → List (Delegation N)
-    at_node p = flat_map (at_action p) (below A.actions)
-
-    action_of : (p : N) (a : ℕ) (d : Delegation N) → IsIn d (at_action p a) → d.action ≡ a
-    action_of p a d i = let (k, j, e) = from_map (λ k. record { node = p; action = a; seat = k }) d (below A.seats) i in ap (λ d. d.action) e
-
-    node_of : (p : N) (d : Delegation N) → IsIn d (at_node p) → d.node ≡ p
-    node_of p d i =
-        let (a, j, l) = from_flat_map (at_action p) d (below A.actions) i in
-        let (k, m, e) = from_map (λ k. record { node = p; action = a; seat = k }) d (below A.seats) l in
-        ap (λ d. d.node) e
-
-pub back_once : {N : Type 0} (A : Arena N) (q : N) → HasNoRepeats A.nodes → HasNoRepeats (back A q)
-back_once A q once = HasNoRepeats-filter (λ d. is_among A (A.outcomes d.node d.action d.seat) q) (delegations A) (delegations_once A once)

@@ -350,16 +350,6 @@ remove_below (seat ∷ seats) (b ∷ bs) (suc k) h = (h.0, remove_below seats bs
 pub IsPair-without : (s : Sys) (k : ℕ) (p : Pair) → IsPair s p → IsPair (left s k) (without k p)
 IsPair-without s k p ok = record { t = ok.t; e = ok.e; bs = remove_below s.seats p.bs k ok.bs }
 
-pub insert_below : (seats : List Seat) (bs : List ℕ) (k b : ℕ) (seat : Seat) → slice_get seats k ≡ Some seat → AllZip (λ seat b. b < seat.beh.states) (remove seats k) bs → b < seat.beh.states →
-    AllZip (λ seat b. b < seat.beh.states) seats (insert bs k b)
-insert_below [] bs k b seat e h l = absurd (none-some seat e)
-insert_below (x ∷ seats) bs zero b seat e h l = (subst (λ (y : Seat). b < y.beh.states) (sym (same_Some x seat e)) l, h)
-insert_below (x ∷ seats) [] (suc k) b seat e h l = absurd h
-insert_below (x ∷ seats) (c ∷ bs) (suc k) b seat e h l = (h.0, insert_below seats bs k b seat e h.1 l)
-
-pub IsPair-with_state : (s : Sys) (k : ℕ) (seat : Seat) (p : Pair) (b : ℕ) → slice_get s.seats k ≡ Some seat → IsPair (left s k) p → b < seat.beh.states → IsPair s (with_state k b p)
-IsPair-with_state s k seat p b seated ok l = record { t = ok.t; e = ok.e; bs = insert_below s.seats p.bs k b seat seated ok.bs l }
-
 pub states_length : (seats : List Seat) (bs : List ℕ) → AllZip (λ seat b. b < seat.beh.states) seats bs → length bs ≡ length seats
 states_length [] [] h = refl
 states_length [] (b ∷ bs) h = absurd h

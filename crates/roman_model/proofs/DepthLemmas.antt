@@ -1,13 +1,13 @@
 -- Depths over any arena: within how many requests the opponent wins.
 use Rattle.std.proofs.Common.{◌≡◌, ℕ, zero, suc, ◌+◌, ◌<◌, ◌≤◌, not, ◌||◌, ◌⊎◌, List, length, Option, Some, None, IsTrue, IsFalse, filter, inl, inr, refl, sym, ap, ◌∙◌, subst, arith}
 use Rattle.std.specs.List.{list_any}
-use Rattle.std.proofs.lemmas.Bool.{both_ways, or_cases, or_parts, or_left, or_right, not-true, not-false, not_from_true, not_from_false, cases_eq, cases_lt}
+use Rattle.std.proofs.lemmas.Bool.{both_ways, or_cases, or_parts, or_left, not-true, not-false, not_from_true, not_from_false, cases_eq, cases_lt}
 use Rattle.roman_model.specs.Lists.{IsIn, below}
 use Rattle.roman_model.specs.Arena.{Arena, Entry, is_listed, is_justified, IsOrder, loses, depth, Survives}
 use Rattle.roman_model.specs.declared.reason.Reason.{Reason}
 use Rattle.roman_model.specs.declared.reason.Reason.TheVariants.{Final, Act}
-use Rattle.roman_model.proofs.Lists.{by_test, same_test, any_true, any_from, any_false, any_same, filter_shrinks, filter_sublist, sublist_length, in_below, find_none, find_least, find_first}
-use Rattle.roman_model.proofs.ArenaLemmas.{IsArena, justified_is, justified_same, unjustified, survivor_within}
+use Rattle.roman_model.proofs.Lists.{by_test, same_test, any_true, any_false, any_same, filter_shrinks, filter_sublist, sublist_length, in_below, find_none, find_least}
+use Rattle.roman_model.proofs.ArenaLemmas.{IsArena, justified_same, unjustified, survivor_within}
 use Rattle.roman_model.proofs.OrderLemmas.{listed_dead}
 
 -- A node is lost within more requests where it is within fewer.
@@ -32,12 +32,6 @@ unlost_act A ok n p a f allowed =
     any_false (λ b. is_justified A (loses A n) p (Act b)) a (below A.actions)
     (or_parts (loses A n p) (list_any (λ b. is_justified A (loses A n) p (Act b)) (below A.actions)) f).1
     (in_below A.actions a (ok.allowed p a allowed))
-
--- an action that refutes a node loses it
-pub lost_act : {N : Type 0} (A : Arena N) → IsArena A → (n : ℕ) (p : N) (a : ℕ) → IsTrue (is_justified A (loses A n) p (Act a)) → IsTrue (loses A (suc n) p)
-lost_act A ok n p a j =
-    or_right (loses A n p) (list_any (λ b. is_justified A (loses A n) p (Act b)) (below A.actions))
-    (any_from (λ b. is_justified A (loses A n) p (Act b)) a (below A.actions) (in_below A.actions a (ok.allowed p a (justified_is A (loses A n) p a j).0)) j)
 
 -- Nothing that is lost lives, for any way to live that keeps itself up.
 pub lost_dead : {N : Type 0} (A : Arena N) (Lives : N → Type 0) → ((p : N) → Lives p → Survives A Lives p) → (n : ℕ) (p : N) → IsTrue (loses A n p) → Lives p → ⊥
@@ -117,9 +111,6 @@ pub depth_is : {N : Type 0} (A : Arena N) (p : N) (d : ℕ) → depth A p ≡ So
 depth_is A p d e =
     let (l, t, least) = find_least (λ n. loses A n p) (length A.nodes + 1) d e in
     (omega arith, t, least)
-
-pub depth_from : {N : Type 0} (A : Arena N) (p : N) (d : ℕ) → d ≤ length A.nodes → IsTrue (loses A d p) → ((n : ℕ) → n < d → IsFalse (loses A n p)) → depth A p ≡ Some d
-depth_from A p d l t least = find_first (λ n. loses A n p) (length A.nodes + 1) d (omega arith) t least
 
 -- a node without a depth is never lost
 pub depth_none : {N : Type 0} (A : Arena N) → IsArena A → (p : N) → IsIn p A.nodes → depth A p ≡ None → (n : ℕ) → IsFalse (loses A n p)

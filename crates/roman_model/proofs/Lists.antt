@@ -8,7 +8,7 @@ use Rattle.std.proofs.lemmas.List.Folds.{list_any-append, find-append}
 use Rattle.std.proofs.lemmas.List.Elements.{filter-append}
 use Rattle.std.proofs.lemmas.Option.{none-some, same_Some}
 use Rattle.std.specs.Option.{option_or}
-use Rattle.roman_model.specs.Lists.{IsIn, IsSublist, HasNoRepeats, HoldsEachOnce, below, all_below, is_empty}
+use Rattle.roman_model.specs.Lists.{IsIn, IsSublist, HasNoRepeats, below, all_below, is_empty}
 
 -- Tests.
 
@@ -201,9 +201,6 @@ all_below_false p zero h = absurd (true≢false h)
 all_below_false p (suc n) h = elim (and_cases (all_below p n) (p n) h)
     [ inl before ↦ let (i, l, f) = all_below_false p n before in (i, omega arith, f) | inr last ↦ (n, omega arith, last) ]
 
-pub all_below_not : (p : ℕ → Bool) (n i : ℕ) → i < n → IsFalse (p i) → IsFalse (all_below p n)
-all_below_not p n i l fails = by_test (all_below p n) (λ t. absurd (both_ways (p i) fails (all_below_at p n i t l))) (λ f. f)
-
 pub all_below_more : (p q : ℕ → Bool) (n : ℕ) → ((i : ℕ) → i < n → IsTrue (p i) → IsTrue (q i)) → IsTrue (all_below p n) → IsTrue (all_below q n)
 all_below_more p q n more h = all_below_from q n (λ i l. more i l (all_below_at p n i h l))
 
@@ -313,10 +310,6 @@ pub sublist_skip : {X : Type 0} (xs ys : List X) (y : X) → IsSublist xs ys →
 sublist_skip [] ys y s = tt
 sublist_skip (x ∷ xs) ys y s = inr s
 
-pub sublist_itself : {X : Type 0} (xs : List X) → IsSublist xs xs
-sublist_itself [] = tt
-sublist_itself (x ∷ xs) = inl (refl, sublist_itself xs)
-
 pub sublist_in : {X : Type 0} (x : X) (xs ys : List X) → IsSublist xs ys → IsIn x xs → IsIn x ys
 sublist_in x [] ys s i = absurd i
 sublist_in x (z ∷ xs) [] s i = absurd s
@@ -366,9 +359,6 @@ same_length xs ys xs_once ys_once same =
     let up : length xs ≤ length ys = no_longer xs ys xs_once (λ x. (same x).0) in
     let down : length ys ≤ length xs = no_longer ys xs ys_once (λ x. (same x).1) in
     omega arith
-
-pub HoldsEachOnce-length : {X : Type 0} (xs ys : List X) → HoldsEachOnce xs ys → HasNoRepeats ys → length xs ≡ length ys
-HoldsEachOnce-length xs ys each once = same_length xs ys each.once once each.same
 
 pub HasNoRepeats-append : {X : Type 0} (xs ys : List X) → HasNoRepeats xs → HasNoRepeats ys → ((x : X) → IsIn x xs → IsIn x ys → ⊥) → HasNoRepeats (xs ++ ys)
 HasNoRepeats-append [] ys xs_once ys_once apart = ys_once

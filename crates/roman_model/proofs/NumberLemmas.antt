@@ -1,11 +1,11 @@
 -- Numbers of lists of states, and of pairs: bounds, and what becomes of a number where a state changes, comes or goes.
-use Rattle.std.proofs.Common.{◌≡◌, ℕ, zero, suc, ◌+◌, ◌*◌, ◌/◌, ◌%◌, ◌<◌, List, [], ◌∷◌, ◌++◌, map, length, take, drop, slice_index, slice_set, remove, insert, refl, sym, ap, ◌∙◌, arith, add-one, div-add-mod'}
+use Rattle.std.proofs.Common.{◌≡◌, ℕ, zero, suc, ◌+◌, ◌*◌, ◌/◌, ◌%◌, ◌<◌, List, [], ◌∷◌, ◌++◌, map, length, take, drop, slice_index, slice_set, remove, refl, sym, ap, ◌∙◌, arith, add-one, div-add-mod'}
 use Rattle.std.specs.List.{AllZip}
 use Rattle.std.proofs.lemmas.Nat.{mul-add-lt, div-mul-add, mod-mul-add, div_below, mod_below}
 use Rattle.roman_model.specs.Lists.{product_of}
 use Rattle.roman_model.specs.System.{Seat, Sys, Pair, IsPair}
 use Rattle.roman_model.specs.Numbers.{Sizes, sizes_of, IsPairOf, grown_sizes, sizes_without, count, states_number, states_at, number, pair_at, NumbersArePairs}
-use Rattle.roman_model.specs.Change.{grown, without, with_state}
+use Rattle.roman_model.specs.Change.{grown, without}
 use Rattle.roman_model.specs.Laws.{PairsAreNumbered}
 
 -- one state for each size, below it
@@ -128,12 +128,6 @@ pub AreBelow-remove : (sizes bs : List ℕ) (k : ℕ) → AreBelow sizes bs → 
 AreBelow-remove sizes bs k h =
     AreBelow-append (take k sizes) (drop (suc k) sizes) (take k bs) (drop (suc k) bs) (AreBelow-take sizes bs k h) (AreBelow-drop sizes bs (suc k) h)
 
-pub AreBelow-insert : (sizes bs : List ℕ) (k b : ℕ) → k < length sizes → AreBelow (remove sizes k) bs → b < slice_index sizes k → AreBelow sizes (insert bs k b)
-AreBelow-insert [] bs k b h below l = absurd (omega arith)
-AreBelow-insert (size ∷ sizes) bs zero b h below l = (l, below)
-AreBelow-insert (size ∷ sizes) [] (suc k) b h below l = elim below [ ]
-AreBelow-insert (size ∷ sizes) (x ∷ bs) (suc k) b h below l = (below.0, AreBelow-insert sizes bs k b (omega arith) below.1 l)
-
 -- What becomes of the number of a list of states
 
 -- with another state at place k
@@ -161,12 +155,6 @@ state_from_number sizes bs k h l =
 pub length-states_at : (sizes : List ℕ) (i : ℕ) → length (states_at sizes i) ≡ length sizes
 length-states_at [] i = refl
 length-states_at (size ∷ sizes) i = ap suc (length-states_at sizes (i % product_of sizes))
-
-pub states_at-index : (sizes : List ℕ) (i k : ℕ) → i < product_of sizes → k < length sizes →
-    slice_index (states_at sizes i) k ≡ i / product_of (drop (k + 1) sizes) % slice_index sizes k
-states_at-index sizes i k h l =
-    state_from_number sizes (states_at sizes i) k (AreBelow-at sizes i h) l
-    ∙ ap (λ x. x / product_of (drop (k + 1) sizes) % slice_index sizes k) (states_number-at sizes i h)
 
 -- the numbers of what stands before and behind place k
 pub states_before : (sizes bs : List ℕ) (k : ℕ) → AreBelow sizes bs → k < length sizes →
@@ -201,12 +189,6 @@ states_number-remove sizes bs k h l =
 -- with a state that comes last
 pub states_number-push : (sizes bs : List ℕ) (size b : ℕ) → length bs ≡ length sizes → states_number (sizes ++ size ∷ []) (bs ++ b ∷ []) ≡ states_number sizes bs * size + b
 states_number-push sizes bs size b h = states_number-append sizes (size ∷ []) bs (b ∷ []) h ∙ omega arith
-
-pub states_at-push : (sizes : List ℕ) (size i b : ℕ) → i < product_of sizes → b < size → states_at (sizes ++ size ∷ []) (i * size + b) ≡ states_at sizes i ++ b ∷ []
-states_at-push sizes size i b h l =
-    let is : states_number (sizes ++ size ∷ []) (states_at sizes i ++ b ∷ []) ≡ i * size + b =
-    states_number-push sizes (states_at sizes i) size b (AreBelow-length sizes (states_at sizes i) (AreBelow-at sizes i h)) ∙ ap (λ x. x * size + b) (states_number-at sizes i h) in
-    rw (← is) (states_at-number (sizes ++ size ∷ []) (states_at sizes i ++ b ∷ []) (AreBelow-append sizes (size ∷ []) (states_at sizes i) (b ∷ []) (AreBelow-at sizes i h) (l, tt)))
 
 -- Pairs and their numbers
 
@@ -315,9 +297,6 @@ pair_at-grown n size i b h l =
 
 pub IsPairOf-without : (n : Sizes) (p : Pair) (k : ℕ) → IsPairOf n p → IsPairOf (sizes_without k n) (without k p)
 IsPairOf-without n p k ok = record { t = ok.t; e = ok.e; bs = AreBelow-remove n.seats p.bs k ok.bs }
-
-pub IsPairOf-insert : (n : Sizes) (p : Pair) (k b : ℕ) → k < length n.seats → IsPairOf (sizes_without k n) p → b < slice_index n.seats k → IsPairOf n (with_state k b p)
-IsPairOf-insert n p k b h ok l = record { t = ok.t; e = ok.e; bs = AreBelow-insert n.seats p.bs k b h ok.bs l }
 
 pub number-without : (n : Sizes) (p : Pair) (k : ℕ) → IsPairOf n p → k < length n.seats →
     number (sizes_without k n) (without k p)

@@ -1,24 +1,24 @@
 -- Changes over the numbers of pairs: renaming and replay agree with those over pairs.
-use Rattle.std.proofs.Common.{◌≡◌, ◌≢◌, ℕ, zero, suc, ◌+◌, ◌*◌, ◌/◌, ◌%◌, ◌<◌, ◌≤◌, ◌==◌, Bool, true, false, not, ◌||◌, List, [], ◌∷◌, ◌++◌, map, length, take, drop, filter, flat_map, Some, IsTrue, if◌then◌else◌, slice_get, slice_index, remove, refl, sym, ap, ap₂, ◌∙◌, subst, inl, inr, arith, div-le_self, div-add-mod'}
+use Rattle.std.proofs.Common.{◌≡◌, ℕ, zero, suc, ◌+◌, ◌*◌, ◌<◌, ◌==◌, Bool, true, false, List, [], ◌∷◌, ◌++◌, map, length, take, drop, filter, flat_map, Some, if◌then◌else◌, slice_get, slice_index, remove, refl, sym, ap, ap₂, ◌∙◌, subst, inl, inr, arith}
 use Rattle.std.specs.List.{list_any}
 use Rattle.std.proofs.lemmas.Bool.{eqb-true, eq-eqb, cond-true, cond-false}
 use Rattle.std.proofs.lemmas.List.{map-append, take-map, drop-map, length-map}
-use Rattle.std.proofs.lemmas.Nat.{mul-le, div-mul-add, mod-mul-add, mod_below, mul-add-lt}
+use Rattle.std.proofs.lemmas.Nat.{mul-add-lt}
 use Rattle.std.proofs.lemmas.Option.{none-some, same_Some, slice_get_within}
-use Rattle.roman_model.specs.Lists.{IsIn, below, is_empty, product_of}
-use Rattle.roman_model.specs.System.{Seat, Sys, Pair, IsSys, is_final}
-use Rattle.roman_model.specs.SystemArena.{outcomes, is_allowed, is_fine, same_pair, arena}
-use Rattle.roman_model.specs.Arena.{Entry, is_listed, is_beaten, IsOrder, replay}
-use Rattle.roman_model.specs.Change.{Change, Freeze, Thaw, Join, Die, after, grown, without, may_go, firsts, grown_entries, entry_without, rename, CanChange, KeepsAll, place, with_state, goers, RenamedReplays}
-use Rattle.roman_model.specs.Numbers.{Sizes, sizes_of, IsPairOf, grown_sizes, sizes_without, count, number, pair_at, numbered, entry_at}
+use Rattle.roman_model.specs.Lists.{IsIn, below}
+use Rattle.roman_model.specs.System.{Seat, Sys, Pair, IsSys}
+use Rattle.roman_model.specs.SystemArena.{is_allowed, same_pair, arena}
+use Rattle.roman_model.specs.Arena.{Entry, IsOrder, replay}
+use Rattle.roman_model.specs.Change.{Change, Freeze, Thaw, Join, Die, after, grown, without, may_go, firsts, grown_entries, entry_without, rename, CanChange, KeepsAll, RenamedReplays}
+use Rattle.roman_model.specs.Numbers.{Sizes, sizes_of, grown_sizes, sizes_without, count, number, pair_at, numbered, entry_at}
 use Rattle.roman_model.proofs.Lists.{by_test, same_test, any_same, list_any-map, from_map, from_flat_map, filter_in, from_below, sublist_in, filter-map}
 use Rattle.roman_model.proofs.SystemLemmas.{same_pair_is, same_pair_from}
 use Rattle.roman_model.proofs.OrderLemmas.{replay_whole, replay_sublist}
-use Rattle.roman_model.proofs.NumberLemmas.{AreBelow-length, IsPairOf-at, IsPairOf-insert, number_below, number-pair_at, pair_at-number, pair_at-grown, count-grown, number_without, number_without-is, pair_at-without, part_at, IsPairOf-without, states_number_below, AreBelow-drop, numbers_are_pairs}
-use Rattle.roman_model.proofs.Renames.{beaten_renamed, order_named, replay_renamed}
-use Rattle.roman_model.proofs.NumberedArena.{IsNumber, AreNumbers, numbers_rename, entries_at, listed_at, order_at}
-use Rattle.roman_model.proofs.ChangeLemmas.{flat_map_same_in, map_same_in, map-map, map-flat_map, flat_map-map, states_frozen, turned, joined, left, outcomes-turned, outcomes-frozen, is_fine-turned, length-remove, index_insert, IsSys-left}
-use Rattle.roman_model.proofs.ChangeLaws.{renaming_keeps, mask_after_death, without-with_state}
+use Rattle.roman_model.proofs.NumberLemmas.{IsPairOf-at, number_below, number-pair_at, pair_at-grown, count-grown, number_without, number_without-is, pair_at-without, IsPairOf-without}
+use Rattle.roman_model.proofs.Renames.{order_named, replay_renamed}
+use Rattle.roman_model.proofs.NumberedArena.{IsNumber, AreNumbers, numbers_rename, entries_at, order_at}
+use Rattle.roman_model.proofs.ChangeLemmas.{flat_map_same_in, map_same_in, map-map, map-flat_map, flat_map-map, states_frozen, turned, joined, left}
+use Rattle.roman_model.proofs.ChangeLaws.{renaming_keeps}
 
 -- The renamed list, over numbers
 
@@ -126,36 +126,6 @@ first_numbers_in seen (y ∷ L) x i = by_test (list_any (λ j. y.node == j) seen
     first (inl e) go = inl e
     first (inr j) go = inr (go j)
 
--- one entry more is kept where its number isn't seen yet
-pub first_numbers_push : (seen : List ℕ) (L : List (Entry ℕ)) (x : Entry ℕ) →
-    first_numbers seen (L ++ x ∷ [])
-    ≡ first_numbers seen L ++ (if list_any (λ i. x.node == i) seen || list_any (λ y. x.node == y.node) (first_numbers seen L) then [] else x ∷ [])
-first_numbers_push seen [] x = ap (λ b. if b then [] else x ∷ []) (or_none (list_any (λ i. x.node == i) seen))
-  where
-    or_none : (b : Bool) → b ≡ (b || false)
-    or_none true = refl
-    or_none false = refl
-first_numbers_push seen (y ∷ L) x =
-    by_known (list_any (λ i. y.node == i) seen) (first_numbers_push seen L x) (first_numbers_push (y.node ∷ seen) L x)
-  where
-    turned : (a b c : Bool) → ((a || b) || c) ≡ (b || (a || c))
-    turned true true c = refl
-    turned true false c = refl
-    turned false b c = refl
-
-    by_known : (b : Bool) →
-        first_numbers seen (L ++ x ∷ [])
-        ≡ first_numbers seen L ++ (if list_any (λ i. x.node == i) seen || list_any (λ z. x.node == z.node) (first_numbers seen L) then [] else x ∷ []) →
-        first_numbers (y.node ∷ seen) (L ++ x ∷ [])
-        ≡ first_numbers (y.node ∷ seen) L ++ (if list_any (λ i. x.node == i) (y.node ∷ seen) || list_any (λ z. x.node == z.node) (first_numbers (y.node ∷ seen) L) then [] else x ∷ []) →
-        (if b then first_numbers seen (L ++ x ∷ []) else y ∷ first_numbers (y.node ∷ seen) (L ++ x ∷ []))
-        ≡ (if b then first_numbers seen L else y ∷ first_numbers (y.node ∷ seen) L)
-        ++ (if list_any (λ i. x.node == i) seen || list_any (λ z. x.node == z.node) (if b then first_numbers seen L else y ∷ first_numbers (y.node ∷ seen) L) then [] else x ∷ [])
-    by_known true known new = known
-    by_known false known new =
-        ap (λ M. y ∷ M) (new ∙ ap (λ b. first_numbers (y.node ∷ seen) L ++ (if b then [] else x ∷ []))
-        (turned (x.node == y.node) (list_any (λ i. x.node == i) seen) (list_any (λ z. x.node == z.node) (first_numbers (y.node ∷ seen) L))))
-
 die_named : (n : Sizes) (k : ℕ) (seat : Seat) (L : List (Entry ℕ)) → k < length n.seats → ((x : Entry ℕ) → IsIn x L → x.node < count n) →
     map (pair_entry (sizes_without k n)) (rename_numbers (Die k seat) n L) ≡ rename (Die k seat) (map (pair_entry n) L)
 die_named n k seat L h are =
@@ -259,149 +229,6 @@ numbers_replay change s L ok can are order = record {
         (rename_numbers change (sizes_of s) L) (numbers_below change s L can are)
         ∙ ap (replay (arena (after change s))) (numbers_renamed change s L can are)
 
--- The number of a pair with a state of the dead seat put in
-
-abbrev pub number_with : ℕ → ℕ → Sizes → ℕ → ℕ
-number_with k b n i = (i / product_of (drop (k + 1) n.seats) * slice_index n.seats k + b) * product_of (drop (k + 1) n.seats) + i % product_of (drop (k + 1) n.seats)
-
--- a number is put together again from what stands before a digit, the digit, and what stands behind it
-put_together : (m stride size i b : ℕ) → 0 < stride → i ≡ m / stride / size * stride + m % stride → b ≡ m / stride % size → (i / stride * size + b) * stride + i % stride ≡ m
-put_together m stride size i b pos e f =
-    let low : m % stride < stride = mod_below m stride pos in
-    let high : i / stride ≡ m / stride / size = ap (λ x. x / stride) e ∙ div-mul-add (m / stride / size) stride (m % stride) low in
-    let rest : i % stride ≡ m % stride = ap (λ x. x % stride) e ∙ mod-mul-add (m / stride / size) stride (m % stride) low in
-    rw (high, f, rest, div-add-mod' (m / stride) size) (div-add-mod' m stride)
-
--- and is taken apart again
-take_apart : (i stride size b : ℕ) → 0 < stride → b < size → ((i / stride * size + b) * stride + i % stride) / stride / size * stride + ((i / stride * size + b) * stride + i % stride) % stride ≡ i
-take_apart i stride size b pos l =
-    let low : i % stride < stride = mod_below i stride pos in
-    rw (div-mul-add (i / stride * size + b) stride (i % stride) low, mod-mul-add (i / stride * size + b) stride (i % stride) low, div-mul-add (i / stride) size b l) (div-add-mod' i stride)
-
-stride_pos : (n : Sizes) (k i : ℕ) → i < count n → k < length n.seats → 0 < product_of (drop (k + 1) n.seats)
-stride_pos n k i l h = positive (states_number_below (drop (k + 1) n.seats) (drop (k + 1) (pair_at n i).bs) (AreBelow-drop n.seats (pair_at n i).bs (k + 1) (IsPairOf-at n i l).bs))
-  where
-    positive : {m o : ℕ} → m < o → 0 < o
-    positive h = omega arith
-
--- the state put in is the digit
-pub number_with-without : (n : Sizes) (i k : ℕ) → i < count n → k < length n.seats → number_with k (slice_index (pair_at n i).bs k) n (number_without k n i) ≡ i
-number_with-without n i k l h =
-    put_together i (product_of (drop (k + 1) n.seats)) (slice_index n.seats k) (number_without k n i) (slice_index (pair_at n i).bs k) (stride_pos n k i l h) refl (part_at n i k l h)
-
-pub number_without-with : (n : Sizes) (i k b : ℕ) → 0 < product_of (drop (k + 1) n.seats) → b < slice_index n.seats k → number_without k n (number_with k b n i) ≡ i
-number_without-with n i k b pos l = take_apart i (product_of (drop (k + 1) n.seats)) (slice_index n.seats k) b pos l
-
--- a new number is no greater than the old ones that it comes from
-pub number_with_le : (n : Sizes) (i k b : ℕ) → b < slice_index n.seats k → i ≤ number_with k b n i
-number_with_le n i k b l =
-    grows (i / product_of (drop (k + 1) n.seats)) (slice_index n.seats k) (product_of (drop (k + 1) n.seats)) (i % product_of (drop (k + 1) n.seats)) l (div-add-mod' i (product_of (drop (k + 1) n.seats)))
-  where
-    grows : (q size stride r : ℕ) → b < size → q * stride + r ≡ i → i ≤ (q * size + b) * stride + r
-    grows q size stride r less e =
-        let wide : q * 1 ≤ q * size = mul-le q 1 q size (omega arith) (omega arith) in
-        let high : q * stride ≤ (q * size + b) * stride = mul-le q stride (q * size + b) stride (omega arith) (omega arith) in
-        omega arith
-
-pub number_without_le : (n : Sizes) (i k : ℕ) → number_without k n i ≤ i
-number_without_le n i k = shrinks (product_of (drop (k + 1) n.seats)) (slice_index n.seats k)
-  where
-    shrinks : (stride size : ℕ) → i / stride / size * stride + i % stride ≤ i
-    shrinks stride size =
-        let high : i / stride / size * stride ≤ i / stride * stride = mul-le (i / stride / size) stride (i / stride) stride (div-le_self (i / stride) size) (omega arith) in
-        let whole : i / stride * stride + i % stride ≡ i = div-add-mod' i stride in
-        omega arith
-
-pub number-with_state : (n : Sizes) (p : Pair) (k b : ℕ) → k < length n.seats → IsPairOf (sizes_without k n) p → b < slice_index n.seats k →
-    number n (with_state k b p) ≡ number_with k b n (number (sizes_without k n) p)
-number-with_state n p k b h ok l =
-    let is : IsPairOf n (with_state k b p) = IsPairOf-insert n p k b h ok l in
-    let short : length p.bs ≡ length (remove n.seats k) = AreBelow-length (remove n.seats k) p.bs ok.bs in
-    let shorter : suc (length (remove n.seats k)) ≡ length n.seats = length-remove n.seats k h in
-    let room : k ≤ length p.bs = omega arith in
-    let back : pair_at n (number n (with_state k b p)) ≡ with_state k b p = pair_at-number n (with_state k b p) is in
-    let here : number n (with_state k b p) < count n = number_below n (with_state k b p) is in
-    let old : number_without k n (number n (with_state k b p)) ≡ number (sizes_without k n) p =
-    sym (number_without-is n (number n (with_state k b p)) k here h) ∙ ap (λ q. number (sizes_without k n) (without k q)) back ∙ ap (number (sizes_without k n)) (without-with_state k b p room) in
-    let state : slice_index (pair_at n (number n (with_state k b p))).bs k ≡ b = ap (λ q. slice_index q.bs k) back ∙ index_insert p.bs k b room in
-    sym (number_with-without n (number n (with_state k b p)) k here h) ∙ ap₂ (λ c i. number_with k c n i) state old
-
-pub number_with_below : (n : Sizes) (i k b : ℕ) → i < count (sizes_without k n) → k < length n.seats → b < slice_index n.seats k → number_with k b n i < count n
-number_with_below n i k b l h m =
-    let is : IsPairOf (sizes_without k n) (pair_at (sizes_without k n) i) = IsPairOf-at (sizes_without k n) i l in
-    let at : number n (with_state k b (pair_at (sizes_without k n) i)) ≡ number_with k b n i =
-    number-with_state n (pair_at (sizes_without k n) i) k b h is m ∙ ap (number_with k b n) (number-pair_at (sizes_without k n) i l) in
-    subst (λ x. x < count n) at (number_below n (with_state k b (pair_at (sizes_without k n) i)) (IsPairOf-insert n (pair_at (sizes_without k n) i) k b h is m))
-
--- the pair of that number
-pub pair_at-with : (n : Sizes) (i k b : ℕ) → i < count (sizes_without k n) → k < length n.seats → b < slice_index n.seats k →
-    pair_at n (number_with k b n i) ≡ with_state k b (pair_at (sizes_without k n) i)
-pair_at-with n i k b l h m =
-    let is : IsPairOf (sizes_without k n) (pair_at (sizes_without k n) i) = IsPairOf-at (sizes_without k n) i l in
-    let at : number n (with_state k b (pair_at (sizes_without k n) i)) ≡ number_with k b n i =
-    number-with_state n (pair_at (sizes_without k n) i) k b h is m ∙ ap (number_with k b n) (number-pair_at (sizes_without k n) i l) in
-    ap (pair_at n) (sym at) ∙ pair_at-number n (with_state k b (pair_at (sizes_without k n) i)) (IsPairOf-insert n (pair_at (sizes_without k n) i) k b h is m)
-
--- Masks over numbers after a change
-
--- who is beaten where, over numbers and over pairs
-pub beaten_at : (s : Sys) → IsSys s → (L : List (Entry ℕ)) → AreNumbers s L → (i : ℕ) → i < count (sizes_of s) → (a k : ℕ) →
-    is_beaten (numbered s) (is_listed (numbered s) L) i a k ≡ is_beaten (arena s) (is_listed (arena s) (map (entry_at s) L)) (pair_at (sizes_of s) i) a k
-beaten_at s ok L are i l a k =
-    beaten_renamed (numbered s) (arena s) (pair_at (sizes_of s)) (IsNumber s) (numbers_rename s ok) (is_listed (numbered s) L) (is_listed (arena s) (map (entry_at s) L))
-    (λ j m. listed_at s ok L are j m) i l a k
-
--- after a death a seat is beaten where it was beaten at some state of the dead seat that may be left behind
-pub number_mask_after_death : (s : Sys) (k : ℕ) (seat : Seat) (L : List (Entry ℕ)) → IsSys s → CanChange (Die k seat) s → AreNumbers s L → goers seat ≢ [] →
-    (i : ℕ) → i < count (sizes_of (left s k)) → (a j : ℕ) →
-    is_beaten (numbered (left s k)) (is_listed (numbered (left s k)) (rename_numbers (Die k seat) (sizes_of s) L)) i a j
-    ≡ list_any (λ b. is_beaten (numbered s) (is_listed (numbered s) L) (number_with k b (sizes_of s) i) a (place k j)) (goers seat)
-number_mask_after_death s k seat L ok seated are some i l a j =
-    beaten_at (left s k) (IsSys-left s k ok) (rename_numbers (Die k seat) (sizes_of s) L) (numbers_below (Die k seat) s L seated are) i l a j
-    ∙ ap (λ M. is_beaten (arena (left s k)) (is_listed (arena (left s k)) M) (pair_at (sizes_of (left s k)) i) a j) (numbers_renamed (Die k seat) s L seated are)
-    ∙ mask_after_death s k seat (map (entry_at s) L) ok seated (entries_at s L are) some (pair_at (sizes_of (left s k)) i) ((numbers_are_pairs (left s k)).pair i l) a j
-    ∙ any_same (λ b. is_beaten (arena s) (is_listed (arena s) (map (entry_at s) L)) (with_state k b (pair_at (sizes_of (left s k)) i)) a (place k j))
-    (λ b. is_beaten (numbered s) (is_listed (numbered s) L) (number_with k b (sizes_of s) i) a (place k j)) (goers seat) (λ b m. at b (goer b m))
-  where
-    fewer : i < count (sizes_without k (sizes_of s))
-    fewer = subst (λ n. i < count n) (sizes-left s k) l
-
-    goer : (b : ℕ) → IsIn b (goers seat) → b < slice_index (sizes_of s).seats k
-    goer b m = subst (λ size. b < size) (sym (size_at s.seats k seat seated)) (from_below seat.beh.states b (filter_in (λ b. not seat.rests || is_final seat.beh b) b (below seat.beh.states) m).0)
-
-    at : (b : ℕ) → b < slice_index (sizes_of s).seats k →
-        is_beaten (arena s) (is_listed (arena s) (map (entry_at s) L)) (with_state k b (pair_at (sizes_of (left s k)) i)) a (place k j)
-        ≡ is_beaten (numbered s) (is_listed (numbered s) L) (number_with k b (sizes_of s) i) a (place k j)
-    at b m =
-        ap (λ n. is_beaten (arena s) (is_listed (arena s) (map (entry_at s) L)) (with_state k b (pair_at n i)) a (place k j)) (sizes-left s k)
-        ∙ ap (λ p. is_beaten (arena s) (is_listed (arena s) (map (entry_at s) L)) p a (place k j))
-        (sym (pair_at-with (sizes_of s) i k b (subst (λ n. i < count n) (sizes-left s k) l) (seat_place s k seat seated) m))
-        ∙ sym (beaten_at s ok L are (number_with k b (sizes_of s) i)
-        (number_with_below (sizes_of s) i k b (subst (λ n. i < count n) (sizes-left s k) l) (seat_place s k seat seated) m) a (place k j))
-
--- another seat's freezing or thawing leaves a seat alone
-pub number_beaten-turned : (s : Sys) (k : ℕ) (frozen : Bool) (gone : ℕ → Bool) (i a j : ℕ) → (j ≡ k → ⊥) → is_beaten (numbered (turned s k frozen)) gone i a j ≡ is_beaten (numbered s) gone i a j
-number_beaten-turned s k frozen gone i a j ne =
-    ap (λ n. is_empty (map (number n) (outcomes (turned s k frozen) (pair_at n i) a j)) || list_any gone (map (number n) (outcomes (turned s k frozen) (pair_at n i) a j))) (sizes-turned s k frozen)
-    ∙ ap (λ qs. is_empty (map (number (sizes_of s)) qs) || list_any gone (map (number (sizes_of s)) qs)) (outcomes-turned s k frozen (pair_at (sizes_of s) i) a j ne)
-
--- and a frozen seat is beaten everywhere
-pub number_beaten-frozen : (s : Sys) (k : ℕ) (gone : ℕ → Bool) (i a : ℕ) → IsTrue (is_beaten (numbered (turned s k true)) gone i a k)
-number_beaten-frozen s k gone i a =
-    ap (λ qs. is_empty (map (number (sizes_of (turned s k true))) qs) || list_any gone (map (number (sizes_of (turned s k true))) qs))
-    (outcomes-frozen s k (pair_at (sizes_of (turned s k true)) i) a)
-
--- freezing and thawing leave clause 2 and the allowed actions
-pub number_fine-turned : (s : Sys) (k : ℕ) (frozen : Bool) (i : ℕ) → (numbered (turned s k frozen)).fine i ≡ (numbered s).fine i
-number_fine-turned s k frozen i =
-    ap (λ n. is_fine (turned s k frozen) (pair_at n i)) (sizes-turned s k frozen) ∙ is_fine-turned s k frozen (pair_at (sizes_of s) i)
-
+-- freezing and thawing leave the allowed actions
 pub number_allows-turned : (s : Sys) (k : ℕ) (frozen : Bool) (i a : ℕ) → (numbered (turned s k frozen)).allows i a ≡ (numbered s).allows i a
 number_allows-turned s k frozen i a = ap (λ n. is_allowed s (pair_at n i) a) (sizes-turned s k frozen)
-
--- after a death a pair allows what it allowed with any state of the dead seat
-pub number_allows-left : (s : Sys) (k b i a : ℕ) → i < count (sizes_of (left s k)) → k < length (sizes_of s).seats → b < slice_index (sizes_of s).seats k →
-    (numbered (left s k)).allows i a ≡ (numbered s).allows (number_with k b (sizes_of s) i) a
-number_allows-left s k b i a l h m =
-    ap (λ n. is_allowed s (pair_at n i) a) (sizes-left s k)
-    ∙ ap (λ p. is_allowed s p a) (sym (pair_at-with (sizes_of s) i k b (subst (λ n. i < count n) (sizes-left s k) l) h m))

@@ -4,14 +4,13 @@ use Rattle.std.proofs.lemmas.Bool.{not-false, not_from_true}
 use Rattle.roman_model.specs.Lists.{IsIn}
 use Rattle.roman_model.specs.System.{Sys, Pair, IsSys, IsPair}
 use Rattle.roman_model.specs.SystemArena.{outcomes, is_allowed, arena}
-use Rattle.roman_model.specs.Arena.{Entry, is_listed, mask, choices}
+use Rattle.roman_model.specs.Arena.{Entry, is_listed, mask}
 use Rattle.roman_model.specs.Composition.{GreatCouple, Great}
 use Rattle.roman_model.specs.CompleteLists.{IsComplete}
-use Rattle.roman_model.specs.Offers.{is_related, offers, choice_count, OffersAreGenerator, FollowingStays}
+use Rattle.roman_model.specs.Offers.{is_related, offers, OffersAreGenerator, FollowingStays}
 use Rattle.roman_model.proofs.Lists.{in_not_empty, not_empty_ne}
-use Rattle.roman_model.proofs.SystemLemmas.{outcome_pair, from_pairs}
+use Rattle.roman_model.proofs.SystemLemmas.{outcome_pair}
 use Rattle.roman_model.proofs.ArenaLemmas.{unbeaten_is, unbeaten_from, in_mask, from_mask, mask_same}
-use Rattle.roman_model.proofs.WorkLemmas.{choices_same}
 use Rattle.roman_model.proofs.CompositionLemmas.{serves_outcomes, outcomes_serve, great_survives, related_great, great_related, complete_listed}
 
 -- an offered seat has an outcome, and its outcomes are related
@@ -65,9 +64,3 @@ following_related s ok p pair great (m ∷ ms) follows =
     let (allowed, offered, reached, rest) = follows in
     let (allows, l, some, all) = offer_is s p m.action m.seat ok pair offered in
     following_related s ok m.to (outcome_pair s p m.action m.seat m.to ok pair reached) (all m.to reached) ms rest
-
--- any complete list has as many choices as the offers
-pub complete_choices : (s : Sys) (L : List (Entry Pair)) → IsSys s → IsComplete s L → choices (arena s) (is_listed (arena s) L) ≡ choice_count s
-complete_choices s L ok complete =
-    choices_same (arena s) (is_listed (arena s) L) (λ q. not (is_related s q))
-    (λ p i a k q j. complete_listed s L q ok complete (outcome_pair s p a k q ok (from_pairs s p i) j))

@@ -1,11 +1,11 @@
 -- Removal lists and replays over any arena.
-use Rattle.std.proofs.Common.{◌≡◌, ℕ, ◌≤◌, Bool, true, false, cond, ◌||◌, List, [], ◌∷◌, ◌++◌, map, length, take, drop, IsTrue, IsFalse, inl, inr, refl, sym, ap, ap₂, ◌∙◌, subst, append-nil, take-append-drop}
+use Rattle.std.proofs.Common.{◌≡◌, ◌≤◌, Bool, true, false, cond, ◌||◌, List, [], ◌∷◌, ◌++◌, map, length, IsTrue, IsFalse, inl, inr, refl, sym, ap, ap₂, ◌∙◌, subst}
 use Rattle.std.proofs.lemmas.Bool.{false≢true, both_ways, or_cases, or_parts, or_left, or_right, or_from, cond-true, cond-false}
 use Rattle.std.proofs.lemmas.List.{length-map}
 use Rattle.roman_model.specs.Lists.{IsIn, IsSublist, HasNoRepeats}
 use Rattle.roman_model.specs.Arena.{Arena, Entry, is_among, is_listed, is_justified, IsOrderFrom, IsOrder, AreNew, replay_from, replay, Survives}
 use Rattle.roman_model.proofs.Lists.{by_test, from_map, sublist_skip, no_longer}
-use Rattle.roman_model.proofs.ArenaLemmas.{IsSame, same_from, listed_in, listed_among, justified_more, justified_same, unjustified}
+use Rattle.roman_model.proofs.ArenaLemmas.{IsSame, same_from, listed_in, justified_more, justified_same, unjustified}
 
 -- How removal lists are made, and parts of them.
 
@@ -36,17 +36,6 @@ pub order_push : {N : Type 0} (A : Arena N) (L : List (Entry N)) (x : Entry N) �
     IsTrue (is_justified A (is_listed A L) x.node x.reason) → IsOrder A (L ++ x ∷ [])
 order_push A L x order unlisted j = order_from_push A [] L x order refl unlisted j
 
-pub order_from_left : {N : Type 0} (A : Arena N) (before : List N) (L M : List (Entry N)) → IsOrderFrom A before (L ++ M) → IsOrderFrom A before L
-order_from_left A before [] M order = tt
-order_from_left A before (x ∷ L) M order = (order.0, order.1, order_from_left A (x.node ∷ before) L M order.2)
-
--- a prefix of a removal list is one
-pub order_left : {N : Type 0} (A : Arena N) (L M : List (Entry N)) → IsOrder A (L ++ M) → IsOrder A L
-order_left A L M order = order_from_left A [] L M order
-
-pub order_take : {N : Type 0} (A : Arena N) (n : ℕ) (L : List (Entry N)) → IsOrder A L → IsOrder A (take n L)
-order_take A n L order = order_left A (take n L) (drop n L) (subst (λ M. IsOrder A M) (sym (take-append-drop n L)) order)
-
 pub order_from_new : {N : Type 0} (A : Arena N) (before : List N) (L : List (Entry N)) → IsOrderFrom A before L → AreNew A before L
 order_from_new A before [] order = tt
 order_from_new A before (x ∷ L) order = (order.0, order_from_new A (x.node ∷ before) L order.2)
@@ -54,16 +43,6 @@ order_from_new A before (x ∷ L) order = (order.0, order_from_new A (x.node ∷
 -- the nodes of a removal list are distinct
 pub order_new : {N : Type 0} (A : Arena N) (L : List (Entry N)) → IsOrder A L → AreNew A [] L
 order_new A L order = order_from_new A [] L order
-
--- where fewer nodes stand before, the same nodes are new
-pub new_less : {N : Type 0} (A : Arena N) (less before : List N) (L : List (Entry N)) → ((q : N) → IsTrue (is_among A less q) → IsTrue (is_among A before q)) →
-    AreNew A before L → AreNew A less L
-new_less A less before [] h new = tt
-new_less A less before (x ∷ L) h new = (
-  by_test (is_among A less x.node) (λ t. absurd (both_ways (is_among A before x.node) new.0 (h x.node t))) (λ f. f),
-  new_less A (x.node ∷ less) (x.node ∷ before) L (λ q t. elim (or_cases (A.same q x.node) (is_among A less q) t)
-      [ inl here ↦ or_left (A.same q x.node) (is_among A before q) here | inr rest ↦ or_right (A.same q x.node) (is_among A before q) (h q rest) ]) new.1,
-)
 
 -- a node that stands before is none of the list
 pub new_apart : {N : Type 0} (A : Arena N) → IsSame A → (before : List N) (L : List (Entry N)) (x : Entry N) → AreNew A before L → IsIn x L → IsFalse (is_among A before x.node)
@@ -218,38 +197,3 @@ middle_first A (r ∷ ps) qs p q = ap (λ b. A.same q r || b) (middle_first A ps
     turned true true c = refl
     turned true false c = refl
     turned false b c = refl
-
-pub replay_from_append : {N : Type 0} (A : Arena N) (kept : List N) (L M : List (Entry N)) →
-    replay_from A kept (L ++ M) ≡ replay_from A kept L ++ replay_from A (map (λ x. x.node) (replay_from A kept L) ++ kept) M
-replay_from_append A kept [] M = refl
-replay_from_append A kept (x ∷ L) M = by_test (is_justified A (is_among A kept) x.node x.reason)
-    (λ t.
-    cond-true (is_justified A (is_among A kept) x.node x.reason) (x ∷ replay_from A (x.node ∷ kept) (L ++ M)) (replay_from A kept (L ++ M)) t
-    ∙ ap (λ R. x ∷ R) (replay_from_append A (x.node ∷ kept) L M)
-    ∙ ap (λ R. x ∷ (replay_from A (x.node ∷ kept) L ++ R))
-    (replay_from_same A (map (λ y. y.node) (replay_from A (x.node ∷ kept) L) ++ x.node ∷ kept) (x.node ∷ (map (λ y. y.node) (replay_from A (x.node ∷ kept) L) ++ kept)) M
-    (λ q. middle_first A (map (λ y. y.node) (replay_from A (x.node ∷ kept) L)) kept x.node q))
-    ∙ sym (ap (λ R. R ++ replay_from A (map (λ y. y.node) R ++ kept) M)
-    (cond-true (is_justified A (is_among A kept) x.node x.reason) (x ∷ replay_from A (x.node ∷ kept) L) (replay_from A kept L) t)))
-    (λ f.
-    cond-false (is_justified A (is_among A kept) x.node x.reason) (x ∷ replay_from A (x.node ∷ kept) (L ++ M)) (replay_from A kept (L ++ M)) f
-    ∙ replay_from_append A kept L M
-    ∙ sym (ap (λ R. R ++ replay_from A (map (λ y. y.node) R ++ kept) M)
-    (cond-false (is_justified A (is_among A kept) x.node x.reason) (x ∷ replay_from A (x.node ∷ kept) L) (replay_from A kept L) f)))
-
--- a replay goes on from the nodes that it has kept
-pub replay_append : {N : Type 0} (A : Arena N) (L M : List (Entry N)) → replay A (L ++ M) ≡ replay A L ++ replay_from A (map (λ x. x.node) (replay A L)) M
-replay_append A L M = replay_from_append A [] L M ∙ ap (λ ps. replay A L ++ replay_from A ps M) (append-nil (map (λ x. x.node) (replay A L)))
-
--- one more entry is kept where the replay so far justifies it
-pub replay_push : {N : Type 0} (A : Arena N) (L : List (Entry N)) (x : Entry N) →
-    replay A (L ++ x ∷ []) ≡ cond (is_justified A (is_listed A (replay A L)) x.node x.reason) (replay A L ++ x ∷ []) (replay A L)
-replay_push A L x =
-    replay_append A L (x ∷ [])
-    ∙ ap (λ b. replay A L ++ cond b (x ∷ []) [])
-    (justified_same A (is_among A (map (λ y. y.node) (replay A L))) (is_listed A (replay A L)) x.node x.reason (λ a k q i. sym (listed_among A (replay A L) q)))
-    ∙ pushed (is_justified A (is_listed A (replay A L)) x.node x.reason)
-  where
-    pushed : (b : Bool) → (replay A L ++ cond b (x ∷ []) []) ≡ cond b (replay A L ++ x ∷ []) (replay A L)
-    pushed true = refl
-    pushed false = append-nil (replay A L)

@@ -1,14 +1,12 @@
 -- What working off a removal list needs: entries by their place, the delegations that lead to a node, and sums.
-use Rattle.std.proofs.Common.{◌≡◌, ℕ, ◌+◌, ◌<◌, ◌≤◌, ◌==◌, Bool, true, false, ◌&&◌, ◌||◌, List, [], ◌∷◌, ◌++◌, map, length, get_or, take, drop, IsTrue, IsFalse, filter, flat_map, sum_by, count_by, refl, sym, ap, ◌∙◌, subst, take-append-drop}
-use Rattle.std.specs.List.{list_any}
-use Rattle.std.proofs.lemmas.Bool.{and_parts, and_from, eqb-true, eq-eqb}
-use Rattle.std.proofs.lemmas.List.{take_more, drop_more, length-map}
+use Rattle.std.proofs.Common.{◌≡◌, ℕ, ◌+◌, ◌<◌, ◌≤◌, Bool, true, false, ◌&&◌, ◌||◌, List, [], ◌∷◌, ◌++◌, map, length, get_or, take, drop, IsTrue, IsFalse, filter, flat_map, sum_by, count_by, refl, sym, ap, ◌∙◌, subst, take-append-drop}
+use Rattle.std.proofs.lemmas.List.{drop_more, length-map}
 use Rattle.std.proofs.lemmas.List.Sums.{sum_by_push, sum_by-append, length-filter}
 use Rattle.std.proofs.lemmas.List.Concat.{length-flat_map}
 use Rattle.roman_model.specs.Lists.{IsIn, HasNoRepeats, below}
-use Rattle.roman_model.specs.Arena.{Arena, Entry, is_among, is_listed, is_beaten, is_justified, mask, IsOrderFrom, IsOrder, Delegation, back, fall, readings, choices}
-use Rattle.roman_model.proofs.Lists.{same_test, any_true, any_from, filter-map, filter-flat_map, sum_by_same, sum_by_within}
-use Rattle.roman_model.proofs.ArenaLemmas.{IsSame, IsArena, in_among, beaten_push, justified_same, among_in, in_back, from_back, mask_same}
+use Rattle.roman_model.specs.Arena.{Arena, Entry, is_among, is_listed, is_justified, IsOrderFrom, IsOrder, Delegation, back, fall, readings}
+use Rattle.roman_model.proofs.Lists.{filter-map, filter-flat_map, sum_by_same, sum_by_within}
+use Rattle.roman_model.proofs.ArenaLemmas.{justified_same}
 
 -- Entries by their place.
 
@@ -44,31 +42,6 @@ pub order_entry : {N : Type 0} (A : Arena N) (L : List (Entry N)) (i : ℕ) (d :
 order_entry A L i d order l =
     order_middle A (take i L) (drop (i + 1) L) (get_or L i d)
     (subst (λ M. IsOrder A M) (sym (take-append-drop i L) ∙ ap (λ M. take i L ++ M) (drop_more L i d l)) order)
-
--- one entry further a seat is beaten where it was, or where the entry's node is an outcome
-pub beaten_take : {N : Type 0} (A : Arena N) → IsSame A → (L : List (Entry N)) (i : ℕ) (d : Entry N) (p : N) (a k : ℕ) → i < length L →
-    is_beaten A (is_listed A (take (i + 1) L)) p a k ≡ (is_beaten A (is_listed A (take i L)) p a k || is_among A (A.outcomes p a k) (get_or L i d).node)
-beaten_take A E L i d p a k l = ap (λ M. is_beaten A (is_listed A M) p a k) (take_more L i d l) ∙ beaten_push A E (take i L) (get_or L i d) p a k
-
--- The delegations that lead to a node.
-
--- a delegation leads to q exactly where q is one of its outcomes
-pub back_has : {N : Type 0} (A : Arena N) → IsArena A → (q p : N) (a k : ℕ) → IsIn p A.nodes →
-    list_any (λ d. A.same d.node p && d.action == a && d.seat == k) (back A q) ≡ is_among A (A.outcomes p a k) q
-back_has {N} A ok q p a k i = same_test (list_any (λ d. A.same d.node p && d.action == a && d.seat == k) (back A q)) (is_among A (A.outcomes p a k) q)
-    (λ t.
-    let (d, j, e) = any_true (λ d. A.same d.node p && d.action == a && d.seat == k) (back A q) t in
-    let (front, seat) = and_parts (A.same d.node p && d.action == a) (d.seat == k) e in
-    let (node, action) = and_parts (A.same d.node p) (d.action == a) front in
-    let outcome : IsIn q (A.outcomes d.node d.action d.seat) = (from_back A ok.same q d j).3 in
-    in_among A ok.same (A.outcomes p a k) q
-    (subst (λ c. IsIn q (A.outcomes p a c)) (eqb-true d.seat k seat)
-    (subst (λ b. IsIn q (A.outcomes p b d.seat)) (eqb-true d.action a action)
-    (subst (λ r. IsIn q (A.outcomes r d.action d.seat)) (ok.same.is d.node p node) outcome))))
-    (λ t.
-    any_from (λ d. A.same d.node p && d.action == a && d.seat == k) (record { node = p; action = a; seat = k }) (back A q)
-    (in_back A ok q p a k i (among_in A ok.same (A.outcomes p a k) q t))
-    (and_from (A.same p p && a == a) (k == k) (and_from (A.same p p) (a == a) (ok.same.itself p) (eq-eqb a a refl)) (eq-eqb k k refl)))
 
 -- Sums.
 
@@ -113,11 +86,3 @@ readings_sum {N} A =
 -- the readings at distinct nodes are no more than all
 pub readings_within : {N : Type 0} (A : Arena N) (ps : List N) → HasNoRepeats ps → ((p : N) → IsIn p ps → IsIn p A.nodes) → sum_by (readings_at A) ps ≤ readings A
 readings_within A ps once within = subst (λ n. sum_by (readings_at A) ps ≤ n) (sym (readings_sum A)) (sum_by_within (readings_at A) ps A.nodes once within)
-
--- the masks of two tests that agree on the outcomes have as many seats
-pub choices_same : {N : Type 0} (A : Arena N) (gone more : N → Bool) → ((p : N) → IsIn p A.nodes → (a k : ℕ) (q : N) → IsIn q (A.outcomes p a k) → gone q ≡ more q) →
-    choices A gone ≡ choices A more
-choices_same A gone more same =
-    sum_by_same (λ p. sum_by (λ a. length (mask A gone p a)) (below A.actions)) (λ p. sum_by (λ a. length (mask A more p a)) (below A.actions)) A.nodes
-    (λ p i. sum_by_same (λ a. length (mask A gone p a)) (λ a. length (mask A more p a)) (below A.actions)
-    (λ a j. ap length (mask_same A gone more p a (λ k q h. same p i a k q h))))

@@ -1,10 +1,9 @@
 -- Lists that loops make over the numbers below a bound.
-use Rattle.std.proofs.Common.{◌≡◌, ℕ, suc, ◌<◌, ◌+◌, Bool, false, not, List, [], ◌∷◌, ◌++◌, map, length, Option, None, Some, IsTrue, IsFalse, is_some, MatchOption, flat_map, slice_get, get_or, refl, sym, ap, ap₂, ◌∙◌, add-one}
+use Rattle.std.proofs.Common.{◌≡◌, ℕ, suc, ◌<◌, ◌+◌, Bool, false, not, List, [], ◌∷◌, ◌++◌, length, Option, None, Some, IsTrue, IsFalse, is_some, MatchOption, flat_map, slice_get, get_or, refl, sym, ap, ap₂, ◌∙◌, add-one}
 use Rattle.std.specs.List.{list_any}
-use Rattle.std.specs.Option.{option_map}
 use Rattle.std.proofs.lemmas.Bool.{or_from}
 use Rattle.std.proofs.lemmas.List.Folds.{list_any-append}
-use Rattle.std.proofs.lemmas.Option.{slice_get-get_or, slice_get-map, slice_get_read}
+use Rattle.std.proofs.lemmas.Option.{slice_get-get_or}
 use Rattle.roman_model.specs.Lists.{below, is_empty}
 use Rattle.roman_model.proofs.CallerLemmas.{any_from, in_below}
 
@@ -45,17 +44,6 @@ flat_map_begun f n now new ys before step is = step ∙ ap₂ (λ us vs. us ++ v
 -- a step that is found
 pub goes_found : (o : Option ℕ) (xs : List ℕ) (b : Bool) → MatchOption o (xs ≡ []) (λ to. xs ≡ to ∷ []) → b ≡ is_some o → IsTrue b → IsTrue (not (is_empty xs))
 goes_found o xs b h is t = sym (goes_is o xs h) ∙ sym is ∙ t
-
--- the place that a slice is read at
-pub get_at : {X : Type 0} (xs : List X) (i : ℕ) (d : X) → i < length xs → slice_get xs i ≡ Some (get_or xs i d)
-get_at xs i d l = slice_get-get_or xs i d l
-
--- what stands at a place that is read
-pub read_at : {X Y : Type 0} (f : Option X → Y) (g : X → Y) (xs : List X) (i : ℕ) (x : X) → ((y : X) → g y ≡ f (Some y)) → i < length xs → x ≡ get_or xs i x → g x ≡ f (slice_get xs i)
-read_at f g xs i x is l e = is x ∙ ap f (sym (slice_get_read xs (length xs) i x refl l e))
-
-pub read_map_at : {X Y Z : Type 0} (h : Option Y → Z) (v : X → Y) (xs : List X) (i : ℕ) (x : X) → i < length xs → x ≡ get_or xs i x → h (Some (v x)) ≡ h (slice_get (map v xs) i)
-read_map_at h v xs i x l e = ap h (sym (slice_get-map v xs i ∙ ap (option_map v) (slice_get_read xs (length xs) i x refl l e)))
 
 pub read_get : {X Y : Type 0} (f : Option X → Y) (g : X → Y) (xs : List X) (i : ℕ) (d : X) → ((y : X) → g y ≡ f (Some y)) → i < length xs → g (get_or xs i d) ≡ f (slice_get xs i)
 read_get f g xs i d is l = is (get_or xs i d) ∙ ap f (sym (slice_get-get_or xs i d l))

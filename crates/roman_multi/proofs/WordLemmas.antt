@@ -3,7 +3,7 @@ use Rattle.std.proofs.Common.{◌≡◌, ℕ, zero, suc, ◌+◌, ◌<◌, ◌�
 use Rattle.std.specs.Prelude.{slice_index_or, if◌then◌else◌, nat_le}
 use Rattle.std.specs.List.{list_all, IsDistinct}
 use Rattle.std.specs.Str.{bytes_eq}
-use Rattle.std.proofs.lemmas.Bool.{and_parts, and_from, false≢true, ltb-false, leb-true, le-leb, ne_eqb, false_from_ne_true}
+use Rattle.std.proofs.lemmas.Bool.{and_parts, and_from, false≢true, ltb-false, le-leb, ne_eqb, false_from_ne_true}
 use Rattle.std.proofs.lemmas.List.{take_more, get_or_default, get_or-take, length-take-le}
 use Rattle.std.proofs.lemmas.List.Folds.{list_any_none}
 use Rattle.std.proofs.lemmas.Map.Made.{AllPairs-from_IsDistinct}
@@ -48,14 +48,6 @@ names_at_get [] ts i d l m = absurd (omega arith)
 names_at_get (named ∷ targets) [] i d l m = absurd (omega arith)
 names_at_get (named ∷ targets) (t ∷ ts) zero d l m = refl
 names_at_get (named ∷ targets) (t ∷ ts) (suc i) d l m = names_at_get targets ts i d (omega arith) (omega arith)
-
--- a name is a word, and a word that isn't long is a name
-pub name_is_word : (bytes : List ℕ) → IsTrue (is_name bytes) → IsTrue (list_all is_name_byte bytes) × (0 < length bytes)
-name_is_word bytes t =
-    let (front, all) = and_parts (nat_le 1 (length bytes) && nat_le (length bytes) 32) (list_all is_name_byte bytes) t in
-    let (some, short) = and_parts (nat_le 1 (length bytes)) (nat_le (length bytes) 32) front in
-    let long : 1 ≤ length bytes = leb-true 1 (length bytes) some in
-    (all, omega arith)
 
 pub word_is_name : (bytes : List ℕ) → IsTrue (is_word bytes) → IsFalse (is_long bytes) → IsTrue (is_name bytes)
 word_is_name bytes t short =

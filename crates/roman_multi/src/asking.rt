@@ -1,11 +1,11 @@
 //! What the targets request.
-ghost use Rattle.std.specs.Prelude.{◌≡◌, ◌<◌, ◌≤◌, ◌++◌, length, map, All, IfOk, not};
+ghost use Rattle.std.specs.Prelude.{◌≡◌, ◌<◌, ◌≤◌, ◌++◌, length, All, IfOk, not};
 ghost use Rattle.std.specs.List.{list_any};
 ghost use Rattle.roman_model.specs.Lists.{below, is_empty};
 ghost use Rattle.roman_model.specs.SystemArena.{beh_next};
 ghost use Rattle.roman_model.specs.Combined.{uses};
-ghost use Rattle.roman_multi.specs.Combining.{IsKnown, machines, requests_in};
-ghost use Rattle.roman_multi.specs.Lists.{used_by, used_requests};
+ghost use Rattle.roman_multi.specs.Combining.{IsKnown, requests_in};
+ghost use Rattle.roman_multi.specs.Lists.{used_by};
 
 use crate::parts::Named;
 use roman_model::Request;

@@ -1,7 +1,6 @@
 //! How many states the targets have.
 ghost use Rattle.std.specs.Prelude.{◌≡◌, All, IfOk};
 ghost use Rattle.roman_model.specs.Combined.{target_sizes};
-ghost use Rattle.roman_parts.specs.Named.{NamedEnv};
 ghost use Rattle.roman_multi.specs.Combining.{IsOf, IsKnown, machines};
 
 use crate::parts::Named;

@@ -2,7 +2,7 @@
 ghost use Rattle.std.specs.Prelude.{◌≡◌, ◌-◌, ◌^◌, ◌<◌, ◌≤◌, ◌++◌, ◌∷◌, [], length, map, None, All, IfOk, IsTrue, IsFalse, OnOk};
 ghost use Rattle.std.specs.List.{list_any};
 ghost use Rattle.roman_read.specs.Names.{place_of};
-ghost use Rattle.roman_multi.specs.Combining.{is_long, has_repeats};
+ghost use Rattle.roman_multi.specs.Combining.{is_long};
 ghost use Rattle.roman_multi.specs.Lists.{is_word, TablesNames};
 
 use crate::error::CombineError;

@@ -4,7 +4,6 @@ ghost use Rattle.std.specs.List.{list_any, list_all};
 ghost use Rattle.roman_model.specs.Combined.{target_sizes};
 ghost use Rattle.roman_model.specs.Lists.{product_of};
 ghost use Rattle.roman_model.specs.Numbers.{states_at};
-ghost use Rattle.roman_model.specs.declared.limits.TheConstants.{MAX_STATES};
 ghost use Rattle.roman_read.specs.Names.{is_name_byte};
 ghost use Rattle.roman_multi.specs.Combining.{IsKnown, is_long, joined, machines, names_at, request_name, combined_state_names};
 ghost use Rattle.roman_multi.specs.Lists.{flat, is_word};

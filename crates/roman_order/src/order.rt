@@ -1,5 +1,5 @@
 //! The removal list, and what is kept beside it.
-ghost use Rattle.std.specs.Prelude.{◌≡◌, ℕ, ◌+◌, ◌*◌, ◌/◌, ◌<◌, ◌≤◌, ◌==◌, not, true, false, List, [], ◌∷◌, length, replicate, slice_get, count_by, vec_capacity};
+ghost use Rattle.std.specs.Prelude.{◌≡◌, ℕ, ◌+◌, ◌*◌, ◌/◌, ◌<◌, ◌≤◌, ◌==◌, not, true, false, [], ◌∷◌, length, replicate, slice_get, count_by, vec_capacity};
 ghost use Rattle.std.specs.Prelude.{IfOk, IfSome, IfNone};
 ghost use Rattle.std.specs.List.{IsDistinct};
 ghost use Rattle.roman_model.specs.Lists.{below};

@@ -142,16 +142,6 @@ pub record MarksBelow (env_states actions bound : ℕ) (old new : List ℕ) (mov
   pub has : (b e a n : ℕ) → e < env_states → a < actions →
       cell_has new ((b * env_states + e) * actions + a) n ≡ (cell_has old ((b * env_states + e) * actions + a) n || (is_move move b e a n && nat_lt e bound))
 
-pub marks_none : (env_states actions : ℕ) (old : List ℕ) (move : ℕ × ℕ × ℕ × ℕ) → MarksBelow env_states actions 0 old old move
-marks_none env_states actions old move = record {
-  has = λ b e a n he ha. or_false (cell_has old ((b * env_states + e) * actions + a) n)
-      ∙ ap (λ p. cell_has old ((b * env_states + e) * actions + a) n || p) (and_false (is_move move b e a n) ∙ ap (λ p. is_move move b e a n && p) (sym (le-ltb e 0 (omega arith))));
-}
-  where
-    and_false : (x : Bool) → false ≡ (x && false)
-    and_false true = refl
-    and_false false = refl
-
 below_next : (e bound : ℕ) → nat_lt e (bound + 1) ≡ (nat_lt e bound || e == bound)
 below_next e bound = elim (cases_order e bound) [
   | inl same ↦ lt-ltb e (bound + 1) (omega arith) ∙ or_true (nat_lt e bound) ∙ ap (λ p. nat_lt e bound || p) (sym (eq-eqb e bound same))

@@ -50,19 +50,6 @@ pub record IsLaid (bounds items : List ℕ) (laid : List (List ℕ)) : Type 0 wh
   pub last : (k : ℕ) → k + 1 ≡ length bounds → get_or bounds k 0 ≡ length items
   pub rows : pieces bounds items ≡ laid
 
-pub laid_none : (n : ℕ) → n ≡ 0 → IsLaid (n ∷ []) [] []
-laid_none n e = record {
-  cut = record { some = omega arith; rising = λ k less. omega arith; within = λ k less. first k less };
-  last = λ k is. subst (λ j. get_or (n ∷ []) j 0 ≡ 0) (sym (zero_of k is)) e;
-  rows = refl;
-}
-  where
-    zero_of : (k : ℕ) → k + 1 ≡ 1 → k ≡ 0
-    zero_of k is = omega arith
-
-    first : (k : ℕ) → k < 1 → get_or (n ∷ []) k 0 ≤ 0
-    first k less = subst (λ j. get_or (n ∷ []) j 0 ≤ 0) (sym (zero_of k (omega arith))) (omega arith)
-
 -- one row more
 pub laid_more : (bounds items more : List ℕ) (rows : List (List ℕ)) (n : ℕ) → IsLaid bounds items rows → n ≡ length (items ++ more) →
     IsLaid (bounds ++ n ∷ []) (items ++ more) (rows ++ more ∷ [])

@@ -1,5 +1,5 @@
 //! What behaviours and targets have in common.
-ghost use Rattle.std.specs.Prelude.{◌≡◌, ℕ, ◌<◌, ◌≤◌, length, All, IfOk};
+ghost use Rattle.std.specs.Prelude.{◌≡◌, ℕ, ◌<◌, ◌≤◌, All, IfOk};
 ghost use Rattle.roman_guard.specs.Meaning.{has_state};
 ghost use Rattle.roman_model.specs.System.{has, is_final};
 ghost use Rattle.roman_model.specs.SystemArena.{beh_next, beh_prev};

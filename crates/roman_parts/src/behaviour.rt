@@ -1,5 +1,5 @@
 //! Behaviours.
-ghost use Rattle.std.specs.Prelude.{◌≡◌, ℕ, ◌<◌, ◌≤◌, length, All, IfOk};
+ghost use Rattle.std.specs.Prelude.{◌≡◌, ◌<◌, ◌≤◌, length, All, IfOk};
 ghost use Rattle.roman_model.specs.SystemArena.{beh_next, beh_prev};
 ghost use Rattle.roman_model.specs.System.{is_final};
 ghost use Rattle.roman_model.specs.Normal.{normal_beh};

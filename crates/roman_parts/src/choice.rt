@@ -2,7 +2,7 @@
 ghost use Rattle.std.specs.Prelude.{◌≡◌, ◌^◌, ◌<◌, ◌≤◌, All, None, OnOk, Some, length, map};
 ghost use Rattle.roman_parts.specs.Listed.{move_of};
 ghost use Rattle.roman_parts.specs.Reading.{Gives};
-ghost use Rattle.roman_parts.specs.Choices.{choice_between, choice_at, choice_with, choice_of, single_of};
+ghost use Rattle.roman_parts.specs.Choices.{choice_between, choice_with, choice_of, single_of};
 
 use crate::error::{List, PartError};
 use crate::reading::refused;

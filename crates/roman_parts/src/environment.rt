@@ -1,5 +1,5 @@
 //! Environments.
-ghost use Rattle.std.specs.Prelude.{◌≡◌, ℕ, ◌<◌, ◌≤◌, length, All, IfOk};
+ghost use Rattle.std.specs.Prelude.{◌≡◌, ◌<◌, ◌≤◌, length, All, IfOk};
 ghost use Rattle.roman_model.specs.System.{IsEnv};
 ghost use Rattle.roman_model.specs.SystemArena.{env_next, env_prev};
 ghost use Rattle.roman_model.specs.Normal.{normal_env};

@@ -1,5 +1,5 @@
 //! Final states.
-ghost use Rattle.std.specs.Prelude.{◌≡◌, ◌<◌, ◌≤◌, All, IfOk, length};
+ghost use Rattle.std.specs.Prelude.{◌<◌, ◌≤◌, All, IfOk, length};
 ghost use Rattle.serde_json.specs.View.{view};
 ghost use Rattle.roman_parts.specs.Reading.{Gives};
 ghost use Rattle.roman_parts.specs.Lists.{finals_of};

@@ -1,5 +1,5 @@
 //! Masks of states, one for each cell of a table.
-ghost use Rattle.std.specs.Prelude.{◌≡◌, ℕ, ◌+◌, ◌*◌, ◌^◌, ◌<◌, ◌≤◌, length, IfOk, vec_len};
+ghost use Rattle.std.specs.Prelude.{◌≡◌, ◌+◌, ◌*◌, ◌^◌, ◌<◌, ◌≤◌, length, IfOk, vec_len};
 ghost use Rattle.roman_model.specs.System.{IsEnv};
 ghost use Rattle.roman_parts.specs.Cells.{PutsIntoCell, leads, leads_back, HasCells, goes, goes_back, HasGuardedCells, MarksMove};
 ghost use Rattle.roman_parts.specs.Listed.{AreTriples, AreMoves};

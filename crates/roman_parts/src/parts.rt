@@ -1,5 +1,4 @@
 //! Parts as they stand in a document.
-ghost use Rattle.std.specs.Prelude.{◌≡◌};
 ghost use Rattle.serde_json.specs.View.{view};
 ghost use Rattle.roman_parts.specs.Reading.{Gives};
 ghost use Rattle.roman_parts.specs.Parts.{environment_of, name_of, behaviour_of, target_of};

@@ -1,7 +1,6 @@
 //! Transitions.
-ghost use Rattle.std.specs.Prelude.{◌≡◌, ◌^◌, ◌<◌, ◌≤◌, All, IfOk, length, map};
-ghost use Rattle.serde_json.specs.View.{view, items_view};
-ghost use Rattle.roman_guard.specs.Meaning.{states_of};
+ghost use Rattle.std.specs.Prelude.{◌^◌, ◌<◌, ◌≤◌, All, IfOk, length, map};
+ghost use Rattle.serde_json.specs.View.{view};
 ghost use Rattle.roman_parts.specs.Listed.{triple_of, move_of, AreTriples, AreMoves};
 ghost use Rattle.roman_parts.specs.Reading.{Gives};
 ghost use Rattle.roman_parts.specs.Steps.{triple_item, triples_of, move_item, moves_of};

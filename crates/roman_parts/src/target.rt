@@ -1,5 +1,5 @@
 //! Targets.
-ghost use Rattle.std.specs.Prelude.{◌≡◌, ℕ, ◌<◌, ◌≤◌, ◌&&◌, ◌∷◌, [], not, length, All, IfOk, IfSome, MatchOption};
+ghost use Rattle.std.specs.Prelude.{◌≡◌, ◌<◌, ◌≤◌, ◌&&◌, ◌∷◌, [], not, length, All, IfOk, IfSome, MatchOption};
 ghost use Rattle.roman_model.specs.Lists.{is_empty};
 ghost use Rattle.roman_model.specs.System.{IsDeterministic, is_final};
 ghost use Rattle.roman_model.specs.SystemArena.{env_next, beh_next, beh_prev};

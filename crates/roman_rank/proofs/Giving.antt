@@ -99,10 +99,6 @@ pub loses_before_more : (A : Arena ℕ) (n p : ℕ) → IsFalse (loses A n p) �
 loses_before_more A zero p f = refl
 loses_before_more A (suc n) p f = loses_down A n (suc n) p (omega arith) f
 
--- nothing is given before the first level
-pub ranks_none : (A : Arena ℕ) (table : List ℕ) → length table ≡ length A.nodes → ((p : ℕ) → p < length A.nodes → slice_index table p ≡ 2 ^ 32 - 1) → AreRanksBelow A 0 table
-ranks_none A table long none = record { long = long; lost = λ p l t. absurd (false≢true t); others = λ p l f. none p l }
-
 -- one more level is given
 pub ranks_more : (A : Arena ℕ) → IsNumbered A → (levels : List ℕ) (L : List (Entry ℕ)) (n : ℕ) (old new : List ℕ) → AreLevels A levels L →
     IsDistinct (λ x y. x == y) (nodes_of L) → length (nodes_of L) ≡ length L → n < length levels → n < 2 ^ 32 - 1 → length new ≡ length old →

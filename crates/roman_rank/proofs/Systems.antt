@@ -1,5 +1,5 @@
 -- What a complete relation gives to those who rank its pairs.
-use Rattle.std.proofs.Common.{◌≡◌, ◌≢◌, ℕ, ◌-◌, ◌^◌, ◌<◌, ◌≤◌, ◌⊎◌, true, [], length, IsFalse, inl, inr, sym, ◌∙◌, subst, arith}
+use Rattle.std.proofs.Common.{◌≡◌, ℕ, ◌-◌, ◌^◌, ◌<◌, ◌≤◌, true, length, IsFalse, inl, inr, sym, ◌∙◌, subst, arith}
 use Rattle.std.proofs.Math.Nat.{mul-le-mul_left}
 use Rattle.std.proofs.lemmas.Bool.{not_from_false}
 use Rattle.roman_model.specs.Arena.{Arena}
@@ -9,7 +9,7 @@ use Rattle.roman_model.proofs.CallerLemmas.{by_test, length-below, lost_unrelate
 use Rattle.roman_joint.specs.NamedSys.{NamedSys, system_of, IsNamedSys}
 use Rattle.roman_order.specs.Board.{Board, pairs_of, has_entry}
 use Rattle.roman_relation.specs.Shaped.{IsShaped}
-use Rattle.roman_relation.specs.Settled.{IsSettled, AreLevels}
+use Rattle.roman_relation.specs.Settled.{IsSettled}
 use Rattle.roman_relation.specs.Greatest.{arena_of, row_lanes, HasCompleteList}
 use Rattle.roman_relation.proofs.CallerLemmas.{listed_numbers}
 use Rattle.roman_rules.specs.Numbered.{IsNumbered}
@@ -49,8 +49,3 @@ settled_all A board ok settled = record {
         | inr more ↦ sym (last_is_steady A (numbered_arena A ok) n more p (in_nodes A ok p l)) ∙ t
       ];
 }
-
--- the levels of an order that has some
-pub some_levels : (A : Arena ℕ) (board : Board) → board.levels ≢ [] → (board.levels ≡ []) ⊎ AreLevels A board.levels board.list → AreLevels A board.levels board.list
-some_levels A board some (inl none) = absurd (some none)
-some_levels A board some (inr are) = are

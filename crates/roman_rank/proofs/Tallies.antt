@@ -44,14 +44,6 @@ count_place p (x ∷ xs) l = by_test (p x)
     let (i, k, t) = count_place p xs (omega (arith, sum_by-cons (λ y. cond (p y) 1 0) x xs, none)) in
     (suc i, omega arith, t))
 
--- nothing is counted yet
-pub counts_none : (table counts : List ℕ) → counts ≡ [] → AreCounts (take 0 table) counts
-counts_none table counts e = subst (λ cs. AreCounts (take 0 table) cs) (sym e) (record {
-  each = λ n l. refl;
-  within = omega arith;
-  last = λ l. absurd (omega arith);
-})
-
 -- a place without a depth is passed by
 pub counts_passed : (table counts : List ℕ) (i : ℕ) → i < length table → get_or table i 0 ≡ 2 ^ 32 - 1 → AreCounts (take i table) counts → AreCounts (take (i + 1) table) counts
 counts_passed table counts i l none are = record {

@@ -274,14 +274,6 @@ pub some_depth : (table : List ℕ) (p d : ℕ) → d ≡ slice_index table p �
 some_depth table p d is other =
     ap Some is ∙ sym (cond-false (slice_index table p == 2 ^ 32 - 1) None (Some (slice_index table p)) (ne_eqb (slice_index table p) (2 ^ 32 - 1) (λ e. other (is ∙ e))))
 
--- the greatest depth
-pub deepest_is : (s : Sys) (table counts : List ℕ) (o : Option ℕ) → AreDepths s table → IsRanking table counts → o ≡ deepest_of (length counts) → IfSome o (IsGreatest s)
-deepest_is s table counts o are ranking e = by_depth o (subst (IsDeepest s) (sym e) (deepest_told s table counts are ranking (length counts) refl))
-  where
-    by_depth : (o : Option ℕ) → IsDeepest s o → IfSome o (IsGreatest s)
-    by_depth None all = tt
-    by_depth (Some n) greatest = greatest
-
 pub deepest_is_none : (s : Sys) (table counts : List ℕ) (o : Option ℕ) → AreDepths s table → IsRanking table counts → o ≡ deepest_of (length counts) → (o ≡ None) ↔ ((p : Pair) → IsPair s p → Great s p)
 deepest_is_none s table counts o are ranking e = by_depth o (subst (IsDeepest s) (sym e) (deepest_told s table counts are ranking (length counts) refl))
   where

@@ -1,5 +1,5 @@
 //! The text of depths.
-ghost use Rattle.std.specs.Prelude.{◌≡◌, ℕ, ◌^◌, ◌<◌, ◌++◌, length};
+ghost use Rattle.std.specs.Prelude.{◌≡◌, ◌^◌, ◌<◌, ◌++◌, length};
 ghost use Rattle.roman_io.specs.Faults.{HasCause};
 ghost use Rattle.roman_text.specs.Pages.{Gathers};
 ghost use Rattle.roman_model.specs.System.{Sys};

@@ -1,5 +1,5 @@
 //! Masks, and how many seats all of them have.
-ghost use Rattle.std.specs.Prelude.{◌≡◌, ℕ, ◌+◌, ◌*◌, ◌<◌, ◌≤◌, length, sum_by};
+ghost use Rattle.std.specs.Prelude.{◌≡◌, ◌+◌, ◌*◌, ◌<◌, ◌≤◌, length, sum_by};
 ghost use Rattle.roman_model.specs.Lists.{below};
 ghost use Rattle.roman_model.specs.System.{has};
 ghost use Rattle.roman_model.specs.Arena.{is_listed, mask as mask_of, choices};

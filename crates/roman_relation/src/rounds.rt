@@ -1,6 +1,6 @@
 //! Rounds that make a removal list complete.
 ghost use Rattle.std.specs.Prelude.{◌≡◌, ◌≢◌, ℕ, suc, true, false, ◌+◌, ◌<◌, ◌≤◌, [], ◌∷◌, ◌++◌};
-ghost use Rattle.std.specs.Prelude.{length, drop, IsTrue};
+ghost use Rattle.std.specs.Prelude.{length, drop};
 ghost use Rattle.roman_model.specs.Arena.{IsOrder, fall};
 ghost use Rattle.roman_relation.specs.Shaped.{IsShaped};
 ghost use Rattle.roman_relation.specs.Settled.{Begins, SettlesOn, IsSettled, HoldsLost, RisesByDepth, AreLevels};

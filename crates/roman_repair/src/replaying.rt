@@ -1,8 +1,8 @@
 //! The replay: entries that wait are kept where those kept before justify them.
-ghost use Rattle.std.specs.Prelude.{◌≡◌, ℕ, ◌+◌, ◌*◌, ◌<◌, ◌≤◌, ◌++◌, ◌∷◌, [], if◌then◌else◌};
-ghost use Rattle.std.specs.Prelude.{true, false, length, flat_map, IsTrue, IsFalse, IfSome};
+ghost use Rattle.std.specs.Prelude.{◌≡◌, ◌+◌, ◌*◌, ◌<◌, ◌≤◌, ◌++◌, ◌∷◌, [], if◌then◌else◌};
+ghost use Rattle.std.specs.Prelude.{true, false, length, flat_map, IsTrue, IfSome};
 ghost use Rattle.roman_lanes.specs.Rows.{is_on};
-ghost use Rattle.roman_model.specs.Arena.{Arena, is_listed, is_justified};
+ghost use Rattle.roman_model.specs.Arena.{is_listed, is_justified};
 ghost use Rattle.roman_rules.specs.Asked.{HoldsWhereKept, readings_of_reason};
 ghost use Rattle.roman_order.specs.Board.{as_entry, has_entry};
 ghost use Rattle.roman_relation.specs.Shaped.{IsShaped};

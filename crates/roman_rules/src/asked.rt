@@ -1,5 +1,5 @@
 //! Entries of a list, judged row by row.
-ghost use Rattle.std.specs.Prelude.{◌≡◌, ℕ, ◌+◌, ◌*◌, ◌/◌, ◌%◌, ◌<◌, ◌≤◌, ◌==◌, Bool, true, not, length, count_by, IsTrue, MatchOption};
+ghost use Rattle.std.specs.Prelude.{◌≡◌, ℕ, ◌+◌, ◌*◌, ◌/◌, ◌%◌, ◌<◌, ◌≤◌, ◌==◌, Bool, true, not, length, count_by, MatchOption};
 ghost use Rattle.roman_model.specs.Lists.{below};
 ghost use Rattle.roman_model.specs.Arena.{Arena, is_justified};
 ghost use Rattle.roman_lanes.specs.Rows.{is_on, AreRows};

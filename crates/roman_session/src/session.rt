@@ -1,16 +1,14 @@
 //! Sessions: what they are made of, and what is seen of them.
-ghost use Rattle.std.specs.Prelude.{◌≡◌, ◌≢◌, ℕ, ◌<◌, length, map, Some, slice_get, slice_index, IsTrue};
-ghost use Rattle.std.specs.List.{filter};
+ghost use Rattle.std.specs.Prelude.{◌≡◌, ◌≢◌, ℕ, ◌<◌, length, Some, slice_get, slice_index};
 ghost use Rattle.roman_model.specs.System.{IsPair, has};
 ghost use Rattle.roman_model.specs.SystemArena.{pairs, is_allowed};
 ghost use Rattle.roman_model.specs.System as model;
-ghost use Rattle.roman_model.specs.Numbers.{sizes_of, count, number, entry_at};
+ghost use Rattle.roman_model.specs.Numbers.{sizes_of, count, number};
 ghost use Rattle.roman_model.specs.Explanation.{name_at};
 ghost use Rattle.roman_model.specs.Offers.{is_related, offers, related_count};
 ghost use Rattle.roman_radix.specs.Radix.{moved};
 ghost use Rattle.roman_rules.specs.Bits.{HasBits};
 ghost use Rattle.roman_joint.specs.NamedSys as named;
-ghost use Rattle.roman_relation.specs.Greatest.{IsRelation};
 ghost use Rattle.roman_session.specs.Situations.{Situation, present_system, is_idle, IsOpen, IsPhase, IsSituation};
 
 mod answering;

@@ -9,7 +9,7 @@ use Rattle.std.proofs.lemmas.List.Elements.{All-cons, All-nil, All-push}
 use Rattle.std.proofs.lemmas.List.Splits.{slice_split-cons_no, slice_split_none, slice_split_at}
 use Rattle.std.specs.List.{slice_split, onto_first, All}
 use Rattle.roman_model.specs.Lines.{lines, onto_first_line, ended_lines, onto_ended_line, text_of_lines}
-use Rattle.roman_text.specs.Lines.{is_newline, last_part, unfinished, with_newline, HasNoNewline, IsSplit, HasTaken, kept}
+use Rattle.roman_text.specs.Lines.{is_newline, last_part, unfinished, with_newline, HasNoNewline, IsSplit, kept}
 
 -- ---- parts
 
@@ -295,28 +295,6 @@ pub kept-empty : (line : List ℕ) → length (kept line) ≡ 0 → line ≡ []
 unfolding kept
 kept-empty [] h = refl
 kept-empty (x ∷ xs) h = absurd (omega (arith, length-take 257 (x ∷ xs)))
-
--- ---- a splitter that takes a stream
-
--- before the first byte
-pub HasTaken-start : HasTaken [] [] []
-HasTaken-start = record { whole = refl; rest = sym (ap kept unfinished-nil ∙ kept-nil) }
-
--- a newline: what is held is the line that it ends, as much of it as is kept, and a cleared splitter holds nothing of the next
-pub HasTaken-newline : (bytes : List ℕ) (lines : List (List ℕ)) (held : List ℕ) (byte : ℕ) → is_newline byte ≡ true → HasTaken bytes lines held
-    → HasTaken (bytes ++ byte ∷ []) (lines ++ unfinished bytes ∷ []) []
-HasTaken-newline bytes lines held byte e t = record {
-  whole = ap (λ (prefix : List (List ℕ)). prefix ++ unfinished bytes ∷ []) t.whole ∙ sym (ended_lines-newline bytes byte e);
-  rest = sym (ap kept (unfinished-newline bytes byte e) ∙ kept-nil);
-}
-
--- another byte: it is held behind what was
-pub HasTaken-other : (bytes : List ℕ) (lines : List (List ℕ)) (held : List ℕ) (byte : ℕ) → is_newline byte ≡ false → HasTaken bytes lines held
-    → HasTaken (bytes ++ byte ∷ []) lines (kept (held ++ byte ∷ []))
-HasTaken-other bytes lines held byte e t = record {
-  whole = t.whole ∙ sym (ended_lines-other bytes byte e);
-  rest = rw t.rest (kept-push (unfinished bytes) byte ∙ sym (ap kept (unfinished-other bytes byte e)));
-}
 
 -- ---- the room of a splitter
 

@@ -1,5 +1,4 @@
 //! Single lines that are put to a sink.
-ghost use Rattle.std.specs.Prelude.{◌≡◌};
 ghost use Rattle.roman_io.specs.Faults.{HasCause};
 ghost use Rattle.roman_io.specs.Sink.{Puts};
 ghost use Rattle.roman_text.specs.Replies.{reply_text};

@@ -1,7 +1,6 @@
 -- The check of a certificate, as part of a run.
 use Rattle.std.proofs.Common.{◌≡◌, ℕ, Bool, List, Option, None, Some, IfSome, IfOk, Result, Ok, Err, refl, sym, ap, ◌∙◌, subst}
 use Rattle.std.specs.Result.{IsErrOf}
-use Rattle.roman_io.specs.Faults.{Rose}
 use Rattle.roman_io.specs.Shelf.{Texts, shelf_text, rest_from}
 use Rattle.roman_model.specs.Arena.{Arena}
 use Rattle.roman_model.specs.Numbers.{sizes_of, number, numbered}
@@ -51,11 +50,6 @@ finds_text A start told given name given_name at result same_texts same_name at_
     found_text A start told name result (subst (λ (rest : Option (List ℕ)). IfOk result (λ verdict. HaveVerdict A start rest (verdict_of verdict))) same whole)
     (λ e. subst (λ (rest : Option (List ℕ)). HaveVerdict A start rest TooLong) same (long e))
 
--- a fault of the check is its cause
-pub check_cause : (old new : ℕ) (result : Result Verdict CheckError) → (IsErrOf result check.Fault → Rose old new) → ((result ≡ Err check.Fault → ⊥) → new ≡ old) → CheckCause old new result
-check_cause old new (Err check.Fault) rose stayed = rose refl
-check_cause old new _ rose stayed = stayed (λ e. cc)
-
 -- the verdict on the certificate is the run's
 judged : (A : Arena ℕ) (start : ℕ) (certificate : List ℕ) (checked : Result Verdict CheckError) → FindsVerdict A start certificate checked → (text : List ℕ) (ends : Status) → JudgesCheck checked text ends → SaysVerdict (cert_verdict A start certificate) text ends
 judged A start certificate (Ok verdict) finds text ends judges = subst (λ v. SaysVerdict v text ends) (sym finds) judges
@@ -103,7 +97,3 @@ says_greatest verdict related start e = subst (λ (v : Verdict). SaysVerdict (ve
 
 pub says_rejected : (verdict : Verdict) (line : ℕ) (why : Why) → verdict ≡ checked_as.Rejected line why → SaysVerdict (verdict_of verdict) (rejected_text line (fault_of why)) status.No
 says_rejected verdict line why e = subst (λ (v : Verdict). SaysVerdict (verdict_of v) (rejected_text line (fault_of why)) status.No) (sym e) (refl, refl)
-
--- a verdict is told where there is one
-pub tells_verdict : (checked : Result Verdict CheckError) (verdict : Verdict) (old new : Option (List ℕ)) (result : Status) → checked ≡ Ok verdict → Writes (SaysVerdict (verdict_of verdict)) old new result → Writes (JudgesCheck checked) old new result
-tells_verdict checked verdict old new result e writes = subst (λ (r : Result Verdict CheckError). Writes (JudgesCheck r) old new result) (sym e) writes

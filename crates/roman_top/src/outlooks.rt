@@ -5,7 +5,7 @@ ghost use Rattle.roman_io.specs.Faults.{HasCause};
 ghost use Rattle.roman_io.specs.Sink.{Puts};
 ghost use Rattle.roman_model.specs.Lists.{below};
 ghost use Rattle.roman_model.specs.Numbers.{sizes_of, count, pair_at};
-ghost use Rattle.roman_model.specs.Without.{outlook, system_without, pair_without};
+ghost use Rattle.roman_model.specs.Without.{outlook};
 ghost use Rattle.roman_joint.specs.NamedSys.{system_of};
 ghost use Rattle.roman_relation.specs.Greatest.{IsRelation};
 ghost use Rattle.roman_text.specs.Pages.{Gathers};

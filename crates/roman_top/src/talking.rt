@@ -1,5 +1,5 @@
 //! `run SYSTEM` and `run SYSTEM SESSION`.
-ghost use Rattle.std.specs.Prelude.{◌≡◌, ◌⊎◌, None, Some, OnOk, IsErrOf};
+ghost use Rattle.std.specs.Prelude.{◌≡◌, ◌⊎◌, None, Some};
 ghost use Rattle.roman_io.specs.Shelf.{rest_from};
 ghost use Rattle.roman_hearing.specs.Hearing.{hall, spot, CausedBy};
 ghost use Rattle.roman_top.specs.Command.{Run, On};

@@ -1,9 +1,9 @@
 -- What is told in a table.
-use Rattle.std.proofs.Common.{◌≡◌, ◌≢◌, ℕ, ◌+◌, ◌*◌, ◌<◌, ◌≤◌, false, List, [], ◌∷◌, ◌++◌, length, take, drop, get_or, inl, inr, sym, ap, ◌∙◌, subst, arith}
+use Rattle.std.proofs.Common.{◌≡◌, ◌≢◌, ℕ, ◌+◌, ◌*◌, ◌<◌, false, List, ◌++◌, length, take, drop, inl, inr, sym, ap, ◌∙◌, subst, arith}
 use Rattle.std.proofs.Math.ListN.{set}
 use Rattle.std.proofs.Math.Seq.{take-append_seam}
 use Rattle.std.proofs.lemmas.Bool.{cases_lt}
-use Rattle.std.proofs.lemmas.List.{get_or_default, get_or-set_same, get_or-set_other}
+use Rattle.std.proofs.lemmas.List.{get_or-set_same, get_or-set_other}
 use Rattle.roman_model.specs.Without.{Outlook}
 use Rattle.roman_model.specs.declared.way.Way.{Way}
 use Rattle.roman_joint.specs.NamedSys.{NamedSys}
@@ -18,10 +18,6 @@ told_there table i j o same l = ap (told_at (set table i o)) same ∙ ap told (g
 -- the others stay
 pub told_elsewhere : (table : List declared.Outlook) (i j : ℕ) (o : declared.Outlook) → j ≢ i → told_at (set table i o) j ≡ told_at table j
 told_elsewhere table i j o other = ap told (get_or-set_other table i j o (record { composes = false; related = 0; choices = 0 }) other)
-
--- an outlook is read
-pub told_read : (table : List declared.Outlook) (i : ℕ) (d : declared.Outlook) → i < length table → told (get_or table i d) ≡ told_at table i
-told_read table i d l = ap told (get_or_default table i d (record { composes = false; related = 0; choices = 0 }) l)
 
 -- what was told stays where earlier places do
 pub told_still : (parts : NamedSys) (p : ℕ) (way : Way) (i m : ℕ) (table new : List declared.Outlook) → i < 32 → i < m → ((x : ℕ) → x < 32 * m → told_at new x ≡ told_at table x) →

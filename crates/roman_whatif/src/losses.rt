@@ -1,5 +1,5 @@
 //! What is left where services fail: each of them alone, and each two.
-ghost use Rattle.std.specs.Prelude.{◌≡◌, ℕ, ◌+◌, ◌*◌, ◌<◌, ◌≤◌, length, IfOk, IfSome};
+ghost use Rattle.std.specs.Prelude.{◌≡◌, ℕ, ◌+◌, ◌*◌, ◌<◌, length, IfOk};
 ghost use Rattle.roman_model.specs.Numbers.{sizes_of, count};
 ghost use Rattle.roman_joint.specs.NamedSys.{NamedSys, system_of};
 ghost use Rattle.roman_relation.specs.Greatest.{IsRelation};

@@ -5,7 +5,6 @@ ghost use Rattle.roman_model.specs.SystemArena.{beh_next};
 ghost use Rattle.roman_model.specs.Numbers.{sizes_of, count, number, pair_at, numbered};
 ghost use Rattle.roman_model.specs.declared.limits.TheConstants.{MAX_CELLS};
 ghost use Rattle.roman_radix.specs.Radix.{stride_of, env_stride_of, moved};
-ghost use Rattle.roman_rules.specs.Bits.{HasBits};
 ghost use Rattle.roman_joint.specs.NamedSys.{system_of};
 ghost use Rattle.roman_joint.specs.Scenes.{IsScene};
 ghost use Rattle.roman_rules.specs.Finding.{HasFinding};

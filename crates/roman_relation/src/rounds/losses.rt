@@ -1,6 +1,6 @@
 //! The rows before what a round has listed.
-ghost use Rattle.std.specs.Prelude.{◌≡◌, ℕ, ◌+◌, ◌*◌, ◌/◌, ◌<◌, ◌≤◌, true, false};
-ghost use Rattle.std.specs.Prelude.{Bool, not, ◌&&◌, length, drop, IsTrue};
+ghost use Rattle.std.specs.Prelude.{◌≡◌, ℕ, ◌+◌, ◌*◌, ◌/◌, ◌<◌, ◌≤◌, false};
+ghost use Rattle.std.specs.Prelude.{not, ◌&&◌, length, drop, IsTrue};
 ghost use Rattle.roman_lanes.specs.Rows.{is_on};
 ghost use Rattle.roman_model.specs.Arena.{is_listed, fall, back as predecessors};
 ghost use Rattle.roman_relation.specs.Shaped.{IsShaped};

@@ -1,5 +1,5 @@
 //! The entries of a removal list after a service's death.
-ghost use Rattle.std.specs.Prelude.{◌≡◌, ℕ, ◌*◌, ◌<◌, [], length};
+ghost use Rattle.std.specs.Prelude.{◌≡◌, ◌<◌, [], length};
 ghost use Rattle.roman_model.specs.System.{Seat};
 ghost use Rattle.roman_model.specs.Change.{Die, CanChange};
 ghost use Rattle.roman_model.specs.Numbers.{sizes_of, sizes_without, count, numbered};

@@ -1,5 +1,4 @@
 //! Jumps of services and of the environment.
-ghost use Rattle.std.specs.Prelude.{◌≡◌};
 ghost use Rattle.roman_text.specs.Replies.{reply_text};
 ghost use Rattle.roman_text.specs.Shapes.{jump, jump_env};
 ghost use Rattle.roman_session.specs.Steps.{StepOn};

@@ -1,4 +1,4 @@
-use Rattle.std.proofs.Common.{◌≡◌, ℕ, ◌<◌, ◌+◌, List, get_or, ◌∙◌, subst}
+use Rattle.std.proofs.Common.{get_or, ◌∙◌, subst}
 use Rattle.roman_model.specs.Lists.{IsIn}
 use Rattle.roman_text.proofs.CallerLemmas.{fill_same, fill_more, fill_failed}
 use Rattle.roman_cost.proofs.Lines.{next_value}

@@ -1,5 +1,5 @@
 -- A part that is loaded goes behind those before it, and one that isn't stops them all.
-use Rattle.std.proofs.Common.{◌≡◌, ◌∷◌, ◌++◌, [], List, Option, IfSome, Ok, subst, sym, arith, rules}
+use Rattle.std.proofs.Common.{◌≡◌, Option, IfSome, Ok, subst, sym, arith, rules}
 use Rattle.std.proofs.lemmas.Result.{err_from_is_err_and}
 use Rattle.serde_json.specs.View.{view}
 use Rattle.roman_io.specs.Shelf.{Texts}

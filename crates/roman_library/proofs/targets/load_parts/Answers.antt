@@ -1,5 +1,4 @@
 -- The targets of a document, combined, are its parts.
-use Rattle.std.proofs.Common.{◌≡◌}
 use Rattle.serde_json.specs.View.{view}
 use Rattle.roman_library.proofs.PlacedLemmas.{several_parts}
 use Rattle.roman_library.proofs.targets.load_parts.Goals as goal
