@@ -2,7 +2,7 @@
 
 import re
 import unittest
-from collections import defaultdict
+from collections import Counter, defaultdict
 from pathlib import Path
 from typing import Dict, Iterator, List
 
@@ -10,6 +10,8 @@ from . import TOP
 
 CRATES = TOP / "crates"
 CITED = re.compile(r"Rattle\.(roman_\w+)\.proofs\.(\w+)|\b(roman_\w+)::proofs::(\w+)")
+WORD = re.compile(r"[^\s(){}\[\],;.λ→∙×⊎≡:=|`]+")
+LEMMA = re.compile(r"(?:pub )?(?:abbrev |abbrev pub )?([^\s:(){}◌]+) :(?: |$)", re.M)
 DEFINED = re.compile(r"^(?:abbrev pub|unfoldable pub|pub record|pub data) +([A-Za-z_]+)", re.M)
 
 
@@ -17,6 +19,16 @@ def sources(part: str, ending: str) -> Iterator[Path]:
     """The files below one part of each crate, as its `specs`, with that ending."""
     for folder in sorted(CRATES.glob(f"*/{part}")):
         yield from sorted(folder.rglob(f"*{ending}"))
+
+
+def words(text: str) -> Counter:
+    """How often each word stands in a source, comments aside."""
+    return Counter(word for line in text.splitlines() if not re.match(r"\s*--", line) for word in WORD.findall(line))
+
+
+def declarations(page: str) -> Iterator[str]:
+    """The declarations of a page, each with the definitions that are local to it."""
+    yield from re.split(r"\n\n(?! )", page)
 
 
 class Sources(unittest.TestCase):
@@ -37,3 +49,20 @@ class Sources(unittest.TestCase):
             for found in DEFINED.finditer(file.read_text(encoding="utf-8")):
                 places[found[1]].append(str(file.relative_to(TOP)))
         self.assertEqual({name: where for name, where in places.items() if len(where) > 1}, {})
+
+    def test_each_lemma_is_cited(self) -> None:
+        pages = {file: file.read_text(encoding="utf-8") for part, ending in
+                 (("proofs", ".antt"), ("specs", ".antt"), ("src", ".rt")) for file in sources(part, ending)}
+        everywhere: Counter = Counter()
+        for page in pages.values():
+            everywhere.update(words(page))
+        uncited: List[str] = []
+        for file in sources("proofs", ".antt"):
+            # Answers and invariants are named by the prover, and examples are there for themselves.
+            if file.name in ("Answers.antt", "Invariants.antt") or file.name.endswith("Examples.antt"):
+                continue
+            for declaration in declarations(pages[file]):
+                found = next((m for m in map(LEMMA.match, declaration.splitlines()) if m), None)
+                if found and everywhere[found[1]] == words(declaration)[found[1]]:
+                    uncited.append(f"{file.relative_to(TOP)}: {found[1]}")
+        self.assertEqual(uncited, [])
