@@ -1,5 +1,5 @@
 -- Pieces between bounds: how many, which, and what one bound more adds.
-use Rattle.std.proofs.Common.{◌≡◌, ℕ, zero, suc, ◌+◌, ◌<◌, ◌≤◌, List, [], ◌∷◌, ◌++◌, length, get_or, drop, Some, slice_get, slice_range, refl, sym, ap, ap₂, ◌∙◌, subst, inl, inr, arith, add-one, length-append}
+use Rattle.std.proofs.Common.{◌≡◌, ℕ, zero, suc, ◌+◌, ◌<◌, ◌≤◌, List, [], ◌∷◌, ◌++◌, length, get_or, drop, Some, slice_get, slice_range, refl, sym, ap, ap₂, ◌∙◌, inl, inr, arith, add-one, length-append}
 use Rattle.std.proofs.lemmas.List.{take-append-le, drop_at, take_all, get_or_append_left, get_or_push, length_push}
 use Rattle.std.proofs.lemmas.Slice.{between_is}
 use Rattle.std.proofs.lemmas.Bool.{cases_eq}

@@ -63,7 +63,10 @@ impl Session {
     }
 
     /// Answers a line as [`Session::answer`] does, but on a page: the answer is taken behind what
-    /// it holds.
+    /// it holds, and what has no room on it is written. No memory is taken.
+    ///
+    /// The error comes only where the sink's count of faults rose. The event was then taken all the
+    /// same, a prefix of what the page held and of the answer was written, and the page is empty.
     pub fn answer_on<O: Sink, L: Ledger>(
         &mut self,
         line: &[u8],
