@@ -264,7 +264,7 @@ class Manual(unittest.TestCase):
         usage = run(PROGRAM).stdout
         page = (TOP / "docs" / "roman.1").read_text(encoding="utf-8")
         for command in commands(usage):
-            self.assertIn(f".Cm {command}\n", page)
+            self.assertIn(f".Nm\n.Cm {command}\n", page)
             self.assertIn(f".It Cm {command} ", page)
         self.assertEqual(page.count(".It Cm "), len(commands(usage)))
 
