@@ -19,7 +19,7 @@ from typing import (
     Union,
 )
 
-from .errors import Impossible, NoComposition, RomanError, UnknownName
+from .errors import BadLine, Impossible, NoComposition, RomanError, UnknownName
 from .replies import Offer, Repair
 from .session import Session
 
@@ -163,7 +163,7 @@ class Dispatcher:
                     return Done(
                         action, service, state, move.target, move.environment, tuple(failures)
                     )
-                except (Impossible, UnknownName, TypeError, ValueError):
+                except (BadLine, Impossible, UnknownName, TypeError, ValueError):
                     failure = Failure(service, action, None, outcome)
             failures.append(failure)
             self._fail(failure)

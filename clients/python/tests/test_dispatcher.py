@@ -65,7 +65,17 @@ class Dispatching(unittest.TestCase):
             self.assertFalse(session.report().services[0].frozen)
 
     def test_impossible_outcomes(self) -> None:
-        outcomes: List[Any] = [("off", "e"), ("lit", "e"), ("on", "night"), ("", "e"), None, ("on",)]
+        outcomes: List[Any] = [
+            ("off", "e"),
+            ("lit", "e"),
+            ("on", "night"),
+            ("", "e"),
+            ("x" * 300, "e"),
+            ("\ud800", "e"),
+            (b"on", "e"),
+            ("on",),
+            None,
+        ]
         for outcome in outcomes:
             with self.subTest(outcome), lamps(2) as session:
                 dispatcher = Dispatcher(session, {"l1": lambda action: outcome, "l2": works})
