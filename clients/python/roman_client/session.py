@@ -48,6 +48,7 @@ class Session:
         """
         words = [program] if isinstance(program, str) else list(program)
         self._timeout = timeout
+        self._until: Optional[float] = None
         self._lines: Deque[str] = deque()
         self._begun = bytearray()
         self._ended: Optional[ProgramEnded] = None
@@ -242,6 +243,7 @@ class Session:
         data = f"{line}\n".encode()
         if self._ended is not None:
             raise self._ended
+        self._until = None if self._timeout is None else time.monotonic() + self._timeout
         try:
             self._send(data)
             reply = self._next_line()
@@ -264,13 +266,13 @@ class Session:
             raise self._ending() from None
 
     def _next_line(self) -> str:
-        """The next line of the program's output."""
-        until = None if self._timeout is None else time.monotonic() + self._timeout
+        """The next line of a reply, which is to be whole by the time that `_answered` set for it."""
+        until = self._until
         while not self._lines:
             if not self._gather(0.2 if until is None else min(0.2, until - time.monotonic())):
                 raise self._ending()
             if until is not None and not self._lines and time.monotonic() >= until:
-                raise NoReply(f"no reply within {self._timeout} seconds")
+                raise NoReply(f"no whole reply within {self._timeout} seconds")
         return self._lines.popleft()
 
     def _gather(self, seconds: float) -> bool:
