@@ -156,6 +156,27 @@ class Dispatching(unittest.TestCase):
                 dispatcher.policy = LeastCost([["spare", "on", 4]])
                 self.assertEqual(dispatcher.request("on").service, "l1")
 
+    def test_costs_that_are_none(self) -> None:
+        good: List[Any] = [["lamp", "on", 0], ("lamp", "off", 1_000_000), ["spare", "on", 1]]
+        LeastCost(good)
+        bad: List[Any] = [
+            ["lamp", "dim", 1.9],
+            ["lamp", "dim", 1.0],
+            ["lamp", "dim", -5],
+            ["lamp", "dim", 1_000_001],
+            ["lamp", "dim", "3"],
+            ["lamp", "dim", True],
+            ["lamp", "dim", None],
+            ["lamp", "dim"],
+            ["lamp", "dim", 1, 1],
+            [1, "dim", 1],
+            ["lamp", ["dim"], 1],
+            ["lamp", "on", 0],
+        ]
+        for item in bad:
+            with self.subTest(item), self.assertRaises(ValueError):
+                LeastCost([*good, item])
+
     def test_devices_are_there_for_all(self) -> None:
         with lamps(2) as session:
             with self.assertRaises(ValueError):
