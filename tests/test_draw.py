@@ -91,14 +91,30 @@ class Systems(unittest.TestCase):
             self.assertIn(words, dot)
 
     def test_what_can_not_be_drawn(self) -> None:
+        texts = ["{", "{}", "[]", '{"roman":1,"environment":{"file":"gone"}}']
+        lamp = (TOP / "samples" / "lamp.json").read_text(encoding="utf-8")
+        for right, wrong in (
+            ('["off", true, "on", "on"]', '["off", "e", "on", "on"]'),
+            ('["off", true, "on", "on"]', '["off", true]'),
+            ('["off", true, "on", "on"]', "1"),
+            ('["e", "on", "e"]', '["e", "on"]'),
+            ('"name": "lamp",', ""),
+            ('"start": "off",', ""),
+            ('"start": "off"', '"start": 0'),
+            ('"final": ["off"]', '"final": 1'),
+            ('{"name": "l1", "behaviour": "lamp"}', '"lamp"'),
+            ('"states": ["off", "on"]', '"states": [0, 1]'),
+        ):
+            self.assertIn(right, lamp)
+            texts.append(lamp.replace(right, wrong, 1))
         with tempfile.TemporaryDirectory() as folder:
             path = Path(folder) / "bad.json"
-            for text in ("{", "{}", "[]", '{"roman":1,"environment":{"file":"gone"}}'):
+            for text in texts:
                 path.write_text(text, encoding="utf-8")
                 with self.subTest(text):
-                    done = draw(str(path))
+                    done = draw(str(path), "--dot")
                     self.assertEqual((done.returncode, done.stdout), (1, ""))
-                    self.assertEqual(len(done.stderr.splitlines()), 1)
+                    self.assertEqual(len(done.stderr.splitlines()), 1, done.stderr)
         self.assertEqual(draw("samples/gone.json").returncode, 1)
         self.assertEqual(draw().returncode, 2)
 

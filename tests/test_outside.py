@@ -214,6 +214,19 @@ class Install(Tree):
         self.assertEqual(left, ["bin", "bin/other"])
         self.assertIn("nothing", self.install("--remove", str(self.prefix)).stdout)
 
+    def test_a_prefix_with_a_slash_at_its_end(self) -> None:
+        self.build()
+        path = {**os.environ, "PATH": f"{self.prefix}/bin:{os.environ['PATH']}"}
+        for end in ("/", "//"):
+            with self.subTest(end):
+                done = self.install(f"{self.prefix}{end}", env=path)
+                self.assertEqual(done.returncode, 0)
+                self.assertIn(f"installed {self.prefix}/bin/roman\n", done.stdout)
+                self.assertNotIn("PATH", done.stdout)
+                self.assertEqual(self.install("--remove", f"{self.prefix}{end}").returncode, 0)
+                self.assertTrue(self.prefix.is_dir())
+                self.assertEqual(list(self.prefix.iterdir()), [])
+
     def test_the_usual_prefix_and_a_relative_one(self) -> None:
         self.build()
         home = {**os.environ, "HOME": str(self.prefix)}
@@ -251,7 +264,7 @@ class Manual(unittest.TestCase):
         usage = run(PROGRAM).stdout
         page = (TOP / "docs" / "roman.1").read_text(encoding="utf-8")
         for command in commands(usage):
-            self.assertIn(f".Cm {command}\n", page)
+            self.assertIn(f".Nm\n.Cm {command}\n", page)
             self.assertIn(f".It Cm {command} ", page)
         self.assertEqual(page.count(".It Cm "), len(commands(usage)))
 

@@ -95,6 +95,8 @@ class Speed(unittest.TestCase):
         folder = tempfile.TemporaryDirectory()
         cls.addClassCleanup(folder.cleanup)
         cls.folder = Path(folder.name)
+        cls.peak = cls.folder / "peak"
+        subprocess.run(["cc", "-O1", "-o", cls.peak, Path(__file__).with_name("peak.c")], check=True)
         for name, made in (("workers", workers()), ("lamps", lamps()), ("cycle", cycle())):
             (cls.folder / f"{name}.json").write_text(json.dumps(made, separators=(",", ":")))
             with open(cls.folder / f"{name}.cert", "wb") as certificate:
@@ -121,10 +123,12 @@ class Speed(unittest.TestCase):
                     self.assertLess(int(found[1]) / 1e6, reached * ROOM)
 
     def test_memory(self) -> None:
-        for name, command, reached in ((name, *each) for name, commands in MEGABYTES.items() for each in commands.items()):
-            with self.subTest(system=name, command=command):
-                code = ("import resource, subprocess, sys; subprocess.run(sys.argv[1:], stdout=subprocess.DEVNULL);"
-                        "print(resource.getrusage(resource.RUSAGE_CHILDREN).ru_maxrss)")
-                done = subprocess.run(["/usr/bin/python3", "-c", code, PROGRAM, *self.words(name, command)],
-                                      cwd=self.folder, stdout=subprocess.PIPE, text=True, timeout=60, check=True)
-                self.assertLess(int(done.stdout) / 1024, reached * ROOM + 8)
+        for name, commands in MEGABYTES.items():
+            for command, reached in commands.items():
+                with self.subTest(system=name, command=command):
+                    done = subprocess.run(
+                        [self.peak, PROGRAM, *self.words(name, command)],
+                        cwd=self.folder, stdin=subprocess.DEVNULL, stdout=subprocess.DEVNULL, stderr=subprocess.PIPE,
+                        text=True, timeout=60, check=False)
+                    self.assertIn(done.returncode, (0, 1), done.stderr)
+                    self.assertLess(int(done.stderr) / 1024, reached * ROOM)

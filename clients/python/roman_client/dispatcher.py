@@ -19,7 +19,7 @@ from typing import (
     Union,
 )
 
-from .errors import Impossible, NoComposition, RomanError, UnknownName
+from .errors import BadLine, Impossible, NoComposition, RomanError, UnknownName
 from .replies import Offer, Repair
 from .session import Session
 
@@ -55,6 +55,10 @@ def first_offered(choice: Choice) -> str:
     return choice.offered[0]
 
 
+GREATEST_COST = 1_000_000
+"""The most that an item of a table of costs may say."""
+
+
 class LeastCost:
     """The policy of the service that costs least for this request, the first of those that cost alike.
 
@@ -62,10 +66,18 @@ class LeastCost:
     """
 
     def __init__(self, costs: Iterable[Sequence[Union[str, int]]]) -> None:
-        """From a table of items `[behaviour, action, cost]`."""
+        """From a table of items `[behaviour, action, cost]`, the names and a whole number from 0 to
+        1,000,000. Raises ValueError for an item of another form, and for a second one with both names,
+        as `advise` refuses them. Names aren't looked up in a document."""
         self._costs: Dict[Tuple[str, str], int] = {}
         for behaviour, action, cost in costs:
-            self._costs[str(behaviour), str(action)] = int(cost)
+            if not isinstance(behaviour, str) or not isinstance(action, str):
+                raise ValueError(f"{behaviour!r} and {action!r} aren't both names")
+            if type(cost) is not int or not 0 <= cost <= GREATEST_COST:
+                raise ValueError(f"{cost!r} isn't a whole number from 0 to {GREATEST_COST:,}")
+            if (behaviour, action) in self._costs:
+                raise ValueError(f"{behaviour} has two costs of {action}")
+            self._costs[behaviour, action] = cost
 
     @classmethod
     def read(cls, file: Union[str, os.PathLike[str]]) -> LeastCost:
@@ -163,7 +175,7 @@ class Dispatcher:
                     return Done(
                         action, service, state, move.target, move.environment, tuple(failures)
                     )
-                except (Impossible, UnknownName, TypeError, ValueError):
+                except (BadLine, Impossible, UnknownName, TypeError, ValueError):
                     failure = Failure(service, action, None, outcome)
             failures.append(failure)
             self._fail(failure)

@@ -29,7 +29,7 @@ class ProgramEnded(RomanError):
 
 
 class NoReply(RomanError):
-    """The reply didn't come within the session's timeout. The program was ended."""
+    """The reply wasn't whole within the session's timeout. The program was ended."""
 
 
 class UnexpectedReply(RomanError):

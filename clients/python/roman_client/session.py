@@ -26,9 +26,10 @@ class Session:
     It sends one line and waits for the whole reply; a refusal is raised as a `Refusal`, and changes
     nothing. Where the program has ended, each call raises `ProgramEnded`, and none waits for it.
 
-    A session is for one thread at a time. A word that is empty or has a space in it is a ValueError, and
-    nothing is sent. After any other exception that isn't a `Refusal` the program has ended, or is ended,
-    since a reply that was half read can't be told from the next one.
+    A session is for one thread at a time. A word that is empty, has a space in it or can't be encoded is a
+    ValueError, one that is no text a TypeError, and nothing is sent. After any other exception that isn't
+    a `Refusal` the program has ended, or is ended, since a reply that was half read can't be told from the
+    next one.
     """
 
     def __init__(
@@ -47,6 +48,7 @@ class Session:
         """
         words = [program] if isinstance(program, str) else list(program)
         self._timeout = timeout
+        self._until: Optional[float] = None
         self._lines: Deque[str] = deque()
         self._begun = bytearray()
         self._ended: Optional[ProgramEnded] = None
@@ -234,14 +236,16 @@ class Session:
 
     def _answered(self, words: Sequence[str]) -> Tuple[str, str]:
         """Sends a line of these words, and takes the first line of the reply."""
+        line = " ".join(words)
         for word in words:
             if not word or any(letter.isspace() or letter < " " for letter in word):
                 raise ValueError(f"{word!r} is no word of a line")
-        line = " ".join(words)
+        data = f"{line}\n".encode()
         if self._ended is not None:
             raise self._ended
+        self._until = None if self._timeout is None else time.monotonic() + self._timeout
         try:
-            self._send(line)
+            self._send(data)
             reply = self._next_line()
         except BaseException:
             self._stop()
@@ -251,10 +255,9 @@ class Session:
             raise refusal(line, reply)
         return line, reply
 
-    def _send(self, line: str) -> None:
+    def _send(self, data: bytes) -> None:
         """Writes a line. The program has read all lines before it, so there is room in the pipe."""
         assert self._process.stdin is not None
-        data = line.encode() + b"\n"
         self._sent += len(data)
         try:
             while data:
@@ -263,13 +266,13 @@ class Session:
             raise self._ending() from None
 
     def _next_line(self) -> str:
-        """The next line of the program's output."""
-        until = None if self._timeout is None else time.monotonic() + self._timeout
+        """The next line of a reply, which is to be whole by the time that `_answered` set for it."""
+        until = self._until
         while not self._lines:
             if not self._gather(0.2 if until is None else min(0.2, until - time.monotonic())):
                 raise self._ending()
             if until is not None and not self._lines and time.monotonic() >= until:
-                raise NoReply(f"no reply within {self._timeout} seconds")
+                raise NoReply(f"no whole reply within {self._timeout} seconds")
         return self._lines.popleft()
 
     def _gather(self, seconds: float) -> bool:

@@ -65,7 +65,17 @@ class Dispatching(unittest.TestCase):
             self.assertFalse(session.report().services[0].frozen)
 
     def test_impossible_outcomes(self) -> None:
-        outcomes: List[Any] = [("off", "e"), ("lit", "e"), ("on", "night"), ("", "e"), None, ("on",)]
+        outcomes: List[Any] = [
+            ("off", "e"),
+            ("lit", "e"),
+            ("on", "night"),
+            ("", "e"),
+            ("x" * 300, "e"),
+            ("\ud800", "e"),
+            (b"on", "e"),
+            ("on",),
+            None,
+        ]
         for outcome in outcomes:
             with self.subTest(outcome), lamps(2) as session:
                 dispatcher = Dispatcher(session, {"l1": lambda action: outcome, "l2": works})
@@ -145,6 +155,27 @@ class Dispatching(unittest.TestCase):
                 dispatcher.request("off")
                 dispatcher.policy = LeastCost([["spare", "on", 4]])
                 self.assertEqual(dispatcher.request("on").service, "l1")
+
+    def test_costs_that_are_none(self) -> None:
+        good: List[Any] = [["lamp", "on", 0], ("lamp", "off", 1_000_000), ["spare", "on", 1]]
+        LeastCost(good)
+        bad: List[Any] = [
+            ["lamp", "dim", 1.9],
+            ["lamp", "dim", 1.0],
+            ["lamp", "dim", -5],
+            ["lamp", "dim", 1_000_001],
+            ["lamp", "dim", "3"],
+            ["lamp", "dim", True],
+            ["lamp", "dim", None],
+            ["lamp", "dim"],
+            ["lamp", "dim", 1, 1],
+            [1, "dim", 1],
+            ["lamp", ["dim"], 1],
+            ["lamp", "on", 0],
+        ]
+        for item in bad:
+            with self.subTest(item), self.assertRaises(ValueError):
+                LeastCost([*good, item])
 
     def test_devices_are_there_for_all(self) -> None:
         with lamps(2) as session:

@@ -78,6 +78,18 @@ class Pipes(unittest.TestCase):
             with self.assertRaises(roman.ProgramEnded):
                 talk.do("on")
 
+    def test_a_report_that_comes_too_slowly(self) -> None:
+        code = f"""
+sys.stdin.readline()
+for line in "{OPENING}".splitlines(True):
+    say(line)
+    time.sleep(0.3)
+"""
+        with session(code) as talk:
+            self.assertTrue(talk.report().composition)
+        with session(code, timeout=1) as talk, self.assertRaises(roman.NoReply):
+            talk.report()
+
     def test_a_reply_that_makes_no_sense(self) -> None:
         for reply in ("offering l1", "now", "", "kept 1 added"):
             with session(f"sys.stdin.readline(); say('{reply}\\n'); time.sleep(60)") as talk:

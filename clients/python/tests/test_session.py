@@ -143,9 +143,11 @@ class Events(unittest.TestCase):
 
     def test_words_that_are_none(self) -> None:
         with home() as session:
-            for word in ("", "two words", "line\nquit", "tab\t", "end\r"):
-                with self.subTest(word), self.assertRaises(ValueError):
+            for word in ("", "two words", "line\nquit", "tab\t", "end\r", "\ud800"):
+                with self.subTest(repr(word)), self.assertRaises(ValueError):
                     session.do(word)
+            with self.assertRaises(TypeError):
+                session.do(b"brighten")  # type: ignore[arg-type]
             self.assertTrue(session.report().composition)
 
     def test_many_requests_leave_room(self) -> None:
