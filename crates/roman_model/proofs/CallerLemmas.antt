@@ -78,7 +78,8 @@ pub use Rattle.roman_model.proofs.WithoutLemmas.{freeze_one, freeze_two, leave_o
 -- What stands at which place of a list.
 pub use Rattle.roman_model.proofs.Places.{get_in, get_map}
 -- Of records made by tests: the steps are exactly those that pass, the numbers are in range, and equal tests make equal records.
-pub use Rattle.roman_model.proofs.MadeLemmas.{IsBeh-made, beh_from_same, env_from_same, from_made_move, made_move, move_passes, move_test}
+pub use Rattle.roman_model.proofs.MadeLemmas.{IsBeh-made, IsEnv-made, beh_from_same, env_from_same, from_guarded, from_made_final, from_made_move, from_made_triple}
+pub use Rattle.roman_model.proofs.MadeLemmas.{from_made_triples, in_guarded, made_final, made_move, made_triple, move_passes, move_test}
 -- The combined actions, and the steps and final states of the combined parts: they are those of the members.
 pub use Rattle.roman_model.proofs.CombinedLemmas.{IsMemberStep, combined_target_goes, from_combined_target, stands_uses, target_size_at}
 -- Several targets are one combined target: the ND-simulations of the combined system are those of the members.

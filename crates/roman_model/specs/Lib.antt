@@ -3,6 +3,7 @@ pub mod Lines
 pub mod Arena
 pub mod System
 pub mod SystemArena
+pub mod Made
 pub mod Normal
 pub mod Composition
 pub mod CompleteLists
@@ -15,7 +16,6 @@ pub mod Explanation
 pub mod Laws
 pub mod Plans
 pub mod Without
-pub mod Made
 pub mod Several
 pub mod Combined
 pub mod Outcomes
