@@ -10,9 +10,9 @@ pub mod CompleteLists
 pub mod Numbers
 pub mod Change
 pub mod Offers
+pub mod Explanation
 pub mod Play
 pub mod Certificate
-pub mod Explanation
 pub mod Laws
 pub mod Plans
 pub mod Without
