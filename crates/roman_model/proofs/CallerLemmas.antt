@@ -35,7 +35,7 @@ pub use Rattle.roman_model.proofs.DepthPlayLemmas.{depth_least, depth_won}
 -- Numbers of lists of states, and of pairs: bounds, and what becomes of a number where a state changes, comes or goes.
 pub use Rattle.roman_model.proofs.NumberLemmas.{AreBelow-index, AreBelow-length, IsPairOf-at, IsPairOf-from, IsPairOf-grown, IsPairOf-moved, IsPairOf-without}
 pub use Rattle.roman_model.proofs.NumberLemmas.{count-grown, count-without, length-states_at, number-grown, number-moved, number-pair_at, number-set, number_below}
-pub use Rattle.roman_model.proofs.NumberLemmas.{number_without, number_without-is, numbers_are_pairs, pair_at-grown, pair_at-number, pair_at-without, part_at}
+pub use Rattle.roman_model.proofs.NumberLemmas.{number_without-is, numbers_are_pairs, pair_at-grown, pair_at-number, pair_at-without, part_at}
 pub use Rattle.roman_model.proofs.NumberLemmas.{parts_of_number, states_below, states_number-at, states_number-set}
 -- Removal lists, masks and depths carry over from one arena to another whose nodes are named by those of the first.
 pub use Rattle.roman_model.proofs.Renames.{order_named}
@@ -47,7 +47,7 @@ pub use Rattle.roman_model.proofs.ChangeLemmas.{length-set_frozen, map-flat_map,
 -- The replay survives a change, and what masks are after a death.
 pub use Rattle.roman_model.proofs.ChangeLaws.{renaming_keeps}
 -- Changes over the numbers of pairs: renaming and replay agree with those over pairs.
-pub use Rattle.roman_model.proofs.NumberedChanges.{NumbersReplay, first_numbers, number_allows-turned, number_entry_without, numbers_replay, rename_numbers, size_at}
+pub use Rattle.roman_model.proofs.NumberedChanges.{NumbersReplay, number_allows-turned, numbers_replay, size_at}
 pub use Rattle.roman_model.proofs.NumberedChanges.{sizes-joined, sizes-left, sizes-turned}
 -- Removal lists over the numbers of pairs: the laws of their arena, complete lists, and counts of pairs.
 pub use Rattle.roman_model.proofs.NumberedLists.{length-pairs, numbered_choices, numbered_completed_by, numbered_is_arena, numbered_is_same, numbered_listed}

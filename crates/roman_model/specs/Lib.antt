@@ -9,6 +9,7 @@ pub mod Composition
 pub mod CompleteLists
 pub mod Numbers
 pub mod Change
+pub mod NumberedChange
 pub mod Offers
 pub mod Explanation
 pub mod Play
