@@ -1,6 +1,6 @@
 -- What a replay goes over, and what it adds to a list.
-use Rattle.std.specs.Prelude.{◌≡◌, ℕ, ◌+◌, ◌*◌, ◌<◌, Bool, true, List, [], ◌++◌, map, flat_map, length, sum_by, IsTrue, IsFalse}
-use Rattle.roman_model.specs.Lists.{IsIn, HasNoRepeats, below}
+use Rattle.std.specs.Prelude.{◌≡◌, ℕ, ◌<◌, Bool, true, List, [], ◌++◌, flat_map, length, sum_by, IsTrue, IsFalse}
+use Rattle.roman_model.specs.Lists.{IsIn, HasNoRepeats}
 use Rattle.roman_model.specs.Arena.{Arena, Entry, IsOrder, replay, replay_from}
 use Rattle.roman_model.specs.NumberedChange.{grown_numbers}
 use Rattle.roman_model.specs.declared.reason.Reason.{Reason}
