@@ -9,11 +9,12 @@ use Rattle.roman_model.specs.declared.limits.TheConstants.{MAX_SERVICES}
 use Rattle.roman_model.specs.Composition.{Couple, couple, Serves, Meets, GreatCouple}
 use Rattle.roman_model.specs.declared.request.Request.{Request}
 use Rattle.roman_model.specs.Several.{Several, of_one, CoupleAll, are_final, ServesAll, MeetsAll, GreatAll}
+use Rattle.roman_model.specs.Numbers.{AreBelow}
 use Rattle.roman_model.specs.Combined.{has_triple_on, has_move_on, targets_go, target_sizes, combined_start, combined_seat, all_requests, combined, IsSeveral, CombinedIsAll}
 use Rattle.roman_model.proofs.Places.{get_in, in_get, map_length}
 use Rattle.roman_model.proofs.Lists.{in_map, from_map, in_filter, filter_in}
 use Rattle.roman_model.proofs.SystemLemmas.{same_numbers_is, same_numbers_itself, move_in_range}
-use Rattle.roman_model.proofs.NumberLemmas.{AreBelow, states_number_below, states_at-number, states_number-at}
+use Rattle.roman_model.proofs.NumberLemmas.{states_number_below, states_at-number, states_number-at}
 use Rattle.roman_model.proofs.CompositionLemmas.{meets_more}
 use Rattle.roman_model.proofs.MadeLemmas.{IsEnv-made, IsBeh-made, from_made_final, made_final}
 use Rattle.roman_model.proofs.CombinedLemmas.{in_requests, from_combined_triple, combined_triple, from_combined_sstep, combined_sstep, from_combined_target, combined_target_goes, member_below, states_of, number_of, total, from_all_final_combined, all_final_combined}

@@ -6,14 +6,14 @@ use Rattle.std.proofs.lemmas.Option.{none-some, same_Some, slice_get_within}
 use Rattle.roman_model.specs.Lists.{IsIn, below, is_empty, product_of}
 use Rattle.roman_model.specs.System.{Env, Beh, Seat, has, has_triple, has_move, IsEnv, IsBeh, SStep, is_final, all_final}
 use Rattle.roman_model.specs.SystemArena.{beh_next, same_numbers}
-use Rattle.roman_model.specs.Numbers.{states_number, states_at}
+use Rattle.roman_model.specs.Numbers.{AreBelow, states_number, states_at}
 use Rattle.roman_model.specs.declared.request.Request.{Request}
 use Rattle.roman_model.specs.Several.{Several, of_one, are_final}
 use Rattle.roman_model.specs.Combined.{stands_in, uses, requests_of, has_triple_on, has_move_on, member_goes, targets_go, combined_beh, target_sizes, combined_start, combined_seat, all_requests, combined, IsSeveral}
 use Rattle.roman_model.proofs.Places.{get_in, from_get_map, get_map, map_length, index_set}
 use Rattle.roman_model.proofs.Lists.{same_test, in_map, in_flat_map, in_filter, any_true, any_from, in_not_empty, not_empty_in, in_below}
 use Rattle.roman_model.proofs.SystemLemmas.{same_numbers_is, same_numbers_itself, triple_in_range, move_in_range, in_beh_next, from_beh_next}
-use Rattle.roman_model.proofs.NumberLemmas.{AreBelow, AreBelow-length, AreBelow-at, AreBelow-set, states_number_below, states_at-number}
+use Rattle.roman_model.proofs.NumberLemmas.{AreBelow-length, AreBelow-at, AreBelow-set, states_number_below, states_at-number}
 use Rattle.roman_model.proofs.MadeLemmas.{from_made_triple, made_triple, move_test, move_passes, from_made_move, made_move, from_made_final, made_final}
 
 -- The combined actions.

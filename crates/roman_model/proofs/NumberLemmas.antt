@@ -4,14 +4,10 @@ use Rattle.std.specs.List.{AllZip}
 use Rattle.std.proofs.lemmas.Nat.{mul-add-lt, div-mul-add, mod-mul-add, div_below, mod_below}
 use Rattle.roman_model.specs.Lists.{product_of}
 use Rattle.roman_model.specs.System.{Seat, Sys, Pair, IsPair}
-use Rattle.roman_model.specs.Numbers.{Sizes, sizes_of, IsPairOf, grown_sizes, sizes_without, count, states_number, states_at, number, pair_at, NumbersArePairs}
+use Rattle.roman_model.specs.Numbers.{Sizes, sizes_of, AreBelow, IsPairOf, grown_sizes, sizes_without, count, states_number, states_at, number, pair_at, NumbersArePairs}
 use Rattle.roman_model.specs.Change.{grown, without}
 use Rattle.roman_model.specs.NumberedChange.{number_without}
 use Rattle.roman_model.specs.Laws.{PairsAreNumbered}
-
--- one state for each size, below it
-abbrev pub AreBelow : List ℕ → List ℕ → Type 0
-AreBelow sizes bs = AllZip (λ size b. b < size) sizes bs
 
 pub AreBelow-length : (sizes bs : List ℕ) → AreBelow sizes bs → length bs ≡ length sizes
 AreBelow-length [] [] h = refl
