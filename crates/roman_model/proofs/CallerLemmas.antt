@@ -44,7 +44,7 @@ pub use Rattle.roman_model.proofs.NumberedArena.{AreNumbers, IsNumber, numbers_r
 -- What a change of the seats does to systems, pairs, outcomes and removal lists.
 pub use Rattle.roman_model.proofs.ChangeLemmas.{IsPair-grown, IsPair-turned, IsPair-without, flat_map-map, flat_map_same, flat_map_same_in, left, length-remove}
 pub use Rattle.roman_model.proofs.ChangeLemmas.{length-set_frozen, map-flat_map, map-map, remove_in, states_frozen, turned}
--- The replay survives a change, and what masks are after a death.
+-- The replay survives a change.
 pub use Rattle.roman_model.proofs.ChangeLaws.{renaming_keeps}
 -- Changes over the numbers of pairs: renaming and replay agree with those over pairs.
 pub use Rattle.roman_model.proofs.NumberedChanges.{NumbersReplay, number_allows-turned, numbers_replay, size_at}

@@ -24,7 +24,7 @@ mod way;
 pub use certificates::{
     explanation_is_least, explanation_is_order, greatest_is_complete, written_is_greatest,
 };
-pub use changes::{mask_after_death, renaming_keeps};
+pub use changes::renaming_keeps;
 pub use laws::{
     combined_is_all, depth_is_least, depth_wins, following_stays, greatest_is_greatest,
     offers_are_generator, order_completes, order_refutes, order_wins, outcomes_are_steps,
