@@ -51,7 +51,7 @@ pub use Rattle.roman_model.proofs.NumberedChanges.{NumbersReplay, number_allows-
 pub use Rattle.roman_model.proofs.NumberedChanges.{sizes-joined, sizes-left, sizes-turned}
 -- Removal lists over the numbers of pairs: the laws of their arena, complete lists, and counts of pairs.
 pub use Rattle.roman_model.proofs.NumberedLists.{length-pairs, numbered_choices, numbered_completed_by, numbered_is_arena, numbered_is_same, numbered_listed}
-pub use Rattle.roman_model.proofs.NumberedLists.{numbered_loses, numbered_offers, numbered_related_count, sum_over_pairs}
+pub use Rattle.roman_model.proofs.NumberedLists.{numbered_loses, numbered_offers, numbered_related_count, sum_over_pairs, told_related}
 -- The explanation is the least closed part of a removal list, is one itself, and ends with the entry explained.
 pub use Rattle.roman_model.proofs.ExplanationLemmas.{answer_before, before_falls, before_is, explanation_is_least, explanation_is_order, rests_is}
 -- Explanations carry over from one arena to another whose nodes are named by those of the first.
@@ -76,7 +76,7 @@ pub use Rattle.roman_model.proofs.TableLemmas.{flat_map_row, length_rows, rank, 
 -- A system without one or two seats is the one after as many changes.
 pub use Rattle.roman_model.proofs.WithoutLemmas.{freeze_one, freeze_two, leave_one, leave_two, without_changes}
 -- What stands at which place of a list.
-pub use Rattle.roman_model.proofs.Places.{get_in, get_map}
+pub use Rattle.roman_model.proofs.Places.{from_end, from_place, get_in, get_map, there_is}
 -- Of records made by tests: the steps are exactly those that pass, the numbers are in range, and equal tests make equal records.
 pub use Rattle.roman_model.proofs.MadeLemmas.{IsBeh-made, IsEnv-made, beh_from_same, env_from_same, from_guarded, from_made_final, from_made_move, from_made_triple}
 pub use Rattle.roman_model.proofs.MadeLemmas.{from_made_triples, in_guarded, made_final, made_move, made_triple, move_passes, move_test}
