@@ -1,6 +1,7 @@
 -- Lemmas on any arena: which nodes are listed, beaten seats, reasons, masks, and what survives.
-use Rattle.std.proofs.Common.{◌≡◌, ◌≢◌, ℕ, ◌<◌, ◌≤◌, ◌==◌, Bool, true, false, cond, not, ◌&&◌, ◌||◌, ◌⊎◌, List, [], ◌∷◌, ◌++◌, map, IsTrue, IsFalse, filter, flat_map, inl, inr, refl, sym, ap, ◌∙◌, subst, arith}
+use Rattle.std.proofs.Common.{◌≡◌, ◌≢◌, ℕ, ◌<◌, ◌≤◌, ◌==◌, Bool, cond, not, ◌&&◌, ◌||◌, ◌⊎◌, List, [], ◌∷◌, ◌++◌, map, IsTrue, IsFalse, filter, flat_map, inl, inr, refl, sym, ap, ◌∙◌, subst, arith}
 use Rattle.std.specs.List.{list_any}
+use Rattle.std.proofs.Math.Bool.{or-false}
 use Rattle.std.proofs.lemmas.Bool.{both_ways, or_cases, or_parts, or_left, or_right, or_from, and_parts, and_from, and_cases, and_left, not-true, not_from_false, eqb-true, eq-eqb, cond-true, cond-false}
 use Rattle.std.proofs.lemmas.List.Folds.{list_any-append}
 use Rattle.roman_model.specs.Lists.{IsIn, HasNoRepeats, below, all_below, is_empty}
@@ -54,11 +55,7 @@ pub listed_append : {N : Type 0} (A : Arena N) (L M : List (Entry N)) (p : N) �
 listed_append A L M p = list_any-append (λ x. A.same p x.node) L M
 
 pub listed_push : {N : Type 0} (A : Arena N) (L : List (Entry N)) (x : Entry N) (p : N) → is_listed A (L ++ x ∷ []) p ≡ (is_listed A L p || A.same p x.node)
-listed_push A L x p = listed_append A L (x ∷ []) p ∙ ap (λ b. is_listed A L p || b) (or_nothing (A.same p x.node))
-  where
-    or_nothing : (b : Bool) → (b || false) ≡ b
-    or_nothing true = refl
-    or_nothing false = refl
+listed_push A L x p = listed_append A L (x ∷ []) p ∙ ap (λ b. is_listed A L p || b) (or-false (A.same p x.node))
 
 -- Beaten seats.
 

@@ -42,7 +42,7 @@ pub use Rattle.roman_model.proofs.Renames.{order_named}
 -- The arena over the numbers of pairs, and that over the pairs, carry over to each other.
 pub use Rattle.roman_model.proofs.NumberedArena.{AreNumbers, IsNumber, numbers_rename}
 -- What a change of the seats does to systems, pairs, outcomes and removal lists.
-pub use Rattle.roman_model.proofs.ChangeLemmas.{IsPair-grown, IsPair-turned, IsPair-without, flat_map-map, flat_map_same, flat_map_same_in, left, length-remove}
+pub use Rattle.roman_model.proofs.ChangeLemmas.{IsPair-grown, IsPair-turned, IsPair-without, flat_map_same, flat_map_same_in, left, length-remove}
 pub use Rattle.roman_model.proofs.ChangeLemmas.{length-set_frozen, map-flat_map, map-map, remove_in, states_frozen, turned}
 -- The replay survives a change.
 pub use Rattle.roman_model.proofs.ChangeLaws.{renaming_keeps}

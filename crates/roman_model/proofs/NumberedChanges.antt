@@ -3,6 +3,7 @@ use Rattle.std.proofs.Common.{◌≡◌, ℕ, zero, suc, ◌+◌, ◌*◌, ◌<�
 use Rattle.std.specs.List.{list_any}
 use Rattle.std.proofs.lemmas.Bool.{eqb-true, eq-eqb, cond-true, cond-false}
 use Rattle.std.proofs.lemmas.List.{map-append, take-map, drop-map, length-map}
+use Rattle.std.proofs.lemmas.List.Folds.{flat_map-map}
 use Rattle.std.proofs.lemmas.Nat.{mul-add-lt}
 use Rattle.std.proofs.lemmas.Option.{none-some, same_Some, slice_get_within}
 use Rattle.roman_model.specs.Lists.{IsIn, below}
@@ -18,7 +19,7 @@ use Rattle.roman_model.proofs.OrderLemmas.{replay_whole, replay_sublist}
 use Rattle.roman_model.proofs.NumberLemmas.{IsPairOf-at, number_below, number-pair_at, pair_at-grown, count-grown, number_without-is, pair_at-without, IsPairOf-without}
 use Rattle.roman_model.proofs.Renames.{order_named, replay_renamed}
 use Rattle.roman_model.proofs.NumberedArena.{IsNumber, AreNumbers, numbers_rename, entries_at, order_at}
-use Rattle.roman_model.proofs.ChangeLemmas.{flat_map_same_in, map_same_in, map-map, map-flat_map, flat_map-map, states_frozen, turned, joined, left}
+use Rattle.roman_model.proofs.ChangeLemmas.{flat_map_same_in, map_same_in, map-map, map-flat_map, states_frozen, turned, joined, left}
 use Rattle.roman_model.proofs.ChangeLaws.{renaming_keeps}
 
 -- The sizes after a change

@@ -31,10 +31,6 @@ get_map f [] k x e = absurd (none-some x e)
 get_map f (y ∷ xs) zero x e = ap (λ z. Some (f z)) (same_Some y x e)
 get_map f (y ∷ xs) (suc k) x e = get_map f xs k x e
 
-pub map_length : {X Y : Type 0} (f : X → Y) (xs : List X) → length (map f xs) ≡ length xs
-map_length f [] = refl
-map_length f (x ∷ xs) = ap suc (map_length f xs)
-
 pub index_set : (bs : List ℕ) (k b : ℕ) → k < length bs → slice_index (slice_set bs k b) k ≡ b
 index_set [] k b l = absurd (omega arith)
 index_set (c ∷ bs) zero b l = refl
