@@ -7,6 +7,7 @@ use Rattle.roman_model.specs.Lists.{below, all_below, is_empty}
 use Rattle.roman_model.specs.declared.reason.Reason.{Reason}
 use Rattle.roman_model.specs.declared.reason.Reason.TheVariants.{Final, Act}
 
+-- a system, as removal lists see it
 pub record Arena (N : Type 0) : Type 0 where
   pub same : N → N → Bool
   pub nodes : List N
@@ -68,6 +69,7 @@ replay_from A kept (x ∷ L) =
     then x ∷ replay_from A (x.node ∷ kept) L
     else replay_from A kept L
 
+-- the replay of a list
 abbrev pub replay : {N : Type 0} → Arena N → List (Entry N) → List (Entry N)
 replay A L = replay_from A [] L
 

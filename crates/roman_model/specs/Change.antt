@@ -21,6 +21,7 @@ set_frozen [] k frozen = []
 set_frozen (seat ∷ seats) zero frozen = record { beh = seat.beh; frozen = frozen; rests = seat.rests } ∷ seats
 set_frozen (seat ∷ seats) (suc k) frozen = seat ∷ set_frozen seats k frozen
 
+-- the seats after the change
 abbrev pub seats_after : Change → List Seat → List Seat
 seats_after (Freeze k) seats = set_frozen seats k true
 seats_after (Thaw k) seats = set_frozen seats k false
@@ -52,6 +53,7 @@ firsts seen (x ∷ L) = if list_any (same_pair x.node) seen then firsts seen L e
 abbrev pub grown_entries : Seat → Entry Pair → List (Entry Pair)
 grown_entries seat x = map (λ b. record { node = grown x.node b; reason = x.reason }) (below seat.beh.states)
 
+-- the entry, of the pair without its k-th state
 abbrev pub entry_without : ℕ → Entry Pair → Entry Pair
 entry_without k x = record { node = without k x.node; reason = x.reason }
 

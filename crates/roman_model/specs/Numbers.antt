@@ -13,6 +13,7 @@ pub record Sizes : Type 0 where
   pub env : ℕ
   pub seats : List ℕ
 
+-- the sizes of a system
 abbrev pub sizes_of : Sys → Sizes
 sizes_of s = record { target = s.target.states; env = s.env.states; seats = map (λ seat. seat.beh.states) s.seats }
 
