@@ -9,8 +9,8 @@ use Rattle.roman_guard.specs.Meaning.{states_below}
 use Rattle.roman_model.specs.Lists.{IsIn}
 use Rattle.roman_model.specs.Normal.{normal_env, normal_beh}
 use Rattle.roman_model.specs.System.{Beh, Move, has, has_move, IsDeterministic}
-use Rattle.roman_model.proofs.CallerLemmas.{any_true}
-use Rattle.roman_parts.proofs.CallerLemmas.{from_normal_move, move_test}
+use Rattle.roman_model.proofs.CallerLemmas.{any_true, move_test}
+use Rattle.roman_parts.proofs.CallerLemmas.{from_normal_move}
 use Rattle.roman_parts.specs.Listed.{listed_env, listed_beh, AreMoves}
 use Rattle.roman_parts.specs.Named.{NamedEnv, NamedBeh, NamedTarget}
 use Rattle.roman_make.specs.Made.{idle_worker, floor, floor_states, floor_actions, worker, worker_states, shift, shift_states}

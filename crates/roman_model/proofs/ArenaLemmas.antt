@@ -1,11 +1,12 @@
 -- Lemmas on any arena: which nodes are listed, beaten seats, reasons, masks, and what survives.
-use Rattle.std.proofs.Common.{◌≡◌, ◌≢◌, ℕ, ◌<◌, ◌≤◌, ◌==◌, Bool, true, false, cond, not, ◌&&◌, ◌||◌, ◌⊎◌, List, [], ◌∷◌, ◌++◌, map, IsTrue, IsFalse, filter, flat_map, inl, inr, refl, sym, ap, ◌∙◌, subst, arith}
+use Rattle.std.proofs.Common.{◌≡◌, ◌≢◌, ℕ, ◌<◌, ◌≤◌, ◌==◌, Bool, cond, not, ◌&&◌, ◌||◌, ◌⊎◌, List, [], ◌∷◌, ◌++◌, map, IsTrue, IsFalse, filter, flat_map, inl, inr, refl, sym, ap, ◌∙◌, subst, arith}
 use Rattle.std.specs.List.{list_any}
+use Rattle.std.proofs.Math.Bool.{or-false}
 use Rattle.std.proofs.lemmas.Bool.{both_ways, or_cases, or_parts, or_left, or_right, or_from, and_parts, and_from, and_cases, and_left, not-true, not_from_false, eqb-true, eq-eqb, cond-true, cond-false}
 use Rattle.std.proofs.lemmas.List.Folds.{list_any-append}
 use Rattle.roman_model.specs.Lists.{IsIn, HasNoRepeats, below, all_below, is_empty}
 use Rattle.roman_model.specs.System.{has}
-use Rattle.roman_model.specs.Arena.{Arena, Entry, is_among, is_listed, is_beaten, is_justified, mask, Survives, Delegation, delegations, back}
+use Rattle.roman_model.specs.Arena.{Arena, Entry, is_among, is_listed, is_beaten, is_justified, mask, Delegation, delegations, back}
 use Rattle.roman_model.specs.declared.reason.Reason.{Reason}
 use Rattle.roman_model.specs.declared.reason.Reason.TheVariants.{Final, Act}
 use Rattle.roman_model.proofs.Lists.{by_test, same_test, in_map, from_map, in_flat_map, from_flat_map, in_filter, filter_in, any_true, any_from, any_false, none_from, any_more, any_same, list_any-map, empty_is, not_empty_ne, ne_not_empty, in_below, from_below, all_below_at, all_below_from, all_below_false, all_below_more, all_below_same, filter_same}
@@ -23,6 +24,12 @@ pub record IsArena {N : Type 0} (A : Arena N) : Type 0 where
   pub closed : (p : N) → IsIn p A.nodes → (a k : ℕ) (q : N) → IsIn q (A.outcomes p a k) → IsIn q A.nodes
   pub served : (p : N) (a k : ℕ) (q : N) → IsIn q (A.outcomes p a k) → IsTrue (A.allows p a) × (k < A.seats) × IsTrue (A.ready k)
   pub once : HasNoRepeats A.nodes
+
+-- p meets clause 2, and for each allowed action some seat has an outcome and leads to no other nodes than those
+pub record Survives {N : Type 0} (A : Arena N) (Lives : N → Type 0) (p : N) : Type 0 where
+  pub final : IsTrue (A.fine p)
+  pub served : (a : ℕ) → IsTrue (A.allows p a) →
+      (k : ℕ) × (k < A.seats) × (A.outcomes p a k ≢ []) × ((q : N) → IsIn q (A.outcomes p a k) → Lives q)
 
 -- Nodes that are listed.
 
@@ -48,11 +55,7 @@ pub listed_append : {N : Type 0} (A : Arena N) (L M : List (Entry N)) (p : N) �
 listed_append A L M p = list_any-append (λ x. A.same p x.node) L M
 
 pub listed_push : {N : Type 0} (A : Arena N) (L : List (Entry N)) (x : Entry N) (p : N) → is_listed A (L ++ x ∷ []) p ≡ (is_listed A L p || A.same p x.node)
-listed_push A L x p = listed_append A L (x ∷ []) p ∙ ap (λ b. is_listed A L p || b) (or_nothing (A.same p x.node))
-  where
-    or_nothing : (b : Bool) → (b || false) ≡ b
-    or_nothing true = refl
-    or_nothing false = refl
+listed_push A L x p = listed_append A L (x ∷ []) p ∙ ap (λ b. is_listed A L p || b) (or-false (A.same p x.node))
 
 -- Beaten seats.
 

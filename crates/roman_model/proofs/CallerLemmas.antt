@@ -35,23 +35,23 @@ pub use Rattle.roman_model.proofs.DepthPlayLemmas.{depth_least, depth_won}
 -- Numbers of lists of states, and of pairs: bounds, and what becomes of a number where a state changes, comes or goes.
 pub use Rattle.roman_model.proofs.NumberLemmas.{AreBelow-index, AreBelow-length, IsPairOf-at, IsPairOf-from, IsPairOf-grown, IsPairOf-moved, IsPairOf-without}
 pub use Rattle.roman_model.proofs.NumberLemmas.{count-grown, count-without, length-states_at, number-grown, number-moved, number-pair_at, number-set, number_below}
-pub use Rattle.roman_model.proofs.NumberLemmas.{number_without, number_without-is, numbers_are_pairs, pair_at-grown, pair_at-number, pair_at-without, part_at}
+pub use Rattle.roman_model.proofs.NumberLemmas.{number_without-is, numbers_are_pairs, pair_at-grown, pair_at-number, pair_at-without, part_at}
 pub use Rattle.roman_model.proofs.NumberLemmas.{parts_of_number, states_below, states_number-at, states_number-set}
 -- Removal lists, masks and depths carry over from one arena to another whose nodes are named by those of the first.
 pub use Rattle.roman_model.proofs.Renames.{order_named}
 -- The arena over the numbers of pairs, and that over the pairs, carry over to each other.
 pub use Rattle.roman_model.proofs.NumberedArena.{AreNumbers, IsNumber, numbers_rename}
 -- What a change of the seats does to systems, pairs, outcomes and removal lists.
-pub use Rattle.roman_model.proofs.ChangeLemmas.{IsPair-grown, IsPair-turned, IsPair-without, flat_map-map, flat_map_same, flat_map_same_in, left, length-remove}
+pub use Rattle.roman_model.proofs.ChangeLemmas.{IsPair-grown, IsPair-turned, IsPair-without, flat_map_same, flat_map_same_in, left, length-remove}
 pub use Rattle.roman_model.proofs.ChangeLemmas.{length-set_frozen, map-flat_map, map-map, remove_in, states_frozen, turned}
--- The replay survives a change, and what masks are after a death.
+-- The replay survives a change.
 pub use Rattle.roman_model.proofs.ChangeLaws.{renaming_keeps}
 -- Changes over the numbers of pairs: renaming and replay agree with those over pairs.
-pub use Rattle.roman_model.proofs.NumberedChanges.{NumbersReplay, first_numbers, number_allows-turned, number_entry_without, numbers_replay, rename_numbers, size_at}
+pub use Rattle.roman_model.proofs.NumberedChanges.{NumbersReplay, number_allows-turned, numbers_replay, size_at}
 pub use Rattle.roman_model.proofs.NumberedChanges.{sizes-joined, sizes-left, sizes-turned}
 -- Removal lists over the numbers of pairs: the laws of their arena, complete lists, and counts of pairs.
 pub use Rattle.roman_model.proofs.NumberedLists.{length-pairs, numbered_choices, numbered_completed_by, numbered_is_arena, numbered_is_same, numbered_listed}
-pub use Rattle.roman_model.proofs.NumberedLists.{numbered_loses, numbered_offers, numbered_related_count, sum_over_pairs}
+pub use Rattle.roman_model.proofs.NumberedLists.{numbered_loses, numbered_offers, numbered_related_count, sum_over_pairs, told_related}
 -- The explanation is the least closed part of a removal list, is one itself, and ends with the entry explained.
 pub use Rattle.roman_model.proofs.ExplanationLemmas.{answer_before, before_falls, before_is, explanation_is_least, explanation_is_order, rests_is}
 -- Explanations carry over from one arena to another whose nodes are named by those of the first.
@@ -76,9 +76,10 @@ pub use Rattle.roman_model.proofs.TableLemmas.{flat_map_row, length_rows, rank, 
 -- A system without one or two seats is the one after as many changes.
 pub use Rattle.roman_model.proofs.WithoutLemmas.{freeze_one, freeze_two, leave_one, leave_two, without_changes}
 -- What stands at which place of a list.
-pub use Rattle.roman_model.proofs.Places.{get_in, get_map}
+pub use Rattle.roman_model.proofs.Places.{from_end, from_place, get_in, get_map, there_is}
 -- Of records made by tests: the steps are exactly those that pass, the numbers are in range, and equal tests make equal records.
-pub use Rattle.roman_model.proofs.MadeLemmas.{IsBeh-made, beh_from_same, env_from_same, from_made_move, made_move, move_passes, move_test}
+pub use Rattle.roman_model.proofs.MadeLemmas.{IsBeh-made, IsEnv-made, beh_from_same, env_from_same, from_guarded, from_made_final, from_made_move, from_made_triple}
+pub use Rattle.roman_model.proofs.MadeLemmas.{from_made_triples, in_guarded, made_final, made_move, made_triple, move_passes, move_test}
 -- The combined actions, and the steps and final states of the combined parts: they are those of the members.
 pub use Rattle.roman_model.proofs.CombinedLemmas.{IsMemberStep, combined_target_goes, from_combined_target, stands_uses, target_size_at}
 -- Several targets are one combined target: the ND-simulations of the combined system are those of the members.

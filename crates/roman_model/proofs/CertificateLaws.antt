@@ -1,6 +1,7 @@
 -- The certificate of a complete list is accepted, and what is accepted is complete.
-use Rattle.std.proofs.Common.{◌≡◌, ℕ, zero, suc, ◌+◌, ◌*◌, ◌^◌, ◌<◌, ◌≤◌, Bool, true, false, not, ◌&&◌, List, [], ◌∷◌, ◌++◌, map, length, take, Option, Some, None, IsTrue, IsFalse, if◌then◌else◌, filter, find, option_map, slice_get, slice_index_or, codes, decimal, nat_le, refl, sym, ap, ap₂, ◌∙◌, subst, inl, inr, arith, append_assoc, append-nil, length-append, le-leb}
+use Rattle.std.proofs.Common.{◌≡◌, ℕ, zero, suc, ◌+◌, ◌*◌, ◌^◌, ◌<◌, ◌≤◌, Bool, false, not, ◌&&◌, List, [], ◌∷◌, ◌++◌, map, length, take, Option, Some, None, IsTrue, IsFalse, if◌then◌else◌, filter, find, option_map, slice_get, slice_index_or, codes, decimal, nat_le, refl, sym, ap, ap₂, ◌∙◌, subst, inl, inr, arith, append_assoc, append-nil, length-append, le-leb}
 use Rattle.std.specs.List.{list_any, cons_option}
+use Rattle.std.proofs.Math.Bool.{not-not}
 use Rattle.std.proofs.lemmas.Bool.{cases_lt, both_ways, or_from, and_parts, and_left, not-false, not_from_true, not_from_false, cond-true, cond-false, lt-leb, and_from}
 use Rattle.std.proofs.lemmas.List.{length-map, map_push}
 use Rattle.std.proofs.lemmas.List.Elements.{filter_map-append}
@@ -39,6 +40,18 @@ use Rattle.roman_model.proofs.CertificateLemmas.{head_is_line, end_is_line, coun
 abbrev node_count : Sys → ℕ
 node_count s = length (numbered s).nodes
 
+-- it has few enough nodes and actions
+abbrev IsFew : Sys → Type 0
+IsFew s = AreFew (node_count s) s.env.actions
+
+-- each of the entries may stand in its certificate
+abbrev ArePossible : Sys → List (Entry ℕ) → Type 0
+ArePossible s L = (x : Entry ℕ) → IsIn x L → IsIn x (possible_entries (node_count s) s.env.actions)
+
+-- the entry on a line of its certificate
+abbrev entry_on : Sys → List ℕ → Option (Entry ℕ)
+entry_on s line = entry_of (node_count s) s.env.actions line
+
 node_count_is : (s : Sys) → node_count s ≡ count (sizes_of s)
 node_count_is s = length-below (count (sizes_of s))
 
@@ -51,7 +64,7 @@ possible_number s x i =
     let (l, j) = from_possible (node_count s) s.env.actions x i in
     (subst (λ n. x.node < n) (node_count_is s) l, j)
 
-pub cells_small : (s : Sys) → IsSys s → IsWithinCells s → (count (sizes_of s) ≤ MAX_CELLS) × AreFew (node_count s) s.env.actions
+pub cells_small : (s : Sys) → IsSys s → IsWithinCells s → (count (sizes_of s) ≤ MAX_CELLS) × IsFew s
 cells_small s sys cells =
     let some : 0 < s.env.actions = sys.env.actions.0 in
     let not_many : s.env.actions ≤ MAX_ACTIONS = sys.env.actions.1 in
@@ -77,10 +90,6 @@ judged_long A start bytes h =
     (slice_index_or (faults A (ended_lines (take MAX_CERTIFICATE_BYTES bytes)) (length (ended_lines (take MAX_CERTIFICATE_BYTES bytes)))) 0 TooLong)
     (lt-leb (length bytes) MAX_CERTIFICATE_BYTES h)
 
-not-not : (b : Bool) → not (not b) ≡ b
-not-not true = refl
-not-not false = refl
-
 -- What a complete list is made of
 
 -- its numbers are a removal list
@@ -94,14 +103,14 @@ justified_reason s gone p (Act a) sys h =
     act_reason s.env.actions a (allowed_in_range s (pair_at (sizes_of s) p) a sys
     (and_parts ((numbered s).allows p a) (all_below (is_beaten (numbered s) gone p a) (length s.seats)) h).0)
 
-pub order_possible : (s : Sys) (L : List (Entry ℕ)) → IsSys s → AreNumbers s L → IsOrder (numbered s) L → (x : Entry ℕ) → IsIn x L → IsIn x (possible_entries (node_count s) s.env.actions)
+pub order_possible : (s : Sys) (L : List (Entry ℕ)) → IsSys s → AreNumbers s L → IsOrder (numbered s) L → ArePossible s L
 order_possible s L sys are order x i =
     number_possible s x (are x i) (justified_reason s (is_listed (numbered s) L) x.node x.reason sys (order_justified (numbered s) L x order i))
 
 -- The lines of a certificate are clean
 
 -- no entry's line is `end`
-no_end : (s : Sys) (L : List (Entry ℕ)) → AreFew (node_count s) s.env.actions → ((x : Entry ℕ) → IsIn x L → IsIn x (possible_entries (node_count s) s.env.actions)) → IsFalse (list_any (same_numbers end_line) (map entry_line L))
+no_end : (s : Sys) (L : List (Entry ℕ)) → IsFew s → ArePossible s L → IsFalse (list_any (same_numbers end_line) (map entry_line L))
 no_end s L small are = none_from (same_numbers end_line) (map entry_line L) (λ line i.
     let (x, j, e) = from_map entry_line line L i in
     subst (λ l. IsFalse (same_numbers end_line l)) (sym e) (entry_is_no_end x (possible_small (node_count s) s.env.actions x small (are x j))))
@@ -110,12 +119,12 @@ no_end s L small are = none_from (same_numbers end_line) (map entry_line L) (λ 
 abbrev pub opened : Sys → List (Entry ℕ) → List (List ℕ)
 opened s L = head_line ∷ count_line (node_count s) ∷ map entry_line L
 
-entry_clean : (s : Sys) (before : List (Entry ℕ)) (x : Entry ℕ) → AreFew (node_count s) s.env.actions → ((y : Entry ℕ) → IsIn y before → IsIn y (possible_entries (node_count s) s.env.actions)) → IsIn x (possible_entries (node_count s) s.env.actions) →
+entry_clean : (s : Sys) (before : List (Entry ℕ)) (x : Entry ℕ) → IsFew s → ArePossible s before → IsIn x (possible_entries (node_count s) s.env.actions) →
     IsFalse (is_listed (numbered s) before x.node) → IsTrue (is_justified (numbered s) (is_listed (numbered s) before) x.node x.reason) →
     line_fault (numbered s) (opened s before) (Some (entry_line x)) ≡ None
 entry_clean s before x small are is new holds =
     ap (λ b. if b then unless_over (Some (entry_line x)) else body_fault (numbered s) (entries_on (numbered s) (map entry_line before)) (Some (entry_line x))) (no_end s before small are)
-    ∙ ap (λ b. if b then end_fault (numbered s) (entries_on (numbered s) (map entry_line before)) else entry_fault (numbered s) (entries_on (numbered s) (map entry_line before)) (entry_of (node_count s) s.env.actions (entry_line x)))
+    ∙ ap (λ b. if b then end_fault (numbered s) (entries_on (numbered s) (map entry_line before)) else entry_fault (numbered s) (entries_on (numbered s) (map entry_line before)) (entry_on s (entry_line x)))
     (entry_is_no_end x (possible_small (node_count s) s.env.actions x small is))
     ∙ ap₂ (entry_fault (numbered s)) (entries_on-lines (numbered s) before small are) (entry_of-line (node_count s) s.env.actions x small is)
     ∙ ap (λ b. if b then Some Repeated else (if is_justified (numbered s) (is_listed (numbered s) before) x.node x.reason then None else Some Unjustified)) new
@@ -129,7 +138,7 @@ head_clean s zero l = ap (λ b. if b then None else Some Form) (same_numbers_its
 head_clean s (suc zero) l = ap (λ b. if b then None else Some Form) (same_numbers_itself (count_line (node_count s)))
 head_clean s (suc (suc i)) l = absurd (omega arith)
 
-entries_clean : (s : Sys) (before rest : List (Entry ℕ)) → AreFew (node_count s) s.env.actions → ((y : Entry ℕ) → IsIn y (before ++ rest) → IsIn y (possible_entries (node_count s) s.env.actions)) → IsOrder (numbered s) (before ++ rest) →
+entries_clean : (s : Sys) (before rest : List (Entry ℕ)) → IsFew s → ArePossible s (before ++ rest) → IsOrder (numbered s) (before ++ rest) →
     IsClean (numbered s) (opened s before) (length (opened s before)) → IsClean (numbered s) (opened s (before ++ rest)) (length (opened s (before ++ rest)))
 entries_clean s before [] small are order clean = subst (λ M. IsClean (numbered s) (opened s M) (length (opened s M))) (sym (append-nil before)) clean
 entries_clean s before (x ∷ rest) small are order clean =
@@ -153,10 +162,10 @@ complete_end s L none =
         (λ f. ap (λ b. b && list_any (is_justified (numbered s) (is_listed (numbered s) L) p) (reasons s.env.actions)) (not_from_false (is_listed (numbered s) L p) f)
         ∙ none_from (is_justified (numbered s) (is_listed (numbered s) L) p) (reasons s.env.actions) (λ r j. none p l f r))
 
-end_clean : (s : Sys) (L : List (Entry ℕ)) → AreFew (node_count s) s.env.actions → ((x : Entry ℕ) → IsIn x L → IsIn x (possible_entries (node_count s) s.env.actions)) → end_fault (numbered s) L ≡ None → line_fault (numbered s) (opened s L) (Some end_line) ≡ None
+end_clean : (s : Sys) (L : List (Entry ℕ)) → IsFew s → ArePossible s L → end_fault (numbered s) L ≡ None → line_fault (numbered s) (opened s L) (Some end_line) ≡ None
 end_clean s L small are none =
     ap (λ b. if b then unless_over (Some end_line) else body_fault (numbered s) (entries_on (numbered s) (map entry_line L)) (Some end_line)) (no_end s L small are)
-    ∙ ap (λ b. if b then end_fault (numbered s) (entries_on (numbered s) (map entry_line L)) else entry_fault (numbered s) (entries_on (numbered s) (map entry_line L)) (entry_of (node_count s) s.env.actions end_line)) (same_numbers_itself end_line)
+    ∙ ap (λ b. if b then end_fault (numbered s) (entries_on (numbered s) (map entry_line L)) else entry_fault (numbered s) (entries_on (numbered s) (map entry_line L)) (entry_on s end_line)) (same_numbers_itself end_line)
     ∙ ap (end_fault (numbered s)) (entries_on-lines (numbered s) L small are)
     ∙ none
 
@@ -166,7 +175,7 @@ over_clean s L =
     (any_from (same_numbers end_line) end_line (map entry_line L ++ end_line ∷ []) (in_push end_line (map entry_line L)) (same_numbers_itself end_line))
 
 -- the lines of a complete list's certificate are clean, and so is their end
-pub cert_clean : (s : Sys) (L : List (Entry ℕ)) → AreFew (node_count s) s.env.actions → ((x : Entry ℕ) → IsIn x L → IsIn x (possible_entries (node_count s) s.env.actions)) → IsOrder (numbered s) L → end_fault (numbered s) L ≡ None →
+pub cert_clean : (s : Sys) (L : List (Entry ℕ)) → IsFew s → ArePossible s L → IsOrder (numbered s) L → end_fault (numbered s) L ≡ None →
     IsClean (numbered s) (cert_lines (node_count s) L) (length (cert_lines (node_count s) L) + 1)
 cert_clean s L small are order none i l = elim (cases_lt i (length (cert_lines (node_count s) L))) [
   | inl less ↦ clean_push (numbered s) (opened s L) end_line (entries_clean s [] L small are order (head_clean s)) (end_clean s L small are none) i less
@@ -177,12 +186,12 @@ cert_clean s L small are order none i l = elim (cases_lt i (length (cert_lines (
 
 -- The lines are read as the entries
 
-pub entries_on-cert : (s : Sys) (L : List (Entry ℕ)) → AreFew (node_count s) s.env.actions → ((x : Entry ℕ) → IsIn x L → IsIn x (possible_entries (node_count s) s.env.actions)) → entries_on (numbered s) (cert_lines (node_count s) L) ≡ L
+pub entries_on-cert : (s : Sys) (L : List (Entry ℕ)) → IsFew s → ArePossible s L → entries_on (numbered s) (cert_lines (node_count s) L) ≡ L
 entries_on-cert s L small are =
     ap₂ (λ o p. cons_option o (cons_option p (entries_on (numbered s) (map entry_line L ++ end_line ∷ []))))
     (entry_of_other (node_count s) s.env.actions 114 (codes "oman-order 1") small (omega arith))
     (entry_of_other (node_count s) s.env.actions 112 (codes "airs " ++ decimal (node_count s)) small (omega arith))
-    ∙ filter_map-append (entry_of (node_count s) s.env.actions) (map entry_line L) (end_line ∷ [])
+    ∙ filter_map-append (entry_on s) (map entry_line L) (end_line ∷ [])
     ∙ ap₂ (λ M o. M ++ cons_option o []) (entries_on-lines (numbered s) L small are) (entry_of_other (node_count s) s.env.actions 101 (110 ∷ 100 ∷ []) small (omega arith))
     ∙ append-nil L
 
@@ -209,7 +218,7 @@ line_length s x sys few i =
         let few : s.env.actions ≤ MAX_ACTIONS = sys.env.actions.1 in
         length-decimal-le 2 a (omega arith) (omega arith) (omega arith)
 
-entries_length : (s : Sys) (L : List (Entry ℕ)) → IsSys s → count (sizes_of s) ≤ MAX_CELLS → ((x : Entry ℕ) → IsIn x L → IsIn x (possible_entries (node_count s) s.env.actions)) →
+entries_length : (s : Sys) (L : List (Entry ℕ)) → IsSys s → count (sizes_of s) ≤ MAX_CELLS → ArePossible s L →
     length (text_of_lines (map entry_line L ++ end_line ∷ [])) ≤ 12 * length L + 4
 entries_length s [] sys few are = omega arith
 entries_length s (x ∷ L) sys few are =
@@ -217,7 +226,7 @@ entries_length s (x ∷ L) sys few are =
     let here : length (entry_line x) ≤ 11 = line_length s x sys few (are x (inl refl)) in
     omega (arith, length-append (entry_line x ++ 10 ∷ []) (text_of_lines (map entry_line L ++ end_line ∷ [])), length-append (entry_line x) (10 ∷ []))
 
-pub cert_length : (s : Sys) (L : List (Entry ℕ)) → IsSys s → count (sizes_of s) ≤ MAX_CELLS → ((x : Entry ℕ) → IsIn x L → IsIn x (possible_entries (node_count s) s.env.actions)) → length L ≤ count (sizes_of s) →
+pub cert_length : (s : Sys) (L : List (Entry ℕ)) → IsSys s → count (sizes_of s) ≤ MAX_CELLS → ArePossible s L → length L ≤ count (sizes_of s) →
     length (cert_text (node_count s) L) ≤ MAX_CERTIFICATE_BYTES
 cert_length s L sys few are fits =
     let rest : length (text_of_lines (map entry_line L ++ end_line ∷ [])) ≤ 12 * length L + 4 = entries_length s L sys few are in
@@ -235,7 +244,7 @@ cert_length s L sys few are fits =
 
 -- The lines of the text
 
-cert_are_lines : (s : Sys) (L : List (Entry ℕ)) → AreFew (node_count s) s.env.actions → ((x : Entry ℕ) → IsIn x L → IsIn x (possible_entries (node_count s) s.env.actions)) → node_count s < 2 ^ 64 → AreLines (cert_lines (node_count s) L)
+cert_are_lines : (s : Sys) (L : List (Entry ℕ)) → IsFew s → ArePossible s L → node_count s < 2 ^ 64 → AreLines (cert_lines (node_count s) L)
 cert_are_lines s L small are few line (inl e) = subst IsLine (sym e) head_is_line
 cert_are_lines s L small are few line (inr (inl e)) = subst IsLine (sym e) (count_is_line (node_count s) few)
 cert_are_lines s L small are few line (inr (inr i)) = elim (from_append line (map entry_line L) (end_line ∷ []) i) [
@@ -283,7 +292,7 @@ pub written_is_greatest : WrittenIsGreatest
 written_is_greatest s start L sys cells l are complete =
     let (few, small) = cells_small s sys cells in
     let order : IsOrder (numbered s) L = complete_order s L sys are complete in
-    let possible : (x : Entry ℕ) → IsIn x L → IsIn x (possible_entries (node_count s) s.env.actions) = order_possible s L sys are order in
+    let possible : ArePossible s L = order_possible s L sys are order in
     let fits : length L ≤ length (below (count (sizes_of s))) = order_fits (numbered s) (numbered_is_same s) L order (λ x i. in_below (count (sizes_of s)) x.node (are x i)) in
     let short : length (cert_text (node_count s) L) ≤ MAX_CERTIFICATE_BYTES = cert_length s L sys few possible (subst (λ n. length L ≤ n) (length-below (count (sizes_of s))) fits) in
     let few_pairs : count (sizes_of s) ≤ MAX_CELLS = few in
@@ -322,29 +331,29 @@ entry_holds s L x e = by_test (is_listed (numbered s) L x.node)
 
 -- the entries on those lines are a removal list, and no pair is missing
 record HoldsAll (s : Sys) (L : List (Entry ℕ)) : Type 0 where
-  possible : (x : Entry ℕ) → IsIn x L → IsIn x (possible_entries (node_count s) s.env.actions)
+  possible : ArePossible s L
   order : IsOrder (numbered s) L
   ended : end_fault (numbered s) L ≡ None
 
 -- lines read so far: none is `end`, and their entries are a removal list
 record ReadSoFar (s : Sys) (done : List (List ℕ)) : Type 0 where
   open_yet : IsFalse (list_any (same_numbers end_line) done)
-  possible : (x : Entry ℕ) → IsIn x (entries_on (numbered s) done) → IsIn x (possible_entries (node_count s) s.env.actions)
+  possible : ArePossible s (entries_on (numbered s) done)
   order : IsOrder (numbered s) (entries_on (numbered s) done)
 
-module _ (s : Sys) (small : AreFew (node_count s) s.env.actions) (head size : List ℕ) where
+module _ (s : Sys) (small : IsFew s) (head size : List ℕ) where
   abbrev with_body : List (List ℕ) → List (List ℕ)
   with_body body = head ∷ size ∷ body
 
   -- a line that isn't `end` is an entry's
-  read_entry : (done : List (List ℕ)) (line : List ℕ) → ReadSoFar s done → IsFalse (same_numbers end_line line) → entry_fault (numbered s) (entries_on (numbered s) done) (entry_of (node_count s) s.env.actions line) ≡ None → ReadSoFar s (done ++ line ∷ [])
-  read_entry done line read other e = by_entry (entry_of (node_count s) s.env.actions line) refl
+  read_entry : (done : List (List ℕ)) (line : List ℕ) → ReadSoFar s done → IsFalse (same_numbers end_line line) → entry_fault (numbered s) (entries_on (numbered s) done) (entry_on s line) ≡ None → ReadSoFar s (done ++ line ∷ [])
+  read_entry done line read other e = by_entry (entry_on s line) refl
     where
-      by_entry : (o : Option (Entry ℕ)) → entry_of (node_count s) s.env.actions line ≡ o → ReadSoFar s (done ++ line ∷ [])
+      by_entry : (o : Option (Entry ℕ)) → entry_on s line ≡ o → ReadSoFar s (done ++ line ∷ [])
       by_entry None is = absurd (no_fault Form (ap (entry_fault (numbered s) (entries_on (numbered s) done)) (sym is) ∙ e))
       by_entry (Some x) is =
           let (new, holds) = entry_holds s (entries_on (numbered s) done) x (ap (entry_fault (numbered s) (entries_on (numbered s) done)) (sym is) ∙ e) in
-          let more : entries_on (numbered s) (done ++ line ∷ []) ≡ entries_on (numbered s) done ++ x ∷ [] = filter_map-append (entry_of (node_count s) s.env.actions) done (line ∷ []) ∙ ap (λ o. entries_on (numbered s) done ++ cons_option o []) is in
+          let more : entries_on (numbered s) (done ++ line ∷ []) ≡ entries_on (numbered s) done ++ x ∷ [] = filter_map-append (entry_on s) done (line ∷ []) ∙ ap (λ o. entries_on (numbered s) done ++ cons_option o []) is in
           record {
             open_yet = list_any-append (same_numbers end_line) done (line ∷ []) ∙ or_from (list_any (same_numbers end_line) done) (list_any (same_numbers end_line) (line ∷ [])) read.open_yet
                 (or_from (same_numbers end_line line) false other refl);
@@ -370,19 +379,19 @@ module _ (s : Sys) (small : AreFew (node_count s) s.env.actions) (head size : Li
       let clean_more : IsClean (numbered s) (with_body ((done ++ line ∷ []) ++ rest)) (length (with_body ((done ++ line ∷ []) ++ rest)) + 1) = subst (λ ls. IsClean (numbered s) (with_body ls) (length (with_body ls) + 1)) more clean in
       by_test (same_numbers end_line line)
       (λ t. at_end done line rest read t
-      (sym (cond-true (same_numbers end_line line) (end_fault (numbered s) (entries_on (numbered s) done)) (entry_fault (numbered s) (entries_on (numbered s) done) (entry_of (node_count s) s.env.actions line)) t) ∙ due) more clean_more)
+      (sym (cond-true (same_numbers end_line line) (end_fault (numbered s) (entries_on (numbered s) done)) (entry_fault (numbered s) (entries_on (numbered s) done) (entry_on s line)) t) ∙ due) more clean_more)
       (λ f. subst (λ ls. HoldsAll s (entries_on (numbered s) ls)) (sym more)
       (read_all (done ++ line ∷ []) rest
-      (read_entry done line read f (sym (cond-false (same_numbers end_line line) (end_fault (numbered s) (entries_on (numbered s) done)) (entry_fault (numbered s) (entries_on (numbered s) done) (entry_of (node_count s) s.env.actions line)) f) ∙ due))
+      (read_entry done line read f (sym (cond-false (same_numbers end_line line) (end_fault (numbered s) (entries_on (numbered s) done)) (entry_fault (numbered s) (entries_on (numbered s) done) (entry_on s line)) f) ∙ due))
       clean_more))
     where
       -- nothing follows the end
       at_end : (done : List (List ℕ)) (line : List ℕ) (rest : List (List ℕ)) → ReadSoFar s done → IsTrue (same_numbers end_line line) → end_fault (numbered s) (entries_on (numbered s) done) ≡ None →
           done ++ line ∷ rest ≡ (done ++ line ∷ []) ++ rest → IsClean (numbered s) (with_body ((done ++ line ∷ []) ++ rest)) (length (with_body ((done ++ line ∷ []) ++ rest)) + 1) → HoldsAll s (entries_on (numbered s) (done ++ line ∷ rest))
       at_end done line [] read t none more clean =
-          let unread : entry_of (node_count s) s.env.actions line ≡ None = subst (λ l. entry_of (node_count s) s.env.actions l ≡ None) (same_numbers_is end_line line t) (entry_of_other (node_count s) s.env.actions 101 (110 ∷ 100 ∷ []) small (omega arith)) in
+          let unread : entry_on s line ≡ None = subst (λ l. entry_on s l ≡ None) (same_numbers_is end_line line t) (entry_of_other (node_count s) s.env.actions 101 (110 ∷ 100 ∷ []) small (omega arith)) in
           let same : entries_on (numbered s) done ≡ entries_on (numbered s) (done ++ line ∷ []) =
-          sym (filter_map-append (entry_of (node_count s) s.env.actions) done (line ∷ []) ∙ ap (λ o. entries_on (numbered s) done ++ cons_option o []) unread ∙ append-nil (entries_on (numbered s) done)) in
+          sym (filter_map-append (entry_on s) done (line ∷ []) ∙ ap (λ o. entries_on (numbered s) done ++ cons_option o []) unread ∙ append-nil (entries_on (numbered s) done)) in
           subst (HoldsAll s) same (record { possible = read.possible; order = read.order; ended = none })
       at_end done line (next ∷ rest) read t none more clean =
           let over : line_fault (numbered s) (with_body (done ++ line ∷ [])) (Some next) ≡ None =
@@ -392,13 +401,13 @@ module _ (s : Sys) (small : AreFew (node_count s) s.env.actions) (head size : Li
           (any_from (same_numbers end_line) line (done ++ line ∷ []) (in_push line done) t)) ∙ over))
 
 -- a clean text
-text_read : (s : Sys) (text : List (List ℕ)) → AreFew (node_count s) s.env.actions → IsClean (numbered s) text (length text + 1) → HoldsAll s (entries_on (numbered s) text)
+text_read : (s : Sys) (text : List (List ℕ)) → IsFew s → IsClean (numbered s) text (length text + 1) → HoldsAll s (entries_on (numbered s) text)
 text_read s [] small clean = absurd (no_fault Form (clean 0 (omega arith)))
 text_read s (head ∷ []) small clean = absurd (no_fault Form (clean 1 (omega arith)))
 text_read s (head ∷ size ∷ body) small clean =
-    let first : entry_of (node_count s) s.env.actions head ≡ None = subst (λ l. entry_of (node_count s) s.env.actions l ≡ None) (sym (due_is head_line head (clean 0 (omega arith)))) (entry_of_other (node_count s) s.env.actions 114 (codes "oman-order 1") small (omega arith)) in
-    let second : entry_of (node_count s) s.env.actions size ≡ None =
-    subst (λ l. entry_of (node_count s) s.env.actions l ≡ None) (sym (due_is (count_line (node_count s)) size (clean 1 (omega arith)))) (entry_of_other (node_count s) s.env.actions 112 (codes "airs " ++ decimal (node_count s)) small (omega arith)) in
+    let first : entry_on s head ≡ None = subst (λ l. entry_on s l ≡ None) (sym (due_is head_line head (clean 0 (omega arith)))) (entry_of_other (node_count s) s.env.actions 114 (codes "oman-order 1") small (omega arith)) in
+    let second : entry_on s size ≡ None =
+    subst (λ l. entry_on s l ≡ None) (sym (due_is (count_line (node_count s)) size (clean 1 (omega arith)))) (entry_of_other (node_count s) s.env.actions 112 (codes "airs " ++ decimal (node_count s)) small (omega arith)) in
     subst (HoldsAll s) (sym (ap₂ (λ o p. cons_option o (cons_option p (entries_on (numbered s) body))) first second))
     (read_all s small head size [] body (record { open_yet = refl; possible = λ x i. absurd i; order = tt }) clean)
 
@@ -419,7 +428,7 @@ nothing_missing s L sys ended p l unlisted r =
     unmapped (Some q) e = absurd (no_fault (Unlisted q) e)
 
 -- the entries of a clean text are a complete list
-pub clean_complete : (s : Sys) (text : List (List ℕ)) → IsSys s → AreFew (node_count s) s.env.actions → IsClean (numbered s) text (length text + 1) → AreNumbers s (entries_on (numbered s) text) × IsCompleteList s (entries_on (numbered s) text)
+pub clean_complete : (s : Sys) (text : List (List ℕ)) → IsSys s → IsFew s → IsClean (numbered s) text (length text + 1) → AreNumbers s (entries_on (numbered s) text) × IsCompleteList s (entries_on (numbered s) text)
 clean_complete s text sys small clean =
     let all : HoldsAll s (entries_on (numbered s) text) = text_read s text small clean in
     let are : AreNumbers s (entries_on (numbered s) text) = λ x i. (possible_number s x (all.possible x i)).0 in

@@ -1,15 +1,16 @@
 -- What a change of the seats does to systems, pairs, outcomes and removal lists.
-use Rattle.std.proofs.Common.{◌≡◌, ℕ, zero, suc, ◌<◌, ◌≤◌, Bool, true, not, ◌&&◌, ◌||◌, List, [], ◌∷◌, ◌++◌, map, length, Some, IsTrue, IsFalse, filter, flat_map, slice_get, slice_index, slice_set, remove, insert, refl, sym, ap, ap₂, ◌∙◌, subst, inl, inr, arith}
+use Rattle.std.proofs.Common.{◌≡◌, ℕ, zero, suc, ◌<◌, ◌≤◌, Bool, true, not, ◌&&◌, ◌||◌, List, [], ◌∷◌, ◌++◌, map, length, Some, IsTrue, IsFalse, filter, flat_map, slice_get, slice_index, slice_set, remove, refl, sym, ap, ap₂, ◌∙◌, subst, inl, inr, arith}
 use Rattle.std.specs.List.{list_any, AllZip}
 use Rattle.std.proofs.lemmas.Bool.{cases_eq, both_ways, or_cases, or_left, or_right, and_parts, and_from, cond-true, cond-false}
 use Rattle.std.proofs.lemmas.List.{map-append, length_push, same_from_push}
+use Rattle.std.proofs.lemmas.List.Folds.{flat_map-map}
 use Rattle.std.proofs.lemmas.Option.{none-some, same_Some, slice_get_within}
 use Rattle.roman_model.specs.Lists.{IsIn, HasNoRepeats, below, all_below, is_empty}
 use Rattle.roman_model.specs.System.{Seat, Sys, Pair, IsBeh, IsSys, IsPair, is_final, all_final}
 use Rattle.roman_model.specs.SystemArena.{env_next, beh_next, seat_next, outcomes_by, outcomes, is_allowed, is_fine, same_pair, arena}
 use Rattle.roman_model.specs.Arena.{Entry, is_among, is_beaten, is_justified, IsOrderFrom, AreNew}
 use Rattle.roman_model.specs.CompleteLists.{AreEntries}
-use Rattle.roman_model.specs.Change.{Join, Die, set_frozen, grown, without, may_go, firsts, grown_entries, entry_without, rename, place, with_state}
+use Rattle.roman_model.specs.Change.{Join, Die, set_frozen, grown, without, may_go, firsts, grown_entries, entry_without, rename}
 use Rattle.roman_model.specs.declared.limits.TheConstants.{MAX_SERVICES}
 use Rattle.roman_model.specs.declared.reason.Reason.{Reason}
 use Rattle.roman_model.specs.declared.reason.Reason.TheVariants.{Final, Act}
@@ -41,10 +42,6 @@ map-map f g (x ∷ xs) = ap (λ ys. f (g x) ∷ ys) (map-map f g xs)
 pub map-flat_map : {X Y Z : Type 0} (f : Y → Z) (g : X → List Y) (xs : List X) → map f (flat_map g xs) ≡ flat_map (λ x. map f (g x)) xs
 map-flat_map f g [] = refl
 map-flat_map f g (x ∷ xs) = map-append f (g x) (flat_map g xs) ∙ ap (λ ys. map f (g x) ++ ys) (map-flat_map f g xs)
-
-pub flat_map-map : {X Y Z : Type 0} (f : Y → List Z) (g : X → Y) (xs : List X) → flat_map f (map g xs) ≡ flat_map (λ x. f (g x)) xs
-flat_map-map f g [] = refl
-flat_map-map f g (x ∷ xs) = ap (λ ys. f (g x) ++ ys) (flat_map-map f g xs)
 
 pub flat_map_none : {X Y : Type 0} (f : X → List Y) (xs : List X) → ((x : X) → f x ≡ []) → flat_map f xs ≡ []
 flat_map_none f [] none = refl
@@ -89,6 +86,12 @@ length-remove [] k h = absurd (omega arith)
 length-remove (x ∷ xs) zero h = refl
 length-remove (x ∷ xs) (suc k) h = ap suc (length-remove xs k (omega arith))
 
+-- the place that seat j had before seat k went
+abbrev place : ℕ → ℕ → ℕ
+place zero j = suc j
+place (suc k) zero = zero
+place (suc k) (suc j) = suc (place k j)
+
 pub get-remove : {X : Type 0} (xs : List X) (k j : ℕ) → slice_get (remove xs k) j ≡ slice_get xs (place k j)
 get-remove [] zero j = refl
 get-remove [] (suc k) j = refl
@@ -122,33 +125,6 @@ place_within zero j n h l = omega arith
 place_within (suc k) zero n h l = omega arith
 place_within (suc k) (suc j) zero h l = absurd (omega arith)
 place_within (suc k) (suc j) (suc n) h l = let rest : place k j < suc n = place_within k j n (omega arith) (omega arith) in omega arith
-
-pub remove-insert : (bs : List ℕ) (k b : ℕ) → k ≤ length bs → remove (insert bs k b) k ≡ bs
-remove-insert bs zero b h = refl
-remove-insert [] (suc k) b h = absurd (omega arith)
-remove-insert (c ∷ bs) (suc k) b h = ap (λ cs. c ∷ cs) (remove-insert bs k b (omega arith))
-
-pub insert-remove : (bs : List ℕ) (k : ℕ) → k < length bs → insert (remove bs k) k (slice_index bs k) ≡ bs
-insert-remove [] k h = absurd (omega arith)
-insert-remove (c ∷ bs) zero h = refl
-insert-remove (c ∷ bs) (suc k) h = ap (λ cs. c ∷ cs) (insert-remove bs k (omega arith))
-
-pub index_insert : (bs : List ℕ) (k b : ℕ) → k ≤ length bs → slice_index (insert bs k b) k ≡ b
-index_insert bs zero b h = refl
-index_insert [] (suc k) b h = absurd (omega arith)
-index_insert (c ∷ bs) (suc k) b h = index_insert bs k b (omega arith)
-
-pub index-insert : (bs : List ℕ) (k j b : ℕ) → k ≤ length bs → slice_index (insert bs k b) (place k j) ≡ slice_index bs j
-index-insert bs zero j b h = refl
-index-insert [] (suc k) j b h = absurd (omega arith)
-index-insert (c ∷ bs) (suc k) zero b h = refl
-index-insert (c ∷ bs) (suc k) (suc j) b h = index-insert bs k j b (omega arith)
-
-pub set-insert : (bs : List ℕ) (k j b c : ℕ) → k ≤ length bs → slice_set (insert bs k b) (place k j) c ≡ insert (slice_set bs j c) k b
-set-insert bs zero j b c h = refl
-set-insert [] (suc k) j b c h = absurd (omega arith)
-set-insert (x ∷ bs) (suc k) zero b c h = refl
-set-insert (x ∷ bs) (suc k) (suc j) b c h = ap (λ cs. x ∷ cs) (set-insert bs k j b c (omega arith))
 
 -- Seats that freeze or thaw
 
@@ -356,25 +332,12 @@ states_length [] (b ∷ bs) h = absurd h
 states_length (seat ∷ seats) [] h = absurd h
 states_length (seat ∷ seats) (b ∷ bs) h = ap suc (states_length seats bs h.1)
 
-pub state_below : (seats : List Seat) (bs : List ℕ) (k : ℕ) (seat : Seat) → slice_get seats k ≡ Some seat → AllZip (λ seat b. b < seat.beh.states) seats bs → slice_index bs k < seat.beh.states
-state_below [] bs k seat e h = absurd (none-some seat e)
-state_below (x ∷ seats) [] k seat e h = absurd h
-state_below (x ∷ seats) (b ∷ bs) zero seat e h = subst (λ (y : Seat). b < y.beh.states) (same_Some x seat e) h.0
-state_below (x ∷ seats) (b ∷ bs) (suc k) seat e h = state_below seats bs k seat e h.1
-
 -- the outcomes of the other seats lose the dead one's state
 pub outcomes-without : (s : Sys) (k : ℕ) (p : Pair) (a j : ℕ) → outcomes (left s k) (without k p) a j ≡ map (without k) (outcomes s p a (place k j))
 outcomes-without s k p a j =
     ap₂ (λ o b. outcomes_by (left s k) (without k p) a j (seat_next o b p.e a)) (get-remove s.seats k j) (index-remove p.bs k j)
     ∙ moved_named s (remove s.seats k) p a (place k j) j (seat_next (slice_get s.seats (place k j)) (slice_index p.bs (place k j)) p.e a) (λ bs. remove bs k) (remove p.bs k)
     (λ b'. set-remove p.bs k j b')
-
--- and get it back
-pub outcomes-with_state : (s : Sys) (k : ℕ) (p : Pair) (b a j : ℕ) → k ≤ length p.bs → outcomes s (with_state k b p) a (place k j) ≡ map (with_state k b) (outcomes (left s k) p a j)
-outcomes-with_state s k p b a j h =
-    ap₂ (λ o c. outcomes_by s (with_state k b p) a (place k j) (seat_next o c p.e a)) (sym (get-remove s.seats k j)) (index-insert p.bs k j b h)
-    ∙ moved_named (left s k) s.seats p a j (place k j) (seat_next (slice_get (remove s.seats k) j) (slice_index p.bs j) p.e a) (λ bs. insert bs k b) (insert p.bs k b)
-    (λ b'. set-insert p.bs k j b b' h)
 
 -- an outcome of another seat leaves the state of seat k
 pub outcome_keeps : (s : Sys) (k : ℕ) (p : Pair) (a j : ℕ) (q : Pair) → IsIn q (outcomes s p a (place k j)) → slice_index q.bs k ≡ slice_index p.bs k

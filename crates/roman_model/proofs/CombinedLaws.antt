@@ -1,19 +1,21 @@
 -- Several targets are one combined target: the ND-simulations of the combined system are those of the members.
-use Rattle.std.proofs.Common.{◌≡◌, ℕ, zero, suc, ◌<◌, ◌≤◌, ◌==◌, Bool, ◌&&◌, ◌||◌, List, [], ◌∷◌, map, length, Some, IsTrue, filter, slice_get, slice_index, slice_set, nat_lt, inl, inr, refl, sym, ap, ◌∙◌, subst, arith}
-use Rattle.std.proofs.lemmas.Bool.{false≢true, and_parts, and_from, ltb-true, lt-ltb}
+use Rattle.std.proofs.Common.{◌≡◌, ℕ, ◌<◌, ◌≤◌, Bool, ◌&&◌, List, [], ◌∷◌, map, length, Some, IsTrue, filter, slice_get, slice_index, slice_set, nat_lt, inl, inr, refl, sym, ap, ◌∙◌, subst, arith}
+use Rattle.std.proofs.lemmas.Bool.{and_parts, and_from, ltb-true, lt-ltb}
+use Rattle.std.proofs.lemmas.List.{length-map}
 use Rattle.std.proofs.lemmas.Option.{same_Some}
-use Rattle.roman_model.specs.Lists.{IsIn, below}
+use Rattle.roman_model.specs.Lists.{IsIn}
 use Rattle.roman_model.specs.System.{Env, Beh, Seat, has_triple, has_move, IsBeh, IsDeterministic, IsSys, SStep, is_final}
 use Rattle.roman_model.specs.SystemArena.{same_numbers}
 use Rattle.roman_model.specs.declared.limits.TheConstants.{MAX_SERVICES}
 use Rattle.roman_model.specs.Composition.{Couple, couple, Serves, Meets, GreatCouple}
 use Rattle.roman_model.specs.declared.request.Request.{Request}
 use Rattle.roman_model.specs.Several.{Several, of_one, CoupleAll, are_final, ServesAll, MeetsAll, GreatAll}
+use Rattle.roman_model.specs.Numbers.{AreBelow}
 use Rattle.roman_model.specs.Combined.{has_triple_on, has_move_on, targets_go, target_sizes, combined_start, combined_seat, all_requests, combined, IsSeveral, CombinedIsAll}
-use Rattle.roman_model.proofs.Places.{get_in, in_get, map_length}
+use Rattle.roman_model.proofs.Places.{get_in, in_get}
 use Rattle.roman_model.proofs.Lists.{in_map, from_map, in_filter, filter_in}
 use Rattle.roman_model.proofs.SystemLemmas.{same_numbers_is, same_numbers_itself, move_in_range}
-use Rattle.roman_model.proofs.NumberLemmas.{AreBelow, states_number_below, states_at-number, states_number-at}
+use Rattle.roman_model.proofs.NumberLemmas.{states_number_below, states_at-number, states_number-at}
 use Rattle.roman_model.proofs.CompositionLemmas.{meets_more}
 use Rattle.roman_model.proofs.MadeLemmas.{IsEnv-made, IsBeh-made, from_made_final, made_final}
 use Rattle.roman_model.proofs.CombinedLemmas.{in_requests, from_combined_triple, combined_triple, from_combined_sstep, combined_sstep, from_combined_target, combined_target_goes, member_below, states_of, number_of, total, from_all_final_combined, all_final_combined}
@@ -208,7 +210,7 @@ combined_system w ok =
           let own : IsBeh w.env seat.beh = ok.seats seat j in
           subst (λ (y : Seat). IsBeh (combined w).env y.beh) (sym same)
           (IsBeh-made (combined w).env seat.beh.states seat.beh.start (is_final seat.beh) (λ b e n b'. has_move_on seat.beh (slice_get (all_requests w) n) b e b') own.states own.start);
-      few = subst (λ n. n ≤ MAX_SERVICES) (sym (map_length (combined_seat w.env.states (all_requests w)) w.seats)) ok.few;
+      few = subst (λ n. n ≤ MAX_SERVICES) (sym (length-map w.seats (combined_seat w.env.states (all_requests w)))) ok.few;
     }
 
 -- A pair of the combined system is related exactly where it is related for all targets.

@@ -1,19 +1,20 @@
 -- The combined actions, and the steps and final states of the combined parts: they are those of the members.
-use Rattle.std.proofs.Common.{◌≡◌, ℕ, zero, suc, ◌<◌, ◌≤◌, ◌==◌, true, false, not, ◌&&◌, ◌||◌, List, [], ◌∷◌, map, length, Option, Some, None, IsTrue, IsFalse, filter, slice_get, slice_index, slice_set, inl, inr, refl, sym, ap, ◌∙◌, subst}
+use Rattle.std.proofs.Common.{◌≡◌, ℕ, zero, suc, ◌<◌, ◌==◌, not, ◌&&◌, ◌||◌, List, [], ◌∷◌, map, length, Option, Some, None, IsTrue, IsFalse, filter, slice_get, slice_index, slice_set, inl, inr, refl, sym, ap, ◌∙◌, subst}
 use Rattle.std.specs.List.{list_any}
 use Rattle.std.proofs.lemmas.Bool.{false≢true, and_parts, and_from, or_cases, or_left, or_right, eqb-true, eq-eqb, not_from_false, not-true}
+use Rattle.std.proofs.lemmas.List.{length-map}
 use Rattle.std.proofs.lemmas.Option.{none-some, same_Some, slice_get_within}
 use Rattle.roman_model.specs.Lists.{IsIn, below, is_empty, product_of}
 use Rattle.roman_model.specs.System.{Env, Beh, Seat, has, has_triple, has_move, IsEnv, IsBeh, SStep, is_final, all_final}
 use Rattle.roman_model.specs.SystemArena.{beh_next, same_numbers}
-use Rattle.roman_model.specs.Numbers.{states_number, states_at}
+use Rattle.roman_model.specs.Numbers.{AreBelow, states_number, states_at}
 use Rattle.roman_model.specs.declared.request.Request.{Request}
 use Rattle.roman_model.specs.Several.{Several, of_one, are_final}
 use Rattle.roman_model.specs.Combined.{stands_in, uses, requests_of, has_triple_on, has_move_on, member_goes, targets_go, combined_beh, target_sizes, combined_start, combined_seat, all_requests, combined, IsSeveral}
-use Rattle.roman_model.proofs.Places.{get_in, from_get_map, get_map, map_length, index_set}
+use Rattle.roman_model.proofs.Places.{get_in, from_get_map, get_map, index_set}
 use Rattle.roman_model.proofs.Lists.{same_test, in_map, in_flat_map, in_filter, any_true, any_from, in_not_empty, not_empty_in, in_below}
 use Rattle.roman_model.proofs.SystemLemmas.{same_numbers_is, same_numbers_itself, triple_in_range, move_in_range, in_beh_next, from_beh_next}
-use Rattle.roman_model.proofs.NumberLemmas.{AreBelow, AreBelow-length, AreBelow-at, AreBelow-set, states_number_below, states_at-number}
+use Rattle.roman_model.proofs.NumberLemmas.{AreBelow-length, AreBelow-at, AreBelow-set, states_number_below, states_at-number}
 use Rattle.roman_model.proofs.MadeLemmas.{from_made_triple, made_triple, move_test, move_passes, from_made_move, made_move, from_made_final, made_final}
 
 -- The combined actions.
@@ -178,7 +179,7 @@ combined_target_goes w t e n t' r target ok l at member goes =
     let back : states_of w (number_of w (slice_set (states_of w t) r.target t')) ≡ slice_set (states_of w t) r.target t' =
     states_at-number (target_sizes w.targets) (slice_set (states_of w t) r.target t') below in
     let within : r.target < length (states_of w t) =
-    subst (λ m. r.target < m) (sym (AreBelow-length (target_sizes w.targets) (states_of w t) (AreBelow-at (target_sizes w.targets) t l) ∙ map_length (λ target. target.states) w.targets))
+    subst (λ m. r.target < m) (sym (AreBelow-length (target_sizes w.targets) (states_of w t) (AreBelow-at (target_sizes w.targets) t l) ∙ length-map w.targets (λ target. target.states)))
     (slice_get_within w.targets r.target target member) in
     let there : slice_index (slice_set (states_of w t) r.target t') r.target ≡ t' = index_set (states_of w t) r.target t' within in
     let passes : IsTrue (member_goes (Some target) r.target r.action (states_of w t) e (slice_set (states_of w t) r.target t')) =

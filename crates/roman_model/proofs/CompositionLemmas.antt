@@ -5,7 +5,7 @@ use Rattle.std.proofs.lemmas.Option.{slice_get_within}
 use Rattle.roman_model.specs.Lists.{IsIn}
 use Rattle.roman_model.specs.System.{Sys, Pair, IsSys, IsPair, SStep, is_final, all_final}
 use Rattle.roman_model.specs.SystemArena.{pairs, outcomes, is_allowed, is_fine, arena}
-use Rattle.roman_model.specs.Arena.{Entry, is_listed, is_justified, IsOrder, loses, Survives}
+use Rattle.roman_model.specs.Arena.{Entry, is_listed, is_justified, IsOrder, loses}
 use Rattle.roman_model.specs.Composition.{Couple, couple, Serves, Meets, IsNdSim, GreatCouple, Great}
 use Rattle.roman_model.specs.CompleteLists.{AreEntries, IsComplete}
 use Rattle.roman_model.specs.Laws.{GreatestIsGreatest, OrderRefutes, OrderCompletes, UnrelatedLoses, ReplayKeeps}
@@ -14,7 +14,7 @@ use Rattle.roman_model.specs.declared.reason.Reason.{Reason}
 use Rattle.roman_model.specs.declared.reason.Reason.TheVariants.{Final, Act}
 use Rattle.roman_model.proofs.Lists.{by_test, same_test, in_map, from_map, in_filter, filter_in, ne_not_empty, not_empty_in, not_empty_ne, in_not_empty}
 use Rattle.roman_model.proofs.SystemLemmas.{same_pair_is, same_pair_itself, in_pairs, from_pairs, pairs_once, outcome_in, from_outcome, outcome_seat, outcome_pair, allowed_in, from_allowed, allowed_in_range}
-use Rattle.roman_model.proofs.ArenaLemmas.{IsSame, IsArena, survives_more, survivor_within, in_listed, mask_not_empty, unallowed_unjustified}
+use Rattle.roman_model.proofs.ArenaLemmas.{IsSame, IsArena, Survives, survives_more, survivor_within, in_listed, mask_not_empty, unallowed_unjustified}
 use Rattle.roman_model.proofs.OrderLemmas.{listed_dead, replay_order, replay_keeps}
 use Rattle.roman_model.proofs.DepthLemmas.{lost_dead, unlost_survives}
 

@@ -57,6 +57,15 @@ before_fits A (x ∷ L) p =
     let rest : length (entries_before A L p) ≤ length L = before_fits A L p in
     elim (A.same p x.node) as (λ b. length (if b then [] else x ∷ entries_before A L p) ≤ length (x ∷ L)) [ true ↦ omega arith | false ↦ omega arith ]
 
+-- one that is listed has fewer before it than the list has
+pub before_shorter : {N : Type 0} (A : Arena N) (L : List (Entry N)) (p : N) → IsTrue (is_listed A L p) → length (entries_before A L p) < length L
+before_shorter A [] p t = absurd (false≢true t)
+before_shorter A (x ∷ L) p t = by_test (A.same p x.node)
+    (λ here. subst (λ M. length M < length (x ∷ L)) (sym (cond-true (A.same p x.node) [] (x ∷ entries_before A L p) here)) (omega arith))
+    (λ apart.
+    let rest : length (entries_before A L p) < length L = before_shorter A L p (subst (λ b. IsTrue (b || is_listed A L p)) apart t) in
+    subst (λ M. length M < length (x ∷ L)) (sym (cond-false (A.same p x.node) [] (x ∷ entries_before A L p) apart)) (omega arith))
+
 -- the entries before one that is new
 pub before_is : {N : Type 0} (A : Arena N) (done : List (Entry N)) (x : Entry N) (rest : List (Entry N)) → IsTrue (A.same x.node x.node) → IsFalse (is_listed A done x.node) →
     entries_before A (done ++ x ∷ rest) x.node ≡ done

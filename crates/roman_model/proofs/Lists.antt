@@ -337,21 +337,22 @@ split_at x [] i = absurd i
 split_at x (y ∷ xs) (inl e) = ([], xs, ap (λ z. z ∷ xs) (sym e))
 split_at x (y ∷ xs) (inr i) = let (before, after, e) = split_at x xs i in (y ∷ before, after, ap (λ zs. y ∷ zs) e)
 
+-- an element that isn't x stands before or after it
+in_others : {X : Type 0} (x z : X) (before after : List X) → (z ≡ x → ⊥) → IsIn z (before ++ x ∷ after) → IsIn z (before ++ after)
+in_others x z before after apart j = elim (from_append z before (x ∷ after) j) [
+  | inl left ↦ in_append_left z before after left
+  | inr right ↦ elim right [ inl same ↦ absurd (apart same) | inr rest ↦ in_append_right z before after rest ]
+]
+
 -- a list without repeats, each element of which is in another, is no longer than that
 pub no_longer : {X : Type 0} (xs ys : List X) → HasNoRepeats xs → ((x : X) → IsIn x xs → IsIn x ys) → length xs ≤ length ys
 no_longer [] ys once within = omega arith
 no_longer {X} (x ∷ xs) ys once within =
     let (before, after, e) = split_at x ys (within x (inl refl)) in
-    let others : (z : X) → IsIn z xs → IsIn z (before ++ after) = λ z i. other before after z i (subst (λ zs. IsIn z zs) e (within z (inr i))) in
+    let others : (z : X) → IsIn z xs → IsIn z (before ++ after) = λ z i. in_others x z before after (λ same. once.0 (subst (λ w. IsIn w xs) same i)) (subst (λ zs. IsIn z zs) e (within z (inr i))) in
     let rest : length xs ≤ length (before ++ after) = no_longer xs (before ++ after) once.1 others in
     let there : length ys ≡ length (before ++ x ∷ after) = ap length e in
     omega (arith, length-append before after, length-append before (x ∷ after))
-  where
-    other : (before after : List X) (z : X) → IsIn z xs → IsIn z (before ++ x ∷ after) → IsIn z (before ++ after)
-    other before after z i j = elim (from_append z before (x ∷ after) j) [
-      | inl left ↦ in_append_left z before after left
-      | inr right ↦ elim right [ inl same ↦ absurd (once.0 (subst (λ w. IsIn w xs) same i)) | inr rest ↦ in_append_right z before after rest ]
-    ]
 
 -- two lists without repeats that have the same elements are equally long
 pub same_length : {X : Type 0} (xs ys : List X) → HasNoRepeats xs → HasNoRepeats ys → ((x : X) → IsIn x xs ↔ IsIn x ys) → length xs ≡ length ys
@@ -426,13 +427,7 @@ pub sum_by_within : {X : Type 0} (f : X → ℕ) (xs ys : List X) → HasNoRepea
 sum_by_within f [] ys once within = omega arith
 sum_by_within {X} f (x ∷ xs) ys once within =
     let (before, after, e) = split_at x ys (within x (inl refl)) in
-    let others : (z : X) → IsIn z xs → IsIn z (before ++ after) = λ z i. other before after z i (subst (λ zs. IsIn z zs) e (within z (inr i))) in
+    let others : (z : X) → IsIn z xs → IsIn z (before ++ after) = λ z i. in_others x z before after (λ same. once.0 (subst (λ w. IsIn w xs) same i)) (subst (λ zs. IsIn z zs) e (within z (inr i))) in
     let rest : sum_by f xs ≤ sum_by f (before ++ after) = sum_by_within f xs (before ++ after) once.1 others in
     let there : sum_by f ys ≡ sum_by f (before ++ x ∷ after) = ap (sum_by f) e in
     omega (arith, sum_by-append f before after, sum_by-append f before (x ∷ after), sum_by-cons f x after, sum_by-cons f x xs)
-  where
-    other : (before after : List X) (z : X) → IsIn z xs → IsIn z (before ++ x ∷ after) → IsIn z (before ++ after)
-    other before after z i j = elim (from_append z before (x ∷ after) j) [
-      | inl left ↦ in_append_left z before after left
-      | inr right ↦ elim right [ inl same ↦ absurd (once.0 (subst (λ w. IsIn w xs) same i)) | inr rest ↦ in_append_right z before after rest ]
-    ]

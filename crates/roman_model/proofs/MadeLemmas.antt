@@ -4,14 +4,13 @@ use Rattle.std.proofs.lemmas.Bool.{eq-eqb, eqb-true, and_parts, and_from}
 use Rattle.roman_model.specs.Lists.{IsIn, below}
 use Rattle.roman_model.specs.System.{Triple, Env, Move, has, has_triple, has_move, IsEnv, IsBeh, is_final}
 use Rattle.roman_model.specs.declared.limits.TheConstants.{MAX_STATES, MAX_ACTIONS}
-use Rattle.roman_model.specs.Normal.{guarded_step}
-use Rattle.roman_model.specs.Made.{env_from, beh_from}
+use Rattle.roman_model.specs.Made.{env_from, guarded_step, beh_from}
 use Rattle.roman_model.proofs.Lists.{any_true, any_from, in_map, from_map, in_flat_map, from_flat_map, in_filter, filter_in, in_below, from_below, filter_same}
 use Rattle.roman_model.proofs.ChangeLemmas.{flat_map_same_in}
 
 -- An environment's triples.
 
-from_made_triples : (states actions start : ℕ) (goes : ℕ → ℕ → ℕ → Bool) (x : Triple) → IsIn x (env_from states actions start goes).triples →
+pub from_made_triples : (states actions start : ℕ) (goes : ℕ → ℕ → ℕ → Bool) (x : Triple) → IsIn x (env_from states actions start goes).triples →
     (x.from < states) × (x.action < actions) × (x.to < states) × IsTrue (goes x.from x.action x.to)
 from_made_triples states actions start goes x i =
     let (e, ie, ix) = from_flat_map _ x (below states) i in
@@ -54,12 +53,12 @@ IsEnv-made states actions start goes some few begins = record {
 
 -- A behaviour's steps.
 
-from_guarded : (b a b' : ℕ) (guard : List ℕ) (m : Move) → IsIn m (guarded_step b a b' guard) → m ≡ record { from = b; guard = guard; action = a; to = b' }
+pub from_guarded : (b a b' : ℕ) (guard : List ℕ) (m : Move) → IsIn m (guarded_step b a b' guard) → m ≡ record { from = b; guard = guard; action = a; to = b' }
 from_guarded b a b' [] m i = absurd i
 from_guarded b a b' (e ∷ es) m (inl same) = same
 from_guarded b a b' (e ∷ es) m (inr none) = absurd none
 
-in_guarded : (b a b' : ℕ) (guard : List ℕ) (e : ℕ) → IsIn e guard → IsIn (record { from = b; guard = guard; action = a; to = b' }) (guarded_step b a b' guard)
+pub in_guarded : (b a b' : ℕ) (guard : List ℕ) (e : ℕ) → IsIn e guard → IsIn (record { from = b; guard = guard; action = a; to = b' }) (guarded_step b a b' guard)
 in_guarded b a b' [] e i = absurd i
 in_guarded b a b' (g ∷ gs) e i = inl refl
 

@@ -4,13 +4,10 @@ use Rattle.std.specs.List.{AllZip}
 use Rattle.std.proofs.lemmas.Nat.{mul-add-lt, div-mul-add, mod-mul-add, div_below, mod_below}
 use Rattle.roman_model.specs.Lists.{product_of}
 use Rattle.roman_model.specs.System.{Seat, Sys, Pair, IsPair}
-use Rattle.roman_model.specs.Numbers.{Sizes, sizes_of, IsPairOf, grown_sizes, sizes_without, count, states_number, states_at, number, pair_at, NumbersArePairs}
+use Rattle.roman_model.specs.Numbers.{Sizes, sizes_of, AreBelow, IsPairOf, grown_sizes, sizes_without, count, states_number, states_at, number, pair_at, NumbersArePairs}
 use Rattle.roman_model.specs.Change.{grown, without}
+use Rattle.roman_model.specs.NumberedChange.{number_without}
 use Rattle.roman_model.specs.Laws.{PairsAreNumbered}
-
--- one state for each size, below it
-abbrev pub AreBelow : List ℕ → List ℕ → Type 0
-AreBelow sizes bs = AllZip (λ size b. b < size) sizes bs
 
 pub AreBelow-length : (sizes bs : List ℕ) → AreBelow sizes bs → length bs ≡ length sizes
 AreBelow-length [] [] h = refl
@@ -307,10 +304,6 @@ number-without n p k ok h =
     + states_number (n.target ∷ n.env ∷ n.seats) (p.t ∷ p.e ∷ p.bs) % product_of (drop (suc k) n.seats) =
     rw add-one at (states_number-remove (n.target ∷ n.env ∷ n.seats) (p.t ∷ p.e ∷ p.bs) (suc (suc k)) (AreBelow-list n p ok) (omega arith)) in
     rw (add-one, number-list n p) (number-list (sizes_without k n) (without k p) ∙ list)
-
--- the number without the k-th state
-abbrev pub number_without : ℕ → Sizes → ℕ → ℕ
-number_without k n i = i / product_of (drop (k + 1) n.seats) / slice_index n.seats k * product_of (drop (k + 1) n.seats) + i % product_of (drop (k + 1) n.seats)
 
 pub number_without-is : (n : Sizes) (i k : ℕ) → i < count n → k < length n.seats → number (sizes_without k n) (without k (pair_at n i)) ≡ number_without k n i
 number_without-is n i k h l = number-without n (pair_at n i) k (IsPairOf-at n i h) l ∙ ap (number_without k n) (number-pair_at n i h)

@@ -44,21 +44,6 @@ module _ (s : Sys) where
         subst IsNumber (sym e) ((numbers_are_pairs s).below q (outcome_pair s (pair_at (sizes_of s) i) a k q sys ((numbers_are_pairs s).pair i l) m));
   }
 
-  -- and pairs name numbers
-  pub pairs_rename : IsSys s → Renames (arena s) (numbered s) (number (sizes_of s)) (IsPair s)
-  pairs_rename sys = record {
-    same = λ p q ok_p ok_q. same_test (same_pair p q) (number (sizes_of s) p == number (sizes_of s) q)
-        (λ h. eq-eqb (number (sizes_of s) p) (number (sizes_of s) q) (ap (number (sizes_of s)) (same_pair_is p q h)))
-        (λ h. same_pair_from p q (sym ((numbers_are_pairs s).back p ok_p) ∙ ap (pair_at (sizes_of s)) (eqb-true (number (sizes_of s) p) (number (sizes_of s) q) h) ∙ (numbers_are_pairs s).back q ok_q));
-    actions = refl;
-    seats = refl;
-    ready = λ k. refl;
-    fine = λ p ok. ap (is_fine s) (sym ((numbers_are_pairs s).back p ok));
-    allows = λ p ok a. ap (λ q. is_allowed s q a) (sym ((numbers_are_pairs s).back p ok));
-    outcomes = λ p ok a k. ap (λ q. map (number (sizes_of s)) (outcomes s q a k)) (sym ((numbers_are_pairs s).back p ok));
-    within = λ p ok a k q i. outcome_pair s p a k q sys ok i;
-  }
-
   -- the entries are of numbers of pairs
   abbrev pub AreNumbers : List (Entry ℕ) → Type 0
   AreNumbers L = (x : Entry ℕ) → IsIn x L → x.node < count (sizes_of s)

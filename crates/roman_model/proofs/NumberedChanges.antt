@@ -3,6 +3,7 @@ use Rattle.std.proofs.Common.{◌≡◌, ℕ, zero, suc, ◌+◌, ◌*◌, ◌<�
 use Rattle.std.specs.List.{list_any}
 use Rattle.std.proofs.lemmas.Bool.{eqb-true, eq-eqb, cond-true, cond-false}
 use Rattle.std.proofs.lemmas.List.{map-append, take-map, drop-map, length-map}
+use Rattle.std.proofs.lemmas.List.Folds.{flat_map-map}
 use Rattle.std.proofs.lemmas.Nat.{mul-add-lt}
 use Rattle.std.proofs.lemmas.Option.{none-some, same_Some, slice_get_within}
 use Rattle.roman_model.specs.Lists.{IsIn, below}
@@ -11,34 +12,15 @@ use Rattle.roman_model.specs.SystemArena.{is_allowed, same_pair, arena}
 use Rattle.roman_model.specs.Arena.{Entry, IsOrder, replay}
 use Rattle.roman_model.specs.Change.{Change, Freeze, Thaw, Join, Die, after, grown, without, may_go, firsts, grown_entries, entry_without, rename, CanChange, KeepsAll, RenamedReplays}
 use Rattle.roman_model.specs.Numbers.{Sizes, sizes_of, grown_sizes, sizes_without, count, number, pair_at, numbered, entry_at}
+use Rattle.roman_model.specs.NumberedChange.{grown_numbers, number_without, number_entry_without, first_numbers, rename_numbers}
 use Rattle.roman_model.proofs.Lists.{by_test, same_test, any_same, list_any-map, from_map, from_flat_map, filter_in, from_below, sublist_in, filter-map}
 use Rattle.roman_model.proofs.SystemLemmas.{same_pair_is, same_pair_from}
 use Rattle.roman_model.proofs.OrderLemmas.{replay_whole, replay_sublist}
-use Rattle.roman_model.proofs.NumberLemmas.{IsPairOf-at, number_below, number-pair_at, pair_at-grown, count-grown, number_without, number_without-is, pair_at-without, IsPairOf-without}
+use Rattle.roman_model.proofs.NumberLemmas.{IsPairOf-at, number_below, number-pair_at, pair_at-grown, count-grown, number_without-is, pair_at-without, IsPairOf-without}
 use Rattle.roman_model.proofs.Renames.{order_named, replay_renamed}
 use Rattle.roman_model.proofs.NumberedArena.{IsNumber, AreNumbers, numbers_rename, entries_at, order_at}
-use Rattle.roman_model.proofs.ChangeLemmas.{flat_map_same_in, map_same_in, map-map, map-flat_map, flat_map-map, states_frozen, turned, joined, left}
+use Rattle.roman_model.proofs.ChangeLemmas.{flat_map_same_in, map_same_in, map-map, map-flat_map, states_frozen, turned, joined, left}
 use Rattle.roman_model.proofs.ChangeLaws.{renaming_keeps}
-
--- The renamed list, over numbers
-
--- the candidates of an entry, where a seat of so many states joins
-abbrev pub grown_numbers : ℕ → Entry ℕ → List (Entry ℕ)
-grown_numbers size x = map (λ b. record { node = x.node * size + b; reason = x.reason }) (below size)
-
-abbrev pub number_entry_without : ℕ → Sizes → Entry ℕ → Entry ℕ
-number_entry_without k n x = record { node = number_without k n x.node; reason = x.reason }
-
--- of each number the first entry alone, where those numbers are seen already
-abbrev pub first_numbers : List ℕ → List (Entry ℕ) → List (Entry ℕ)
-first_numbers seen [] = []
-first_numbers seen (x ∷ L) = if list_any (λ i. x.node == i) seen then first_numbers seen L else x ∷ first_numbers (x.node ∷ seen) L
-
-abbrev pub rename_numbers : Change → Sizes → List (Entry ℕ) → List (Entry ℕ)
-rename_numbers (Freeze k) n L = L
-rename_numbers (Thaw k) n L = L
-rename_numbers (Join seat) n L = flat_map (grown_numbers seat.beh.states) L
-rename_numbers (Die k seat) n L = first_numbers [] (map (number_entry_without k n) (filter (λ x. may_go k seat (pair_at n x.node)) L))
 
 -- The sizes after a change
 

@@ -1,5 +1,5 @@
 -- Removal lists over the numbers of pairs: the laws of their arena, complete lists, and counts of pairs.
-use Rattle.std.proofs.Common.{◌≡◌, ℕ, ◌+◌, ◌<◌, ◌≤◌, not, List, [], map, length, IsTrue, IsFalse, filter, sum_by, refl, sym, ap, ◌∙◌, subst, arith}
+use Rattle.std.proofs.Common.{◌≡◌, ℕ, ◌+◌, ◌<◌, ◌≤◌, not, List, [], map, length, Bool, IsTrue, IsFalse, ◌↔◌, filter, sum_by, refl, sym, ap, ◌∙◌, subst, arith}
 use Rattle.std.proofs.lemmas.Bool.{both_ways, eqb-true, eq-eqb, not-false}
 use Rattle.std.proofs.lemmas.List.{length-map}
 use Rattle.std.proofs.lemmas.List.Filters.{length-filter_both}
@@ -7,16 +7,17 @@ use Rattle.roman_model.specs.Lists.{IsIn, HasNoRepeats, below}
 use Rattle.roman_model.specs.System.{Sys, Pair, IsSys, IsPair}
 use Rattle.roman_model.specs.SystemArena.{pairs, outcomes, arena}
 use Rattle.roman_model.specs.Arena.{Entry, is_listed, is_justified, mask, IsOrder, loses, choices}
+use Rattle.roman_model.specs.Composition.{Great}
 use Rattle.roman_model.specs.CompleteLists.{IsComplete}
 use Rattle.roman_model.specs.Numbers.{sizes_of, count, number, pair_at, numbered, entry_at, IsCompleteList}
 use Rattle.roman_model.specs.Offers.{is_related, offers, choice_count}
 use Rattle.roman_model.specs.declared.reason.Reason.{Reason}
 use Rattle.roman_model.specs.declared.reason.Reason.TheVariants.{Final, Act}
-use Rattle.roman_model.proofs.Lists.{in_map, from_map, in_filter, filter_in, in_below, from_below, length-below, same_length, sum_by-map, sum_by_same, sum_by_within, HasNoRepeats-map, HasNoRepeats-filter, HasNoRepeats-below}
+use Rattle.roman_model.proofs.Lists.{same_test, in_map, from_map, in_filter, filter_in, in_below, from_below, length-below, same_length, sum_by-map, sum_by_same, sum_by_within, HasNoRepeats-map, HasNoRepeats-filter, HasNoRepeats-below}
 use Rattle.roman_model.proofs.SystemLemmas.{in_pairs, from_pairs, pairs_once, outcome_pair}
 use Rattle.roman_model.proofs.ArenaLemmas.{IsSame, IsArena, in_listed, listed_in, mask_empty, mask_same}
 use Rattle.roman_model.proofs.OrderLemmas.{order_new, new_once}
-use Rattle.roman_model.proofs.CompositionLemmas.{system_is_same, system_is_arena, complete_listed, order_completed}
+use Rattle.roman_model.proofs.CompositionLemmas.{system_is_same, system_is_arena, complete_listed, order_completed, great_related, related_great}
 use Rattle.roman_model.proofs.NumberLemmas.{numbers_are_pairs}
 use Rattle.roman_model.proofs.Renames.{loses_renamed}
 use Rattle.roman_model.proofs.NumberedArena.{IsNumber, numbers_rename, AreNumbers, listed_at, mask_at, numbered_completes_by}
@@ -151,3 +152,11 @@ related_count s L ok complete =
 pub numbered_related_count : (s : Sys) (L : List (Entry ℕ)) → IsSys s → IsCompleteList s L → length (filter (is_related s) (pairs s)) + length L ≡ count (sizes_of s)
 numbered_related_count s L ok complete =
     ap (λ n. length (filter (is_related s) (pairs s)) + n) (sym (length-map L (entry_at s))) ∙ related_count s (map (entry_at s) L) ok complete ∙ length-pairs s
+
+-- what is told of the greatest ND-simulation is the test
+pub told_related : (s : Sys) (p : ℕ) (told : Bool) → IsSys s → p < count (sizes_of s) → (IsTrue told ↔ Great s (pair_at (sizes_of s) p)) → told ≡ is_related s (pair_at (sizes_of s) p)
+told_related s p told ok l great =
+    let pair : IsPair s (pair_at (sizes_of s) p) = (numbers_are_pairs s).pair p l in
+    same_test told (is_related s (pair_at (sizes_of s) p))
+    (λ t. great_related s (pair_at (sizes_of s) p) ok (great.0 t))
+    (λ t. great.1 (related_great s (pair_at (sizes_of s) p) ok pair t))

@@ -3,9 +3,9 @@ use Rattle.std.proofs.Common.{◌≡◌, ◌≤◌, Bool, true, false, cond, ◌
 use Rattle.std.proofs.lemmas.Bool.{false≢true, both_ways, or_cases, or_parts, or_left, or_right, or_from, cond-true, cond-false}
 use Rattle.std.proofs.lemmas.List.{length-map}
 use Rattle.roman_model.specs.Lists.{IsIn, IsSublist, HasNoRepeats}
-use Rattle.roman_model.specs.Arena.{Arena, Entry, is_among, is_listed, is_justified, IsOrderFrom, IsOrder, AreNew, replay_from, replay, Survives}
+use Rattle.roman_model.specs.Arena.{Arena, Entry, is_among, is_listed, is_justified, IsOrderFrom, IsOrder, AreNew, replay_from, replay}
 use Rattle.roman_model.proofs.Lists.{by_test, from_map, sublist_skip, no_longer}
-use Rattle.roman_model.proofs.ArenaLemmas.{IsSame, same_from, listed_in, justified_more, justified_same, unjustified}
+use Rattle.roman_model.proofs.ArenaLemmas.{IsSame, Survives, same_from, listed_in, justified_more, justified_same, unjustified}
 
 -- How removal lists are made, and parts of them.
 

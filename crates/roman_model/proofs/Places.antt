@@ -1,7 +1,15 @@
 -- What stands at which place of a list.
-use Rattle.std.proofs.Common.{◌≡◌, ℕ, zero, suc, ◌<◌, List, [], ◌∷◌, map, length, Some, slice_get, slice_index, slice_set, inl, inr, refl, sym, ap, arith}
+use Rattle.std.proofs.Common.{◌≡◌, ℕ, zero, suc, ◌+◌, ◌<◌, ◌≤◌, List, [], ◌∷◌, map, length, drop, Some, slice_get, slice_index, slice_set, inl, inr, refl, sym, ap, ap₂, ◌∙◌, arith, add-one, drop-cons}
+use Rattle.std.proofs.lemmas.List.{drop_all}
 use Rattle.std.proofs.lemmas.Option.{none-some, same_Some}
-use Rattle.roman_model.specs.Lists.{IsIn}
+use Rattle.roman_model.specs.Lists.{IsIn, below}
+use Rattle.roman_model.proofs.Lists.{length-below, get_or-below}
+
+-- there is an item at each place
+pub there_is : {X : Type 0} (xs : List X) (k : ℕ) → k < length xs → (x : X) × (slice_get xs k ≡ Some x)
+there_is [] k l = absurd (omega arith)
+there_is (x ∷ xs) zero l = (x, refl)
+there_is (x ∷ xs) (suc k) l = there_is xs k (omega arith)
 
 pub get_in : {X : Type 0} (xs : List X) (k : ℕ) (x : X) → slice_get xs k ≡ Some x → IsIn x xs
 get_in [] k x e = absurd (none-some x e)
@@ -23,11 +31,17 @@ get_map f [] k x e = absurd (none-some x e)
 get_map f (y ∷ xs) zero x e = ap (λ z. Some (f z)) (same_Some y x e)
 get_map f (y ∷ xs) (suc k) x e = get_map f xs k x e
 
-pub map_length : {X Y : Type 0} (f : X → Y) (xs : List X) → length (map f xs) ≡ length xs
-map_length f [] = refl
-map_length f (x ∷ xs) = ap suc (map_length f xs)
-
 pub index_set : (bs : List ℕ) (k b : ℕ) → k < length bs → slice_index (slice_set bs k b) k ≡ b
 index_set [] k b l = absurd (omega arith)
 index_set (c ∷ bs) zero b l = refl
 index_set (c ∷ bs) (suc k) b l = index_set bs k b (omega arith)
+
+-- the numbers from k on
+pub from_place : (n k : ℕ) → k < n → drop k (below n) ≡ k ∷ drop (k + 1) (below n)
+from_place n k l =
+    let within : k < length (below n) = omega (arith, length-below n) in
+    drop-cons (below n) k 0 within ∙ ap₂ (λ (m j : ℕ). m ∷ drop j (below n)) (get_or-below n k 0 l) (sym (add-one k))
+
+-- none are left from n on
+pub from_end : (n k : ℕ) → n ≤ k → drop k (below n) ≡ []
+from_end n k l = drop_all k (below n) (omega (arith, length-below n))

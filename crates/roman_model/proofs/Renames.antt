@@ -2,7 +2,7 @@
 use Rattle.std.proofs.Common.{◌≡◌, ℕ, zero, suc, Bool, true, false, not, ◌&&◌, ◌||◌, List, [], ◌∷◌, map, if◌then◌else◌, filter, refl, sym, ap, ap₂, ◌∙◌, subst, inl, inr}
 use Rattle.std.specs.List.{list_any}
 use Rattle.roman_model.specs.Lists.{IsIn, below, all_below, is_empty}
-use Rattle.roman_model.specs.Arena.{Arena, Entry, is_among, is_listed, is_beaten, is_justified, mask, IsOrderFrom, IsOrder, AreNew, replay_from, replay, loses}
+use Rattle.roman_model.specs.Arena.{Arena, Entry, is_among, is_listed, is_beaten, is_justified, mask, IsOrderFrom, IsOrder, replay_from, replay, loses}
 use Rattle.roman_model.specs.declared.reason.Reason.{Reason}
 use Rattle.roman_model.specs.declared.reason.Reason.TheVariants.{Final, Act}
 use Rattle.roman_model.proofs.Lists.{any_same, list_any-map, is_empty-map, all_below_same, filter_same}
@@ -105,12 +105,6 @@ module _ {N M : Type 0} (A : Arena N) (B : Arena M) (f : N → M) (Is : N → Ty
   -- the other way round: where the renamed list is an order, the list is
   pub order_named : (L : List (Entry N)) → HaveNodes Is L → IsOrder B (map (renamed_entry f) L) → IsOrder A L
   order_named L have order = order_named_from [] L (λ p i. absurd i) have order
-
-  pub new_renamed_from : (before : List N) (L : List (Entry N)) → AreNodes Is before → HaveNodes Is L → AreNew A before L → AreNew B (map f before) (map (renamed_entry f) L)
-  new_renamed_from before [] are have new = tt
-  new_renamed_from before (x ∷ L) are have new =
-      let is : Is x.node = have x (inl refl) in
-      (sym (among_renamed before x.node are is) ∙ new.0, new_renamed_from (x.node ∷ before) L (more_nodes x.node before is are) (λ y i. have y (inr i)) new.1)
 
   pub replay_renamed_from : (kept : List N) (L : List (Entry N)) → AreNodes Is kept → HaveNodes Is L →
       map (renamed_entry f) (replay_from A kept L) ≡ replay_from B (map f kept) (map (renamed_entry f) L)

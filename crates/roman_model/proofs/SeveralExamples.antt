@@ -1,20 +1,11 @@
--- What the definitions of several targets say of two lamps and two targets that each turn a lamp on and off; and that
--- a normal form is a record made by the test of its steps.
-use Rattle.std.proofs.Common.{◌≡◌, ℕ, [], ◌∷◌, length, inl, inr, refl, sym, subst, arith}
-use Rattle.roman_model.specs.System.{Env, Beh, Seat, IsBeh, IsDeterministic, has_triple, has_move, is_final}
+-- What the definitions of several targets say of two lamps and two targets that each turn a lamp on and off.
+use Rattle.std.proofs.Common.{◌≡◌, [], ◌∷◌, length, inl, inr, refl, sym, subst, arith}
+use Rattle.roman_model.specs.System.{Seat, IsBeh, IsDeterministic}
 use Rattle.roman_model.specs.SystemArena.{pairs}
-use Rattle.roman_model.specs.Normal.{normal_env, normal_beh}
-use Rattle.roman_model.specs.Made.{env_from, beh_from}
 use Rattle.roman_model.specs.Offers.{offers}
 use Rattle.roman_model.specs.Several.{Several}
 use Rattle.roman_model.specs.Combined.{IsSeveral, all_requests, combined}
 use Rattle.roman_model.proofs.Examples.{room, lamp, seat_of, pair_of, related_pairs, lamp_is_system}
-
-normal_env_is : (env : Env) → normal_env env ≡ env_from env.states env.actions env.start (has_triple env)
-normal_env_is env = refl
-
-normal_beh_is : (env_states actions : ℕ) (beh : Beh) → normal_beh env_states actions beh ≡ beh_from env_states actions beh.states beh.start (is_final beh) (has_move beh)
-normal_beh_is env_states actions beh = refl
 
 abbrev two : Several
 two = record { env = room; targets = lamp ∷ lamp ∷ []; seats = seat_of lamp ∷ seat_of lamp ∷ [] }

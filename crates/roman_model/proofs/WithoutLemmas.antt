@@ -1,5 +1,6 @@
 -- A system without one or two seats is the one after as many changes.
 use Rattle.std.proofs.Common.{◌≡◌, ℕ, zero, suc, pred, ◌<◌, ◌==◌, Bool, true, false, cond, ◌||◌, List, [], ◌∷◌, Some, IsTrue, slice_get, remove, refl, sym, ap, ap₂, ◌∙◌, subst, arith}
+use Rattle.std.proofs.Math.Bool.{or-false, or-true}
 use Rattle.std.proofs.lemmas.Bool.{false≢true, eq-eqb, eqb-true}
 use Rattle.std.proofs.lemmas.Option.{same_Some}
 use Rattle.roman_model.specs.System.{Seat, Sys, Pair, has}
@@ -35,18 +36,10 @@ freeze_same at bt [] same = refl
 freeze_same at bt (x ∷ xs) same =
     ap₂ (λ b ys. record { beh = x.beh; frozen = x.frozen || b; rests = x.rests } ∷ ys) (same 0) (freeze_same (λ i. at (suc i)) (λ i. bt (suc i)) xs (λ i. same (suc i)))
 
-or_none : (b : Bool) → (b || false) ≡ b
-or_none true = refl
-or_none false = refl
-
-or_true : (b : Bool) → (b || true) ≡ true
-or_true true = refl
-or_true false = refl
-
 freeze_none : (at : ℕ → Bool) (seats : List Seat) → ((i : ℕ) → at i ≡ false) → freeze_at at seats ≡ seats
 freeze_none at [] none = refl
 freeze_none at (x ∷ xs) none =
-    ap₂ (λ b ys. record { beh = x.beh; frozen = b; rests = x.rests } ∷ ys) (ap (λ b. x.frozen || b) (none 0) ∙ or_none x.frozen) (freeze_none (λ i. at (suc i)) xs (λ i. none (suc i)))
+    ap₂ (λ b ys. record { beh = x.beh; frozen = b; rests = x.rests } ∷ ys) (ap (λ b. x.frozen || b) (none 0) ∙ or-false x.frozen) (freeze_none (λ i. at (suc i)) xs (λ i. none (suc i)))
 
 -- One place.
 
@@ -60,9 +53,9 @@ leave_one (suc k) (x ∷ xs) =
 pub freeze_one : (k : ℕ) (seats : List Seat) → freeze_at (has (k ∷ [])) seats ≡ set_frozen seats k true
 freeze_one k [] = refl
 freeze_one zero (x ∷ xs) =
-    ap₂ (λ b ys. record { beh = x.beh; frozen = b; rests = x.rests } ∷ ys) (or_true x.frozen) (freeze_none (λ i. has (zero ∷ []) (suc i)) xs zero_next)
+    ap₂ (λ b ys. record { beh = x.beh; frozen = b; rests = x.rests } ∷ ys) (or-true x.frozen) (freeze_none (λ i. has (zero ∷ []) (suc i)) xs zero_next)
 freeze_one (suc k) (x ∷ xs) =
-    ap₂ (λ b ys. record { beh = x.beh; frozen = b; rests = x.rests } ∷ ys) (ap (λ b. x.frozen || (b || false)) (other_zero k) ∙ or_none x.frozen)
+    ap₂ (λ b ys. record { beh = x.beh; frozen = b; rests = x.rests } ∷ ys) (ap (λ b. x.frozen || (b || false)) (other_zero k) ∙ or-false x.frozen)
     (freeze_same (λ i. has (suc k ∷ []) (suc i)) (has (k ∷ [])) xs (λ i. ap (λ b. b || false) (suc_same k i)) ∙ freeze_one k xs)
 
 -- Two places.

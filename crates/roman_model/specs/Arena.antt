@@ -1,12 +1,13 @@
 -- What removal lists, masks, depths and plays need to know of a system: which nodes there are, at which
 -- of them clause 2 holds, which actions are allowed there, which seats are ready, and the outcomes of an
 -- action that is delegated to a seat.
-use Rattle.std.specs.Prelude.{◌≢◌, ℕ, zero, suc, ◌<◌, ◌+◌, Bool, not, ◌&&◌, ◌||◌, List, [], ◌∷◌, map, length, sum_by, IsTrue, IsFalse, Option, if◌then◌else◌}
+use Rattle.std.specs.Prelude.{ℕ, zero, suc, ◌+◌, Bool, not, ◌&&◌, ◌||◌, List, [], ◌∷◌, map, length, sum_by, IsTrue, IsFalse, Option, if◌then◌else◌}
 use Rattle.std.specs.List.{list_any, filter, flat_map, find}
-use Rattle.roman_model.specs.Lists.{IsIn, below, all_below, is_empty}
+use Rattle.roman_model.specs.Lists.{below, all_below, is_empty}
 use Rattle.roman_model.specs.declared.reason.Reason.{Reason}
 use Rattle.roman_model.specs.declared.reason.Reason.TheVariants.{Final, Act}
 
+-- a system, as removal lists see it
 pub record Arena (N : Type 0) : Type 0 where
   pub same : N → N → Bool
   pub nodes : List N
@@ -68,6 +69,7 @@ replay_from A kept (x ∷ L) =
     then x ∷ replay_from A (x.node ∷ kept) L
     else replay_from A kept L
 
+-- the replay of a list
 abbrev pub replay : {N : Type 0} → Arena N → List (Entry N) → List (Entry N)
 replay A L = replay_from A [] L
 
@@ -79,12 +81,6 @@ loses A (suc n) p = loses A n p || list_any (λ a. is_justified A (loses A n) p 
 -- the least number of requests within which the opponent wins, where it does
 abbrev pub depth : {N : Type 0} → Arena N → N → Option ℕ
 depth A p = find (λ n. loses A n p) (below (length A.nodes + 1))
-
--- p meets clause 2, and for each allowed action some seat has an outcome and leads to no other nodes than those
-pub record Survives {N : Type 0} (A : Arena N) (Lives : N → Type 0) (p : N) : Type 0 where
-  pub final : IsTrue (A.fine p)
-  pub served : (a : ℕ) → IsTrue (A.allows p a) →
-      (k : ℕ) × (k < A.seats) × (A.outcomes p a k ≢ []) × ((q : N) → IsIn q (A.outcomes p a k) → Lives q)
 
 -- an action at a node, delegated to a seat
 pub record Delegation (N : Type 0) : Type 0 where

@@ -5,10 +5,10 @@ use Rattle.std.specs.Option.{option_map}
 use Rattle.roman_model.specs.Lists.{IsIn, below}
 use Rattle.roman_model.specs.Lines.{lines, ended_lines, text_of_lines}
 use Rattle.roman_model.specs.System.{Sys, IsSys}
-use Rattle.roman_model.specs.SystemArena.{pairs, same_numbers}
+use Rattle.roman_model.specs.SystemArena.{same_numbers}
 use Rattle.roman_model.specs.Arena.{Arena, Entry, is_listed, is_justified}
 use Rattle.roman_model.specs.Numbers.{sizes_of, count, pair_at, numbered, IsCompleteList}
-use Rattle.roman_model.specs.Offers.{is_related}
+use Rattle.roman_model.specs.Offers.{is_related, related_count}
 use Rattle.roman_model.specs.declared.limits.TheConstants.{MAX_CELLS, MAX_CERTIFICATE_BYTES}
 use Rattle.roman_model.specs.declared.reason.Reason.{Reason}
 use Rattle.roman_model.specs.declared.reason.Reason.TheVariants.{Final, Act}
@@ -136,7 +136,7 @@ cert_verdict A start bytes =
 
 -- how many pairs of the system are related, and whether that one is
 abbrev pub greatest : Sys → ℕ → Verdict
-greatest s start = Greatest (length (filter (is_related s) (pairs s))) (is_related s (pair_at (sizes_of s) start))
+greatest s start = Greatest (related_count s) (is_related s (pair_at (sizes_of s) start))
 
 -- the system has few enough cells for a document's greatest limit
 abbrev pub IsWithinCells : Sys → Type 0

@@ -1,9 +1,9 @@
 -- Changes of a system, and what becomes of a removal list.
-use Rattle.std.specs.Prelude.{◌≡◌, ◌≢◌, ℕ, zero, suc, ◌<◌, Bool, true, false, not, ◌||◌, List, [], ◌∷◌, ◌++◌, map, length, Some, if◌then◌else◌, slice_get, slice_index}
-use Rattle.std.specs.List.{list_any, filter, flat_map, remove, insert}
+use Rattle.std.specs.Prelude.{◌≡◌, ℕ, zero, suc, ◌<◌, Bool, true, false, not, ◌||◌, List, [], ◌∷◌, ◌++◌, map, length, Some, if◌then◌else◌, slice_get, slice_index}
+use Rattle.std.specs.List.{list_any, filter, flat_map, remove}
 use Rattle.roman_model.specs.Lists.{below}
-use Rattle.roman_model.specs.Arena.{Entry, IsOrder, replay, is_beaten, is_listed}
-use Rattle.roman_model.specs.System.{Seat, Sys, Pair, IsBeh, IsSys, IsPair, is_final}
+use Rattle.roman_model.specs.Arena.{Entry, IsOrder, replay}
+use Rattle.roman_model.specs.System.{Seat, Sys, Pair, IsBeh, IsSys, is_final}
 use Rattle.roman_model.specs.SystemArena.{same_pair, arena}
 use Rattle.roman_model.specs.CompleteLists.{AreEntries}
 use Rattle.roman_model.specs.declared.limits.TheConstants.{MAX_SERVICES}
@@ -21,6 +21,7 @@ set_frozen [] k frozen = []
 set_frozen (seat ∷ seats) zero frozen = record { beh = seat.beh; frozen = frozen; rests = seat.rests } ∷ seats
 set_frozen (seat ∷ seats) (suc k) frozen = seat ∷ set_frozen seats k frozen
 
+-- the seats after the change
 abbrev pub seats_after : Change → List Seat → List Seat
 seats_after (Freeze k) seats = set_frozen seats k true
 seats_after (Thaw k) seats = set_frozen seats k false
@@ -52,6 +53,7 @@ firsts seen (x ∷ L) = if list_any (same_pair x.node) seen then firsts seen L e
 abbrev pub grown_entries : Seat → Entry Pair → List (Entry Pair)
 grown_entries seat x = map (λ b. record { node = grown x.node b; reason = x.reason }) (below seat.beh.states)
 
+-- the entry, of the pair without its k-th state
 abbrev pub entry_without : ℕ → Entry Pair → Entry Pair
 entry_without k x = record { node = without k x.node; reason = x.reason }
 
@@ -87,24 +89,3 @@ pub record RenamedReplays (change : Change) (s : Sys) (L : List (Entry Pair)) : 
 abbrev pub RenamingKeeps : Type 0
 RenamingKeeps = (change : Change) (s : Sys) (L : List (Entry Pair)) → IsSys s → CanChange change s → AreEntries s L → IsOrder (arena s) L →
     RenamedReplays change s L
-
--- the place that seat j had before seat k went
-abbrev pub place : ℕ → ℕ → ℕ
-place zero j = suc j
-place (suc k) zero = zero
-place (suc k) (suc j) = suc (place k j)
-
--- the pair with a state of seat k put in
-abbrev pub with_state : ℕ → ℕ → Pair → Pair
-with_state k b p = record { t = p.t; e = p.e; bs = insert p.bs k b }
-
--- the states that may be left behind
-abbrev pub goers : Seat → List ℕ
-goers seat = filter (λ b. not seat.rests || is_final seat.beh b) (below seat.beh.states)
-
--- after a death a seat is beaten where it was beaten at some state of the dead seat that may be left behind
-abbrev pub MaskAfterDeath : Type 0
-MaskAfterDeath = (s : Sys) (k : ℕ) (seat : Seat) (L : List (Entry Pair)) → IsSys s → CanChange (Die k seat) s → AreEntries s L → goers seat ≢ [] →
-    (p : Pair) → IsPair (after (Die k seat) s) p → (a j : ℕ) →
-    is_beaten (arena (after (Die k seat) s)) (is_listed (arena (after (Die k seat) s)) (rename (Die k seat) L)) p a j
-    ≡ list_any (λ b. is_beaten (arena s) (is_listed (arena s) L) (with_state k b p) a (place k j)) (goers seat)

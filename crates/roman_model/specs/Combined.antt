@@ -1,5 +1,5 @@
 -- The one system that stands for several targets, and the law that its related pairs are theirs.
-use Rattle.std.specs.Prelude.{ℕ, ◌<◌, ◌≤◌, ◌==◌, Bool, false, not, ◌&&◌, ◌↔◌, List, [], ◌∷◌, map, length, Option, None, Some, slice_get, slice_index, slice_set}
+use Rattle.std.specs.Prelude.{ℕ, ◌<◌, ◌≤◌, ◌==◌, Bool, false, not, ◌&&◌, ◌↔◌, List, map, length, Option, None, Some, slice_get, slice_index, slice_set}
 use Rattle.std.specs.List.{list_any, filter, flat_map}
 use Rattle.roman_model.specs.Lists.{IsIn, below, is_empty, product_of}
 use Rattle.roman_model.specs.System.{Env, Beh, Seat, Sys, Pair, has_triple, has_move, is_final, IsEnv, IsBeh, IsDeterministic, IsSys, IsPair}

@@ -1,9 +1,8 @@
 -- Records made by tests of their triples, steps and final states: they are in normal form by the way they are made.
-use Rattle.std.specs.Prelude.{ℕ, Bool, List, map}
+use Rattle.std.specs.Prelude.{ℕ, Bool, List, [], ◌∷◌, map}
 use Rattle.std.specs.List.{filter, flat_map}
 use Rattle.roman_model.specs.Lists.{below}
-use Rattle.roman_model.specs.System.{Env, Beh}
-use Rattle.roman_model.specs.Normal.{guarded_step}
+use Rattle.roman_model.specs.System.{Env, Beh, Move}
 
 -- the environment of the triples (e, a, e') that pass, rising
 abbrev pub env_from : ℕ → ℕ → ℕ → (ℕ → ℕ → ℕ → Bool) → Env
@@ -15,6 +14,11 @@ env_from states actions start goes = record {
       flat_map (λ e. flat_map (λ a. map (λ e'. record { from = e; action = a; to = e' }) (filter (goes e a) (below states))) (below actions))
       (below states);
 }
+
+-- the one step with that guard, or none where the guard is empty
+abbrev pub guarded_step : ℕ → ℕ → ℕ → List ℕ → List Move
+guarded_step b a b' [] = []
+guarded_step b a b' (e ∷ es) = record { from = b; guard = e ∷ es; action = a; to = b' } ∷ []
 
 -- the behaviour of the final states and the steps (b, e, a, b') that pass, rising
 abbrev pub beh_from : ℕ → ℕ → ℕ → ℕ → (ℕ → Bool) → (ℕ → ℕ → ℕ → ℕ → Bool) → Beh

@@ -13,14 +13,19 @@ pub record Sizes : Type 0 where
   pub env : ℕ
   pub seats : List ℕ
 
+-- the sizes of a system
 abbrev pub sizes_of : Sys → Sizes
 sizes_of s = record { target = s.target.states; env = s.env.states; seats = map (λ seat. seat.beh.states) s.seats }
+
+-- one state for each size, below it
+abbrev pub AreBelow : List ℕ → List ℕ → Type 0
+AreBelow sizes bs = AllZip (λ size b. b < size) sizes bs
 
 -- each number of the pair is below its size
 pub record IsPairOf (n : Sizes) (p : Pair) : Type 0 where
   pub t : p.t < n.target
   pub e : p.e < n.env
-  pub bs : AllZip (λ size b. b < size) n.seats p.bs
+  pub bs : AreBelow n.seats p.bs
 
 -- the sizes with a seat of so many states that comes last
 abbrev pub grown_sizes : Sizes → ℕ → Sizes

@@ -9,11 +9,7 @@ use Rattle.roman_model.specs.declared.reason.Reason.TheVariants.{Final, Act}
 use Rattle.roman_model.specs.System.{Sys, Seat, Pair, IsSys, IsPair}
 use Rattle.roman_model.specs.SystemArena.{outcomes, is_allowed, is_fine, arena}
 use Rattle.roman_model.specs.Composition.{Great}
-
--- the entries before that of p
-abbrev pub earlier : Sys → List (Entry Pair) → Pair → List (Entry Pair)
-earlier s [] p = []
-earlier s (x ∷ L) p = if (arena s).same p x.node then [] else x ∷ earlier s L p
+use Rattle.roman_model.specs.Explanation.{answer}
 
 -- the reason of p's entry
 abbrev pub reason_of : Sys → List (Entry Pair) → Pair → Option Reason
@@ -38,7 +34,7 @@ play_at s L [] p (Some (Act a)) = if has_ready s.seats then None else Some 1
 play_at s L (k ∷ ks) p (Some (Act a)) =
     if not (has_ready s.seats) then Some 1
     else (if is_empty (outcomes s p a k) then Some 1
-    else went_on (λ q. play_at s L ks q (reason_of s L q)) (find (is_listed (arena s) (earlier s L p)) (outcomes s p a k)))
+    else went_on (λ q. play_at s L ks q (reason_of s L q)) (answer (arena s) L p a k))
 
 -- the play from p by the list, against those seats in turn
 abbrev pub play : Sys → List (Entry Pair) → Pair → List ℕ → Option ℕ

@@ -1,9 +1,8 @@
 -- The numbers of pairs of any sizes, also of those that no document has.
 use Rattle.std.specs.Prelude.{◌≡◌, ℕ, ◌<◌, List}
-use Rattle.std.specs.List.{AllZip}
 use Rattle.roman_model.specs.Lists.{product_of}
 use Rattle.roman_model.specs.System.{Pair}
-use Rattle.roman_model.specs.Numbers.{Sizes, IsPairOf, count, states_number, states_at, number, pair_at}
+use Rattle.roman_model.specs.Numbers.{Sizes, AreBelow, IsPairOf, count, states_number, states_at, number, pair_at}
 
 -- the numbers below the count are exactly those of the pairs of these sizes
 pub record NumbersArePairsOf (n : Sizes) : Type 0 where
@@ -12,15 +11,11 @@ pub record NumbersArePairsOf (n : Sizes) : Type 0 where
   pub pair : (i : ℕ) → i < count n → IsPairOf n (pair_at n i)
   pub there : (i : ℕ) → i < count n → number n (pair_at n i) ≡ i
 
--- one state for each size, below it
-abbrev pub AreStatesOf : List ℕ → List ℕ → Type 0
-AreStatesOf sizes bs = AllZip (λ size b. b < size) sizes bs
-
 -- the numbers below the product of the sizes are exactly those of the lists of one state for each size
 pub record NumbersAreStatesOf (sizes : List ℕ) : Type 0 where
-  pub below : (bs : List ℕ) → AreStatesOf sizes bs → states_number sizes bs < product_of sizes
-  pub back : (bs : List ℕ) → AreStatesOf sizes bs → states_at sizes (states_number sizes bs) ≡ bs
-  pub states : (i : ℕ) → i < product_of sizes → AreStatesOf sizes (states_at sizes i)
+  pub below : (bs : List ℕ) → AreBelow sizes bs → states_number sizes bs < product_of sizes
+  pub back : (bs : List ℕ) → AreBelow sizes bs → states_at sizes (states_number sizes bs) ≡ bs
+  pub states : (i : ℕ) → i < product_of sizes → AreBelow sizes (states_at sizes i)
   pub there : (i : ℕ) → i < product_of sizes → states_number sizes (states_at sizes i) ≡ i
 
 -- pairs and combinations of states correspond to numbers one to one, whatever the sizes

@@ -38,6 +38,7 @@ pub record Seat : Type 0 where
   pub frozen : Bool
   pub rests : Bool
 
+-- an environment, a target, and the seats that serve it
 pub record Sys : Type 0 where
   pub env : Env
   pub target : Beh

@@ -69,6 +69,7 @@ same_numbers [] (n ∷ ns) = false
 same_numbers (m ∷ ms) [] = false
 same_numbers (m ∷ ms) (n ∷ ns) = m == n && same_numbers ms ns
 
+-- the pairs have the same numbers
 abbrev pub same_pair : Pair → Pair → Bool
 same_pair p q = p.t == q.t && p.e == q.e && same_numbers p.bs q.bs
 

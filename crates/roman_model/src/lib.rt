@@ -3,13 +3,16 @@
 //! Intelligence 196, 2013).
 //!
 //! `specs/` has the definitions. `System` has environments, behaviours, systems, pairs and their steps;
-//! `Composition` has ND-simulations and the greatest one; `Arena` has removal lists, masks and depths
-//! over any set of nodes; `Numbers` has the numbers of pairs, `Shapes` those of any sizes; `Outcomes`
-//! says the tests of a system by its steps; `Change` has what becomes of removal lists where the
-//! services change; `Certificate` and `Explanation` have their texts; `Plans` has what delegations cost
+//! `Made` has records made by tests of their steps, and `Normal` the normal forms of records;
+//! `Composition` has ND-simulations and the greatest one, and `Offers` the orchestrator generator;
+//! `Arena` has removal lists, masks and depths over any set of nodes, `SystemArena` a system as such a
+//! set, and `CompleteLists` the lists that are complete; `Numbers` has the numbers of pairs, `Shapes`
+//! those of any sizes; `Outcomes` says the tests of a system by its steps; `Change` has what becomes of
+//! removal lists where the services change, and `NumberedChange` of those over numbers; `Play` has the
+//! opponent's game; `Certificate` and `Explanation` have their texts; `Plans` has what delegations cost
 //! at worst, and `Without` systems that lack some of their seats; `Several` has the simulations of
-//! several targets, and `Combined` the one system that stands for them. Each law is the contract of a
-//! function with an empty body.
+//! several targets, and `Combined` the one system that stands for them. `Laws` has the laws that stand
+//! with no other subject. Each law is the contract of a function with an empty body.
 #![tactic(auto)]
 
 mod certificates;
@@ -24,7 +27,7 @@ mod way;
 pub use certificates::{
     explanation_is_least, explanation_is_order, greatest_is_complete, written_is_greatest,
 };
-pub use changes::{mask_after_death, renaming_keeps};
+pub use changes::renaming_keeps;
 pub use laws::{
     combined_is_all, depth_is_least, depth_wins, following_stays, greatest_is_greatest,
     offers_are_generator, order_completes, order_refutes, order_wins, outcomes_are_steps,

@@ -1,7 +1,7 @@
 -- What the proofs of other crates may cite of this one. All else in proofs/ can be renamed freely.
 
 -- The normal form has the same steps, and its numbers are in range.
-pub use Rattle.roman_parts.proofs.NormalLemmas.{IsOver-start, IsOver-states, from_normal_move, move_test}
+pub use Rattle.roman_parts.proofs.NormalLemmas.{IsOver-start, IsOver-states, from_normal_move}
 -- Lists of three and four items, and lists of steps that are read one by one.
 pub use Rattle.roman_parts.proofs.StepLemmas.{items}
 -- What a document's value is read as, an environment, a behaviour or a target, is one.

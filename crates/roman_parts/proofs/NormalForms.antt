@@ -1,10 +1,11 @@
 -- Normal forms rise, have the same steps, and are determined by them.
 use Rattle.std.proofs.Common.{◌≡◌, ◌≢◌, ℕ, inl, inr, List, [], ◌∷◌, map, refl, sym, ◌∙◌, subst, arith}
-use Rattle.std.specs.List.{flat_map}
+use Rattle.std.specs.List.{filter, flat_map}
 use Rattle.roman_model.specs.Lists.{IsIn, below}
 use Rattle.roman_model.specs.System.{Triple, Env, Move, Beh, has_triple, has_move, is_final}
 use Rattle.roman_model.specs.SystemArena.{env_next}
-use Rattle.roman_model.specs.Normal.{normal_env, normal_beh, guard_of, guarded_step}
+use Rattle.roman_model.specs.Made.{guarded_step}
+use Rattle.roman_model.specs.Normal.{normal_env, normal_beh}
 use Rattle.roman_model.specs.Outcomes.{HasStep}
 use Rattle.roman_model.proofs.CallerLemmas.{from_flat_map, from_map, triple_listed, listed_triple, number_listed, listed_number, step_listed, listed_step}
 use Rattle.roman_parts.proofs.NormalLemmas.{has_triple-normal, has_move-normal, is_final-normal}
@@ -55,9 +56,13 @@ guarded_rises b a b' (e ∷ es) = ((λ y i. absurd i), tt)
 before_by : (x y : Move) (a b c d e f : ℕ) → x.from ≡ a → x.action ≡ b → x.to ≡ c → y.from ≡ d → y.action ≡ e → y.to ≡ f → AreBefore (a, b, c) (d, e, f) → IsMoveBefore x y
 before_by x y a b c d e f h1 h2 h3 h4 h5 h6 h = rw (h1, h2, h3, h4, h5, h6) h
 
+-- the environment states in which the behaviour goes from b by a to b', rising
+abbrev step_guard : ℕ → Beh → ℕ → ℕ → ℕ → List ℕ
+step_guard env_states beh b a b' = filter (λ e. has_move beh b e a b') (below env_states)
+
 module _ (env_states actions : ℕ) (beh : Beh) where
   by_to : ℕ → ℕ → ℕ → List Move
-  by_to b a b' = guarded_step b a b' (guard_of env_states beh b a b')
+  by_to b a b' = guarded_step b a b' (step_guard env_states beh b a b')
 
   by_action : ℕ → ℕ → List Move
   by_action b a = flat_map (by_to b a) (below beh.states)
@@ -65,11 +70,11 @@ module _ (env_states actions : ℕ) (beh : Beh) where
   by_state : ℕ → List Move
   by_state b = flat_map (by_action b) (below actions)
 
-  to_is : (b a : ℕ) (m : Move) → IsIn m (by_action b a) → (b' : ℕ) × IsGuarded b a b' (guard_of env_states beh b a b') m
+  to_is : (b a : ℕ) (m : Move) → IsIn m (by_action b a) → (b' : ℕ) × IsGuarded b a b' (step_guard env_states beh b a b') m
   unfolding by_action by_to
-  to_is b a m i = let (b', j, k) = from_flat_map (by_to b a) m (below beh.states) i in (b', guarded_is b a b' (guard_of env_states beh b a b') m k)
+  to_is b a m i = let (b', j, k) = from_flat_map (by_to b a) m (below beh.states) i in (b', guarded_is b a b' (step_guard env_states beh b a b') m k)
 
-  action_is : (b : ℕ) (m : Move) → IsIn m (by_state b) → (a : ℕ) × (b' : ℕ) × IsGuarded b a b' (guard_of env_states beh b a b') m
+  action_is : (b : ℕ) (m : Move) → IsIn m (by_state b) → (a : ℕ) × (b' : ℕ) × IsGuarded b a b' (step_guard env_states beh b a b') m
   unfolding by_state
   action_is b m i = let (a, j, k) = from_flat_map (by_action b) m (below actions) i in let (b', is) = to_is b a m k in (a, b', is)
 
@@ -80,10 +85,10 @@ module _ (env_states actions : ℕ) (beh : Beh) where
       (λ b i.
       rises_flat IsMoveBefore (by_action b) (below actions) (rises_below actions)
       (λ a j.
-      rises_flat IsMoveBefore (by_to b a) (below beh.states) (rises_below beh.states) (λ b' k. guarded_rises b a b' (guard_of env_states beh b a b'))
+      rises_flat IsMoveBefore (by_to b a) (below beh.states) (rises_below beh.states) (λ b' k. guarded_rises b a b' (step_guard env_states beh b a b'))
       (λ j k x y less ix iy.
-      let p = guarded_is b a j (guard_of env_states beh b a j) x ix in
-      let q = guarded_is b a k (guard_of env_states beh b a k) y iy in
+      let p = guarded_is b a j (step_guard env_states beh b a j) x ix in
+      let q = guarded_is b a k (step_guard env_states beh b a k) y iy in
       before_by x y b a j b a k p.from p.action p.to q.from q.action q.to (inr (refl, inr (refl, less)))))
       (λ j k x y less ix iy.
       let (c, p) = to_is b j x ix in

@@ -8,12 +8,12 @@ use Rattle.std.proofs.lemmas.Option.{none-some, same_Some, slice_get-get_or}
 use Rattle.roman_model.specs.Lists.{IsIn, below}
 use Rattle.roman_model.specs.Normal.{normal_beh}
 use Rattle.roman_model.specs.System.{Beh, Move, has, IsDeterministic}
-use Rattle.roman_model.proofs.CallerLemmas.{any_from, any_true, by_test, find_found, find_least, find_some, in_below, in_contains}
+use Rattle.roman_model.proofs.CallerLemmas.{any_from, any_true, by_test, find_found, find_least, find_some, in_below, in_contains, move_test}
 use Rattle.roman_guard.specs.Meaning.{has_state, states_of}
 use Rattle.roman_guard.proofs.CallerLemmas.{states_below_are}
 use Rattle.roman_parts.specs.Listed.{move_of, listed_beh}
 use Rattle.roman_parts.specs.Choices.{first_below, choice_between, choice_at, choice_with, choice_of}
-use Rattle.roman_parts.proofs.NormalLemmas.{from_normal_move, move_test}
+use Rattle.roman_parts.proofs.NormalLemmas.{from_normal_move}
 
 -- ---- what the search for the first says
 

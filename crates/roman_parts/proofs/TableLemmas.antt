@@ -8,7 +8,8 @@ use Rattle.std.proofs.lemmas.Nat.{mul-add-lt}
 use Rattle.roman_model.specs.Lists.{IsIn, below}
 use Rattle.roman_model.specs.System.{Env, Beh, has_triple, has_move, has}
 use Rattle.roman_model.specs.SystemArena.{env_next, env_prev, beh_next, beh_prev}
-use Rattle.roman_model.specs.Normal.{normal_env, normal_beh, guarded_step}
+use Rattle.roman_model.specs.Made.{guarded_step}
+use Rattle.roman_model.specs.Normal.{normal_env, normal_beh}
 use Rattle.roman_model.specs.declared.limits.TheConstants.{MAX_STATES, MAX_ACTIONS}
 use Rattle.roman_model.proofs.CallerLemmas.{same_test, any_true, any_from, any_same, in_contains, in_below, from_below, in_filter, filter_in, filter_same, list_any-map, length-below, get_or-below}
 use Rattle.roman_guard.specs.Meaning.{has_state, states_below, states_of}

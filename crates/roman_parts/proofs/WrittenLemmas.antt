@@ -33,7 +33,7 @@ use Rattle.roman_parts.specs.declared.error.List.{List as Place}
 use Rattle.roman_parts.specs.declared.error.List.TheVariants as list
 use Rattle.roman_parts.specs.declared.error.PartError.{PartError}
 use Rattle.roman_parts.proofs.NormalForms.{forms_normal, forms_unique}
-use Rattle.roman_parts.proofs.NormalLemmas.{from_normal_triples, has_triple-normal, from_normal_move, has_move-normal, is_final-normal}
+use Rattle.roman_parts.proofs.NormalLemmas.{from_normal_triple, has_triple-normal, from_normal_move, has_move-normal, is_final-normal}
 use Rattle.roman_parts.proofs.ReadLemmas.{ok_place, place_ok, place_err, err_place, pushing_steps, lists_read}
 use Rattle.roman_parts.proofs.Rising.{rises_same, rises_append}
 
@@ -162,7 +162,7 @@ normal_env_is e is form = forms_unique.env (normal_env e) e (forms_normal.env e)
   actions = refl;
   start = refl;
   steps = λ b a c. same_test (has_triple (normal_env e) b a c) (has_triple e b a c)
-      (λ t. let (l, m, n, own) = from_normal_triples e (record { from = b; action = a; to = c }) (triple_listed (normal_env e) b a c t) in own)
+      (λ t. (from_normal_triple e b a c t).3)
       (λ t. let (l, m, n) = is.triples (record { from = b; action = a; to = c }) (triple_listed e b a c t) in has_triple-normal e b a c l m n ∙ t);
 })
 

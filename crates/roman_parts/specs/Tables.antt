@@ -4,7 +4,7 @@ use Rattle.std.specs.List.{filter, flat_map}
 use Rattle.roman_model.specs.Lists.{below}
 use Rattle.roman_model.specs.System.{Triple, Env, Move, Beh, has, IsEnv, IsDeterministic, is_final}
 use Rattle.roman_model.specs.SystemArena.{env_next, env_prev, beh_next, beh_prev}
-use Rattle.roman_model.specs.Normal.{guarded_step}
+use Rattle.roman_model.specs.Made.{guarded_step}
 use Rattle.roman_model.specs.declared.limits.TheConstants.{MAX_STATES, MAX_ACTIONS}
 use Rattle.roman_guard.specs.Meaning.{has_state}
 use Rattle.roman_parts.specs.Named.{IsOver}

@@ -8,7 +8,8 @@ use Rattle.roman_model.specs.Lists.{product_of}
 use Rattle.roman_model.specs.System.{Pair}
 use Rattle.roman_model.specs.Change.{grown, without}
 use Rattle.roman_model.specs.Numbers.{Sizes, IsPairOf, grown_sizes, sizes_without, count, states_number, number, pair_at}
-use Rattle.roman_model.proofs.CallerLemmas.{AreBelow-length, number_below, parts_of_number, number-pair_at, IsPairOf-at, number-set, IsPairOf-moved, IsPairOf-grown, number-grown, IsPairOf-without, number_without, number_without-is, part_at}
+use Rattle.roman_model.specs.NumberedChange.{number_without}
+use Rattle.roman_model.proofs.CallerLemmas.{AreBelow-length, number_below, parts_of_number, number-pair_at, IsPairOf-at, number-set, IsPairOf-moved, IsPairOf-grown, number-grown, IsPairOf-without, number_without-is, part_at}
 use Rattle.roman_radix.specs.Radix.{stride_of, env_stride_of, target_stride_of, with_part, moved}
 use Rattle.roman_radix.proofs.Strides.{product_more}
 

@@ -8,7 +8,8 @@ use Rattle.roman_model.specs.System.{Seat, Sys}
 use Rattle.roman_model.specs.Arena.{Entry}
 use Rattle.roman_model.specs.Change.{without, may_go}
 use Rattle.roman_model.specs.Numbers.{Sizes, sizes_of, sizes_without, count, pair_at, numbered}
-use Rattle.roman_model.proofs.CallerLemmas.{by_test, list_any-map, length-below, left, number_without-is, count-without, number_entry_without, first_numbers, sizes-left}
+use Rattle.roman_model.specs.NumberedChange.{number_entry_without, first_numbers}
+use Rattle.roman_model.proofs.CallerLemmas.{by_test, list_any-map, length-below, left, number_without-is, count-without, sizes-left}
 use Rattle.roman_radix.specs.Radix.{IsSizes}
 use Rattle.roman_radix.specs.Rows.{lanes_of}
 use Rattle.roman_radix.proofs.CallerLemmas.{AreSizes-index}

@@ -2,6 +2,7 @@
 use Rattle.std.proofs.Common.{◌≡◌, ℕ, ◌+◌, ◌*◌, ◌<◌, List, [], ◌∷◌, map, flat_map, IsTrue, inl, refl, sym, ap, ◌∙◌, subst, arith}
 use Rattle.std.proofs.lemmas.Nat.{same_from_place}
 use Rattle.std.proofs.lemmas.List.{length_push}
+use Rattle.std.proofs.lemmas.List.Folds.{flat_map-map}
 use Rattle.roman_model.specs.Lists.{IsIn, HasNoRepeats, below}
 use Rattle.roman_model.specs.System.{Sys, Seat, IsSys}
 use Rattle.roman_model.specs.SystemArena.{is_allowed}
@@ -10,10 +11,11 @@ use Rattle.roman_model.specs.Change.{Join, after, CanChange}
 use Rattle.roman_model.specs.Numbers.{sizes_of, count, pair_at, numbered}
 use Rattle.roman_model.specs.declared.reason.Reason.{Reason}
 use Rattle.roman_model.specs.declared.reason.Reason.TheVariants.{Final, Act}
-use Rattle.roman_model.proofs.CallerLemmas.{from_map, from_flat_map, from_below, in_append_right, length-below, HasNoRepeats-map, HasNoRepeats-flat_map, HasNoRepeats-below, map-map, map-flat_map, flat_map-map, flat_map_same, pair_at-grown, sizes-joined, NumbersReplay}
+use Rattle.roman_model.specs.NumberedChange.{grown_numbers}
+use Rattle.roman_model.proofs.CallerLemmas.{from_map, from_flat_map, from_below, in_append_right, length-below, HasNoRepeats-map, HasNoRepeats-flat_map, HasNoRepeats-below, map-map, map-flat_map, flat_map_same, pair_at-grown, sizes-joined, NumbersReplay}
 use Rattle.roman_joint.specs.NamedSys.{NamedSys, system_of, IsNamedSys}
 use Rattle.roman_order.specs.Board.{nodes_of}
-use Rattle.roman_repair.specs.Replays.{is_possible, AreCandidates, grown_numbers}
+use Rattle.roman_repair.specs.Replays.{is_possible, AreCandidates}
 use Rattle.roman_repair.proofs.Keeping.{grown_number}
 
 -- the new system tells that the service could join

@@ -8,13 +8,14 @@ use Rattle.roman_model.specs.Lists.{IsIn, HasNoRepeats, below}
 use Rattle.roman_model.specs.Arena.{Arena, Entry, is_among, is_listed, is_justified, replay_from, readings}
 use Rattle.roman_model.specs.declared.reason.Reason.{Reason}
 use Rattle.roman_model.specs.declared.reason.Reason.TheVariants.{Final, Act}
+use Rattle.roman_model.specs.NumberedChange.{grown_numbers}
 use Rattle.roman_model.proofs.CallerLemmas.{in_map, from_map, in_append_left, in_below, sum_by_within, length-below, get_or-below, listed_among, listed_append, justified_same, replay_from_same, middle_first, readings_at, readings_within}
 use Rattle.roman_rules.specs.Numbered.{IsNumbered}
 use Rattle.roman_rules.specs.Asked.{HoldsWhereKept, IsReasonOf, readings_of, readings_of_reason}
 use Rattle.roman_rules.specs.declared.asked.Asked.{Asked}
 use Rattle.roman_rules.proofs.CallerLemmas.{known_more, readings_of-allowed}
 use Rattle.roman_order.specs.Board.{Board, nodes_of, has_entry, as_entry}
-use Rattle.roman_repair.specs.Replays.{is_possible, AreCandidates, with_replay, readings_of_entries, grown_numbers}
+use Rattle.roman_repair.specs.Replays.{is_possible, AreCandidates, with_replay, readings_of_entries}
 
 -- a reason that may hold names an action of the system
 pub possible_reason : (A : Arena ℕ) → IsNumbered A → (p : ℕ) (reason : Reason) → IsTrue (is_possible A p reason) → IsReasonOf A reason

@@ -6,7 +6,8 @@ use Rattle.roman_model.specs.Arena.{Entry, IsOrder, replay}
 use Rattle.roman_model.specs.SystemArena.{arena}
 use Rattle.roman_model.specs.Change.{Change, after, CanChange}
 use Rattle.roman_model.specs.Numbers.{sizes_of, pair_at, numbered, entry_at, IsCompleteList}
-use Rattle.roman_model.proofs.CallerLemmas.{order_named, rename_numbers, NumbersReplay, numbers_replay, IsNumber, AreNumbers, numbers_rename}
+use Rattle.roman_model.specs.NumberedChange.{rename_numbers}
+use Rattle.roman_model.proofs.CallerLemmas.{order_named, NumbersReplay, numbers_replay, IsNumber, AreNumbers, numbers_rename}
 use Rattle.roman_joint.specs.declared.seat.Seat.{Seat}
 use Rattle.roman_joint.specs.NamedSys.{NamedSys, system_of, IsNamedSys}
 use Rattle.roman_order.specs.Board.{Board, pairs_of, has_entry}

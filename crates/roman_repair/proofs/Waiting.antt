@@ -7,7 +7,8 @@ use Rattle.roman_model.specs.Change.{Change, after}
 use Rattle.roman_model.specs.Numbers.{Sizes, sizes_of, count, numbered}
 use Rattle.roman_model.specs.declared.reason.Reason.{Reason}
 use Rattle.roman_model.specs.declared.reason.Reason.TheVariants.{Final, Act}
-use Rattle.roman_model.proofs.CallerLemmas.{length-below, justified_is, order_new, new_once, order_justified, turned, AreNumbers, numbered_is_same, sizes-turned, rename_numbers, NumbersReplay, number_allows-turned}
+use Rattle.roman_model.specs.NumberedChange.{grown_numbers, rename_numbers}
+use Rattle.roman_model.proofs.CallerLemmas.{length-below, justified_is, order_new, new_once, order_justified, turned, AreNumbers, numbered_is_same, sizes-turned, NumbersReplay, number_allows-turned}
 use Rattle.roman_radix.specs.Rows.{lanes_of}
 use Rattle.roman_joint.specs.NamedSys.{NamedSys, system_of, IsNamedSys}
 use Rattle.roman_joint.specs.Rows.{lanes_in}
@@ -18,7 +19,7 @@ use Rattle.roman_relation.proofs.CallerLemmas.{listed_numbers, room_for_pairs}
 use Rattle.roman_relation.specs.Settled.{Begins}
 use Rattle.roman_repair.specs.declared.tally.Tally.{Tally}
 use Rattle.roman_repair.specs.Repairs.{IsRepaired}
-use Rattle.roman_repair.specs.Replays.{is_possible, AreCandidates, candidates, grown_numbers, IsReplayable}
+use Rattle.roman_repair.specs.Replays.{is_possible, AreCandidates, candidates, IsReplayable}
 use Rattle.roman_repair.proofs.Keeping.{grown_once}
 use Rattle.roman_repair.proofs.Repairing.{numbers_order, numbers_replayed, repaired_from}
 

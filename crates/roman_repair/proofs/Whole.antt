@@ -6,7 +6,8 @@ use Rattle.roman_model.specs.SystemArena.{is_ready}
 use Rattle.roman_model.specs.Arena.{Entry, IsOrder}
 use Rattle.roman_model.specs.Change.{Change, after, KeepsAll}
 use Rattle.roman_model.specs.Numbers.{Sizes, sizes_of, numbered}
-use Rattle.roman_model.proofs.CallerLemmas.{turned, sizes-turned, rename_numbers, NumbersReplay}
+use Rattle.roman_model.specs.NumberedChange.{rename_numbers}
+use Rattle.roman_model.proofs.CallerLemmas.{turned, sizes-turned, NumbersReplay}
 use Rattle.roman_radix.specs.Rows.{lanes_of}
 use Rattle.roman_joint.specs.declared.seat.Seat as joint
 use Rattle.roman_joint.specs.NamedSys.{NamedSys, system_of}

@@ -1,7 +1,8 @@
 -- What a replay goes over, and what it adds to a list.
-use Rattle.std.specs.Prelude.{◌≡◌, ℕ, ◌+◌, ◌*◌, ◌<◌, Bool, true, List, [], ◌++◌, map, flat_map, length, sum_by, IsTrue, IsFalse}
-use Rattle.roman_model.specs.Lists.{IsIn, HasNoRepeats, below}
+use Rattle.std.specs.Prelude.{◌≡◌, ℕ, ◌<◌, Bool, true, List, [], ◌++◌, flat_map, length, sum_by, IsTrue, IsFalse}
+use Rattle.roman_model.specs.Lists.{IsIn, HasNoRepeats}
 use Rattle.roman_model.specs.Arena.{Arena, Entry, IsOrder, replay, replay_from}
+use Rattle.roman_model.specs.NumberedChange.{grown_numbers}
 use Rattle.roman_model.specs.declared.reason.Reason.{Reason}
 use Rattle.roman_model.specs.declared.reason.Reason.TheVariants.{Final, Act}
 use Rattle.roman_rules.specs.Asked.{readings_of_reason}
@@ -30,10 +31,6 @@ with_replay A kept L = kept ++ replay_from A (nodes_of kept) L
 -- how many seats are asked about the reasons of all candidates
 abbrev pub readings_of_entries : Arena ℕ → List (Entry ℕ) → ℕ
 readings_of_entries A L = sum_by (λ x. readings_of_reason A x.node x.reason) L
-
--- an entry with each state of a service that comes last, by the numbers of the grown pairs
-abbrev pub grown_numbers : ℕ → Entry ℕ → List (Entry ℕ)
-grown_numbers states x = map (λ b. record { node = x.node * states + b; reason = x.reason }) (below states)
 
 -- the candidates for which the entries that wait stand, each for its pair with each of so many states
 abbrev pub candidates : ℕ → Board → List (Entry ℕ)

@@ -3,10 +3,11 @@ ghost use Rattle.std.specs.Prelude.{◌≡◌, ◌+◌, ◌*◌, ◌<◌, ◌≤
 ghost use Rattle.std.specs.Prelude.{true, false, length, flat_map, IsTrue, IfSome};
 ghost use Rattle.roman_lanes.specs.Rows.{is_on};
 ghost use Rattle.roman_model.specs.Arena.{is_listed, is_justified};
+ghost use Rattle.roman_model.specs.NumberedChange.{grown_numbers};
 ghost use Rattle.roman_rules.specs.Asked.{HoldsWhereKept, readings_of_reason};
 ghost use Rattle.roman_order.specs.Board.{as_entry, has_entry};
 ghost use Rattle.roman_relation.specs.Shaped.{IsShaped};
-ghost use Rattle.roman_repair.specs.Replays.{is_possible, AreCandidates, with_replay, readings_of_entries, grown_numbers};
+ghost use Rattle.roman_repair.specs.Replays.{is_possible, AreCandidates, with_replay, readings_of_entries};
 
 use roman_io::Steps;
 use roman_model::Reason;

@@ -3,7 +3,7 @@ ghost use Rattle.std.specs.Prelude.{◌≡◌, ◌<◌, [], length};
 ghost use Rattle.roman_model.specs.System.{Seat};
 ghost use Rattle.roman_model.specs.Change.{Die, CanChange};
 ghost use Rattle.roman_model.specs.Numbers.{sizes_of, sizes_without, count, numbered};
-ghost use Rattle.roman_model.proofs.CallerLemmas.{rename_numbers};
+ghost use Rattle.roman_model.specs.NumberedChange.{rename_numbers};
 ghost use Rattle.roman_radix.specs.Rows.{lanes_of};
 ghost use Rattle.roman_joint.specs.NamedSys.{system_of};
 ghost use Rattle.roman_joint.specs.Rows.{lanes_in};

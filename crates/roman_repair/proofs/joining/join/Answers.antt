@@ -1,8 +1,8 @@
 use Rattle.std.proofs.Common.{flat_map, ap, ◌∙◌}
 use Rattle.roman_model.specs.System.{Seat}
 use Rattle.roman_model.specs.Change.{Join}
+use Rattle.roman_model.specs.NumberedChange.{grown_numbers}
 use Rattle.roman_joint.specs.NamedSys.{system_of, seat_of}
-use Rattle.roman_repair.specs.Replays.{grown_numbers}
 use Rattle.roman_repair.proofs.Repairing.{relation_replays}
 use Rattle.roman_repair.proofs.Waiting.{IsReopened, relation_candidates, replayable, reopened_repaired}
 use Rattle.roman_repair.proofs.Joined.{joined_can, joined_candidates}

@@ -1,7 +1,7 @@
 use Rattle.std.proofs.Common.{ℕ, List, ◌+◌, ◌*◌, ◌∷◌, [], drop, inl, refl, sym, ap, ap₂, ◌∙◌, arith, rules}
 use Rattle.roman_model.specs.Arena.{Entry}
+use Rattle.roman_model.specs.NumberedChange.{grown_numbers}
 use Rattle.roman_order.specs.Board.{Board, as_entry}
-use Rattle.roman_repair.specs.Replays.{grown_numbers}
 use Rattle.roman_repair.proofs.Keeping.{state_first, state_within, state_cost, grown_end, replaying_part, replaying_end, with_replay_one}
 use Rattle.roman_repair.proofs.replaying.keep_grown.Goals as goal
 

@@ -1,8 +1,9 @@
 use Rattle.std.proofs.Common.{◌≡◌, ◌+◌, ◌≤◌, drop}
 use Rattle.roman_model.specs.Arena.{is_listed}
+use Rattle.roman_model.specs.NumberedChange.{grown_numbers}
 use Rattle.roman_rules.specs.Asked.{HoldsWhereKept}
 use Rattle.roman_order.specs.Board.{as_entry}
-use Rattle.roman_repair.specs.Replays.{readings_of_entries, grown_numbers}
+use Rattle.roman_repair.specs.Replays.{readings_of_entries}
 use Rattle.roman_repair.proofs.Keeping.{IsReplaying}
 use Rattle.roman_repair.proofs.replaying.keep_grown.Given as goal
 

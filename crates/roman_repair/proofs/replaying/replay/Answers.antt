@@ -1,6 +1,6 @@
 use Rattle.std.proofs.Common.{flat_map, arith}
+use Rattle.roman_model.specs.NumberedChange.{grown_numbers}
 use Rattle.roman_order.specs.Board.{as_entry}
-use Rattle.roman_repair.specs.Replays.{grown_numbers}
 use Rattle.roman_repair.proofs.Keeping.{candidates_left, entry_first, entry_turn, entry_cost}
 use Rattle.roman_repair.proofs.replaying.replay.Goals as goal
 

@@ -1,8 +1,8 @@
 use Rattle.std.proofs.Common.{◌<◌, false, flat_map, length, ap, ◌∙◌, arith}
 use Rattle.std.proofs.lemmas.List.{length-map}
 use Rattle.roman_model.specs.Change.{Thaw}
+use Rattle.roman_model.specs.NumberedChange.{grown_numbers}
 use Rattle.roman_joint.specs.NamedSys.{system_of, seat_of}
-use Rattle.roman_repair.specs.Replays.{grown_numbers}
 use Rattle.roman_repair.proofs.Repairing.{relation_replays}
 use Rattle.roman_repair.proofs.Waiting.{IsReopened, relation_candidates, turned_candidates, replayable, reopened_repaired, grown_by_one}
 use Rattle.roman_repair.proofs.thawing.thaw.Goals as goal

@@ -3,7 +3,8 @@ use Rattle.roman_model.specs.Lists.{IsIn}
 use Rattle.roman_model.specs.Arena.{Entry}
 use Rattle.roman_model.specs.Change.{Die}
 use Rattle.roman_model.specs.Numbers.{Sizes, sizes_of, sizes_without, count}
-use Rattle.roman_model.proofs.CallerLemmas.{length-below, rename_numbers}
+use Rattle.roman_model.specs.NumberedChange.{rename_numbers}
+use Rattle.roman_model.proofs.CallerLemmas.{length-below}
 use Rattle.roman_radix.specs.Rows.{lanes_of}
 use Rattle.roman_joint.specs.NamedSys.{system_of}
 use Rattle.roman_order.specs.Board.{Board, as_entry}

@@ -4,7 +4,7 @@ use Rattle.roman_model.specs.System.{Seat}
 use Rattle.roman_model.specs.Arena.{Entry}
 use Rattle.roman_model.specs.Change.{Die, CanChange}
 use Rattle.roman_model.specs.Numbers.{sizes_of, count}
-use Rattle.roman_model.proofs.CallerLemmas.{rename_numbers}
+use Rattle.roman_model.specs.NumberedChange.{rename_numbers}
 use Rattle.roman_joint.specs.NamedSys.{system_of}
 use Rattle.roman_repair.proofs.DeathEntries.{IsRenaming}
 use Rattle.roman_repair.proofs.dying.renaming.rename_list.Given as goal
