@@ -11,7 +11,8 @@ from . import TOP
 CRATES = TOP / "crates"
 CITED = re.compile(r"Rattle\.(roman_\w+)\.proofs\.(\w+)|\b(roman_\w+)::proofs::(\w+)")
 WORD = re.compile(r"[^\s(){}\[\],;.λ→∙×⊎≡:=|`]+")
-LEMMA = re.compile(r"(?:pub )?(?:abbrev |abbrev pub )?([^\s:(){}◌]+) :(?: |$)", re.M)
+LEMMA = re.compile(r" *(pub )?(?:abbrev )?(pub )?([^\s:(){}◌]+) :(?: |$)", re.M)
+MODULE = re.compile(r"(?: *--.*\n)* *module (?:.*\n)*?.*\bwhere\n")
 DEFINED = re.compile(r"^(?:abbrev pub|unfoldable pub|pub record|pub data) +([A-Za-z_]+)", re.M)
 
 
@@ -26,9 +27,14 @@ def words(text: str) -> Counter:
     return Counter(word for line in text.splitlines() if not re.match(r"\s*--", line) for word in WORD.findall(line))
 
 
-def declarations(page: str) -> Iterator[str]:
-    """The declarations of a page, each with the definitions that are local to it."""
-    yield from re.split(r"\n\n(?! )", page)
+def declarations(page: str, depth: int = 0) -> Iterator[str]:
+    """The declarations of a page or a module, so far to the right, each with the definitions that are local to it."""
+    for declaration in re.split(rf"\n\n {{{depth}}}(?! )", page):
+        head = MODULE.match(declaration)
+        if head:
+            yield from declarations(declaration[head.end():], depth + 2)
+        else:
+            yield declaration
 
 
 class Sources(unittest.TestCase):
@@ -63,6 +69,10 @@ class Sources(unittest.TestCase):
                 continue
             for declaration in declarations(pages[file]):
                 found = next((m for m in map(LEMMA.match, declaration.splitlines()) if m), None)
-                if found and everywhere[found[1]] == words(declaration)[found[1]]:
-                    uncited.append(f"{file.relative_to(TOP)}: {found[1]}")
+                if not found:
+                    continue
+                # A lemma that isn't public is cited on its own page, or nowhere.
+                around = everywhere if found[1] or found[2] else words(pages[file])
+                if around[found[3]] == words(declaration)[found[3]]:
+                    uncited.append(f"{file.relative_to(TOP)}: {found[3]}")
         self.assertEqual(uncited, [])

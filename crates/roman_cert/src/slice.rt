@@ -81,6 +81,7 @@ fn write_marked<O: Sink, L: Ledger>(
     ensures cause { HasCause (O.faults out.old) (O.faults out.new) result }
 {
     joint.known();
+    order.known();
     let mut page = Page::new();
     for i in 0..order.len() {
         let (p, _) = order.entry(i);

@@ -1,57 +1,16 @@
 -- Tables of the pairs that remain.
-use Rattle.std.proofs.Common.{◌≡◌, ◌≢◌, ℕ, zero, suc, ◌+◌, ◌-◌, ◌*◌, ◌/◌, ◌%◌, ◌^◌, ◌<◌, ◌≤◌, ◌==◌, Bool, true, false, cond, not, ◌&&◌, ◌||◌, length, get_or, replicate, set, count_by, bit_and, IsFalse, refl, sym, ap, ap₂, ◌∙◌, subst, inl, inr, arith, add-one}
-use Rattle.std.specs.Int.{bit_not, w64}
+use Rattle.std.proofs.Common.{◌≡◌, ◌≢◌, ℕ, zero, suc, ◌+◌, ◌-◌, ◌*◌, ◌/◌, ◌^◌, ◌<◌, ◌≤◌, ◌==◌, Bool, true, false, cond, not, ◌&&◌, ◌||◌, length, get_or, replicate, set, count_by, bit_and, IsFalse, refl, sym, ap, ap₂, ◌∙◌, subst, inl, inr, arith, add-one}
 use Rattle.std.proofs.lemmas.Bool.{cases_eq, ne_eqb, eq-eqb}
 use Rattle.std.proofs.lemmas.List.{length-replicate, get_or-replicate, get_or-set_same, get_or-set_other}
-use Rattle.std.proofs.lemmas.Nat.{one_shl, same_from_place}
-use Rattle.std.proofs.lemmas.Nat.Bits.{ones_shr}
+use Rattle.std.proofs.lemmas.Nat.{same_from_place}
 use Rattle.roman_model.specs.Lists.{below}
 use Rattle.roman_lanes.specs.Rows.{is_on, HasLanes}
-use Rattle.roman_lanes.proofs.CallerLemmas.{on_ones, on_ones_above, on_and, on_less, on_pow_same, on_pow_other}
+use Rattle.roman_lanes.proofs.CallerLemmas.{on_and, on_full, on_full_past}
 use Rattle.roman_rules.proofs.CallerLemmas.{count_below_more}
 use Rattle.roman_check.specs.declared.table.Remaining.{Remaining}
 use Rattle.roman_check.specs.Remain.{Remain}
 
 -- Words
-
--- the word of that many lanes
-full_word : (lanes : ℕ) → lanes ≤ 64 → (2 ^ 64 - 1) / 2 ^ (64 - lanes) ≡ 2 ^ lanes - 1
-full_word lanes few =
-    let rest : 64 - (64 - lanes) ≡ lanes = omega arith in
-    ones_shr 64 (64 - lanes) (omega arith) ∙ ap (λ n. 2 ^ n - 1) rest
-
-pub full_on : (lanes lane : ℕ) → lanes ≤ 64 → lane < lanes → is_on ((2 ^ 64 - 1) / 2 ^ (64 - lanes)) lane ≡ true
-full_on lanes lane few within = ap (λ word. is_on word lane) (full_word lanes few) ∙ on_ones lanes lane within
-
-pub full_off : (lanes lane : ℕ) → lanes ≤ 64 → lanes ≤ lane → is_on ((2 ^ 64 - 1) / 2 ^ (64 - lanes)) lane ≡ false
-full_off lanes lane few past = ap (λ word. is_on word lane) (full_word lanes few) ∙ on_ones_above lanes lane past
-
--- a word without one lane
-pub without_own : (word lane : ℕ) → lane < 64 → is_on (bit_and word (bit_not w64 (1 * 2 ^ lane % 2 ^ 64))) lane ≡ false
-without_own word lane l =
-    ap (λ one. is_on (bit_and word (bit_not w64 one)) lane) (one_shl lane 64 l)
-    ∙ on_less word (2 ^ lane) lane (small lane l) l
-    ∙ ap (λ b. is_on word lane && not b) (on_pow_same lane) ∙ none (is_on word lane)
-  where
-    none : (b : Bool) → (b && false) ≡ false
-    none true = refl
-    none false = refl
-
-    small : (lane : ℕ) → lane < 64 → 2 ^ lane < 2 ^ 64
-    small lane l = omega (arith, ap (λ n. n % 2 ^ 64) (one_shl lane 64 l), one_shl lane 64 l)
-
-pub without_others : (word lane j : ℕ) → lane < 64 → j < 64 → j ≢ lane → is_on (bit_and word (bit_not w64 (1 * 2 ^ lane % 2 ^ 64))) j ≡ is_on word j
-without_others word lane j l m other =
-    ap (λ one. is_on (bit_and word (bit_not w64 one)) j) (one_shl lane 64 l)
-    ∙ on_less word (2 ^ lane) j (small lane l) m
-    ∙ ap (λ b. is_on word j && not b) (on_pow_other lane j other) ∙ all (is_on word j)
-  where
-    all : (b : Bool) → (b && true) ≡ b
-    all true = refl
-    all false = refl
-
-    small : (lane : ℕ) → lane < 64 → 2 ^ lane < 2 ^ 64
-    small lane l = omega (arith, one_shl lane 64 l)
 
 pub without_within : (word other j : ℕ) → is_on word j ≡ false → is_on (bit_and word other) j ≡ false
 without_within word other j off = on_and word other j ∙ ap (λ b. b && is_on other j) off
@@ -94,8 +53,8 @@ pub remain_all : (pairs rows lanes : ℕ) (table : Remaining) → lanes ≤ 64 �
 remain_all pairs rows lanes table few shaped words count = record {
   rows = record {
     each = λ row l. record {
-      each = λ lane m. ap (λ w. is_on w lane) (word row (omega (arith, long))) ∙ full_on lanes lane few (omega arith);
-      rest = λ lane m. ap (λ w. is_on w lane) (word row (omega (arith, long))) ∙ full_off lanes lane few (omega arith);
+      each = λ lane m. ap (λ w. is_on w lane) (word row (omega (arith, long))) ∙ on_full lanes lane few (omega arith);
+      rest = λ lane m. ap (λ w. is_on w lane) (word row (omega (arith, long))) ∙ on_full_past lanes lane few (omega arith);
     };
   };
   counted = count ∙ sym (count_all pairs);

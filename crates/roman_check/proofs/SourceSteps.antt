@@ -1,8 +1,8 @@
 -- Certificates that are taken from a source piece by piece.
 use Rattle.std.proofs.Common.{◌≡◌, ℕ, ◌+◌, ◌<◌, ◌≤◌, List, [], ◌∷◌, ◌++◌, length, take, drop, Option, Some, None, sym, ap, ◌∙◌, subst, arith, append_assoc, append-nil, length-append}
 use Rattle.std.proofs.lemmas.List.{take-append-drop, take-take, take_at}
-use Rattle.roman_io.specs.Source.{Gave, EndsAt, Had, IsAtEnd, GaveAtMost}
-use Rattle.roman_io.proofs.CallerLemmas.{Gave-then}
+use Rattle.roman_io.specs.Source.{Gave, EndsAt, IsAtEnd}
+use Rattle.roman_io.proofs.CallerLemmas.{Gave-then, had_more}
 use Rattle.roman_model.specs.Lines.{text_of_lines, ended_lines}
 use Rattle.roman_model.specs.Arena.{Arena}
 use Rattle.roman_model.specs.Certificate as text
@@ -15,34 +15,11 @@ use Rattle.roman_check.specs.Verdicts.{fault_of}
 use Rattle.roman_check.specs.Readers.{IsReading, IsAtFault}
 use Rattle.roman_check.specs.Checks.{HaveVerdict, NoneAtFault}
 
--- What the source had
-
--- what it had is what it gave, and some more
-had_more : (before now : Option (List ℕ)) (taken : List ℕ) → Gave before now taken → (after : List ℕ) × Had before (taken ++ after)
-had_more None None taken gave = ([], tt)
-had_more None (Some new) taken gave = absurd gave
-had_more (Some old) None taken gave = absurd gave
-had_more (Some old) (Some new) taken gave = (new, gave)
-
--- or no more, where it is at its end
-pub had_all : (before now : Option (List ℕ)) (taken : List ℕ) (n : ℕ) → Gave before now taken → EndsAt now n → n ≡ 0 → Had before taken
-had_all None None taken n gave ends none = tt
-had_all None (Some new) taken n gave ends none = absurd gave
-had_all (Some old) None taken n gave ends none = absurd gave
-had_all (Some old) (Some new) taken n gave ends none = gave ∙ ap (λ bs. taken ++ bs) (ends.0 none) ∙ append-nil taken
-
--- it has none left then
+-- a source that gives nothing is at its end
 pub at_end : (mid now : Option (List ℕ)) (into : List ℕ) (n : ℕ) → Gave mid now (take n into) → EndsAt mid n → n ≡ 0 → IsAtEnd now
 at_end mid None into n gave ends none = tt
 at_end None (Some new) into n gave ends none = absurd gave
 at_end (Some old) (Some new) into n gave ends none = sym (gave ∙ ap (λ m. take m into ++ new) none) ∙ ends.0 none
-
-pub gave_at_most : (most : ℕ) (before mid now : Option (List ℕ)) (taken got : List ℕ) → Gave before mid taken → Gave mid now got → length taken + length got ≤ most → GaveAtMost most before now
-gave_at_most most before mid now taken got first second few = record {
-  taken = taken ++ got;
-  gave = Gave-then before mid now taken got first second;
-  few = omega (arith, length-append taken got);
-}
 
 -- Where the source fails
 

@@ -1,13 +1,27 @@
 -- A word that is marked bit by bit, and the states that it stands for.
 use Rattle.std.proofs.Common.{◌≡◌, ℕ, ◌+◌, ◌-◌, ◌*◌, ◌%◌, ◌^◌, ◌<◌, ◌≤◌, ◌==◌, ◌↔◌, Bool, true, false, IsTrue, Contains, ap, sym, ◌∙◌, arith, inl, inr, w64, bit_or, below_more, true≢false}
 use Rattle.std.specs.Int.{bit_at}
+use Rattle.std.specs.Prelude.{if◌then◌else◌}
 use Rattle.std.proofs.Math.Pow.{pow-lt}
 use Rattle.std.proofs.Math.Nat.{mod-le}
 use Rattle.std.proofs.lemmas.Bool.{cases_lt}
 use Rattle.std.proofs.lemmas.Nat.{or_lt}
 use Rattle.std.proofs.lemmas.Nat.Bits.{bit_at_above, bit_at_set_same, bit_at_set_other}
-use Rattle.roman_guard.specs.Meaning.{bit, Marks, has_state, states_below, states_of}
+use Rattle.roman_guard.specs.Meaning.{has_state, states_below, states_of}
 use Rattle.roman_guard.proofs.StateLemmas.{states_below-same, states_below-past, in_states_below, states_below_are}
+
+-- 1 for yes and 0 for no
+abbrev pub bit : Bool → ℕ
+bit b = if b then 1 else 0
+
+-- the word has a bit for each number below n that passes the test, and no other
+pub record Marks (word n : ℕ) (test : ℕ → Bool) : Type 0 where
+  pub fits : word < 2 ^ n
+  pub bits : (e : ℕ) → e < n → bit_at word e ≡ bit (test e)
+
+-- no state past the bits of a word is in its set
+pub has_state_past : (word e : ℕ) → word < 2 ^ 64 → 64 ≤ e → has_state word e ≡ false
+has_state_past word e fits past = ap (λ n. n == 1) (bit_at_above word 64 e fits past)
 
 -- a state that fails the test needs no bit
 pub marks_skip : (word n : ℕ) (test : ℕ → Bool) → Marks word n test → test n ≡ false → Marks word (n + 1) test

@@ -4,9 +4,9 @@ use Rattle.std.specs.Int.Bits.{or_zero_l}
 use Rattle.std.proofs.lemmas.Bool.{eq-eqb, ne_eqb}
 use Rattle.std.proofs.lemmas.Nat.{one_shl, pow_pos}
 use Rattle.std.proofs.lemmas.Nat.Bits.{bit_at-zero}
-use Rattle.roman_guard.specs.Meaning.{bit, Marks, states_below, states_of}
+use Rattle.roman_guard.specs.Meaning.{states_below, states_of}
 use Rattle.roman_guard.proofs.StateLemmas.{states_below-passing, states_below-failing, states_below-zero, states_below-same}
-use Rattle.roman_guard.proofs.MarkLemmas.{marks_one, marked_states}
+use Rattle.roman_guard.proofs.MarkLemmas.{bit, Marks, marks_one, marked_states}
 
 none_below : (n : ℕ) → states_below (λ _. false) n ≡ []
 none_below zero = states_below-zero (λ _. false)

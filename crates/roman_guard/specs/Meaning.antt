@@ -1,5 +1,5 @@
 -- What a guard means, and what a word of states holds.
-use Rattle.std.specs.Prelude.{◌≡◌, ℕ, ◌<◌, ◌^◌, ◌==◌, ◌&&◌, Bool, true, false, not, if◌then◌else◌, List, filter, Option, find}
+use Rattle.std.specs.Prelude.{ℕ, ◌==◌, ◌&&◌, Bool, true, false, not, List, filter, Option, find}
 use Rattle.std.specs.Int.{bit_at}
 use Rattle.std.specs.List.{list_all, list_any, range_with_len}
 use Rattle.roman_guard.specs.declared.formula.Guard.{Guard}
@@ -58,12 +58,3 @@ has_both a b e = has_state a e && has_state b e
 -- the least number below n that passes the test
 unfoldable pub least_below : (ℕ → Bool) → ℕ → Option ℕ
 least_below test n = find test (range_with_len 0 n)
-
--- 1 for yes and 0 for no
-abbrev pub bit : Bool → ℕ
-bit b = if b then 1 else 0
-
--- the word has a bit for each number below n that passes the test, and no other
-pub record Marks (word n : ℕ) (test : ℕ → Bool) : Type 0 where
-  pub fits : word < 2 ^ n
-  pub bits : (e : ℕ) → e < n → bit_at word e ≡ bit (test e)

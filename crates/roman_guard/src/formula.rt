@@ -19,7 +19,7 @@ pub enum Guard {
     Either(Vec<Guard>),
 }
 
-// Whether the guard holds in state `e`.
+/// Whether the guard holds in state `e`.
 #[cycle(guard)]
 pub(crate) fn holds_at(guard: &Guard, e: u8) -> bool
     ensures { result ≡ holds guard.now e }
@@ -34,7 +34,7 @@ pub(crate) fn holds_at(guard: &Guard, e: u8) -> bool
     }
 }
 
-// Whether each of the guards holds in state `e`.
+/// Whether each of the guards holds in state `e`.
 #[cycle(guard)]
 fn all_hold(parts: &[Guard], e: u8) -> bool
     ensures { result ≡ intersection (map holds parts.now) e }
@@ -47,7 +47,7 @@ fn all_hold(parts: &[Guard], e: u8) -> bool
     true
 }
 
-// Whether some of the guards holds in state `e`.
+/// Whether some of the guards holds in state `e`.
 #[cycle(guard)]
 fn some_holds(parts: &[Guard], e: u8) -> bool
     ensures { result ≡ union (map holds parts.now) e }
@@ -60,7 +60,7 @@ fn some_holds(parts: &[Guard], e: u8) -> bool
     false
 }
 
-// Whether state `e` is one of those listed.
+/// Whether state `e` is one of those listed.
 fn lists(states: &[u8], e: u8) -> bool
     ensures { result ≡ is_one_of states.now e }
 {

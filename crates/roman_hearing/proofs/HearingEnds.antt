@@ -1,9 +1,9 @@
 -- How a session that is heard from a source ends.
-use Rattle.std.proofs.Common.{◌≡◌, ℕ, ◌+◌, ◌-◌, ◌<◌, ◌≤◌, Bool, true, false, ◌||◌, List, [], ◌∷◌, ◌++◌, length, take, drop, nat_le, ltb, Option, None, Some, Result, Ok, Err, OnOk, IsErrOf, IsTrue, inl, inr, refl, sym, ap, ◌∙◌, subst, arith, append_assoc, append-nil, length-append, length-take, take-append-drop, take_at, le-leb}
+use Rattle.std.proofs.Common.{◌≡◌, ℕ, ◌+◌, ◌-◌, ◌<◌, ◌≤◌, Bool, true, false, ◌||◌, List, [], ◌∷◌, ◌++◌, length, take, drop, nat_le, ltb, Option, Result, Ok, Err, OnOk, IsErrOf, IsTrue, inl, inr, refl, sym, ap, ◌∙◌, subst, arith, append_assoc, append-nil, length-append, length-take, take-append-drop, take_at, le-leb}
 use Rattle.std.proofs.Math.Seq.{take-append-add}
 use Rattle.std.proofs.lemmas.Bool.{cond-true, cond-false, or_from, lt-leb}
-use Rattle.roman_io.specs.Source.{Gave, EndsAt, Had, GaveAtMost}
-use Rattle.roman_io.proofs.CallerLemmas.{Gave-then, WrotePrefix-append}
+use Rattle.roman_io.specs.Source.{Gave, EndsAt, Had}
+use Rattle.roman_io.proofs.CallerLemmas.{Gave-then, WrotePrefix-append, had_more, had_all}
 use Rattle.roman_model.specs.Lines.{lines, ended_lines, text_of_lines}
 use Rattle.roman_model.specs.declared.limits.TheConstants.{MAX_SESSION_BYTES}
 use Rattle.roman_model.proofs.CallerLemmas.{by_test}
@@ -19,29 +19,6 @@ use Rattle.roman_hearing.specs.declared.hearing.HearError.TheVariants.{ReadFault
 use Rattle.roman_hearing.proofs.HearingLines.{ended_more, lines_more, quit_left, told_stops}
 use Rattle.roman_hearing.proofs.HearingSteps.{told_more}
 use Rattle.roman_hearing.proofs.HearingLemmas.{whole_told}
-
--- ---- what the source had
-
--- what it had is what it gave, and some more
-had_more : (before now : Option (List ℕ)) (taken : List ℕ) → Gave before now taken → (after : List ℕ) × Had before (taken ++ after)
-had_more None None taken gave = ([], tt)
-had_more None (Some new) taken gave = absurd gave
-had_more (Some old) None taken gave = absurd gave
-had_more (Some old) (Some new) taken gave = (new, gave)
-
--- or no more, where it is at its end
-had_all : (before now : Option (List ℕ)) (taken : List ℕ) (n : ℕ) → Gave before now taken → EndsAt now n → n ≡ 0 → Had before taken
-had_all None None taken n gave ends none = tt
-had_all None (Some new) taken n gave ends none = absurd gave
-had_all (Some old) None taken n gave ends none = absurd gave
-had_all (Some old) (Some new) taken n gave ends none = gave ∙ ap (λ (rest : List ℕ). taken ++ rest) (ends.0 none) ∙ append-nil taken
-
-pub gave_at_most : (most : ℕ) (before mid now : Option (List ℕ)) (taken got : List ℕ) → Gave before mid taken → Gave mid now got → length taken + length got ≤ most → GaveAtMost most before now
-gave_at_most most before mid now taken got first second few = record {
-  taken = taken ++ got;
-  gave = Gave-then before mid now taken got first second;
-  few = omega (arith, length-append taken got);
-}
 
 -- ---- as much as is ever heard
 

@@ -2,5 +2,5 @@
 
 -- What several puts wrote together.
 pub use Rattle.roman_io.proofs.SinkLemmas.{Puts-after, Wrote-nil, Wrote-then, WrotePrefix-after, WrotePrefix-append}
--- What several takes moved together.
-pub use Rattle.roman_io.proofs.SourceLemmas.{Gave-nil, Gave-then, Gave-told}
+-- What several takes moved together, and what the source had.
+pub use Rattle.roman_io.proofs.SourceLemmas.{Gave-nil, Gave-then, Gave-told, gave_at_most, had_all, had_more}

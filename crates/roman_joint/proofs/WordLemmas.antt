@@ -1,16 +1,16 @@
 -- The lanes of words that are combined.
-use Rattle.std.proofs.Common.{◌≡◌, ◌≢◌, ℕ, ◌+◌, ◌-◌, ◌*◌, ◌/◌, ◌%◌, ◌^◌, ◌<◌, ◌≤◌, Bool, true, false, not, ◌&&◌, ◌||◌, List, [], ◌∷◌, length, take, get_or, inl, inr, sym, ap, ◌∙◌, arith, eqb, ltb, bit_and}
+use Rattle.std.proofs.Common.{◌≡◌, ℕ, ◌+◌, ◌-◌, ◌*◌, ◌/◌, ◌%◌, ◌^◌, ◌<◌, ◌≤◌, Bool, true, false, not, ◌&&◌, ◌||◌, List, [], ◌∷◌, length, take, get_or, inl, inr, sym, ap, ◌∙◌, arith, eqb, ltb, bit_and}
 use Rattle.std.proofs.Math.Bool.{and-true, or-false, not-not}
 use Rattle.std.specs.Int.{bit_at, bit_not, w64}
-use Rattle.std.specs.Prelude.{bit_or}
 use Rattle.std.specs.List.{list_any}
 use Rattle.std.proofs.lemmas.Bool.{cases_lt, lt-ltb, le-ltb}
 use Rattle.std.proofs.lemmas.Nat.{shr-shr, pow_pos}
-use Rattle.std.proofs.lemmas.Nat.Bits.{bit_at-zero, bit_at_ones, bit_at_ones_above, bit_at_cat_low, bit_at_cat_high, bit_at_above, bit_at_set_same, bit_at_set_other, shr_and_one}
+use Rattle.std.proofs.lemmas.Nat.Bits.{bit_at-zero, bit_at_ones, bit_at_ones_above, bit_at_cat_low, bit_at_cat_high, bit_at_above, shr_and_one}
 use Rattle.std.proofs.lemmas.List.{take_more}
 use Rattle.std.proofs.lemmas.List.Folds.{list_any-append}
 use Rattle.roman_lanes.specs.Rows.{is_on}
 use Rattle.roman_lanes.proofs.CallerLemmas.{on_and, on_not}
+pub use Rattle.roman_lanes.proofs.CallerLemmas.{on_set_same, on_set_other}
 
 -- the first lanes
 pub on_first : (k i : ℕ) → is_on (2 ^ k - 1) i ≡ ltb i k
@@ -47,14 +47,6 @@ on_below a d i l = elim (cases_lt i 64) [
   | inl h ↦ on_product a d i h ∙ ap (λ n. eqb n 1) (bit_at_cat_low a d 0 i l ∙ bit_at-zero i)
   | inr past ↦ let small : a * 2 ^ d % 2 ^ 64 < 2 ^ 64 = omega arith in ap (λ n. eqb n 1) (bit_at_above (a * 2 ^ d % 2 ^ 64) 64 i small past)
 ]
-
-pub on_set_same : (a i : ℕ) → i < 64 → is_on (bit_or a (1 * 2 ^ i % 2 ^ 64)) i ≡ true
-unfolding is_on
-on_set_same a i h = ap (λ n. eqb n 1) (bit_at_set_same w64 a i h)
-
-pub on_set_other : (a i j : ℕ) → i < 64 → j ≢ i → is_on (bit_or a (1 * 2 ^ i % 2 ^ 64)) j ≡ is_on a j
-unfolding is_on
-on_set_other a i j h ne = ap (λ n. eqb n 1) (bit_at_set_other w64 a i h j ne)
 
 -- one more of a list is asked
 pub some_more : {X : Type 0} (p : X → Bool) (xs : List X) (i : ℕ) (d : X) → i < length xs → list_any p (take (i + 1) xs) ≡ (list_any p (take i xs) || p (get_or xs i d))

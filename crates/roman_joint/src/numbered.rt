@@ -2,7 +2,6 @@
 
 use crate::joint::Joint;
 use crate::row::Row;
-use crate::walk::Walk;
 use roman_io::Steps;
 use roman_rules::{Finding, Rules, SeatSet};
 use std::sync::ledger::Ledger;
@@ -12,9 +11,6 @@ impl Rules for Joint {
     ghost use Rattle.roman_model.specs.Numbers.{sizes_of, numbered};
     ghost use Rattle.roman_joint.specs.NamedSys.{system_of};
     ghost use Rattle.roman_joint.specs.Rows.{lanes_in, IsRow};
-    ghost use Rattle.roman_joint.specs.Walks.{IsWalk, left as left_of_walk};
-
-    type Walk = Walk;
 
     ghost arena = { λ joint. numbered (system_of joint) };
 
@@ -25,10 +21,6 @@ impl Rules for Joint {
     ghost is_row = { λ joint x row. IsRow (system_of joint) x row };
 
     ghost sizes = { λ joint. sizes_of (system_of joint) };
-
-    ghost is_walk = { λ joint walk. IsWalk (system_of joint) walk };
-
-    ghost left = { λ joint walk. left_of_walk (system_of joint) walk };
 
     fn known(&self) {
         Joint::known(self);
@@ -48,14 +40,6 @@ impl Rules for Joint {
 
     fn is_ready(&self, k: u8) -> bool {
         !self.seat(k).frozen
-    }
-
-    fn allowed(&self, p: u32, a: u8) -> bool {
-        Joint::allowed(self, p, a)
-    }
-
-    fn final_ok(&self, p: u32) -> bool {
-        Joint::final_ok(self, p)
     }
 
     fn lanes(&self) -> u32 {
@@ -109,13 +93,5 @@ impl Rules for Joint {
         steps: &mut Steps<L>,
     ) -> Finding {
         Joint::examine(self, alive, p, a, k, steps)
-    }
-
-    fn walk(&self, p2: u32) -> Walk {
-        Joint::walk(self, p2)
-    }
-
-    fn back<L: Ledger>(&self, walk: &mut Walk, steps: &mut Steps<L>) -> Option<(u32, u8, u8)> {
-        Joint::back(self, walk, steps)
     }
 }

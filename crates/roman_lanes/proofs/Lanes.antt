@@ -1,5 +1,5 @@
 -- Lanes without a bit.
-use Rattle.std.proofs.Common.{◌≡◌, ℕ, ◌+◌, ◌-◌, ◌*◌, ◌<◌, ◌≤◌, zero, suc, Bool, true, false, not, cond, List, [], ◌∷◌, length, drop, get_or, bit_or, refl, sym, ap, ◌∙◌, arith}
+use Rattle.std.proofs.Common.{◌≡◌, ℕ, ◌+◌, ◌-◌, ◌<◌, ◌≤◌, zero, suc, List, [], ◌∷◌, length, drop, get_or, bit_or, refl, sym, ap, ◌∙◌, arith}
 use Rattle.std.specs.Simd.Lanes.{zip2, chunk}
 use Rattle.std.proofs.lemmas.Nat.{le_or_l, le_or_r}
 use Rattle.std.proofs.lemmas.List.{get_or-take, get_or-drop}
@@ -19,11 +19,6 @@ either_clear (x ∷ xs) (y ∷ ys) same clear =
       elim [ zero ↦ first.0 | suc i ↦ rest.0 i ],
       elim [ zero ↦ first.1 | suc i ↦ rest.1 i ],
     )
-
--- no bit of a mask is set
-unset : (t : Bool) (n : ℕ) → cond (not t) 1 0 + 2 * n ≡ 0 → (t ≡ true) × (n ≡ 0)
-unset true n e = (refl, omega arith)
-unset false n e = absurd (omega arith)
 
 -- an element of a block is one of the list
 in_chunk : (at n i : ℕ) (xs : List ℕ) → i < n → get_or (chunk at n xs) i 0 ≡ get_or xs (at + i) 0

@@ -1,9 +1,9 @@
 -- The lanes of words that are combined.
-use Rattle.std.proofs.Common.{◌≡◌, ◌≢◌, ℕ, zero, ◌-◌, ◌/◌, ◌^◌, ◌<◌, ◌≤◌, min, max, true, false, not, ◌&&◌, ◌||◌, inl, inr, refl, sym, ap, ◌∙◌, arith, eqb, bit_and}
+use Rattle.std.proofs.Common.{◌≡◌, ◌≢◌, ℕ, zero, ◌-◌, ◌*◌, ◌/◌, ◌%◌, ◌^◌, ◌<◌, ◌≤◌, min, max, true, false, not, ◌&&◌, ◌||◌, inl, inr, refl, sym, ap, ◌∙◌, arith, eqb, bit_and}
 use Rattle.std.specs.Int.{bit_at, bit_not, w64}
 use Rattle.std.specs.Prelude.{bit_or}
 use Rattle.std.proofs.lemmas.Bool.{cases_eq, eq-eqb}
-use Rattle.std.proofs.lemmas.Nat.Bits.{bit_at_and, bit_at_or, bit_at_not, bit_at-lt, bit_at-zero, bit_at_ones, bit_at_ones_above, bit_at-pow_same, bit_at-pow_other, shr_and_one}
+use Rattle.std.proofs.lemmas.Nat.Bits.{bit_at_and, bit_at_or, bit_at_not, bit_at-lt, bit_at-zero, bit_at_ones, bit_at_ones_above, bit_at-pow_same, bit_at-pow_other, bit_at_set_same, bit_at_set_other, bit_at_clear_same, bit_at_clear_other, ones_shr, shr_and_one}
 use Rattle.roman_lanes.specs.Rows.{is_on}
 
 pub on_zero : (i : ℕ) → is_on zero i ≡ false
@@ -17,6 +17,18 @@ on_ones k i h = eq-eqb (bit_at (2 ^ k - 1) i) 1 (bit_at_ones k i h)
 pub on_ones_above : (k i : ℕ) → k ≤ i → is_on (2 ^ k - 1) i ≡ false
 unfolding is_on
 on_ones_above k i h = ap (λ n. eqb n 1) (bit_at_ones_above k i h)
+
+-- the word of that many lanes, as it is computed
+pub full_word : (lanes : ℕ) → lanes ≤ 64 → (2 ^ 64 - 1) / 2 ^ (64 - lanes) ≡ 2 ^ lanes - 1
+full_word lanes few =
+    let rest : 64 - (64 - lanes) ≡ lanes = omega arith in
+    ones_shr 64 (64 - lanes) (omega arith) ∙ ap (λ n. 2 ^ n - 1) rest
+
+pub on_full : (lanes lane : ℕ) → lanes ≤ 64 → lane < lanes → is_on ((2 ^ 64 - 1) / 2 ^ (64 - lanes)) lane ≡ true
+on_full lanes lane few within = ap (λ word. is_on word lane) (full_word lanes few) ∙ on_ones lanes lane within
+
+pub on_full_past : (lanes lane : ℕ) → lanes ≤ 64 → lanes ≤ lane → is_on ((2 ^ 64 - 1) / 2 ^ (64 - lanes)) lane ≡ false
+on_full_past lanes lane few past = ap (λ word. is_on word lane) (full_word lanes few) ∙ on_ones_above lanes lane past
 
 min_on : (m n : ℕ) → m < 2 → n < 2 → eqb (min m n) 1 ≡ (eqb m 1 && eqb n 1)
 min_on m n a b = elim (cases_eq m 1) as (λ _. eqb (min m n) 1 ≡ (eqb m 1 && eqb n 1)) [
@@ -61,6 +73,23 @@ on_pow_other i j ne = ap (λ n. eqb n 1) (bit_at-pow_other i j ne)
 -- the lanes of one word that aren't those of another
 pub on_less : (a b i : ℕ) → b < 2 ^ 64 → i < 64 → is_on (bit_and a (bit_not w64 b)) i ≡ (is_on a i && not (is_on b i))
 on_less a b i h l = on_and a (bit_not w64 b) i ∙ ap (λ x. is_on a i && x) (on_not b i h l)
+
+-- a lane that is set or cleared
+pub on_set_same : (word lane : ℕ) → lane < 64 → is_on (bit_or word (1 * 2 ^ lane % 2 ^ 64)) lane ≡ true
+unfolding is_on
+on_set_same word lane h = ap (λ n. eqb n 1) (bit_at_set_same w64 word lane h)
+
+pub on_set_other : (word lane j : ℕ) → lane < 64 → j ≢ lane → is_on (bit_or word (1 * 2 ^ lane % 2 ^ 64)) j ≡ is_on word j
+unfolding is_on
+on_set_other word lane j h ne = ap (λ n. eqb n 1) (bit_at_set_other w64 word lane h j ne)
+
+pub on_clear_same : (word lane : ℕ) → lane < 64 → is_on (bit_and word (bit_not w64 (1 * 2 ^ lane % 2 ^ 64))) lane ≡ false
+unfolding is_on
+on_clear_same word lane h = ap (λ n. eqb n 1) (bit_at_clear_same w64 word lane h)
+
+pub on_clear_other : (word lane j : ℕ) → lane < 64 → j < 64 → j ≢ lane → is_on (bit_and word (bit_not w64 (1 * 2 ^ lane % 2 ^ 64))) j ≡ is_on word j
+unfolding is_on
+on_clear_other word lane j h l ne = ap (λ n. eqb n 1) (bit_at_clear_other w64 word lane h j l ne)
 
 -- the test of one bit
 pub on_tested : (w i : ℕ) → (bit_and (w / 2 ^ i) 1 ≡ 0 → ⊥) → is_on w i ≡ true

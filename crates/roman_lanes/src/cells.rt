@@ -1,15 +1,7 @@
 //! Numbers that are counted.
-ghost use Rattle.std.specs.Prelude.{◌≡◌, ◌-◌, ◌^◌, ◌≤◌, length, count_by, ◌==◌};
+ghost use Rattle.std.specs.Prelude.{◌≡◌, ◌≤◌, length, count_by, ◌==◌};
 
 use crate::block::{LANES, equal_in};
-
-/// How many of the numbers are `u32::MAX`, for any number of them, none included: in one pass, sixteen
-/// at a time.
-pub fn count_max(values: &[u32]) -> usize
-    ensures counted { result ≡ count_by (λ x. x == 2 ^ 32 - 1) values.now }
-{
-    count_equal(values, u32::MAX)
-}
 
 /// How many of the numbers are `value`, for any number of them, none included: in one pass, sixteen at
 /// a time.

@@ -10,5 +10,5 @@ mod search;
 #[cfg(test)]
 mod tests;
 
-pub use cells::{count_equal, count_max};
+pub use cells::count_equal;
 pub use search::first_set;

@@ -1,8 +1,8 @@
-//! Each kernel beside its plain definition, at lengths around a whole number of blocks.
-use crate::{count_equal, count_max, first_set};
+//! Each kernel beside its plain definition, at each length up to that of some blocks and what is left.
+use crate::{count_equal, first_set};
 use std::test::*;
 
-// A block of numbers and one more. Every fourth is the greatest number.
+/// A block of numbers and one more. Every fourth is the greatest number.
 const CELLS: [u32; 17] = [
     0xffff_ffff,
     0x0000_0000,
@@ -25,7 +25,6 @@ const CELLS: [u32; 17] = [
 
 #[test]
 fn outside_examples(rt: HostRuntime) {
-    assert_eq!(rt; count_max(&[u32::MAX, 0, u32::MAX]), 2);
     assert_eq!(rt; count_equal(&CELLS, u32::MAX), 5);
     assert_eq!(rt; count_equal(&CELLS[..16], 1), 1);
     assert_eq!(rt; first_set(&[0, 0, 4, 0, 1], 0), Some(2));
@@ -34,12 +33,29 @@ fn outside_examples(rt: HostRuntime) {
 }
 
 #[test]
-fn each_word_is_found(rt: HostRuntime) {
-    for place in 0..70usize {
-        let mut words = [0; 70];
-        words[place] = 1 << (place % 64);
-        assert_eq!(rt; first_set(&words, 0), Some(place));
-        assert_eq!(rt; first_set(&words, place), Some(place));
-        assert_eq!(rt; first_set(&words, place + 1), None);
+fn numbers_are_counted_at_each_length(rt: HostRuntime) {
+    let mut cells = [0; 40];
+    for (i, cell) in cells.iter_mut().enumerate() {
+        *cell = i as u32 % 3;
+    }
+    for length in 0..41usize {
+        let values = &cells[..length];
+        let plain = values.iter().filter(|x| **x == 2).count();
+        assert_eq!(rt; count_equal(values, 2), plain);
+    }
+}
+
+#[test]
+fn each_word_is_found_at_each_length(rt: HostRuntime) {
+    for length in 0..71usize {
+        assert_eq!(rt; first_set(&[0; 70][..length], 0), None);
+        for place in 0..length {
+            let mut words = [0; 70];
+            words[place] = 1 << (place % 64);
+            let words = &words[..length];
+            assert_eq!(rt; first_set(words, 0), Some(place));
+            assert_eq!(rt; first_set(words, place), Some(place));
+            assert_eq!(rt; first_set(words, place + 1), None);
+        }
     }
 }

@@ -5,7 +5,7 @@ use Rattle.serde_json.specs.View.{view, items_view}
 use Rattle.serde_json.specs.declared.value.Value.{Value}
 use Rattle.roman_io.specs.Shelf.{Texts}
 use Rattle.roman_read.specs.Items.{each_item}
-use Rattle.roman_read.proofs.CallerLemmas.{IsLeft, goes_on, ends, is_done, at_start}
+use Rattle.roman_read.proofs.CallerLemmas.{IsLeft, goes_on, ends, is_done}
 use Rattle.roman_parts.specs.Named.{NamedEnv, NamedBeh}
 use Rattle.roman_library.specs.Documents.{PartAt, ReadAfter, listed_in, listed_step, service_of, service_step}
 use Rattle.roman_library.specs.Refusals.{Stops, placed}
@@ -22,10 +22,6 @@ pub record PartsLeft {X : Type 0} (o : Option Texts) (step : Texts → ℕ → L
 module _ {X : Type 0} (at : PartAt) (read : ReadAfter X) (document : List ℕ) (env : NamedEnv) (items : List Value) where
   abbrev pub step : Texts → ℕ → List X → Data → Result (List X) Refusal
   step texts = listed_step at read texts document env
-
-  pub parts_start : (o : Option Texts) → PartsLeft o step items 0 []
-  parts_start None = record { told = tt }
-  parts_start (Some texts) = record { told = at_start (step texts) items [] }
 
   -- a part that is loaded goes behind those before it
   pub parts_go_on : (o : Option Texts) (i : ℕ) (before after : List X) (part : X) (x : Value) → i < length items → x ≡ get_or items i x
@@ -57,9 +53,6 @@ pub record ServicesLeft (document : List ℕ) (version : ℕ) (catalogue : List 
   pub left : IsLeft (service_step document version catalogue) items i before (each_item (service_step document version catalogue) 0 [] (items_view items))
 
 module _ (document : List ℕ) (version : ℕ) (catalogue : List NamedBeh) (items : List Value) where
-  pub services_start : ServicesLeft document version catalogue items 0 []
-  services_start = record { left = at_start (service_step document version catalogue) items [] }
-
   -- a service that is read goes behind those before it
   pub services_go_on : (i : ℕ) (before after : List Service) (s : Service) (x : Value) → i < length items → x ≡ get_or items i x
       → placed document (part.Service i) (service_of version catalogue before (view x)) ≡ Ok s → after ≡ before ++ s ∷ []

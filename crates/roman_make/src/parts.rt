@@ -11,7 +11,7 @@ use crate::tables::{
     ACTIONS, FLOOR_STATES, FLOOR_STEPS, Row, SHIFT_FINALS, SHIFT_STATES, SHIFT_STEPS,
     WORKER_FINALS, WORKER_STATES, WORKER_STEPS, WORKERS,
 };
-use roman_guard::{Guard, StateSet, compile};
+use roman_guard::StateSet;
 use roman_library::Service;
 use roman_parts::{Behaviour, Environment, Target};
 use std::alloc::{AllocError, Global};
@@ -45,7 +45,7 @@ fn steps_of(alloc: Global, rows: &[Row]) -> Result<Vec<Step>, AllocError>
 fn every_state() -> StateSet
     ensures { result ≡ 1 }
 {
-    compile(&Guard::All, 1)
+    StateSet::single(0)
 }
 
 /// A worker.

@@ -9,13 +9,12 @@ use Rattle.std.proofs.lemmas.Bool.{cases_eq, eq-eqb, ne_eqb, eqb-true, both_ways
 use Rattle.std.proofs.lemmas.List.{length-set, get_or-set_same, get_or-set_other}
 use Rattle.std.proofs.lemmas.List.Folds.{list_any-append}
 use Rattle.std.proofs.lemmas.Nat.{same_from_place}
-use Rattle.std.proofs.lemmas.Nat.Bits.{bit_at_clear_same, bit_at_clear_other}
 use Rattle.roman_model.specs.Lists.{IsIn, HasNoRepeats, below}
 use Rattle.roman_model.specs.Arena.{Entry}
 use Rattle.roman_model.specs.declared.reason.Reason.{Reason}
 use Rattle.roman_model.proofs.CallerLemmas.{filter_below_more, list_any-map, any_true, any_from, none_from, filter_in, in_filter, in_below, from_below, same_test, HasNoRepeats-filter, HasNoRepeats-below}
 use Rattle.roman_lanes.specs.Rows.{is_on, HasLanes, AreRows}
-use Rattle.roman_lanes.proofs.CallerLemmas.{on_and, on_less, on_zero, on_ones, on_ones_above, on_pow_same, on_pow_other}
+use Rattle.roman_lanes.proofs.CallerLemmas.{on_and, on_less, on_zero, on_ones, on_ones_above, on_pow_same, on_pow_other, on_clear_same, on_clear_other}
 use Rattle.roman_order.specs.Board.{as_entry, set_lanes, entries_in, has_entry}
 
 -- ---- the lanes of a word, the first apart
@@ -55,13 +54,12 @@ abbrev pub without_lane : ℕ → ℕ → ℕ
 without_lane n t = bit_and n (bit_not w64 (1 * 2 ^ t % 2 ^ 64))
 
 pub without_first : (n t : ℕ) → t < 64 → is_on n t ≡ true → ((i : ℕ) → i < t → is_on n i ≡ false) → IsFirstOf n (without_lane n t) t
-unfolding is_on
 without_first n t low on before = record {
   low = low;
   on = on;
   before = before;
-  off = ap (λ b. eqb b 1) (bit_at_clear_same w64 n t low);
-  same = λ i l ne. ap (λ b. eqb b 1) (bit_at_clear_other w64 n t low i l ne);
+  off = on_clear_same n t low;
+  same = λ i l ne. on_clear_other n t i low l ne;
 }
 
 pub without_first-less : (n m t : ℕ) → IsFirstOf n m t → m ≤ n → m < n

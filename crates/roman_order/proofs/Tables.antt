@@ -4,9 +4,9 @@ use Rattle.std.specs.Int.{w64, bit_not}
 use Rattle.std.proofs.Math.ListN.{set}
 use Rattle.std.proofs.Math.Nat.{mul-le-mul_left}
 use Rattle.std.proofs.lemmas.List.{length-map, length-replicate, get_or-replicate}
-use Rattle.std.proofs.lemmas.Nat.Bits.{ones_shr}
 use Rattle.roman_model.specs.declared.reason.Reason.{Reason}
 use Rattle.roman_lanes.specs.Rows.{is_on}
+use Rattle.roman_lanes.proofs.CallerLemmas.{full_word}
 use Rattle.roman_order.specs.Board.{Board, as_entry, set_lanes, entries_in, has_entry}
 use Rattle.roman_order.specs.Sound.{board_of, removal_list, IsPlaced, IsSized, IsSound}
 use Rattle.roman_order.specs.declared.order.Order.TheInside.{Inside}
@@ -26,13 +26,11 @@ pub blank_sound : (a : Inside) → IsSized a → a.entries.items ≡ [] → a.st
     a.words.items ≡ replicate a.rows ((2 ^ 64 - 1) / 2 ^ (64 - a.lanes)) → IsSound a
 blank_sound a sized entries stamps words =
     let full : ℕ = (2 ^ 64 - 1) / 2 ^ (64 - a.lanes) in
-    let back : 64 - (64 - a.lanes) ≡ a.lanes = omega (arith, sized.few_lanes.1) in
-    let all : full ≡ 2 ^ a.lanes - 1 = ones_shr 64 (64 - a.lanes) (omega arith) ∙ ap (λ k. 2 ^ k - 1) back in
     record {
       placed = rw entries (IsPlaced-nil (a.rows * a.lanes));
       stamped = rw stamps (λ p h. absurd (omega arith));
       alive = rw (entries, words)
-          (AreRows-full a.lanes (replicate a.rows full) (λ y h. get_or-replicate a.rows y full 0 (omega (arith, h, length-replicate a.rows full)) ∙ all));
+          (AreRows-full a.lanes (replicate a.rows full) (λ y h. get_or-replicate a.rows y full 0 (omega (arith, h, length-replicate a.rows full)) ∙ full_word a.lanes sized.few_lanes.1));
       sized = sized;
     }
 

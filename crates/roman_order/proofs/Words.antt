@@ -1,11 +1,8 @@
 -- Flags in words of sixty-four.
-use Rattle.std.proofs.Common.{◌≡◌, ◌≢◌, ℕ, zero, ◌+◌, ◌-◌, ◌*◌, ◌/◌, ◌%◌, ◌^◌, ◌<◌, ◌≤◌, true, false, List, ◌++◌, length, take, get_or, drop, replicate, ap, ap₂, sym, ◌∙◌, inl, inr, arith, eqb, ltb, bit_and, subst}
+use Rattle.std.proofs.Common.{◌≡◌, ◌≢◌, ℕ, zero, ◌+◌, ◌-◌, ◌*◌, ◌/◌, ◌%◌, ◌^◌, ◌<◌, ◌≤◌, false, List, ◌++◌, length, take, get_or, drop, replicate, ap, ap₂, sym, ◌∙◌, inl, inr, arith, ltb, subst}
 use Rattle.std.proofs.Math.ListN.{set}
-use Rattle.std.specs.Int.{w64, bit_not}
-use Rattle.std.specs.Prelude.{bit_or}
-use Rattle.std.proofs.lemmas.Bool.{cases_eq, cases_lt, eq-eqb, lt-ltb, le-ltb}
+use Rattle.std.proofs.lemmas.Bool.{cases_eq, cases_lt, lt-ltb, le-ltb}
 use Rattle.std.proofs.lemmas.List.{get_or-set_same, get_or-set_other, get_or_append_left, get_or-replicate, length-replicate, length-take-le, get_or-append_right, get_or-drop, get_or_past}
-use Rattle.std.proofs.lemmas.Nat.Bits.{bit_at_set_same, bit_at_set_other, bit_at_clear_same, bit_at_clear_other}
 use Rattle.roman_lanes.specs.Rows.{is_on}
 use Rattle.roman_lanes.specs.Flags.{has_flag}
 use Rattle.roman_lanes.proofs.CallerLemmas.{on_zero, on_ones, on_ones_above}
@@ -47,24 +44,6 @@ has_flag-at words i t within =
     let place : (i * 64 + t) / 64 ≡ i = omega arith in
     let bit : (i * 64 + t) % 64 ≡ t = omega arith in
     ap₂ (λ j k. is_on (get_or words j 0) k) place bit
-
--- ---- a bit that is set or cleared
-
-pub on_set_same : (n t : ℕ) → t < 64 → is_on (bit_or n (1 * 2 ^ t % 2 ^ 64)) t ≡ true
-unfolding is_on
-on_set_same n t h = eq-eqb _ 1 (bit_at_set_same w64 n t h)
-
-pub on_set_other : (n t k : ℕ) → t < 64 → k < 64 → k ≢ t → is_on (bit_or n (1 * 2 ^ t % 2 ^ 64)) k ≡ is_on n k
-unfolding is_on
-on_set_other n t k h l ne = ap (λ b. eqb b 1) (bit_at_set_other w64 n t h k ne)
-
-pub on_clear_same : (n t : ℕ) → t < 64 → is_on (bit_and n (bit_not w64 (1 * 2 ^ t % 2 ^ 64))) t ≡ false
-unfolding is_on
-on_clear_same n t h = ap (λ b. eqb b 1) (bit_at_clear_same w64 n t h)
-
-pub on_clear_other : (n t k : ℕ) → t < 64 → k < 64 → k ≢ t → is_on (bit_and n (bit_not w64 (1 * 2 ^ t % 2 ^ 64))) k ≡ is_on n k
-unfolding is_on
-on_clear_other n t k h l ne = ap (λ b. eqb b 1) (bit_at_clear_other w64 n t h k l ne)
 
 -- ---- words without a bit have no flag
 

@@ -7,6 +7,7 @@ use Rattle.roman_model.specs.declared.reason.Reason.{Reason}
 use Rattle.roman_lanes.specs.Rows.{is_on}
 use Rattle.roman_lanes.specs.Flags.{has_flag}
 
+-- an order: its room and its shape, the removal list, what waits, and what is kept beside them
 pub record Board : Type 0 where
   -- the greatest number of pairs
   pub cap_pairs : ℕ

@@ -15,6 +15,7 @@ entries_of xs = map (λ x. record { node = x.pair; reason = x.reason }) xs
 abbrev pub removal_list : Inside → List (Entry ℕ)
 removal_list a = entries_of a.entries.items
 
+-- what callers see of the tables
 abbrev pub board_of : Inside → Board
 board_of a = record {
   cap_pairs = a.room;

@@ -18,7 +18,7 @@ use std::alloc::{AllocError, Global};
 use std::marker::Model;
 use std::mem;
 
-// How many items of a table are copied at once.
+/// How many items of a table are copied at once.
 const PIECE: usize = 256;
 
 /// The removal list of a system's pairs, the pairs that aren't listed as words, marks, and each pair's
@@ -65,7 +65,7 @@ impl Order {
     /// Makes an order for at most `cap_pairs` pairs, which is shaped for no rows. It reserves room for
     /// as many entries, for as many again that wait, and for words, places, marks and levels; none of
     /// it is written, so the pages of what isn't used stay untouched. No other call but
-    /// [`copy`](Order::copy) takes memory. The one error is that there is none.
+    /// [`copy`](Order::copy) takes memory. The one error is that there is no memory.
     pub fn build(alloc: Global, cap_pairs: u32) -> Result<Order, AllocError>
         ensures { IfOk result (λ order. order ≡ record {
           cap_pairs = cap_pairs;
@@ -185,8 +185,6 @@ impl Order {
           levels = [];
         } }
         ensures unmarked { (p : ℕ) → is_marked self.new p ≡ false }
-        ensures distinct { IsDistinct (λ x y. x == y) (nodes_of self.old.list) }
-        ensures in_range { (p : ℕ) → has_entry self.old.list p ≡ true → p < pairs_of self.old }
     {
         self.waiting.clear();
         mem::swap(&mut self.entries, &mut self.waiting);
@@ -216,8 +214,8 @@ impl Order {
         Some((entry.pair, entry.reason))
     }
 
-    /// Says what holds of every order: the pairs of the list differ and are in range, and each table is as
-    /// long as the shape needs.
+    /// Tells a prover what holds of every order: the pairs of the list differ and are in range, and each
+    /// table is as long as the shape needs. It does nothing.
     pub fn known(&self)
         ensures distinct { IsDistinct (λ x y. x == y) (nodes_of self.now.list) }
         ensures in_range { (p : ℕ) → has_entry self.now.list p ≡ true → p < pairs_of self.now }
@@ -234,15 +232,7 @@ impl Order {
     #[tactic(auto, using(crate::proofs::Tables::few_entries))]
     pub fn len(&self) -> u32
         ensures value { result ≡ length self.now.list }
-        ensures distinct { IsDistinct (λ x y. x == y) (nodes_of self.now.list) }
-        ensures in_range { (p : ℕ) → has_entry self.now.list p ≡ true → p < pairs_of self.now }
-        ensures bound { length self.now.list ≤ pairs_of self.now }
-        ensures room { pairs_of self.now ≤ self.now.cap_pairs }
-        ensures lanes { (0 < self.now.lanes) × (self.now.lanes ≤ 64) }
-        ensures marks { length self.now.marks ≡ (pairs_of self.now + 63) / 64 }
-        ensures before { length self.now.before ≡ self.now.rows }
     {
-        self.known();
         self.entries.len() as u32
     }
 
@@ -251,6 +241,7 @@ impl Order {
         ensures counted { result ≡ count_by (λ p. not (has_entry self.now.list p)) (below (pairs_of self.now)) }
         ensures rest { result + length self.now.list ≡ pairs_of self.now }
     {
+        self.known();
         self.rows * self.lanes - self.len()
     }
 
@@ -272,7 +263,7 @@ impl Order {
     }
 }
 
-// A table with the same items, with room for that many.
+/// A table with the same items, with room for that many.
 fn copied<T: Copy>(alloc: Global, items: &[T], room: usize) -> Result<Vec<T>, AllocError>
     ensures items { IfOk result (λ table. table.items ≡ items.now) }
     ensures room { IfOk result (λ table. room ≤ vec_capacity table) }
@@ -282,8 +273,8 @@ fn copied<T: Copy>(alloc: Global, items: &[T], room: usize) -> Result<Vec<T>, Al
     Ok(table)
 }
 
-// Makes the items of a table those of a list, for which it has room. They are copied piece by piece,
-// since long copies are made byte by byte on some machines.
+/// Makes the items of a table those of a list, for which it has room. They are copied piece by piece,
+/// since long copies are made byte by byte on some machines.
 fn rewrite<T: Copy + Drop>(table: &mut Vec<T>, items: &[T])
     requires { length items.now ≤ vec_capacity table.old }
     ensures items { table.new.items ≡ items.now }
@@ -297,7 +288,7 @@ fn rewrite<T: Copy + Drop>(table: &mut Vec<T>, items: &[T])
     }
 }
 
-// Makes all items of a table that value, and as many as said.
+/// Makes all items of a table that value, and as many as said.
 fn refill<T: Copy + Drop>(table: &mut Vec<T>, n: usize, value: T)
     requires { n ≤ vec_capacity table.old }
     ensures items { table.new.items ≡ replicate n value }

@@ -13,7 +13,7 @@ ghost use Rattle.roman_rank.specs.Ranking.{depth_in, AreDepths, AreRanks, IsRank
 use crate::counting::counts_of;
 use crate::levels::{depths_anew, depths_by};
 use roman_io::Steps;
-use roman_lanes::{count_equal, count_max};
+use roman_lanes::count_equal;
 use roman_relation::Relation;
 use std::alloc::{AllocError, Global};
 use std::marker::Model;
@@ -101,7 +101,7 @@ impl Ranks {
     pub fn related(&self) -> u32
         ensures { (s : Sys) → AreDepths s self.now → result ≡ related_count s }
     {
-        count_max(&self.depths) as u32
+        count_equal(&self.depths, u32::MAX) as u32
     }
 
     /// How many pairs have each depth, up to the greatest one.

@@ -14,7 +14,7 @@ use std::fmt;
 use std::hash::{Hash, Hasher};
 use std::marker::Model;
 
-// The greatest number of bytes of a name.
+/// The greatest number of bytes of a name.
 const LONGEST: usize = 32;
 
 /// The name of a state, an action, a behaviour or a service: 1 to 32 bytes, each an ASCII letter, a
@@ -62,31 +62,38 @@ impl Name {
     {
         &self.bytes[..self.len as usize]
     }
+
+    /// Tells a prover that the bytes of every name are those of one. It does nothing.
+    pub fn known(&self)
+        ensures rule { IsTrue (is_name self.now) }
+    {
+        let _bytes = &self.bytes;
+    }
 }
 
-// Whether a name may have this byte.
+/// Whether a name may have this byte.
 fn is_part(byte: u8) -> bool
     ensures { result ≡ is_name_byte byte }
 {
     byte.is_ascii_alphanumeric() || byte == b'_' || byte == b'-'
 }
 
-// Whether a name may have each of these bytes.
+/// Whether a name may have each of these bytes.
 fn are_parts(bytes: &[u8]) -> bool
     ensures { result ≡ list_all is_name_byte bytes.now }
 {
     bytes.iter().all(|&byte| is_part(byte))
 }
 
-// Whether the bytes are a name.
+/// Whether the bytes are a name.
 fn is_word(bytes: &[u8]) -> bool
     ensures { result ≡ is_name bytes.now }
 {
     !bytes.is_empty() && bytes.len() <= LONGEST && are_parts(bytes)
 }
 
+/// The bytes, with zeros up to the end of a name's room.
 #[tactic(auto, using(crate::proofs::NameLemmas::zeros_after))]
-// The bytes, with zeros up to the end of a name's room.
 fn padded(bytes: &[u8]) -> [u8; LONGEST]
     requires { length bytes.now ≤ 32 }
     ensures { result ≡ bytes.now ++ replicate (32 - length bytes.now) 0 }

@@ -9,7 +9,7 @@ use std::alloc::{AllocError, Global};
 use std::marker::Model;
 use thiserror::Error;
 
-// How many names are sought one after the other, which is quicker than by their hashes.
+/// How many names are sought one after the other, which is quicker than by their hashes.
 const FEW: usize = 8;
 
 /// Names that are numbered from 0 in the order in which they were added, none of them twice.
@@ -91,15 +91,15 @@ impl NameTable {
         self.names.is_empty()
     }
 
-    #[tactic(auto, using(crate::proofs::PlaceLemmas::places))]
     /// Adds a name as the last one, and gives its place. There are fewer than 2^32 - 1 names before.
     /// `Repeated` comes exactly where the table has the name already, with its place, and `Memory` only
     /// where there is none; at every refusal the table stays as it was.
+    #[tactic(auto, using(crate::proofs::PlaceLemmas::places))]
     pub fn add(&mut self, name: Name) -> Result<u32, AddError>
         requires { length self.old < 2 ^ 32 - 1 }
         ensures add { Adds self.old self.new name result }
     {
-        let _bytes = name.bytes();
+        name.known();
         let names = &mut self.names;
         let (place, added) = match names.insert_full(name) {
             Ok(found) => found,
@@ -126,7 +126,7 @@ impl NameTable {
         Some(place as u32)
     }
 
-    // The place of the name with these bytes, by a look at one name after the other.
+    /// The place of the name with these bytes, by a look at one name after the other.
     fn sought(&self, bytes: &[u8]) -> Option<usize>
         ensures place { result ≡ place_of self.now bytes.now }
         ensures within { IfSome result (λ i. i < length self.now) }
@@ -135,8 +135,8 @@ impl NameTable {
         names.iter().position(|name| bytes == name.bytes())
     }
 
+    /// The place of the name with these bytes, by its hash.
     #[tactic(auto, using(crate::proofs::PlaceLemmas::places))]
-    // The place of the name with these bytes, by its hash.
     fn looked_up(&self, bytes: &[u8]) -> Option<usize>
         ensures place { result ≡ place_of self.now bytes.now }
         ensures within { IfSome result (λ i. i < length self.now) }
@@ -155,7 +155,7 @@ impl NameTable {
     }
 }
 
-// Adds a name that the table lacks: nothing but memory can be wanting.
+/// Adds a name that the table lacks: nothing but memory can be wanting.
 fn push_new(table: &mut NameTable, name: Name) -> Result<(), AllocError>
     requires room { length table.old < 2 ^ 32 - 1 }
     requires new { place_of table.old name ≡ None }

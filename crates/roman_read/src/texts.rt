@@ -30,10 +30,10 @@ impl ParseError {
     }
 }
 
-#[tactic(auto, using(crate::proofs::JsonLemmas::json_of_text, crate::proofs::JsonLemmas::json_of_no_text))]
 /// The JSON value (RFC 8259) that the bytes are, with at most 127 arrays and objects inside one
 /// another. Of a member that an object names twice the last value counts. `NotJson` comes exactly where
 /// the bytes are no UTF-8 or no such value, and `Memory` only where there is none.
+#[tactic(auto, using(crate::proofs::JsonLemmas::json_of_text, crate::proofs::JsonLemmas::json_of_no_text))]
 pub fn parse(alloc: Global, bytes: &[u8]) -> Result<Value, ParseError>
     ensures parse { Parses bytes.now result }
 {

@@ -51,6 +51,7 @@ pub fn play_round<J: Rules, L: Ledger>(joint: &J, order: &mut Order, steps: &mut
         ≤ steps.old + fall (J.arena joint.now) (drop (length order.old.list) order.new.list) }
 {
     joint.known();
+    order.known();
     let start = order.len();
     judge_marked(joint, order);
     mark_losses(joint, order, start, steps);
@@ -88,6 +89,7 @@ pub fn settle_list<J: Rules, L: Ledger>(joint: &J, order: &mut Order, steps: &mu
     'rounds: loop {
         let start = order.len();
         play_round(joint, order, steps);
+        order.known();
         if order.len() == start {
             return;
         }

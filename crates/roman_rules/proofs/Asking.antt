@@ -1,13 +1,10 @@
--- What is known of a row goes on to hold, words of lanes, and counts of the numbers below a bound.
-use Rattle.std.proofs.Common.{◌≡◌, ℕ, ◌+◌, ◌-◌, ◌*◌, ◌/◌, ◌^◌, ◌<◌, ◌≤◌, Bool, true, false, cond, [], ◌∷◌, length, filter, count_by, IsTrue, IsFalse, refl, sym, ap, ap₂, ◌∙◌, add-one, length-append, eqb, arith}
-use Rattle.std.specs.Int.{bit_at}
-use Rattle.std.proofs.lemmas.Bool.{cond-true, eq-eqb}
-use Rattle.std.proofs.lemmas.Nat.Bits.{bit_at-zero, bit_at_ones, ones_shr}
+-- What is known of a row goes on to hold, and counts of the numbers below a bound.
+use Rattle.std.proofs.Common.{◌≡◌, ℕ, ◌+◌, ◌*◌, ◌<◌, Bool, true, false, cond, [], ◌∷◌, length, filter, count_by, IsTrue, IsFalse, refl, sym, ap, ap₂, ◌∙◌, add-one, length-append, arith}
+use Rattle.std.proofs.lemmas.Bool.{cond-true}
 use Rattle.std.proofs.lemmas.List.Sums.{length-filter}
 use Rattle.roman_model.specs.Lists.{below}
 use Rattle.roman_model.specs.Arena.{Arena}
 use Rattle.roman_model.proofs.CallerLemmas.{filter_below_more, justified_more}
-use Rattle.roman_lanes.specs.Rows.{is_on}
 use Rattle.roman_rules.specs.Bits.{bit_of}
 use Rattle.roman_rules.specs.Asked.{HoldsWhereKept, readings_of}
 use Rattle.roman_rules.specs.declared.asked.Asked.{Asked}
@@ -17,20 +14,6 @@ pub known_more : (A : Arena ℕ) (lanes : ℕ) (gone more : ℕ → Bool) (asked
 known_more A lanes gone more asked h known = record {
   each = λ lane l on. justified_more A gone more (asked.row * lanes + lane) asked.reason (λ a k q i t. h q t) (known.each lane l on);
 }
-
--- Words of lanes.
-
-pub none_on : (lane : ℕ) → is_on 0 lane ≡ false
-unfolding is_on
-none_on lane = ap (λ bit. eqb bit 1) (bit_at-zero lane)
-
--- the word of that many lanes has each of them
-pub all_on : (lanes lane : ℕ) → lanes ≤ 64 → lane < lanes → is_on ((2 ^ 64 - 1) / 2 ^ (64 - lanes)) lane ≡ true
-unfolding is_on
-all_on lanes lane few within =
-    let rest : 64 - (64 - lanes) ≡ lanes = omega arith in
-    eq-eqb (bit_at ((2 ^ 64 - 1) / 2 ^ (64 - lanes)) lane) 1
-    (ap (λ word. bit_at word lane) (ones_shr 64 (64 - lanes) (omega arith) ∙ ap (λ n. 2 ^ n - 1) rest) ∙ bit_at_ones lanes lane within)
 
 -- Bits of a set.
 

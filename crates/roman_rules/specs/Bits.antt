@@ -2,6 +2,7 @@
 use Rattle.std.specs.Prelude.{◌≡◌, ℕ, ◌<◌, ◌==◌, Bool, if◌then◌else◌}
 use Rattle.std.specs.Int.{bit_at}
 
+-- 1 where it holds, else 0
 abbrev pub bit_of : Bool → ℕ
 bit_of b = if b then 1 else 0
 

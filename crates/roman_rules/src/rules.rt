@@ -1,9 +1,9 @@
 //! What algorithms over the numbers of pairs ask of a system.
-ghost use Rattle.std.specs.Prelude.{◌≡◌, ℕ, ◌+◌, ◌*◌, ◌/◌, ◌<◌, ◌≤◌, Bool, true, false, not, ◌&&◌, List, [], ◌∷◌};
-ghost use Rattle.std.specs.Prelude.{length, sum_by, IsTrue, MatchOption};
-ghost use Rattle.roman_model.specs.Lists.{HoldsEachOnce, IsIn, below};
+ghost use Rattle.std.specs.Prelude.{◌≡◌, ℕ, ◌+◌, ◌*◌, ◌/◌, ◌<◌, ◌≤◌, Bool, true, false, not, ◌&&◌};
+ghost use Rattle.std.specs.Prelude.{length, sum_by, IsTrue};
+ghost use Rattle.roman_model.specs.Lists.{IsIn, below};
 ghost use Rattle.roman_model.specs.System.{has};
-ghost use Rattle.roman_model.specs.Arena.{Arena, Delegation, is_justified, mask as mask_of, back as predecessors};
+ghost use Rattle.roman_model.specs.Arena.{Arena, is_justified, mask as mask_of, back as predecessors};
 ghost use Rattle.roman_model.specs.Numbers.{Sizes};
 ghost use Rattle.roman_lanes.specs.Rows.{is_on, HasLanes, AreRows};
 ghost use Rattle.roman_lanes.specs.Flags.{has_flag};
@@ -24,9 +24,6 @@ use std::sync::ledger::Ledger;
 /// [`lanes`](Rules::lanes) neighbours each, and a word of a row has bit l for the pair at lane l. No
 /// call takes memory.
 pub trait Rules {
-    /// A walk backwards from a pair: plain data.
-    type Walk: Drop;
-
     /// The system, as removal lists and masks see it.
     ghost arena: { Self → Arena ℕ };
 
@@ -41,12 +38,6 @@ pub trait Rules {
 
     /// The numbers of states by which the pairs are numbered.
     ghost sizes: { Self → Sizes };
-
-    /// The walk is one through this system.
-    ghost is_walk: { Self → Self.Walk → Type 0 };
-
-    /// The delegations that are left of a walk.
-    ghost left: { Self → Self.Walk → List (Delegation ℕ) };
 
     /// Tells a prover what all systems have in common. It does nothing.
     fn known(&self)
@@ -69,18 +60,6 @@ pub trait Rules {
     fn is_ready(&self, k: u8) -> bool
         requires { k < (arena self.now).seats }
         ensures { result ≡ (arena self.now).ready k };
-
-    /// Whether the target allows the action `a` at the pair `p`.
-    fn allowed(&self, p: u32, a: u8) -> bool
-        requires pair { p < length (arena self.now).nodes }
-        requires action { a < (arena self.now).actions }
-        ensures { result ≡ (arena self.now).allows p a };
-
-    /// Whether the pair `p` meets clause 2 of an ND-simulation: where its target part is final, its
-    /// system part is.
-    fn final_ok(&self, p: u32) -> bool
-        requires { p < length (arena self.now).nodes }
-        ensures { result ≡ (arena self.now).fine p };
 
     /// How many pairs a row has: from 1 to 64. Pair p is lane `p % lanes` of row `p / lanes`.
     fn lanes(&self) -> u32
@@ -121,7 +100,8 @@ pub trait Rules {
             HasBits result (has (mask_of (arena self.now) gone (x * lanes self.now + lane) a)) };
 
     /// How many choices of a seat there are for the action `a` at all pairs of a row together: over the
-    /// pairs, the seats of the pair's mask. The words tell the pairs that aren't gone, row by row.
+    /// pairs, the seats of the pair's mask, at most 32 seats at each of 64 pairs. The words tell the pairs
+    /// that aren't gone, row by row.
     fn choices(&self, row: &Self::Row, words: &[u64], a: u8) -> u32
         requires row { (x : ℕ) × is_row self.now x row.now }
         requires action { a < (arena self.now).actions }
@@ -182,22 +162,4 @@ pub trait Rules {
             → ((q : ℕ) (r : Bool) → q < length (arena self.now).nodes → F.post alive.now q r → r ≡ not (gone q))
             → HasFinding (sizes self.now) k gone ((arena self.now).outcomes p a k) result }
         ensures step { steps.new ≡ steps.old + 1 };
-
-    /// Begins a walk backwards, through all delegations of which the pair `p2` is an outcome, each
-    /// once.
-    fn walk(&self, p2: u32) -> Self::Walk
-        requires { p2 < length (arena self.now).nodes }
-        ensures walk { is_walk self.now result }
-        ensures left { HoldsEachOnce (left self.now result) (predecessors (arena self.now) p2) };
-
-    /// Gives a delegation that is left of a walk through this system: a pair, an action and a seat.
-    /// `None` comes exactly where none is left. A delegation that is given counts as one step.
-    fn back<L: Ledger>(&self, walk: &mut Self::Walk, steps: &mut Steps<L>) -> Option<(u32, u8, u8)>
-        requires { is_walk self.now walk.old }
-        ensures walk { is_walk self.now walk.new }
-        ensures given { MatchOption result (left self.now walk.old ≡ [])
-            (λ d. left self.now walk.old
-            ≡ record { node = d.0; action = d.1; seat = d.2 } ∷ left self.now walk.new) }
-        ensures step { MatchOption result (steps.new ≡ steps.old)
-            (λ d. steps.new ≡ steps.old + 1) };
 }

@@ -1,6 +1,6 @@
 -- How the parts of a run end.
 use Rattle.std.proofs.Common.{◌≡◌, ℕ, ◌<◌, cond, Bool, true, false, IsTrue, IsFalse, MatchBool, List, Option, None, Some, IfSome, Result, Ok, Err, refl, sym, ap, ◌∙◌, subst}
-use Rattle.std.proofs.lemmas.Bool.{false≢true, true≢false, cond-true, cond-false, lt-ltb}
+use Rattle.std.proofs.lemmas.Bool.{false≢true, true≢false, cond-true, lt-ltb}
 use Rattle.roman_io.specs.Shelf.{Texts}
 use Rattle.roman_io.specs.Sink.{Puts}
 use Rattle.roman_joint.specs.NamedSys.{cells}
@@ -37,9 +37,6 @@ writes_put IsRun old new text ends result (Err e) puts finishes run whole =
 
 pub opens_past : (meaning : Result PlainLibrary Refusal) (library : PlainLibrary) → meaning ≡ Ok library → IsTrue (is_past_limit library) → opening_of meaning ≡ Past library
 opens_past meaning library means past = ap opening_of means ∙ cond-true (is_past_limit library) (Past library) (Accepted library) past
-
-pub opens_accepted : (meaning : Result PlainLibrary Refusal) (library : PlainLibrary) → meaning ≡ Ok library → IsFalse (is_past_limit library) → opening_of meaning ≡ Accepted library
-opens_accepted meaning library means within = ap opening_of means ∙ cond-false (is_past_limit library) (Past library) (Accepted library) within
 
 -- an accepted document has that meaning, and is within its limit
 pub record IsAccepted (meaning : Result PlainLibrary Refusal) (library : PlainLibrary) : Type 0 where

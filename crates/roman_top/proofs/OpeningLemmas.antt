@@ -1,6 +1,5 @@
 -- Documents that are opened, and what becomes of a run without one.
-use Rattle.std.proofs.Common.{◌≡◌, ℕ, ◌<◌, ◌≤◌, List, [], Option, IfSome, Result, Ok, Err, refl, sym, ◌∙◌, subst}
-use Rattle.std.proofs.lemmas.Bool.{le-ltb}
+use Rattle.std.proofs.Common.{◌≡◌, ℕ, ◌<◌, List, [], Option, IfSome, Result, Ok, Err, refl, sym, ◌∙◌, subst}
 use Rattle.roman_io.specs.Faults.{HasCause, Rose}
 use Rattle.roman_io.specs.Shelf.{Texts}
 use Rattle.roman_io.specs.Sink.{Wrote, Puts}
@@ -9,13 +8,13 @@ use Rattle.roman_joint.specs.NamedSys.{cells}
 use Rattle.roman_library.specs.Documents.{library_of}
 use Rattle.roman_library.specs.Library.{PlainLibrary}
 use Rattle.roman_library.specs.declared.refusal.Refusal.{Refusal}
-use Rattle.roman_top.specs.Endings.{Accepts, Leaves, Opens, OpensLibrary, Finishes}
-use Rattle.roman_top.specs.Opening.{document_opening, library_system, limit_line}
+use Rattle.roman_top.specs.Endings.{Leaves, Opens, OpensLibrary, Finishes}
+use Rattle.roman_top.specs.Opening.{library_system, limit_line}
 use Rattle.roman_top.specs.RefusalLine.{refusal_line}
 use Rattle.roman_top.specs.World.{desk}
 use Rattle.roman_top.specs.declared.status.Status.{Status}
 use Rattle.roman_top.specs.declared.status.Status.TheVariants as status
-use Rattle.roman_top.proofs.EndingLemmas.{told_more, told_all, opens_accepted, refused, exceeded}
+use Rattle.roman_top.proofs.EndingLemmas.{told_all, refused, exceeded}
 
 -- what a line leaves behind that ends a run
 module _ {X : Type 0} (told told_now : Option Texts) (shelf shelf_now : ℕ) (old new : Option (List ℕ)) (out out_mid out_now : ℕ) (result : Status) (texts : told_now ≡ told) (shelves : shelf_now ≡ shelf) (outs : out_mid ≡ out) where
@@ -66,17 +65,6 @@ module _ {X Y : Type 0} (view : Y → PlainLibrary) (Holds : PlainLibrary → X 
   opens_away result r = record { opens = r.reads; leaves = record { away = r.leaves.away; stops = r.leaves.stops; texts = r.leaves.texts; shelf = r.leaves.shelf; out = r.leaves.out } }
 
   module _ (y : Y) (read : OpensLibrary view name (desk told shelf old out) (desk told_now shelf_now mid out_mid) (Ok y)) where
-    -- it is within its limit
-    pub opens_ok : (x : X) → cells (library_system (view y)) ≤ (view y).limit → Holds (view y) x → Opens Holds name (desk told shelf old out) (desk told_now shelf_now mid out_mid) (Ok x)
-    opens_ok x within holds = record {
-      opens = told_more told (λ texts. library_of texts name ≡ Ok (view y)) (λ texts. Accepts (document_opening texts name) (λ library. Holds library x)) read.reads (λ texts is. record {
-        library = view y;
-        accepted = opens_accepted (library_of texts name) (view y) is (le-ltb (view y).limit (cells (library_system (view y))) within);
-        holds = holds;
-      });
-      leaves = record { away = tt; stops = read.leaves.stops; texts = read.leaves.texts; shelf = read.leaves.shelf; out = read.leaves.out };
-    }
-
     -- there is no memory
     pub opens_none : Opens Holds name (desk told shelf old out) (desk told_now shelf_now mid out_mid) (Err status.Memory)
     opens_none = record {

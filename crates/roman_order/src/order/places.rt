@@ -36,7 +36,7 @@ impl Order {
     }
 }
 
-// The place of the first entry of the pair `p`, which is looked for from the first entry on.
+/// The place of the first entry of the pair `p`, which is looked for from the first entry on.
 fn place_in(entries: &[Removal], p: u32) -> Option<u32>
     requires { length entries.now < 2 ^ 32 }
     ensures { result ≡ place_in_list (entries_of entries.now) p }
@@ -45,7 +45,7 @@ fn place_in(entries: &[Removal], p: u32) -> Option<u32>
     Some(place as u32)
 }
 
-// Writes each entry's place as its pair's stamp, into a table that has none.
+/// Writes each entry's place as its pair's stamp, into a table that has none.
 fn write_stamps(stamps: &mut [u32], entries: &[Removal])
     requires blank { (p : ℕ) → p < length stamps.old → slice_index stamps.old p ≡ 2 ^ 32 - 1 }
     requires in_range { All (λ x. x.pair < length stamps.old) entries.now }

@@ -49,7 +49,7 @@ impl Order {
     }
 }
 
-// Adds an entry for each pair at the lanes `lost` from `first` on.
+/// Adds an entry for each pair at the lanes `lost` from `first` on.
 fn write_lanes(entries: &mut Vec<Removal>, first: u32, lost: u64, reason: Reason)
     requires room { length entries.old.items + length (set_lanes lost) ≤ vec_capacity entries.old }
     requires few { (lane : ℕ) → is_on lost lane ≡ true → first + lane < 2 ^ 32 }

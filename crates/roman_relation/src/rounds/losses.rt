@@ -26,6 +26,7 @@ pub(crate) fn mark_losses<J: Rules, L: Ledger>(
     ensures cost { steps.new ≤ steps.old + fall (J.arena joint.now) (drop start order.new.list) }
 {
     joint.known();
+    order.known();
     let lanes = joint.lanes();
     let mut first = u32::MAX;
     for i in start..order.len() {

@@ -14,7 +14,7 @@ loop-i-init g c = record { filling = fill_whole _ _ _ _ c.new-page.ensures.empty
 pub marked-requires : goal.marked-requires
 marked-requires g c =
     let n = c.args.joint.now in
-    omega (arith, c.requires.shaped, entry_node (arena_of n) c.args.order.now c.loop-i.i (as_entry c.entry-p.result) c.requires.shaped c.len-i-end.ensures.in_range c.entry-p.ensures)
+    omega (arith, c.requires.shaped, entry_node (arena_of n) c.args.order.now c.loop-i.i (as_entry c.entry-p.result) c.requires.shaped c.known-2.ensures.in_range c.entry-p.ensures)
 
 pub loop-i-preserved-then-not-marked : goal.loop-i-preserved-then-not-marked
 loop-i-preserved-then-not-marked g c =

@@ -1,10 +1,10 @@
 use Rattle.std.proofs.Common.{◌++◌, take, drop, refl, ◌∙◌, subst, arith, length-append, length-drop, length-take-le}
 use Rattle.std.proofs.lemmas.List.{length-take}
 use Rattle.std.proofs.lemmas.Result.{err_from_is_err_and}
-use Rattle.roman_io.proofs.CallerLemmas.{Gave-then}
+use Rattle.roman_io.proofs.CallerLemmas.{Gave-then, gave_at_most, had_all}
 use Rattle.roman_io.specs.Faults.{Rose}
 use Rattle.roman_check.specs.Readers.{IsReading}
-use Rattle.roman_check.proofs.SourceSteps.{had_all, at_end, gave_at_most, failed_clean, cut_piece, rejected_at, passed_limit}
+use Rattle.roman_check.proofs.SourceSteps.{at_end, failed_clean, cut_piece, rejected_at, passed_limit}
 use Rattle.roman_check.proofs.certificate.read.Goals as goal
 
 pub returns-in_err-count-clause-comes : goal.returns-in_err-count-clause-comes

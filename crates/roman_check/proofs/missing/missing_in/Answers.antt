@@ -3,8 +3,7 @@ use Rattle.std.specs.List.{list_any}
 use Rattle.roman_model.specs.Arena.{is_listed, is_justified}
 use Rattle.roman_model.specs.Certificate.{reasons}
 use Rattle.roman_lanes.specs.Rows.{is_on}
-use Rattle.roman_lanes.proofs.CallerLemmas.{on_and, on_zero}
-use Rattle.roman_check.proofs.RemainLemmas.{full_on, full_off}
+use Rattle.roman_lanes.proofs.CallerLemmas.{on_and, on_full, on_full_past, on_zero}
 use Rattle.roman_check.proofs.ReasonLemmas.{row_starts, and_none, and_all}
 use Rattle.roman_check.proofs.missing.missing_in.Goals as goal
 
@@ -13,7 +12,7 @@ row-row-requires g c = row_starts c.args.x _ (g.J.Rules.lanes c.args.joint.now) 
 
 -- a lane of a row's pairs that are left
 left_on : (w lanes lane : ℕ) → lanes ≤ 64 → lane < lanes → is_on (bit_and w ((2 ^ 64 - 1) / 2 ^ (64 - lanes))) lane ≡ is_on w lane
-left_on w lanes lane few l = on_and w ((2 ^ 64 - 1) / 2 ^ (64 - lanes)) lane ∙ and_all (is_on w lane) (is_on ((2 ^ 64 - 1) / 2 ^ (64 - lanes)) lane) (full_on lanes lane few l)
+left_on w lanes lane few l = on_and w ((2 ^ 64 - 1) / 2 ^ (64 - lanes)) lane ∙ and_all (is_on w lane) (is_on ((2 ^ 64 - 1) / 2 ^ (64 - lanes)) lane) (on_full lanes lane few l)
 
 pub returns-then-left-eq0-clause-missing : goal.returns-then-left-eq0-clause-missing
 returns-then-left-eq0-clause-missing g c L rows lane m =
@@ -36,4 +35,4 @@ pub returns-clause-within : goal.returns-clause-within
 returns-clause-within g c lane past =
     let w = get_or c.args.words.now c.args.x 0 in
     let full = (2 ^ 64 - 1) / 2 ^ (64 - c.lanes.result) in
-    c.missing_among.ensures.within lane (on_and w full lane ∙ and_none (is_on w lane) (is_on full lane) (full_off c.lanes.result lane (omega (arith, c.lanes.ensures.few)) (omega (arith, c.lanes.ensures.value))))
+    c.missing_among.ensures.within lane (on_and w full lane ∙ and_none (is_on w lane) (is_on full lane) (on_full_past c.lanes.result lane (omega (arith, c.lanes.ensures.few)) (omega (arith, c.lanes.ensures.value))))

@@ -1,5 +1,6 @@
 -- The word has the bits of the states so far.
-use Rattle.roman_guard.specs.Meaning.{holds, Marks}
+use Rattle.roman_guard.specs.Meaning.{holds}
+use Rattle.roman_guard.proofs.MarkLemmas.{Marks}
 use Rattle.roman_guard.proofs.set.compile.Given as goal
 
 abbrev pub invariant-loop-e : goal.invariant-loop-e

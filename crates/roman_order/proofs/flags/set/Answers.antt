@@ -1,5 +1,6 @@
 use Rattle.std.proofs.Common.{◌%◌, ◌/◌, refl, ◌∙◌, arith}
-use Rattle.roman_order.proofs.Words.{has_flag-written, has_flag-others, on_set_same, on_set_other}
+use Rattle.roman_lanes.proofs.CallerLemmas.{on_set_same, on_set_other}
+use Rattle.roman_order.proofs.Words.{has_flag-written, has_flag-others}
 use Rattle.roman_order.proofs.flags.set.Goals as goal
 
 pub returns-clause-set : goal.returns-clause-set
@@ -7,4 +8,4 @@ returns-clause-set c = has_flag-written c.args.words.now (c.args.p / 64) _ c.arg
 
 pub returns-clause-others : goal.returns-clause-others
 returns-clause-others c q ne =
-    has_flag-others c.args.words.now (c.args.p / 64) _ c.args.p q c.requires refl (λ k l n. on_set_other _ (c.args.p % 64) k (omega arith) l n) ne
+    has_flag-others c.args.words.now (c.args.p / 64) _ c.args.p q c.requires refl (λ k l n. on_set_other _ (c.args.p % 64) k (omega arith) n) ne

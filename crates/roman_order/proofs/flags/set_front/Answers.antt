@@ -1,7 +1,7 @@
 use Rattle.std.proofs.Common.{◌≡◌, ℕ, zero, ◌-◌, ◌/◌, ◌%◌, ◌^◌, ◌<◌, List, length, drop, replicate, ap, sym, ◌∙◌, arith}
 use Rattle.std.proofs.Math.ListN.{set}
 use Rattle.std.proofs.lemmas.List.{length-append, length-replicate, length-drop, get_or-set_same, get_or-set_other}
-use Rattle.std.proofs.lemmas.Nat.Bits.{ones_shr}
+use Rattle.roman_lanes.proofs.CallerLemmas.{full_word}
 use Rattle.roman_order.proofs.Words.{has_flag-front, front_table, front_filled, front_full, front_rest}
 use Rattle.roman_order.proofs.flags.set_front.Goals as goal
 
@@ -14,8 +14,7 @@ returns-then-end-ne0 c p =
     let value = (2 ^ 64 - 1) / 2 ^ (64 - part) in
     let room : whole < length table =
     omega (arith, c.requires, length-append (replicate whole (2 ^ 64 - 1)) (drop whole (replicate n zero)), length-replicate whole (2 ^ 64 - 1), length-drop whole (replicate n zero), length-replicate n zero) in
-    let back : 64 - (64 - part) ≡ part = omega arith in
-    let shifted : value ≡ 2 ^ part - 1 = ones_shr 64 (64 - part) (omega arith) ∙ ap (λ k. 2 ^ k - 1) back in
+    let shifted : value ≡ 2 ^ part - 1 = full_word part (omega arith) in
     rw (front_filled whole n _ _ (omega (arith, c.requires)) (c.fill.ensures.after (λ y same. same)) (c.fill-2.ensures.after (λ y same. same)))
     (has_flag-front (set table whole value) c.args.end
     (λ i h. get_or-set_other table whole i value 0 (λ e. omega arith) ∙ front_full whole n i h)

@@ -17,9 +17,9 @@ mark_losses-requires-clause-marking g c =
     let b = c.args.order.now in
     let m = c.judge_marked.new.order in
     let start = c.len-start.result in
-    let some : 0 < n = omega (arith, c.requires.ready.shaped.lanes, c.len-start.ensures.lanes.0) in
+    let some : 0 < n = omega (arith, c.requires.ready.shaped.lanes, c.known-2.ensures.lanes.0) in
     let long = ap (λ (y : Board). length y.before * n) c.judge_marked.ensures.rest
-    ∙ (ap (λ k. k * n) c.len-start.ensures.before ∙ shaped_pairs A n b c.requires.ready.shaped) in
+    ∙ (ap (λ k. k * n) c.known-2.ensures.before ∙ shaped_pairs A n b c.requires.ready.shaped) in
     marking_starts A n start m some (omega (arith, long)) (c.judge_marked.ensures.round start (round_begins A n start b c.len-start.ensures.value c.requires.ready))
 
 pub returns : goal.returns
@@ -39,12 +39,12 @@ returns g c =
     let same : d.list ≡ m.list = ap (λ (y : Board). y.list) c.mark_losses.ensures.rest in
     let frame : SameFrame b d = subst (SameFrame b) (sym c.mark_losses.ensures.rest) (subst (SameFrame b) (sym c.judge_marked.ensures.rest) (refl, refl, refl, refl)) in
     let shaped = shaped_like A n b d frame ready.shaped in
-    let long : length d.before * n ≡ length A.nodes = ap (λ k. k * n) c.known-2.ensures.before ∙ shaped_pairs A n d shaped in
+    let long : length d.before * n ≡ length A.nodes = ap (λ k. k * n) c.known-3.ensures.before ∙ shaped_pairs A n d shaped in
     record {
       ready = record {
         shaped = shaped;
         valid = subst (IsOrder A) (sym same) round.valid;
-        kept = kept_ends A n start d (omega (arith, ready.shaped.lanes, c.len-start.ensures.lanes.0)) (omega (arith, long)) c.mark_losses.ensures.marking;
+        kept = kept_ends A n start d (omega (arith, ready.shaped.lanes, c.known-2.ensures.lanes.0)) (omega (arith, long)) c.mark_losses.ensures.marking;
         fine = λ p l off. ready.fine p l (begins_unlisted A b.list m.list p begins (subst (λ L. IsFalse (is_listed A L p)) same off));
         served = served_next A c.known.ensures.numbered n start d c.mark_losses.ensures.marking
             (λ p l. subst (λ L. (a : ℕ) → IsFalse (is_listed A L p) → IsFalse (is_justified A (is_listed A (take start L)) p (Act a))) (sym same) (done p l));
@@ -60,6 +60,6 @@ returns g c =
           let all : m.list ≡ b.list = same_list b.list m.list begins (sym (ap length same) ∙ as_long) in
           subst (IsSettled A) (sym same) (settled_round A c.known.ensures.numbered start m round.valid (c.len-start.ensures.value ∙ sym (ap length all)) done
           (λ p l off. ready.fine p l (subst (λ L. IsFalse (is_listed A L p)) all off))
-          (λ p t. omega (arith, c.len-start.ensures.in_range p (sym (ap (λ L. has_entry L p) all) ∙ t), ready.shaped.pairs)));
+          (λ p t. omega (arith, c.known-2.ensures.in_range p (sym (ap (λ L. has_entry L p) all) ∙ t), ready.shaped.pairs)));
       cost = search rules;
     }

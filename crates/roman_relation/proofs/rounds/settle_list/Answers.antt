@@ -68,7 +68,7 @@ rounds-preserved g c =
       c.len.ensures.value,
       c.if-len-start.false,
     ) in
-    let in_range : (p : ℕ) → has_entry d.list p ≡ true → p < length A.nodes = λ p t. omega (arith, c.len.ensures.in_range p t, c.play_round.ensures.ready.shaped.pairs) in
+    let in_range : (p : ℕ) → has_entry d.list p ≡ true → p < length A.nodes = λ p t. omega (arith, c.known-in-rounds.ensures.in_range p t, c.play_round.ensures.ready.shaped.pairs) in
     record {
       ready = awaits_levels A (g.J.Rules.lanes c.args.joint.now) d e _ is.rest c.play_round.ensures.ready;
       begins = subst (Begins b.list) (sym list) (begins_on b.list old.list d.list c.rounds.invariant.begins goes.begins);

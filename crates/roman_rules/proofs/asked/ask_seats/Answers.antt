@@ -5,9 +5,10 @@ use Rattle.roman_model.specs.Lists.{below}
 use Rattle.roman_model.specs.Arena.{is_justified}
 use Rattle.roman_model.specs.declared.reason.Reason.TheVariants.{Act}
 use Rattle.roman_model.proofs.CallerLemmas.{unallowed_unjustified}
+use Rattle.roman_lanes.proofs.CallerLemmas.{on_zero, on_full}
 use Rattle.roman_rules.specs.Asked.{readings_of}
 use Rattle.roman_rules.specs.Bits.{bit_of}
-use Rattle.roman_rules.proofs.Asking.{none_on, all_on, bit_off, bit_on, readings_of-allowed}
+use Rattle.roman_rules.proofs.Asking.{bit_off, bit_on, readings_of-allowed}
 use Rattle.roman_rules.proofs.asked.ask_seats.Goals as goal
 
 pub returns-then-row_actions-a-eq0-clause-lost : goal.returns-then-row_actions-a-eq0-clause-lost
@@ -18,7 +19,7 @@ returns-then-row_actions-a-eq0-clause-lost g c x gone row words lane within =
     let bit : bit_at c.row_actions.result c.args.a ≡ bit_of (A.allows p c.args.a) = (c.row_actions.ensures x lane row within).each c.args.a (omega arith) in
     let off : IsFalse (A.allows p c.args.a) =
     bit_off (A.allows p c.args.a) (sym bit ∙ sym (shr_and_one c.row_actions.result c.args.a) ∙ c.if-row_actions-a-eq0.true) in
-    none_on lane ∙ sym (unallowed_unjustified A gone p c.args.a off)
+    on_zero lane ∙ sym (unallowed_unjustified A gone p c.args.a off)
 
 pub returns-clause-lost : goal.returns-clause-lost
 returns-clause-lost g c x gone row words lane within =
@@ -27,7 +28,7 @@ returns-clause-lost g c x gone row words lane within =
     let few = c.lanes.ensures.few.1 in
     let inside : lane < c.lanes.result = omega (arith, c.lanes.ensures.value) in
     c.unserved.ensures.lost x gone row words lane within
-    ∙ ap (λ on. on && is_justified A gone p (Act c.args.a)) (all_on c.lanes.result lane few inside)
+    ∙ ap (λ on. on && is_justified A gone p (Act c.args.a)) (on_full c.lanes.result lane few inside)
 
 pub returns-clause-cost : goal.returns-clause-cost
 returns-clause-cost g c x lane row within =

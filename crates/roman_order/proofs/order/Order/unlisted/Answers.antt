@@ -9,4 +9,4 @@ overflow_mul-result c = omega (arith, c.self.invariant.sized.room, c.self.invari
 pub returns-clause-counted : goal.returns-clause-counted
 returns-clause-counted c =
     let b = c.args.self.now in
-    omega (arith, c.len.ensures.value, ap (λ (b : Board). pairs_of b) c.self.view_is, count_by-unlisted (pairs_of b) b.list c.len.ensures.distinct c.len.ensures.in_range)
+    omega (arith, c.len.ensures.value, ap (λ (b : Board). pairs_of b) c.self.view_is, count_by-unlisted (pairs_of b) b.list c.known.ensures.distinct c.known.ensures.in_range)

@@ -17,7 +17,7 @@ loop-i-preserved-then-p-first g c =
     let d = c.loop-i.order in
     let p = c.entry-p.result.0 in
     let listed = entry_listed A c.known.ensures.numbered d.list c.loop-i.i (as_entry c.entry-p.result) c.entry-p.ensures in
-    let pair = entry_within A c.known.ensures.numbered n c.loop-i.i b d (as_entry c.entry-p.result) c.requires.shaped c.len-i-end.ensures.in_range
+    let pair = entry_within A c.known.ensures.numbered n c.loop-i.i b d (as_entry c.entry-p.result) c.requires.shaped c.known-2.ensures.in_range
     (ap (λ (y : Board). y.list) c.loop-i.invariant.rest) c.entry-p.ensures in
     record {
       marking = noted_more A c.known.ensures.numbered n c.args.start c.loop-i.i d (as_entry c.entry-p.result) c.entry-p.ensures (c.loop-i.invariant.row p pair c.if-first-p.true (omega (arith, c.if-p-first.true, c.lanes-lanes.ensures.value)) listed) c.loop-i.invariant.marking;
@@ -29,7 +29,7 @@ loop-i-preserved-then-p-first g c =
 pub mark_loss-first-requires-clause-pair : goal.mark_loss-first-requires-clause-pair
 mark_loss-first-requires-clause-pair g c =
     entry_within (g.J.Rules.arena c.args.joint.now) c.known.ensures.numbered (g.J.Rules.lanes c.args.joint.now) c.loop-i.i c.args.order.now c.loop-i.order (as_entry c.entry-p.result)
-    c.requires.shaped c.len-i-end.ensures.in_range (ap (λ (y : Board). y.list) c.loop-i.invariant.rest) c.entry-p.ensures
+    c.requires.shaped c.known-2.ensures.in_range (ap (λ (y : Board). y.list) c.loop-i.invariant.rest) c.entry-p.ensures
 
 pub mark_loss-first-requires-clause-listed : goal.mark_loss-first-requires-clause-listed
 mark_loss-first-requires-clause-listed g c =
