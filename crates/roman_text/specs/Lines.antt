@@ -1,7 +1,7 @@
 -- The lines of a stream of bytes, as far as it has come.
 use Rattle.std.specs.Prelude.{◌≡◌, ℕ, Bool, false, ◌==◌, List, [], ◌∷◌, ◌++◌, take}
 use Rattle.std.specs.List.{slice_split, All}
-use Rattle.roman_model.specs.Lines.{ended_lines, text_of_lines}
+use Rattle.roman_model.specs.Lines.{text_of_lines}
 
 -- the byte that ends a line
 abbrev pub is_newline : ℕ → Bool
@@ -34,8 +34,3 @@ pub record IsSplit (bytes : List ℕ) (lines : List (List ℕ)) (rest : List ℕ
 -- as much of a line as tells its shape: one byte more than a line may have
 unfoldable pub kept : List ℕ → List ℕ
 kept line = take 257 line
-
--- of the bytes of a stream so far these lines are whole, and this is held of the next
-pub record HasTaken (bytes : List ℕ) (lines : List (List ℕ)) (held : List ℕ) : Type 0 where
-  pub whole : lines ≡ ended_lines bytes
-  pub rest : held ≡ kept (unfinished bytes)
