@@ -5,7 +5,7 @@ use itoa::Buffer;
 use roman_read::Name;
 use std::marker::Model;
 
-// The greatest number of bytes of a piece: no line has more.
+/// The greatest number of bytes of a piece: no line has more.
 const ROOM: usize = 128;
 
 /// Up to 128 bytes that are put together from parts. Contracts see the list of them.
@@ -80,7 +80,7 @@ impl Piece {
         self.text(Buffer::new().format(n).as_bytes())
     }
 
-    // Adds bytes at the end.
+    /// Adds bytes at the end.
     fn add(&mut self, bytes: &[u8])
         requires { length self.old + length bytes.now ≤ 128 }
         ensures { self.new ≡ self.old ++ bytes.now }

@@ -21,7 +21,7 @@ impl Page {
         Ok(())
     }
 
-    // Adds a reply that has room.
+    /// Adds a reply that has room.
     fn add_reply(&mut self, reply: &Reply)
         requires { length self.old ≤ 3968 }
         ensures { self.new ≡ self.old ++ reply_text reply.now }
@@ -53,7 +53,7 @@ impl Page {
         }
     }
 
-    // Adds the line that gives the new state of the target and of the environment.
+    /// Adds the line that gives the new state of the target and of the environment.
     fn add_now(&mut self, target: &Name, env: &Name)
         requires { length self.old ≤ 3968 }
         ensures { self.new ≡ self.old ++ reply_text (reply.Now target.now env.now) }
@@ -62,7 +62,7 @@ impl Page {
         self.add_name(b"", env, b"\n");
     }
 
-    // Adds the line that counts what the replay kept and what was added.
+    /// Adds the line that counts what the replay kept and what was added.
     fn add_kept(&mut self, kept: u32, added: u32)
         requires { length self.old ≤ 3968 }
         ensures { self.new ≡ self.old ++ reply_text (reply.Kept kept added) }
@@ -72,7 +72,7 @@ impl Page {
         self.add(b"\n");
     }
 
-    // Adds a number that has room, and the bytes before it.
+    /// Adds a number that has room, and the bytes before it.
     fn add_counted(&mut self, before: &[u8], n: u32)
         requires { length self.old + length before.now ≤ 4086 }
         ensures text { self.new ≡ self.old ++ (before.now ++ decimal n) }
