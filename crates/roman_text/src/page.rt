@@ -2,12 +2,14 @@
 ghost use Rattle.std.specs.Prelude.{◌≡◌, ◌+◌, ◌≤◌, ◌∷◌, ◌++◌, [], length, decimal, OnOk};
 ghost use Rattle.roman_io.specs.Faults.{HasCause};
 ghost use Rattle.roman_io.specs.Sink.{Puts};
-ghost use Rattle.roman_model.specs.declared.limits.TheConstants.{PIECE_BYTES};
+ghost use Rattle.roman_model.specs.declared.limits.TheConstants.{MAX_NAME_BYTES, PIECE_BYTES};
+ghost use Rattle.roman_text.specs.declared.piece.TheConstants.{LONGEST};
 ghost use Rattle.roman_text.specs.Pages.{Gathers};
 ghost use Rattle.roman_text.specs.Report.{line_text};
 
 mod replies;
 
+use crate::piece::LONGEST;
 use crate::report::{ReportLine, report_piece};
 use itoa::{Buffer, write_digits};
 use roman_io::{Failed, Sink};
@@ -17,9 +19,6 @@ use std::marker::Model;
 
 /// The greatest number of digits that a number has.
 const DIGITS: usize = 10;
-
-/// The greatest number of bytes of a line, as of each part of one.
-const LONGEST: usize = 128;
 
 /// A buffer of 4,096 bytes on their way to a sink, so that many short texts are put as one piece.
 /// Contracts see the bytes that are held: the sink has those before them. Where a call fails, the
@@ -151,7 +150,7 @@ impl Page {
     /// Puts what is held where the longest line has no room behind it.
     fn make_room<O: Sink>(&mut self, out: &mut O) -> Result<(), Failed>
         ensures gathers { Gathers (O.written out.old) (O.written out.new) self.new self.old result }
-        ensures room { OnOk result (length self.new ≤ 3968) }
+        ensures room { OnOk result (length self.new + LONGEST ≤ PIECE_BYTES) }
         ensures cause { HasCause (O.faults out.old) (O.faults out.new) result }
     {
         if self.room() >= LONGEST {
@@ -179,9 +178,9 @@ impl Page {
 
     /// Adds a name that has room, with the bytes before it and behind it.
     fn add_name(&mut self, before: &[u8], name: &Name, behind: &[u8])
-        requires { length self.old + length before.now + length behind.now ≤ 4064 }
+        requires { length self.old + length before.now + length behind.now + MAX_NAME_BYTES ≤ PIECE_BYTES }
         ensures text { self.new ≡ self.old ++ (before.now ++ (name.now ++ behind.now)) }
-        ensures len { length self.new ≤ length self.old + length before.now + length behind.now + 32 }
+        ensures len { length self.new ≤ length self.old + length before.now + length behind.now + MAX_NAME_BYTES }
     {
         self.add(before);
         self.add(name.bytes());
