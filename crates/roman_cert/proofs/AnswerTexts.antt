@@ -1,36 +1,29 @@
 -- The lines of the services that may answer to an entry, one after the other.
-use Rattle.std.proofs.Common.{◌≡◌, ℕ, ◌+◌, ◌<◌, ◌≤◌, true, List, [], ◌∷◌, ◌++◌, map, length, drop, filter, Option, Some, slice_get, IsTrue, IsFalse, refl, sym, ap, ap₂, ◌∙◌, subst, arith, add-one, drop-cons}
+use Rattle.std.proofs.Common.{◌≡◌, ℕ, ◌+◌, ◌<◌, ◌≤◌, true, List, [], ◌∷◌, ◌++◌, map, length, drop, filter, Option, Some, slice_get, IsTrue, IsFalse, refl, sym, ap, ap₂, ◌∙◌, arith, add-one, drop-cons}
 use Rattle.std.specs.Option.{option_map}
 use Rattle.std.proofs.lemmas.List.{drop_all, length-map}
 use Rattle.std.proofs.lemmas.Bool.{cond-true, cond-false}
-use Rattle.std.proofs.lemmas.Option.{same_Some}
 use Rattle.roman_model.specs.Lines.{text_of_lines}
 use Rattle.roman_model.specs.Lists.{below}
 use Rattle.roman_model.specs.System.{Pair, IsSys}
 use Rattle.roman_model.specs.SystemArena.{is_ready, arena}
 use Rattle.roman_model.specs.Arena.{Entry}
 use Rattle.roman_model.specs.Numbers.{sizes_of, count, pair_at, numbered, entry_at}
-use Rattle.roman_model.specs.declared.reason.Reason.{Reason}
 use Rattle.roman_model.specs.declared.reason.Reason.TheVariants.{Final, Act}
 use Rattle.roman_model.specs.Explanation.{answer, answer_line}
-use Rattle.roman_model.proofs.CallerLemmas.{get_or-below, length-below, AreNumbers, answer_at}
+use Rattle.roman_model.proofs.CallerLemmas.{get_or-below, length-below, AreNumbers, get_in, answer_at}
 use Rattle.roman_joint.specs.NamedSys.{NamedSys, system_of, seat_of, IsNamedSys}
 use Rattle.roman_joint.specs.Names.{names_in}
 use Rattle.roman_order.specs.Board.{Board, pairs_of, as_entry, has_entry}
 use Rattle.roman_relation.specs.Greatest.{arena_of}
-use Rattle.roman_text.proofs.CallerLemmas.{IsFilling}
+use Rattle.roman_relation.proofs.CallerLemmas.{listed_numbers}
 use Rattle.roman_cert.specs.Slices.{answers_text}
 use Rattle.roman_cert.proofs.Texts.{text_of_lines-append}
-use Rattle.roman_cert.proofs.Answering.{entry_in, listed_numbers}
 
 numbers_from : (n k : ℕ) → k < n → drop k (below n) ≡ k ∷ drop (k + 1) (below n)
 numbers_from n k l =
     let within : k < length (below n) = omega (arith, length-below n) in
     drop-cons (below n) k 0 within ∙ ap₂ (λ (m j : ℕ). m ∷ drop j (below n)) (get_or-below n k 0 l) (sym (add-one k))
-
--- the entry at a place, where that is its reason
-pub entry_is : (L : List (Entry ℕ)) (i : ℕ) (r : ℕ × Reason) (reason : Reason) (x : Entry ℕ) → slice_get L i ≡ Some (as_entry r) → r.1 ≡ reason → slice_get L i ≡ Some x → x ≡ record { node = r.0; reason = reason }
-entry_is L i r reason x e is f = same_Some x (as_entry r) (sym f ∙ e) ∙ ap (λ y. record { node = r.0; reason = y }) is
 
 -- the lines of the ready seats from place k on, to the action a at the pair of number p
 pub answers_from : NamedSys → List (Entry ℕ) → ℕ → ℕ → ℕ → List ℕ
@@ -38,23 +31,15 @@ answers_from n L p a k =
     let s = system_of n in
     text_of_lines (map (λ j. answer_line (names_in n) j (answer (arena s) (map (entry_at s) L) (pair_at (sizes_of s) p) a j)) (filter (λ j. is_ready (slice_get s.seats j)) (drop k (below (length s.seats)))))
 
-answers_begin : (n : NamedSys) (L : List (Entry ℕ)) (x : Entry ℕ) (p a : ℕ) → x ≡ record { node = p; reason = Act a } → answers_from n L p a 0 ≡ answers_text n L x
+-- from the first place on they are those of the entry
+pub answers_begin : (n : NamedSys) (L : List (Entry ℕ)) (p a : ℕ) → answers_from n L p a 0 ≡ answers_text n L (as_entry (p, Act a))
 unfolding answers_from answers_text
-answers_begin n L x p a is = ap (answers_text n L) (sym is)
+answers_begin n L p a = refl
 
--- what is left of the lines of those seats is left of the lines of the entry
-pub answers_filling : (old now : Option (List ℕ)) (page held rest : List ℕ) (n : NamedSys) (L : List (Entry ℕ)) (x : Entry ℕ) (p a : ℕ) → x ≡ record { node = p; reason = Act a } →
-    IsFilling old now held rest (page ++ answers_from n L p a 0) → IsFilling old now held rest (page ++ answers_text n L x)
-answers_filling old now page held rest n L x p a is f = subst (λ (bs : List ℕ). IsFilling old now held rest (page ++ bs)) (answers_begin n L x p a is) f
-
--- there are none where the reason is no action
-pub no_answers : (n : NamedSys) (L : List (Entry ℕ)) (x : Entry ℕ) → ((a : ℕ) → x.reason ≡ Act a → ⊥) → [] ≡ answers_text n L x
+-- there are none where clause 2 fails
+pub no_answers : (n : NamedSys) (L : List (Entry ℕ)) (p : ℕ) → answers_text n L (as_entry (p, Final)) ≡ []
 unfolding answers_text
-no_answers n L x none = by_reason x.reason none
-  where
-    by_reason : (r : Reason) → ((a : ℕ) → r ≡ Act a → ⊥) → [] ≡ answers_text n L (record { node = x.node; reason = r })
-    by_reason Final h = refl
-    by_reason (Act a) h = absurd (h a refl)
+no_answers n L p = refl
 
 -- a ready seat comes next
 ready_next : (n : NamedSys) (L : List (Entry ℕ)) (p a k : ℕ) (found : Option ℕ) (bytes : List ℕ) → IsSys (system_of n) → AreNumbers (system_of n) L → p < count (sizes_of (system_of n)) →
@@ -73,12 +58,12 @@ ready_next n L p a k found bytes sys are l within ready is said =
     ∙ ap (λ (o : Option Pair). text_of_lines (answer_line (names_in n) k o ∷ []) ++ text_of_lines (map line rest)) (sym (answer_at s sys L are p l a k) ∙ ap (option_map (pair_at (sizes_of s))) (sym is))
     ∙ ap (λ (bs : List ℕ). bs ++ text_of_lines (map line rest)) (sym said)
 
-pub answers_next : (n : NamedSys) (board : Board) (i : ℕ) (x : Entry ℕ) (a k : ℕ) (found : Option ℕ) (bytes : List ℕ) → IsNamedSys n → pairs_of board ≡ length (arena_of n).nodes → ((p : ℕ) → has_entry board.list p ≡ true → p < pairs_of board) →
-    slice_get board.list i ≡ Some x → k < length n.seats → IsTrue ((arena_of n).ready k) → found ≡ answer (arena_of n) board.list x.node a k → bytes ≡ text_of_lines (answer_line (names_in n) k (option_map (pair_at (sizes_of (system_of n))) found) ∷ []) →
-    answers_from n board.list x.node a k ≡ bytes ++ answers_from n board.list x.node a (k + 1)
-answers_next n board i x a k found bytes known shaped in_range e within ready is said =
+pub answers_next : (n : NamedSys) (board : Board) (i p a k : ℕ) (found : Option ℕ) (bytes : List ℕ) → IsNamedSys n → pairs_of board ≡ length (arena_of n).nodes → ((p : ℕ) → has_entry board.list p ≡ true → p < pairs_of board) →
+    slice_get board.list i ≡ Some (as_entry (p, Act a)) → k < length n.seats → IsTrue ((arena_of n).ready k) → found ≡ answer (arena_of n) board.list p a k → bytes ≡ text_of_lines (answer_line (names_in n) k (option_map (pair_at (sizes_of (system_of n))) found) ∷ []) →
+    answers_from n board.list p a k ≡ bytes ++ answers_from n board.list p a (k + 1)
+answers_next n board i p a k found bytes known shaped in_range e within ready is said =
     let are : AreNumbers (system_of n) board.list = listed_numbers (system_of n) board shaped in_range in
-    ready_next n board.list x.node a k found bytes known.system are (are x (entry_in board.list i x e)) within ready is said
+    ready_next n board.list p a k found bytes known.system are (are (as_entry (p, Act a)) (get_in board.list i (as_entry (p, Act a)) e)) within ready is said
 
 -- a seat that isn't ready is passed over
 pub answers_skip : (n : NamedSys) (L : List (Entry ℕ)) (p a k : ℕ) → k < length n.seats → IsFalse ((numbered (system_of n)).ready k) → answers_from n L p a k ≡ answers_from n L p a (k + 1)

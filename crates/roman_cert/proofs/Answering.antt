@@ -3,15 +3,13 @@ use Rattle.std.proofs.Common.{◌≡◌, ℕ, zero, suc, ◌+◌, ◌<◌, ◌�
 use Rattle.std.proofs.Math.Dec.{ltb}
 use Rattle.std.specs.List.{list_any, position_from, slice_get}
 use Rattle.std.proofs.lemmas.Bool.{cases_Bool, or_parts, both_ways, le-ltb, lt-ltb, eq-eqb}
-use Rattle.std.proofs.lemmas.Option.{slice_get_within, get_or_from_slice_get}
 use Rattle.std.proofs.lemmas.List.Folds.{list_any-append}
-use Rattle.roman_model.specs.Lists.{IsIn, below, is_empty}
-use Rattle.roman_model.specs.System.{Sys}
+use Rattle.roman_model.specs.Lists.{is_empty}
 use Rattle.roman_model.specs.Arena.{Arena, Entry, is_listed, is_justified, IsOrder}
 use Rattle.roman_model.specs.Explanation.{entries_before, answer}
-use Rattle.roman_model.specs.Numbers.{Sizes, sizes_of, count}
+use Rattle.roman_model.specs.Numbers.{Sizes}
 use Rattle.roman_model.specs.declared.reason.Reason.TheVariants.{Act}
-use Rattle.roman_model.proofs.CallerLemmas.{by_test, empty_is, not_empty_in, find_some, any_from, contains_in, length-below, AreNumbers, IsSame, justified_is, order_middle, before_is}
+use Rattle.roman_model.proofs.CallerLemmas.{by_test, empty_is, not_empty_in, find_some, any_from, get_in, IsSame, justified_is, order_middle, before_is}
 use Rattle.roman_rules.specs.Numbered.{IsNumbered}
 use Rattle.roman_rules.specs.Finding.{IsFinding, HasFinding}
 use Rattle.roman_rules.specs.declared.finding.Finding.{Finding}
@@ -61,17 +59,8 @@ no_place_before L q i e =
 
 -- Entries
 
-pub entry_in : (L : List (Entry ℕ)) (i : ℕ) (x : Entry ℕ) → slice_get L i ≡ Some x → IsIn x L
-entry_in L i x e = contains_in L x (i, slice_get_within L i x e, get_or_from_slice_get L i x x e)
-
--- the pairs of the entries are numbers below that of the pairs
-pub listed_numbers : (s : Sys) (board : Board) → pairs_of board ≡ length (below (count (sizes_of s))) → ((p : ℕ) → has_entry board.list p ≡ true → p < pairs_of board) → AreNumbers s board.list
-listed_numbers s board pairs in_range x i =
-    let within : x.node < pairs_of board = in_range x.node (any_from (λ y. eqb x.node y.node) x board.list i (eq-eqb x.node x.node refl)) in
-    omega (arith, pairs, length-below (count (sizes_of s)))
-
 pub entry_node : (A : Arena ℕ) (board : Board) (i : ℕ) (x : Entry ℕ) → pairs_of board ≡ length A.nodes → ((p : ℕ) → has_entry board.list p ≡ true → p < pairs_of board) → slice_get board.list i ≡ Some x → x.node < length A.nodes
-entry_node A board i x shaped in_range e = subst (λ n. x.node < n) shaped (in_range x.node (any_from (λ y. eqb x.node y.node) x board.list (entry_in board.list i x e) (eq-eqb x.node x.node refl)))
+entry_node A board i x shaped in_range e = subst (λ n. x.node < n) shaped (in_range x.node (any_from (λ y. eqb x.node y.node) x board.list (get_in board.list i x e) (eq-eqb x.node x.node refl)))
 
 pub entry_split : {X : Type 0} (xs : List X) (i : ℕ) (x : X) → slice_get xs i ≡ Some x → xs ≡ take i xs ++ x ∷ drop (i + 1) xs
 entry_split xs i x e = sym (take-append-drop i xs) ∙ ap (λ ys. take i xs ++ ys) (drop_at xs i x e)

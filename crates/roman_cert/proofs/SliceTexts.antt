@@ -1,27 +1,27 @@
 -- The entries of an explanation, one after the other.
-use Rattle.std.proofs.Common.{◌≡◌, ℕ, ◌+◌, ◌<◌, ◌≤◌, true, List, [], ◌∷◌, ◌++◌, length, drop, filter, Some, slice_get, IsTrue, IsFalse, refl, sym, ap, ◌∙◌, codes, flat_map, append_assoc}
-use Rattle.std.proofs.lemmas.Option.{same_Some}
+use Rattle.std.proofs.Common.{◌≡◌, ℕ, ◌+◌, ◌<◌, ◌≤◌, true, List, [], ◌∷◌, ◌++◌, length, drop, filter, Some, slice_get, IsTrue, IsFalse, refl, ap, ◌∙◌, codes, flat_map, append_assoc}
 use Rattle.std.proofs.lemmas.List.{drop_all}
 use Rattle.std.proofs.lemmas.Bool.{cond-true, cond-false}
 use Rattle.roman_model.specs.Arena.{Entry, IsOrder}
 use Rattle.roman_model.specs.Numbers.{sizes_of, count}
 use Rattle.roman_model.specs.declared.reason.Reason.{Reason}
 use Rattle.roman_model.specs.declared.reason.Reason.TheVariants.{Final, Act}
-use Rattle.roman_model.proofs.CallerLemmas.{numbered_is_arena}
+use Rattle.roman_model.proofs.CallerLemmas.{get_in, numbered_is_arena}
 use Rattle.roman_joint.specs.NamedSys.{NamedSys, system_of, IsNamedSys}
 use Rattle.roman_order.specs.Board.{Board, pairs_of, has_entry, is_marked}
 use Rattle.roman_relation.specs.Greatest.{arena_of}
+use Rattle.roman_relation.proofs.CallerLemmas.{listed_numbers}
 use Rattle.roman_cert.specs.Reasons.{NamesAction}
 use Rattle.roman_cert.specs.Slices.{lost_text, answers_text, entry_text, marked_entries, slice_text}
 use Rattle.roman_cert.proofs.Texts.{drop_at}
-use Rattle.roman_cert.proofs.Answering.{entry_in, listed_numbers, entry_allowed}
+use Rattle.roman_cert.proofs.Answering.{entry_allowed}
 
 -- An entry
 
 -- the entry at a place is of a pair of the system
 pub entry_pair : (n : NamedSys) (board : Board) (i : ℕ) (x : Entry ℕ) → pairs_of board ≡ length (arena_of n).nodes → ((p : ℕ) → has_entry board.list p ≡ true → p < pairs_of board) → slice_get board.list i ≡ Some x →
     x.node < count (sizes_of (system_of n))
-entry_pair n board i x shaped in_range e = listed_numbers (system_of n) board shaped in_range x (entry_in board.list i x e)
+entry_pair n board i x shaped in_range e = listed_numbers (system_of n) board shaped in_range x (get_in board.list i x e)
 
 -- its reason names an action of the system
 pub entry_reason : (n : NamedSys) (L : List (Entry ℕ)) (i : ℕ) (x : Entry ℕ) → IsNamedSys n → IsOrder (arena_of n) L → slice_get L i ≡ Some x → NamesAction (system_of n).env.actions x.reason
@@ -32,9 +32,9 @@ entry_reason n L i x known order e = by_reason x.reason e
     by_reason (Act a) f = (numbered_is_arena (system_of n) known.system).allowed x.node a (entry_allowed (arena_of n) L i x.node a order f)
 
 -- its lines are the line of its pair and those of the services
-pub entry_lines_are : (n : NamedSys) (L : List (Entry ℕ)) (i : ℕ) (y x : Entry ℕ) → slice_get L i ≡ Some y → slice_get L i ≡ Some x → lost_text n y ++ answers_text n L x ≡ entry_text n L x
+pub entry_lines_are : (n : NamedSys) (L : List (Entry ℕ)) (x : Entry ℕ) → lost_text n x ++ answers_text n L x ≡ entry_text n L x
 unfolding entry_text
-entry_lines_are n L i y x e f = ap (λ z. lost_text n z ++ answers_text n L x) (same_Some y x (sym e ∙ f))
+entry_lines_are n L x = refl
 
 -- The marked entries
 

@@ -1,9 +1,9 @@
 //! The explanation of a pair that isn't related.
-ghost use Rattle.std.specs.Prelude.{◌≡◌, ℕ, ◌<◌, ◌++◌, length, map, slice_get, Some};
+ghost use Rattle.std.specs.Prelude.{◌≡◌, ◌<◌, ◌++◌, length, map, slice_get, Some};
 ghost use Rattle.roman_io.specs.Faults.{HasCause};
 ghost use Rattle.roman_io.specs.Sink.{Puts};
 ghost use Rattle.roman_text.specs.Pages.{Gathers};
-ghost use Rattle.roman_model.specs.Arena.{Entry, IsOrder};
+ghost use Rattle.roman_model.specs.Arena.{IsOrder};
 ghost use Rattle.roman_model.specs.SystemArena.{arena};
 ghost use Rattle.roman_model.specs.Composition.{Great};
 ghost use Rattle.roman_model.specs.Explanation.{explanation, explain_text, ExplainedOrder};
@@ -11,7 +11,7 @@ ghost use Rattle.roman_model.specs.Numbers.{sizes_of, count, pair_at, entry_at};
 ghost use Rattle.roman_model.specs.Play.{OpponentWins};
 ghost use Rattle.roman_joint.specs.NamedSys.{system_of};
 ghost use Rattle.roman_joint.specs.Names.{names_in};
-ghost use Rattle.roman_order.specs.Board.{pairs_of};
+ghost use Rattle.roman_order.specs.Board.{pairs_of, as_entry};
 ghost use Rattle.roman_relation.specs.Greatest.{arena_of, IsRelation};
 ghost use Rattle.roman_cert.specs.Slices.{answers_text, entry_text, marked_entries, slice_text};
 
@@ -84,63 +84,64 @@ fn write_marked<O: Sink, L: Ledger>(
     order.known();
     let mut page = Page::new();
     for i in 0..order.len() {
-        let (p, _) = order.entry(i);
+        let (p, reason) = order.entry(i);
         if !order.marked(p) {
             continue;
         }
-        push_entry(joint, order, i, &mut page, out, steps)?;
+        push_entry(joint, order, i, p, reason, &mut page, out, steps)?;
     }
     page.push(b"end\n", out)?;
     page.flush(out)
 }
 
-/// Takes the lines of the entry at place `i`.
+/// Takes the lines of the entry at place `i`, for the pair `p` and that reason.
 fn push_entry<O: Sink, L: Ledger>(
     joint: &Joint,
     order: &Order,
     i: u32,
+    p: u32,
+    reason: Reason,
     page: &mut Page,
     out: &mut O,
     steps: &mut Steps<L>,
 ) -> Result<(), Failed>
     requires shaped { pairs_of order.now ≡ length (arena_of joint.now).nodes }
     requires valid { IsOrder (arena_of joint.now) order.now.list }
-    requires place { i < length order.now.list }
-    ensures gathers { (x : Entry ℕ) → slice_get order.now.list i ≡ Some x →
-        Gathers (O.written out.old) (O.written out.new) page.new
-        (page.old ++ entry_text joint.now order.now.list x) result }
+    requires entry { slice_get order.now.list i ≡ Some (as_entry (p, reason)) }
+    ensures gathers { Gathers (O.written out.old) (O.written out.new) page.new
+        (page.old ++ entry_text joint.now order.now.list (as_entry (p, reason))) result }
     ensures cause { HasCause (O.faults out.old) (O.faults out.new) result }
 {
     joint.known();
     order.known();
-    let (p, reason) = order.entry(i);
     push_lost(joint, p, reason, page, out)?;
-    push_answers(joint, order, i, page, out, steps)
+    match reason {
+        Reason::Final => Ok(()),
+        Reason::Act(a) => push_answers(joint, order, i, p, a, page, out, steps),
+    }
 }
 
-/// Takes a line for each ready service, where the entry at place `i` has an action as its reason.
+/// Takes a line for each ready service, with its answer to the entry at place `i`, for the pair `p`
+/// and the action `a`.
 fn push_answers<O: Sink, L: Ledger>(
     joint: &Joint,
     order: &Order,
     i: u32,
+    p: u32,
+    a: u8,
     page: &mut Page,
     out: &mut O,
     steps: &mut Steps<L>,
 ) -> Result<(), Failed>
     requires shaped { pairs_of order.now ≡ length (arena_of joint.now).nodes }
     requires valid { IsOrder (arena_of joint.now) order.now.list }
-    requires place { i < length order.now.list }
-    ensures gathers { (x : Entry ℕ) → slice_get order.now.list i ≡ Some x →
-        Gathers (O.written out.old) (O.written out.new) page.new
-        (page.old ++ answers_text joint.now order.now.list x) result }
+    requires entry { slice_get order.now.list i ≡ Some (as_entry (p, Reason.Act a)) }
+    ensures gathers { Gathers (O.written out.old) (O.written out.new) page.new
+        (page.old ++ answers_text joint.now order.now.list (as_entry (p, Reason.Act a))) result }
     ensures cause { HasCause (O.faults out.old) (O.faults out.new) result }
 {
     joint.known();
     order.known();
-    let (p, reason) = order.entry(i);
-    let Reason::Act(a) = reason else {
-        return Ok(());
-    };
     for k in 0..joint.seats() {
         if !joint.is_ready(k) {
             continue;

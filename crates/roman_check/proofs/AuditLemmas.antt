@@ -1,6 +1,7 @@
 -- Lines that are judged by those that were read.
 use Rattle.std.proofs.Common.{◌≡◌, ℕ, ◌+◌, ◌*◌, ◌<◌, ◌≤◌, ◌==◌, Bool, true, false, not, ◌||◌, List, [], ◌∷◌, ◌++◌, length, drop, Option, Some, None, IsTrue, IsFalse, if◌then◌else◌, option_map, find, refl, sym, ap, ◌∙◌, subst, arith, append-nil}
 use Rattle.std.specs.List.{list_any, cons_option}
+use Rattle.std.proofs.Math.Bool.{or-false}
 use Rattle.std.proofs.lemmas.Bool.{cond-true, cond-false, not-true, not-false}
 use Rattle.std.proofs.lemmas.List.Folds.{list_any-append}
 use Rattle.std.proofs.lemmas.List.Elements.{filter_map-append}
@@ -56,11 +57,7 @@ module _ (A : Arena ℕ) (L : List (Entry ℕ)) (x : Entry ℕ) where
 
 -- the pairs of the entries, with one more
 listed_more : (A : Arena ℕ) → IsNumbered A → (L : List (Entry ℕ)) (x : Entry ℕ) (q : ℕ) → is_listed A (L ++ x ∷ []) q ≡ (is_listed A L q || q == x.node)
-listed_more A ok L x q = list_any-append (λ y. A.same q y.node) L (x ∷ []) ∙ ap (λ b. is_listed A L q || b) (alone (A.same q x.node) ∙ ok.same q x.node)
-  where
-    alone : (b : Bool) → (b || false) ≡ b
-    alone true = refl
-    alone false = refl
+listed_more A ok L x q = list_any-append (λ y. A.same q y.node) L (x ∷ []) ∙ ap (λ b. is_listed A L q || b) (or-false (A.same q x.node) ∙ ok.same q x.node)
 
 -- an entry was read: its pair is taken out, and what was known of the row that was asked is known still
 pub entry_listed : (A : Arena ℕ) → IsNumbered A → (L : List (Entry ℕ)) (x : Entry ℕ) (new : Audit) →
@@ -190,11 +187,7 @@ due_more : (body : List (List ℕ)) (line : List ℕ) (due : Due) → IsFalse (l
     (if same_numbers end_line line then Nothing else due) ≡ (if list_any (same_numbers end_line) (body ++ line ∷ []) then Nothing else Body)
 due_more body line due none is =
     ap (λ d. if same_numbers end_line line then Nothing else d) is
-    ∙ ap (λ b. if b then Nothing else Body) (sym (list_any-append (same_numbers end_line) body (line ∷ []) ∙ ap (λ b. b || list_any (same_numbers end_line) (line ∷ [])) none ∙ alone (same_numbers end_line line)))
-  where
-    alone : (b : Bool) → (false || (b || false)) ≡ b
-    alone true = refl
-    alone false = refl
+    ∙ ap (λ b. if b then Nothing else Body) (sym (list_any-append (same_numbers end_line) body (line ∷ []) ∙ ap (λ b. b || list_any (same_numbers end_line) (line ∷ [])) none ∙ or-false (same_numbers end_line line)))
 
 pub judged_body : (A : Arena ℕ) (old new : Audit) (line : List ℕ) (fault : Option Why) → old.due ≡ Body →
     ((L : List (Entry ℕ)) → HasListed A L old → option_map fault_of fault ≡ body_fault A L (Some line)) →

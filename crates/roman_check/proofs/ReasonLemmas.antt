@@ -2,6 +2,7 @@
 use Rattle.std.proofs.Common.{◌≡◌, ◌≢◌, ℕ, ◌+◌, ◌-◌, ◌*◌, ◌^◌, ◌/◌, ◌%◌, ◌<◌, ◌≤◌, Bool, true, false, not, ◌&&◌, ◌||◌, ◌⊎◌, [], ◌∷◌, map, length, Some, None, IsTrue, IsFalse, find, refl, sym, ap, ◌∙◌, subst, inl, inr, arith, add-one, eqb}
 use Rattle.std.specs.List.{list_any}
 use Rattle.std.specs.Int.{bit_at, trailing_zeros, w64}
+use Rattle.std.proofs.Math.Bool.{or-false}
 use Rattle.std.proofs.lemmas.Bool.{cases_lt, eq-eqb, false≢true}
 use Rattle.std.proofs.lemmas.Nat.{div-add-mod', div_below, row_fits, mul-le, same_from_place}
 use Rattle.std.proofs.lemmas.Nat.Bits.{bit_at-trailing_zeros}
@@ -26,11 +27,7 @@ given_action actions a (inr i) =
 
 any_below_more : (test : ℕ → Bool) (n : ℕ) → list_any test (below (n + 1)) ≡ (list_any test (below n) || test n)
 any_below_more test n =
-    ap (λ m. list_any test (below m)) (add-one n) ∙ list_any-append test (below n) (n ∷ []) ∙ ap (λ b. list_any test (below n) || b) (alone (test n))
-  where
-    alone : (b : Bool) → (b || false) ≡ b
-    alone true = refl
-    alone false = refl
+    ap (λ m. list_any test (below m)) (add-one n) ∙ list_any-append test (below n) (n ∷ []) ∙ ap (λ b. list_any test (below n) || b) (or-false (test n))
 
 -- one more action may be a reason
 pub reasons_more : (test : Reason → Bool) (a : ℕ) → list_any test (reasons (a + 1)) ≡ (list_any test (reasons a) || test (Act a))
@@ -58,10 +55,6 @@ one_more left test a = both left (list_any test (reasons a)) (test (Act a)) ∙ 
     both : (l r j : Bool) → ((l && r) || (l && j)) ≡ (l && (r || j))
     both true r j = refl
     both false r j = refl
-
-pub and_none : (a b : Bool) → b ≡ false → (a && b) ≡ false
-and_none true b e = e
-and_none false b e = refl
 
 pub and_all : (a b : Bool) → b ≡ true → (a && b) ≡ a
 and_all true b e = e

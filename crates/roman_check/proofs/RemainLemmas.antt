@@ -1,6 +1,7 @@
 -- Tables of the pairs that remain.
 use Rattle.std.proofs.Common.{◌≡◌, ◌≢◌, ℕ, zero, suc, ◌+◌, ◌-◌, ◌*◌, ◌/◌, ◌^◌, ◌<◌, ◌≤◌, ◌==◌, Bool, true, false, cond, not, ◌&&◌, ◌||◌, length, get_or, replicate, set, count_by, bit_and, IsFalse, refl, sym, ap, ap₂, ◌∙◌, subst, inl, inr, arith, add-one}
-use Rattle.std.proofs.lemmas.Bool.{cases_eq, ne_eqb, eq-eqb}
+use Rattle.std.proofs.Math.Bool.{or-false}
+use Rattle.std.proofs.lemmas.Bool.{cases_eq, ne_eqb, eq-eqb, or_right}
 use Rattle.std.proofs.lemmas.List.{length-replicate, get_or-replicate, get_or-set_same, get_or-set_other}
 use Rattle.std.proofs.lemmas.Nat.{same_from_place}
 use Rattle.roman_model.specs.Lists.{below}
@@ -90,18 +91,10 @@ remain_less pairs gone more old new row lane word table in_rows in_lanes few wit
 }
   where
     elsewhere : (q : ℕ) → q ≢ row * old.lanes + lane → more q ≡ gone q
-    elsewhere q ne = more_is q ∙ ap (λ b. gone q || b) (ne_eqb q (row * old.lanes + lane) ne) ∙ or_false (gone q)
-      where
-        or_false : (b : Bool) → (b || false) ≡ b
-        or_false true = refl
-        or_false false = refl
+    elsewhere q ne = more_is q ∙ ap (λ b. gone q || b) (ne_eqb q (row * old.lanes + lane) ne) ∙ or-false (gone q)
 
     taken : more (row * old.lanes + lane) ≡ true
-    taken = more_is (row * old.lanes + lane) ∙ ap (λ b. gone (row * old.lanes + lane) || b) (eq-eqb (row * old.lanes + lane) (row * old.lanes + lane) refl) ∙ or_true (gone (row * old.lanes + lane))
-      where
-        or_true : (b : Bool) → (b || true) ≡ true
-        or_true true = refl
-        or_true false = refl
+    taken = more_is (row * old.lanes + lane) ∙ ap (λ b. gone (row * old.lanes + lane) || b) (eq-eqb (row * old.lanes + lane) (row * old.lanes + lane) refl) ∙ or_right (gone (row * old.lanes + lane)) true refl
 
     own_row : HasLanes old.lanes row (λ q. not (more q)) word
     own_row = record {

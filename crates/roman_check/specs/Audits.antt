@@ -1,14 +1,18 @@
 -- What a checker knows of the lines that it has read.
-use Rattle.std.specs.Prelude.{◌≡◌, ℕ, ◌*◌, List, [], ◌∷◌, ◌++◌, drop, length, Option, None, Some, if◌then◌else◌}
+use Rattle.std.specs.Prelude.{◌≡◌, ℕ, ◌*◌, Bool, not, List, [], ◌∷◌, ◌++◌, drop, length, Option, None, Some, if◌then◌else◌}
 use Rattle.std.specs.List.{list_any}
 use Rattle.std.specs.Option.{option_map}
 use Rattle.roman_model.specs.SystemArena.{same_numbers}
-use Rattle.roman_model.specs.Arena.{Arena, Entry, is_listed}
+use Rattle.roman_model.specs.Arena.{Arena, Entry, is_listed, is_justified}
 use Rattle.roman_model.specs.Certificate.{end_line, entries_on, line_fault}
+use Rattle.roman_model.specs.declared.reason.Reason.{Reason}
+use Rattle.roman_lanes.specs.Rows.{AreRows}
+use Rattle.roman_rules.specs.declared.asked.Asked.{Asked}
 use Rattle.roman_rules.specs.Asked.{HoldsWhereKept}
 use Rattle.roman_check.specs.declared.audit.Audit.{Audit}
 use Rattle.roman_check.specs.declared.audit.Due.{Due}
 use Rattle.roman_check.specs.declared.audit.Due.TheVariants.{Head, Count, Body, Nothing}
+use Rattle.roman_check.specs.declared.table.Remaining.{Remaining}
 use Rattle.roman_check.specs.declared.verdict.Why.{Why}
 use Rattle.roman_check.specs.Verdicts.{fault_of}
 use Rattle.roman_check.specs.Remain.{Remain}
@@ -23,6 +27,11 @@ due_after (head ∷ size ∷ body) = if list_any (same_numbers end_line) body th
 pub record IsInRows (lanes pairs : ℕ) (audit : Audit) : Type 0 where
   pub in_rows : audit.left.lanes ≡ lanes
   pub room : length audit.left.words.items * lanes ≡ pairs
+
+-- where those pairs are left and the others gone, the answer is whether the reason holds at the pair, and what a row was known to have answered holds still
+pub record AnswersReason (A : Arena ℕ) (left : Remaining) (p : ℕ) (reason : Reason) (old new : Asked) (result : Bool) : Type 0 where
+  pub justified : (gone : ℕ → Bool) → AreRows left.lanes (λ q. not (gone q)) left.words.items → HoldsWhereKept A left.lanes gone old → result ≡ is_justified A gone p reason
+  pub known : (gone : ℕ → Bool) → AreRows left.lanes (λ q. not (gone q)) left.words.items → HoldsWhereKept A left.lanes gone old → HoldsWhereKept A left.lanes gone new
 
 -- the entries that were read are those of the list
 pub record HasListed (A : Arena ℕ) (L : List (Entry ℕ)) (audit : Audit) : Type 0 where

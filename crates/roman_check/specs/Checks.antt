@@ -36,5 +36,6 @@ IsComing A start before now old new (Err Fault) = NoneAtFault A before now × Ro
 IsComing A start before now old new (Err TooLong) = HaveVerdict A start before text.TooLong × (new ≡ old)
 IsComing A start before now old new (Err Memory) = ⊥
 
+-- a check comes to that answer, and it says what is so of the source
 pub record Comes (A : Arena ℕ) (start : ℕ) (before now : Option (List ℕ)) (old new : ℕ) (answer : Result Verdict CheckError) : Type 0 where
   pub is : IsComing A start before now old new answer

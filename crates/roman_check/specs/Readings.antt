@@ -13,6 +13,7 @@ abbrev pub IsParse : {X : Type 0} → List X → (X → List ℕ) → List ℕ �
 IsParse {X} xs text_of line None = (x : X) → IsIn x xs → text_of x ≢ line
 IsParse xs text_of line (Some x) = IsIn x xs × (text_of x ≡ line)
 
+-- the answer is what is read off the line, of those things with their texts
 pub record ReadsOff {X : Type 0} (xs : List X) (text_of : X → List ℕ) (line : List ℕ) (answer : Option X) : Type 0 where
   pub is : IsParse xs text_of line answer
 

@@ -1,14 +1,13 @@
 //! What was read of a certificate, and the next line judged by it.
-ghost use Rattle.std.specs.Prelude.{◌≡◌, ℕ, ◌+◌, ◌*◌, ◌<◌, ◌++◌, Bool, not, List, [], ◌∷◌, None, Some, length, IfOk, if◌then◌else◌};
+ghost use Rattle.std.specs.Prelude.{◌≡◌, ℕ, ◌+◌, ◌*◌, ◌<◌, ◌++◌, not, List, [], ◌∷◌, None, Some, length, IfOk, if◌then◌else◌};
 ghost use Rattle.std.specs.Option.{option_map};
 ghost use Rattle.roman_model.specs.SystemArena.{same_numbers};
-ghost use Rattle.roman_model.specs.Arena.{Arena, Entry, is_listed, is_justified};
+ghost use Rattle.roman_model.specs.Arena.{Arena, Entry, is_listed};
 ghost use Rattle.roman_model.specs.Certificate.{end_line, entry_of, entries_on, entry_fault, body_fault};
-ghost use Rattle.roman_lanes.specs.Rows.{AreRows};
-ghost use Rattle.roman_rules.specs.Asked.{HoldsWhereKept, IsReasonOf};
+ghost use Rattle.roman_rules.specs.Asked.{IsReasonOf};
 ghost use Rattle.roman_check.specs.Readings.{entry_with};
 ghost use Rattle.roman_check.specs.Verdicts.{fault_of};
-ghost use Rattle.roman_check.specs.Audits.{IsInRows, HasListed, Judges};
+ghost use Rattle.roman_check.specs.Audits.{IsInRows, AnswersReason, HasListed, Judges};
 
 use crate::entries::{entry, is_count, is_end, is_head};
 use crate::missing::first_missing;
@@ -59,10 +58,7 @@ fn ask<J: Rules, L: Ledger>(
     requires room { length left.now.words.items * J.lanes joint.now ≡ length (J.arena joint.now).nodes }
     requires pair { p < length (J.arena joint.now).nodes }
     requires reason { IsReasonOf (J.arena joint.now) reason }
-    ensures justified { let A = J.arena joint.now in
-        (gone : ℕ → Bool) → AreRows left.now.lanes (λ q. not (gone q)) left.now.words.items → HoldsWhereKept A left.now.lanes gone asked.old → result ≡ is_justified A gone p reason }
-    ensures known { let A = J.arena joint.now in
-        (gone : ℕ → Bool) → AreRows left.now.lanes (λ q. not (gone q)) left.now.words.items → HoldsWhereKept A left.now.lanes gone asked.old → HoldsWhereKept A left.now.lanes gone asked.new }
+    ensures { AnswersReason (J.arena joint.now) left.now p reason asked.old asked.new result }
 {
     asked.holds(joint, left.words(), p, reason, steps)
 }
@@ -85,10 +81,7 @@ fn holds<J: Rules, L: Ledger>(
     requires place { place.0 * left.now.lanes + place.1 ≡ p }
     requires lane { place.1 < left.now.lanes }
     requires reason { IsReasonOf (J.arena joint.now) reason }
-    ensures justified { let A = J.arena joint.now in
-        (gone : ℕ → Bool) → AreRows left.now.lanes (λ q. not (gone q)) left.now.words.items → HoldsWhereKept A left.now.lanes gone asked.old → result ≡ is_justified A gone p reason }
-    ensures known { let A = J.arena joint.now in
-        (gone : ℕ → Bool) → AreRows left.now.lanes (λ q. not (gone q)) left.now.words.items → HoldsWhereKept A left.now.lanes gone asked.old → HoldsWhereKept A left.now.lanes gone asked.new }
+    ensures { AnswersReason (J.arena joint.now) left.now p reason asked.old asked.new result }
 {
     let (row, lane) = place;
     if row == asked.row && reason == asked.reason && has_lane(asked.lanes, lane) {

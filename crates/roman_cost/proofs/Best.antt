@@ -3,8 +3,7 @@ use Rattle.std.proofs.Common.{◌≡◌, ◌≢◌, ℕ, ◌+◌, Bool, true, fa
 use Rattle.roman_model.specs.Lists.{IsIn, below}
 use Rattle.roman_model.specs.System.{has}
 use Rattle.roman_model.specs.Plans.{least_from, first_least}
-use Rattle.roman_model.proofs.CallerLemmas.{same_test, filter_same, filter_in, in_filter, filter_below_more, least_from_push}
-use Rattle.roman_generator.proofs.CallerLemmas.{in_has, has_in}
+use Rattle.roman_model.proofs.CallerLemmas.{same_test, filter_same, filter_in, in_filter, filter_below_more, least_from_push, listed_number, number_listed}
 use Rattle.roman_cost.specs.Filling.{better_of}
 
 -- the first of the least of a list, with its value
@@ -47,8 +46,8 @@ best_of-passed f p k best fails before =
 pub filter_has : (q : ℕ → Bool) (n : ℕ) → filter (has (filter q (below n))) (below n) ≡ filter q (below n)
 filter_has q n = filter_same (has (filter q (below n))) q (below n) (λ x i.
     same_test (has (filter q (below n)) x) (q x)
-    (λ t. (filter_in q x (below n) (has_in (filter q (below n)) x t)).1)
-    (λ t. in_has (filter q (below n)) x (in_filter q x (below n) i t)))
+    (λ t. (filter_in q x (below n) (number_listed (filter q (below n)) x t)).1)
+    (λ t. listed_number (filter q (below n)) x (in_filter q x (below n) i t)))
 
 -- where the values agree on the list
 least_from_same : (f g : ℕ → ℕ) (x : ℕ) (xs : List ℕ) → f x ≡ g x → ((y : ℕ) → IsIn y xs → f y ≡ g y) → least_from f x xs ≡ least_from g x xs

@@ -1,17 +1,16 @@
 -- Moves by a request that is served.
-use Rattle.std.proofs.Common.{◌≡◌, ℕ, zero, suc, ◌<◌, List, [], ◌∷◌, Option, Some, None, IsTrue, IsFalse, IfSome, IfNone, MatchOption, inl, length, map, slice_get, slice_index, refl, sym, ap, ◌∙◌, subst, arith}
+use Rattle.std.proofs.Common.{◌≡◌, ℕ, ◌<◌, List, [], ◌∷◌, Option, Some, None, IsTrue, IsFalse, IfSome, IfNone, MatchOption, inl, length, slice_get, slice_index, refl, sym, ap, ◌∙◌, subst, arith}
 use Rattle.std.proofs.lemmas.List.{get_or-set_same, length-map}
 use Rattle.std.proofs.lemmas.Bool.{both_ways, not-true}
 use Rattle.std.proofs.lemmas.Option.{slice_get_within}
 use Rattle.roman_model.specs.Lists.{IsIn}
-use Rattle.roman_model.proofs.CallerLemmas.{in_env_next, from_env_next, in_beh_next, from_beh_next, move_in_range, triple_in_range, seat_in, numbers_are_pairs, AreBelow-length, AreBelow-index, states_below, IsPairOf-from, IsPairOf-moved, pair_at-number}
+use Rattle.roman_model.proofs.CallerLemmas.{listed_number, number_listed, size_at, in_env_next, from_env_next, in_beh_next, from_beh_next, move_in_range, triple_in_range, seat_in, numbers_are_pairs, AreBelow-length, AreBelow-index, states_below, IsPairOf-from, IsPairOf-moved, pair_at-number}
 use Rattle.roman_model.specs.System.{Sys, IsSys, Seat, Pair, IsPair, TStep, Allows, has, has_move}
 use Rattle.roman_model.specs.SystemArena.{env_next, beh_next, is_ready}
 use Rattle.roman_model.specs.Numbers.{sizes_of, count, number, pair_at}
 use Rattle.roman_radix.specs.Radix.{moved}
 use Rattle.roman_generator.specs.Moves.{CanMove, Becomes, IsServed}
 use Rattle.roman_generator.specs.declared.sight.Sight.{Sight}
-use Rattle.roman_generator.proofs.OfferLemmas.{in_has, has_in}
 
 -- a pair has a state for each seat
 pub states_long : (s : Sys) (p : Pair) → IsPair s p → length p.bs ≡ length s.seats
@@ -25,12 +24,6 @@ same_seat s k x y h g = cc
 pub ready_seat : (o : Option Seat) → IsTrue (is_ready o) → (seat : Seat) × (o ≡ Some seat) × IsFalse seat.frozen
 ready_seat None h = cc
 ready_seat (Some seat) h = (seat, refl, not-true seat.frozen h)
-
--- the size at a place is the seat's
-pub size_of_seat : (seats : List Seat) (k : ℕ) (seat : Seat) → slice_get seats k ≡ Some seat → slice_index (map (λ x. x.beh.states) seats) k ≡ seat.beh.states
-size_of_seat [] k seat h = cc
-size_of_seat (x ∷ seats) zero seat h = let e : x ≡ seat = cc in ap (λ (y : Seat). y.beh.states) e
-size_of_seat (x ∷ seats) (suc k) seat h = size_of_seat seats k seat h
 
 -- what a system step asks of the environment and of the seat
 pub served_is : (s : Sys) (p : Pair) (x : Sight) → IsPair s p → CanMove s p x.action x.seat x.state x.env → IsServed s p.e (slice_index p.bs x.seat) x
@@ -59,7 +52,7 @@ served_moves s p x served = record { seat = served.seat; seated = served.seated;
 pub env_stays : (s : Sys) (e b : ℕ) (x : Sight) → IsSys s → IsFalse (has (env_next s.env e x.action) x.env) → IsServed s e b x → ⊥
 env_stays s e b x ok out served =
     let next = env_next s.env e x.action in
-    both_ways (has next x.env) out (in_has next x.env (in_env_next s.env e x.action x.env ok.env served.world))
+    both_ways (has next x.env) out (listed_number next x.env (in_env_next s.env e x.action x.env ok.env served.world))
 
 -- nor where the service has none
 pub seat_stays : (s : Sys) (e b : ℕ) (x : Sight) (seat : Seat) → IsSys s → slice_get s.seats x.seat ≡ Some seat → IsFalse (has (beh_next seat.beh b e x.action) x.state) → IsServed s e b x → ⊥
@@ -67,7 +60,7 @@ seat_stays s e b x seat ok seated out served =
     let next = beh_next seat.beh b e x.action in
     let same : served.seat ≡ seat = same_seat s x.seat served.seat seat served.seated seated in
     let moves = subst (λ (y : Seat). IsTrue (has_move y.beh b e x.action x.state)) same served.moves in
-    both_ways (has next x.state) out (in_has next x.state (in_beh_next s.env seat.beh b e x.action x.state (ok.seats seat (seat_in s.seats x.seat seat seated)) moves))
+    both_ways (has next x.state) out (listed_number next x.state (in_beh_next s.env seat.beh b e x.action x.state (ok.seats seat (seat_in s.seats x.seat seat seated)) moves))
 
 -- where both have a step the action is served
 pub served_from : (s : Sys) (e b : ℕ) (x : Sight) (seat : Seat) → slice_get s.seats x.seat ≡ Some seat → IsTrue (is_ready (slice_get s.seats x.seat)) →
@@ -78,8 +71,8 @@ served_from s e b x seat seated ready has_e has_b =
       seat = seat;
       seated = seated;
       ready = subst (λ (y : Seat). IsFalse y.frozen) (same_seat s x.seat y seat y_seated seated) y_ready;
-      world = from_env_next s.env e x.action x.env (has_in (env_next s.env e x.action) x.env has_e);
-      moves = from_beh_next seat.beh b e x.action x.state (has_in (beh_next seat.beh b e x.action) x.state has_b);
+      world = from_env_next s.env e x.action x.env (number_listed (env_next s.env e x.action) x.env has_e);
+      moves = from_beh_next seat.beh b e x.action x.state (number_listed (beh_next seat.beh b e x.action) x.state has_b);
     }
 
 -- the target then goes to the state that is looked up
@@ -104,7 +97,7 @@ allowed_within s t e a ok (to, e', step) =
 pub served_within : (s : Sys) (e b : ℕ) (x : Sight) → IsSys s → IsServed s e b x → x.state < slice_index (sizes_of s).seats x.seat
 served_within s e b x ok served =
     let within = (move_in_range s.env served.seat.beh b e x.action x.state (ok.seats served.seat (seat_in s.seats x.seat served.seat served.seated)) served.moves).3 in
-    omega (arith, within, size_of_seat s.seats x.seat served.seat served.seated)
+    omega (arith, within, size_at s.seats x.seat served.seat served.seated)
 
 -- where all three have a step the pair moves
 pub all_move : (s : Sys) (p : ℕ) (x : Sight) (to q : ℕ) → IsSys s → p < count (sizes_of s) →
@@ -129,7 +122,7 @@ pub state_within : (s : Sys) (p : Pair) (k : ℕ) (seat : Seat) → IsPair s p �
 state_within s p k seat pair seated =
     let l = slice_get_within s.seats k seat seated in
     let below = AreBelow-index (sizes_of s).seats p.bs k (states_below s.seats p.bs pair.bs) (omega (arith, l, length-map s.seats (λ (x : Seat). x.beh.states))) in
-    subst (λ (n : ℕ). slice_index p.bs k < n) (size_of_seat s.seats k seat seated) below
+    subst (λ (n : ℕ). slice_index p.bs k < n) (size_at s.seats k seat seated) below
 
 -- and is there for the seat of a service that is ready
 pub state_seated : (s : Sys) (p : Pair) (k : ℕ) → IsPair s p → IsTrue (is_ready (slice_get s.seats k)) → IfSome (slice_get s.seats k) (λ seat. slice_index p.bs k < seat.beh.states)

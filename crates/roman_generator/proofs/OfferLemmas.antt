@@ -1,29 +1,18 @@
 -- The mask of a complete list has the offers.
-use Rattle.std.proofs.Common.{◌≡◌, ◌≢◌, ℕ, ◌<◌, eqb, true, List, IsTrue, refl, ap, ◌∙◌, subst, arith}
+use Rattle.std.proofs.Common.{◌≡◌, ◌≢◌, ℕ, ◌<◌, true, List, IsTrue, ap, ◌∙◌, subst, arith}
 use Rattle.std.specs.Int.{bit_at}
-use Rattle.std.proofs.lemmas.Bool.{eq-eqb, eqb-true}
 use Rattle.std.proofs.lemmas.Nat.Bits.{bit_at-zero}
-use Rattle.roman_model.specs.Lists.{IsIn}
 use Rattle.roman_model.specs.System.{has}
 use Rattle.roman_model.specs.SystemArena.{is_allowed}
 use Rattle.roman_model.specs.Arena.{is_listed, mask}
 use Rattle.roman_model.specs.Numbers.{sizes_of, count, pair_at}
 use Rattle.roman_model.specs.Offers.{is_related, offers}
-use Rattle.roman_model.proofs.CallerLemmas.{any_from, any_true, not_empty_in, ne_not_empty, numbers_are_pairs, numbered_offers, related_offers, offer_is, related_great}
+use Rattle.roman_model.proofs.CallerLemmas.{not_empty_in, ne_not_empty, listed_number, numbers_are_pairs, numbered_offers, related_offers, offer_is, related_great}
 use Rattle.roman_rules.specs.Bits.{HasBits, bit_of}
 use Rattle.roman_joint.specs.NamedSys.{NamedSys, system_of, IsNamedSys}
 use Rattle.roman_order.specs.Board.{Board, pairs_of, has_entry}
 use Rattle.roman_relation.specs.Greatest.{arena_of, IsRelation}
 use Rattle.roman_relation.proofs.CallerLemmas.{listed_numbers}
-
--- a number that is listed is had, and the other way
-pub in_has : (ns : List ℕ) (n : ℕ) → IsIn n ns → IsTrue (has ns n)
-in_has ns n i = any_from (λ m. eqb m n) n ns i (eq-eqb n n refl)
-
-pub has_in : (ns : List ℕ) (n : ℕ) → IsTrue (has ns n) → IsIn n ns
-has_in ns n h =
-    let (m, i, e) = any_true (λ m. eqb m n) ns h in
-    subst (λ m. IsIn m ns) (eqb-true m n e) i
 
 -- the mask of the list has the offers' bits
 pub mask_offers : (joint : NamedSys) (board : Board) (p a bits : ℕ) → IsNamedSys joint → IsRelation joint board → ((p : ℕ) → has_entry board.list p ≡ true → p < pairs_of board) →
@@ -45,6 +34,6 @@ offers_set joint p a bits known l related allowed has_bits zero =
     let few = known.system.few in
     let small : k < 32 = omega arith in
     let bit : bit_at bits k ≡ bit_of (has (offers s q a) k) = has_bits.each k small in
-    let one : bit_of (has (offers s q a) k) ≡ 1 = ap bit_of (in_has (offers s q a) k i) in
+    let one : bit_of (has (offers s q a) k) ≡ 1 = ap bit_of (listed_number (offers s q a) k i) in
     let none : bit_at bits k ≡ 0 = ap (λ n. bit_at n k) zero ∙ bit_at-zero k in
     absurd (omega arith)

@@ -7,8 +7,8 @@ use Rattle.roman_io.proofs.CallerLemmas.{Gave-then, WrotePrefix-append, had_more
 use Rattle.roman_model.specs.Lines.{lines, ended_lines, text_of_lines}
 use Rattle.roman_model.specs.declared.limits.TheConstants.{MAX_SESSION_BYTES}
 use Rattle.roman_model.proofs.CallerLemmas.{by_test}
-use Rattle.roman_text.specs.Lines.{HasNoNewline, unfinished, kept}
-use Rattle.roman_text.proofs.CallerLemmas.{unfinished-nil, unfinished-free, lines_are, lines_only, lines_none, kept-nil}
+use Rattle.roman_text.specs.Lines.{unfinished, kept}
+use Rattle.roman_text.proofs.CallerLemmas.{lines_are, lines_only, lines_none, kept-nil}
 use Rattle.roman_session.specs.Situations.{Situation}
 use Rattle.roman_hearing.specs.Told.{Told}
 use Rattle.roman_hearing.specs.Known.{AreBehaviours}
@@ -129,7 +129,7 @@ rest_not_long old new taken before now (Err TooLong) h is = h
 whole_lines : (bytes : List ℕ) → (ended_lines (text_of_lines (ended_lines bytes)) ≡ ended_lines bytes) × (lines (text_of_lines (ended_lines bytes)) ≡ ended_lines bytes)
 whole_lines bytes =
     let ls : List (List ℕ) = ended_lines bytes in
-    let (ended, none) = lines_only (text_of_lines ls) ls [] (record { whole = sym (append-nil (text_of_lines ls)); each = (lines_are bytes).each; last = subst HasNoNewline unfinished-nil (unfinished-free []) }) in
+    let (ended, none) = lines_only (text_of_lines ls) ls [] (record { whole = sym (append-nil (text_of_lines ls)); each = (lines_are bytes).each; last = refl }) in
     let empty : ltb 0 (length (kept (unfinished (text_of_lines ls)))) ≡ false = ap (λ (rest : List ℕ). ltb 0 (length (kept rest))) (sym none) ∙ ap (λ (rest : List ℕ). ltb 0 (length rest)) kept-nil in
     (sym ended, lines_none (text_of_lines ls) empty ∙ sym ended)
 

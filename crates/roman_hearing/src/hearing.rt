@@ -12,8 +12,7 @@ ghost use Rattle.roman_hearing.specs.HearingBytes.{ear, IsHearing, HearsBytes, H
 use roman_io::{Failed, Sink, Source, Steps};
 use roman_model::{MAX_SESSION_BYTES, PIECE_BYTES};
 use roman_session::{Next, Session};
-use roman_text::laws::keep_shapes;
-use roman_text::{Page, Splitter};
+use roman_text::{Page, Splitter, keep_shapes};
 use std::sync::ledger::Ledger;
 use thiserror::Error;
 

@@ -8,7 +8,7 @@
 
 mod errors;
 mod events;
-pub mod laws;
+mod laws;
 mod lines;
 mod page;
 mod parsing;
@@ -22,6 +22,7 @@ mod writing;
 
 pub use errors::LineError;
 pub use events::Event;
+pub use laws::{keep_shapes, spell_events, split_lines};
 pub use lines::Splitter;
 pub use page::Page;
 pub use parsing::parse_line;

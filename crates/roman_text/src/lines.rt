@@ -6,7 +6,7 @@ ghost use Rattle.roman_text.specs.Lines.{is_newline, kept};
 use roman_model::MAX_LINE_BYTES;
 use std::marker::Model;
 
-// One byte more than a line may have, so that a longer line is known as one.
+/// One byte more than a line may have, so that a longer line is known as one.
 const KEPT: usize = MAX_LINE_BYTES as usize + 1;
 
 /// Finds the lines of a stream of bytes, which may come in any pieces. Contracts see the bytes of

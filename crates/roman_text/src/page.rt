@@ -2,12 +2,14 @@
 ghost use Rattle.std.specs.Prelude.{◌≡◌, ◌+◌, ◌≤◌, ◌∷◌, ◌++◌, [], length, decimal, OnOk};
 ghost use Rattle.roman_io.specs.Faults.{HasCause};
 ghost use Rattle.roman_io.specs.Sink.{Puts};
-ghost use Rattle.roman_model.specs.declared.limits.TheConstants.{PIECE_BYTES};
+ghost use Rattle.roman_model.specs.declared.limits.TheConstants.{MAX_NAME_BYTES, PIECE_BYTES};
+ghost use Rattle.roman_text.specs.declared.piece.TheConstants.{LONGEST};
 ghost use Rattle.roman_text.specs.Pages.{Gathers};
 ghost use Rattle.roman_text.specs.Report.{line_text};
 
 mod replies;
 
+use crate::piece::LONGEST;
 use crate::report::{ReportLine, report_piece};
 use itoa::{Buffer, write_digits};
 use roman_io::{Failed, Sink};
@@ -15,11 +17,8 @@ use roman_model::PIECE_BYTES;
 use roman_read::Name;
 use std::marker::Model;
 
-// The greatest number of digits that a number has.
+/// The greatest number of digits that a number has.
 const DIGITS: usize = 10;
-
-// The greatest number of bytes of a line, as of each part of one.
-const LONGEST: usize = 128;
 
 /// A buffer of 4,096 bytes on their way to a sink, so that many short texts are put as one piece.
 /// Contracts see the bytes that are held: the sink has those before them. Where a call fails, the
@@ -82,7 +81,7 @@ impl Page {
         result
     }
 
-    // Takes a number, in decimal digits, as `push` takes bytes.
+    /// Takes a number, in decimal digits, as `push` takes bytes.
     fn push_number<O: Sink>(&mut self, n: u32, out: &mut O) -> Result<(), Failed>
         ensures gathers { Gathers (O.written out.old) (O.written out.new) self.new (self.old ++ decimal n) result }
         ensures cause { HasCause (O.faults out.old) (O.faults out.new) result }
@@ -135,7 +134,7 @@ impl Page {
         self.push(report_piece(line).bytes(), out)
     }
 
-    // Takes bytes on an empty page, or puts them at once where it is too small for them.
+    /// Takes bytes on an empty page, or puts them at once where it is too small for them.
     fn begin<O: Sink>(&mut self, bytes: &[u8], out: &mut O) -> Result<(), Failed>
         requires { self.old ≡ [] }
         ensures gathers { Gathers (O.written out.old) (O.written out.new) self.new bytes.now result }
@@ -148,10 +147,10 @@ impl Page {
         Ok(())
     }
 
-    // Puts what is held where the longest line has no room behind it.
+    /// Puts what is held where the longest line has no room behind it.
     fn make_room<O: Sink>(&mut self, out: &mut O) -> Result<(), Failed>
         ensures gathers { Gathers (O.written out.old) (O.written out.new) self.new self.old result }
-        ensures room { OnOk result (length self.new ≤ 3968) }
+        ensures room { OnOk result (length self.new + LONGEST ≤ PIECE_BYTES) }
         ensures cause { HasCause (O.faults out.old) (O.faults out.new) result }
     {
         if self.room() >= LONGEST {
@@ -160,14 +159,14 @@ impl Page {
         self.flush(out)
     }
 
-    // How many more bytes have room.
+    /// How many more bytes have room.
     fn room(&self) -> usize
         ensures { result + length self.now ≡ PIECE_BYTES }
     {
         PIECE_BYTES - self.len
     }
 
-    // Adds bytes that have room.
+    /// Adds bytes that have room.
     fn add(&mut self, bytes: &[u8])
         requires { length self.old + length bytes.now ≤ PIECE_BYTES }
         ensures { self.new ≡ self.old ++ bytes.now }
@@ -177,18 +176,18 @@ impl Page {
         self.len = end;
     }
 
-    // Adds a name that has room, with the bytes before it and behind it.
+    /// Adds a name that has room, with the bytes before it and behind it.
     fn add_name(&mut self, before: &[u8], name: &Name, behind: &[u8])
-        requires { length self.old + length before.now + length behind.now ≤ 4064 }
+        requires { length self.old + length before.now + length behind.now + MAX_NAME_BYTES ≤ PIECE_BYTES }
         ensures text { self.new ≡ self.old ++ (before.now ++ (name.now ++ behind.now)) }
-        ensures len { length self.new ≤ length self.old + length before.now + length behind.now + 32 }
+        ensures len { length self.new ≤ length self.old + length before.now + length behind.now + MAX_NAME_BYTES }
     {
         self.add(before);
         self.add(name.bytes());
         self.add(behind);
     }
 
-    // Adds a number that has room, in decimal digits.
+    /// Adds a number that has room, in decimal digits.
     fn add_number(&mut self, n: u32)
         requires { length self.old + length (decimal n) ≤ PIECE_BYTES }
         ensures { self.new ≡ self.old ++ decimal n }
@@ -199,7 +198,7 @@ impl Page {
     }
 }
 
-// How many decimal digits a number has.
+/// How many decimal digits a number has.
 fn digits(n: u32) -> usize
     ensures { result ≡ length (decimal n) }
 {

@@ -32,7 +32,7 @@ pub fn parse_line(line: &[u8]) -> Result<Event<'_>, LineError>
     by_words(word, rest)
 }
 
-// The event of a first word and the words of the rest.
+/// The event of a first word and the words of the rest.
 fn by_words<'a>(word: &[u8], rest: &'a [u8]) -> Result<Event<'a>, LineError>
     ensures { Shapes (by_words word.now (words_of rest.now)) result }
 {
@@ -54,14 +54,14 @@ fn by_words<'a>(word: &[u8], rest: &'a [u8]) -> Result<Event<'a>, LineError>
     Err(LineError::Form)
 }
 
-// Whether a word is this one.
+/// Whether a word is this one.
 fn is(word: &[u8], text: &str) -> bool
     ensures { result ≡ bytes_eq word.now text.now }
 {
     word == text.as_bytes()
 }
 
-// The event of one word.
+/// The event of one word.
 fn alone<'a>(word: &[u8]) -> Result<Event<'a>, LineError>
     ensures { Shapes (alone word.now) result }
 {
@@ -80,7 +80,7 @@ fn alone<'a>(word: &[u8]) -> Result<Event<'a>, LineError>
     Err(LineError::Form)
 }
 
-// The event of a word and one operand.
+/// The event of a word and one operand.
 fn with_one<'a>(word: &[u8], a: &'a [u8]) -> Result<Event<'a>, LineError>
     ensures { Shapes (with_one word.now a.now) result }
 {
@@ -105,7 +105,7 @@ fn with_one<'a>(word: &[u8], a: &'a [u8]) -> Result<Event<'a>, LineError>
     Err(LineError::Form)
 }
 
-// The event of a word and two operands.
+/// The event of a word and two operands.
 fn with_two<'a>(word: &[u8], a: &'a [u8], b: &'a [u8]) -> Result<Event<'a>, LineError>
     ensures { Shapes (with_two word.now a.now b.now) result }
 {
@@ -121,7 +121,7 @@ fn with_two<'a>(word: &[u8], a: &'a [u8], b: &'a [u8]) -> Result<Event<'a>, Line
     Err(LineError::Form)
 }
 
-// The event of a word and three operands.
+/// The event of a word and three operands.
 fn with_three<'a>(
     word: &[u8],
     service: &'a [u8],
@@ -141,7 +141,7 @@ fn with_three<'a>(
     })
 }
 
-// The event of a word, three operands and `loose`.
+/// The event of a word, three operands and `loose`.
 fn with_four<'a>(
     word: &[u8],
     service: &'a [u8],

@@ -5,13 +5,13 @@ use itoa::Buffer;
 use roman_read::Name;
 use std::marker::Model;
 
-// The greatest number of bytes of a piece: no line has more.
-const ROOM: usize = 128;
+/// The greatest number of bytes of a piece. No line, and no part of one, has more.
+pub(crate) const LONGEST: usize = 128;
 
 /// Up to 128 bytes that are put together from parts. Contracts see the list of them.
 #[derive(Drop)]
 pub struct Piece {
-    bytes: [u8; ROOM],
+    bytes: [u8; LONGEST],
     len: usize,
 }
 
@@ -31,7 +31,7 @@ impl Piece {
         ensures { result ≡ [] }
     {
         Piece {
-            bytes: [0; ROOM],
+            bytes: [0; LONGEST],
             len: 0,
         }
     }
@@ -80,7 +80,7 @@ impl Piece {
         self.text(Buffer::new().format(n).as_bytes())
     }
 
-    // Adds bytes at the end.
+    /// Adds bytes at the end.
     fn add(&mut self, bytes: &[u8])
         requires { length self.old + length bytes.now ≤ 128 }
         ensures { self.new ≡ self.old ++ bytes.now }

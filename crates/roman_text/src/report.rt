@@ -80,7 +80,7 @@ pub fn report_piece(line: &ReportLine) -> Piece
     }
 }
 
-// The end of the line of a target.
+/// The end of the line of a target.
 fn target_end(is_final: bool) -> &'static [u8]
     ensures text { result.now ≡ with_newline (if is_final then codes " final" else codes " running") }
     ensures short { length result.now ≤ 9 }
@@ -88,7 +88,7 @@ fn target_end(is_final: bool) -> &'static [u8]
     if is_final { b" final\n" } else { b" running\n" }
 }
 
-// The end of the line of an answer.
+/// The end of the line of an answer.
 fn answer_end(composes: bool) -> &'static [u8]
     ensures text { result.now ≡ with_newline (if composes then codes "composition" else codes "none") }
     ensures short { length result.now ≤ 12 }
@@ -100,7 +100,7 @@ fn answer_end(composes: bool) -> &'static [u8]
     }
 }
 
-// Whether a service takes delegations.
+/// Whether a service takes delegations.
 fn phase_text(frozen: bool) -> &'static [u8]
     ensures text { result.now ≡ (if frozen then codes " frozen" else codes " ready") }
     ensures short { length result.now ≤ 7 }
@@ -108,7 +108,7 @@ fn phase_text(frozen: bool) -> &'static [u8]
     if frozen { b" frozen" } else { b" ready" }
 }
 
-// The end of the line of a service.
+/// The end of the line of a service.
 fn service_end(loose: bool) -> &'static [u8]
     ensures text { result.now ≡ with_newline (if loose then codes " loose" else []) }
     ensures short { length result.now ≤ 7 }

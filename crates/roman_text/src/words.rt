@@ -4,28 +4,28 @@ ghost use Rattle.std.specs.List.{position_or_len};
 ghost use Rattle.std.specs.Str.Lines.{strip_carriage_return};
 ghost use Rattle.roman_text.specs.Shapes.{IsFirstWord, is_blank, is_comment, is_part};
 
-// Whether the byte separates words.
+/// Whether the byte separates words.
 fn is_blank(byte: u8) -> bool
     ensures { result ≡ is_blank byte }
 {
     byte == b' ' || byte == b'\t'
 }
 
-// Where the first word begins, if there is one.
+/// Where the first word begins, if there is one.
 fn word_start(line: &[u8]) -> Option<usize>
     ensures { result ≡ position is_part line.now }
 {
     line.iter().position(|&byte| !is_blank(byte))
 }
 
-// Where the first blank is, if there is one.
+/// Where the first blank is, if there is one.
 fn first_blank(line: &[u8]) -> Option<usize>
     ensures { result ≡ position is_blank line.now }
 {
     line.iter().position(|&byte| is_blank(byte))
 }
 
-// Where the first word ends.
+/// Where the first word ends.
 #[tactic(auto, using(crate::proofs::WordLemmas::places))]
 fn word_end(line: &[u8]) -> usize
     ensures end { result ≡ position_or_len is_blank line.now }

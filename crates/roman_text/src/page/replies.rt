@@ -1,6 +1,9 @@
 //! Replies on a page.
 ghost use Rattle.std.specs.Prelude.{◌≡◌, ◌+◌, ◌≤◌, ◌++◌, length, decimal};
 ghost use Rattle.roman_io.specs.Faults.{HasCause};
+ghost use Rattle.roman_model.specs.declared.limits.TheConstants.{PIECE_BYTES};
+ghost use Rattle.roman_text.specs.declared.page.TheConstants.{DIGITS};
+ghost use Rattle.roman_text.specs.declared.piece.TheConstants.{LONGEST};
 ghost use Rattle.roman_text.specs.Pages.{Gathers};
 ghost use Rattle.roman_text.specs.Replies.{reply_text};
 ghost use Rattle.roman_text.specs.declared.replies.Reply.TheVariants as reply;
@@ -21,9 +24,9 @@ impl Page {
         Ok(())
     }
 
-    // Adds a reply that has room.
+    /// Adds a reply that has room.
     fn add_reply(&mut self, reply: &Reply)
-        requires { length self.old ≤ 3968 }
+        requires { length self.old + LONGEST ≤ PIECE_BYTES }
         ensures { self.new ≡ self.old ++ reply_text reply.now }
     {
         match reply {
@@ -53,18 +56,18 @@ impl Page {
         }
     }
 
-    // Adds the line that gives the new state of the target and of the environment.
+    /// Adds the line that gives the new state of the target and of the environment.
     fn add_now(&mut self, target: &Name, env: &Name)
-        requires { length self.old ≤ 3968 }
+        requires { length self.old + LONGEST ≤ PIECE_BYTES }
         ensures { self.new ≡ self.old ++ reply_text (reply.Now target.now env.now) }
     {
         self.add_name(b"now ", target, b" ");
         self.add_name(b"", env, b"\n");
     }
 
-    // Adds the line that counts what the replay kept and what was added.
+    /// Adds the line that counts what the replay kept and what was added.
     fn add_kept(&mut self, kept: u32, added: u32)
-        requires { length self.old ≤ 3968 }
+        requires { length self.old + LONGEST ≤ PIECE_BYTES }
         ensures { self.new ≡ self.old ++ reply_text (reply.Kept kept added) }
     {
         self.add_counted(b"kept ", kept);
@@ -72,11 +75,11 @@ impl Page {
         self.add(b"\n");
     }
 
-    // Adds a number that has room, and the bytes before it.
+    /// Adds a number that has room, and the bytes before it.
     fn add_counted(&mut self, before: &[u8], n: u32)
-        requires { length self.old + length before.now ≤ 4086 }
+        requires { length self.old + length before.now + DIGITS ≤ PIECE_BYTES }
         ensures text { self.new ≡ self.old ++ (before.now ++ decimal n) }
-        ensures len { length self.new ≤ length self.old + length before.now + 10 }
+        ensures len { length self.new ≤ length self.old + length before.now + DIGITS }
     {
         self.add(before);
         self.add_number(n);

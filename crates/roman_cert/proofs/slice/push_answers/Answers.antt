@@ -1,26 +1,20 @@
-use Rattle.std.proofs.Common.{◌<◌, ◌+◌, ℕ, [], length, sym, ap, ◌∙◌, arith}
+use Rattle.std.proofs.Common.{◌<◌, length, refl, sym, ◌∙◌, arith}
 use Rattle.std.proofs.lemmas.Result.{err_from_is_err_and}
-use Rattle.std.proofs.lemmas.Option.{same_Some}
 use Rattle.roman_model.specs.Lists.{below}
 use Rattle.roman_model.specs.Numbers.{sizes_of, count}
-use Rattle.roman_model.specs.Arena.{Entry}
-use Rattle.roman_model.specs.declared.reason.Reason.TheVariants.{Act}
 use Rattle.roman_model.proofs.CallerLemmas.{length-below}
 use Rattle.roman_joint.specs.NamedSys.{system_of}
 use Rattle.roman_joint.proofs.CallerLemmas.{if_some}
-use Rattle.roman_order.specs.Board.{as_entry}
 use Rattle.roman_text.proofs.CallerLemmas.{fill_behind, fill_same, fill_more, fill_failed, fill_end}
-use Rattle.roman_cert.proofs.AnswerTexts.{entry_is, answers_from, answers_filling, no_answers, answers_next, answers_skip, answers_end}
+use Rattle.roman_cert.proofs.AnswerTexts.{answers_begin, answers_next, answers_skip, answers_end}
 use Rattle.roman_cert.proofs.slice.push_answers.Goals as goal
 
-pub returns-in_default-clause-gathers : goal.returns-in_default-clause-gathers
-returns-in_default-clause-gathers g c x e =
-    let is = same_Some x (as_entry c.entry-p.result) (sym e ∙ c.entry-p.ensures) in
-    fill_end _ _ _ _ (fill_behind _ _ [] _ (no_answers c.args.joint.now c.args.order.now.list x (λ a f. c.in_default.not-Act a (sym (ap (λ (y : Entry ℕ). y.reason) is) ∙ f))))
+pub loop-k-init : goal.loop-k-init
+loop-k-init g c = record { filling = fill_behind _ _ _ _ (answers_begin c.args.joint.now c.args.order.now.list c.args.p c.args.a); cause = refl }
 
 pub loop-k-preserved-then-not-is_ready : goal.loop-k-preserved-then-not-is_ready
 loop-k-preserved-then-not-is_ready g c =
-    let skip = answers_skip c.args.joint.now c.args.order.now.list c.entry-p.result.0 c.in-Act.a c.loop-k.k (omega (arith, c.seats-k-end.ensures.count)) (sym c.is_ready.ensures ∙ c.if-not-is_ready.true) in
+    let skip = answers_skip c.args.joint.now c.args.order.now.list c.args.p c.args.a c.loop-k.k (omega (arith, c.seats-k-end.ensures.count)) (sym c.is_ready.ensures ∙ c.if-not-is_ready.true) in
     record { filling = fill_same _ _ _ _ _ _ skip c.loop-k.invariant.filling; cause = c.loop-k.invariant.cause }
 
 pub answer_piece-line-requires-clause-pair : goal.answer_piece-line-requires-clause-pair
@@ -30,37 +24,22 @@ answer_piece-line-requires-clause-pair g c q e =
     omega (arith, length-below (count (sizes_of s)))
 
 pub returns-in_err-push-clause-gathers : goal.returns-in_err-push-clause-gathers
-returns-in_err-push-clause-gathers g c x e =
-    let n = c.args.joint.now in
-    let L = c.args.order.now.list in
-    let a = c.in-Act.a in
-    let bytes = c.bytes.result.now in
-    let is = entry_is L c.args.i c.entry-p.result (Act a) x c.entry-p.ensures c.in-Act.is e in
-    let next = answers_next n c.args.order.now c.args.i (as_entry c.entry-p.result) a c.loop-k.k c.answer-found.result bytes c.known.ensures c.requires.shaped c.known-2.ensures.in_range c.entry-p.ensures
+returns-in_err-push-clause-gathers g c =
+    let next = answers_next c.args.joint.now c.args.order.now c.args.i c.args.p c.args.a c.loop-k.k c.answer-found.result c.bytes.result.now c.known.ensures c.requires.shaped c.known-2.ensures.in_range c.requires.entry
     (omega (arith, c.seats-k-end.ensures.count)) (sym c.is_ready.ensures ∙ c.if-not-is_ready.false) c.answer-found.ensures.answer (c.bytes.ensures ∙ c.answer_piece-line.ensures) in
     let p = err_from_is_err_and c.from_residual.result c.from_residual.ensures.1 in
-    rw p.1 (
-      fill_failed _ _ _ _ bytes (answers_from n L c.entry-p.result.0 a (c.loop-k.k + 1)) _ (answers_filling _ _ _ _ _ n L x c.entry-p.result.0 a is (fill_same _ _ _ _ _ _ next c.loop-k.invariant.filling)) c.in_err-push.ensures.gathers.0,
-      c.in_err-push.ensures.gathers.1,
-    )
+    rw p.1 (fill_failed _ _ _ _ _ _ _ (fill_same _ _ _ _ _ _ next c.loop-k.invariant.filling) c.in_err-push.ensures.gathers.0, c.in_err-push.ensures.gathers.1)
 
 pub loop-k-preserved : goal.loop-k-preserved
 loop-k-preserved g c =
-    let n = c.args.joint.now in
-    let L = c.args.order.now.list in
-    let a = c.in-Act.a in
-    let bytes = c.bytes.result.now in
-    let next = answers_next n c.args.order.now c.args.i (as_entry c.entry-p.result) a c.loop-k.k c.answer-found.result bytes c.known.ensures c.requires.shaped c.known-2.ensures.in_range c.entry-p.ensures
+    let next = answers_next c.args.joint.now c.args.order.now c.args.i c.args.p c.args.a c.loop-k.k c.answer-found.result c.bytes.result.now c.known.ensures c.requires.shaped c.known-2.ensures.in_range c.requires.entry
     (omega (arith, c.seats-k-end.ensures.count)) (sym c.is_ready.ensures ∙ c.if-not-is_ready.false) c.answer-found.ensures.answer (c.bytes.ensures ∙ c.answer_piece-line.ensures) in
     record {
-      filling = fill_more _ _ _ _ _ bytes (answers_from n L c.entry-p.result.0 a (c.loop-k.k + 1)) _ (fill_same _ _ _ _ _ _ next c.loop-k.invariant.filling) c.in_ok-push.ensures.gathers;
+      filling = fill_more _ _ _ _ _ _ _ _ (fill_same _ _ _ _ _ _ next c.loop-k.invariant.filling) c.in_ok-push.ensures.gathers;
       cause = c.in_ok-push.ensures.cause.stays ∙ c.loop-k.invariant.cause;
     }
 
 pub returns-clause-gathers : goal.returns-clause-gathers
-returns-clause-gathers g c x e =
-    let n = c.args.joint.now in
-    let L = c.args.order.now.list in
-    let is = entry_is L c.args.i c.entry-p.result (Act c.in-Act.a) x c.entry-p.ensures c.in-Act.is e in
-    let ends = answers_end n L c.entry-p.result.0 c.in-Act.a c.loop-k.k (omega (arith, c.seats-k-end.ensures.count)) in
-    fill_end _ _ _ _ (answers_filling _ _ _ _ _ n L x c.entry-p.result.0 c.in-Act.a is (fill_same _ _ _ _ _ _ ends c.loop-k.invariant.filling))
+returns-clause-gathers g c =
+    let ends = answers_end c.args.joint.now c.args.order.now.list c.args.p c.args.a c.loop-k.k (omega (arith, c.seats-k-end.ensures.count)) in
+    fill_end _ _ _ _ (fill_same _ _ _ _ _ _ ends c.loop-k.invariant.filling)

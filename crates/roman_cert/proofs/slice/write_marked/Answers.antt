@@ -1,11 +1,10 @@
-use Rattle.std.proofs.Common.{◌+◌, [], codes, refl, sym, ◌∙◌, arith}
+use Rattle.std.proofs.Common.{[], codes, refl, sym, ◌∙◌, arith}
 use Rattle.std.proofs.lemmas.Result.{err_from_is_err_and}
 use Rattle.roman_order.specs.Board.{as_entry}
 use Rattle.roman_relation.specs.Greatest.{arena_of}
 use Rattle.roman_text.proofs.CallerLemmas.{fill_whole, fill_same, fill_more, fill_failed, fill_put}
-use Rattle.roman_cert.specs.Slices.{entry_text}
 use Rattle.roman_cert.proofs.Answering.{entry_node}
-use Rattle.roman_cert.proofs.SliceTexts.{slice_from, slice_begins, slice_next, slice_skip, slice_ends}
+use Rattle.roman_cert.proofs.SliceTexts.{slice_begins, slice_next, slice_skip, slice_ends}
 use Rattle.roman_cert.proofs.slice.write_marked.Goals as goal
 
 pub loop-i-init : goal.loop-i-init
@@ -27,7 +26,7 @@ returns-in_err-push_entry-clause-text g c =
     let x = as_entry c.entry-p.result in
     let next = slice_next n c.args.order.now c.loop-i.i x c.entry-p.ensures (sym c.marked.ensures ∙ c.if-not-marked.false) in
     let p = err_from_is_err_and c.from_residual.result c.from_residual.ensures.1 in
-    rw p.1 (fill_failed _ _ _ _ (entry_text n c.args.order.now.list x) (slice_from n c.args.order.now (c.loop-i.i + 1)) _ (fill_same _ _ _ _ _ _ next c.loop-i.invariant.filling) (c.in_err-push_entry.ensures.gathers x c.entry-p.ensures).0)
+    rw p.1 (fill_failed _ _ _ _ _ _ _ (fill_same _ _ _ _ _ _ next c.loop-i.invariant.filling) c.in_err-push_entry.ensures.gathers.0)
 
 pub loop-i-preserved : goal.loop-i-preserved
 loop-i-preserved g c =
@@ -35,7 +34,7 @@ loop-i-preserved g c =
     let x = as_entry c.entry-p.result in
     let next = slice_next n c.args.order.now c.loop-i.i x c.entry-p.ensures (sym c.marked.ensures ∙ c.if-not-marked.false) in
     record {
-      filling = fill_more _ _ _ _ _ (entry_text n c.args.order.now.list x) (slice_from n c.args.order.now (c.loop-i.i + 1)) _ (fill_same _ _ _ _ _ _ next c.loop-i.invariant.filling) (c.in_ok-push_entry.ensures.gathers x c.entry-p.ensures);
+      filling = fill_more _ _ _ _ _ _ _ _ (fill_same _ _ _ _ _ _ next c.loop-i.invariant.filling) c.in_ok-push_entry.ensures.gathers;
       cause = c.in_ok-push_entry.ensures.cause.stays ∙ c.loop-i.invariant.cause;
     }
 

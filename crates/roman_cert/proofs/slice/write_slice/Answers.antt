@@ -6,7 +6,7 @@ use Rattle.roman_model.proofs.CallerLemmas.{length-below, complete_order}
 use Rattle.roman_joint.specs.NamedSys.{system_of}
 use Rattle.roman_order.specs.Board.{Board, pairs_of, is_marked}
 use Rattle.roman_relation.specs.Greatest.{arena_of, IsRelation}
-use Rattle.roman_cert.proofs.Answering.{listed_numbers}
+use Rattle.roman_relation.proofs.CallerLemmas.{listed_numbers}
 use Rattle.roman_cert.proofs.Slicing.{explanation_written, unrelated_explained, unrelated_wins, marks_keep}
 use Rattle.roman_cert.proofs.slice.write_slice.Goals as goal
 

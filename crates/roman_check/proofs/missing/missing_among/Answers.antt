@@ -1,10 +1,11 @@
 use Rattle.std.proofs.Common.{◌+◌, ◌*◌, ◌&&◌, ◌||◌, ◌≡◌, ap, ap₂, ◌∙◌, arith}
 use Rattle.std.specs.List.{list_any}
+use Rattle.std.proofs.lemmas.Bool.{and_right}
 use Rattle.roman_model.specs.Arena.{is_justified}
 use Rattle.roman_model.specs.Certificate.{reasons}
 use Rattle.roman_lanes.specs.Rows.{is_on}
 use Rattle.roman_lanes.proofs.CallerLemmas.{on_and, on_or}
-use Rattle.roman_check.proofs.ReasonLemmas.{only_final, one_more, and_none}
+use Rattle.roman_check.proofs.ReasonLemmas.{only_final, one_more}
 use Rattle.roman_check.proofs.missing.missing_among.Goals as goal
 
 pub loop-a-init : goal.loop-a-init
@@ -14,7 +15,7 @@ loop-a-init g c =
     record {
       missing = λ x gone row rows lane m.
           on_and u left lane ∙ only_final (is_on u lane) (is_on left lane) ((g.J.Rules.arena c.args.joint.now).fine (x * g.J.Rules.lanes c.args.joint.now + lane)) ((c.unfine.ensures x row).each lane m);
-      within = λ lane off. on_and u left lane ∙ and_none (is_on u lane) (is_on left lane) off;
+      within = λ lane off. on_and u left lane ∙ and_right (is_on u lane) (is_on left lane) off;
     }
 
 pub loop-a-preserved : goal.loop-a-preserved

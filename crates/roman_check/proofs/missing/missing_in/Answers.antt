@@ -1,10 +1,11 @@
 use Rattle.std.proofs.Common.{ℕ, ◌≡◌, ◌<◌, ◌≤◌, bit_and, sym, ◌-◌, ◌/◌, ◌^◌, ◌+◌, ◌*◌, ◌&&◌, ap, ◌∙◌, arith, get_or}
 use Rattle.std.specs.List.{list_any}
+use Rattle.std.proofs.lemmas.Bool.{and_right}
 use Rattle.roman_model.specs.Arena.{is_listed, is_justified}
 use Rattle.roman_model.specs.Certificate.{reasons}
 use Rattle.roman_lanes.specs.Rows.{is_on}
 use Rattle.roman_lanes.proofs.CallerLemmas.{on_and, on_full, on_full_past, on_zero}
-use Rattle.roman_check.proofs.ReasonLemmas.{row_starts, and_none, and_all}
+use Rattle.roman_check.proofs.ReasonLemmas.{row_starts, and_all}
 use Rattle.roman_check.proofs.missing.missing_in.Goals as goal
 
 pub row-row-requires : goal.row-row-requires
@@ -35,4 +36,4 @@ pub returns-clause-within : goal.returns-clause-within
 returns-clause-within g c lane past =
     let w = get_or c.args.words.now c.args.x 0 in
     let full = (2 ^ 64 - 1) / 2 ^ (64 - c.lanes.result) in
-    c.missing_among.ensures.within lane (on_and w full lane ∙ and_none (is_on w lane) (is_on full lane) (on_full_past c.lanes.result lane (omega (arith, c.lanes.ensures.few)) (omega (arith, c.lanes.ensures.value))))
+    c.missing_among.ensures.within lane (on_and w full lane ∙ and_right (is_on w lane) (is_on full lane) (on_full_past c.lanes.result lane (omega (arith, c.lanes.ensures.few)) (omega (arith, c.lanes.ensures.value))))

@@ -1,7 +1,7 @@
 use Rattle.std.proofs.Common.{◌<◌, ◌++◌, ℕ, List, Result, codes, length, sym, ap, subst}
 use Rattle.roman_text.specs.Lines.{with_newline}
 use Rattle.roman_text.specs.declared.replies.Reply.{Reply}
-use Rattle.roman_generator.proofs.CallerLemmas.{has_in}
+use Rattle.roman_model.proofs.CallerLemmas.{number_listed}
 use Rattle.roman_model.specs.Offers.{offers}
 use Rattle.roman_session.specs.Situations.{Situation, present_system}
 use Rattle.roman_session.specs.Steps.{Does, Hands}
@@ -16,7 +16,7 @@ seat-requires c =
     let a = c.self.inside in
     let x = c.in-Ok.handing in
     let handed = handed_is s c.args.service.now x (sym c.in-Ok.ensures) in
-    let within = offered_within s x.action x.seat (situation_known a s c.self.invariant c.self.view_is) (has_in (offers (present_system s) s.here x.action) x.seat handed.offered) in
+    let within = offered_within s x.action x.seat (situation_known a s c.self.invariant c.self.view_is) (number_listed (offers (present_system s) s.here x.action) x.seat handed.offered) in
     subst (λ (s : Situation). x.seat < length s.parts.seats) (sym c.self.view_is) within
 
 pub set_phase-requires-clause-phase : goal.set_phase-requires-clause-phase
@@ -25,7 +25,7 @@ set_phase-requires-clause-phase c =
     let a = c.self.inside in
     let x = c.in-Ok.handing in
     let handed = handed_is s c.args.service.now x (sym c.in-Ok.ensures) in
-    (offered_open s x.action (situation_known a s c.self.invariant c.self.view_is) handed.phase, has_in (offers (present_system s) s.here x.action) x.seat handed.offered)
+    (offered_open s x.action (situation_known a s c.self.invariant c.self.view_is) handed.phase, number_listed (offers (present_system s) s.here x.action) x.seat handed.offered)
 
 pub returns : goal.returns
 returns c =
