@@ -230,7 +230,7 @@ names_said place name most d names at can = (lists_read.names place name most d 
   once = can.once;
 })
 
-env_read : (d : Data) (states actions : List (List ℕ)) (start : ℕ) (triples : List Triple) → IsTrue (is_some (as_object d)) → names_of list.States (codes "states") MAX_STATES d ≡ Ok states → start_of states d ≡ Ok start →
+pub env_read : (d : Data) (states actions : List (List ℕ)) (start : ℕ) (triples : List Triple) → IsTrue (is_some (as_object d)) → names_of list.States (codes "states") MAX_STATES d ≡ Ok states → start_of states d ≡ Ok start →
     names_of list.Actions (codes "actions") MAX_ACTIONS d ≡ Ok actions → triples_of states actions d ≡ Ok triples →
     environment_of d ≡ Ok (record { states = states; actions = actions; env = normal_env (record { states = length states; actions = length actions; start = start; triples = triples }) })
 unfolding environment_of
