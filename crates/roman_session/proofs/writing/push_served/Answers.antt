@@ -1,8 +1,4 @@
-use Rattle.std.proofs.Common.{◌++◌, ◌+◌, length, drop, codes, sym, ◌∙◌, arith}
-use Rattle.std.specs.List.{filter}
-use Rattle.roman_model.specs.Lists.{below}
-use Rattle.roman_rules.specs.Bits.{has_seat}
-use Rattle.roman_session.specs.Serving.{served_text}
+use Rattle.std.proofs.Common.{length, sym, ◌∙◌, arith}
 use Rattle.roman_text.proofs.CallerLemmas.{fill_same, fill_more, fill_failed, fill_end}
 use Rattle.roman_session.proofs.ServingLemmas.{next_set, next_unset, none_set}
 use Rattle.roman_session.proofs.writing.push_served.Goals as goal
@@ -19,9 +15,8 @@ pub returns-in-Err-clause-gathers : goal.returns-in-Err-clause-gathers
 returns-in-Err-clause-gathers g c =
     let joint = c.args.joint.now in
     let n = length joint.seats in
-    let next = next_set joint c.args.mask n c.loop-k.k c.seat.result.now (omega arith) (sym c.has.ensures ∙ c.if-not-has.false) c.seat.ensures in
-    let rest = served_text joint (filter (has_seat c.args.mask) (drop (c.loop-k.k + 1) (below n))) in (
-      fill_failed _ _ _ _ (codes " " ++ c.seat.result.now.name) rest _ (fill_same _ _ _ _ _ _ next c.loop-k.invariant.filling) c.in-Err.ensures.gathers.0,
+    let next = next_set joint c.args.mask n c.loop-k.k c.seat.result.now (omega arith) (sym c.has.ensures ∙ c.if-not-has.false) c.seat.ensures in (
+      fill_failed _ _ _ _ _ _ _ (fill_same _ _ _ _ _ _ next c.loop-k.invariant.filling) c.in-Err.ensures.gathers.0,
       c.in-Err.ensures.gathers.1,
     )
 
@@ -30,9 +25,8 @@ loop-k-preserved g c =
     let joint = c.args.joint.now in
     let n = length joint.seats in
     let next = next_set joint c.args.mask n c.loop-k.k c.seat.result.now (omega arith) (sym c.has.ensures ∙ c.if-not-has.false) c.seat.ensures in
-    let rest = served_text joint (filter (has_seat c.args.mask) (drop (c.loop-k.k + 1) (below n))) in
     record {
-      filling = fill_more _ _ _ _ _ (codes " " ++ c.seat.result.now.name) rest _ (fill_same _ _ _ _ _ _ next c.loop-k.invariant.filling) c.in_default.ensures.gathers;
+      filling = fill_more _ _ _ _ _ _ _ _ (fill_same _ _ _ _ _ _ next c.loop-k.invariant.filling) c.in_default.ensures.gathers;
       cause = c.in_default.ensures.cause.stays ∙ c.loop-k.invariant.cause;
     }
 

@@ -1,7 +1,6 @@
-use Rattle.std.proofs.Common.{◌≡◌, ◌+◌, refl, sym, ◌∙◌, arith, rules}
-use Rattle.roman_session.specs.Reports.{offer_line, lines_text}
+use Rattle.std.proofs.Common.{◌≡◌, refl, sym, ◌∙◌, arith, rules}
 use Rattle.roman_text.proofs.CallerLemmas.{fill_behind, fill_same, fill_more, fill_failed, fill_end}
-use Rattle.roman_session.proofs.LineLemmas.{lines_from, next_offer, next_unallowed, no_offer, offers_begin, no_offers}
+use Rattle.roman_session.proofs.LineLemmas.{next_offer, next_unallowed, no_offer, offers_begin, no_offers}
 use Rattle.roman_session.proofs.session.Session.push_offers.Goals as goal
 
 pub returns-then-not-composes-clause-gathers : goal.returns-then-not-composes-clause-gathers
@@ -25,10 +24,8 @@ pub returns-in-Err-clause-gathers : goal.returns-in-Err-clause-gathers
 returns-in-Err-clause-gathers g c =
     let s = c.args.self.now in
     let all : c.len-actions.result ≡ s.parts.environment.env.actions = search rules in
-    let a = c.loop-a.a in
-    let next = next_offer s.parts s.here a (omega (arith, all)) (sym c.if-not-allows.ensures) in (
-      fill_failed _ _ _ _ (lines_text (offer_line s.parts s.here a)) (lines_from s.parts s.here (a + 1)) _ (fill_same _ _ _ _ _ _ next c.loop-a.invariant.filling)
-          c.in-Err.ensures.gathers.0,
+    let next = next_offer s.parts s.here c.loop-a.a (omega (arith, all)) (sym c.if-not-allows.ensures) in (
+      fill_failed _ _ _ _ _ _ _ (fill_same _ _ _ _ _ _ next c.loop-a.invariant.filling) c.in-Err.ensures.gathers.0,
       c.in-Err.ensures.gathers.1,
     )
 
@@ -36,11 +33,9 @@ pub loop-a-preserved : goal.loop-a-preserved
 loop-a-preserved g c =
     let s = c.args.self.now in
     let all : c.len-actions.result ≡ s.parts.environment.env.actions = search rules in
-    let a = c.loop-a.a in
-    let next = next_offer s.parts s.here a (omega (arith, all)) (sym c.if-not-allows.ensures) in
+    let next = next_offer s.parts s.here c.loop-a.a (omega (arith, all)) (sym c.if-not-allows.ensures) in
     record {
-      filling = fill_more _ _ _ _ _ (lines_text (offer_line s.parts s.here a)) (lines_from s.parts s.here (a + 1)) _ (fill_same _ _ _ _ _ _ next c.loop-a.invariant.filling)
-          c.in_default.ensures.gathers;
+      filling = fill_more _ _ _ _ _ _ _ _ (fill_same _ _ _ _ _ _ next c.loop-a.invariant.filling) c.in_default.ensures.gathers;
       cause = c.in_default.ensures.cause.stays ∙ c.loop-a.invariant.cause;
     }
 

@@ -1,8 +1,7 @@
-use Rattle.std.proofs.Common.{◌<◌, ◌+◌, length, refl, ap, ◌∙◌, arith}
+use Rattle.std.proofs.Common.{◌<◌, length, refl, ap, ◌∙◌, arith}
 use Rattle.roman_joint.specs.NamedSys.{NamedSys}
-use Rattle.roman_text.specs.Report.{line_text}
 use Rattle.roman_text.proofs.CallerLemmas.{fill_behind, fill_same, fill_more, fill_failed, fill_end}
-use Rattle.roman_session.proofs.LineLemmas.{services_from, services_begin, service_next, no_service}
+use Rattle.roman_session.proofs.LineLemmas.{services_begin, service_next, no_service}
 use Rattle.roman_session.proofs.SituationLemmas.{situation_known, parts_shown}
 use Rattle.roman_session.proofs.session.Session.push_services.Goals as goal
 
@@ -16,11 +15,10 @@ returns-in-Err-clause-gathers g c =
     let s = c.args.self.now in
     let a = c.self.inside in
     let k = c.loop-k.k in
-    let x = c.service_line-line.result in
     let same = parts_shown a s c.self.view_is in
     let within : k < length s.parts.seats = omega (arith, c.seats-k-end.ensures.count, ap (λ (n : NamedSys). length n.seats) same) in
-    let next = service_next s.parts a.relation.joint s.here k c.state.result x (situation_known a s c.self.invariant c.self.view_is).here same within c.state.ensures.value c.service_line-line.ensures in (
-      fill_failed _ _ _ _ (line_text x) (services_from s.parts s.here (k + 1)) _ (fill_same _ _ _ _ _ _ next c.loop-k.invariant.filling) c.in-Err.ensures.gathers.0,
+    let next = service_next s.parts a.relation.joint s.here k c.state.result _ (situation_known a s c.self.invariant c.self.view_is).here same within c.state.ensures.value c.service_line-line.ensures in (
+      fill_failed _ _ _ _ _ _ _ (fill_same _ _ _ _ _ _ next c.loop-k.invariant.filling) c.in-Err.ensures.gathers.0,
       c.in-Err.ensures.gathers.1,
     )
 
@@ -29,12 +27,11 @@ loop-k-preserved g c =
     let s = c.args.self.now in
     let a = c.self.inside in
     let k = c.loop-k.k in
-    let x = c.service_line-line.result in
     let same = parts_shown a s c.self.view_is in
     let within : k < length s.parts.seats = omega (arith, c.seats-k-end.ensures.count, ap (λ (n : NamedSys). length n.seats) same) in
-    let next = service_next s.parts a.relation.joint s.here k c.state.result x (situation_known a s c.self.invariant c.self.view_is).here same within c.state.ensures.value c.service_line-line.ensures in
+    let next = service_next s.parts a.relation.joint s.here k c.state.result _ (situation_known a s c.self.invariant c.self.view_is).here same within c.state.ensures.value c.service_line-line.ensures in
     record {
-      filling = fill_more _ _ _ _ _ (line_text x) (services_from s.parts s.here (k + 1)) _ (fill_same _ _ _ _ _ _ next c.loop-k.invariant.filling) c.in_default.ensures.gathers;
+      filling = fill_more _ _ _ _ _ _ _ _ (fill_same _ _ _ _ _ _ next c.loop-k.invariant.filling) c.in_default.ensures.gathers;
       cause = c.in_default.ensures.cause.stays ∙ c.loop-k.invariant.cause;
     }
 
