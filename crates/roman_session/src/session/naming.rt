@@ -1,7 +1,9 @@
 //! What names stand for.
 ghost use Rattle.std.specs.Prelude.{◌≡◌, ◌<◌, ◌≤◌, length, IfOk, IfSome, slice_get};
+ghost use Rattle.std.specs.Str.{bytes_eq};
 ghost use Rattle.roman_session.specs.Situations.{present_system};
 ghost use Rattle.roman_session.specs.Rulings.{named, service_named, state_named};
+ghost use Rattle.roman_session.specs.Steps.{service_at};
 
 use super::Session;
 use roman_read::NameTable;
@@ -28,14 +30,21 @@ impl Session {
         place(self.relation.joint.environment().states(), name)
     }
 
+    // Whether the service at place k has this name.
+    fn has_name(&self, k: u8, name: &[u8]) -> bool
+        requires { k < length self.now.parts.seats }
+        ensures { result ≡ bytes_eq name.now (service_at self.now k) }
+    {
+        name == self.relation.joint.seat(k).name.bytes()
+    }
+
     // The place of the service with this name, where one is present.
     pub(super) fn service_place(&self, name: &[u8]) -> Result<u8, Reply>
         ensures place { result ≡ service_named self.now name.now }
         ensures within { IfOk result (λ k. k < length self.now.parts.seats) }
     {
-        let joint = &self.relation.joint;
-        for k in 0..joint.seats() {
-            if name == joint.seat(k).name.bytes() {
+        for k in 0..self.relation.joint.seats() {
+            if self.has_name(k, name) {
                 return Ok(k);
             }
         }
