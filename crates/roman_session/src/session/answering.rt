@@ -52,13 +52,8 @@ impl Session {
         let mut page = Page::new();
         let answered = self.answer_on(line, &mut page, out, steps);
         self.known();
-        let next = match answered {
-            Ok(next) => next,
-            Err(failed) => return Err(failed),
-        };
-        if let Err(failed) = page.flush(out) {
-            return Err(failed);
-        }
+        let next = answered?;
+        page.flush(out)?;
         Ok(next)
     }
 
@@ -81,15 +76,11 @@ impl Session {
         let event = match parse_line(line) {
             Ok(event) => event,
             Err(_) => {
-                if let Err(failed) = page.push_reply(&Reply::ErrorLine, out) {
-                    return Err(failed);
-                }
+                page.push_reply(&Reply::ErrorLine, out)?;
                 return Ok(Next::More);
             }
         };
-        if let Err(failed) = self.answer_event(event, page, out, steps) {
-            return Err(failed);
-        }
+        self.answer_event(event, page, out, steps)?;
         Ok(next_after(event))
     }
 
@@ -173,9 +164,7 @@ impl Session {
         ensures stays { self.new ≡ self.old }
         ensures cause { HasCause (O.faults out.old) (O.faults out.new) result }
     {
-        if let Err(failed) = page.flush(out) {
-            return Err(failed);
-        }
+        page.flush(out)?;
         let here = self.here();
         write_slice(&mut self.relation, here, out, steps)
     }

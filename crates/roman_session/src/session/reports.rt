@@ -22,9 +22,7 @@ impl Session {
         ensures cause { HasCause (O.faults out.old) (O.faults out.new) result }
     {
         let mut page = Page::new();
-        if let Err(failed) = self.push_report(&mut page, out) {
-            return Err(failed);
-        }
+        self.push_report(&mut page, out)?;
         page.flush(out)
     }
 
@@ -42,12 +40,8 @@ impl Session {
     {
         self.known();
         let mask = self.offered(a);
-        if let Err(failed) = page.push(b"offer", out) {
-            return Err(failed);
-        }
-        if let Err(failed) = push_served(&self.relation.joint, mask, page, out) {
-            return Err(failed);
-        }
+        page.push(b"offer", out)?;
+        push_served(&self.relation.joint, mask, page, out)?;
         page.push(b"\n", out)
     }
 
@@ -56,18 +50,10 @@ impl Session {
         ensures gathers { Gathers (O.written out.old) (O.written out.new) page.new (page.old ++ report_text self.now.parts self.now.here) result }
         ensures cause { HasCause (O.faults out.old) (O.faults out.new) result }
     {
-        if let Err(failed) = push_lines(&self.head_lines(), page, out) {
-            return Err(failed);
-        }
-        if let Err(failed) = self.push_services(page, out) {
-            return Err(failed);
-        }
-        if let Err(failed) = push_lines(&[ReportLine::Answer(self.composes())], page, out) {
-            return Err(failed);
-        }
-        if let Err(failed) = self.push_offers(page, out) {
-            return Err(failed);
-        }
+        push_lines(&self.head_lines(), page, out)?;
+        self.push_services(page, out)?;
+        push_lines(&[ReportLine::Answer(self.composes())], page, out)?;
+        self.push_offers(page, out)?;
         push_lines(&[ReportLine::End], page, out)
     }
 
@@ -95,9 +81,7 @@ impl Session {
     {
         for k in 0..self.relation.joint.seats() {
             let line = service_line(&self.relation.joint, k, self.state(k));
-            if let Err(failed) = page.push_report_line(&line, out) {
-                return Err(failed);
-            }
+            page.push_report_line(&line, out)?;
         }
         Ok(())
     }
@@ -115,9 +99,7 @@ impl Session {
             if !self.allows(a) {
                 continue;
             }
-            if let Err(failed) = self.push_offer(a, page, out) {
-                return Err(failed);
-            }
+            self.push_offer(a, page, out)?;
         }
         Ok(())
     }
@@ -131,12 +113,8 @@ impl Session {
         self.known();
         let mask = self.offers(a);
         let line = ReportLine::Offer(*self.relation.joint.action_name(a));
-        if let Err(failed) = page.push_report_line(&line, out) {
-            return Err(failed);
-        }
-        if let Err(failed) = push_served(&self.relation.joint, mask, page, out) {
-            return Err(failed);
-        }
+        page.push_report_line(&line, out)?;
+        push_served(&self.relation.joint, mask, page, out)?;
         page.push_report_line(&ReportLine::Stop, out)
     }
 }
