@@ -90,7 +90,7 @@ pub fn hear<S: Source, O: Sink, L: Ledger>(
     }
 }
 
-// Hears a piece, as far as there is room for its bytes. The answers to its lines are put together.
+/// Hears a piece, as far as there is room for its bytes. The answers to its lines are put together.
 fn hear_piece<O: Sink, L: Ledger>(
     session: &mut Session,
     splitter: &mut Splitter,
@@ -120,7 +120,7 @@ fn hear_piece<O: Sink, L: Ledger>(
     }
 }
 
-// Hears bytes, up to the newline of a line `quit`.
+/// Hears bytes, up to the newline of a line `quit`.
 fn hear_bytes<O: Sink, L: Ledger>(
     session: &mut Session,
     splitter: &mut Splitter,
@@ -141,7 +141,7 @@ fn hear_bytes<O: Sink, L: Ledger>(
     Ok(Next::More)
 }
 
-// Hears a byte, and answers the line that it ends.
+/// Hears a byte, and answers the line that it ends.
 fn hear_byte<O: Sink, L: Ledger>(
     session: &mut Session,
     splitter: &mut Splitter,
@@ -162,7 +162,7 @@ fn hear_byte<O: Sink, L: Ledger>(
     Ok(next)
 }
 
-// Hears the last line, where bytes of it are left.
+/// Hears the last line, where bytes of it are left.
 fn hear_rest<O: Sink, L: Ledger>(
     session: &mut Session,
     splitter: &Splitter,
@@ -182,7 +182,7 @@ fn hear_rest<O: Sink, L: Ledger>(
     }
 }
 
-// Answers the line that is held, on a page. Of a long line as much is held as tells its shape.
+/// Answers the line that is held, on a page. Of a long line as much is held as tells its shape.
 fn hear_line<O: Sink, L: Ledger>(
     session: &mut Session,
     splitter: &Splitter,
@@ -201,7 +201,7 @@ fn hear_line<O: Sink, L: Ledger>(
     answered
 }
 
-// Answers the last line, and writes the answer.
+/// Answers the last line, and writes the answer.
 fn hear_last<O: Sink, L: Ledger>(
     session: &mut Session,
     splitter: &Splitter,

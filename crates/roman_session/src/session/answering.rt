@@ -16,7 +16,7 @@ use roman_io::{Failed, Sink, Steps};
 use roman_text::{Event, Page, Reply, parse_line};
 use std::sync::ledger::Ledger;
 
-// Whether the session goes on after an event.
+/// Whether the session goes on after an event.
 fn next_after(event: Event<'_>) -> Next
     ensures { result ≡ next_after (Ok (shape_of_event event.entry)) }
 {
@@ -84,8 +84,8 @@ impl Session {
         Ok(next_after(event))
     }
 
+    /// Answers an event, on a page.
     #[tactic(auto, using(crate::proofs::AnswerLemmas::done))]
-    // Answers an event, on a page.
     fn answer_event<O: Sink, L: Ledger>(
         &mut self,
         event: Event<'_>,
@@ -119,7 +119,7 @@ impl Session {
         }
     }
 
-    // Answers a request, on a page.
+    /// Answers a request, on a page.
     fn answer_request<O: Sink>(
         &mut self,
         action: &[u8],
@@ -135,7 +135,7 @@ impl Session {
         }
     }
 
-    // Answers why there is no composition, on a page.
+    /// Answers why there is no composition, on a page.
     fn answer_question<O: Sink, L: Ledger>(
         &mut self,
         page: &mut Page,
@@ -151,7 +151,7 @@ impl Session {
         self.explain(page, out, steps)
     }
 
-    // Writes what the page holds, and then the explanation of the current pair, which isn't related.
+    /// Writes what the page holds, and then the explanation of the current pair, which isn't related.
     fn explain<O: Sink, L: Ledger>(
         &mut self,
         page: &mut Page,

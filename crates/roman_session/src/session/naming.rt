@@ -9,7 +9,7 @@ use super::Session;
 use roman_read::NameTable;
 use roman_text::Reply;
 
-// The number of a name, where the table has it.
+/// The number of a name, where the table has it.
 pub(super) fn place(names: &NameTable, name: &[u8]) -> Result<u8, Reply>
     requires { length names.now ≤ 64 }
     ensures place { result ≡ named names.now name.now }
@@ -22,7 +22,7 @@ pub(super) fn place(names: &NameTable, name: &[u8]) -> Result<u8, Reply>
 }
 
 impl Session {
-    // The state of the environment with this name.
+    /// The state of the environment with this name.
     pub(super) fn env_place(&self, name: &[u8]) -> Result<u8, Reply>
         ensures place { result ≡ named self.now.parts.environment.states name.now }
         ensures within { IfOk result (λ e. e < (present_system self.now).env.states) }
@@ -30,7 +30,7 @@ impl Session {
         place(self.relation.joint.environment().states(), name)
     }
 
-    // Whether the service at place k has this name.
+    /// Whether the service at place k has this name.
     fn has_name(&self, k: u8, name: &[u8]) -> bool
         requires { k < length self.now.parts.seats }
         ensures { result ≡ bytes_eq name.now (service_at self.now k) }
@@ -38,7 +38,7 @@ impl Session {
         name == self.relation.joint.seat(k).name.bytes()
     }
 
-    // The place of the service with this name, where one is present.
+    /// The place of the service with this name, where one is present.
     pub(super) fn service_place(&self, name: &[u8]) -> Result<u8, Reply>
         ensures place { result ≡ service_named self.now name.now }
         ensures within { IfOk result (λ k. k < length self.now.parts.seats) }
@@ -51,7 +51,7 @@ impl Session {
         Err(Reply::ErrorName)
     }
 
-    // The state with this name of the service at place k.
+    /// The state with this name of the service at place k.
     pub(super) fn state_place(&self, k: u8, name: &[u8]) -> Result<u8, Reply>
         requires { k < length self.now.parts.seats }
         ensures place { result ≡ state_named self.now k name.now }
