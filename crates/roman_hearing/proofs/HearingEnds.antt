@@ -1,7 +1,7 @@
 -- How a session that is heard from a source ends.
-use Rattle.std.proofs.Common.{◌≡◌, ℕ, ◌+◌, ◌-◌, ◌<◌, ◌≤◌, Bool, true, false, ◌||◌, List, [], ◌∷◌, ◌++◌, length, take, drop, nat_le, ltb, Option, Result, Ok, Err, OnOk, IsErrOf, IsTrue, inl, inr, refl, sym, ap, ◌∙◌, subst, arith, append_assoc, append-nil, length-append, length-take, take-append-drop, take_at, le-leb}
+use Rattle.std.proofs.Common.{◌≡◌, ℕ, ◌+◌, ◌-◌, ◌<◌, ◌≤◌, false, List, [], ◌∷◌, ◌++◌, length, take, drop, nat_le, ltb, Option, Result, Ok, Err, OnOk, IsErrOf, IsTrue, inl, inr, refl, sym, ap, ◌∙◌, subst, arith, append_assoc, append-nil, length-append, length-take, take-append-drop, take_at, le-leb}
 use Rattle.std.proofs.Math.Seq.{take-append-add}
-use Rattle.std.proofs.lemmas.Bool.{cond-true, cond-false, or_from, lt-leb}
+use Rattle.std.proofs.lemmas.Bool.{cond-true, cond-false, or_from, or_left, or_right, lt-leb}
 use Rattle.roman_io.specs.Source.{Gave, EndsAt, Had}
 use Rattle.roman_io.proofs.CallerLemmas.{Gave-then, WrotePrefix-append, had_more, had_all}
 use Rattle.roman_model.specs.Lines.{lines, ended_lines, text_of_lines}
@@ -30,7 +30,7 @@ prefix-append limit heard rest few =
 
 -- a session that isn't longer is heard out
 pub short_out : (session : List ℕ) → length session ≤ MAX_SESSION_BYTES → IsTrue (is_heard_out session)
-short_out session few = ap (λ (b : Bool). b || has_quit (ended_lines (prefix_of session))) (le-leb (length session) MAX_SESSION_BYTES few)
+short_out session few = or_left (nat_le (length session) MAX_SESSION_BYTES) (has_quit (ended_lines (prefix_of session))) (le-leb (length session) MAX_SESSION_BYTES few)
 
 -- so is one where a line `quit` ends in time
 quit_out : (heard rest : List ℕ) → length heard ≤ MAX_SESSION_BYTES → IsTrue (has_quit (ended_lines heard)) → IsTrue (is_heard_out (heard ++ rest))
@@ -38,10 +38,6 @@ quit_out heard rest few quit =
     let (more, e) = ended_more heard (take (MAX_SESSION_BYTES - length heard) rest) in
     or_right (nat_le (length (heard ++ rest)) MAX_SESSION_BYTES) (has_quit (ended_lines (prefix_of (heard ++ rest))))
     (ap (λ (bytes : List ℕ). has_quit (ended_lines bytes)) (prefix-append MAX_SESSION_BYTES heard rest few) ∙ ap has_quit e ∙ quit_left (ended_lines heard) more quit)
-  where
-    or_right : (a b : Bool) → IsTrue b → IsTrue (a || b)
-    or_right true b h = refl
-    or_right false b h = h
 
 -- the lines that are answered begin with the whole ones of bytes that are few enough
 heard_more : (heard rest : List ℕ) → length heard ≤ MAX_SESSION_BYTES → (more : List (List ℕ)) × (heard_lines (heard ++ rest) ≡ ended_lines heard ++ more)

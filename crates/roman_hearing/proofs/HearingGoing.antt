@@ -33,9 +33,9 @@ use Rattle.roman_session.specs.declared.events.Jump.{Jump}
 use Rattle.roman_generator.specs.declared.sight.Sight.{Sight}
 use Rattle.roman_session.specs.declared.phase.Phase.{Phase}
 use Rattle.roman_session.specs.declared.phase.Phase.TheVariants.{Idle, Offered, Delegated}
-use Rattle.roman_session.proofs.CallerLemmas.{seat_is, checked, asked_is, handed_is, seen_is, jumped_idle, env_jumped_idle, frozen_is, thawed_is, died_idle, joining_idle, cells_with, there_is}
+use Rattle.roman_session.proofs.CallerLemmas.{seat_is, checked, asked_is, handed_is, seen_is, jumped_is, env_jumped_is, frozen_is, thawed_is, died_is, joining_idle, cells_with, there_is}
 use Rattle.roman_hearing.specs.Known.{AreBehaviours}
-use Rattle.roman_hearing.proofs.WithinLemmas.{frozen_within, thawed_within, died_within, joining_new, joining_beh}
+use Rattle.roman_hearing.proofs.WithinLemmas.{seat_within, joining_new, joining_beh}
 
 -- ---- what a session needs to go on
 
@@ -203,19 +203,22 @@ changes_there s x is idle can same known =
 
 freezes_there : (s : Situation) (service : List ℕ) (k : ℕ) → IsGoing s → frozen s service ≡ Ok k → CanGo (Freezes s k)
 freezes_there s service k is h =
-    let l = frozen_within s service k h in
-    changes_there s (freezing s k) is (frozen_is s service k h).idle (omega (arith, l, length-map s.parts.seats (seat_of s.parts.catalogue))) (frozen_system s.parts k true) (frozen_known s.parts k true is.parts l)
+    let ruling = frozen_is s service k h in
+    let l = seat_within s service k ruling.named in
+    changes_there s (freezing s k) is ruling.idle (omega (arith, l, length-map s.parts.seats (seat_of s.parts.catalogue))) (frozen_system s.parts k true) (frozen_known s.parts k true is.parts l)
 
 thaws_there : (s : Situation) (service : List ℕ) (k : ℕ) → IsGoing s → thawed s service ≡ Ok k → CanGo (Thaws s k)
 thaws_there s service k is h =
-    let l = thawed_within s service k h in
-    changes_there s (thawing s k) is (thawed_is s service k h).idle (omega (arith, l, length-map s.parts.seats (seat_of s.parts.catalogue))) (frozen_system s.parts k false) (frozen_known s.parts k false is.parts l)
+    let ruling = thawed_is s service k h in
+    let l = seat_within s service k ruling.named in
+    changes_there s (thawing s k) is ruling.idle (omega (arith, l, length-map s.parts.seats (seat_of s.parts.catalogue))) (frozen_system s.parts k false) (frozen_known s.parts k false is.parts l)
 
 dies_there : (s : Situation) (service : List ℕ) (k : ℕ) → IsGoing s → died s service ≡ Ok k → CanGo (Dies s k)
 dies_there s service k is h =
-    let l = died_within s service k h in
+    let ruling = died_is s service k h in
+    let l = seat_within s service k ruling.named in
     let (x, there) = there_is s.parts.seats k l in
-    changes_there s (dying s k) is (died_idle s service k h) (seat_is s k l) (gone_system s.parts k (seat_at s k)) (gone_known s.parts k x is.parts l (sym (get_or_from_slice_get s.parts.seats k x x there)))
+    changes_there s (dying s k) is ruling.idle (seat_is s k l) (gone_system s.parts k (seat_at s k)) (gone_known s.parts k x is.parts l (sym (get_or_from_slice_get s.parts.seats k x x there)))
 
 joins_there : (s : Situation) (service behaviour state : List ℕ) (loose : Bool) (x : Joining) → IsGoing s → join_of s service behaviour state loose ≡ Ok x → CanGo (Joins s x)
 joins_there s service behaviour state loose x is h =
@@ -243,8 +246,8 @@ step_on s (thaw service) is = does_there Thaws s (thawed s service) is (λ k h. 
 step_on s (die service) is = does_there Dies s (died s service) is (λ k h. dies_there s service k is h)
 step_on s (join service behaviour state loose) is =
     does_there Joins s (join_of s service behaviour state loose) is (λ x h. joins_there s service behaviour state loose x is h)
-step_on s (jump service state) is = does_there Jumps s (jumped s service state) is (λ x h. jumps_there s x is (jumped_idle s service state x h))
-step_on s (jump_env env) is = does_there EnvJumps s (env_jumped s env) is (λ e h. env_jumps_there s e is (env_jumped_idle s env e h))
+step_on s (jump service state) is = does_there Jumps s (jumped s service state) is (λ x h. jumps_there s x is (jumped_is s service state x h).idle)
+step_on s (jump_env env) is = does_there EnvJumps s (env_jumped s env) is (λ e h. env_jumps_there s e is (env_jumped_is s env e h).idle)
 step_on s report is = says_there s (report_text s.parts s.here) is
 step_on s explain is = does_there Explains s (unexplained s) is (λ x h. explains_there s x is)
 step_on s quit is = says_there s (reply_text reply.Bye) is

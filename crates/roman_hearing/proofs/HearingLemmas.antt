@@ -13,7 +13,7 @@ use Rattle.roman_text.specs.Lines.{is_newline, unfinished, kept}
 use Rattle.roman_text.specs.Shapes.{shape_of}
 use Rattle.roman_session.specs.Situations.{Situation, IsSituation}
 use Rattle.roman_session.specs.Steps.{Step}
-use Rattle.roman_session.specs.Answering.{Answered, AnsweredOn, next_of}
+use Rattle.roman_session.specs.Answering.{AnsweredOn, next_of}
 use Rattle.roman_session.specs.declared.next.Next.{Next}
 use Rattle.roman_session.specs.declared.next.Next.TheVariants.{More, Quit}
 use Rattle.roman_hearing.specs.Hearing.{ends_session, has_quit, Spot, spot, Tells, TellsPrefix}
@@ -28,14 +28,6 @@ unfolding Step
 step_alike old new line held text same step = rw (sym same) step
 
 -- so it is answered by as much of it as tells its shape
-pub answered_alike : {T E : Type 0} (old new : Situation) (line held : List ℕ) (before now : Option (List ℕ)) (result : Result T E) → shape_of held ≡ shape_of line →
-    Answered old held new before now result → Answered old line new before now result
-answered_alike old new line held before now result same answered = record {
-  text = answered.text;
-  step = step_alike old new line held answered.text same answered.step;
-  puts = answered.puts;
-}
-
 pub answered_on_alike : {T E : Type 0} (old new : Situation) (line held : List ℕ) (before now : Option (List ℕ)) (page holds : List ℕ) (result : Result T E) → shape_of held ≡ shape_of line →
     AnsweredOn old held new before now page holds result → AnsweredOn old line new before now page holds result
 answered_on_alike old new line held before now page holds result same answered = record {
@@ -57,26 +49,7 @@ next_quit line e = by_test (ends_session line)
 
 -- ---- what is told of one line more
 
-tells_more : (old mid new : Situation) (ls : List (List ℕ)) (line more : List ℕ) (before wrote now : Option (List ℕ)) → IsFalse (has_quit ls) →
-    Tells (spot old before) ls (spot mid wrote) → Step mid line more new → Wrote wrote now more → Tells (spot old before) (ls ++ line ∷ []) (spot new now)
-tells_more old mid new ls line more before wrote now quitless tells step wrote_more = record {
-  text = tells.text ++ more;
-  told = told_push old mid new ls line tells.text more quitless tells.told step;
-  wrote = Wrote-then before wrote now tells.text more tells.wrote wrote_more;
-}
-
-fails_more : (old mid new : Situation) (ls : List (List ℕ)) (line more : List ℕ) (before wrote now : Option (List ℕ)) → IsFalse (has_quit ls) →
-    Tells (spot old before) ls (spot mid wrote) → Step mid line more new → WrotePrefix wrote now more → IsSituation new → FallsShort (spot old before) (ls ++ line ∷ []) (spot new now)
-fails_more old mid new ls line more before wrote now quitless tells step wrote_more known = record {
-  tells = record {
-    text = tells.text ++ more;
-    told = told_push old mid new ls line tells.text more quitless tells.told step;
-    wrote = WrotePrefix-after before wrote now tells.text more tells.wrote wrote_more;
-  };
-  known = known;
-}
-
--- the same on a page
+-- its answer is taken on the page
 takes_more : (old mid new : Situation) (ls : List (List ℕ)) (line more : List ℕ) (before wrote now : Option (List ℕ)) (page holds : List ℕ) → IsFalse (has_quit ls) →
     TellsOnPage (spot old before) ls (spot mid wrote) page → Step mid line more new → Gathered wrote now holds (page ++ more) → TellsOnPage (spot old before) (ls ++ line ∷ []) (spot new now) holds
 takes_more old mid new ls line more before wrote now page holds quitless takes step gathered = record {
@@ -85,6 +58,7 @@ takes_more old mid new ls line more before wrote now page holds quitless takes s
   gathered = Gathered-then before wrote now page holds takes.text more takes.gathered gathered;
 }
 
+-- or isn't taken whole
 takes_failed : (old mid new : Situation) (ls : List (List ℕ)) (line more : List ℕ) (before wrote now : Option (List ℕ)) (page : List ℕ) → IsFalse (has_quit ls) →
     TellsOnPage (spot old before) ls (spot mid wrote) page → Step mid line more new → WrotePrefix wrote now (page ++ more) → IsSituation new → FallsShort (spot old before) (ls ++ line ∷ []) (spot new now)
 takes_failed old mid new ls line more before wrote now page quitless takes step prefix known = record {
@@ -220,29 +194,36 @@ module _ (old : Situation) (before : Option (List ℕ)) (taken bytes : List ℕ)
 
 -- ---- the last line
 
-module _ (old : Situation) (before : Option (List ℕ)) (taken : List ℕ) (mid : Situation) (wrote : Option (List ℕ)) (held : List ℕ) (is : IsHearing (spot old before) taken (ear mid wrote [] held)) where
-  told : Tells (spot old before) (ended_lines taken) (spot mid wrote)
-  told = whole_told (spot old before) (spot mid wrote) (ended_lines taken) is.tells
+-- no bytes of it are left
+pub hears_no_rest : (old : Situation) (before : Option (List ℕ)) (taken : List ℕ) (mid : Situation) (wrote : Option (List ℕ)) (held : List ℕ) → IsHearing (spot old before) taken (ear mid wrote [] held) →
+    nat_lt 0 (length held) ≡ false → Tells (spot old before) (lines taken) (spot mid wrote)
+hears_no_rest old before taken mid wrote held is none =
+    rw (lines_none taken (subst (λ (held : List ℕ). nat_lt 0 (length held) ≡ false) is.rest none)) (whole_told (spot old before) (spot mid wrote) (ended_lines taken) is.tells)
 
-  -- no bytes of a last line are left
-  pub hears_no_rest : nat_lt 0 (length held) ≡ false → Tells (spot old before) (lines taken) (spot mid wrote)
-  hears_no_rest none = rw (lines_none taken (subst (λ (held : List ℕ). nat_lt 0 (length held) ≡ false) is.rest none)) told
-
+module _ (old : Situation) (before : Option (List ℕ)) (taken : List ℕ) (mid : Situation) (wrote : Option (List ℕ)) (page held : List ℕ) (is : IsHearing (spot old before) taken (ear mid wrote page held))
+    (some : nat_lt 0 (length held) ≡ true) (new : Situation) (now : Option (List ℕ)) (holds : List ℕ) where
   -- they are its line
-  rest_line : nat_lt 0 (length held) ≡ true → ended_lines taken ++ unfinished taken ∷ [] ≡ lines taken
-  rest_line some = sym (lines_rest taken (subst (λ (held : List ℕ). nat_lt 0 (length held) ≡ true) is.rest some))
+  rest_line : ended_lines taken ++ unfinished taken ∷ [] ≡ lines taken
+  rest_line = sym (lines_rest taken (subst (λ (held : List ℕ). nat_lt 0 (length held) ≡ true) is.rest some))
 
-  pub hears_rest : (new : Situation) (now : Option (List ℕ)) (next : Next) → nat_lt 0 (length held) ≡ true → Answered {E = Failed} mid (unfinished taken) new wrote now (Ok next) →
-      Tells (spot old before) (lines taken) (spot new now)
-  hears_rest new now next some answered =
-      subst (λ (ls : List (List ℕ)). Tells (spot old before) ls (spot new now)) (rest_line some)
-      (tells_more old mid new (ended_lines taken) (unfinished taken) answered.text before wrote now is.quitless told answered.step answered.puts)
+  takes_rest : (next : Next) → AnsweredOn {E = Failed} mid (unfinished taken) new wrote now page holds (Ok next) → TellsOnPage (spot old before) (lines taken) (spot new now) holds
+  takes_rest next answered =
+      subst (λ (ls : List (List ℕ)). TellsOnPage (spot old before) ls (spot new now) holds) rest_line
+      (takes_more old mid new (ended_lines taken) (unfinished taken) answered.text before wrote now page holds is.quitless is.tells answered.step answered.gathers)
 
-  pub fails_rest : (new : Situation) (now : Option (List ℕ)) (failed : Failed) → nat_lt 0 (length held) ≡ true → Answered {T = Next} mid (unfinished taken) new wrote now (Err failed) → IsSituation new →
-      FallsShort (spot old before) (lines taken) (spot new now)
-  fails_rest new now failed some answered known =
-      subst (λ (ls : List (List ℕ)). FallsShort (spot old before) ls (spot new now)) (rest_line some)
-      (fails_more old mid new (ended_lines taken) (unfinished taken) answered.text before wrote now is.quitless told answered.step answered.puts known)
+  pub hears_rest : (next : Next) (after : Option (List ℕ)) → AnsweredOn {E = Failed} mid (unfinished taken) new wrote now page holds (Ok next) → Wrote now after holds →
+      Tells (spot old before) (lines taken) (spot new after)
+  hears_rest next after answered put =
+      whole_told (spot old before) (spot new after) (lines taken) (put_whole (spot old before) new now after (lines taken) holds (takes_rest next answered) put)
+
+  pub fails_put : (next : Next) (after : Option (List ℕ)) → AnsweredOn {E = Failed} mid (unfinished taken) new wrote now page holds (Ok next) → WrotePrefix now after holds → IsSituation new →
+      FallsShort (spot old before) (lines taken) (spot new after)
+  fails_put next after answered prefix known = record { tells = put_prefix (spot old before) new now after (lines taken) holds (takes_rest next answered) prefix; known = known }
+
+  pub fails_rest : (failed : Failed) → AnsweredOn {T = Next} mid (unfinished taken) new wrote now page holds (Err failed) → IsSituation new → FallsShort (spot old before) (lines taken) (spot new now)
+  fails_rest failed answered known =
+      subst (λ (ls : List (List ℕ)). FallsShort (spot old before) ls (spot new now)) rest_line
+      (takes_failed old mid new (ended_lines taken) (unfinished taken) answered.text before wrote now page is.quitless is.tells answered.step answered.gathers.0 known)
 
 -- ---- what a page holds at the end of a piece
 

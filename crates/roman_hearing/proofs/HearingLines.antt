@@ -1,6 +1,6 @@
 -- What is told of lines that follow one another, up to the first that ends the session.
-use Rattle.std.proofs.Common.{◌≡◌, ℕ, Bool, true, false, ◌||◌, List, [], ◌∷◌, ◌++◌, length, nat_lt, IsTrue, IsFalse, refl, sym, ap, ◌∙◌, subst, append_assoc, append-nil}
-use Rattle.std.proofs.lemmas.Bool.{cond-true, cond-false, or_parts, or_from}
+use Rattle.std.proofs.Common.{◌≡◌, ℕ, false, List, [], ◌∷◌, ◌++◌, length, nat_lt, IsTrue, IsFalse, refl, sym, ap, ◌∙◌, subst, append_assoc, append-nil}
+use Rattle.std.proofs.lemmas.Bool.{cond-true, cond-false, or_parts, or_from, or_left, or_right}
 use Rattle.std.proofs.lemmas.List.Folds.{list_any-append}
 use Rattle.roman_model.specs.Lines.{lines, ended_lines}
 use Rattle.roman_model.proofs.CallerLemmas.{by_test}
@@ -27,17 +27,13 @@ lines_more bytes = by_test (nat_lt 0 (length (kept (unfinished bytes))))
 -- ---- where lines end the session
 
 pub quit_left : (ls ms : List (List ℕ)) → IsTrue (has_quit ls) → IsTrue (has_quit (ls ++ ms))
-quit_left ls ms h = list_any-append ends_session ls ms ∙ ap (λ (b : Bool). b || has_quit ms) h
+quit_left ls ms h = list_any-append ends_session ls ms ∙ or_left (has_quit ls) (has_quit ms) h
 
 pub quitless_both : (ls ms : List (List ℕ)) → IsFalse (has_quit ls) → IsFalse (has_quit ms) → IsFalse (has_quit (ls ++ ms))
 quitless_both ls ms h i = list_any-append ends_session ls ms ∙ or_from (has_quit ls) (has_quit ms) h i
 
 pub quit_last : (ls : List (List ℕ)) (line : List ℕ) → IsTrue (ends_session line) → IsTrue (has_quit (ls ++ line ∷ []))
-quit_last ls line h = list_any-append ends_session ls (line ∷ []) ∙ (rw h (or_true (has_quit ls)))
-  where
-    or_true : (b : Bool) → (b || true) ≡ true
-    or_true true = refl
-    or_true false = refl
+quit_last ls line h = list_any-append ends_session ls (line ∷ []) ∙ or_right (has_quit ls) (has_quit (line ∷ [])) (or_left (ends_session line) false h)
 
 pub quitless_last : (ls : List (List ℕ)) (line : List ℕ) → IsFalse (has_quit ls) → IsFalse (ends_session line) → IsFalse (has_quit (ls ++ line ∷ []))
 quitless_last ls line h i = quitless_both ls (line ∷ []) h (or_from (ends_session line) false i refl)

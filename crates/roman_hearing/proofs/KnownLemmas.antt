@@ -1,5 +1,5 @@
 -- Steps lead from well-formed situations to well-formed ones.
-use Rattle.std.proofs.Common.{◌≡◌, ℕ, ◌<◌, Bool, true, false, List, [], ◌∷◌, ◌++◌, length, IfSome, Result, Ok, Err, inl, inr, slice_get, slice_set, nat_lt, nat_le, refl, sym, subst, arith, ltb-true, leb-true, append-nil}
+use Rattle.std.proofs.Common.{◌≡◌, ℕ, ◌<◌, Bool, true, false, List, [], ◌∷◌, ◌++◌, length, Result, Ok, Err, inl, inr, slice_set, nat_lt, nat_le, refl, sym, subst, arith, ltb-true, leb-true, append-nil}
 use Rattle.std.proofs.lemmas.Option.{get_or_from_slice_get}
 use Rattle.roman_model.specs.System.{Sys, IsPair}
 use Rattle.roman_model.specs.CompleteLists.{IsComplete}
@@ -15,18 +15,18 @@ use Rattle.roman_parts.specs.Named.{NamedEnv}
 use Rattle.roman_joint.specs.NamedSys.{IsNamedSys, seat_of}
 use Rattle.roman_joint.specs.NamedSys as joint
 use Rattle.roman_joint.proofs.CallerLemmas.{frozen_system, frozen_known, gone_system, gone_known, joined_system, joined_known}
-use Rattle.roman_session.specs.Situations.{Situation, present_system, is_idle, IsOpen, IsPhase, IsSituation}
-use Rattle.roman_session.specs.Rulings.{named, service_named, state_named, seat_at, asked, handed, seen, aborted, jumped, env_jumped, frozen, thawed, died, joining, join_of, unexplained}
+use Rattle.roman_session.specs.Situations.{Situation, present_system, IsOpen, IsPhase, IsSituation}
+use Rattle.roman_session.specs.Rulings.{seat_at, asked, handed, seen, aborted, jumped, env_jumped, frozen, thawed, died, joining, join_of, unexplained}
 use Rattle.roman_session.specs.Steps.{Asks, Hands, Sees, Aborts, Jumps, EnvJumps, Changing, Changes, Freezes, Thaws, Dies, Joins, freezing, thawing, dying, growing, Explains, Does, StepOn, StepBy, Step, parts_after}
 use Rattle.roman_session.specs.declared.events.Handing.{Handing}
 use Rattle.roman_session.specs.declared.events.Joining.{Joining}
 use Rattle.roman_session.specs.declared.events.Jump.{Jump}
 use Rattle.roman_generator.specs.declared.sight.Sight.{Sight}
 use Rattle.roman_session.specs.declared.phase.Phase.TheVariants.{Idle}
-use Rattle.roman_session.proofs.CallerLemmas.{checked, asked_is, handed_is, jumped_idle, env_jumped_idle, frozen_is, thawed_is, died_idle, joining_idle, cells_with, there_is, jumped_pair, moved_pair}
+use Rattle.roman_session.proofs.CallerLemmas.{checked, asked_is, handed_is, jumped_is, env_jumped_is, frozen_is, thawed_is, died_is, joining_idle, cells_with, there_is, jumped_pair, moved_pair}
 use Rattle.roman_hearing.specs.Known.{AreBehaviours, AreNamed, StepsStayKnown}
 use Rattle.roman_hearing.proofs.KeepLemmas.{line_keeps, behaviours_stay}
-use Rattle.roman_hearing.proofs.WithinLemmas.{named_within, seat_within, state_within, frozen_within, thawed_within, died_within, joining_new, joining_beh}
+use Rattle.roman_hearing.proofs.WithinLemmas.{named_within, seat_within, state_within, joining_new, joining_beh}
 
 -- events that change little
 
@@ -61,49 +61,28 @@ aborts_known old new x text is aborts = subst IsSituation (sym aborts.1) (record
 
 -- jumps
 
-record IsJump (s : Situation) (x : Jump) : Type 0 where
-  seat : x.seat < length s.parts.seats
-  state : IfSome (slice_get (present_system s).seats x.seat) (λ seat. x.state < seat.beh.states)
-
-jump_is : (s : Situation) (service state : List ℕ) (x : Jump) → IsSituation s → AreBehaviours s.parts → jumped s service state ≡ Ok x → IsJump s x
-unfolding jumped
-jump_is s service state x is behaviours h =
-    let (k, e, h1) = bind_ok (service_named s service) _ x h in
-    let (b, eb, h2) = bind_ok (state_named s k state) _ x h1 in
-    let (idle, h3) = checked (is_idle s.phase) reply.ErrorBusy _ x h2 in
-    let whole = same_ok _ x h3 in
-    let l = seat_within s service k e in
-    subst (IsJump s) whole (record { seat = l; state = state_within s k b state is behaviours l eb })
-
 jumps_known : (old new : Situation) (service state text : List ℕ) (x : Jump) → IsSituation old → AreBehaviours old.parts → jumped old service state ≡ Ok x → Jumps old x text new → IsSituation new
 jumps_known old new service state text x is behaviours ok jumps =
-    let jump = jump_is old service state x is behaviours ok in
+    let ruling = jumped_is old service state x ok in
+    let l = seat_within old service x.seat ruling.seat in
     let next : Situation = record old { here = record old.here { bs = slice_set old.here.bs x.seat x.state } } in
-    let idle = jumped_idle old service state x ok in
     subst IsSituation (sym jumps.1) (record {
       parts = is.parts;
-      here = jumped_pair old x.seat x.state is jump.seat jump.state;
+      here = jumped_pair old x.seat x.state is l (state_within old x.seat x.state state is behaviours l ruling.state);
       list = is.list;
-      phase = subst (IsPhase next) (sym idle) tt;
+      phase = subst (IsPhase next) (sym ruling.idle) tt;
     })
-
-env_state_is : (s : Situation) (env : List ℕ) (e : ℕ) → AreNamed s.parts → env_jumped s env ≡ Ok e → e < (present_system s).env.states
-unfolding env_jumped
-env_state_is s env e are h =
-    let (i, ei, h1) = bind_ok (named s.parts.environment.states env) _ e h in
-    let (idle, h2) = checked (is_idle s.phase) reply.ErrorBusy _ e h1 in
-    let same : i ≡ e = cc in
-    omega (arith, same, named_within s.parts.environment.states env i ei, are.environment)
 
 env_jumps_known : (old new : Situation) (env text : List ℕ) (e : ℕ) → IsSituation old → AreNamed old.parts → env_jumped old env ≡ Ok e → EnvJumps old e text new → IsSituation new
 env_jumps_known old new env text e is are ok jumps =
-    let idle = env_jumped_idle old env e ok in
+    let ruling = env_jumped_is old env e ok in
+    let less : e < (present_system old).env.states = omega (arith, named_within old.parts.environment.states env e ruling.named, are.environment) in
     let next : Situation = record old { here = record old.here { e = e } } in
     subst IsSituation (sym jumps.1) (record {
       parts = is.parts;
-      here = record { t = is.here.t; e = env_state_is old env e are ok; bs = is.here.bs };
+      here = record { t = is.here.t; e = less; bs = is.here.bs };
       list = is.list;
-      phase = subst (IsPhase next) (sym idle) tt;
+      phase = subst (IsPhase next) (sym ruling.idle) tt;
     })
 
 -- changes of the services
@@ -121,20 +100,23 @@ changes_known old new x text idle known pair changes =
 
 freezes_known : (old new : Situation) (service text : List ℕ) (k : ℕ) → IsSituation old → frozen old service ≡ Ok k → Freezes old k text new → IsSituation new
 freezes_known old new service text k is ok changes =
-    changes_known old new (freezing old k) text (frozen_is old service k ok).idle (frozen_known old.parts k true is.parts (frozen_within old service k ok))
+    let ruling = frozen_is old service k ok in
+    changes_known old new (freezing old k) text ruling.idle (frozen_known old.parts k true is.parts (seat_within old service k ruling.named))
     (subst (λ (s : Sys). IsPair s old.here) (sym (frozen_system old.parts k true)) (IsPair-turned (present_system old) k true old.here is.here)) changes
 
 thaws_known : (old new : Situation) (service text : List ℕ) (k : ℕ) → IsSituation old → thawed old service ≡ Ok k → Thaws old k text new → IsSituation new
 thaws_known old new service text k is ok changes =
-    changes_known old new (thawing old k) text (thawed_is old service k ok).idle (frozen_known old.parts k false is.parts (thawed_within old service k ok))
+    let ruling = thawed_is old service k ok in
+    changes_known old new (thawing old k) text ruling.idle (frozen_known old.parts k false is.parts (seat_within old service k ruling.named))
     (subst (λ (s : Sys). IsPair s old.here) (sym (frozen_system old.parts k false)) (IsPair-turned (present_system old) k false old.here is.here)) changes
 
 dies_known : (old new : Situation) (service text : List ℕ) (k : ℕ) → IsSituation old → died old service ≡ Ok k → Dies old k text new → IsSituation new
 dies_known old new service text k is ok changes =
-    let l = died_within old service k ok in
+    let ruling = died_is old service k ok in
+    let l = seat_within old service k ruling.named in
     let (x, there) = there_is old.parts.seats k l in
     let next = dying old k in
-    changes_known old new next text (died_idle old service k ok) (gone_known old.parts k x is.parts l (sym (get_or_from_slice_get old.parts.seats k x x there)))
+    changes_known old new next text ruling.idle (gone_known old.parts k x is.parts l (sym (get_or_from_slice_get old.parts.seats k x x there)))
     (subst (λ (s : Sys). IsPair s next.here) (sym (gone_system old.parts k (seat_at old k))) (IsPair-without (present_system old) k old.here is.here)) changes
 
 joins_known : (old new : Situation) (service behaviour state text : List ℕ) (loose : Bool) (x : Joining) → IsSituation old → AreBehaviours old.parts →

@@ -1,12 +1,11 @@
 -- What an event names is there: a place of a service, a state or a behaviour.
-use Rattle.std.proofs.Common.{◌≡◌, ℕ, ◌<◌, Bool, List, [], map, length, not, Option, None, Some, ok_or, is_none, is_ok, IfSome, false, Ok, IsTrue, slice_get, refl, sym, ap, ◌∙◌, subst, arith}
+use Rattle.std.proofs.Common.{◌≡◌, ℕ, ◌<◌, Bool, List, [], map, length, Option, None, Some, ok_or, is_none, is_ok, IfSome, false, Ok, IsTrue, slice_get, refl, sym, ap, ◌∙◌, subst, arith}
 use Rattle.std.specs.List.{position}
 use Rattle.std.specs.Str.{bytes_eq}
 use Rattle.std.proofs.lemmas.List.{length-map}
 use Rattle.std.proofs.lemmas.List.Quantifiers.{position-Some}
 use Rattle.std.proofs.lemmas.List.Elements.{All-get_or}
 use Rattle.std.proofs.lemmas.Option.{get_or_from_slice_get}
-use Rattle.roman_model.specs.Lists.{IsIn}
 use Rattle.roman_model.specs.System.{Seat, IsBeh, Beh}
 use Rattle.roman_model.specs.Explanation.{seat_names}
 use Rattle.roman_read.specs.Names.{is_name, place_of}
@@ -19,7 +18,8 @@ use Rattle.roman_joint.proofs.CallerLemmas.{beh_read, seat_read}
 use Rattle.roman_joint.specs.declared.seat.Seat.{Seat as Place}
 use Rattle.roman_library.specs.Library.{IsBehaviour}
 use Rattle.roman_session.specs.Situations.{Situation, present_system, is_idle, IsSituation}
-use Rattle.roman_session.specs.Rulings.{named, service_named, state_named, seat_at, frozen, thawed, died, joining}
+use Rattle.roman_session.specs.Joins.{CanJoin}
+use Rattle.roman_session.specs.Rulings.{named, service_named, state_named, joining}
 use Rattle.roman_session.specs.declared.events.Joining.{Joining}
 use Rattle.roman_session.proofs.CallerLemmas.{name_is_new, checked, there_is, mapped_at, states_named}
 use Rattle.roman_hearing.specs.Known.{AreBehaviours}
@@ -64,39 +64,8 @@ state_within s k b state is behaviours l h =
     let fits : b < (beh_at s.parts.catalogue seat.behaviour).states = omega (arith, less, count) in
     subst (λ (o : Option Seat). IfSome o (λ seat. b < seat.beh.states)) (sym (seat_read s.parts k seat seated)) fits
 
-pub frozen_within : (s : Situation) (service : List ℕ) (k : ℕ) → frozen s service ≡ Ok k → k < length s.parts.seats
-unfolding frozen
-frozen_within s service k h =
-    let (j, e, h1) = bind_ok (service_named s service) _ k h in
-    let (idle, h2) = checked (is_idle s.phase) reply.ErrorBusy _ k h1 in
-    let (ready, h3) = checked (not (seat_at s j).frozen) reply.ErrorFrozen _ k h2 in
-    let same : j ≡ k = cc in
-    subst (λ (k : ℕ). k < length s.parts.seats) same (seat_within s service j e)
-
-pub thawed_within : (s : Situation) (service : List ℕ) (k : ℕ) → thawed s service ≡ Ok k → k < length s.parts.seats
-unfolding thawed
-thawed_within s service k h =
-    let (j, e, h1) = bind_ok (service_named s service) _ k h in
-    let (idle, h2) = checked (is_idle s.phase) reply.ErrorBusy _ k h1 in
-    let (frozen, h3) = checked (seat_at s j).frozen reply.ErrorReady _ k h2 in
-    let same : j ≡ k = cc in
-    subst (λ (k : ℕ). k < length s.parts.seats) same (seat_within s service j e)
-
-pub died_within : (s : Situation) (service : List ℕ) (k : ℕ) → died s service ≡ Ok k → k < length s.parts.seats
-unfolding died
-died_within s service k h =
-    let (j, e, h1) = bind_ok (service_named s service) _ k h in
-    let (idle, h2) = checked (is_idle s.phase) reply.ErrorBusy _ k h1 in
-    let same : j ≡ k = cc in
-    subst (λ (k : ℕ). k < length s.parts.seats) same (seat_within s service j e)
-
--- a service that joins is new, its behaviour is one of the catalogue, and its state is one of that behaviour
-pub record IsNew (s : Situation) (x : Joining) : Type 0 where
-  pub name : IsIn x.seat.name (map seat_name s.parts.seats) → ⊥
-  pub behaviour : x.seat.behaviour < length s.parts.catalogue
-  pub state : x.state < (beh_at s.parts.catalogue x.seat.behaviour).states
-
-pub joining_new : (s : Situation) (service behaviour state : List ℕ) (loose : Bool) (x : Joining) → AreBehaviours s.parts → joining s service behaviour state loose ≡ Ok x → IsNew s x
+-- a service that joins is new and ready, its behaviour is one of the catalogue, and its state is one of that behaviour
+pub joining_new : (s : Situation) (service behaviour state : List ℕ) (loose : Bool) (x : Joining) → AreBehaviours s.parts → joining s service behaviour state loose ≡ Ok x → CanJoin s.parts x
 unfolding joining
 joining_new s service behaviour state loose x behaviours h =
     let (good, h1) = checked (is_name service) reply.ErrorName _ x h in
@@ -108,10 +77,11 @@ joining_new s service behaviour state loose x behaviours h =
     let names = map seat_name s.parts.seats in
     let l : i < length s.parts.catalogue = omega (arith, named_within (map beh_name s.parts.catalogue) behaviour i named_i, length-map s.parts.catalogue beh_name) in
     let less = named_within (states_of_behaviour s.parts.catalogue i) state b named_b in
-    subst (IsNew s) whole (record {
+    subst (CanJoin s.parts) whole (record {
       name = name_is_new names service (named names service) refl (not_ok (place_of names service) free);
       behaviour = l;
       state = omega (arith, less, states_counted s i behaviours l);
+      ready = refl;
     })
   where
     not_ok : (o : Option ℕ) → IsTrue (is_none o) → is_ok (ok_or o reply.ErrorName) ≡ false

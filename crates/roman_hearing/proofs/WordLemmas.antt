@@ -12,7 +12,7 @@ use Rattle.roman_model.proofs.CallerLemmas.{any_from, filter_sublist, sublist_no
 use Rattle.roman_read.specs.Items.{◌>>=◌}
 use Rattle.roman_read.specs.Names.{place_of}
 use Rattle.roman_text.specs.Replies.{reply_text}
-use Rattle.roman_text.specs.Shapes.{LineShape, nothing, ask, hand, saw, abort, freeze, thaw, die, join, jump, jump_env, report, explain, quit}
+use Rattle.roman_text.specs.Shapes.{LineShape, ask, hand, report}
 use Rattle.roman_text.specs.declared.errors.LineError.{LineError}
 use Rattle.roman_text.specs.declared.replies.Reply.{Reply}
 use Rattle.roman_text.specs.declared.replies.Reply.TheVariants as reply
@@ -310,20 +310,10 @@ reports_great s text is says =
 -- any line
 
 on_keeps : (s new : Situation) (shape : LineShape) (text : List ℕ) → IsSituation s → StepOn s shape text new → KeepsOn s shape text
-on_keeps s new nothing text is step = tt
 on_keeps s new (ask action) text is step = ask_keeps s new action text is step
 on_keeps s new (hand service) text is step = hand_keeps s new service text is step
-on_keeps s new (saw state env) text is step = tt
-on_keeps s new abort text is step = tt
-on_keeps s new (freeze service) text is step = tt
-on_keeps s new (thaw service) text is step = tt
-on_keeps s new (die service) text is step = tt
-on_keeps s new (join service behaviour state loose) text is step = tt
-on_keeps s new (jump service state) text is step = tt
-on_keeps s new (jump_env env) text is step = tt
 on_keeps s new report text is step = record { afresh = step.0 ∙ reports_afresh s is; great = reports_great s text is step.0 }
-on_keeps s new explain text is step = tt
-on_keeps s new quit text is step = tt
+on_keeps s new _ text is step = tt
 
 -- Requests and reports are answered by the greatest ND-simulation.
 pub answers_great : AnswersAreGreat

@@ -50,6 +50,7 @@ pub record Spot : Type 0 where
   pub situation : Situation
   pub written : Option (List ℕ)
 
+-- the spot of a situation and of what was written
 abbrev pub spot : Situation → Option (List ℕ) → Spot
 spot situation written = record { situation = situation; written = written }
 
@@ -58,6 +59,7 @@ pub record Hall : Type 0 where
   pub spot : Spot
   pub rest : Option (List ℕ)
 
+-- the same with what a source has left
 abbrev pub hall : Situation → Option (List ℕ) → Option (List ℕ) → Hall
 hall situation rest written = record { spot = spot situation written; rest = rest }
 

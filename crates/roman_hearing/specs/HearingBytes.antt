@@ -19,6 +19,7 @@ pub record Ear : Type 0 where
   pub page : List ℕ
   pub held : List ℕ
 
+-- the ear of a situation, of what was written, and of what a page and a line hold
 abbrev pub ear : Situation → Option (List ℕ) → List ℕ → List ℕ → Ear
 ear situation written page held = record { spot = spot situation written; page = page; held = held }
 

@@ -1,4 +1,4 @@
--- The word that a session keeps with each answer, said by the greatest ND-simulation alone.
+-- The word that a session keeps with each answer, said by the greatest ND-simulation.
 use Rattle.std.specs.Prelude.{◌⊎◌, ◌≡◌, ℕ, ◌<◌, Bool, List, [], ◌∷◌, ◌++◌, map, length, codes, Ok, IsTrue, ◌↔◌}
 use Rattle.std.specs.List.{flat_map}
 use Rattle.roman_model.specs.Lists.{IsIn, IsSublist, HasNoRepeats, below}

@@ -4,7 +4,7 @@ ghost use Rattle.roman_io.specs.Faults.{HasCause};
 ghost use Rattle.roman_io.specs.Source.{IsAtEnd, GaveAtMost};
 ghost use Rattle.roman_text.specs.Lines.{kept};
 ghost use Rattle.roman_session.specs.Situations.{Situation, IsSituation};
-ghost use Rattle.roman_session.specs.Answering.{Answered, AnsweredOn, next_of};
+ghost use Rattle.roman_session.specs.Answering.{AnsweredOn, next_of};
 ghost use Rattle.roman_hearing.specs.Known.{AreBehaviours};
 ghost use Rattle.roman_hearing.specs.Hearing.{GaveQuit, spot, hall, IsHeardOut, IsCutOff, GoesOn, StopsShort, TellsPrefixOfAll, CausedBy};
 ghost use Rattle.roman_hearing.specs.HearingBytes.{ear, IsHearing, HearsBytes, HearsPiece, HearsRest};
@@ -71,7 +71,7 @@ pub fn hear<S: Source, O: Sink, L: Ledger>(
             return Err(HearError::ReadFault);
         };
         if count == 0 {
-            return hear_rest(session, &splitter, out, steps);
+            return hear_rest(session, &splitter, &mut page, out, steps);
         }
         match hear_piece(
             session,
@@ -89,7 +89,7 @@ pub fn hear<S: Source, O: Sink, L: Ledger>(
     }
 }
 
-// Hears a piece, as far as there is room for its bytes. The answers to its lines are put together.
+/// Hears a piece, as far as there is room for its bytes. The answers to its lines are put together.
 fn hear_piece<O: Sink, L: Ledger>(
     session: &mut Session,
     splitter: &mut Splitter,
@@ -119,7 +119,7 @@ fn hear_piece<O: Sink, L: Ledger>(
     }
 }
 
-// Hears bytes, up to the newline of a line `quit`.
+/// Hears bytes, up to the newline of a line `quit`.
 fn hear_bytes<O: Sink, L: Ledger>(
     session: &mut Session,
     splitter: &mut Splitter,
@@ -140,7 +140,7 @@ fn hear_bytes<O: Sink, L: Ledger>(
     Ok(Next::More)
 }
 
-// Hears a byte, and answers the line that it ends.
+/// Hears a byte, and answers the line that it ends.
 fn hear_byte<O: Sink, L: Ledger>(
     session: &mut Session,
     splitter: &mut Splitter,
@@ -161,13 +161,15 @@ fn hear_byte<O: Sink, L: Ledger>(
     Ok(next)
 }
 
-// Hears the last line, where bytes of it are left.
+/// Hears the last line, where bytes of it are left, and puts its answer.
 fn hear_rest<O: Sink, L: Ledger>(
     session: &mut Session,
     splitter: &Splitter,
+    page: &mut Page,
     out: &mut O,
     steps: &mut Steps<L>,
 ) -> Result<(), HearError>
+    requires { page.old ≡ [] }
     ensures hears { (old : Situation) (before : Option (List ℕ)) (taken : List ℕ) → IsHearing (spot old before) taken (ear session.old (O.written out.old) [] splitter.now) →
         HearsRest (spot old before) taken (spot session.new (O.written out.new)) result }
     ensures cause { CausedBy HearError.WriteFault (O.faults out.old) (O.faults out.new) result }
@@ -175,13 +177,16 @@ fn hear_rest<O: Sink, L: Ledger>(
     if !splitter.rest() {
         return Ok(());
     }
-    match hear_last(session, splitter, out, steps) {
-        Ok(_) => Ok(()),
-        Err(_) => Err(HearError::WriteFault),
+    let Ok(_) = hear_line(session, splitter, page, out, steps) else {
+        return Err(HearError::WriteFault);
+    };
+    if let Err(_failed) = page.flush(out) {
+        return Err(HearError::WriteFault);
     }
+    Ok(())
 }
 
-// Answers the line that is held, on a page. Of a long line as much is held as tells its shape.
+/// Answers the line that is held, on a page. Of a long line as much is held as tells its shape.
 fn hear_line<O: Sink, L: Ledger>(
     session: &mut Session,
     splitter: &Splitter,
@@ -196,24 +201,6 @@ fn hear_line<O: Sink, L: Ledger>(
 {
     keep_shapes();
     let answered = session.answer_on(splitter.line(), page, out, steps);
-    session.known();
-    answered
-}
-
-// Answers the last line, and writes the answer.
-fn hear_last<O: Sink, L: Ledger>(
-    session: &mut Session,
-    splitter: &Splitter,
-    out: &mut O,
-    steps: &mut Steps<L>,
-) -> Result<Next, Failed>
-    ensures step { (line : List ℕ) → splitter.now ≡ kept line → Answered session.old line session.new (O.written out.old) (O.written out.new) result }
-    ensures next { (line : List ℕ) → splitter.now ≡ kept line → IfOk result (λ next. next ≡ next_of line) }
-    ensures known { IsSituation session.new }
-    ensures cause { HasCause (O.faults out.old) (O.faults out.new) result }
-{
-    keep_shapes();
-    let answered = session.answer(splitter.line(), out, steps);
     session.known();
     answered
 }

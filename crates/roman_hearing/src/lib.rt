@@ -4,7 +4,7 @@
 //! `specs/Hearing` says which lines of a stream are answered and what is written by then, and
 //! `specs/Told` what a session is told from line to line, by the steps of `roman_session`. The laws
 //! say of these steps that they lead from well-formed situations to well-formed ones
-//! (`specs/Known`), and that their answers are right by the greatest ND-simulation alone
+//! (`specs/Known`), and that their answers are right by the greatest ND-simulation
 //! (`specs/Words`).
 #![tactic(auto)]
 

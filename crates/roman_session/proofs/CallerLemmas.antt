@@ -1,8 +1,8 @@
 -- What the proofs of other crates may cite of this one. All else in proofs/ can be renamed freely.
 
 -- What is known where an event isn't refused.
-pub use Rattle.roman_session.proofs.RulingLemmas.{asked_is, cells_with, checked, died_idle, env_jumped_idle, frozen_is, handed_is, joining_idle}
-pub use Rattle.roman_session.proofs.RulingLemmas.{jumped_idle, seen_is, thawed_is}
+pub use Rattle.roman_session.proofs.RulingLemmas.{asked_is, cells_with, checked, died_is, env_jumped_is, frozen_is, handed_is, joining_idle}
+pub use Rattle.roman_session.proofs.RulingLemmas.{jumped_is, seen_is, thawed_is}
 -- What follows from offers and from outcomes.
 pub use Rattle.roman_session.proofs.StepLemmas.{moved_pair, outcomes_related, requests_offered}
 -- What the fields of a session and the calls of its parts say of the situation.

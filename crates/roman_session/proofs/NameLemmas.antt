@@ -1,11 +1,11 @@
 -- Places of names.
-use Rattle.std.proofs.Common.{below_more, Option, ◌≡◌, ℕ, ◌<◌, ◌≤◌, ◌+◌, inl, inr, Bool, true, false, List, [], Some, None, Result, Ok, Err, is_ok, map, length, get_or, slice_get, refl, sym, ap, ◌∙◌, subst, arith}
+use Rattle.std.proofs.Common.{Option, ◌≡◌, ℕ, ◌<◌, ◌≤◌, inl, inr, Bool, true, false, List, [], Some, None, Result, Ok, Err, is_ok, map, length, get_or, refl, sym, ap, ◌∙◌, subst, arith}
 use Rattle.std.specs.List.{position, position_or_len, list_any}
 use Rattle.std.specs.Option.{ok_or}
 use Rattle.std.specs.Str.{bytes_eq}
 use Rattle.std.proofs.lemmas.Bool.{both_ways, cases_lt}
 use Rattle.std.proofs.lemmas.List.Quantifiers.{position-Some}
-use Rattle.std.proofs.lemmas.Option.{get_or_from_slice_get, slice_get-get_or, slice_get_within}
+use Rattle.std.proofs.lemmas.Option.{get_or_from_slice_get, slice_get-get_or}
 use Rattle.std.proofs.lemmas.List.{length-map}
 use Rattle.std.proofs.lemmas.List.Elements.{Contains-get_or}
 use Rattle.roman_model.specs.Lists.{IsIn}
@@ -18,7 +18,6 @@ use Rattle.roman_text.specs.declared.replies.Reply.TheVariants as reply
 use Rattle.roman_joint.specs.declared.seat.Seat.{Seat}
 use Rattle.roman_joint.specs.Names.{seat_name}
 use Rattle.roman_session.specs.Rulings.{named}
-use Rattle.roman_session.proofs.SituationLemmas.{mapped_at}
 
 -- of two places, one may be before the other
 first_place : (p : List ℕ → Bool) (names : List (List ℕ)) (i k : ℕ) → p (get_or names i []) ≡ true → p (get_or names k []) ≡ true →
@@ -50,22 +49,6 @@ place_not_found names name before =
     let (k, l, e) = in_contains names x i in
     let same : get_or names k [] ≡ x = get_or_from_slice_get names k (get_or names k x) [] (slice_get-get_or names k x l) ∙ e in
     subst (λ (y : List ℕ). bytes_eq name y ≡ false) same (before k l)))
-
--- the service at the first place with its name
-pub service_found : (seats : List Seat) (name : List ℕ) (k : ℕ) (seat : Seat) → slice_get seats k ≡ Some seat → bytes_eq name seat.name ≡ true →
-    ((j : ℕ) → j < k → bytes_eq name (get_or (map seat_name seats) j []) ≡ false) → Ok k ≡ named (map seat_name seats) name
-service_found seats name k seat seated at before =
-    let there : get_or (map seat_name seats) k [] ≡ seat.name = mapped_at seat_name seats k seat [] seated in
-    let within : k < length (map seat_name seats) = omega (arith, slice_get_within seats k seat seated, length-map seats seat_name) in
-    let found = place_found (map seat_name seats) name k within (subst (λ (y : List ℕ). bytes_eq name y ≡ true) (sym there) at) before in
-    ap (λ (o : Option ℕ). ok_or o reply.ErrorName) (sym found)
-
--- one more service without the name
-pub service_passed : (seats : List Seat) (name : List ℕ) (k : ℕ) (seat : Seat) → slice_get seats k ≡ Some seat → bytes_eq name seat.name ≡ false →
-    ((j : ℕ) → j < k → bytes_eq name (get_or (map seat_name seats) j []) ≡ false) → (j : ℕ) → j < k + 1 → bytes_eq name (get_or (map seat_name seats) j []) ≡ false
-service_passed seats name k seat seated at before =
-    below_more (λ j. bytes_eq name (get_or (map seat_name seats) j []) ≡ false) k before
-    (subst (λ (y : List ℕ). bytes_eq name y ≡ false) (sym (mapped_at seat_name seats k seat [] seated)) at)
 
 -- no service with the name
 pub service_not_found : (seats : List Seat) (name : List ℕ) (k : ℕ) → length seats ≤ k →

@@ -9,7 +9,7 @@ use Rattle.roman_model.specs.Change.{Join, after}
 use Rattle.roman_model.specs.declared.limits.TheConstants.{MAX_SERVICES}
 use Rattle.roman_read.specs.Items.{◌>>=◌}
 use Rattle.roman_read.specs.Names.{is_name}
-use Rattle.roman_read.proofs.CallerLemmas.{bind_ok}
+use Rattle.roman_read.proofs.CallerLemmas.{bind_ok, same_ok}
 use Rattle.roman_text.specs.declared.replies.Reply.{Reply}
 use Rattle.roman_text.specs.declared.replies.Reply.TheVariants as reply
 use Rattle.roman_joint.specs.NamedSys.{seat_of, cells}
@@ -96,57 +96,84 @@ idle_is Idle h = refl
 idle_is (Offered a) h = cc
 idle_is (Delegated a k) h = cc
 
--- jumps that aren't refused come where no request is open
-pub jumped_idle : (s : Situation) (service state : List ℕ) (x : Jump) → jumped s service state ≡ Ok x → s.phase ≡ Idle
+-- a jump that isn't refused names a service and one of its states, where no request is open
+pub record IsJumping (s : Situation) (service name : List ℕ) (x : Jump) : Type 0 where
+  pub seat : service_named s service ≡ Ok x.seat
+  pub state : state_named s x.seat name ≡ Ok x.state
+  pub idle : s.phase ≡ Idle
+
+pub jumped_is : (s : Situation) (service state : List ℕ) (x : Jump) → jumped s service state ≡ Ok x → IsJumping s service state x
 unfolding jumped
-jumped_idle s service state x h =
+jumped_is s service state x h =
     let (k, e, h1) = bind_ok (service_named s service) _ x h in
     let (b, eb, h2) = bind_ok (state_named s k state) _ x h1 in
-    idle_is s.phase (checked (is_idle s.phase) reply.ErrorBusy _ x h2).0
+    let (idle, h3) = checked (is_idle s.phase) reply.ErrorBusy _ x h2 in
+    let whole = same_ok _ x h3 in
+    subst (IsJumping s service state) whole (record { seat = e; state = eb; idle = idle_is s.phase idle })
 
-pub env_jumped_idle : (s : Situation) (env : List ℕ) (e : ℕ) → env_jumped s env ≡ Ok e → s.phase ≡ Idle
+-- and a jump of the environment one of its states
+pub record IsEnvJumping (s : Situation) (env : List ℕ) (e : ℕ) : Type 0 where
+  pub named : named s.parts.environment.states env ≡ Ok e
+  pub idle : s.phase ≡ Idle
+
+pub env_jumped_is : (s : Situation) (env : List ℕ) (e : ℕ) → env_jumped s env ≡ Ok e → IsEnvJumping s env e
 unfolding env_jumped
-env_jumped_idle s env e h =
+env_jumped_is s env e h =
     let (i, ei, h1) = bind_ok (named s.parts.environment.states env) _ e h in
-    idle_is s.phase (checked (is_idle s.phase) reply.ErrorBusy _ e h1).0
+    let (idle, h2) = checked (is_idle s.phase) reply.ErrorBusy _ e h1 in
+    let same : i ≡ e = cc in
+    record { named = ei ∙ ap Ok same; idle = idle_is s.phase idle }
 
 -- ---- changes of the services
 
--- a service that can be frozen is ready, and no request is open
-pub record IsFreezing (s : Situation) (k : ℕ) : Type 0 where
+-- a service that can be frozen is present and ready, and no request is open
+pub record IsFreezing (s : Situation) (service : List ℕ) (k : ℕ) : Type 0 where
+  pub named : service_named s service ≡ Ok k
   pub idle : s.phase ≡ Idle
   pub ready : IsFalse (seat_at s k).frozen
 
-pub frozen_is : (s : Situation) (service : List ℕ) (k : ℕ) → frozen s service ≡ Ok k → IsFreezing s k
+pub frozen_is : (s : Situation) (service : List ℕ) (k : ℕ) → frozen s service ≡ Ok k → IsFreezing s service k
 unfolding frozen
 frozen_is s service k h =
     let (j, e, h1) = bind_ok (service_named s service) _ k h in
     let (idle, h2) = checked (is_idle s.phase) reply.ErrorBusy _ k h1 in
     let (ready, h3) = checked (not (seat_at s j).frozen) reply.ErrorFrozen _ k h2 in
     let same : j ≡ k = cc in
-    record { idle = idle_is s.phase idle; ready = subst (λ (k : ℕ). IsFalse (seat_at s k).frozen) same (not-true (seat_at s j).frozen ready) }
+    record {
+      named = e ∙ ap Ok same;
+      idle = idle_is s.phase idle;
+      ready = subst (λ (k : ℕ). IsFalse (seat_at s k).frozen) same (not-true (seat_at s j).frozen ready);
+    }
 
--- a service that can be thawed is frozen, and no request is open
-pub record IsThawing (s : Situation) (k : ℕ) : Type 0 where
+-- a service that can be thawed is present and frozen, and no request is open
+pub record IsThawing (s : Situation) (service : List ℕ) (k : ℕ) : Type 0 where
+  pub named : service_named s service ≡ Ok k
   pub idle : s.phase ≡ Idle
   pub frozen : IsTrue (seat_at s k).frozen
 
-pub thawed_is : (s : Situation) (service : List ℕ) (k : ℕ) → thawed s service ≡ Ok k → IsThawing s k
+pub thawed_is : (s : Situation) (service : List ℕ) (k : ℕ) → thawed s service ≡ Ok k → IsThawing s service k
 unfolding thawed
 thawed_is s service k h =
     let (j, e, h1) = bind_ok (service_named s service) _ k h in
     let (idle, h2) = checked (is_idle s.phase) reply.ErrorBusy _ k h1 in
     let (frozen, h3) = checked (seat_at s j).frozen reply.ErrorReady _ k h2 in
     let same : j ≡ k = cc in
-    record { idle = idle_is s.phase idle; frozen = subst (λ (k : ℕ). IsTrue (seat_at s k).frozen) same frozen }
+    record { named = e ∙ ap Ok same; idle = idle_is s.phase idle; frozen = subst (λ (k : ℕ). IsTrue (seat_at s k).frozen) same frozen }
 
--- services die and join where no request is open
-pub died_idle : (s : Situation) (service : List ℕ) (k : ℕ) → died s service ≡ Ok k → s.phase ≡ Idle
+-- a service that can die is present, and no request is open
+pub record IsDying (s : Situation) (service : List ℕ) (k : ℕ) : Type 0 where
+  pub named : service_named s service ≡ Ok k
+  pub idle : s.phase ≡ Idle
+
+pub died_is : (s : Situation) (service : List ℕ) (k : ℕ) → died s service ≡ Ok k → IsDying s service k
 unfolding died
-died_idle s service k h =
+died_is s service k h =
     let (j, e, h1) = bind_ok (service_named s service) _ k h in
-    idle_is s.phase (checked (is_idle s.phase) reply.ErrorBusy _ k h1).0
+    let (idle, h2) = checked (is_idle s.phase) reply.ErrorBusy _ k h1 in
+    let same : j ≡ k = cc in
+    record { named = e ∙ ap Ok same; idle = idle_is s.phase idle }
 
+-- services join where no request is open
 pub joining_idle : (s : Situation) (service behaviour state : List ℕ) (loose : Bool) (x : Joining) → joining s service behaviour state loose ≡ Ok x → s.phase ≡ Idle
 unfolding joining
 joining_idle s service behaviour state loose x h =

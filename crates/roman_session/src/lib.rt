@@ -9,8 +9,6 @@ mod events;
 mod next;
 mod phase;
 mod session;
-#[cfg(test)]
-mod tests;
 mod writing;
 
 pub use events::{Handing, Joining, Jump};

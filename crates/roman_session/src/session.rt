@@ -59,7 +59,7 @@ impl Model for Session {
     ghost invariant = { IsSession };
 }
 
-// The number of a pair of the system.
+/// The number of a pair of the system.
 fn number_of(joint: &Joint, t: u8, e: u8, states: &[u8]) -> u32
     requires { IsPair (named.system_of joint.now) (record { t = t; e = e; bs = states.now }) }
     ensures { result ≡ number (sizes_of (named.system_of joint.now)) (record { t = t; e = e; bs = states.now }) }
@@ -105,7 +105,7 @@ impl Session {
         let _phase = self.phase;
     }
 
-    // The number of the current pair.
+    /// The number of the current pair.
     fn here(&self) -> u32
         ensures number { result ≡ number (sizes_of (present_system self.now)) self.now.here }
         ensures below { result < count (sizes_of (present_system self.now)) }
@@ -113,7 +113,7 @@ impl Session {
         self.number
     }
 
-    // The state of the service at place k.
+    /// The state of the service at place k.
     fn state(&self, k: u8) -> u8
         requires { k < length self.now.parts.seats }
         ensures value { result ≡ slice_index self.now.here.bs k }
@@ -122,7 +122,7 @@ impl Session {
         self.states[k as usize]
     }
 
-    // Whether the target allows the action at the current pair.
+    /// Whether the target allows the action at the current pair.
     fn allows(&self, a: u8) -> bool
         requires { a < (present_system self.now).env.actions }
         ensures { result ≡ is_allowed (present_system self.now) self.now.here a }
@@ -130,7 +130,7 @@ impl Session {
         self.relation.joint.allowed(self.here(), a)
     }
 
-    // The services that may be offered for the action.
+    /// The services that may be offered for the action.
     fn offers(&self, a: u8) -> SeatSet
         requires { IsOpen self.now a }
         ensures { HasBits result (has (offers (present_system self.now) self.now.here a)) }
@@ -138,7 +138,7 @@ impl Session {
         offers(&self.relation, self.here(), a)
     }
 
-    // The services that are offered for the action that is asked for.
+    /// The services that are offered for the action that is asked for.
     fn offered(&self, a: u8) -> SeatSet
         requires { self.now.phase ≡ Phase.Offered a }
         ensures { HasBits result (has (offers (present_system self.now) self.now.here a)) }
@@ -146,14 +146,14 @@ impl Session {
         self.mask
     }
 
-    // Whether no request is open.
+    /// Whether no request is open.
     fn is_idle(&self) -> bool
         ensures { result ≡ is_idle self.now.phase }
     {
         matches!(self.phase, Phase::Idle)
     }
 
-    // Whether the service at place k is offered for the action that is asked for.
+    /// Whether the service at place k is offered for the action that is asked for.
     fn is_offered(&self, a: u8, k: u8) -> bool
         requires asked { self.now.phase ≡ Phase.Offered a }
         requires seat { k < length self.now.parts.seats }
@@ -163,22 +163,22 @@ impl Session {
         self.offered(a).has(k)
     }
 
-    // The name of the target's present state.
+    /// The name of the target's present state.
     fn target_name(&self) -> &Name
         ensures { result.now ≡ name_at self.now.parts.target.states self.now.here.t }
     {
         self.relation.joint.target_name(self.target)
     }
 
-    // The name of the environment's present state.
+    /// The name of the environment's present state.
     fn env_name(&self) -> &Name
         ensures { result.now ≡ name_at self.now.parts.environment.states self.now.here.e }
     {
         self.relation.joint.env_name(self.env)
     }
 
-    // Goes on to another phase, which is one at the current pair, and in which no service is to be
-    // chosen.
+    /// Goes on to another phase, which is one at the current pair, and in which no service is to be
+    /// chosen.
     fn set_phase(&mut self, phase: Phase)
         requires phase { IsPhase self.old phase }
         requires chosen { (a : ℕ) → phase ≢ Phase.Offered a }
@@ -187,7 +187,7 @@ impl Session {
         self.phase = phase;
     }
 
-    // Offers services for the action from now on.
+    /// Offers services for the action from now on.
     fn offer(&mut self, a: u8)
         requires { IsOpen self.old a }
         ensures { self.new ≡ record self.old { phase = Phase.Offered a } }
@@ -196,8 +196,8 @@ impl Session {
         self.phase = Phase::Offered(a);
     }
 
-    // Moves the target, the environment and the service at place k to other states, where no request
-    // is open then.
+    /// Moves the target, the environment and the service at place k to other states, where no request
+    /// is open then.
     fn move_to(&mut self, t: u8, e: u8, k: u8, b: u8)
         requires pair { IsPair (present_system self.old) (moved self.old.here t e k b) }
         requires seat { k < length self.old.parts.seats }
@@ -210,7 +210,7 @@ impl Session {
         self.phase = Phase::Idle;
     }
 
-    // Moves the environment to another state, where no request is open.
+    /// Moves the environment to another state, where no request is open.
     fn move_env(&mut self, e: u8)
         requires state { e < (present_system self.old).env.states }
         requires idle { self.old.phase ≡ Phase.Idle }

@@ -27,9 +27,7 @@ pub(crate) fn push_served<O: Sink>(
         if !mask.has(k) {
             continue;
         }
-        if let Err(failed) = page.push_name(b' ', &joint.seat(k).name, out) {
-            return Err(failed);
-        }
+        page.push_name(b' ', &joint.seat(k).name, out)?;
     }
     Ok(())
 }
@@ -62,9 +60,7 @@ pub(crate) fn push_lines<O: Sink>(
     ensures cause { HasCause (O.faults out.old) (O.faults out.new) result }
 {
     for line in lines {
-        if let Err(failed) = page.push_report_line(line, out) {
-            return Err(failed);
-        }
+        page.push_report_line(line, out)?;
     }
     Ok(())
 }

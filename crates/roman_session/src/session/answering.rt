@@ -16,7 +16,7 @@ use roman_io::{Failed, Sink, Steps};
 use roman_text::{Event, Page, Reply, parse_line};
 use std::sync::ledger::Ledger;
 
-// Whether the session goes on after an event.
+/// Whether the session goes on after an event.
 fn next_after(event: Event<'_>) -> Next
     ensures { result ≡ next_after (Ok (shape_of_event event.entry)) }
 {
@@ -52,13 +52,8 @@ impl Session {
         let mut page = Page::new();
         let answered = self.answer_on(line, &mut page, out, steps);
         self.known();
-        let next = match answered {
-            Ok(next) => next,
-            Err(failed) => return Err(failed),
-        };
-        if let Err(failed) = page.flush(out) {
-            return Err(failed);
-        }
+        let next = answered?;
+        page.flush(out)?;
         Ok(next)
     }
 
@@ -81,20 +76,16 @@ impl Session {
         let event = match parse_line(line) {
             Ok(event) => event,
             Err(_) => {
-                if let Err(failed) = page.push_reply(&Reply::ErrorLine, out) {
-                    return Err(failed);
-                }
+                page.push_reply(&Reply::ErrorLine, out)?;
                 return Ok(Next::More);
             }
         };
-        if let Err(failed) = self.answer_event(event, page, out, steps) {
-            return Err(failed);
-        }
+        self.answer_event(event, page, out, steps)?;
         Ok(next_after(event))
     }
 
+    /// Answers an event, on a page.
     #[tactic(auto, using(crate::proofs::AnswerLemmas::done))]
-    // Answers an event, on a page.
     fn answer_event<O: Sink, L: Ledger>(
         &mut self,
         event: Event<'_>,
@@ -128,7 +119,7 @@ impl Session {
         }
     }
 
-    // Answers a request, on a page.
+    /// Answers a request, on a page.
     fn answer_request<O: Sink>(
         &mut self,
         action: &[u8],
@@ -144,7 +135,7 @@ impl Session {
         }
     }
 
-    // Answers why there is no composition, on a page.
+    /// Answers why there is no composition, on a page.
     fn answer_question<O: Sink, L: Ledger>(
         &mut self,
         page: &mut Page,
@@ -160,7 +151,7 @@ impl Session {
         self.explain(page, out, steps)
     }
 
-    // Writes what the page holds, and then the explanation of the current pair, which isn't related.
+    /// Writes what the page holds, and then the explanation of the current pair, which isn't related.
     fn explain<O: Sink, L: Ledger>(
         &mut self,
         page: &mut Page,
@@ -173,9 +164,7 @@ impl Session {
         ensures stays { self.new ≡ self.old }
         ensures cause { HasCause (O.faults out.old) (O.faults out.new) result }
     {
-        if let Err(failed) = page.flush(out) {
-            return Err(failed);
-        }
+        page.flush(out)?;
         let here = self.here();
         write_slice(&mut self.relation, here, out, steps)
     }

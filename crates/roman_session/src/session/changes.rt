@@ -16,7 +16,7 @@ use roman_repair::{JoinError, Tally, die, freeze, join, thaw};
 use roman_text::Reply;
 use std::sync::ledger::Ledger;
 
-// The reply that tells what a repair has done.
+/// The reply that tells what a repair has done.
 fn kept(tally: Tally) -> Reply
     ensures { result ≡ Reply.Kept tally.kept tally.added }
 {
@@ -27,7 +27,7 @@ fn kept(tally: Tally) -> Reply
 }
 
 impl Session {
-    // `freeze S`.
+    /// Does `freeze S`, or refuses it.
     pub(super) fn freeze<L: Ledger>(&mut self, service: &[u8], steps: &mut Steps<L>) -> Reply
         ensures { StepOn self.old (freeze service.now) (reply_text result) self.new }
     {
@@ -37,7 +37,7 @@ impl Session {
         }
     }
 
-    // `thaw S`.
+    /// Does `thaw S`, or refuses it.
     pub(super) fn thaw<L: Ledger>(&mut self, service: &[u8], steps: &mut Steps<L>) -> Reply
         ensures { StepOn self.old (thaw service.now) (reply_text result) self.new }
     {
@@ -47,7 +47,7 @@ impl Session {
         }
     }
 
-    // `die S`.
+    /// Does `die S`, or refuses it.
     pub(super) fn die<L: Ledger>(&mut self, service: &[u8], steps: &mut Steps<L>) -> Reply
         ensures { StepOn self.old (die service.now) (reply_text result) self.new }
     {
@@ -57,7 +57,7 @@ impl Session {
         }
     }
 
-    // `join S B STATE`, or `join S B STATE loose`.
+    /// Does `join S B STATE`, or `join S B STATE loose`, or refuses it.
     pub(super) fn join<L: Ledger>(
         &mut self,
         service: &[u8],
@@ -74,7 +74,7 @@ impl Session {
         }
     }
 
-    // Freezes the service at place k, which is ready.
+    /// Freezes the service at place k, which is ready.
     fn freeze_seat<L: Ledger>(&mut self, k: u8, steps: &mut Steps<L>) -> Reply
         requires idle { self.old.phase ≡ Phase.Idle }
         requires ready { IsTrue (is_ready (slice_get (present_system self.old).seats k)) }
@@ -85,7 +85,7 @@ impl Session {
         kept(tally)
     }
 
-    // Makes the service at place k ready, which is frozen.
+    /// Makes the service at place k ready, which is frozen.
     fn thaw_seat<L: Ledger>(&mut self, k: u8, steps: &mut Steps<L>) -> Reply
         requires idle { self.old.phase ≡ Phase.Idle }
         requires seat { k < length self.old.parts.seats }
@@ -97,7 +97,7 @@ impl Session {
         kept(tally)
     }
 
-    // Takes the service at place k out.
+    /// Takes the service at place k out.
     fn die_seat<L: Ledger>(&mut self, k: u8, steps: &mut Steps<L>) -> Reply
         requires idle { self.old.phase ≡ Phase.Idle }
         requires seat { k < length self.old.parts.seats }
@@ -110,7 +110,7 @@ impl Session {
         kept(tally)
     }
 
-    // Adds a service, where there is room for it.
+    /// Adds a service, where there is room for it.
     fn join_seat<L: Ledger>(&mut self, joining: Joining, steps: &mut Steps<L>) -> Reply
         requires idle { self.old.phase ≡ Phase.Idle }
         requires can { CanJoin self.old.parts joining }

@@ -8,7 +8,7 @@ use crate::events::Jump;
 use roman_text::Reply;
 
 impl Session {
-    // `jump S STATE`.
+    /// Does `jump S STATE`, or refuses it.
     pub(super) fn jump(&mut self, service: &[u8], state: &[u8]) -> Reply
         ensures { StepOn self.old (jump service.now state.now) (reply_text result) self.new }
     {
@@ -20,7 +20,7 @@ impl Session {
         Reply::Jumped
     }
 
-    // `jumpenv E`.
+    /// Does `jumpenv E`, or refuses it.
     pub(super) fn jump_env(&mut self, env: &[u8]) -> Reply
         ensures { StepOn self.old (jump_env env.now) (reply_text result) self.new }
     {

@@ -1,13 +1,15 @@
 //! What names stand for.
 ghost use Rattle.std.specs.Prelude.{◌≡◌, ◌<◌, ◌≤◌, length, IfOk, IfSome, slice_get};
+ghost use Rattle.std.specs.Str.{bytes_eq};
 ghost use Rattle.roman_session.specs.Situations.{present_system};
 ghost use Rattle.roman_session.specs.Rulings.{named, service_named, state_named};
+ghost use Rattle.roman_session.specs.Steps.{service_at};
 
 use super::Session;
 use roman_read::NameTable;
 use roman_text::Reply;
 
-// The number of a name, where the table has it.
+/// The number of a name, where the table has it.
 pub(super) fn place(names: &NameTable, name: &[u8]) -> Result<u8, Reply>
     requires { length names.now ≤ 64 }
     ensures place { result ≡ named names.now name.now }
@@ -20,7 +22,7 @@ pub(super) fn place(names: &NameTable, name: &[u8]) -> Result<u8, Reply>
 }
 
 impl Session {
-    // The state of the environment with this name.
+    /// The state of the environment with this name.
     pub(super) fn env_place(&self, name: &[u8]) -> Result<u8, Reply>
         ensures place { result ≡ named self.now.parts.environment.states name.now }
         ensures within { IfOk result (λ e. e < (present_system self.now).env.states) }
@@ -28,21 +30,28 @@ impl Session {
         place(self.relation.joint.environment().states(), name)
     }
 
-    // The place of the service with this name, where one is present.
+    /// Whether the service at place k has this name.
+    fn has_name(&self, k: u8, name: &[u8]) -> bool
+        requires { k < length self.now.parts.seats }
+        ensures { result ≡ bytes_eq name.now (service_at self.now k) }
+    {
+        name == self.relation.joint.seat(k).name.bytes()
+    }
+
+    /// The place of the service with this name, where one is present.
     pub(super) fn service_place(&self, name: &[u8]) -> Result<u8, Reply>
         ensures place { result ≡ service_named self.now name.now }
         ensures within { IfOk result (λ k. k < length self.now.parts.seats) }
     {
-        let joint = &self.relation.joint;
-        for k in 0..joint.seats() {
-            if name == joint.seat(k).name.bytes() {
+        for k in 0..self.relation.joint.seats() {
+            if self.has_name(k, name) {
                 return Ok(k);
             }
         }
         Err(Reply::ErrorName)
     }
 
-    // The state with this name of the service at place k.
+    /// The state with this name of the service at place k.
     pub(super) fn state_place(&self, k: u8, name: &[u8]) -> Result<u8, Reply>
         requires { k < length self.now.parts.seats }
         ensures place { result ≡ state_named self.now k name.now }

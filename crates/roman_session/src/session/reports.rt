@@ -22,14 +22,12 @@ impl Session {
         ensures cause { HasCause (O.faults out.old) (O.faults out.new) result }
     {
         let mut page = Page::new();
-        if let Err(failed) = self.push_report(&mut page, out) {
-            return Err(failed);
-        }
+        self.push_report(&mut page, out)?;
         page.flush(out)
     }
 
-    // Takes the services that are offered for the action that is asked for, as the reply to its
-    // request.
+    /// Takes the services that are offered for the action that is asked for, as the reply to its
+    /// request.
     pub(super) fn push_offered<O: Sink>(
         &self,
         a: u8,
@@ -42,36 +40,24 @@ impl Session {
     {
         self.known();
         let mask = self.offered(a);
-        if let Err(failed) = page.push(b"offer", out) {
-            return Err(failed);
-        }
-        if let Err(failed) = push_served(&self.relation.joint, mask, page, out) {
-            return Err(failed);
-        }
+        page.push(b"offer", out)?;
+        push_served(&self.relation.joint, mask, page, out)?;
         page.push(b"\n", out)
     }
 
-    // Takes all lines of the report.
+    /// Takes all lines of the report.
     pub(super) fn push_report<O: Sink>(&self, page: &mut Page, out: &mut O) -> Result<(), Failed>
         ensures gathers { Gathers (O.written out.old) (O.written out.new) page.new (page.old ++ report_text self.now.parts self.now.here) result }
         ensures cause { HasCause (O.faults out.old) (O.faults out.new) result }
     {
-        if let Err(failed) = push_lines(&self.head_lines(), page, out) {
-            return Err(failed);
-        }
-        if let Err(failed) = self.push_services(page, out) {
-            return Err(failed);
-        }
-        if let Err(failed) = push_lines(&[ReportLine::Answer(self.composes())], page, out) {
-            return Err(failed);
-        }
-        if let Err(failed) = self.push_offers(page, out) {
-            return Err(failed);
-        }
+        push_lines(&self.head_lines(), page, out)?;
+        self.push_services(page, out)?;
+        push_lines(&[ReportLine::Answer(self.composes())], page, out)?;
+        self.push_offers(page, out)?;
         push_lines(&[ReportLine::End], page, out)
     }
 
-    // The first lines of the report.
+    /// The first lines of the report.
     fn head_lines(&self) -> [ReportLine; 4]
         ensures { result ≡ report_head self.now.parts self.now.here }
     {
@@ -87,7 +73,7 @@ impl Session {
         ]
     }
 
-    // Takes the lines of the services.
+    /// Takes the lines of the services.
     fn push_services<O: Sink>(&self, page: &mut Page, out: &mut O) -> Result<(), Failed>
         ensures gathers { Gathers (O.written out.old) (O.written out.new) page.new
             (page.old ++ lines_text (service_lines self.now.parts.catalogue self.now.parts.seats self.now.here.bs)) result }
@@ -95,14 +81,12 @@ impl Session {
     {
         for k in 0..self.relation.joint.seats() {
             let line = service_line(&self.relation.joint, k, self.state(k));
-            if let Err(failed) = page.push_report_line(&line, out) {
-                return Err(failed);
-            }
+            page.push_report_line(&line, out)?;
         }
         Ok(())
     }
 
-    // Takes a line for each action that the target allows, where the current pair is related.
+    /// Takes a line for each action that the target allows, where the current pair is related.
     fn push_offers<O: Sink>(&self, page: &mut Page, out: &mut O) -> Result<(), Failed>
         ensures gathers { Gathers (O.written out.old) (O.written out.new) page.new (page.old ++ lines_text (offer_lines self.now.parts self.now.here)) result }
         ensures cause { HasCause (O.faults out.old) (O.faults out.new) result }
@@ -115,14 +99,12 @@ impl Session {
             if !self.allows(a) {
                 continue;
             }
-            if let Err(failed) = self.push_offer(a, page, out) {
-                return Err(failed);
-            }
+            self.push_offer(a, page, out)?;
         }
         Ok(())
     }
 
-    // Takes the line of an action, with the services that are offered for it.
+    /// Takes the line of an action, with the services that are offered for it.
     fn push_offer<O: Sink>(&self, a: u8, page: &mut Page, out: &mut O) -> Result<(), Failed>
         requires { IsOpen self.now a }
         ensures gathers { Gathers (O.written out.old) (O.written out.new) page.new (page.old ++ lines_text (offer_line self.now.parts self.now.here a)) result }
@@ -131,12 +113,8 @@ impl Session {
         self.known();
         let mask = self.offers(a);
         let line = ReportLine::Offer(*self.relation.joint.action_name(a));
-        if let Err(failed) = page.push_report_line(&line, out) {
-            return Err(failed);
-        }
-        if let Err(failed) = push_served(&self.relation.joint, mask, page, out) {
-            return Err(failed);
-        }
+        page.push_report_line(&line, out)?;
+        push_served(&self.relation.joint, mask, page, out)?;
         page.push_report_line(&ReportLine::Stop, out)
     }
 }

@@ -13,7 +13,7 @@ use roman_read::Name;
 use roman_text::Reply;
 
 impl Session {
-    // `do A`: the action for which services are offered from now on.
+    /// `do A`: the action for which services are offered from now on.
     pub(super) fn ask(&mut self, action: &[u8]) -> Result<u8, Reply>
         ensures { MatchResult result
             (λ a. (asked self.old action.now ≡ Ok a) × (self.new ≡ record self.old { phase = Phase.Offered a }))
@@ -24,7 +24,7 @@ impl Session {
         Ok(a)
     }
 
-    // `use S`.
+    /// Does `use S`, or refuses it.
     pub(super) fn hand(&mut self, service: &[u8]) -> Reply
         ensures { StepOn self.old (hand service.now) (reply_text result) self.new }
     {
@@ -37,7 +37,7 @@ impl Session {
         Reply::Using(name)
     }
 
-    // `abort`.
+    /// Does `abort`, or refuses it.
     pub(super) fn abort(&mut self) -> Reply
         ensures { StepOn self.old abort (reply_text result) self.new }
     {
@@ -48,7 +48,7 @@ impl Session {
         Reply::Aborted
     }
 
-    // `saw B E`.
+    /// Does `saw B E`, or refuses it.
     pub(super) fn see(&mut self, state: &[u8], env: &[u8]) -> Reply
         ensures { StepOn self.old (saw state.now env.now) (reply_text result) self.new }
     {

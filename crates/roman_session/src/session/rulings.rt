@@ -15,8 +15,8 @@ use roman_read::Name;
 use roman_text::Reply;
 
 impl Session {
+    /// What `do` asks for.
     #[tactic(auto, unfolding(crate::specs::Rulings::asked))]
-    // What `do` asks for.
     pub(super) fn asked(&self, action: &[u8]) -> Result<u8, Reply>
         ensures { result ≡ asked self.now action.now }
     {
@@ -33,8 +33,8 @@ impl Session {
         Ok(a)
     }
 
+    /// What `use` delegates, and to which service.
     #[tactic(auto, unfolding(crate::specs::Rulings::handed))]
-    // What `use` delegates, and to which service.
     pub(super) fn handed(&self, service: &[u8]) -> Result<Handing, Reply>
         ensures { result ≡ handed self.now service.now }
     {
@@ -48,8 +48,8 @@ impl Session {
         Ok(Handing { action, seat })
     }
 
+    /// What `saw` sees, and of which delegation.
     #[tactic(auto, unfolding(crate::specs::Rulings::seen))]
-    // What `saw` sees, and of which delegation.
     pub(super) fn seen(&self, state: &[u8], env: &[u8]) -> Result<Sight, Reply>
         ensures { result ≡ seen self.now state.now env.now }
     {
@@ -66,8 +66,8 @@ impl Session {
         })
     }
 
+    /// Whether there is a request that `abort` gives up.
     #[tactic(auto, unfolding(crate::specs::Rulings::aborted))]
-    // Whether there is a request that `abort` gives up.
     pub(super) fn aborted(&self) -> Result<(), Reply>
         ensures { result ≡ aborted self.now }
     {
@@ -77,8 +77,8 @@ impl Session {
         Ok(())
     }
 
+    /// The service that `jump` moves, and the state to which it does.
     #[tactic(auto, unfolding(crate::specs::Rulings::jumped))]
-    // The service that `jump` moves, and the state to which it does.
     pub(super) fn jumped(&self, service: &[u8], state: &[u8]) -> Result<Jump, Reply>
         ensures jumped { result ≡ jumped self.now service.now state.now }
         ensures seat { IfOk result (λ x. x.seat < length self.now.parts.seats) }
@@ -92,8 +92,8 @@ impl Session {
         Ok(Jump { seat, state })
     }
 
+    /// The state to which `jumpenv` moves the environment.
     #[tactic(auto, unfolding(crate::specs::Rulings::env_jumped))]
-    // The state to which `jumpenv` moves the environment.
     pub(super) fn env_jumped(&self, env: &[u8]) -> Result<u8, Reply>
         ensures jumped { result ≡ env_jumped self.now env.now }
         ensures within { IfOk result (λ e. e < (present_system self.now).env.states) }
@@ -105,7 +105,7 @@ impl Session {
         Ok(env)
     }
 
-    // Whether the service at place k takes no delegations.
+    /// Whether the service at place k takes no delegations.
     fn is_frozen(&self, k: u8) -> bool
         requires { k < length self.now.parts.seats }
         ensures { result ≡ (seat_at self.now k).frozen }
@@ -113,8 +113,8 @@ impl Session {
         self.relation.joint.seat(k).frozen
     }
 
+    /// The service that `freeze` freezes.
     #[tactic(auto, unfolding(crate::specs::Rulings::frozen))]
-    // The service that `freeze` freezes.
     pub(super) fn frozen(&self, service: &[u8]) -> Result<u8, Reply>
         ensures frozen { result ≡ frozen self.now service.now }
         ensures within { IfOk result (λ k. k < length self.now.parts.seats) }
@@ -129,8 +129,8 @@ impl Session {
         Ok(seat)
     }
 
+    /// The service that `thaw` makes ready.
     #[tactic(auto, unfolding(crate::specs::Rulings::thawed))]
-    // The service that `thaw` makes ready.
     pub(super) fn thawed(&self, service: &[u8]) -> Result<u8, Reply>
         ensures thawed { result ≡ thawed self.now service.now }
         ensures within { IfOk result (λ k. k < length self.now.parts.seats) }
@@ -145,8 +145,8 @@ impl Session {
         Ok(seat)
     }
 
+    /// The service that `die` takes out.
     #[tactic(auto, unfolding(crate::specs::Rulings::died))]
-    // The service that `die` takes out.
     pub(super) fn died(&self, service: &[u8]) -> Result<u8, Reply>
         ensures died { result ≡ died self.now service.now }
         ensures within { IfOk result (λ k. k < length self.now.parts.seats) }
@@ -158,8 +158,8 @@ impl Session {
         Ok(seat)
     }
 
+    /// The service that `join` adds, and the state that it is in.
     #[tactic(auto, unfolding(crate::specs::Rulings::joining))]
-    // The service that `join` adds, and the state that it is in.
     pub(super) fn joining(
         &self,
         service: &[u8],

@@ -1,29 +1,21 @@
-use Rattle.std.proofs.Common.{◌+◌, drop, ◌∙◌, arith}
-use Rattle.roman_text.specs.Report.{line_text}
-use Rattle.roman_session.specs.Reports.{lines_text}
+use Rattle.std.proofs.Common.{◌∙◌, arith}
+use Rattle.std.proofs.lemmas.Result.{err_from_is_err_and}
 use Rattle.roman_text.proofs.CallerLemmas.{fill_same, fill_more, fill_failed, fill_end}
 use Rattle.roman_session.proofs.LineLemmas.{next_line, no_line}
 use Rattle.roman_session.proofs.writing.push_lines.Goals as goal
 
-pub returns-in-Err-clause-gathers : goal.returns-in-Err-clause-gathers
-returns-in-Err-clause-gathers g c =
-    let lines = c.args.lines.now in
-    let i = c.loop-line.line-index in
-    let x = c.line-item.result in
-    let next = next_line lines i x (omega arith) c.line-item.is in (
-      fill_failed _ _ _ _ (line_text x) (lines_text (drop (i + 1) lines)) _ (fill_same _ _ _ _ _ _ next c.loop-line.invariant.filling) c.in-Err.ensures.gathers.0,
-      c.in-Err.ensures.gathers.1,
-    )
+pub returns-in_err-push_report_line-clause-gathers : goal.returns-in_err-push_report_line-clause-gathers
+returns-in_err-push_report_line-clause-gathers g c =
+    let next = next_line c.args.lines.now c.loop-line.line-index _ (omega arith) c.line-item.is in
+    let p = err_from_is_err_and c.from_residual.result c.from_residual.ensures.1 in
+    rw p.1 (fill_failed _ _ _ _ _ _ _ (fill_same _ _ _ _ _ _ next c.loop-line.invariant.filling) c.in_err-push_report_line.ensures.gathers.0, c.in_err-push_report_line.ensures.gathers.1)
 
 pub loop-line-preserved : goal.loop-line-preserved
 loop-line-preserved g c =
-    let lines = c.args.lines.now in
-    let i = c.loop-line.line-index in
-    let x = c.line-item.result in
-    let next = next_line lines i x (omega arith) c.line-item.is in
+    let next = next_line c.args.lines.now c.loop-line.line-index _ (omega arith) c.line-item.is in
     record {
-      filling = fill_more _ _ _ _ _ (line_text x) (lines_text (drop (i + 1) lines)) _ (fill_same _ _ _ _ _ _ next c.loop-line.invariant.filling) c.in_default.ensures.gathers;
-      cause = c.in_default.ensures.cause.stays ∙ c.loop-line.invariant.cause;
+      filling = fill_more _ _ _ _ _ _ _ _ (fill_same _ _ _ _ _ _ next c.loop-line.invariant.filling) c.in_ok-push_report_line.ensures.gathers;
+      cause = c.in_ok-push_report_line.ensures.cause.stays ∙ c.loop-line.invariant.cause;
     }
 
 pub returns-clause-gathers : goal.returns-clause-gathers

@@ -1,8 +1,5 @@
-use Rattle.std.proofs.Common.{◌++◌, ◌+◌, length, drop, codes, sym, ◌∙◌, arith}
-use Rattle.std.specs.List.{filter}
-use Rattle.roman_model.specs.Lists.{below}
-use Rattle.roman_rules.specs.Bits.{has_seat}
-use Rattle.roman_session.specs.Serving.{served_text}
+use Rattle.std.proofs.Common.{length, sym, ◌∙◌, arith}
+use Rattle.std.proofs.lemmas.Result.{err_from_is_err_and}
 use Rattle.roman_text.proofs.CallerLemmas.{fill_same, fill_more, fill_failed, fill_end}
 use Rattle.roman_session.proofs.ServingLemmas.{next_set, next_unset, none_set}
 use Rattle.roman_session.proofs.writing.push_served.Goals as goal
@@ -15,25 +12,22 @@ loop-k-preserved-then-not-has g c =
       cause = c.loop-k.invariant.cause;
     }
 
-pub returns-in-Err-clause-gathers : goal.returns-in-Err-clause-gathers
-returns-in-Err-clause-gathers g c =
+pub returns-in_err-push_name-clause-gathers : goal.returns-in_err-push_name-clause-gathers
+returns-in_err-push_name-clause-gathers g c =
     let joint = c.args.joint.now in
     let n = length joint.seats in
     let next = next_set joint c.args.mask n c.loop-k.k c.seat.result.now (omega arith) (sym c.has.ensures ∙ c.if-not-has.false) c.seat.ensures in
-    let rest = served_text joint (filter (has_seat c.args.mask) (drop (c.loop-k.k + 1) (below n))) in (
-      fill_failed _ _ _ _ (codes " " ++ c.seat.result.now.name) rest _ (fill_same _ _ _ _ _ _ next c.loop-k.invariant.filling) c.in-Err.ensures.gathers.0,
-      c.in-Err.ensures.gathers.1,
-    )
+    let p = err_from_is_err_and c.from_residual.result c.from_residual.ensures.1 in
+    rw p.1 (fill_failed _ _ _ _ _ _ _ (fill_same _ _ _ _ _ _ next c.loop-k.invariant.filling) c.in_err-push_name.ensures.gathers.0, c.in_err-push_name.ensures.gathers.1)
 
 pub loop-k-preserved : goal.loop-k-preserved
 loop-k-preserved g c =
     let joint = c.args.joint.now in
     let n = length joint.seats in
     let next = next_set joint c.args.mask n c.loop-k.k c.seat.result.now (omega arith) (sym c.has.ensures ∙ c.if-not-has.false) c.seat.ensures in
-    let rest = served_text joint (filter (has_seat c.args.mask) (drop (c.loop-k.k + 1) (below n))) in
     record {
-      filling = fill_more _ _ _ _ _ (codes " " ++ c.seat.result.now.name) rest _ (fill_same _ _ _ _ _ _ next c.loop-k.invariant.filling) c.in_default.ensures.gathers;
-      cause = c.in_default.ensures.cause.stays ∙ c.loop-k.invariant.cause;
+      filling = fill_more _ _ _ _ _ _ _ _ (fill_same _ _ _ _ _ _ next c.loop-k.invariant.filling) c.in_ok-push_name.ensures.gathers;
+      cause = c.in_ok-push_name.ensures.cause.stays ∙ c.loop-k.invariant.cause;
     }
 
 pub returns-clause-gathers : goal.returns-clause-gathers

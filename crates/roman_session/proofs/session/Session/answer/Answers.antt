@@ -1,28 +1,33 @@
+use Rattle.std.proofs.lemmas.Result.{err_from_is_err_and}
 use Rattle.roman_session.proofs.AnswerLemmas.{names_some, stays_related, answered_whole, answered_prefix}
 use Rattle.roman_session.proofs.session.Session.answer.Goals as goal
 
-pub returns-in-Err-clause-step : goal.returns-in-Err-clause-step
-returns-in-Err-clause-step g c = answered_prefix _ _ _ _ _ _ _ _ _ c.new-page.ensures.empty c.in-Err.ensures.step
+pub returns-in_err-next-clause-step : goal.returns-in_err-next-clause-step
+returns-in_err-next-clause-step g c =
+    let p = err_from_is_err_and c.from_residual.result c.from_residual.ensures.1 in
+    rw p.1 (answered_prefix _ _ _ _ _ _ _ _ _ c.new-page.ensures.empty c.in_err-next.ensures.step)
 
-pub returns-in-Err-clause-offered : goal.returns-in-Err-clause-offered
-returns-in-Err-clause-offered g c = names_some c.args.self.now c.args.line.now c.known.ensures
+pub returns-in_err-next-clause-offered : goal.returns-in_err-next-clause-offered
+returns-in_err-next-clause-offered g c = names_some c.args.self.now c.args.line.now c.known.ensures
 
-pub returns-in-Err-clause-related : goal.returns-in-Err-clause-related
-returns-in-Err-clause-related g c =
+pub returns-in_err-next-clause-related : goal.returns-in_err-next-clause-related
+returns-in_err-next-clause-related g c =
     stays_related c.args.self.now c.answer_on-answered.new.self c.args.line.now _ c.known.ensures c.answer_on-answered.ensures.step.step
 
-pub returns-in-Err-flush-clause-step : goal.returns-in-Err-flush-clause-step
-returns-in-Err-flush-clause-step g c = answered_whole _ _ _ _ _ _ _ _ _ _ c.new-page.ensures.empty c.in-Ok.ensures.step c.in-Err-flush.ensures.puts
+pub returns-in_err-flush-clause-step : goal.returns-in_err-flush-clause-step
+returns-in_err-flush-clause-step g c =
+    let p = err_from_is_err_and c.from_residual-in_err-flush.result c.from_residual-in_err-flush.ensures.1 in
+    rw p.1 (answered_whole _ _ _ _ _ _ _ _ _ _ c.new-page.ensures.empty c.in_ok-next.ensures.step c.in_err-flush.ensures.puts)
 
-pub returns-in-Err-flush-clause-offered : goal.returns-in-Err-flush-clause-offered
-returns-in-Err-flush-clause-offered g c = names_some c.args.self.now c.args.line.now c.known.ensures
+pub returns-in_err-flush-clause-offered : goal.returns-in_err-flush-clause-offered
+returns-in_err-flush-clause-offered g c = names_some c.args.self.now c.args.line.now c.known.ensures
 
-pub returns-in-Err-flush-clause-related : goal.returns-in-Err-flush-clause-related
-returns-in-Err-flush-clause-related g c =
+pub returns-in_err-flush-clause-related : goal.returns-in_err-flush-clause-related
+returns-in_err-flush-clause-related g c =
     stays_related c.args.self.now c.answer_on-answered.new.self c.args.line.now _ c.known.ensures c.answer_on-answered.ensures.step.step
 
 pub returns-clause-step : goal.returns-clause-step
-returns-clause-step g c = answered_whole _ _ _ _ _ _ _ _ _ _ c.new-page.ensures.empty c.in-Ok.ensures.step c.in_default.ensures.puts
+returns-clause-step g c = answered_whole _ _ _ _ _ _ _ _ _ _ c.new-page.ensures.empty c.in_ok-next.ensures.step c.in_ok-flush.ensures.puts
 
 pub returns-clause-offered : goal.returns-clause-offered
 returns-clause-offered g c = names_some c.args.self.now c.args.line.now c.known.ensures

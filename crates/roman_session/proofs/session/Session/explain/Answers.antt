@@ -1,4 +1,5 @@
 use Rattle.std.proofs.Common.{◌≡◌, ℕ, List, sym, ap, ◌∙◌, subst}
+use Rattle.std.proofs.lemmas.Result.{err_from_is_err_and}
 use Rattle.roman_model.specs.Explanation.{explain_text}
 use Rattle.roman_model.specs.Numbers.{sizes_of, number}
 use Rattle.roman_io.specs.Sink.{Puts}
@@ -16,8 +17,10 @@ write_slice-requires-clause-unrelated g c =
     let a = c.self.inside in
     unrelated_there s a.relation.joint c.here-here.result (situation_known a s c.self.invariant c.self.view_is) (parts_shown a s c.self.view_is) c.here-here.ensures.number c.requires
 
-pub returns-in-Err-clause-gathers : goal.returns-in-Err-clause-gathers
-returns-in-Err-clause-gathers g c = Gathers-failed _ _ _ _ _ c.in-Err.ensures.puts c.in-Err.ensures.empty
+pub returns-in_err-flush-clause-gathers : goal.returns-in_err-flush-clause-gathers
+returns-in_err-flush-clause-gathers g c =
+    let p = err_from_is_err_and c.from_residual.result c.from_residual.ensures.1 in
+    rw p.1 (Gathers-failed _ _ _ _ _ c.in_err-flush.ensures.puts c.in_err-flush.ensures.empty)
 
 pub returns-clause-gathers : goal.returns-clause-gathers
 returns-clause-gathers g c =
@@ -30,4 +33,4 @@ returns-clause-gathers g c =
     ap (explain_text (present_system t) (names_in t.parts) t.list) (here_pair t c.here-here.result c.self.invariant.known here)
     ∙ ap (λ (s : Situation). explain_text (present_system s) (names_in s.parts) s.list s.here) c.self.view_is in
     let put = subst (λ (text : List ℕ). Puts (g.O.Sink.written c.flush.new.out) (g.O.Sink.written c.write_slice.new.out) text c.write_slice.result) same c.write_slice.ensures.text in
-    Gathers-flushed _ _ _ c.args.page.now c.flush.new.self _ _ c.in_default.ensures.puts (puts_gathered _ _ _ _ _ c.flush.ensures.empty put)
+    Gathers-flushed _ _ _ c.args.page.now c.flush.new.self _ _ c.in_ok-flush.ensures.puts (puts_gathered _ _ _ _ _ c.flush.ensures.empty put)

@@ -9,7 +9,7 @@ use Rattle.roman_session.specs.Steps.{Does, Jumps}
 use Rattle.roman_session.specs.declared.events.Jump.{Jump}
 use Rattle.roman_session.specs.declared.phase.Phase.{Phase}
 use Rattle.roman_session.specs.declared.phase.Phase.TheVariants.{Idle}
-use Rattle.roman_session.proofs.RulingLemmas.{jumped_idle}
+use Rattle.roman_session.proofs.RulingLemmas.{jumped_is}
 use Rattle.roman_session.proofs.SituationLemmas.{situation_known, jumped_pair}
 use Rattle.roman_session.proofs.session.Session.jump.Goals as goal
 
@@ -31,7 +31,7 @@ returns c =
     let x = c.in-Ok.jump in
     let t = ap (λ (s : Situation). s.here.t) c.move_to.view_is in
     let e = ap (λ (s : Situation). s.here.e) c.move_to.view_is in
-    let idle = jumped_idle s c.args.service.now c.args.state.now x (sym c.in-Ok.ensures.jumped) in
+    let idle = (jumped_is s c.args.service.now c.args.state.now x (sym c.in-Ok.ensures.jumped)).idle in
     let becomes : c.move_to-2.new.self ≡ record s { here = record s.here { bs = slice_set s.here.bs x.seat x.state } } =
     c.move_to-2.ensures
     ∙ ap₂ (λ (t e : ℕ). record s { here = moved s.here t e x.seat x.state; phase = Idle }) t e

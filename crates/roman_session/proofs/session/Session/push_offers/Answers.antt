@@ -1,7 +1,7 @@
-use Rattle.std.proofs.Common.{◌≡◌, ◌+◌, refl, sym, ◌∙◌, arith, rules}
-use Rattle.roman_session.specs.Reports.{offer_line, lines_text}
+use Rattle.std.proofs.Common.{◌≡◌, refl, sym, ◌∙◌, arith, rules}
+use Rattle.std.proofs.lemmas.Result.{err_from_is_err_and}
 use Rattle.roman_text.proofs.CallerLemmas.{fill_behind, fill_same, fill_more, fill_failed, fill_end}
-use Rattle.roman_session.proofs.LineLemmas.{lines_from, next_offer, next_unallowed, no_offer, offers_begin, no_offers}
+use Rattle.roman_session.proofs.LineLemmas.{next_offer, next_unallowed, no_offer, offers_begin, no_offers}
 use Rattle.roman_session.proofs.session.Session.push_offers.Goals as goal
 
 pub returns-then-not-composes-clause-gathers : goal.returns-then-not-composes-clause-gathers
@@ -21,27 +21,22 @@ loop-a-preserved-then-not-allows g c =
     let next = next_unallowed s.parts s.here c.loop-a.a (omega (arith, all)) (sym c.if-not-allows.ensures) in
     record { filling = fill_same _ _ _ _ _ _ next c.loop-a.invariant.filling; cause = c.loop-a.invariant.cause }
 
-pub returns-in-Err-clause-gathers : goal.returns-in-Err-clause-gathers
-returns-in-Err-clause-gathers g c =
+pub returns-in_err-push_offer-clause-gathers : goal.returns-in_err-push_offer-clause-gathers
+returns-in_err-push_offer-clause-gathers g c =
     let s = c.args.self.now in
     let all : c.len-actions.result ≡ s.parts.environment.env.actions = search rules in
-    let a = c.loop-a.a in
-    let next = next_offer s.parts s.here a (omega (arith, all)) (sym c.if-not-allows.ensures) in (
-      fill_failed _ _ _ _ (lines_text (offer_line s.parts s.here a)) (lines_from s.parts s.here (a + 1)) _ (fill_same _ _ _ _ _ _ next c.loop-a.invariant.filling)
-          c.in-Err.ensures.gathers.0,
-      c.in-Err.ensures.gathers.1,
-    )
+    let next = next_offer s.parts s.here c.loop-a.a (omega (arith, all)) (sym c.if-not-allows.ensures) in
+    let p = err_from_is_err_and c.from_residual.result c.from_residual.ensures.1 in
+    rw p.1 (fill_failed _ _ _ _ _ _ _ (fill_same _ _ _ _ _ _ next c.loop-a.invariant.filling) c.in_err-push_offer.ensures.gathers.0, c.in_err-push_offer.ensures.gathers.1)
 
 pub loop-a-preserved : goal.loop-a-preserved
 loop-a-preserved g c =
     let s = c.args.self.now in
     let all : c.len-actions.result ≡ s.parts.environment.env.actions = search rules in
-    let a = c.loop-a.a in
-    let next = next_offer s.parts s.here a (omega (arith, all)) (sym c.if-not-allows.ensures) in
+    let next = next_offer s.parts s.here c.loop-a.a (omega (arith, all)) (sym c.if-not-allows.ensures) in
     record {
-      filling = fill_more _ _ _ _ _ (lines_text (offer_line s.parts s.here a)) (lines_from s.parts s.here (a + 1)) _ (fill_same _ _ _ _ _ _ next c.loop-a.invariant.filling)
-          c.in_default.ensures.gathers;
-      cause = c.in_default.ensures.cause.stays ∙ c.loop-a.invariant.cause;
+      filling = fill_more _ _ _ _ _ _ _ _ (fill_same _ _ _ _ _ _ next c.loop-a.invariant.filling) c.in_ok-push_offer.ensures.gathers;
+      cause = c.in_ok-push_offer.ensures.cause.stays ∙ c.loop-a.invariant.cause;
     }
 
 pub returns-clause-gathers : goal.returns-clause-gathers

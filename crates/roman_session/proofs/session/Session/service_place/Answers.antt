@@ -1,25 +1,25 @@
-use Rattle.std.proofs.Common.{◌≡◌, ◌≤◌, Some, length, slice_get, sym, ap, ◌∙◌, subst, arith}
+use Rattle.std.proofs.Common.{below_more, Option, ◌≡◌, ℕ, ◌<◌, ◌≤◌, false, map, length, sym, ap, arith}
+use Rattle.std.specs.Option.{ok_or}
 use Rattle.std.specs.Str.{bytes_eq}
+use Rattle.std.proofs.lemmas.List.{length-map}
+use Rattle.roman_text.specs.declared.replies.Reply.TheVariants as reply
 use Rattle.roman_joint.specs.NamedSys.{NamedSys}
-use Rattle.roman_session.proofs.NameLemmas.{service_found, service_passed, service_not_found}
+use Rattle.roman_joint.specs.Names.{seat_name}
+use Rattle.roman_session.specs.Steps.{service_at}
+use Rattle.roman_session.proofs.NameLemmas.{place_found, service_not_found}
 use Rattle.roman_session.proofs.SituationLemmas.{parts_shown}
 use Rattle.roman_session.proofs.session.Session.service_place.Goals as goal
 
-pub returns-then-eq-clause-place : goal.returns-then-eq-clause-place
-returns-then-eq-clause-place c =
+pub returns-then-has_name-clause-place : goal.returns-then-has_name-clause-place
+returns-then-has_name-clause-place c =
     let s = c.args.self.now in
-    let x = c.seat.result.now in
-    let seated = subst (λ (n : NamedSys). slice_get n.seats c.loop-k.k ≡ Some x) (parts_shown c.self.inside s c.self.view_is) c.seat.ensures in
-    let is : c.eq.result ≡ bytes_eq c.args.name.now x.name = c.eq.ensures ∙ ap (bytes_eq c.args.name.now) c.bytes.ensures.bytes in
-    service_found s.parts.seats c.args.name.now c.loop-k.k x seated (sym is ∙ c.if-eq.true) c.loop-k.invariant
+    let names = map seat_name s.parts.seats in
+    let within : c.loop-k.k < length names =
+    omega (arith, c.seats-k-end.ensures.count, ap (λ (n : NamedSys). length n.seats) (parts_shown c.self.inside s c.self.view_is), length-map s.parts.seats seat_name) in
+    ap (λ (o : Option ℕ). ok_or o reply.ErrorName) (sym (place_found names c.args.name.now c.loop-k.k within (sym c.if-has_name.ensures) c.loop-k.invariant))
 
 pub loop-k-preserved : goal.loop-k-preserved
-loop-k-preserved c =
-    let s = c.args.self.now in
-    let x = c.seat.result.now in
-    let seated = subst (λ (n : NamedSys). slice_get n.seats c.loop-k.k ≡ Some x) (parts_shown c.self.inside s c.self.view_is) c.seat.ensures in
-    let is : c.eq.result ≡ bytes_eq c.args.name.now x.name = c.eq.ensures ∙ ap (bytes_eq c.args.name.now) c.bytes.ensures.bytes in
-    service_passed s.parts.seats c.args.name.now c.loop-k.k x seated (sym is ∙ c.if-eq.false) c.loop-k.invariant
+loop-k-preserved c = below_more (λ j. bytes_eq c.args.name.now (service_at c.args.self.now j) ≡ false) c.loop-k.k c.loop-k.invariant (sym c.if-has_name.ensures)
 
 pub returns-clause-place : goal.returns-clause-place
 returns-clause-place c =
