@@ -12,7 +12,7 @@ use Rattle.roman_model.specs.CompleteLists.{IsComplete}
 use Rattle.roman_model.specs.Change.{CanChange, rename, after}
 use Rattle.roman_model.specs.Explanation.{name_at, explain_text}
 use Rattle.roman_model.specs.declared.limits.TheConstants.{MAX_SERVICES}
-use Rattle.roman_model.proofs.CallerLemmas.{by_test, any_true, any_false, sublist_in, same_numbers_is, same_numbers_itself, from_allowed, outcome_in, from_outcome, replay_sublist, renaming_keeps, order_goes_on}
+use Rattle.roman_model.proofs.CallerLemmas.{by_test, any_true, any_false, sublist_in, same_numbers_is, same_numbers_itself, from_allowed, outcome_in, from_outcome, replay_sublist, renaming_keeps, order_goes_on, there_is}
 use Rattle.roman_read.proofs.CallerLemmas.{bind_ok}
 use Rattle.roman_text.specs.Shapes.{LineShape, nothing, ask, hand, saw, abort, freeze, thaw, die, join, jump, jump_env, report, explain, quit, shape_of}
 use Rattle.roman_text.specs.Replies.{reply_text}
@@ -33,7 +33,7 @@ use Rattle.roman_session.specs.declared.events.Jump.{Jump}
 use Rattle.roman_generator.specs.declared.sight.Sight.{Sight}
 use Rattle.roman_session.specs.declared.phase.Phase.{Phase}
 use Rattle.roman_session.specs.declared.phase.Phase.TheVariants.{Idle, Offered, Delegated}
-use Rattle.roman_session.proofs.CallerLemmas.{seat_is, checked, asked_is, handed_is, seen_is, jumped_is, env_jumped_is, frozen_is, thawed_is, died_is, joining_idle, cells_with, there_is}
+use Rattle.roman_session.proofs.CallerLemmas.{seat_is, checked, asked_is, handed_is, seen_is, jumped_is, env_jumped_is, frozen_is, thawed_is, died_is, joining_idle, cells_with}
 use Rattle.roman_hearing.specs.Known.{AreBehaviours}
 use Rattle.roman_hearing.proofs.WithinLemmas.{seat_within, joining_new, joining_beh}
 

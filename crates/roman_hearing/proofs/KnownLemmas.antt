@@ -5,7 +5,7 @@ use Rattle.roman_model.specs.System.{Sys, IsPair}
 use Rattle.roman_model.specs.CompleteLists.{IsComplete}
 use Rattle.roman_model.specs.Offers.{offers}
 use Rattle.roman_model.specs.declared.limits.TheConstants.{MAX_SERVICES}
-use Rattle.roman_model.proofs.CallerLemmas.{IsPair-turned, IsPair-grown, IsPair-without, number_listed}
+use Rattle.roman_model.proofs.CallerLemmas.{IsPair-turned, IsPair-grown, IsPair-without, number_listed, there_is}
 use Rattle.roman_read.proofs.CallerLemmas.{same_ok, bind_ok}
 use Rattle.roman_text.specs.Shapes.{LineShape, nothing, ask, hand, saw, abort, freeze, thaw, die, join, jump, jump_env, report, explain, quit, shape_of}
 use Rattle.roman_text.specs.declared.errors.LineError.{LineError}
@@ -23,7 +23,7 @@ use Rattle.roman_session.specs.declared.events.Joining.{Joining}
 use Rattle.roman_session.specs.declared.events.Jump.{Jump}
 use Rattle.roman_generator.specs.declared.sight.Sight.{Sight}
 use Rattle.roman_session.specs.declared.phase.Phase.TheVariants.{Idle}
-use Rattle.roman_session.proofs.CallerLemmas.{checked, asked_is, handed_is, jumped_is, env_jumped_is, frozen_is, thawed_is, died_is, joining_idle, cells_with, there_is, jumped_pair, moved_pair}
+use Rattle.roman_session.proofs.CallerLemmas.{checked, asked_is, handed_is, jumped_is, env_jumped_is, frozen_is, thawed_is, died_is, joining_idle, cells_with, jumped_pair, moved_pair}
 use Rattle.roman_hearing.specs.Known.{AreBehaviours, AreNamed, StepsStayKnown}
 use Rattle.roman_hearing.proofs.KeepLemmas.{line_keeps, behaviours_stay}
 use Rattle.roman_hearing.proofs.WithinLemmas.{named_within, seat_within, state_within, joining_new, joining_beh}

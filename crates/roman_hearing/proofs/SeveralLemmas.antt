@@ -10,7 +10,7 @@ use Rattle.roman_model.specs.Several.{Several, GreatAll}
 use Rattle.roman_model.specs.Combined.{combined, combined_env, combined_beh, combined_target, combined_seat, couple_all, target_sizes, IsSeveral}
 use Rattle.roman_model.specs.declared.limits.TheConstants.{MAX_STATES}
 use Rattle.roman_model.specs.declared.request.Request.{Request}
-use Rattle.roman_model.proofs.CallerLemmas.{from_map, combined_is_all}
+use Rattle.roman_model.proofs.CallerLemmas.{from_map, combined_is_all, there_is}
 use Rattle.roman_parts.specs.Named.{NamedEnv, NamedBeh, NamedTarget}
 use Rattle.roman_joint.specs.NamedSys.{NamedSys, beh_at, seat_of}
 use Rattle.roman_joint.specs.declared.seat.Seat.{Seat}
@@ -21,7 +21,6 @@ use Rattle.roman_library.specs.Library.{PlainLibrary}
 use Rattle.roman_library.specs.Targets.{PlainTargets, CombinesTargets}
 use Rattle.roman_library.proofs.CallerLemmas.{targets_known, libraries_known, behaviour_there, targets_combined}
 use Rattle.roman_session.specs.Situations.{Situation, IsSituation, present_system}
-use Rattle.roman_session.proofs.CallerLemmas.{there_is}
 use Rattle.roman_hearing.specs.Told.{Answers, until_quit}
 use Rattle.roman_hearing.specs.Known.{AreNamed, IsKnownSituation}
 use Rattle.roman_hearing.specs.Several.{several_in, MeansAll, SeveralAreServed}

@@ -8,6 +8,7 @@ use Rattle.std.proofs.lemmas.List.Elements.{All-get_or}
 use Rattle.std.proofs.lemmas.Option.{get_or_from_slice_get}
 use Rattle.roman_model.specs.System.{Seat, IsBeh, Beh}
 use Rattle.roman_model.specs.Explanation.{seat_names}
+use Rattle.roman_model.proofs.CallerLemmas.{there_is}
 use Rattle.roman_read.specs.Names.{is_name, place_of}
 use Rattle.roman_read.proofs.CallerLemmas.{same_ok, bind_ok}
 use Rattle.roman_text.specs.declared.replies.Reply.TheVariants as reply
@@ -21,7 +22,7 @@ use Rattle.roman_session.specs.Situations.{Situation, present_system, is_idle, I
 use Rattle.roman_session.specs.Joins.{CanJoin}
 use Rattle.roman_session.specs.Rulings.{named, service_named, state_named, joining}
 use Rattle.roman_session.specs.declared.events.Joining.{Joining}
-use Rattle.roman_session.proofs.CallerLemmas.{name_is_new, checked, there_is, mapped_at, states_named}
+use Rattle.roman_session.proofs.CallerLemmas.{name_is_new, checked, mapped_at, states_named}
 use Rattle.roman_hearing.specs.Known.{AreBehaviours}
 
 -- what is named is one of the names

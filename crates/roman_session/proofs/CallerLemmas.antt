@@ -6,10 +6,8 @@ pub use Rattle.roman_session.proofs.RulingLemmas.{jumped_is, seen_is, thawed_is}
 -- What follows from offers and from outcomes.
 pub use Rattle.roman_session.proofs.StepLemmas.{moved_pair, outcomes_related, requests_offered}
 -- What the fields of a session and the calls of its parts say of the situation.
-pub use Rattle.roman_session.proofs.SituationLemmas.{jumped_pair, mapped_at, states_named, there_is}
+pub use Rattle.roman_session.proofs.SituationLemmas.{jumped_pair, mapped_at, states_named}
 -- Places of names.
 pub use Rattle.roman_session.proofs.NameLemmas.{name_is_new}
--- The seats of a mask, one after the other.
-pub use Rattle.roman_session.proofs.ServingLemmas.{from_end, from_place}
 -- A session after its services changed.
 pub use Rattle.roman_session.proofs.ChangedLemmas.{is_within, seat_is}

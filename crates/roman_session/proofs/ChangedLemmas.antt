@@ -10,7 +10,7 @@ use Rattle.roman_model.specs.CompleteLists.{IsComplete}
 use Rattle.roman_model.specs.Change.{CanChange, Freeze, Thaw, Join, Die, rename}
 use Rattle.roman_model.specs.Numbers.{Sizes, sizes_of, number, entry_at}
 use Rattle.roman_model.specs.declared.limits.TheConstants.{MAX_BEHAVIOURS, MAX_SERVICES}
-use Rattle.roman_model.proofs.CallerLemmas.{turned, IsPair-turned, IsPair-grown, IsPair-without, sizes-turned}
+use Rattle.roman_model.proofs.CallerLemmas.{turned, IsPair-turned, IsPair-grown, IsPair-without, sizes-turned, there_is}
 use Rattle.roman_joint.specs.NamedSys.{NamedSys, IsNamedSys}
 use Rattle.roman_joint.specs.NamedSys as joint
 use Rattle.roman_relation.specs.declared.relation.Relation.{Relation}
@@ -31,7 +31,6 @@ use Rattle.roman_session.specs.declared.phase.Phase.{Phase}
 use Rattle.roman_session.specs.declared.phase.Phase.TheVariants.{Idle, Offered}
 use Rattle.roman_session.specs.declared.session.Session.TheInside.{Inside}
 use Rattle.roman_session.proofs.RulingLemmas.{cells_with, with_room_is, no_room_is}
-use Rattle.roman_session.proofs.SituationLemmas.{there_is}
 
 -- the seat of a present service
 pub seat_is : (s : Situation) (k : ℕ) → k < length s.parts.seats → slice_get (present_system s).seats k ≡ Some (seat_at s k)

@@ -10,6 +10,7 @@ use Rattle.roman_model.specs.System.{Pair, IsPair, has}
 use Rattle.roman_model.specs.SystemArena.{is_allowed}
 use Rattle.roman_model.specs.Explanation.{name_at}
 use Rattle.roman_model.specs.Offers.{is_related, offers}
+use Rattle.roman_model.proofs.CallerLemmas.{from_place, from_end, there_is}
 use Rattle.roman_text.specs.Report.{line_text}
 use Rattle.roman_text.specs.Replies.{reply_text}
 use Rattle.roman_text.specs.declared.replies.Reply.TheVariants as reply
@@ -26,8 +27,8 @@ use Rattle.roman_session.specs.Serving.{seats_set, served, served_text}
 use Rattle.roman_session.specs.Reports.{report_head, service_line, service_lines, offer_line, offer_lines, lines_text, report_text}
 use Rattle.roman_session.specs.Steps.{offer_text, service_at}
 use Rattle.roman_generator.proofs.CallerLemmas.{states_long}
-use Rattle.roman_session.proofs.SituationLemmas.{mapped_at, there_is}
-use Rattle.roman_session.proofs.ServingLemmas.{from_place, from_end, offers_set}
+use Rattle.roman_session.proofs.SituationLemmas.{mapped_at}
+use Rattle.roman_session.proofs.ServingLemmas.{offers_set}
 
 -- ---- lists of lines
 

@@ -1,15 +1,13 @@
 -- The seats of a mask, one after the other.
-use Rattle.std.proofs.Common.{◌≡◌, ℕ, ◌<◌, ◌≤◌, ◌+◌, Bool, List, [], ◌∷◌, ◌++◌, Some, IsTrue, IsFalse, length, drop, slice_get, sym, ap, ◌∙◌, arith, add-one, suc, codes, not, ◌&&◌}
+use Rattle.std.proofs.Common.{◌≡◌, ℕ, ◌<◌, ◌≤◌, ◌+◌, Bool, List, [], ◌∷◌, ◌++◌, Some, IsTrue, IsFalse, length, drop, slice_get, sym, ap, ◌∙◌, arith, codes, not, ◌&&◌}
 use Rattle.std.specs.List.{filter, flat_map}
-use Rattle.std.proofs.Math.Seq.{drop-cons}
-use Rattle.std.proofs.lemmas.List.{drop_all}
 use Rattle.std.proofs.lemmas.Bool.{cond-true, cond-false}
 use Rattle.roman_model.specs.Lists.{IsIn, below}
 use Rattle.roman_model.specs.System.{Sys, Pair, has}
 use Rattle.roman_model.specs.SystemArena.{is_allowed, arena}
 use Rattle.roman_model.specs.Arena.{is_beaten, mask}
 use Rattle.roman_model.specs.Offers.{is_related, offers}
-use Rattle.roman_model.proofs.CallerLemmas.{get_or-below, length-below, from_below, filter_same, mask_has}
+use Rattle.roman_model.proofs.CallerLemmas.{from_below, filter_same, mask_has, from_place, from_end}
 use Rattle.roman_rules.specs.Bits.{HasBits, has_seat}
 use Rattle.roman_rules.proofs.CallerLemmas.{has_seat_is}
 use Rattle.roman_joint.specs.NamedSys.{NamedSys}
@@ -17,18 +15,6 @@ use Rattle.roman_joint.specs.declared.seat.Seat.{Seat}
 use Rattle.roman_joint.specs.Names.{seat_name}
 use Rattle.roman_session.specs.Serving.{seats_set, served, served_text}
 use Rattle.roman_session.proofs.SituationLemmas.{mapped_at}
-
--- the numbers from k on
-pub from_place : (n k : ℕ) → k < n → drop k (below n) ≡ k ∷ drop (k + 1) (below n)
-from_place n k l =
-    let within : k < length (below n) = omega (arith, length-below n) in
-    drop-cons (below n) k 0 within
-    ∙ ap (λ (x : ℕ). x ∷ drop (suc k) (below n)) (get_or-below n k 0 l)
-    ∙ ap (λ (j : ℕ). k ∷ drop j (below n)) (sym (add-one k))
-
--- none are left from n on
-pub from_end : (n k : ℕ) → n ≤ k → drop k (below n) ≡ []
-from_end n k l = drop_all k (below n) (omega (arith, length-below n))
 
 -- a seat that is set comes next
 pub next_set : (parts : NamedSys) (mask n k : ℕ) (seat : Seat) → k < n → IsTrue (has_seat mask k) → slice_get parts.seats k ≡ Some seat →

@@ -1,5 +1,5 @@
 -- What the fields of a session and the calls of its parts say of the situation.
-use Rattle.std.proofs.Common.{◌≡◌, ℕ, zero, suc, ◌<◌, Bool, ◌↔◌, List, [], ◌∷◌, Option, Some, IfSome, IsTrue, IsFalse, map, length, slice_get, slice_set, slice_index, slice_index_or, refl, sym, ap, ◌∙◌, subst, arith}
+use Rattle.std.proofs.Common.{◌≡◌, ℕ, ◌<◌, Bool, ◌↔◌, List, [], Option, Some, IfSome, IsTrue, IsFalse, map, length, slice_get, slice_set, slice_index, slice_index_or, sym, ap, ◌∙◌, subst, arith}
 use Rattle.std.specs.Option.{option_map}
 use Rattle.std.proofs.lemmas.Option.{slice_get-map, get_or_from_slice_get}
 use Rattle.std.proofs.lemmas.List.{length-map, get_or-set_same}
@@ -12,7 +12,7 @@ use Rattle.roman_model.specs.Explanation.{SeatNames, seat_names}
 use Rattle.roman_model.specs.Lists.{IsIn}
 use Rattle.roman_model.specs.Offers.{is_related, offers}
 use Rattle.roman_model.specs.Composition.{Great}
-use Rattle.roman_model.proofs.CallerLemmas.{not_empty_in, ne_not_empty, by_test, related_great, great_related, outcome_seat, states_set, offer_is, numbers_are_pairs, states_below, AreBelow-index}
+use Rattle.roman_model.proofs.CallerLemmas.{not_empty_in, ne_not_empty, by_test, related_great, great_related, outcome_seat, states_set, offer_is, numbers_are_pairs, states_below, AreBelow-index, there_is}
 use Rattle.roman_radix.specs.Radix.{moved}
 use Rattle.roman_parts.specs.Named.{NamedBeh}
 use Rattle.roman_joint.specs.NamedSys.{NamedSys}
@@ -27,12 +27,6 @@ use Rattle.roman_session.specs.Layout.{situation_in, IsSession}
 use Rattle.roman_session.specs.declared.phase.Phase.{Phase}
 use Rattle.roman_session.specs.declared.phase.Phase.TheVariants.{Idle, Offered, Delegated}
 use Rattle.roman_session.specs.declared.session.Session.TheInside.{Inside}
-
--- there is something at each place of a list
-pub there_is : {X : Type 0} (xs : List X) (k : ℕ) → k < length xs → (x : X) × (slice_get xs k ≡ Some x)
-there_is [] k l = absurd (omega arith)
-there_is (x ∷ xs) zero l = (x, refl)
-there_is (x ∷ xs) (suc k) l = there_is xs k (omega arith)
 
 -- the fields' situation is one
 pub situation_known : (a : Inside) (s : Situation) → IsSession a → situation_in a ≡ s → IsSituation s

@@ -8,10 +8,11 @@ use Rattle.roman_model.specs.System.{Pair}
 use Rattle.roman_model.specs.Without.{Outlook, outlook, system_without, pair_without}
 use Rattle.roman_model.specs.declared.way.Way.{Way}
 use Rattle.roman_model.specs.declared.way.Way.TheVariants.{Freeze, Die}
+use Rattle.roman_model.proofs.CallerLemmas.{from_place, from_end}
 use Rattle.roman_joint.specs.NamedSys.{NamedSys, system_of}
 use Rattle.roman_joint.specs.Names.{seat_name}
 use Rattle.roman_joint.specs.declared.seat.Seat.{Seat}
-use Rattle.roman_session.proofs.CallerLemmas.{from_place, from_end, mapped_at}
+use Rattle.roman_session.proofs.CallerLemmas.{mapped_at}
 use Rattle.roman_top.specs.Outlooks.{outlook_words, way_word, service_names, line_without, lines_without, ones, twos, head_text, outlook_text}
 
 -- Names.

@@ -5,7 +5,7 @@ use Rattle.std.proofs.lemmas.List.{length-map}
 use Rattle.roman_model.specs.Lists.{IsIn}
 use Rattle.roman_model.specs.System.{Pair, IsPair, IsBeh, IsSys}
 use Rattle.roman_model.specs.System as model
-use Rattle.roman_model.proofs.CallerLemmas.{from_map, in_contains}
+use Rattle.roman_model.proofs.CallerLemmas.{from_map, in_contains, there_is}
 use Rattle.roman_joint.specs.NamedSys.{NamedSys, IsNamedSys, beh_at, seat_of, system_of, cells}
 use Rattle.roman_joint.proofs.CallerLemmas.{beh_read}
 use Rattle.roman_library.specs.Documents.{library_of}
@@ -15,7 +15,7 @@ use Rattle.roman_session.specs.Situations.{Situation, IsPhase}
 use Rattle.roman_session.specs.Situations as situation
 use Rattle.roman_start.specs.Starts.{seat_of_service, parts_of, start_pair_of}
 use Rattle.roman_session.specs.Starts.{IsStart}
-use Rattle.roman_session.proofs.CallerLemmas.{is_within, there_is}
+use Rattle.roman_session.proofs.CallerLemmas.{is_within}
 use Rattle.roman_start.proofs.CallerLemmas.{behaviours_within, names_once, start_pair}
 use Rattle.roman_hearing.specs.Known.{AreNamed, IsKnownSituation}
 use Rattle.roman_top.specs.Accepted.{StartsAreKnown}
