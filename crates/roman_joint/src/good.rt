@@ -206,7 +206,7 @@ impl Joint {
         };
         let alive = alive_on(self, words, &turn);
         let mut left = wanted;
-        for k in 0..self.seats() {
+        for k in 0..serving(self, alive) {
             if left == 0 {
                 return 0;
             }
