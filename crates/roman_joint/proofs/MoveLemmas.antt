@@ -21,8 +21,8 @@ use Rattle.roman_lanes.specs.Rows.{is_on, HasLanes}
 use Rattle.roman_parts.specs.Named.{NamedBeh}
 use Rattle.roman_joint.specs.NamedSys.{NamedSys, system_of, seat_of}
 use Rattle.roman_joint.specs.declared.seat.Seat as declared
-use Rattle.roman_joint.specs.Rows.{lanes_in, low_in, IsTurn, AreAlive}
-use Rattle.roman_joint.specs.Moves.{lane_state_of, GoesTo, AreMovesOf, AreWays, lane_move, lane_moves_from, ways_room, within_in, IsSpan, HoldsSpans, HoldsMoves, IsAdded, IsKept, AreSeatsOf}
+use Rattle.roman_joint.specs.Rows.{lanes_in, low_in, lane_state_of, IsTurn, AreAlive}
+use Rattle.roman_joint.specs.Moves.{GoesTo, AreMovesOf, AreWays, lane_move, lane_moves_from, ways_room, within_in, IsSpan, HoldsSpans, HoldsMoves, IsAdded, IsKept, AreSeatsOf}
 use Rattle.roman_joint.specs.declared.row.Row.{Row}
 use Rattle.roman_joint.specs.declared.turn.Turn.{Turn}
 use Rattle.roman_joint.specs.declared.moves.Move.{Move}
