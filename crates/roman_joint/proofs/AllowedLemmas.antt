@@ -1,15 +1,15 @@
 -- What is known of actions and of clause 2 at the pairs of a row.
-use Rattle.std.proofs.Common.{◌≡◌, ℕ, ◌+◌, ◌*◌, ◌<◌, ◌≤◌, Bool, true, false, not, ◌&&◌, ◌||◌, length, refl, sym, ap, ap₂, ◌∙◌, arith, zero, suc, eqb, List, [], ◌∷◌, slice_get, slice_index}
-use Rattle.std.specs.List.{list_any}
-use Rattle.std.proofs.lemmas.Bool.{both_ways}
+use Rattle.std.proofs.Common.{◌≡◌, ℕ, ◌+◌, ◌*◌, ◌<◌, ◌≤◌, Bool, true, false, not, ◌&&◌, ◌||◌, length, refl, sym, ap, ap₂, ◌∙◌, arith, zero, suc, eqb, List, [], ◌∷◌, inl, inr, slice_get, slice_index}
+use Rattle.std.proofs.lemmas.Bool.{both_ways, cases_eq}
 use Rattle.roman_model.specs.Lists.{is_empty, all_below}
-use Rattle.roman_model.proofs.CallerLemmas.{by_test, all_below_at, all_below_from, not_empty_in, AreBelow-length, IsPairOf-at}
+use Rattle.roman_model.proofs.CallerLemmas.{by_test, all_below_at, all_below_from, AreBelow-length, IsPairOf-at}
 use Rattle.roman_model.specs.System.{Sys, Seat, is_final, all_final}
 use Rattle.roman_model.specs.SystemArena.{is_allowed, env_next, beh_next}
 use Rattle.roman_model.specs.Arena.{is_beaten, is_justified}
 use Rattle.roman_model.specs.declared.reason.Reason.TheVariants.{Act}
 use Rattle.roman_model.specs.Numbers.{sizes_of, pair_at, numbered}
 use Rattle.roman_rules.specs.Numbered.{IsNumbered}
+use Rattle.roman_joint.proofs.ArenaFacts.{beaten_where}
 use Rattle.roman_joint.specs.Rows.{lanes_in, IsRow, IsTurn, is_open, may_rest}
 use Rattle.roman_joint.specs.declared.row.Row.{Row}
 use Rattle.roman_joint.specs.declared.turn.Turn.{Turn}
@@ -40,14 +40,8 @@ judged s row x a lane gone ok l on =
 pub unopened : (s : Sys) (row : Row) (x a k lane : ℕ) (gone : ℕ → Bool) → IsNumbered (numbered s) → IsRow s x row → lane < lanes_in s → is_open s row a ≡ false →
     is_beaten (numbered s) gone (x * lanes_in s + lane) a k ≡ true
 unopened s row x a k lane gone nodes ok l off =
-    by_test (is_empty ((numbered s).outcomes p a k))
-    (λ none. ap (λ b. b || list_any gone ((numbered s).outcomes p a k)) none)
-    (λ some.
-    let (q, i) = not_empty_in ((numbered s).outcomes p a k) some in
-    absurd (both_ways (is_allowed s (pair_at (sizes_of s) p) a) (open_here s row x a lane ok l ∙ off) (nodes.served p a k q i).0))
-  where
-    p : ℕ
-    p = x * lanes_in s + lane
+    beaten_where (numbered s) gone (x * lanes_in s + lane) a k
+    (λ q i. both_ways (is_allowed s (pair_at (sizes_of s) (x * lanes_in s + lane)) a) (open_here s row x a lane ok l ∙ off) (nodes.served (x * lanes_in s + lane) a k q i).0)
 
 pub and_nothing : (b c : Bool) → false ≡ c → false ≡ (b && c)
 and_nothing b c e = grind arith
@@ -56,6 +50,16 @@ and_nothing b c e = grind arith
 pub cut_off : (p : ℕ → Bool) (k n : ℕ) (wanted : Bool) → k ≤ n → (wanted && all_below p k) ≡ false → (wanted && all_below p n) ≡ false
 cut_off p k n false l e = refl
 cut_off p k n true l e = by_test (all_below p n) (λ t. absurd (both_ways (all_below p k) e (all_below_from p k (λ i m. all_below_at p n i t (omega arith))))) (λ f. f)
+
+-- further ones that all pass change nothing
+pub all_further : (p : ℕ → Bool) (k n : ℕ) → k ≤ n → ((j : ℕ) → k ≤ j → j < n → p j ≡ true) → all_below p k ≡ all_below p n
+all_further p k zero l on = let none : k ≡ zero = omega arith in ap (all_below p) none
+all_further p k (suc n) l on = elim (cases_eq k (suc n)) [
+  | inl e ↦ ap (all_below p) e
+  | inr ne ↦
+      let less : k ≤ n = omega (arith, ne, l) in
+      all_further p k n less (λ j past m. on j past (omega arith)) ∙ (sym (and-true (all_below p n)) ∙ ap (λ b. all_below p n && b) (sym (on n less (omega arith))))
+]
 
 -- the first of all that are below
 all_first : (p : ℕ → Bool) (n : ℕ) → all_below p (suc n) ≡ (p 0 && all_below (λ k. p (suc k)) n)

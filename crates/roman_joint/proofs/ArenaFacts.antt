@@ -1,7 +1,9 @@
 -- Arenas over numbers keep the laws of arenas.
-use Rattle.std.proofs.Common.{◌≡◌, ◌*◌, length, refl, sym, ap, arith}
-use Rattle.roman_model.specs.Lists.{below}
-use Rattle.roman_model.proofs.CallerLemmas.{in_below, from_below, length-below, IsArena, numbered_is_arena}
+use Rattle.std.proofs.Common.{◌≡◌, ℕ, ◌*◌, Bool, true, ◌||◌, length, refl, sym, ap, arith}
+use Rattle.std.specs.List.{list_any}
+use Rattle.roman_model.specs.Lists.{IsIn, is_empty, below}
+use Rattle.roman_model.specs.Arena.{Arena, is_beaten}
+use Rattle.roman_model.proofs.CallerLemmas.{by_test, not_empty_in, in_below, from_below, length-below, IsArena, numbered_is_arena}
 use Rattle.roman_model.specs.Numbers.{sizes_of, count, numbered}
 use Rattle.roman_joint.specs.NamedSys.{NamedSys, system_of, IsNamedSys}
 use Rattle.roman_rules.specs.Numbered.{IsNumbered}
@@ -27,6 +29,12 @@ joint_numbered n known =
           omega (arith, nodes, inside);
       served = arena.served;
     }
+
+-- a delegation without an outcome is beaten
+pub beaten_where : (A : Arena ℕ) (gone : ℕ → Bool) (p a k : ℕ) → ((q : ℕ) → IsIn q (A.outcomes p a k) → ⊥) → is_beaten A gone p a k ≡ true
+beaten_where A gone p a k none = by_test (is_empty (A.outcomes p a k))
+    (λ empty. ap (λ b. b || list_any gone (A.outcomes p a k)) empty)
+    (λ some. let (q, i) = not_empty_in (A.outcomes p a k) some in absurd (none q i))
 
 -- the nodes are as many as the pairs
 pub ruleset pair_count = (length-below)

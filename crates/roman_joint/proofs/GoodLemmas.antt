@@ -18,7 +18,7 @@ use Rattle.roman_radix.proofs.CallerLemmas.{product_positive, low_of-le, lanes_f
 use Rattle.roman_lanes.specs.Rows.{is_on, HasLanes, AreRows}
 use Rattle.roman_rules.specs.Numbered.{IsNumbered}
 use Rattle.roman_joint.specs.NamedSys.{NamedSys, system_of, seat_of, IsNamedSys}
-use Rattle.roman_joint.specs.Rows.{lanes_in, low_in, lane_has_state, AreRowsOf, IsRow, IsTurn, AreAlive}
+use Rattle.roman_joint.specs.Rows.{lanes_in, low_in, lane_has_state, lane_state_of, AreRowsOf, IsRow, IsTurn, AreAlive}
 use Rattle.roman_joint.specs.declared.layout.Rows.{Rows}
 use Rattle.roman_joint.specs.declared.row.Row.{Row}
 use Rattle.roman_joint.specs.declared.turn.Turn.{Turn}
@@ -256,7 +256,7 @@ pub beaten_dead : (s : Sys) (x a k lane : ℕ) (row : Row) (turn : Turn) (gone :
 beaten_dead s x a k lane row turn gone h ok within seat living in_lanes =
     let n = sizes_of s in
     let st = stride_of n k in
-    let digit = lane / st % slice_index n.seats k in
+    let digit = lane_state_of n k lane in
     let states = seat_next (slice_get s.seats k) digit row.env a in
     let to = λ (e b : ℕ). (turn.base + e * env_rows_of n) * lanes_in s + (lane + b * st - digit * st) in
     let seats : k < length n.seats = omega (arith, seat, length-map s.seats (λ (y : Seat). y.beh.states)) in

@@ -17,7 +17,7 @@ use Rattle.roman_rules.specs.Numbered.{IsNumbered}
 use Rattle.roman_joint.proofs.OutcomeLemmas.{StartsAt, starts_at, numbers_are, target_in_range}
 use Rattle.roman_joint.proofs.Finds.{some_numbers, no_numbers}
 use Rattle.roman_joint.proofs.SplitLemmas.{target_rows_are}
-use Rattle.roman_joint.specs.Rows.{lanes_in, low_in, IsRow}
+use Rattle.roman_joint.specs.Rows.{lanes_in, low_in, lane_state_of, IsRow}
 use Rattle.roman_joint.specs.declared.row.Row.{Row}
 
 -- the outcomes are those numbers
@@ -112,8 +112,8 @@ leads_before s row x lane a k to base u envs states sys ok in_lanes before strid
 
 -- the state of a seat within the lanes
 pub record LaneState (n : Sizes) (k lane : ℕ) : Type 0 where
-  pub taken : lane / stride_of n k % slice_index n.seats k * stride_of n k ≤ lane
-  pub moves : (b : ℕ) → b < slice_index n.seats k → lane + b * stride_of n k - lane / stride_of n k % slice_index n.seats k * stride_of n k < lanes_of n.seats
+  pub taken : lane_state_of n k lane * stride_of n k ≤ lane
+  pub moves : (b : ℕ) → b < slice_index n.seats k → lane + b * stride_of n k - lane_state_of n k lane * stride_of n k < lanes_of n.seats
 
 lane_moves : (lane st size m : ℕ) → 0 < st → 0 < size → lane < m * size * st → (lane / st % size * st ≤ lane) × ((b : ℕ) → b < size → lane + b * st - lane / st % size * st < m * size * st)
 lane_moves lane st size m pos some h =
@@ -149,7 +149,7 @@ lane_state n k lane h within seat l =
     let (taken, moves) = lane_moves lane (stride_of n k) (slice_index n.seats k) m (stride_positive n k h) (AreSizes-index n.seats k h.seats seat).0 (subst (λ x. lane < x) e l) in
     record {
       taken = taken;
-      moves = λ b less. subst (λ x. lane + b * stride_of n k - lane / stride_of n k % slice_index n.seats k * stride_of n k < x) (sym e) (moves b less);
+      moves = λ b less. subst (λ x. lane + b * stride_of n k - lane_state_of n k lane * stride_of n k < x) (sym e) (moves b less);
     }
 
 -- the state at a pair is that of its lane
@@ -161,7 +161,7 @@ digit_at row lane st size m pos =
     ap (λ x. x % size) high ∙ mul-add-mod_self_right (row * m) size (lane / st)
 
 pub lane_part : (n : Sizes) (x lane k : ℕ) → IsSizes n → x * lanes_of n.seats + lane < count n → low_of n.seats ≤ k → k < length n.seats →
-    slice_index (pair_at n (x * lanes_of n.seats + lane)).bs k ≡ lane / stride_of n k % slice_index n.seats k
+    slice_index (pair_at n (x * lanes_of n.seats + lane)).bs k ≡ lane_state_of n k lane
 lane_part n x lane k h inside within seat =
     let (m, e) = lanes_parts n k within seat in
     part_at n (x * lanes_of n.seats + lane) k inside seat
@@ -169,7 +169,7 @@ lane_part n x lane k h inside within seat =
 
 -- a seat within the lanes
 pub leads_lanes : (s : Sys) (row : Row) (x lane a k to base part : ℕ) (envs states : List ℕ) → IsSys s → IsSizes (sizes_of s) → IsRow s x row → lane < lanes_in s →
-    low_in s ≤ k → k < length s.seats → part ≡ lane / stride_of (sizes_of s) k % slice_index (sizes_of s).seats k →
+    low_in s ≤ k → k < length s.seats → part ≡ lane_state_of (sizes_of s) k lane →
     beh_next s.target row.target row.env a ≡ to ∷ [] → envs ≡ env_next s.env row.env a → states ≡ seat_next (slice_get s.seats k) part row.env a → base ≡ to * target_rows_of (sizes_of s) + row.part →
     Leads (numbered s) (x * lanes_in s + lane) a k envs states (λ e b. (base + e * env_rows_of (sizes_of s)) * lanes_in s + (lane + b * stride_of (sizes_of s) k - part * stride_of (sizes_of s) k))
 leads_lanes s row x lane a k to base part envs states sys sizes ok in_lanes within seat is_part target is_envs is_states is_base =

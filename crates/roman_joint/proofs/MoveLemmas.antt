@@ -3,7 +3,7 @@ use Rattle.std.proofs.Common.{◌≡◌, ◌≢◌, ℕ, zero, suc, ◌+◌, ◌
 use Rattle.std.proofs.Math.Seq.{get_or-append_seam}
 use Rattle.std.proofs.Math.Nat.{mul-le-mul_right}
 use Rattle.std.specs.List.{list_any, filter}
-use Rattle.std.proofs.lemmas.Bool.{cases_eq, cases_lt, eq-eqb, ne_eqb, eqb-true, false≢true, and_parts, not_from_false}
+use Rattle.std.proofs.lemmas.Bool.{both_ways, cases_eq, cases_lt, eq-eqb, ne_eqb, eqb-true, false≢true, and_parts, not_from_false}
 use Rattle.std.proofs.lemmas.Nat.{div-mul-add, mod-mul-add, mod_below, mul-add-lt}
 use Rattle.std.proofs.lemmas.List.{length-map, length-append, length-drop, map-append, take-append-le, drop-append-le, get_or_append_left, drop_more, drop_all, take_all}
 use Rattle.std.proofs.lemmas.List.Sums.{length-filter, count_by-le-length}
@@ -11,7 +11,7 @@ use Rattle.std.proofs.lemmas.Option.{slice_get_within, slice_get-get_or}
 use Rattle.roman_model.specs.Lists.{IsIn, is_empty, below, product_of}
 use Rattle.roman_model.proofs.CallerLemmas.{in_map, from_map, in_filter, filter_in, in_below, from_below, any_true, any_from, any_same, same_test, filter_below_more, by_test, empty_is, length-below, seat_in}
 use Rattle.roman_model.specs.System.{Sys, Seat, Beh}
-use Rattle.roman_model.specs.SystemArena.{beh_next, seat_next}
+use Rattle.roman_model.specs.SystemArena.{beh_next, is_ready}
 use Rattle.roman_model.specs.Arena.{is_beaten}
 use Rattle.roman_model.specs.Numbers.{Sizes, sizes_of, numbered}
 use Rattle.roman_radix.specs.Radix.{AreSizes, IsSizes, stride_of}
@@ -21,14 +21,16 @@ use Rattle.roman_lanes.specs.Rows.{is_on, HasLanes}
 use Rattle.roman_parts.specs.Named.{NamedBeh}
 use Rattle.roman_joint.specs.NamedSys.{NamedSys, system_of, seat_of}
 use Rattle.roman_joint.specs.declared.seat.Seat as declared
-use Rattle.roman_joint.specs.Rows.{lanes_in, low_in, IsTurn, AreAlive}
-use Rattle.roman_joint.specs.Moves.{lane_state_of, GoesTo, AreMovesOf, AreWays, lane_move, lane_moves_from, ways_room, within_in, IsSpan, HoldsSpans, HoldsMoves, IsAdded, IsKept, AreSeatsOf}
+use Rattle.roman_joint.specs.Rows.{lanes_in, low_in, lane_state_of, IsTurn, AreAlive}
+use Rattle.roman_joint.specs.Moves.{GoesTo, AreMovesOf, AreWays, lane_move, lane_moves_from, ways_room, within_in, IsSpan, HoldsSpans, HoldsMoves, IsAdded, IsKept, AreSeatsOf}
 use Rattle.roman_joint.specs.declared.row.Row.{Row}
 use Rattle.roman_joint.specs.declared.turn.Turn.{Turn}
 use Rattle.roman_joint.specs.declared.moves.Move.{Move}
 use Rattle.roman_joint.specs.declared.moves.Span.{Span}
 use Rattle.roman_joint.specs.declared.moves.Moves.{Moves}
 use Rattle.roman_joint.specs.declared.ways.Ways.{Ways}
+use Rattle.roman_rules.specs.Numbered.{IsNumbered}
+use Rattle.roman_joint.proofs.ArenaFacts.{beaten_where}
 use Rattle.roman_joint.proofs.Rows.{size_of_seat}
 use Rattle.roman_joint.specs.Changes.{with_frozen}
 use Rattle.roman_joint.proofs.SeatChanges.{with_seats, frozen_sizes, frozen_at}
@@ -219,15 +221,12 @@ serves_within s x a k some good alive row turn seat moves gone h ok within seate
         ∙ (ap₂ (λ y z. y && not z) (are.each lane l ∙ ap not full) (same_any lane l) ∙ all_alive lane l full))
 
 -- a frozen service serves nowhere
-pub beaten_frozen : (s : Sys) (x a k : ℕ) (row : Row) (turn : Turn) (seat : Seat) (gone : ℕ → Bool) → Known s x row → IsTurn s row a turn → low_in s ≤ k →
-    slice_get s.seats k ≡ Some seat → IsTrue seat.frozen → HasLanes (lanes_in s) x (λ p. not (is_beaten (numbered s) gone p a k)) 0
-beaten_frozen s x a k row turn seat gone h ok within seated frozen = record {
+pub beaten_frozen : (s : Sys) (x a k : ℕ) (seat : Seat) (gone : ℕ → Bool) → IsNumbered (numbered s) → slice_get s.seats k ≡ Some seat → IsTrue seat.frozen →
+    HasLanes (lanes_in s) x (λ p. not (is_beaten (numbered s) gone p a k)) 0
+beaten_frozen s x a k seat gone nodes seated frozen = record {
   each = λ lane l.
-      let n = sizes_of s in
-      let digit = lane_state_of n k lane in
-      let none : seat_next (slice_get s.seats k) digit row.env a ≡ [] = ap (λ o. seat_next o digit row.env a) seated ∙ ap (λ f. cond f [] (beh_next seat.beh digit row.env a)) frozen in
-      on_zero lane ∙ sym (ap not (leads_nothing (numbered s) gone (x * lanes_in s + lane) a k turn.envs.now (seat_next (slice_get s.seats k) digit row.env a) (λ e b. (turn.base + e * env_rows_of n) * lanes_in s + (lane + b * stride_of n k - digit * stride_of n k))
-      (leads_lanes s row x lane a k ok.to turn.base digit turn.envs.now (seat_next (slice_get s.seats k) digit row.env a) h.sys h.sizes h.looked l within (slice_get_within s.seats k seat seated) refl ok.target ok.worlds refl ok.base) none));
+      let p = x * lanes_in s + lane in
+      on_zero lane ∙ sym (ap not (beaten_where (numbered s) gone p a k (λ q i. both_ways (is_ready (slice_get s.seats k)) (ap is_ready seated ∙ ap not frozen) (nodes.served p a k q i).2)));
   rest = λ lane l. on_zero lane;
 }
 

@@ -1,7 +1,7 @@
 -- How rows and what is looked up of them are made.
 use Rattle.std.proofs.Common.{◌≡◌, ℕ, zero, suc, ◌+◌, ◌*◌, ◌/◌, ◌%◌, ◌^◌, ◌<◌, ◌≤◌, cond, List, [], ◌∷◌, length, map, drop, slice_index, inl, inr, refl, sym, ap, ap₂, ◌∙◌, subst, arith, ltb}
 use Rattle.std.proofs.lemmas.Bool.{cases_eq, lt-ltb, le-ltb}
-use Rattle.std.proofs.lemmas.Nat.{mul-add-lt}
+use Rattle.std.proofs.lemmas.Nat.{mul-add-lt, mod_below, div-mul-add, mod-mul-add, div-add-mod'}
 use Rattle.std.proofs.lemmas.List.{get_or-set_same, get_or-set_other, length-map}
 use Rattle.std.proofs.Math.ListN.{set}
 use Rattle.roman_model.specs.Lists.{IsIn, product_of}
@@ -10,7 +10,7 @@ use Rattle.roman_model.specs.Numbers.{Sizes, IsPairOf, sizes_of, count, pair_at}
 use Rattle.roman_model.proofs.CallerLemmas.{part_at, IsPairOf-at, AreBelow-index}
 use Rattle.roman_radix.specs.Radix.{AreSizes, IsSizes, stride_of, env_stride_of, target_stride_of}
 use Rattle.roman_radix.specs.Rows.{low_of, lanes_of, env_rows_of, target_rows_of}
-use Rattle.roman_radix.proofs.CallerLemmas.{product_positive, AreSizes-drop, AreSizes-index, low_of-le, lanes_positive, tails_from, exact, row_div, row_least, row_below, env_rows_are}
+use Rattle.roman_radix.proofs.CallerLemmas.{product_positive, product_more, AreSizes-drop, AreSizes-index, low_of-le, lanes_positive, tails_from, exact, row_div, row_least, row_below, env_rows_are}
 use Rattle.roman_lanes.specs.Rows.{is_on}
 use Rattle.roman_joint.specs.NamedSys.{NamedSys, system_of, IsNamedSys}
 use Rattle.roman_joint.specs.Rows.{lanes_in, low_in, lane_has_state, AreRowsOf, IsRow}
@@ -91,38 +91,75 @@ rows_made n r h is_low is_lanes full rows env target strides sizes firsts = reco
 pub row_stride : (n : Sizes) (r : Rows) (k : ℕ) → IsSizes n → AreRowsOf n r → k < low_of n.seats → slice_index r.strides k ≡ stride_of n k / lanes_of n.seats
 row_stride n r k h rows l = factor (slice_index r.strides k) (stride_of n k / lanes_of n.seats) (lanes_of n.seats) (lanes_positive n.seats h.seats) (rows.before k l ∙ sym (stride_rows n k h l))
 
--- what is known of a seat before the lanes
+stride_in_rows : (n : Sizes) (r : Rows) (k : ℕ) → IsSizes n → AreRowsOf n r → k < low_of n.seats → 0 < slice_index r.strides k
+stride_in_rows n r k h rows low =
+    positive_of (slice_index r.strides k) (lanes_of n.seats) (stride_of n k) (rows.before k low) (product_positive (drop (k + 1) n.seats) (AreSizes-drop (k + 1) n.seats h.seats))
+
+-- a seat before the lanes has a place in tables, and adds something to a row's number
 pub record Before (n : Sizes) (r : Rows) (k : ℕ) : Type 0 where
   pub low : k < low_of n.seats
   pub few : k < 32
   pub stride : 0 < slice_index r.strides k
-  pub size : 0 < slice_index r.sizes k
-  pub byte : slice_index r.sizes k < 2 ^ 8
 
 pub before : (n : NamedSys) (r : Rows) (k : ℕ) → IsNamedSys n → AreRowsOf (sizes_of (system_of n)) r → k < r.low → Before (sizes_of (system_of n)) r k
 before named r k known rows l =
     let n : Sizes = sizes_of (system_of named) in
     let h : IsSizes n = joint_sizes named known in
     let low : k < low_of n.seats = omega (arith, rows.low) in
+    record { low = low; few = omega (arith, low, low_of-le n.seats, h.few); stride = stride_in_rows n r k h rows low }
+
+-- a number's remainder by a product, split by one factor
+split_again : (x u size : ℕ) → 0 < u → 0 < size → (x % (u * size) / u ≡ x / u % size) × (x % (u * size) % u ≡ x % u)
+split_again x u size pos some =
+    let digits : x / u / size * size + x / u % size ≡ x / u = div-add-mod' (x / u) size in
+    let whole : x / u * u + x % u ≡ x = div-add-mod' x u in
+    let part : x % u < u = mod_below x u pos in
+    let below : x / u % size * u + x % u < u * size = mul-add-lt (x / u % size) u (x % u) size (mod_below (x / u) size some) part in
+    let times : (x / u / size * size + x / u % size) * u ≡ x / u * u = ap (λ m. m * u) digits in
+    let split : (x / u / size * size + x / u % size) * u ≡ x / u / size * (u * size) + x / u % size * u = omega arith in
+    let sum : x ≡ x / u / size * (u * size) + (x / u % size * u + x % u) = omega arith in
+    let is : x % (u * size) ≡ x / u % size * u + x % u = ap (λ m. m % (u * size)) sum ∙ mod-mul-add (x / u / size) (u * size) (x / u % size * u + x % u) below in
+    (ap (λ m. m / u) is ∙ div-mul-add (x / u % size) u (x % u) part, ap (λ m. m % u) is ∙ mod-mul-add (x / u % size) u (x % u) part)
+
+-- what is left of a row's number from a seat before the lanes on: its state, and what is left behind it
+pub record LeftAt (n : Sizes) (r : Rows) (x k rest : ℕ) : Type 0 where
+  pub state : rest / slice_index r.strides k ≡ x / (stride_of n k / lanes_of n.seats) % slice_index n.seats k
+  pub byte : rest / slice_index r.strides k < 2 ^ 8
+  pub behind : rest % slice_index r.strides k ≡ x % (product_of (drop (k + 1) n.seats) / lanes_of n.seats)
+
+pub left_at : (n : Sizes) (r : Rows) (x k rest : ℕ) → IsSizes n → AreRowsOf n r → k < low_of n.seats → rest ≡ x % (product_of (drop k n.seats) / lanes_of n.seats) → LeftAt n r x k rest
+left_at n r x k rest h rows low is =
+    let u = slice_index r.strides k in
+    let w = lanes_of n.seats in
+    let size = slice_index n.seats k in
+    let stride : u ≡ stride_of n k / w = row_stride n r k h rows low in
     let seat : k < length n.seats = omega (arith, low, low_of-le n.seats) in
-    let size = AreSizes-index n.seats k h.seats seat in
+    let sized = AreSizes-index n.seats k h.seats seat in
+    let product : stride_of n k * size ≡ product_of (drop k n.seats) = product_more n.seats k (k + 1) (stride_of n k) size refl seat refl refl in
+    let times : u * w * size ≡ stride_of n k * size = ap (λ m. m * size) (rows.before k low) in
+    let turned : u * size * w ≡ u * w * size = omega arith in
+    let whole : product_of (drop k n.seats) / w ≡ u * size = quotient (product_of (drop k n.seats)) (u * size) w (lanes_positive n.seats h.seats) (turned ∙ (times ∙ product)) in
+    let here : rest ≡ x % (u * size) = is ∙ ap (λ m. x % m) whole in
+    let (state, behind) = split_again x u size (stride_in_rows n r k h rows low) sized.0 in
+    let own : rest / u ≡ x / u % size = ap (λ m. m / u) here ∙ state in
+    let less : x / u % size < size = mod_below (x / u) size sized.0 in
     record {
-      low = low;
-      few = omega (arith, seat, h.few);
-      stride = positive_of (slice_index r.strides k) (lanes_of n.seats) (stride_of n k) (rows.before k low) (product_positive (drop (k + 1) n.seats) (AreSizes-drop (k + 1) n.seats h.seats));
-      size = omega (arith, size.0, rows.sizes k seat);
-      byte = omega (arith, size.1, rows.sizes k seat);
+      state = own ∙ ap (λ m. x / m % size) stride;
+      byte = omega (arith, own, less, sized.1);
+      behind = ap (λ m. m % u) here ∙ (behind ∙ ap (λ m. x % m) stride);
     }
 
+-- before the first seat all of a row's part is left
+pub left_first : (n : Sizes) (r : Rows) (x : ℕ) → IsSizes n → AreRowsOf n r → x % r.env_rows ≡ x % (product_of (drop 0 n.seats) / lanes_of n.seats)
+left_first n r x h rows = ap (λ m. x % m) (rows.env ∙ sym (quotient (product_of n.seats) (env_rows_of n) (lanes_of n.seats) (lanes_positive n.seats h.seats) (env_rows_are n)))
+
 -- the state of one seat more
-pub row_states_more : (n : Sizes) (r : Rows) (states : List ℕ) (x k size : ℕ) → IsSizes n → AreRowsOf n r → k < low_of n.seats → k < length states → size ≡ slice_index r.sizes k →
+pub row_states_more : (n : Sizes) (states : List ℕ) (x k state : ℕ) → k < length states → state ≡ x / (stride_of n k / lanes_of n.seats) % slice_index n.seats k →
     ((j : ℕ) → j < k → slice_index states j ≡ x / (stride_of n j / lanes_of n.seats) % slice_index n.seats j) →
-    (j : ℕ) → j < k + 1 → slice_index (set states k (x / slice_index r.strides k % size)) j ≡ x / (stride_of n j / lanes_of n.seats) % slice_index n.seats j
-row_states_more n r states x k size h rows low room is before j l = elim (cases_eq j k) [
-  | inl e ↦ subst (λ i. slice_index (set states k (x / slice_index r.strides k % size)) i ≡ x / (stride_of n i / lanes_of n.seats) % slice_index n.seats i) (sym e)
-      (get_or-set_same states k (x / slice_index r.strides k % size) 0 room
-      ∙ ap₂ (λ a b. x / a % b) (row_stride n r k h rows low) (is ∙ rows.sizes k (omega (arith, low_of-le n.seats))))
-  | inr other ↦ get_or-set_other states k j (x / slice_index r.strides k % size) 0 other ∙ before j (omega arith)
+    (j : ℕ) → j < k + 1 → slice_index (set states k state) j ≡ x / (stride_of n j / lanes_of n.seats) % slice_index n.seats j
+row_states_more n states x k state room is before j l = elim (cases_eq j k) [
+  | inl e ↦ subst (λ i. slice_index (set states k state) i ≡ x / (stride_of n i / lanes_of n.seats) % slice_index n.seats i) (sym e) (get_or-set_same states k state 0 room ∙ is)
+  | inr other ↦ get_or-set_other states k j state 0 other ∙ before j (omega arith)
 ]
 
 -- the pairs of a row are pairs

@@ -10,16 +10,12 @@ use Rattle.roman_radix.specs.Rows.{lanes_of}
 use Rattle.roman_lanes.specs.Rows.{is_on}
 use Rattle.roman_parts.specs.Named.{NamedBeh}
 use Rattle.roman_joint.specs.NamedSys.{NamedSys, system_of, IsNamedSys}
-use Rattle.roman_joint.specs.Rows.{low_in}
+use Rattle.roman_joint.specs.Rows.{low_in, lane_state_of}
 use Rattle.roman_joint.specs.declared.seat.Seat as declared
 use Rattle.roman_joint.specs.declared.moves.Move.{Move}
 use Rattle.roman_joint.specs.declared.moves.Span.{Span}
 use Rattle.roman_joint.specs.declared.moves.Moves.{Moves}
 use Rattle.roman_joint.specs.declared.ways.Ways.{Ways}
-
--- the state of seat k at a lane
-abbrev pub lane_state_of : Sizes → ℕ → ℕ → ℕ
-lane_state_of n k lane = lane / stride_of n k % slice_index n.seats k
 
 -- by that move the lane goes to that of state b
 pub record GoesTo (n : Sizes) (k lane b : ℕ) (move : Move) : Type 0 where

@@ -25,6 +25,10 @@ low_in s = low_of (sizes_of s).seats
 unfoldable pub lane_has_state : ℕ → ℕ → ℕ → ℕ → Bool
 lane_has_state stride size b lane = lane / stride % size == b
 
+-- the state of seat k at a lane
+abbrev pub lane_state_of : Sizes → ℕ → ℕ → ℕ
+lane_state_of n k lane = lane / stride_of n k % slice_index n.seats k
+
 -- the rows are those of the sizes: strides of seats before the lanes are counted in rows, those of seats within them in lanes
 pub record AreRowsOf (n : Sizes) (r : Rows) : Type 0 where
   pub low : r.low ≡ low_of n.seats

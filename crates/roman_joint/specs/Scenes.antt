@@ -18,6 +18,8 @@ pub record AreLeading (env : Env) (target : Beh) (t e bits : ℕ) : Type 0 where
 
 -- the scene is that of t and e
 pub record IsScene (env : Env) (target : Beh) (t e : ℕ) (scene : Scene) : Type 0 where
+  pub is_target : scene.target ≡ t
+  pub is_env : scene.env ≡ e
   pub allowed : ArePermitted env target t e scene.allowed
   pub leading : AreLeading env target t e scene.leading
 

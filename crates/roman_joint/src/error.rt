@@ -12,7 +12,7 @@ pub enum JointError {
     /// The system has more cells than the limit.
     #[error("the system has more cells than the limit")]
     Limit,
-    /// There is no memory for the services' places.
+    /// There is no memory for the joint's tables.
     #[error("there is no memory")]
     Memory,
 }

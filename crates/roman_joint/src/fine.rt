@@ -1,10 +1,9 @@
 //! Which pairs of a row don't meet clause 2.
-ghost use Rattle.std.specs.Prelude.{◌≡◌, ℕ, ◌+◌, ◌*◌, ◌/◌, ◌%◌, ◌<◌, ◌≤◌, not, length, slice_get, slice_index};
+ghost use Rattle.std.specs.Prelude.{◌≡◌, ℕ, ◌+◌, ◌*◌, ◌<◌, ◌≤◌, not, length, slice_get, slice_index};
 ghost use Rattle.roman_model.specs.Numbers.{sizes_of, pair_at, numbered};
-ghost use Rattle.roman_radix.specs.Radix.{stride_of};
 ghost use Rattle.roman_lanes.specs.Rows.{is_on, HasLanes};
 ghost use Rattle.roman_joint.specs.NamedSys.{system_of};
-ghost use Rattle.roman_joint.specs.Rows.{lanes_in, low_in, IsRow, may_rest as may_rest_in};
+ghost use Rattle.roman_joint.specs.Rows.{lanes_in, low_in, lane_state_of, IsRow, may_rest as may_rest_in};
 
 use crate::joint::Joint;
 use crate::row::Row;
@@ -16,7 +15,7 @@ fn rests_within(joint: &Joint, k: u8) -> u64
     requires within { low_in (system_of joint.now) ≤ k }
     requires seat { k < length joint.now.seats }
     ensures { (lane : ℕ) → lane < lanes_in (system_of joint.now) → is_on result lane
-        ≡ may_rest_in (slice_get (system_of joint.now).seats k) (lane / stride_of (sizes_of (system_of joint.now)) k % slice_index (sizes_of (system_of joint.now)).seats k) }
+        ≡ may_rest_in (slice_get (system_of joint.now).seats k) (lane_state_of (sizes_of (system_of joint.now)) k lane) }
 {
     let shape = joint.shape();
     let rows = joint.layout();

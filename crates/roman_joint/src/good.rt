@@ -151,9 +151,6 @@ impl Joint {
             HasBits result (has (mask_of (numbered (system_of self.now)) gone (x * lanes_in (system_of self.now) + lane) a)) }
     {
         self.known();
-        if (self.row_actions(row) >> a) & 1 == 0 {
-            return SeatSet::EMPTY;
-        }
         let Some(turn) = turn_of(self, row, a) else {
             return SeatSet::EMPTY;
         };
@@ -179,9 +176,6 @@ impl Joint {
         ensures few { result ≤ 2048 }
     {
         self.known();
-        if (self.row_actions(row) >> a) & 1 == 0 {
-            return 0;
-        }
         let Some(turn) = turn_of(self, row, a) else {
             return 0;
         };
@@ -212,7 +206,7 @@ impl Joint {
         };
         let alive = alive_on(self, words, &turn);
         let mut left = wanted;
-        for k in 0..self.seats() {
+        for k in 0..serving(self, alive) {
             if left == 0 {
                 return 0;
             }

@@ -12,6 +12,8 @@ use std::alloc::{AllocError, Global};
 /// A state of the target and one of the environment, and what they say of each action.
 #[derive(Clone, Copy, Debug)]
 pub(crate) struct Scene {
+    pub(crate) target: u8,
+    pub(crate) env: u8,
     /// The actions that are allowed there.
     pub(crate) allowed: u32,
     /// The actions that may lead there. No other does.
@@ -45,6 +47,8 @@ fn scene_of(environment: &Environment, target: &Target, t: u8, e: u8) -> Scene
     ensures { IsScene environment.now.env target.now.beh t e result }
 {
     Scene {
+        target: t,
+        env: e,
         allowed: allowed_in(environment, target, t, e),
         leading: leading_to(environment, target, t, e),
     }

@@ -24,9 +24,11 @@ pub(crate) fn row_states(joint: &Joint, x: u32) -> [u8; PLACES]
 {
     let rows = joint.layout();
     let mut states = [0; PLACES];
+    let mut rest = x % rows.env_rows;
     for k in 0..rows.low {
-        let size = u32::from(rows.sizes[k as usize]);
-        states[k as usize] = (x / rows.strides[k as usize] % size) as u8;
+        let stride = rows.strides[k as usize];
+        states[k as usize] = (rest / stride) as u8;
+        rest %= stride;
     }
     states
 }

@@ -22,6 +22,9 @@ pub(crate) fn turn_of<'a>(joint: &'a Joint, row: &Row, a: u8) -> Option<Turn<'a>
     ensures { MatchOption result (IsFalse (is_open (system_of joint.now) row.now a)) (IsTurn (system_of joint.now) row.now a) }
 {
     let rows = joint.layout();
+    if (row.allowed >> a) & 1 == 0 {
+        return None;
+    }
     let Some(to) = joint.target().step(row.target, row.env, a) else {
         return None;
     };

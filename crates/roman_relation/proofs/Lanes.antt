@@ -1,8 +1,10 @@
 -- Pairs as lanes of rows.
-use Rattle.std.proofs.Common.{◌≡◌, ℕ, ◌+◌, ◌*◌, ◌/◌, ◌%◌, ◌<◌, Bool, not, List, length, slice_index, sym, ap, ap₂, ◌∙◌, subst, arith}
+use Rattle.std.proofs.Common.{◌≡◌, ℕ, ◌+◌, ◌*◌, ◌/◌, ◌%◌, ◌<◌, Bool, false, not, List, length, slice_index, IsFalse, sym, ap, ap₂, ◌∙◌, subst, arith}
+use Rattle.std.proofs.lemmas.Bool.{both_ways, not_from_false}
 use Rattle.std.proofs.lemmas.Nat.{same_from_place, div-add-mod', div_below, mod_below}
 use Rattle.roman_model.specs.Arena.{Arena, Entry, is_listed}
 use Rattle.roman_lanes.specs.Rows.{is_on, HasLanes, AreRows}
+use Rattle.roman_lanes.proofs.CallerLemmas.{on_zero}
 use Rattle.roman_rules.specs.Numbered.{IsNumbered}
 use Rattle.roman_order.specs.Board.{Board, has_entry}
 use Rattle.roman_relation.specs.Shaped.{IsShaped}
@@ -41,6 +43,14 @@ pub words_row : (A : Arena ℕ) → IsNumbered A → (lanes row : ℕ) (b : Boar
     row < b.rows → AreRows b.lanes (λ p. not (has_entry b.list p)) words →
     HasLanes lanes row (λ p. not (is_listed A b.list p)) (slice_index words row)
 words_row A ok lanes row b words shaped long inside are = (words_rows A ok lanes b words shaped are).each row (omega arith)
+
+-- where it is 0 all of them are listed
+pub all_listed : (A : Arena ℕ) → IsNumbered A → (lanes row lane : ℕ) (b : Board) (words : List ℕ) → IsShaped A lanes b → length words ≡ b.rows →
+    row < b.rows → AreRows b.lanes (λ p. not (has_entry b.list p)) words → slice_index words row ≡ 0 → lane < lanes → IsFalse (is_listed A b.list (row * lanes + lane)) → ⊥
+all_listed A ok lanes row lane b words shaped long inside are empty l off =
+    let none : is_on (slice_index words row) lane ≡ false = ap (λ w. is_on w lane) empty ∙ on_zero lane in
+    let is = words_row A ok lanes row b words shaped long inside are in
+    both_ways (is_on (slice_index words row) lane) none (is.each lane l ∙ not_from_false (is_listed A b.list (row * lanes + lane)) off)
 
 -- an order that is shaped for the arena has its rows
 pub shaped_pairs : (A : Arena ℕ) (lanes : ℕ) (b : Board) → IsShaped A lanes b → b.rows * lanes ≡ length A.nodes

@@ -32,15 +32,14 @@ impl Joint {
         ensures { IsRow (system_of self.now) x result }
     {
         let rows = self.layout();
-        let shape = self.shape();
         let p = x * rows.lanes;
         let scene = self.scene_at(p);
         Row {
             part: x % rows.env_rows,
             allowed: scene.allowed,
             leading: scene.leading,
-            target: shape.target_of(p),
-            env: shape.env_of(p),
+            target: scene.target,
+            env: scene.env,
             states: row_states(self, x),
         }
     }

@@ -22,20 +22,18 @@ impl Joint {
         ensures walk { IsWalk (system_of self.now) result }
         ensures left { HoldsEachOnce (left (system_of self.now) result) (back (numbered (system_of self.now)) p2) }
     {
-        let to_target = self.shape.target_of(p2);
-        let to_env = self.shape.env_of(p2);
         let scene = self.scene_at(p2);
         Walk {
             pair: p2,
-            to_target,
-            to_env,
+            to_target: scene.target,
+            to_env: scene.env,
             to_states: self.shape.parts_of(p2),
             leading: scene.leading,
             action: 0,
             envs_taken: 0,
-            env: to_env,
+            env: scene.env,
             targets_taken: MAX_STATES,
-            target: to_target,
+            target: scene.target,
             row: p2,
             seat: self.seats.len() as u8,
             states_taken: 0,

@@ -39,8 +39,8 @@ pub(crate) fn mark_losses<J: Rules, L: Ledger>(
 }
 
 /// Marks the rows before the pair `p`, and before all others that its row has lost since its word was
-/// kept, and keeps the row's word. Gives the row's first
-/// pair, or a number past all pairs where the row's word was kept before.
+/// kept, and keeps the row's word. Gives the row's first pair, or a number past all pairs where the
+/// row's word was kept before.
 fn mark_loss<J: Rules, L: Ledger>(joint: &J, order: &mut Order, p: u32, steps: &mut Steps<L>) -> u32
     requires shaped { IsShaped (J.arena joint.now) (J.lanes joint.now) order.old }
     requires pair { p < length (J.arena joint.now).nodes }

@@ -42,7 +42,11 @@ fn list_unfine_row<J: Rules>(joint: &J, order: &mut Order, x: u32)
 {
     joint.known();
     order.known();
+    let word = order.words()[x as usize];
+    if word == 0 {
+        return;
+    }
     let row = joint.row(x);
-    let lost = joint.unfine(&row) & order.words()[x as usize];
+    let lost = joint.unfine(&row) & word;
     order.push_lanes(x, lost, Reason::Final);
 }

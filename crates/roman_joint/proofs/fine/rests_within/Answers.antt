@@ -1,4 +1,4 @@
-use Rattle.std.proofs.Common.{◌≡◌, ◌/◌, ◌%◌, ◌&&◌, ◌||◌, slice_get, slice_index, sym, ap, ap₂, ◌∙◌, arith}
+use Rattle.std.proofs.Common.{◌≡◌, ◌/◌, ◌&&◌, ◌||◌, slice_get, slice_index, sym, ap, ap₂, ◌∙◌, arith}
 use Rattle.std.proofs.lemmas.Bool.{le-ltb, lt-ltb}
 use Rattle.std.proofs.lemmas.Nat.{mod_below}
 use Rattle.roman_model.specs.Numbers.{sizes_of}
@@ -6,7 +6,7 @@ use Rattle.roman_radix.specs.Radix.{stride_of}
 use Rattle.roman_radix.proofs.CallerLemmas.{AreSizes-index}
 use Rattle.roman_lanes.specs.Rows.{is_on}
 use Rattle.roman_joint.specs.NamedSys.{system_of}
-use Rattle.roman_joint.specs.Rows.{lane_has_state, may_rest}
+use Rattle.roman_joint.specs.Rows.{lane_has_state, lane_state_of, may_rest}
 use Rattle.roman_lanes.proofs.CallerLemmas.{on_zero}
 use Rattle.roman_joint.proofs.SplitLemmas.{joint_sizes}
 use Rattle.roman_joint.proofs.GoodLemmas.{within, below_more, state_is}
@@ -37,7 +37,7 @@ may_rest-rests-requires-clause-state c =
 pub loop-b-init : goal.loop-b-init
 loop-b-init c lane l =
     let s = system_of c.args.joint.now in
-    let m = lane / stride_of (sizes_of s) c.args.k % slice_index (sizes_of s).seats c.args.k in
+    let m = lane_state_of (sizes_of s) c.args.k lane in
     on_zero lane ∙ sym (ap (λ t. t && may_rest (slice_get s.seats c.args.k) m) (le-ltb m 0 (omega arith)))
 
 pub loop-b-preserved : goal.loop-b-preserved
@@ -45,7 +45,7 @@ loop-b-preserved c lane l =
     let s = system_of c.args.joint.now in
     let st = stride_of (sizes_of s) c.args.k in
     let size = slice_index (sizes_of s).seats c.args.k in
-    let m = lane / st % size in
+    let m = lane_state_of (sizes_of s) c.args.k lane in
     let b = c.loop-b.b in
     let f = may_rest (slice_get s.seats c.args.k) in
     let in_state : is_on c.state_lanes-in_state.result lane ≡ lane_has_state st size b lane =
@@ -59,9 +59,8 @@ pub returns : goal.returns
 returns c lane l =
     let n = c.args.joint.now in
     let s = system_of n in
-    let st = stride_of (sizes_of s) c.args.k in
-    let size = slice_index (sizes_of s).seats c.args.k in
+    let m = lane_state_of (sizes_of s) c.args.k lane in
     let w = within n c.layout-rows.result.now c.args.k c.layout-rows.ensures.known c.layout-rows.ensures.rows c.requires.within c.requires.seat in
     let some = (AreSizes-index (sizes_of s).seats c.args.k (joint_sizes n c.layout-rows.ensures.known).seats w.seats).0 in
-    let less = mod_below (lane / st) size some in
-    c.loop-b.invariant lane l ∙ ap (λ t. t && may_rest (slice_get s.seats c.args.k) (lane / st % size)) (lt-ltb (lane / st % size) c.loop-b.b (omega (arith, less, c.layout-rows.ensures.rows.sizes c.args.k w.seats)))
+    let less = mod_below (lane / stride_of (sizes_of s) c.args.k) (slice_index (sizes_of s).seats c.args.k) some in
+    c.loop-b.invariant lane l ∙ ap (λ t. t && may_rest (slice_get s.seats c.args.k) m) (lt-ltb m c.loop-b.b (omega (arith, less, c.layout-rows.ensures.rows.sizes c.args.k w.seats)))

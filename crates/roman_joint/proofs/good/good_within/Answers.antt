@@ -1,4 +1,5 @@
 use Rattle.roman_joint.specs.NamedSys.{system_of, seat_of}
+use Rattle.roman_joint.proofs.ArenaFacts.{joint_numbered}
 use Rattle.roman_joint.proofs.SeatLemmas.{seat_placed}
 use Rattle.roman_joint.proofs.GoodLemmas.{known}
 use Rattle.roman_joint.proofs.MoveLemmas.{serves_within, beaten_frozen}
@@ -7,8 +8,7 @@ use Rattle.roman_joint.proofs.good.good_within.Goals as goal
 pub returns-then-seat : goal.returns-then-seat
 returns-then-seat c x gone turn ok turned living =
     let n = c.args.joint.now in
-    let h = known n x c.args.row.now c.known.ensures ok in
-    beaten_frozen (system_of n) x c.args.a c.args.k c.args.row.now turn (seat_of n.catalogue c.seat.result.now) gone h turned c.requires.within (seat_placed n c.args.k c.seat.result.now c.seat.ensures) c.if-seat.true
+    beaten_frozen (system_of n) x c.args.a c.args.k (seat_of n.catalogue c.seat.result.now) gone (joint_numbered n c.known.ensures) (seat_placed n c.args.k c.seat.result.now c.seat.ensures) c.if-seat.true
 
 pub lane_moves-some-requires-clause-env : goal.lane_moves-some-requires-clause-env
 lane_moves-some-requires-clause-env c = c.requires.row.1.env_range

@@ -33,7 +33,7 @@ loop-i-preserved c =
     let target = c.args.target.now.beh in
     let here : IsScene env target (c.loop-i.i / env.states) (c.loop-i.i % env.states) c.scene_of-scene.result =
     subst (λ m. IsScene env target (c.loop-i.i / m) (c.loop-i.i % m) c.scene_of-scene.result) (counts (goal.at.loop-i-preserved c).After-len).0
-    (record { allowed = c.scene_of-scene.ensures.allowed; leading = c.scene_of-scene.ensures.leading }) in
+    (record { is_target = c.scene_of-scene.ensures.is_target; is_env = c.scene_of-scene.ensures.is_env; allowed = c.scene_of-scene.ensures.allowed; leading = c.scene_of-scene.ensures.leading }) in
     let is : c.push.new.self.items ≡ c.loop-i.scenes.items ++ c.scene_of-scene.result ∷ [] = c.in_ok-push.ensures.items in
     record {
       long = ap length is ∙ (length-append c.loop-i.scenes.items (c.scene_of-scene.result ∷ []) ∙ omega (arith, c.loop-i.invariant.long));

@@ -1,6 +1,16 @@
-use Rattle.std.proofs.Common.{◌*◌, ap, arith}
+use Rattle.std.proofs.Common.{◌*◌, sym, ap, ◌∙◌, arith}
+use Rattle.std.proofs.lemmas.Nat.Bits.{shr_and_one}
+use Rattle.roman_rules.proofs.CallerLemmas.{bit_off}
+use Rattle.roman_joint.specs.NamedSys.{system_of}
+use Rattle.roman_joint.specs.Rows.{is_open}
 use Rattle.roman_joint.proofs.GoodLemmas.{turn_fits}
 use Rattle.roman_joint.proofs.turn.turn_of.Goals as goal
+
+-- an action that isn't allowed at the row's pairs
+pub returns-then-row-a-eq0 : goal.returns-then-row-a-eq0
+returns-then-row-a-eq0 c =
+    bit_off (is_open (system_of c.args.joint.now) c.args.row.now c.args.a)
+    (sym (c.requires.row.1.allowed.each c.args.a c.requires.action) ∙ sym (shr_and_one c.args.row.now.allowed c.args.a) ∙ c.if-row-a-eq0.true)
 
 pub step-requires-clause-env_state : goal.step-requires-clause-env_state
 step-requires-clause-env_state c = rw (c.target.ensures, c.layout-rows.ensures.known.target.0) c.requires.row.1.env_range

@@ -9,7 +9,7 @@ use Rattle.roman_model.specs.SystemArena.{beh_next}
 use Rattle.roman_radix.specs.Radix.{stride_of}
 use Rattle.roman_radix.proofs.CallerLemmas.{AreSizes-index}
 use Rattle.roman_lanes.specs.Rows.{is_on}
-use Rattle.roman_joint.specs.Moves.{lane_state_of}
+use Rattle.roman_joint.specs.Rows.{lane_state_of}
 use Rattle.roman_joint.proofs.SeatLemmas.{len_empty}
 use Rattle.roman_lanes.proofs.CallerLemmas.{on_zero}
 use Rattle.roman_joint.proofs.GoodLemmas.{below_more, state_is}

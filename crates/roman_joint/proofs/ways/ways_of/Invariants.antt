@@ -4,7 +4,7 @@ use Rattle.roman_model.specs.Lists.{is_empty}
 use Rattle.roman_model.specs.SystemArena.{beh_next}
 use Rattle.roman_radix.specs.Rows.{lanes_of}
 use Rattle.roman_lanes.specs.Rows.{is_on}
-use Rattle.roman_joint.specs.Moves.{lane_state_of}
+use Rattle.roman_joint.specs.Rows.{lane_state_of}
 use Rattle.roman_joint.proofs.ways.ways_of.Given as goal
 
 -- the ways from the states so far

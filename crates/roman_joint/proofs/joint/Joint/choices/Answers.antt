@@ -1,10 +1,9 @@
-use Rattle.std.proofs.Common.{◌+◌, ◌*◌, not, length, sym, subst, ◌∙◌, arith}
-use Rattle.std.proofs.lemmas.Nat.Bits.{shr_and_one}
+use Rattle.std.proofs.Common.{not, length, subst, ◌∙◌, arith}
 use Rattle.std.proofs.lemmas.List.{length-map}
 use Rattle.roman_model.specs.Arena.{is_beaten}
 use Rattle.roman_model.specs.Numbers.{sizes_of, numbered}
 use Rattle.roman_radix.proofs.CallerLemmas.{lanes_few}
-use Rattle.roman_rules.proofs.CallerLemmas.{sum_below_more, sum_cut, ones_counted, ones_few, served_by, none_served, action_counted, none_chosen, bit_off}
+use Rattle.roman_rules.proofs.CallerLemmas.{sum_below_more, sum_cut, ones_counted, ones_few, served_by, none_served, action_counted, none_chosen}
 use Rattle.roman_joint.specs.NamedSys.{system_of, seat_of}
 use Rattle.roman_joint.specs.Rows.{lanes_in, AreAlive}
 use Rattle.roman_joint.proofs.ArenaFacts.{joint_numbered}
@@ -13,14 +12,6 @@ use Rattle.roman_joint.proofs.GoodLemmas.{known, beaten_dead}
 use Rattle.roman_joint.proofs.joint.Joint.choices.Goals as goal
 
 -- an action that isn't allowed at the row's pairs
-pub returns-then-row_actions-a-eq0-clause-counted : goal.returns-then-row_actions-a-eq0-clause-counted
-returns-then-row_actions-a-eq0-clause-counted c x gone ok rows =
-    let s = system_of c.args.self.now in
-    let w = lanes_in s in
-    none_chosen (numbered s) gone w x c.args.a (λ lane l.
-    let bit = (c.row_actions.ensures x lane ok l).each c.args.a (let few = c.known.ensures.system.env.actions.1 in omega arith) in
-    bit_off ((numbered s).allows (x * w + lane) c.args.a) (sym bit ∙ sym (shr_and_one c.row_actions.result c.args.a) ∙ c.if-row_actions-a-eq0.true))
-
 pub returns-in_default-clause-counted : goal.returns-in_default-clause-counted
 returns-in_default-clause-counted c x gone ok rows =
     let s = system_of c.args.self.now in

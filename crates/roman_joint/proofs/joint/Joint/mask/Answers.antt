@@ -7,7 +7,7 @@ use Rattle.roman_model.specs.Numbers.{sizes_of, numbered}
 use Rattle.roman_radix.proofs.CallerLemmas.{lanes_few}
 use Rattle.roman_lanes.specs.Rows.{is_on}
 use Rattle.roman_rules.specs.Bits.{HasBits}
-use Rattle.roman_rules.proofs.CallerLemmas.{has_good, mask_refused, mask_more, mask_all, bit_off}
+use Rattle.roman_rules.proofs.CallerLemmas.{has_good, mask_refused, mask_more, mask_all}
 use Rattle.roman_joint.specs.NamedSys.{system_of, seat_of}
 use Rattle.roman_joint.specs.Rows.{lanes_in, AreAlive}
 use Rattle.roman_joint.proofs.ArenaFacts.{joint_numbered}
@@ -16,13 +16,6 @@ use Rattle.roman_joint.proofs.GoodLemmas.{known, beaten_dead}
 use Rattle.roman_joint.proofs.joint.Joint.mask.Goals as goal
 
 -- an action that isn't allowed at the row's pairs
-pub returns-then-row_actions-a-eq0 : goal.returns-then-row_actions-a-eq0
-returns-then-row_actions-a-eq0 c x gone ok rows =
-    let s = system_of c.args.self.now in
-    let p = x * lanes_in s + c.args.lane in
-    let bit = (c.row_actions.ensures x c.args.lane ok c.requires.lane).each c.args.a (let few = c.known.ensures.system.env.actions.1 in omega arith) in
-    mask_refused (numbered s) gone p c.args.a (bit_off ((numbered s).allows p c.args.a) (sym bit ∙ sym (shr_and_one c.row_actions.result c.args.a) ∙ c.if-row_actions-a-eq0.true))
-
 pub returns-in_default : goal.returns-in_default
 returns-in_default c x gone ok rows =
     let s = system_of c.args.self.now in

@@ -1,5 +1,5 @@
-use Rattle.std.proofs.Common.{◌≡◌, ◌*◌, ◌%◌, ap, ap₂, ◌∙◌, arith}
-use Rattle.roman_model.specs.Numbers.{pair_at}
+use Rattle.std.proofs.Common.{◌≡◌, ◌*◌, ◌%◌, ap, ◌∙◌, arith}
+use Rattle.roman_model.specs.Numbers.{sizes_of, pair_at}
 use Rattle.roman_joint.specs.NamedSys.{system_of}
 use Rattle.roman_joint.specs.Rows.{lanes_in}
 use Rattle.roman_joint.proofs.SplitLemmas.{joint_sizes, row_made}
@@ -14,12 +14,6 @@ overflow_mul-p c =
 pub scene_at-scene-requires : goal.scene_at-scene-requires
 scene_at-scene-requires c = rw c.layout-rows.ensures.rows.lanes c.requires
 
-pub target_of-requires : goal.target_of-requires
-target_of-requires c = rw (c.shape-shape.ensures, c.layout-rows.ensures.rows.lanes) c.requires
-
-pub env_of-requires : goal.env_of-requires
-env_of-requires c = rw (c.shape-shape.ensures, c.layout-rows.ensures.rows.lanes) c.requires
-
 pub nonzero_rem-result : goal.nonzero_rem-result
 nonzero_rem-result c = rw c.layout-rows.ensures.rows.env (env_rows_positive (system_of c.args.self.now) (joint_sizes c.args.self.now c.layout-rows.ensures.known))
 
@@ -30,8 +24,8 @@ returns c =
     let x = c.args.x in
     let r = c.layout-rows.result.now in
     let here : x * r.lanes ≡ x * lanes_in s = ap (λ m. x * m) c.layout-rows.ensures.rows.lanes in
-    let target = c.target_of.ensures.value ∙ ap₂ (λ m q. (pair_at m q).t) c.shape-shape.ensures here in
-    let env = c.env_of.ensures.value ∙ ap₂ (λ m q. (pair_at m q).e) c.shape-shape.ensures here in
+    let target = c.scene_at-scene.ensures.is_target ∙ ap (λ q. (pair_at (sizes_of s) q).t) here in
+    let env = c.scene_at-scene.ensures.is_env ∙ ap (λ q. (pair_at (sizes_of s) q).e) here in
     row_made s x _ (joint_sizes n c.layout-rows.ensures.known) c.requires r.rows c.layout-rows.ensures.rows.rows
     (ap (λ m. x % m) c.layout-rows.ensures.rows.env) target env c.row_states.ensures
     (rw (target, env, ← here) c.scene_at-scene.ensures.allowed) (rw (target, env, ← here) c.scene_at-scene.ensures.leading)

@@ -1,4 +1,4 @@
-use Rattle.std.proofs.Common.{◌≡◌, ℕ, ◌+◌, ◌*◌, Bool, false, not, ◌&&◌, ◌∙◌, sym, ap, ap₂, add-one, arith, length}
+use Rattle.std.proofs.Common.{◌≡◌, ℕ, ◌+◌, ◌*◌, Bool, false, not, ◌&&◌, ◌∙◌, sym, ap, ap₂, subst, add-one, arith, length}
 use Rattle.std.proofs.lemmas.List.{length-map}
 use Rattle.roman_model.specs.Lists.{all_below}
 use Rattle.roman_model.specs.Arena.{is_beaten, is_justified}
@@ -6,10 +6,11 @@ use Rattle.roman_model.specs.declared.reason.Reason.TheVariants.{Act}
 use Rattle.roman_model.specs.Numbers.{numbered}
 use Rattle.roman_lanes.specs.Rows.{is_on}
 use Rattle.roman_joint.specs.NamedSys.{system_of, seat_of}
-use Rattle.roman_joint.specs.Rows.{lanes_in}
+use Rattle.roman_joint.specs.Rows.{lanes_in, AreAlive}
 use Rattle.roman_lanes.proofs.CallerLemmas.{on_zero}
 use Rattle.roman_joint.proofs.WordLemmas.{all_pass}
-use Rattle.roman_joint.proofs.AllowedLemmas.{turn_open, refused, judged, and_nothing, cut_off}
+use Rattle.roman_joint.proofs.AllowedLemmas.{turn_open, refused, judged, and_nothing, cut_off, all_further}
+use Rattle.roman_joint.proofs.GoodLemmas.{known, beaten_dead}
 use Rattle.roman_joint.proofs.joint.Joint.unserved.Goals as goal
 
 one_more : (p : ℕ → Bool) (k : ℕ) (wanted : Bool) → ((wanted && all_below p k) && not (not (p k))) ≡ (wanted && all_below p (k + 1))
@@ -31,7 +32,7 @@ returns-then-left-eq0-clause-lost c x gone ok rows lane l =
     let s = system_of c.args.self.now in
     let beaten = is_beaten (numbered s) gone (x * lanes_in s + lane) c.args.a in
     let none : (is_on c.args.wanted lane && all_below beaten c.loop-k.k) ≡ false = sym (c.loop-k.invariant.lost x gone ok rows lane l) ∙ (ap (λ w. is_on w lane) c.if-left-eq0.true ∙ on_zero lane) in
-    on_zero lane ∙ (sym (cut_off beaten c.loop-k.k (length s.seats) (is_on c.args.wanted lane) (omega (arith, length-map c.args.self.now.seats (seat_of c.args.self.now.catalogue))) none)
+    on_zero lane ∙ (sym (cut_off beaten c.loop-k.k (length s.seats) (is_on c.args.wanted lane) (omega (arith, length-map c.args.self.now.seats (seat_of c.args.self.now.catalogue), c.serving-k-end.ensures.few)) none)
     ∙ ap (λ b. is_on c.args.wanted lane && b) (judged s c.args.row.now x c.args.a lane gone ok l (turn_open s c.args.row.now c.args.a c.in-Some.turn c.in-Some.ensures)))
 
 pub loop-k-preserved : goal.loop-k-preserved
@@ -45,11 +46,19 @@ loop-k-preserved c = record {
 
 pub returns-clause-lost : goal.returns-clause-lost
 returns-clause-lost c x gone ok rows lane l =
-    let s = system_of c.args.self.now in
+    let n = c.args.self.now in
+    let s = system_of n in
     let beaten = is_beaten (numbered s) gone (x * lanes_in s + lane) c.args.a in
-    let end : c.loop-k.k ≡ length s.seats = omega (arith, length-map c.args.self.now.seats (seat_of c.args.self.now.catalogue)) in
+    let seats = length-map n.seats (seat_of n.catalogue) in
+    let h = known n x c.args.row.now c.known.ensures ok in
+    let living = c.alive_on-alive.ensures gone rows in
+    let all : all_below beaten c.loop-k.k ≡ all_below beaten (length s.seats) =
+    all_further beaten c.loop-k.k (length s.seats) (omega (arith, seats, c.serving-k-end.ensures.few))
+    (λ k past m.
+    let (within, dead) = c.serving-k-end.ensures.rest k (omega arith) (omega (arith, seats)) in
+    beaten_dead s x c.args.a k lane c.args.row.now c.in-Some.turn gone h c.in-Some.ensures within m (subst (AreAlive s gone c.in-Some.turn) dead living) l) in
     c.loop-k.invariant.lost x gone ok rows lane l
-    ∙ (ap (λ m. is_on c.args.wanted lane && all_below beaten m) end ∙ ap (λ b. is_on c.args.wanted lane && b) (judged s c.args.row.now x c.args.a lane gone ok l (turn_open s c.args.row.now c.args.a c.in-Some.turn c.in-Some.ensures)))
+    ∙ ap (λ b. is_on c.args.wanted lane && b) (all ∙ judged s c.args.row.now x c.args.a lane gone ok l (turn_open s c.args.row.now c.args.a c.in-Some.turn c.in-Some.ensures))
 
 pub returns-in_default-clause-within : goal.returns-in_default-clause-within
 returns-in_default-clause-within c lane off = on_zero lane

@@ -1,9 +1,6 @@
-use Rattle.std.proofs.Common.{◌≡◌, ◌+◌, ◌*◌, false, slice_index, inl, inr, refl, sym, ap, ◌∙◌, subst, arith}
-use Rattle.std.proofs.lemmas.Bool.{cases_eq, both_ways, not_from_false}
-use Rattle.roman_model.specs.Arena.{is_listed}
-use Rattle.roman_lanes.specs.Rows.{is_on}
-use Rattle.roman_lanes.proofs.CallerLemmas.{on_zero}
-use Rattle.roman_relation.proofs.Lanes.{words_row}
+use Rattle.std.proofs.Common.{◌+◌, ◌*◌, inl, inr, refl, sym, ap, ◌∙◌, subst, arith}
+use Rattle.std.proofs.lemmas.Bool.{cases_eq}
+use Rattle.roman_relation.proofs.Lanes.{all_listed}
 use Rattle.roman_order.specs.Board.{Board}
 use Rattle.roman_relation.specs.Rounds.{IsJudged}
 use Rattle.roman_relation.proofs.Beginnings.{begins_itself, begins_on}
@@ -54,10 +51,5 @@ returns-clause-done g c start lane round l =
 -- a row of which all pairs are listed
 pub returns-then-words-x-eq0-clause-done : goal.returns-then-words-x-eq0-clause-done
 returns-then-words-x-eq0-clause-done g c start lane round l a off =
-    let A = g.J.Rules.arena c.args.joint.now in
-    let n = g.J.Rules.lanes c.args.joint.now in
-    let b = c.args.order.now in
-    let words = c.words.result.now in
-    let row = words_row A c.known.ensures.numbered n c.args.x b words c.requires.shaped c.words.ensures.long c.requires.row c.words.ensures.alive in
-    let none : is_on (slice_index words c.args.x) lane ≡ false = ap (λ w. is_on w lane) c.if-words-x-eq0.true ∙ on_zero lane in
-    absurd (both_ways (is_on (slice_index words c.args.x) lane) none (row.each lane l ∙ not_from_false (is_listed A b.list (c.args.x * n + lane)) off))
+    absurd (all_listed (g.J.Rules.arena c.args.joint.now) c.known.ensures.numbered (g.J.Rules.lanes c.args.joint.now) c.args.x lane c.args.order.now c.words.result.now c.requires.shaped
+    c.words.ensures.long c.requires.row c.words.ensures.alive c.if-words-x-eq0.true l off)

@@ -3,9 +3,21 @@ use Rattle.std.proofs.lemmas.Bool.{not-false, not-true}
 use Rattle.roman_model.specs.Arena.{is_listed}
 use Rattle.roman_model.specs.declared.reason.Reason.TheVariants.{Final}
 use Rattle.roman_order.specs.Board.{Board, entries_in}
-use Rattle.roman_relation.proofs.Going.{goes_on_added}
+use Rattle.roman_relation.proofs.Going.{goes_on_itself, goes_on_added}
+use Rattle.roman_relation.proofs.Lanes.{all_listed}
 use Rattle.roman_relation.proofs.Pushing.{lost_unfine, lost_free, lost_order, lost_left, lost_because}
 use Rattle.roman_relation.proofs.rounds.unfine.list_unfine_row.Goals as goal
+
+-- a row of which all pairs are listed
+pub returns-then-word-eq0 : goal.returns-then-word-eq0
+returns-then-word-eq0 g c =
+    let A = g.J.Rules.arena c.args.joint.now in
+    record {
+      goes_on = goes_on_itself A c.args.order.now c.requires.valid;
+      fine = λ lane l off. absurd (all_listed A c.known.ensures.numbered (g.J.Rules.lanes c.args.joint.now) c.args.x lane c.args.order.now c.words.result.now c.requires.shaped
+          c.words.ensures.long c.requires.row c.words.ensures.alive c.if-word-eq0.true l off);
+      because = λ q t. inl t;
+    }
 
 pub push_lanes-requires : goal.push_lanes-requires
 push_lanes-requires g c =
