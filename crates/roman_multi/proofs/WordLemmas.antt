@@ -63,17 +63,3 @@ word_is_name bytes t short =
 pub is_word_from : (bytes : List ℕ) → IsTrue (list_all is_name_byte bytes) → 0 < length bytes → IsTrue (is_word bytes)
 is_word_from [] t l = absurd (omega arith)
 is_word_from (b ∷ bytes) t l = t
-
--- no name of a table stands before its place
-pub fresh : (names : List (List ℕ)) (i : ℕ) (d : List ℕ) → IsDistinct bytes_eq names → i < length names → place_of (take i names) (get_or names i d) ≡ None
-fresh names i d distinct l = place_of-absent (take i names) (get_or names i d)
-    (list_any_none (bytes_eq (get_or names i d)) (take i names) (λ k e m. other k e m))
-  where
-    other : (k : ℕ) (e : List ℕ) → k < length (take i names) → bytes_eq (get_or names i d) (get_or (take i names) k e) ≡ false
-    other k e m =
-        let before : k < i = omega (arith, length-take-le i names (omega arith)) in
-        let within : k < length names = omega arith in
-        let there : get_or (take i names) k e ≡ get_or names k e = get_or-take i names k e before in
-        false_from_ne_true (bytes_eq (get_or names i d) (get_or (take i names) k e)) (λ t.
-        AllPairs-from_IsDistinct bytes_eq-Decides names distinct k i d before l
-        (get_or_default names k d e within ∙ sym there ∙ sym ((bytes_eq-Decides (get_or names i d) (get_or (take i names) k e)).0 t)))
