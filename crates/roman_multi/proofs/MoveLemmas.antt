@@ -11,7 +11,7 @@ use Rattle.roman_model.specs.Combined.{has_move_on, combined_beh, stands_in, use
 use Rattle.roman_model.specs.declared.request.Request.{Request}
 use Rattle.roman_parts.specs.Listed.{move_of, listed_beh, AreMoves}
 use Rattle.roman_multi.specs.Lists.{moves_in, moves_by, moves_from, listed_moves, moves_on, used_at, used_requests}
-use Rattle.roman_model.proofs.CallerLemmas.{same_test, any_true, any_from, in_map, from_map, in_flat_map, from_flat_map, in_below, from_below, in_filter, filter_in, filter_same, in_beh_next, from_beh_next, flat_map_same_in, beh_from_same, move_test, move_passes, get_in, stands_uses}
+use Rattle.roman_model.proofs.CallerLemmas.{same_test, any_true, any_from, in_map, from_map, in_flat_map, from_flat_map, in_below, from_below, in_filter, filter_in, filter_same, in_beh_next, from_beh_next, flat_map_same_in, beh_from_same, listed_number, move_test, move_passes, number_listed, get_in, stands_uses}
 use Rattle.std.proofs.Common.{All}
 use Rattle.std.proofs.lemmas.List.{length-map}
 use Rattle.roman_parts.specs.Named.{NamedEnv}
@@ -20,12 +20,7 @@ use Rattle.roman_multi.specs.declared.parts.Named.{Named}
 use Rattle.roman_multi.proofs.KnownLemmas.{machines_known}
 use Rattle.roman_multi.proofs.TripleLemmas.{get_or_in}
 use Rattle.roman_guard.proofs.CallerLemmas.{states_of-single}
-
-pub has_in : (ns : List ℕ) (n : ℕ) → IsTrue (has ns n) → IsIn n ns
-has_in ns n t = let (m, i, same) = any_true (λ m. m == n) ns t in subst (λ k. IsIn k ns) (eqb-true m n same) i
-
-pub in_has : (ns : List ℕ) (n : ℕ) → IsIn n ns → IsTrue (has ns n)
-in_has ns n i = any_from (λ m. m == n) n ns i (eq-eqb n n refl)
+use Rattle.roman_parts.proofs.CallerLemmas.{has_filter}
 
 from_moves : (env_states actions states : ℕ) (next : ℕ → ℕ → ℕ → List ℕ) (x : ℕ × ℕ × ℕ × ℕ) → IsIn x (listed_moves env_states actions states next) →
     (e : ℕ) × (e < env_states) × (x.0 < states) × (x.2 < actions) × (x.1 ≡ 2 ^ e) × IsIn x.3 (next x.0 x.2 e)
@@ -68,7 +63,7 @@ listed_moves_made env_states actions states start fins next few =
     let guard : states_of (2 ^ e) ≡ e ∷ [] = single e he in
     any_from (λ m. m.from == b && m.action == n && has m.guard e && m.to == b') (record { from = b; guard = states_of (2 ^ e); action = n; to = b' })
     (map move_of (listed_moves env_states actions states next))
-    (in_map move_of (b, 2 ^ e, n, b') (listed_moves env_states actions states next) (in_moves env_states actions states next b e n b' hb he hn (has_in (next b n e) b' t)))
+    (in_map move_of (b, 2 ^ e, n, b') (listed_moves env_states actions states next) (in_moves env_states actions states next b e n b' hb he hn (number_listed (next b n e) b' t)))
     (move_passes b e n b' (states_of (2 ^ e)) (subst (λ es. IsIn e es) (sym guard) (inl refl)))))
   where
     single : (e : ℕ) → e < env_states → states_of (2 ^ e) ≡ e ∷ []
@@ -85,13 +80,8 @@ listed_moves_made env_states actions states start fins next few =
         let e3 : y.3 ≡ b' = ap (λ (z : Move). z.to) (sym same) ∙ to in
         let guard2 : IsIn e (d ∷ []) = subst (λ es. IsIn e es) (single d hd) (subst (λ w. IsIn e (states_of w)) is (subst (λ (z : Move). IsIn e z.guard) same guard)) in
         let e1 : e ≡ d = elim guard2 [ inl f ↦ f | inr none ↦ absurd none ] in
-        in_has (next b n e) b'
+        listed_number (next b n e) b'
         (subst (λ k. IsIn k (next b n e)) e3 (subst (λ k. IsIn y.3 (next b k e)) e2 (subst (λ k. IsIn y.3 (next k y.2 e)) e0 (subst (λ k. IsIn y.3 (next y.0 y.2 k)) (sym e1) own))))
-
-pub has-filter : (p : ℕ → Bool) (n b : ℕ) → b < n → has (filter p (below n)) b ≡ p b
-has-filter p n b l = same_test (has (filter p (below n)) b) (p b)
-    (λ t. (filter_in p b (below n) (has_in (filter p (below n)) b t)).1)
-    (λ t. in_has (filter p (below n)) b (in_filter p b (below n) (in_below n b l) t))
 
 -- the combined behaviour
 pub combined_beh_is : (env : Env) (beh : Beh) (requests : List Request) → env.states ≤ 64 → IsBeh env beh →
@@ -100,13 +90,13 @@ pub combined_beh_is : (env : Env) (beh : Beh) (requests : List Request) → env.
 combined_beh_is env beh requests few ok =
     listed_moves_made env.states (length requests) beh.states beh.start (filter (is_final beh) (below beh.states)) (λ b n e. moves_on beh b e (slice_get requests n)) few
     ∙ beh_from_same env.states (length requests) beh.states beh.start (has (filter (is_final beh) (below beh.states))) (is_final beh) (λ b e n b'. has (moves_on beh b e (slice_get requests n)) b') (λ b e n b'. has_move_on beh (slice_get requests n) b e b')
-    (λ b hb. has-filter (is_final beh) beh.states b hb) (λ b e n b' hb he hn hb'. goes b e (slice_get requests n) b')
+    (λ b hb. has_filter (is_final beh) beh.states b hb) (λ b e n b' hb he hn hb'. goes b e (slice_get requests n) b')
   where
     goes : (b e : ℕ) (o : Option Request) (b' : ℕ) → has (moves_on beh b e o) b' ≡ has_move_on beh o b e b'
     goes b e None b' = refl
     goes b e (Some r) b' = same_test (has (beh_next beh b e r.action) b') (has_move beh b e r.action b')
-        (λ t. from_beh_next beh b e r.action b' (has_in (beh_next beh b e r.action) b' t))
-        (λ t. in_has (beh_next beh b e r.action) b' (in_beh_next env beh b e r.action b' ok t))
+        (λ t. from_beh_next beh b e r.action b' (number_listed (beh_next beh b e r.action) b' t))
+        (λ t. listed_number (beh_next beh b e r.action) b' (in_beh_next env beh b e r.action b' ok t))
 
 -- the next states of a behaviour are its own
 pub moves_on_below : (beh : Beh) (b e : ℕ) (o : Option Request) (to : ℕ) → IsIn to (moves_on beh b e o) → to < beh.states

@@ -1,5 +1,5 @@
 -- Names that are joined, and tables of them.
-use Rattle.std.proofs.Common.{◌≡◌, ℕ, zero, suc, ◌+◌, ◌<◌, ◌≤◌, ◌==◌, ◌&&◌, false, not, List, [], ◌∷◌, ◌++◌, length, take, get_or, slice_index, None, IsTrue, IsFalse, refl, sym, ap, ◌∙◌, arith}
+use Rattle.std.proofs.Common.{◌≡◌, ℕ, zero, suc, ◌+◌, ◌<◌, ◌≤◌, ◌==◌, ◌&&◌, false, not, List, [], ◌∷◌, ◌++◌, length, take, get_or, slice_index, None, IsTrue, IsFalse, refl, sym, ap, ◌∙◌, append_assoc, arith}
 use Rattle.std.specs.Prelude.{slice_index_or, if◌then◌else◌, nat_le}
 use Rattle.std.specs.List.{list_all, IsDistinct}
 use Rattle.std.specs.Str.{bytes_eq}
@@ -19,11 +19,7 @@ use Rattle.roman_multi.specs.declared.parts.Named.{Named}
 joined_push : (names : List (List ℕ)) (name : List ℕ) → joined (names ++ name ∷ []) ≡ joined names ++ (if is_empty names then name else 45 ∷ name)
 joined_push [] name = refl
 joined_push (first ∷ []) name = refl
-joined_push (first ∷ other ∷ names) name = ap (λ bytes. first ++ 45 ∷ bytes) (joined_push (other ∷ names) name) ∙ again first (45 ∷ joined (other ∷ names)) (45 ∷ name)
-  where
-    again : (xs ys zs : List ℕ) → xs ++ (ys ++ zs) ≡ (xs ++ ys) ++ zs
-    again [] ys zs = refl
-    again (x ∷ xs) ys zs = ap (λ ws. x ∷ ws) (again xs ys zs)
+joined_push (first ∷ other ∷ names) name = ap (λ bytes. first ++ 45 ∷ bytes) (joined_push (other ∷ names) name) ∙ sym (append_assoc first (45 ∷ joined (other ∷ names)) (45 ∷ name))
 
 take_empty : (names : List (List ℕ)) (i : ℕ) → i < length names → is_empty (take i names) ≡ (i == 0)
 take_empty [] i l = absurd (omega arith)

@@ -10,7 +10,7 @@ use Rattle.roman_model.specs.System.{Env, Beh, has_triple, has_move, has}
 use Rattle.roman_model.specs.SystemArena.{env_next, env_prev, beh_next, beh_prev}
 use Rattle.roman_model.specs.Normal.{normal_env, normal_beh, guarded_step}
 use Rattle.roman_model.specs.declared.limits.TheConstants.{MAX_STATES, MAX_ACTIONS}
-use Rattle.roman_model.proofs.CallerLemmas.{same_test, any_true, any_from, any_same, in_contains, in_below, from_below, in_filter, filter_in, filter_same, list_any-map, length-below, get_or-below}
+use Rattle.roman_model.proofs.CallerLemmas.{same_test, any_true, any_from, any_same, in_contains, in_below, from_below, in_filter, filter_in, filter_same, list_any-map, length-below, get_or-below, flat_map_same_in}
 use Rattle.roman_guard.specs.Meaning.{has_state, states_below, states_of}
 use Rattle.roman_guard.proofs.CallerLemmas.{states_below-zero, states_below-suc, states_below-same, states_below-past}
 use Rattle.roman_parts.specs.Listed.{triple_of, listed_env, move_of, listed_beh, AreTriples, AreMoves}
@@ -52,17 +52,13 @@ leads_in_range states actions steps e a e' range t =
     let (l, m, n) = All-contains (λ y. (y.0 < states) × (y.1 < actions) × (y.2 < states)) steps x range (in_contains steps x i) in
     (subst (λ k. k < states) (eqb-true x.0 e from) l, subst (λ k. k < actions) (eqb-true x.1 a action) m, subst (λ k. k < states) (eqb-true x.2 e' to) n)
 
-flat_map_same : {X Y : Type 0} (f g : X → List Y) (xs : List X) → ((x : X) → IsIn x xs → f x ≡ g x) → flat_map f xs ≡ flat_map g xs
-flat_map_same f g [] same = refl
-flat_map_same f g (x ∷ xs) same = ap₂ (λ ys zs. ys ++ zs) (same x (inl refl)) (flat_map_same f g xs (λ y i. same y (inr i)))
-
 -- rows with the next states have the triples of the normal form
 row_triples-normal : (env : Env) (rows : List (List ℕ)) →
     ((e a : ℕ) → e < env.states → a < env.actions → slice_get rows (e * env.actions + a) ≡ Some (env_next env e a)) →
     row_triples env.states env.actions rows ≡ (normal_env env).triples
 unfolding row_triples
 row_triples-normal env rows next =
-    flat_map_same _ _ (below env.states) (λ e ie. flat_map_same _ _ (below env.actions) (λ a ia.
+    flat_map_same_in _ _ (below env.states) (λ e ie. flat_map_same_in _ _ (below env.actions) (λ a ia.
     ap (map (λ e'. record { from = e; action = a; to = e' }))
     (get_or_from_slice_get rows (e * env.actions + a) (env_next env e a) [] (next e a (from_below env.states e ie) (from_below env.actions a ia)))))
 
@@ -119,7 +115,7 @@ prev_below env to from e' a k xs rows he' ha place row =
 -- The table of a behaviour.
 
 -- a number below the bound is among those that pass where it passes
-has_filter : (p : ℕ → Bool) (n i : ℕ) → i < n → has (filter p (below n)) i ≡ p i
+pub has_filter : (p : ℕ → Bool) (n i : ℕ) → i < n → has (filter p (below n)) i ≡ p i
 has_filter p n i less = same_test (has (filter p (below n)) i) (p i)
     (λ t. let (k, ik, same) = any_true (λ m. m == i) (filter p (below n)) t in subst (λ m. IsTrue (p m)) (eqb-true k i same) (filter_in p k (below n) ik).1)
     (λ t. any_from (λ m. m == i) i (filter p (below n)) (in_filter p i (below n) (in_below n i less) t) (eq-eqb i i refl))
@@ -152,7 +148,7 @@ row_moves-normal : (env_states actions : ℕ) (beh : Beh) (rows : List (List ℕ
     row_moves beh.states env_states actions rows ≡ (normal_beh env_states actions beh).steps
 unfolding row_moves
 row_moves-normal env_states actions beh rows next =
-    flat_map_same _ _ (below beh.states) (λ b ib. flat_map_same _ _ (below actions) (λ a ia. flat_map_same _ _ (below beh.states) (λ b' ib'.
+    flat_map_same_in _ _ (below beh.states) (λ b ib. flat_map_same_in _ _ (below actions) (λ a ia. flat_map_same_in _ _ (below beh.states) (λ b' ib'.
     ap (guarded_step b a b') (filter_same _ _ (below env_states) (λ e ie.
     ap (λ xs. has xs b')
     (get_or_from_slice_get rows ((b * env_states + e) * actions + a) (beh_next beh b e a) []
