@@ -101,14 +101,13 @@ fn names_of(
     requests: &[Request],
 ) -> Result<(NameTable, NameTable), CombineError>
     requires count { (0 < length targets.now) × (length targets.now ≤ 4) }
-    requires known { All (λ named. IsKnown env.now named.target) targets.now }
     requires shape { shape.now ≡ flat (target_sizes (machines targets.now)) }
     requires states { product_of (target_sizes (machines targets.now)) ≤ MAX_STATES }
     requires requests { requests.now ≡ requests_in env.now targets.now }
     requires actions { length requests.now ≤ MAX_ACTIONS }
     ensures { AreCombinedNames env.now targets.now result }
 {
-    let states = state_words(alloc, env, targets, shape)?;
+    let states = state_words(alloc, targets, shape)?;
     let actions = request_words(alloc, env, targets, requests)?;
     if has_long(&states) || has_long(&actions) {
         return Err(CombineError::LongName);

@@ -130,8 +130,7 @@ fn moves_of(
 }
 
 /// Whether each target is in a final state.
-fn are_final(env: &Environment, targets: &[Named], shape: &Shape, t: u8) -> bool
-    requires known { All (λ named. IsKnown env.now named.target) targets.now }
+fn are_final(targets: &[Named], shape: &Shape, t: u8) -> bool
     requires shape { shape.now ≡ flat (target_sizes (machines targets.now)) }
     requires state { t < product_of (target_sizes (machines targets.now)) }
     requires count { length targets.now ≤ 4 }
@@ -147,13 +146,7 @@ fn are_final(env: &Environment, targets: &[Named], shape: &Shape, t: u8) -> bool
 }
 
 /// The combined states in which each target is final.
-fn finals_of(
-    alloc: Global,
-    env: &Environment,
-    targets: &[Named],
-    shape: &Shape,
-) -> Result<Vec<u8>, AllocError>
-    requires known { All (λ named. IsKnown env.now named.target) targets.now }
+fn finals_of(alloc: Global, targets: &[Named], shape: &Shape) -> Result<Vec<u8>, AllocError>
     requires shape { shape.now ≡ flat (target_sizes (machines targets.now)) }
     requires few { product_of (target_sizes (machines targets.now)) ≤ MAX_STATES }
     requires count { length targets.now ≤ 4 }
@@ -163,7 +156,7 @@ fn finals_of(
 {
     let mut finals = Vec::new(alloc);
     for t in 0..shape.pairs() as u8 {
-        if are_final(env, targets, shape, t) {
+        if are_final(targets, shape, t) {
             finals.push(t)?;
         }
     }
@@ -214,7 +207,7 @@ pub(crate) fn combine_target(
         (λ made. made.beh ≡ combined_target env.now.env.states requests.now (machines targets.now)) }
 {
     env.known();
-    let finals = finals_of(alloc, env, targets, shape)?;
+    let finals = finals_of(alloc, targets, shape)?;
     let start = start_of(alloc, env, targets, shape)?;
     let steps = moves_of(alloc, env, targets, shape, requests)?;
     Target::from_lists(alloc, states, start, &finals, &steps, over)

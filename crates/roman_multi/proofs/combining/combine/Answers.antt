@@ -40,7 +40,6 @@ names_of-requires c =
     let again : c.deref-3.result.now ≡ requests_in c.args.env.now c.args.targets.now = c.deref-3.ensures.value ∙ c.in_ok-requests.ensures.requests in
     record {
       count = (omega arith, c.requires.count.1);
-      known = c.in_ok-sizes.ensures.known;
       shape = c.in-Some.ensures.shape ∙ ap flat sizes;
       states = few;
       requests = again;
