@@ -10,7 +10,7 @@ use Rattle.roman_model.specs.Made.{beh_from}
 use Rattle.roman_model.specs.Combined.{has_move_on, combined_beh, stands_in, uses, requests_of}
 use Rattle.roman_model.specs.declared.request.Request.{Request}
 use Rattle.roman_parts.specs.Listed.{move_of, listed_beh, AreMoves}
-use Rattle.roman_multi.specs.Lists.{moves_in, moves_by, moves_from, listed_moves, moves_on, used_at, used_requests}
+use Rattle.roman_multi.specs.Lists.{moves_in, moves_by, moves_from, listed_moves, moves_on, used_at}
 use Rattle.roman_model.proofs.CallerLemmas.{same_test, any_true, any_from, in_map, from_map, in_flat_map, from_flat_map, in_below, from_below, in_filter, filter_in, filter_same, in_beh_next, from_beh_next, flat_map_same_in, beh_from_same, listed_number, move_test, move_passes, number_listed, get_in, stands_uses}
 use Rattle.std.proofs.Common.{All}
 use Rattle.std.proofs.lemmas.List.{length-map}
@@ -102,6 +102,10 @@ combined_beh_is env beh requests few ok =
 pub moves_on_below : (beh : Beh) (b e : ℕ) (o : Option Request) (to : ℕ) → IsIn to (moves_on beh b e o) → to < beh.states
 moves_on_below beh b e None to i = absurd i
 moves_on_below beh b e (Some r) to i = from_below beh.states to (filter_in (has_move beh b e r.action) to (below beh.states) i).0
+
+-- the requests of all targets
+abbrev pub used_requests : ℕ → ℕ → List Beh → List Request
+used_requests env_states actions targets = flat_map (λ i. used_at env_states actions (slice_get targets i) i) (below (length targets))
 
 -- the combined actions
 pub requests_are : (env : Env) (targets : List Beh) → ((target : Beh) → IsIn target targets → IsBeh env target) → used_requests env.states env.actions targets ≡ requests_of env.actions targets
