@@ -36,7 +36,7 @@ next_goes w t e n t' ok ht i =
     let (r, target, x, at, member, moves, same) = from_next_of_all w.targets (states_at (target_sizes w.targets) t) e (slice_get (all_requests w) n) t' i in
     subst (λ k. IsTrue (has_move (combined w).target t e n k)) (sym same) (combined_target_goes w t e n x r target ok ht at member moves)
 
--- the combined target: its steps ns they are listed, one environment state for a guard
+-- the combined target: its steps as they are listed, one environment state for a guard
 pub combined_target_is : (w : Several) (fins : List ℕ) → IsSeveral w → w.env.states ≤ 64 →
     ((t : ℕ) → t < product_of (target_sizes w.targets) → has fins t ≡ are_final w.targets (states_at (target_sizes w.targets) t)) →
     normal_beh w.env.states (length (all_requests w))

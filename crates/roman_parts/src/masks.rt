@@ -129,7 +129,7 @@ pub(crate) fn into_masks(
     Ok(masks)
 }
 
-// Puts a state into the cells of a state, an action and each environment state of the guard.
+/// Puts a state into the cells of a state, an action and each environment state of the guard.
 fn mark_move(masks: &mut [u64], cells: Cells, at: u8, guard: StateSet, action: u8, n: u8)
     requires len { length masks.old ≡ cells.states * cells.env_states * cells.actions }
     requires at { at < cells.states }
@@ -145,8 +145,8 @@ fn mark_move(masks: &mut [u64], cells: Cells, at: u8, guard: StateSet, action: u
     }
 }
 
+/// Puts a state into a cell.
 #[tactic(auto, using(crate::proofs::CellLemmas::marking))]
-// Puts a state into a cell.
 fn mark(masks: &mut [u64], cell: usize, n: u8)
     requires cell { cell < length masks.old }
     requires small { n < 64 }

@@ -10,8 +10,8 @@ use roman_read::{AddError, Kind, Name, NameTable, member, text};
 use serde_json::Value;
 use std::alloc::Global;
 
-#[tactic(auto, using(roman_read::proofs::CallerLemmas::each), unfolding(crate::specs::Lists::names_of))]
 /// The names of a member that is a list of 1 to `most` names.
+#[tactic(auto, using(roman_read::proofs::CallerLemmas::each), unfolding(crate::specs::Lists::names_of))]
 pub(crate) fn read_names(
     alloc: Global,
     v: &Value,
@@ -32,8 +32,8 @@ pub(crate) fn read_names(
     Ok(names)
 }
 
+/// Adds the next name of a list.
 #[tactic(auto, unfolding(crate::specs::Lists::name_step))]
-// Adds the next name of a list.
 fn add_name(names: &mut NameTable, item: &Value, place: List, index: u32) -> Result<(), PartError>
     requires { length names.old < 2 ^ 32 - 1 }
     ensures step { Gives (λ _. names.new) result (name_step place index names.old (view item.now)) }
@@ -61,8 +61,8 @@ pub(crate) fn name_in(v: &Value, place: List, index: u32) -> Result<Name, PartEr
     }
 }
 
-#[tactic(auto, unfolding(crate::specs::Lists::place_in))]
 /// The place of the name that a value is.
+#[tactic(auto, unfolding(crate::specs::Lists::place_in))]
 pub(crate) fn place_in(
     names: &NameTable,
     v: &Value,
@@ -83,8 +83,8 @@ pub(crate) fn place_in(
     }
 }
 
-#[tactic(auto, unfolding(crate::specs::Lists::start_of))]
 /// The start state.
+#[tactic(auto, unfolding(crate::specs::Lists::start_of))]
 pub(crate) fn read_start(states: &NameTable, v: &Value) -> Result<u8, PartError>
     requires { length states.now ≤ 64 }
     ensures start { Gives (λ x. x) result (start_of states.now (view v.now)) }
