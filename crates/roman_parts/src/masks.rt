@@ -1,6 +1,5 @@
 //! Masks of states, one for each cell of a table.
 ghost use Rattle.std.specs.Prelude.{◌≡◌, ◌+◌, ◌*◌, ◌^◌, ◌<◌, ◌≤◌, length, IfOk, vec_len};
-ghost use Rattle.roman_model.specs.System.{IsEnv};
 ghost use Rattle.roman_parts.specs.Cells.{PutsIntoCell, leads, leads_back, HasCells, goes, goes_back, HasGuardedCells, MarksMove};
 ghost use Rattle.roman_parts.specs.Listed.{AreTriples, AreMoves};
 
@@ -26,7 +25,6 @@ impl Cells {
         ensures states { result.states ≡ length states.now }
         ensures env_states { result.env_states ≡ env.now.env.states }
         ensures actions { result.actions ≡ env.now.env.actions }
-        ensures known { IsEnv env.now.env }
     {
         Cells {
             states: states.len() as usize,

@@ -23,7 +23,7 @@ moves_of-requires-clause-actions c = λ k d l. (requests_in_range c.args.env.now
 pub from_lists-requires : goal.from_lists-requires
 from_lists-requires c =
     let lists : AreListsOf (several c.args.env.now c.args.targets.now) (length c.args.states) c.in_ok-start.start c.deref.result.now c.deref-2.result.now = record {
-      several = several_is c.args.env.now c.args.targets.now c.known.ensures c.requires.known c.requires.few
+      several = several_is c.args.env.now c.args.targets.now c.known.ensures.known c.requires.known c.requires.few
           (subst (λ (xs : List Request). (0 < length xs) × (length xs ≤ MAX_ACTIONS)) c.requires.requests c.requires.some);
       count = c.requires.states;
       start = c.in_ok-start.ensures;
@@ -47,7 +47,7 @@ from_lists-requires c =
 pub returns-clause-target : goal.returns-clause-target
 returns-clause-target c =
     let lists : AreListsOf (several c.args.env.now c.args.targets.now) (length c.args.states) c.in_ok-start.start c.deref.result.now c.deref-2.result.now = record {
-      several = several_is c.args.env.now c.args.targets.now c.known.ensures c.requires.known c.requires.few
+      several = several_is c.args.env.now c.args.targets.now c.known.ensures.known c.requires.known c.requires.few
           (subst (λ (xs : List Request). (0 < length xs) × (length xs ≤ MAX_ACTIONS)) c.requires.requests c.requires.some);
       count = c.requires.states;
       start = c.in_ok-start.ensures;

@@ -12,7 +12,7 @@ returns-clause-known c = λ before.
     let d = view c.args.v.now in
     let b = c.in_ok-behaviour.behaviour in
     let over = behaviour_is_over env d b c.in_ok-behaviour.ensures.behaviour in
-    let is : IsBehaviour env b = record { env_states = over.0; actions = over.1; names = c.known.ensures.names; known = c.known.ensures.over } in
+    let is : IsBehaviour env b = record { env_states = over.0; actions = over.1; names = c.known.ensures.count; known = c.known.ensures.known } in
     let named = behaviour_has_name env d b c.in_ok-name.name c.in_ok-behaviour.ensures.behaviour c.in_ok-name.ensures.name in
     let free : place_of (map behaviour_name c.args.before.now) c.in_ok-name.name ≡ None = search rules in
     let new : place_of (map behaviour_name c.args.before.now) b.name ≡ None = rw named free in
