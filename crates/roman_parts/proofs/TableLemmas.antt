@@ -65,6 +65,11 @@ row_triples-normal env rows next =
 all_below_bound : (n : ℕ) → All (λ x. x < n) (below n)
 all_below_bound n = λ k d less. subst (λ x. x < n) (sym (get_or-below n k d (omega (arith, length-below n)))) (omega (arith, length-below n))
 
+-- the rows have the triples of the normal form, and serve its look-ups
+pub record AreLaidTriples (states actions start : ℕ) (steps : List (ℕ × ℕ × ℕ)) (to from : List ℕ) : Type 0 where
+  pub triples : row_triples states actions (map states_of to) ≡ (normal_env (listed_env states actions start steps)).triples
+  pub rows : HasRows (normal_env (listed_env states actions start steps)) (map states_of to) (map states_of from)
+
 -- the masks of a list of steps, laid out as rows
 module _ (states actions start : ℕ) (steps : List (ℕ × ℕ × ℕ)) (to from : List ℕ)
     (many_states : (0 < states) × (states ≤ MAX_STATES)) (many_actions : (0 < actions) × (actions ≤ MAX_ACTIONS)) (starts : start < states)
@@ -87,16 +92,14 @@ module _ (states actions start : ℕ) (steps : List (ℕ × ℕ × ℕ)) (to fro
       (λ e. from_has.has e' a e ha ∙ leads_is states actions start steps e a e')
       (λ e past. false_from_ne_true _ (λ t. let (l, m, n) = steps_in_range e a e' t in let none : ⊥ = omega arith in none))
 
-  -- are the triples of the normal form
-  pub laid_triples : row_triples states actions (map states_of to) ≡ (normal_env (listed_env states actions start steps)).triples
-  laid_triples = row_triples-normal (listed_env states actions start steps) (map states_of to) next_row
-
-  -- and serve its look-ups
-  pub laid_rows : HasRows (normal_env (listed_env states actions start steps)) (map states_of to) (map states_of from)
-  laid_rows = record {
-    known = IsEnv-normal (listed_env states actions start steps) many_states many_actions starts;
-    next = λ e a he ha. next_row e a he ha ∙ ap Some (sym (env_next-normal (listed_env states actions start steps) e a he ha));
-    prev = λ e' a he' ha. prev_row e' a he' ha ∙ ap Some (sym (env_prev-normal (listed_env states actions start steps) e' a he' ha));
+  pub laid_triples : AreLaidTriples states actions start steps to from
+  laid_triples = record {
+    triples = row_triples-normal (listed_env states actions start steps) (map states_of to) next_row;
+    rows = record {
+      known = IsEnv-normal (listed_env states actions start steps) many_states many_actions starts;
+      next = λ e a he ha. next_row e a he ha ∙ ap Some (sym (env_next-normal (listed_env states actions start steps) e a he ha));
+      prev = λ e' a he' ha. prev_row e' a he' ha ∙ ap Some (sym (env_prev-normal (listed_env states actions start steps) e' a he' ha));
+    };
   }
 
 -- what a look-up gives is below the number of states
@@ -155,6 +158,12 @@ row_moves-normal env_states actions beh rows next =
     (next b e a (from_below beh.states b ib) (from_below env_states e ie) (from_below actions a ia)))
     ∙ has_filter (has_move beh b e a) beh.states b' (from_below beh.states b' ib'))))))
 
+-- the rows have the steps of the normal form, with its final states, and serve its look-ups
+pub record AreLaidMoves (states env_states actions start : ℕ) (finals : List ℕ) (steps : List (ℕ × ℕ × ℕ × ℕ)) (mask : ℕ) (to from : List ℕ) : Type 0 where
+  pub moves : row_moves states env_states actions (map states_of to) ≡ (normal_beh env_states actions (listed_beh states start finals steps)).steps
+  pub final : states_of mask ≡ (normal_beh env_states actions (listed_beh states start finals steps)).finals
+  pub rows : HasGuardedRows (record { env_states = env_states; actions = actions; beh = normal_beh env_states actions (listed_beh states start finals steps) }) mask (map states_of to) (map states_of from)
+
 -- the masks of a list of steps, laid out as rows
 module _ (states env_states actions start : ℕ) (finals : List ℕ) (steps : List (ℕ × ℕ × ℕ × ℕ)) (mask : ℕ) (to from : List ℕ)
     (many_states : (0 < states) × (states ≤ MAX_STATES)) (many_env_states : (0 < env_states) × (env_states ≤ MAX_STATES))
@@ -186,12 +195,7 @@ module _ (states env_states actions start : ℕ) (finals : List ℕ) (steps : Li
       (λ b. from_has.has b' e a b he ha ∙ goes_is states start finals steps b e a b' (omega arith))
       (λ b past. false_from_ne_true _ (λ t. let (l, m, n) = moves_in_range b e a b' he t in let none : ⊥ = omega arith in none))
 
-  -- are the steps of the normal form
-  pub laid_moves : row_moves states env_states actions (map states_of to) ≡ (normal_beh env_states actions (listed_beh states start finals steps)).steps
-  laid_moves = row_moves-normal env_states actions (listed_beh states start finals steps) (map states_of to) out_row
-
-  -- with its final states
-  pub laid_finals : states_of mask ≡ (normal_beh env_states actions (listed_beh states start finals steps)).finals
+  laid_finals : states_of mask ≡ (normal_beh env_states actions (listed_beh states start finals steps)).finals
   laid_finals =
       mask_filter mask states (has finals) (omega arith) mask_has
       (λ b past. false_from_ne_true _ (λ t.
@@ -200,15 +204,18 @@ module _ (states env_states actions start : ℕ) (finals : List ℕ) (steps : Li
       let e : k ≡ b = eqb-true k b same in
       let none : ⊥ = omega arith in none))
 
-  -- and serve its look-ups
-  pub laid_guarded_rows : HasGuardedRows (record { env_states = env_states; actions = actions; beh = normal_beh env_states actions (listed_beh states start finals steps) }) mask (map states_of to) (map states_of from)
-  laid_guarded_rows = record {
-    env_states = many_env_states;
-    actions = many_actions;
-    known = IsOver-normal env_states actions (listed_beh states start finals steps) many_states starts;
-    final = λ b hb. is_final-normal env_states actions (listed_beh states start finals steps) b hb ∙ sym (mask_has b);
-    next = λ b e a hb he ha. out_row b e a hb he ha ∙ ap Some (sym (beh_next-normal env_states actions (listed_beh states start finals steps) b e a hb he ha));
-    prev = λ b' e a hb' he ha. into_row b' e a hb' he ha ∙ ap Some (sym (beh_prev-normal env_states actions (listed_beh states start finals steps) b' e a hb' he ha));
+  pub laid_moves : AreLaidMoves states env_states actions start finals steps mask to from
+  laid_moves = record {
+    moves = row_moves-normal env_states actions (listed_beh states start finals steps) (map states_of to) out_row;
+    final = laid_finals;
+    rows = record {
+      env_states = many_env_states;
+      actions = many_actions;
+      known = IsOver-normal env_states actions (listed_beh states start finals steps) many_states starts;
+      final = λ b hb. is_final-normal env_states actions (listed_beh states start finals steps) b hb ∙ sym (mask_has b);
+      next = λ b e a hb he ha. out_row b e a hb he ha ∙ ap Some (sym (beh_next-normal env_states actions (listed_beh states start finals steps) b e a hb he ha));
+      prev = λ b' e a hb' he ha. into_row b' e a hb' he ha ∙ ap Some (sym (beh_prev-normal env_states actions (listed_beh states start finals steps) b' e a hb' he ha));
+    };
   }
 
 -- what a look-up gives is below the number of states
