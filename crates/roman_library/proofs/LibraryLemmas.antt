@@ -10,16 +10,16 @@ use Rattle.roman_model.specs.System.{Env, Beh}
 use Rattle.roman_model.specs.declared.limits.TheConstants.{MAX_STATES}
 use Rattle.roman_model.proofs.CallerLemmas.{HasNoRepeats-push, any_from}
 use Rattle.roman_read.specs.Names.{place_of}
-use Rattle.roman_parts.specs.Named.{NamedEnv, NamedBeh, NamedTarget, IsOver}
+use Rattle.roman_parts.specs.Named.{NamedEnv, NamedBeh, NamedTarget, IsOver, IsBehaviour}
 use Rattle.roman_read.proofs.CallerLemmas.{same_ok, place_of-present}
 use Rattle.roman_parts.proofs.CallerLemmas.{behaviour_known, none_absent, target_known}
 use Rattle.roman_parts.specs.Parts.{name_of, behaviour_of, target_of}
-use Rattle.roman_library.specs.Library.{IsBehaviour, IsCatalogue, IsService, AreServices, behaviour_name, service_name}
+use Rattle.roman_library.specs.Library.{IsCatalogue, IsService, AreServices, behaviour_name, service_name}
 use Rattle.roman_library.specs.declared.library.Service.{Service}
 
 -- a behaviour that is read is over the environment over which it is read
 pub behaviour_is_over : (env : NamedEnv) (d : Data) (b : NamedBeh) → behaviour_of env d ≡ Ok b → (b.env_states ≡ env.env.states) × (b.actions ≡ env.env.actions)
-behaviour_is_over env d b h = let is = behaviour_known env d b h in (is.env_states, is.actions)
+behaviour_is_over env d b h = let is = behaviour_known env d b h in (is.known.env_states, is.known.actions)
 
 -- so is a target
 pub target_is_over : (env : NamedEnv) (d : Data) (t : NamedTarget) → target_of env d ≡ Ok t → (t.env_states ≡ env.env.states) × (t.actions ≡ env.env.actions)

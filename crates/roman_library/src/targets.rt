@@ -5,7 +5,8 @@ ghost use Rattle.roman_model.specs.System.{IsEnv};
 ghost use Rattle.roman_parts.specs.Reading.{Gives};
 ghost use Rattle.roman_multi.specs.Combining as combining;
 ghost use Rattle.roman_library.specs.Documents.{broken_rule, combined_of, parts_in, targets_in};
-ghost use Rattle.roman_library.specs.Library.{ArePartsOf, IsCatalogue, IsTarget};
+ghost use Rattle.roman_parts.specs.Named.{IsTarget};
+ghost use Rattle.roman_library.specs.Library.{ArePartsOf, IsCatalogue};
 ghost use Rattle.roman_library.specs.Refusals.{Loads, CausesLoad};
 
 use crate::listing::{Listed, load_items};
@@ -87,7 +88,7 @@ impl Listed for Named {
     ghost use Rattle.std.specs.Prelude.{All};
     ghost use Rattle.roman_library.specs.Documents.{named_target_of};
     ghost use Rattle.roman_library.specs.declared.refusal.Part.TheVariants as part;
-    ghost use Rattle.roman_library.specs.Library.{IsTarget};
+    ghost use Rattle.roman_parts.specs.Named.{IsTarget};
 
     ghost part_at = { part.Target };
 

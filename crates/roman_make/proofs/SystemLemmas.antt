@@ -6,8 +6,8 @@ use Rattle.std.proofs.lemmas.Simd.{map-map}
 use Rattle.roman_model.specs.Lists.{IsIn, HasNoRepeats}
 use Rattle.roman_model.specs.System.{IsEnv}
 use Rattle.roman_model.proofs.CallerLemmas.{HasNoRepeats-below, HasNoRepeats-map, in_map}
-use Rattle.roman_parts.specs.Named.{NamedEnv, NamedBeh, NamedTarget}
-use Rattle.roman_library.specs.Library.{PlainLibrary, IsLibrary, AreServices, IsService, IsBehaviour, IsTarget, service_name}
+use Rattle.roman_parts.specs.Named.{NamedEnv, NamedBeh, NamedTarget, IsBehaviour, IsTarget}
+use Rattle.roman_library.specs.Library.{PlainLibrary, IsLibrary, AreServices, IsService, service_name}
 use Rattle.roman_make.specs.Made.{number_in, floor, worker, worker_names, idle_worker, shift, made}
 
 -- ---- names that don't repeat

@@ -14,8 +14,8 @@ use Rattle.roman_multi.specs.Lists.{moves_in, moves_by, moves_from, listed_moves
 use Rattle.roman_model.proofs.CallerLemmas.{same_test, any_true, any_from, in_map, from_map, in_flat_map, from_flat_map, in_below, from_below, in_filter, filter_in, filter_same, in_beh_next, from_beh_next, flat_map_same_in, beh_from_same, listed_number, move_test, move_passes, number_listed, get_in, stands_uses}
 use Rattle.std.proofs.Common.{All}
 use Rattle.std.proofs.lemmas.List.{length-map}
-use Rattle.roman_parts.specs.Named.{NamedEnv}
-use Rattle.roman_multi.specs.Combining.{IsKnown, machines, requests_in}
+use Rattle.roman_parts.specs.Named.{NamedEnv, IsTarget}
+use Rattle.roman_multi.specs.Combining.{machines, requests_in}
 use Rattle.roman_multi.specs.declared.parts.Named.{Named}
 use Rattle.roman_multi.proofs.KnownLemmas.{machines_known}
 use Rattle.roman_multi.proofs.TripleLemmas.{get_or_in}
@@ -123,7 +123,7 @@ requests_are env targets ok =
         ap (map (λ a. record { target = i; action = a }))
         (filter_same (uses env.states target) (stands_in (Some target)) (below env.actions) (λ a j. sym (stands_uses env target a (ok target (get_in targets i target at)))))
 
-pub all_requests_are : (env : NamedEnv) (targets : List Named) (env_states actions i : ℕ) (items : List Request) → All (λ named. IsKnown env named.target) targets →
+pub all_requests_are : (env : NamedEnv) (targets : List Named) (env_states actions i : ℕ) (items : List Request) → All (λ named. IsTarget env named.target) targets →
     env_states ≡ env.env.states → actions ≡ env.env.actions → i ≡ length targets →
     items ≡ flat_map (λ i. used_at env_states actions (slice_get (machines targets) i) i) (below i) → items ≡ requests_in env targets
 all_requests_are env targets env_states actions i items known es ns done is =
