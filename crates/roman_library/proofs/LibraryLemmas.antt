@@ -1,17 +1,13 @@
 -- What the parts of a library keep.
-use Rattle.std.proofs.Common.{◌≡◌, ℕ, ◌≤◌, List, [], ◌∷◌, ◌++◌, map, true, None, Ok, refl, sym, ◌∙◌, arith}
-use Rattle.std.specs.Str.{bytes_eq}
+use Rattle.std.proofs.Common.{◌≡◌, ℕ, List, [], ◌∷◌, ◌++◌, map, None, Ok, sym, ◌∙◌, arith}
 use Rattle.std.proofs.lemmas.List.{map_push}
 use Rattle.std.proofs.lemmas.List.Elements.{All-push}
-use Rattle.std.proofs.lemmas.Slice.Eq.{bytes_eq-Decides}
 use Rattle.serde_json.specs.Data.{Data}
-use Rattle.roman_model.specs.Lists.{IsIn, HasNoRepeats}
-use Rattle.roman_model.specs.System.{Env, Beh}
-use Rattle.roman_model.specs.declared.limits.TheConstants.{MAX_STATES}
-use Rattle.roman_model.proofs.CallerLemmas.{HasNoRepeats-push, any_from}
+use Rattle.roman_model.specs.Lists.{HasNoRepeats}
+use Rattle.roman_model.proofs.CallerLemmas.{HasNoRepeats-push}
 use Rattle.roman_read.specs.Names.{place_of}
-use Rattle.roman_parts.specs.Named.{NamedEnv, NamedBeh, NamedTarget, IsOver, IsBehaviour}
-use Rattle.roman_read.proofs.CallerLemmas.{same_ok, place_of-present}
+use Rattle.roman_parts.specs.Named.{NamedEnv, NamedBeh, NamedTarget, IsBehaviour}
+use Rattle.roman_read.proofs.CallerLemmas.{same_ok}
 use Rattle.roman_parts.proofs.CallerLemmas.{behaviour_known, none_absent, target_known}
 use Rattle.roman_parts.specs.Parts.{name_of, behaviour_of, target_of}
 use Rattle.roman_library.specs.Library.{IsCatalogue, IsService, AreServices, behaviour_name, service_name}

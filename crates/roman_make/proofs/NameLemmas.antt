@@ -1,6 +1,6 @@
 -- Words that are numbered as names, one after another.
-use Rattle.std.proofs.Common.{◌≡◌, ℕ, ◌+◌, ◌<◌, ◌&&◌, ◌++◌, ◌∷◌, [], List, length, get_or, take, drop, map, Option, Some, None, IsTrue, Bor, is_none, refl, ap, sym, ◌∙◌, subst, add-one, drop-cons}
-use Rattle.std.proofs.lemmas.Bool.{and_parts, false≢true}
+use Rattle.std.proofs.Common.{◌≡◌, ℕ, ◌+◌, ◌<◌, ◌&&◌, ◌++◌, ◌∷◌, [], List, length, get_or, take, drop, map, None, IsTrue, Bor, is_none, refl, ap, sym, ◌∙◌, subst, add-one, drop-cons}
+use Rattle.std.proofs.lemmas.Bool.{and_parts}
 use Rattle.std.proofs.lemmas.List.{take_more, get_or-map, length-map, length_push}
 use Rattle.roman_read.specs.Names.{is_name, place_of}
 use Rattle.roman_parts.proofs.CallerLemmas.{none_is}

@@ -1,5 +1,5 @@
 -- The library that is made is the one of the definition, and is a library.
-use Rattle.std.proofs.Common.{◌≡◌, ℕ, zero, suc, ◌≤◌, ◌∷◌, [], List, length, map, take, ap, sym, subst, inl, inr, lit<, lit≤, arith}
+use Rattle.std.proofs.Common.{◌≡◌, ℕ, zero, suc, ◌≤◌, ◌∷◌, [], List, length, map, take, sym, subst, inl, inr, lit<, lit≤, arith}
 use Rattle.std.proofs.lemmas.List.{length-map, length-take-le}
 use Rattle.std.proofs.lemmas.List.Elements.{All-cons, All-map}
 use Rattle.std.proofs.lemmas.Simd.{map-map}

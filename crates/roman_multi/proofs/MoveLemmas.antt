@@ -1,6 +1,5 @@
 -- The steps that the loops list are those of the combined behaviours, and the requests are the combined actions.
 use Rattle.std.proofs.Common.{◌≡◌, ℕ, ◌<◌, ◌≤◌, ◌^◌, ◌==◌, ◌&&◌, Bool, List, [], ◌∷◌, map, length, Option, Some, None, IsTrue, flat_map, filter, slice_get, inl, inr, refl, sym, ap, ap₂, ◌∙◌, subst, get_or, arith}
-use Rattle.std.proofs.lemmas.Bool.{eq-eqb, eqb-true}
 use Rattle.roman_guard.specs.Meaning.{states_of}
 use Rattle.roman_model.specs.Lists.{IsIn, below}
 use Rattle.roman_model.specs.System.{Move, Beh, Env, has, has_move, is_final, IsBeh}
@@ -11,7 +10,7 @@ use Rattle.roman_model.specs.Combined.{has_move_on, combined_beh, stands_in, use
 use Rattle.roman_model.specs.declared.request.Request.{Request}
 use Rattle.roman_parts.specs.Listed.{move_of, listed_beh, AreMoves}
 use Rattle.roman_multi.specs.Lists.{moves_in, moves_by, moves_from, listed_moves, moves_on, used_at}
-use Rattle.roman_model.proofs.CallerLemmas.{same_test, any_true, any_from, in_map, from_map, in_flat_map, from_flat_map, in_below, from_below, in_filter, filter_in, filter_same, in_beh_next, from_beh_next, flat_map_same_in, beh_from_same, listed_number, move_test, move_passes, number_listed, get_in, stands_uses}
+use Rattle.roman_model.proofs.CallerLemmas.{same_test, any_true, any_from, in_map, from_map, in_flat_map, from_flat_map, in_below, from_below, filter_in, filter_same, in_beh_next, from_beh_next, flat_map_same_in, beh_from_same, listed_number, move_test, move_passes, number_listed, get_in, stands_uses}
 use Rattle.std.proofs.Common.{All}
 use Rattle.std.proofs.lemmas.List.{length-map}
 use Rattle.roman_parts.specs.Named.{NamedEnv, IsTarget}

@@ -1,16 +1,11 @@
 -- Names that are joined, and tables of them.
-use Rattle.std.proofs.Common.{◌≡◌, ℕ, zero, suc, ◌+◌, ◌<◌, ◌≤◌, ◌==◌, ◌&&◌, false, not, List, [], ◌∷◌, ◌++◌, length, take, get_or, slice_index, None, IsTrue, IsFalse, refl, sym, ap, ◌∙◌, append_assoc, arith}
+use Rattle.std.proofs.Common.{◌≡◌, ℕ, zero, suc, ◌+◌, ◌<◌, ◌≤◌, ◌==◌, ◌&&◌, false, not, List, [], ◌∷◌, ◌++◌, length, take, get_or, slice_index, IsTrue, IsFalse, refl, sym, ap, ◌∙◌, append_assoc, arith}
 use Rattle.std.specs.Prelude.{slice_index_or, if◌then◌else◌, nat_le}
-use Rattle.std.specs.List.{list_all, IsDistinct}
-use Rattle.std.specs.Str.{bytes_eq}
-use Rattle.std.proofs.lemmas.Bool.{and_parts, and_from, false≢true, ltb-false, le-leb, ne_eqb, false_from_ne_true}
-use Rattle.std.proofs.lemmas.List.{take_more, get_or_default, get_or-take, length-take-le}
-use Rattle.std.proofs.lemmas.List.Folds.{list_any_none}
-use Rattle.std.proofs.lemmas.Map.Made.{AllPairs-from_IsDistinct}
-use Rattle.std.proofs.lemmas.Slice.Eq.{bytes_eq-Decides}
+use Rattle.std.specs.List.{list_all}
+use Rattle.std.proofs.lemmas.Bool.{and_parts, and_from, false≢true, ltb-false, le-leb, ne_eqb}
+use Rattle.std.proofs.lemmas.List.{take_more}
 use Rattle.roman_model.specs.Lists.{is_empty}
-use Rattle.roman_read.specs.Names.{is_name, is_name_byte, place_of}
-use Rattle.roman_read.proofs.CallerLemmas.{place_of-absent}
+use Rattle.roman_read.specs.Names.{is_name, is_name_byte}
 use Rattle.roman_multi.specs.Combining.{joined, names_at, is_long}
 use Rattle.roman_multi.specs.Lists.{is_word}
 use Rattle.roman_multi.specs.declared.parts.Named.{Named}

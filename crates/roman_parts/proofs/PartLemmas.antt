@@ -6,7 +6,7 @@ use Rattle.std.proofs.lemmas.List.Quantifiers.{position-Some}
 use Rattle.serde_json.specs.Data.{Data, Items, no_items, item}
 use Rattle.serde_json.specs.Find.{as_object}
 use Rattle.serde_json.specs.Events.{items_len}
-use Rattle.roman_model.specs.System.{Beh, Move, IsEnv, IsDeterministic}
+use Rattle.roman_model.specs.System.{Beh, Move, IsEnv}
 use Rattle.roman_model.specs.declared.limits.TheConstants.{MAX_STATES, MAX_ACTIONS}
 use Rattle.roman_read.specs.Items.{each_item}
 use Rattle.roman_read.specs.Json.{member_of, text_of}

@@ -1,5 +1,5 @@
 -- Lists of names, final states and steps: what they are read as, and how they are refused.
-use Rattle.std.proofs.Common.{◌≡◌, ◌≢◌, ℕ, zero, suc, ◌<◌, ◌≤◌, ◌⊎◌, ◌&&◌, inl, inr, Bool, true, false, List, [], ◌∷◌, ◌++◌, length, get_or, Option, Some, None, is_none, nat_le, codes, Result, Ok, Err, IsTrue, IsFalse, slice_get, refl, sym, ap, ◌∙◌, subst, arith, leb-true, true≢false}
+use Rattle.std.proofs.Common.{◌≡◌, ◌≢◌, ℕ, suc, ◌<◌, ◌≤◌, ◌⊎◌, ◌&&◌, inl, inr, Bool, true, false, List, [], ◌∷◌, ◌++◌, length, get_or, Option, Some, None, is_none, nat_le, codes, Result, Ok, Err, IsTrue, IsFalse, slice_get, refl, sym, ap, ◌∙◌, subst, arith, leb-true, true≢false}
 use Rattle.std.specs.List.{AllZip, list_any, position_or_len}
 use Rattle.std.specs.Str.{bytes_eq}
 use Rattle.std.proofs.lemmas.Bool.{and_parts, and_from, both_ways, cases_order, le-leb}

@@ -1,11 +1,11 @@
 -- Rows that were laid out from the masks of a list of steps hold the steps of the record in normal form.
-use Rattle.std.proofs.Common.{◌≡◌, ℕ, zero, suc, ◌+◌, ◌-◌, ◌*◌, ◌<◌, ◌≤◌, ◌==◌, ◌&&◌, Bool, false, IsTrue, List, [], ◌∷◌, ◌++◌, map, length, get_or, All, Some, slice_get, filter, flat_map, refl, sym, ap, ap₂, ◌∙◌, subst, inl, inr, arith}
+use Rattle.std.proofs.Common.{◌≡◌, ℕ, zero, suc, ◌+◌, ◌-◌, ◌*◌, ◌<◌, ◌≤◌, ◌==◌, ◌&&◌, Bool, false, IsTrue, List, [], ◌∷◌, ◌++◌, map, length, get_or, All, Some, slice_get, filter, refl, sym, ap, ◌∙◌, subst, arith}
 use Rattle.std.proofs.lemmas.Bool.{false_from_ne_true, and_parts, eqb-true, eq-eqb}
 use Rattle.std.proofs.lemmas.List.{get_or-map, length-map}
 use Rattle.std.proofs.lemmas.List.Elements.{filter-append, All-filter, All-contains, All-same}
 use Rattle.std.proofs.lemmas.Option.{slice_get-get_or, get_or_from_slice_get, same_Some}
 use Rattle.std.proofs.lemmas.Nat.{mul-add-lt}
-use Rattle.roman_model.specs.Lists.{IsIn, below}
+use Rattle.roman_model.specs.Lists.{below}
 use Rattle.roman_model.specs.System.{Env, Beh, has_triple, has_move, has}
 use Rattle.roman_model.specs.SystemArena.{env_next, env_prev, beh_next, beh_prev}
 use Rattle.roman_model.specs.Normal.{normal_env, normal_beh, guarded_step}
