@@ -201,12 +201,16 @@ between_none steps single (Some x) (Some y) in_m in_n = by_test (x.from == y.fro
 
 no_choice_in : (b : Beh) → IsDeterministic b → choice_of b.steps ≡ None
 unfolding choice_of choice_with choice_at
-no_choice_in b single = first_below-none (choice_with b.steps) (length b.steps) (length b.steps) (omega arith) (record { none = λ j l. first_below-none (choice_at b.steps j) j j (omega arith) (record { none = λ i less.
-    between_none b.steps
-    (λ x y e in_x in_y from action here there'.
-    single x.from e x.action x.to y.to (listed_step b x.from e x.action x.to (record { step = x; listed = in_x; from = refl; action = refl; to = refl; guard = here }))
-    (listed_step b x.from e x.action y.to (record { step = y; listed = in_y; from = sym from; action = sym action; to = refl; guard = there' })))
-    (slice_get b.steps j) (slice_get b.steps i) (λ x h. get_in b.steps j x h) (λ x h. get_in b.steps i x h) }) })
+no_choice_in b single = first_below-none (choice_with b.steps) (length b.steps) (length b.steps) (omega arith) (record {
+  none = λ j l. first_below-none (choice_at b.steps j) j j (omega arith) (record {
+    none = λ i less.
+        between_none b.steps
+        (λ x y e in_x in_y from action here there'.
+        single x.from e x.action x.to y.to (listed_step b x.from e x.action x.to (record { step = x; listed = in_x; from = refl; action = refl; to = refl; guard = here }))
+        (listed_step b x.from e x.action y.to (record { step = y; listed = in_y; from = sym from; action = sym action; to = refl; guard = there' })))
+        (slice_get b.steps j) (slice_get b.steps i) (λ x h. get_in b.steps j x h) (λ x h. get_in b.steps i x h);
+  });
+})
 
 -- Parts
 
