@@ -19,7 +19,7 @@ use Rattle.roman_multi.specs.Combining.{PlainCombined, combined_behaviour, combi
 use Rattle.roman_multi.proofs.CallerLemmas.{good_count, all_in, machines_known, are_allowed}
 use Rattle.roman_library.specs.Library.{PlainLibrary}
 use Rattle.roman_library.specs.Targets.{PlainTargets, CombinesTargets}
-use Rattle.roman_library.proofs.CallerLemmas.{targets_known, libraries_known, behaviour_there, targets_combined}
+use Rattle.roman_library.proofs.CallerLemmas.{libraries_known, behaviour_there, targets_combined}
 use Rattle.roman_session.specs.Situations.{Situation, IsSituation, present_system}
 use Rattle.roman_hearing.specs.Told.{Answers, until_quit}
 use Rattle.roman_hearing.specs.Known.{AreNamed, IsKnownSituation}
@@ -102,7 +102,7 @@ module _ (said : PlainTargets) (library : PlainLibrary) (s : Situation) (combine
       let allowed = are_allowed said.environment said.targets combines.allowed in
       record {
         env = combines.known;
-        targets = machines_known said.environment said.targets (targets_known said.environment said.targets combines.targets);
+        targets = machines_known said.environment said.targets combines.targets;
         seats = seats_known;
         few = omega (arith, is.parts.system.few, length-map s.parts.seats (seat_of s.parts.catalogue), length-map s.parts.seats (seat_of said.catalogue));
         states = ltb-false MAX_STATES (product_of (target_sizes (machines said.targets))) allowed.states;

@@ -12,12 +12,11 @@ use Rattle.roman_model.proofs.CallerLemmas.{there_is}
 use Rattle.roman_read.specs.Names.{is_name, place_of}
 use Rattle.roman_read.proofs.CallerLemmas.{same_ok, bind_ok}
 use Rattle.roman_text.specs.declared.replies.Reply.TheVariants as reply
-use Rattle.roman_parts.specs.Named.{NamedBeh}
+use Rattle.roman_parts.specs.Named.{NamedBeh, IsBehaviour}
 use Rattle.roman_joint.specs.NamedSys.{beh_at}
 use Rattle.roman_joint.specs.Names.{seat_name, beh_name, beh_states, states_of_behaviour, names_in}
 use Rattle.roman_joint.proofs.CallerLemmas.{beh_read, seat_read}
 use Rattle.roman_joint.specs.declared.seat.Seat.{Seat as Place}
-use Rattle.roman_library.specs.Library.{IsBehaviour}
 use Rattle.roman_session.specs.Situations.{Situation, present_system, is_idle, IsSituation}
 use Rattle.roman_session.specs.Joins.{CanJoin}
 use Rattle.roman_session.specs.Rulings.{named, service_named, state_named, joining}

@@ -1,7 +1,7 @@
 -- What holds of each situation of a session that a document begins, and stays.
 use Rattle.std.specs.Prelude.{◌≡◌, List, ℕ, length, All}
 use Rattle.roman_joint.specs.NamedSys.{NamedSys}
-use Rattle.roman_library.specs.Library.{IsBehaviour}
+use Rattle.roman_parts.specs.Named.{IsBehaviour}
 use Rattle.roman_session.specs.Situations.{Situation, IsSituation}
 use Rattle.roman_session.specs.Steps.{Step}
 

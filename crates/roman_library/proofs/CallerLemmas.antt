@@ -1,7 +1,5 @@
 -- What the proofs of other crates may cite of this one. All else in proofs/ can be renamed freely.
 
--- Several targets of a document, and what is made of them.
-pub use Rattle.roman_library.proofs.TargetLemmas.{targets_known}
 -- What an accepted document means is a library.
 pub use Rattle.roman_library.proofs.KnownLemmas.{behaviour_there, libraries_known}
 -- The library of a document of several targets combines them.

@@ -15,7 +15,7 @@ use Rattle.roman_read.specs.declared.rules.Miss.{Miss}
 use Rattle.roman_read.specs.declared.rules.Kind.TheVariants as kind
 use Rattle.roman_read.proofs.CallerLemmas.{same_ok, bind_ok}
 use Rattle.roman_parts.specs.Lists.{place_in}
-use Rattle.roman_parts.specs.Named.{NamedEnv, NamedBeh, NamedTarget}
+use Rattle.roman_parts.specs.Named.{NamedEnv, NamedBeh, NamedTarget, IsBehaviour, IsTarget}
 use Rattle.roman_parts.specs.Parts.{environment_of, name_of, target_of}
 use Rattle.roman_parts.specs.Reading.{looked, found, check, counted_items}
 use Rattle.roman_parts.specs.declared.error.List.TheVariants as list
@@ -28,7 +28,7 @@ use Rattle.roman_multi.specs.declared.parts.Named.{Named}
 use Rattle.roman_multi.specs.declared.error.CombineError.{CombineError}
 use Rattle.roman_multi.proofs.CallerLemmas.{request_count}
 use Rattle.roman_library.proofs.TargetLemmas.{combined_parts_known}
-use Rattle.roman_library.specs.Library.{PlainLibrary, ArePartsOf, IsBehaviour, IsTarget, IsService, IsCatalogue, AreServices, behaviour_name, service_name}
+use Rattle.roman_library.specs.Library.{PlainLibrary, ArePartsOf, IsService, IsCatalogue, AreServices, behaviour_name, service_name}
 use Rattle.roman_library.specs.Refusals.{placed}
 use Rattle.roman_library.specs.declared.library.Service.{Service}
 use Rattle.roman_library.specs.declared.refusal.Part.{Part}
@@ -62,7 +62,7 @@ new_behaviour_known env before d b h =
     let (name, e, h1) = bind_ok (new_name_of (map behaviour_name before) d) _ b h in
     let (named, free) = name_is_new (map behaviour_name before) d name e in
     let is = behaviour_known env d b h1 in
-    record { known = record { env_states = is.env_states; actions = is.actions; names = is.names; known = is.known }; new = subst (λ (n : List ℕ). place_of (map behaviour_name before) n ≡ None) (same_ok name b.name (sym named ∙ is.name)) free }
+    record { known = is.known; new = subst (λ (n : List ℕ). place_of (map behaviour_name before) n ≡ None) (same_ok name b.name (sym named ∙ is.name)) free }
 
 -- parts of a list that keep what each part keeps, as many as there are items
 record Grown {X : Type 0} (Keeps : List X → Type 0) (out : List X) (n : ℕ) : Type 0 where
@@ -102,8 +102,7 @@ unfolding target_in
 target_in_known texts document env d t h =
     let (member, e, h1) = bind_ok (placed document (part.Target 0) (looked list.Whole 0 (member_of d (codes "target")))) _ t h in
     let (p, e1, h2) = bind_ok (part_of texts document (part.Target 0) member) _ t h1 in
-    let is = target_known env p.1 t (placed_is p.0 (part.Target 0) (target_of env p.1) t h2) in
-    record { env_states = is.env_states; actions = is.actions; names = is.names; known = is.known; single = is.single }
+    target_known env p.1 t (placed_is p.0 (part.Target 0) (target_of env p.1) t h2)
 
 -- its environment
 pub environment_in_known : (texts : Texts) (document : List ℕ) (d : Data) (env : NamedEnv) → environment_in texts document d ≡ Ok env → IsEnvironment env
@@ -207,9 +206,7 @@ unfolding named_target_of
 named_target_known env before d named h =
     let (name, e, h1) = bind_ok (new_name_of (map target_name before) d) _ named h in
     let (target, e1, h2) = bind_ok (target_of env d) _ named h1 in
-    let is = target_known env d target e1 in
-    subst (λ (n : Named). IsTarget env n.target) (same_ok _ named h2)
-    (record { env_states = is.env_states; actions = is.actions; names = is.names; known = is.known; single = is.single })
+    subst (λ (n : Named). IsTarget env n.target) (same_ok _ named h2) (target_known env d target e1)
 
 targets_grow : (env : NamedEnv) (before : List Named) (d : Data) (named : Named) → named_target_of env before d ≡ Ok named → All (λ (n : Named). IsTarget env n.target) before →
     All (λ (n : Named). IsTarget env n.target) (before ++ named ∷ [])

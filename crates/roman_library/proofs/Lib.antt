@@ -1,5 +1,4 @@
 mod PrefixLemmas
-mod ReadingLemmas
 pub mod PlaceLemmas
 mod LibraryLemmas
 mod StepLemmas

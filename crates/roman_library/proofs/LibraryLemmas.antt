@@ -1,31 +1,21 @@
 -- What the parts of a library keep.
-use Rattle.std.proofs.Common.{◌≡◌, ℕ, ◌≤◌, List, [], ◌∷◌, ◌++◌, map, true, None, Ok, refl, sym, ◌∙◌, arith}
-use Rattle.std.specs.Str.{bytes_eq}
+use Rattle.std.proofs.Common.{◌≡◌, ℕ, List, [], ◌∷◌, ◌++◌, map, None, Ok, sym, ◌∙◌, arith}
 use Rattle.std.proofs.lemmas.List.{map_push}
 use Rattle.std.proofs.lemmas.List.Elements.{All-push}
-use Rattle.std.proofs.lemmas.Slice.Eq.{bytes_eq-Decides}
 use Rattle.serde_json.specs.Data.{Data}
-use Rattle.roman_model.specs.Lists.{IsIn, HasNoRepeats}
-use Rattle.roman_model.specs.System.{Env, Beh}
-use Rattle.roman_model.specs.declared.limits.TheConstants.{MAX_STATES}
-use Rattle.roman_model.proofs.CallerLemmas.{HasNoRepeats-push, any_from}
+use Rattle.roman_model.specs.Lists.{HasNoRepeats}
+use Rattle.roman_model.proofs.CallerLemmas.{HasNoRepeats-push}
 use Rattle.roman_read.specs.Names.{place_of}
-use Rattle.roman_parts.specs.Named.{NamedEnv, NamedBeh, NamedTarget, IsOver}
-use Rattle.roman_read.proofs.CallerLemmas.{same_ok, place_of-present}
-use Rattle.roman_parts.proofs.CallerLemmas.{behaviour_known, target_known}
+use Rattle.roman_parts.specs.Named.{NamedEnv, NamedBeh, NamedTarget, IsBehaviour}
+use Rattle.roman_read.proofs.CallerLemmas.{same_ok}
+use Rattle.roman_parts.proofs.CallerLemmas.{behaviour_known, none_absent, target_known}
 use Rattle.roman_parts.specs.Parts.{name_of, behaviour_of, target_of}
-use Rattle.roman_library.specs.Library.{IsBehaviour, IsCatalogue, IsService, AreServices, behaviour_name, service_name}
+use Rattle.roman_library.specs.Library.{IsCatalogue, IsService, AreServices, behaviour_name, service_name}
 use Rattle.roman_library.specs.declared.library.Service.{Service}
-
--- a behaviour has at most the greatest number of states
-pub few_states : (env_states actions : ℕ) (beh : Beh) → IsOver env_states actions beh → beh.states ≤ MAX_STATES
-few_states env_states actions beh over =
-    let env : Env = record { states = env_states; actions = actions; start = 0; triples = [] } in
-    (over env refl refl).states.1
 
 -- a behaviour that is read is over the environment over which it is read
 pub behaviour_is_over : (env : NamedEnv) (d : Data) (b : NamedBeh) → behaviour_of env d ≡ Ok b → (b.env_states ≡ env.env.states) × (b.actions ≡ env.env.actions)
-behaviour_is_over env d b h = let is = behaviour_known env d b h in (is.env_states, is.actions)
+behaviour_is_over env d b h = let is = behaviour_known env d b h in (is.known.env_states, is.known.actions)
 
 -- so is a target
 pub target_is_over : (env : NamedEnv) (d : Data) (t : NamedTarget) → target_of env d ≡ Ok t → (t.env_states ≡ env.env.states) × (t.actions ≡ env.env.actions)
@@ -37,16 +27,9 @@ behaviour_has_name env d b name h named = same_ok b.name name (sym (behaviour_kn
 
 -- Lists of what is named
 
--- a name without a place among names is none of them
-no_place : (names : List (List ℕ)) (name : List ℕ) → place_of names name ≡ None → IsIn name names → ⊥
-no_place names name none there =
-    let itself : bytes_eq name name ≡ true = (bytes_eq-Decides name name).1 refl in
-    let some = place_of-present names name (any_from (bytes_eq name) name names there itself) in
-    cc
-
 -- what has a new name goes behind things with names of their own
 new_name : {X : Type 0} (f : X → List ℕ) (xs : List X) (x : X) → HasNoRepeats (map f xs) → place_of (map f xs) (f x) ≡ None → HasNoRepeats (map f (xs ++ x ∷ []))
-new_name f xs x once none = rw (map_push f xs x) (HasNoRepeats-push (map f xs) (f x) once (no_place (map f xs) (f x) none))
+new_name f xs x once none = rw (map_push f xs x) (HasNoRepeats-push (map f xs) (f x) once (none_absent (map f xs) (f x) none))
 
 -- there may be no behaviours
 pub no_behaviours : (env : NamedEnv) → IsCatalogue env []

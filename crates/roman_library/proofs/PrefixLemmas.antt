@@ -3,7 +3,10 @@ use Rattle.std.proofs.Common.{◌≡◌, ℕ, ◌+◌, ◌≤◌, List, ◌++◌
 use Rattle.std.proofs.lemmas.List.{take-append-drop, length-take-le}
 use Rattle.std.proofs.Math.Seq.{take-append-add}
 use Rattle.roman_io.specs.Shelf.{Texts, Fetches, shelf_text}
-use Rattle.roman_library.specs.Texts.{IsPrefix}
+
+-- the bytes are the first of the text
+pub record IsPrefix (bytes text : List ℕ) : Type 0 where
+  pub same : take (length bytes) text ≡ bytes
 
 -- the text is its prefix and what is left behind it
 prefix_rest : (bytes text : List ℕ) → IsPrefix bytes text → bytes ++ drop (length bytes) text ≡ text

@@ -18,10 +18,7 @@ use Rattle.roman_library.specs.declared.library.Service.{Service}
 use Rattle.roman_library.specs.declared.refusal.Part.{Part}
 use Rattle.roman_library.specs.declared.refusal.Part.TheVariants as part
 use Rattle.roman_library.specs.declared.refusal.Refusal.{Refusal}
-
-placed_ok : {X : Type 0} (document : List ℕ) (part : Part) (r : Result X PartError) (x : X) → placed document part r ≡ Ok x → r ≡ Ok x
-placed_ok document part (Ok y) x h = ap Ok (same_ok y x h)
-placed_ok document part (Err e) x h = cc
+use Rattle.roman_library.proofs.KnownLemmas.{placed_is}
 
 placed_err : {X : Type 0} (document : List ℕ) (part : Part) (r : Result X PartError) (e : Refusal) → placed document part r ≡ Err e → (why : PartError) × (r ≡ Err why) × (e ≡ refusal_of document part why)
 placed_err document part (Ok y) e h = absurd (let f : ⊥ = cc in f)
@@ -36,7 +33,7 @@ unfolding at_most
 placed_listing document name place most d =
     let listing = counted_listing place name 0 most (at_most most) (λ n fits. fits.1) (λ n fits. (omega arith, fits)) d in
     record {
-      gives = λ items h. listing.gives items (placed_ok document part.System (counted_items place name 0 most d) items h);
+      gives = λ items h. listing.gives items (placed_is document part.System (counted_items place name 0 most d) items h);
       given = λ ds at fits. ap (placed document part.System) (listing.given ds at fits);
       refuses = λ e h.
           let (why, bad, is) = placed_err document part.System (counted_items place name 0 most d) e h in
@@ -57,7 +54,7 @@ module _ (document : List ℕ) (version : ℕ) (catalogue : List NamedBeh) where
   services_step = record {
     gives = λ i before d out at h.
         let (x, e, h1) = bind_ok (placed document (part.Service i) (service_of version catalogue before d)) _ out h in
-        (x, same_ok (before ++ x ∷ []) out h1, placed_ok document (part.Service i) (service_of version catalogue before d) x e);
+        (x, same_ok (before ++ x ∷ []) out h1, placed_is document (part.Service i) (service_of version catalogue before d) x e);
     given = λ i before d x at is. ap (λ (r : Result Service PartError). placed document (part.Service i) r >>= (λ service. Ok (before ++ service ∷ []))) is;
     refuses = λ i before d e h. elim (bind_err (placed document (part.Service i) (service_of version catalogue before d)) _ e h) [
       | inl bad ↦ placed_err document (part.Service i) (service_of version catalogue before d) e bad

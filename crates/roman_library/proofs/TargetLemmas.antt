@@ -6,25 +6,18 @@ use Rattle.std.specs.Option.{option_map}
 use Rattle.roman_model.specs.Lists.{HasNoRepeats}
 use Rattle.roman_model.specs.System.{IsEnv}
 use Rattle.roman_model.specs.declared.request.Request.{Request}
-use Rattle.roman_parts.specs.Named.{NamedEnv, NamedBeh}
+use Rattle.roman_parts.specs.Named.{NamedEnv, NamedBeh, IsBehaviour, IsTarget}
 use Rattle.roman_parts.specs.Reading.{Gives}
 use Rattle.roman_multi.specs.Combining as combining
-use Rattle.roman_multi.specs.Combining.{IsKnown, Keeps, combined_behaviour, combined_parts, forbidding, requests_in}
+use Rattle.roman_multi.specs.Combining.{Keeps, combined_behaviour, combined_parts, forbidding, requests_in}
 use Rattle.roman_multi.specs.declared.parts.Named.{Named}
 use Rattle.roman_multi.specs.declared.parts.Combined.{Combined}
 use Rattle.roman_multi.specs.declared.error.CombineError.{CombineError}
 use Rattle.roman_multi.specs.declared.error.CombineError.TheVariants as error
 use Rattle.roman_multi.proofs.CallerLemmas.{state_count, combined_behaviour_over, combined_is_system, combined_target_over}
 use Rattle.roman_library.specs.Documents.{combined_of, broken_rule}
-use Rattle.roman_library.specs.Library.{ArePartsOf, IsBehaviour, IsCatalogue, IsService, IsTarget, AreServices, behaviour_name}
+use Rattle.roman_library.specs.Library.{ArePartsOf, IsCatalogue, IsService, AreServices, behaviour_name}
 use Rattle.roman_library.specs.declared.library.Service.{Service}
-
--- a target of a document is known over its environment
-pub target_known : (env : NamedEnv) (named : Named) → IsTarget env named.target → IsKnown env named.target
-target_known env named is = record { over = record { env_states = is.env_states; actions = is.actions }; names = is.names; known = is.known; single = is.single }
-
-pub targets_known : (env : NamedEnv) (targets : List Named) → All (λ named. IsTarget env named.target) targets → All (λ named. IsKnown env named.target) targets
-targets_known env targets all k d l = target_known env (get_or targets k d) (all k d l)
 
 -- what is made, or why it isn't
 pub made_gives : (env : NamedEnv) (catalogue : List NamedBeh) (targets : List Named) (made : Combined) → combining.plain_combined made ≡ combined_parts env catalogue targets → forbidding env targets ≡ None →
@@ -67,8 +60,7 @@ module _ (env : NamedEnv) (catalogue : List NamedBeh) (requests : List Request) 
 pub combined_parts_known : (env : NamedEnv) (catalogue : List NamedBeh) (targets : List Named) → IsEnv env.env → IsCatalogue env catalogue → All (λ named. IsTarget env named.target) targets →
     forbidding env targets ≡ None → ArePartsOf catalogue (combined_parts env catalogue targets)
 unfolding combined_parts
-combined_parts_known env catalogue targets world are all allowed =
-    let known = targets_known env targets all in
+combined_parts_known env catalogue targets world are known allowed =
     let one = combined_is_system env targets world known allowed in
     record {
       environment = one.env;

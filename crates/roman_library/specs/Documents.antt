@@ -103,7 +103,7 @@ listed_step at read texts document env i before d = listed_in at read texts docu
 
 -- ---- the environment, the behaviours and the target
 
--- the name of a behaviour or a service, which none of those before it has
+-- the name of a behaviour, a target or a service, which none of those before it has
 unfoldable pub new_name_of : List (List ℕ) → Data → Result (List ℕ) PartError
 new_name_of before d = do
   whole ← check (is_some (as_object d)) kind.Form list.Whole 0 d

@@ -1,9 +1,9 @@
 -- Libraries: what a system document says.
 use Rattle.std.specs.Prelude.{◌≡◌, ℕ, ◌<◌, ◌≤◌, List, map, length, slice_get, All, IfSome}
 use Rattle.roman_model.specs.Lists.{HasNoRepeats}
-use Rattle.roman_model.specs.System.{IsEnv, IsDeterministic}
+use Rattle.roman_model.specs.System.{IsEnv}
 use Rattle.roman_model.specs.declared.limits.TheConstants.{MAX_BEHAVIOURS, MAX_SERVICES, MAX_CELLS}
-use Rattle.roman_parts.specs.Named.{NamedEnv, NamedBeh, NamedTarget, IsOver}
+use Rattle.roman_parts.specs.Named.{NamedEnv, NamedBeh, NamedTarget, IsBehaviour, IsTarget}
 use Rattle.roman_multi.specs.Combining.{PlainCombined}
 use Rattle.roman_library.specs.declared.library.Library.{Library}
 use Rattle.roman_library.specs.declared.library.Service.{Service}
@@ -33,21 +33,6 @@ behaviour_name behaviour = behaviour.name
 -- a service's name
 abbrev pub service_name : Service → List ℕ
 service_name service = service.name
-
--- the behaviour is over that environment, and has a name for each of its states
-pub record IsBehaviour (environment : NamedEnv) (behaviour : NamedBeh) : Type 0 where
-  pub env_states : behaviour.env_states ≡ environment.env.states
-  pub actions : behaviour.actions ≡ environment.env.actions
-  pub names : length behaviour.states ≡ behaviour.beh.states
-  pub known : IsOver behaviour.env_states behaviour.actions behaviour.beh
-
--- the target is over that environment, is deterministic, and has a name for each of its states
-pub record IsTarget (environment : NamedEnv) (target : NamedTarget) : Type 0 where
-  pub env_states : target.env_states ≡ environment.env.states
-  pub actions : target.actions ≡ environment.env.actions
-  pub names : length target.states ≡ target.beh.states
-  pub known : IsOver target.env_states target.actions target.beh
-  pub single : IsDeterministic target.beh
 
 -- the service's behaviour is a place of the catalogue, and its state is one of that behaviour
 pub record IsService (catalogue : List NamedBeh) (service : Service) : Type 0 where

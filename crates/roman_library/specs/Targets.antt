@@ -3,11 +3,11 @@ use Rattle.std.specs.Prelude.{◌≡◌, ℕ, ◌≤◌, List, length, None, Ok,
 use Rattle.serde_json.specs.Data.{Data}
 use Rattle.roman_io.specs.Shelf.{Texts}
 use Rattle.roman_model.specs.System.{IsEnv}
-use Rattle.roman_parts.specs.Named.{NamedEnv, NamedBeh}
+use Rattle.roman_parts.specs.Named.{NamedEnv, NamedBeh, IsTarget}
 use Rattle.roman_multi.specs.Combining.{forbidding, combined_parts}
 use Rattle.roman_multi.specs.declared.parts.Named.{Named}
 use Rattle.roman_library.specs.Documents.{value_at, version_of, environment_in, catalogue_in, targets_in, library_of}
-use Rattle.roman_library.specs.Library.{PlainLibrary, IsCatalogue, IsTarget, AreServices}
+use Rattle.roman_library.specs.Library.{PlainLibrary, IsCatalogue, AreServices}
 use Rattle.roman_library.specs.declared.refusal.Part.TheVariants as part
 
 -- an environment, behaviours and targets over its plain actions

@@ -1,5 +1,5 @@
 -- What a text on a shelf is as a document.
-use Rattle.std.specs.Prelude.{◌≡◌, ℕ, ◌<◌, ◌≤◌, List, length, take, Option, Some, None, Result, Ok, Err}
+use Rattle.std.specs.Prelude.{◌≡◌, ℕ, ◌<◌, ◌≤◌, List, length, Option, Some, None, Result, Ok, Err}
 use Rattle.std.specs.Global.{Vec}
 use Rattle.serde_json.specs.declared.value.Value.{Value}
 use Rattle.serde_json.specs.View.{view}
@@ -42,7 +42,3 @@ IsValueOf (Some texts) name (Err error.Fault) = Unit {0}
 IsValueOf (Some texts) name (Err error.TooLong) = MAX_DOCUMENT_BYTES < length (shelf_text texts name)
 IsValueOf (Some texts) name (Err error.NotJson) = (json_of (shelf_text texts name) ≡ None) × (length (shelf_text texts name) ≤ MAX_DOCUMENT_BYTES)
 IsValueOf (Some texts) name (Err error.Memory) = Unit {0}
-
--- the bytes are the first of the text
-pub record IsPrefix (bytes text : List ℕ) : Type 0 where
-  pub same : take (length bytes) text ≡ bytes

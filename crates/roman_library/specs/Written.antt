@@ -16,6 +16,7 @@ use Rattle.roman_library.specs.declared.library.Service.{Service}
 abbrev pub catalogue_states : List NamedBeh → ℕ → List (List ℕ)
 catalogue_states catalogue k = slice_index_or (map (λ b. b.states) catalogue) k []
 
+-- a service, by the names of its behaviour and its state
 abbrev pub service_value : List NamedBeh → Service → Data
 service_value catalogue x =
     object (member (codes "behaviour") (place_value (map behaviour_name catalogue) x.behaviour)

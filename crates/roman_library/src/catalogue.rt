@@ -6,13 +6,15 @@ ghost use Rattle.roman_library.specs.Library.{IsCatalogue};
 ghost use Rattle.roman_library.specs.Refusals.{Loads, CausesLoad};
 
 use crate::listing::{Listed, load_items};
-use crate::looks::{few_items, refused};
+use crate::looks::refused;
 use crate::names::place_of_behaviour;
 use crate::placing::placed;
 use crate::refusal::{LoadError, Part};
 use roman_io::Shelf;
 use roman_model::MAX_BEHAVIOURS;
-use roman_parts::{Behaviour, Environment, List, PartError, read_behaviour, read_name};
+use roman_parts::{
+    Behaviour, Environment, List, PartError, counted_member, read_behaviour, read_name,
+};
 use roman_read::Kind;
 use serde_json::Value;
 use std::alloc::Global;
@@ -33,7 +35,7 @@ pub(crate) fn load_catalogue<F: Shelf>(
     ensures texts { F.texts shelf.new ≡ F.texts shelf.old }
     ensures cause { CausesLoad (F.faults shelf.old) (F.faults shelf.new) result }
 {
-    let items = few_items(v, "behaviours", List::Behaviours, MAX_BEHAVIOURS);
+    let items = counted_member(v, "behaviours", List::Behaviours, 0, MAX_BEHAVIOURS as u32);
     let items = placed(alloc, document, Part::System, items)?;
     load_items(alloc, shelf, document, items, environment)
 }

@@ -1,13 +1,13 @@
 //! Looks into a value, with the refusal of what is missed.
-ghost use Rattle.std.specs.Prelude.{◌≡◌, ◌≤◌, length, IfOk};
-ghost use Rattle.serde_json.specs.View.{view, items_view};
+ghost use Rattle.std.specs.Prelude.{◌≡◌};
+ghost use Rattle.serde_json.specs.View.{view};
 ghost use Rattle.roman_read.specs.Json.{member_of, text_of, number_of, truth_of};
 ghost use Rattle.roman_read.specs.Kinds.{kind_of};
-ghost use Rattle.roman_parts.specs.Reading.{Gives, looked, counted_items};
+ghost use Rattle.roman_parts.specs.Reading.{Gives, looked};
 ghost use Rattle.roman_parts.specs.declared.error.PartError.TheVariants.{Refused};
 
 use roman_parts::{List, PartError};
-use roman_read::{Kind, Miss, list, member, number, text, truth};
+use roman_read::{Kind, Miss, member, number, text, truth};
 use serde_json::Value;
 
 /// The refusal of a member.
@@ -66,43 +66,4 @@ pub(crate) fn truth_at(v: &Value, place: List) -> Result<bool, PartError>
         Ok(found) => Ok(found),
         Err(miss) => Err(missed(miss, place)),
     }
-}
-
-/// The items of a member that is a list of at most so many items.
-pub(crate) fn few_items<'a>(
-    v: &'a Value,
-    name: &str,
-    place: List,
-    most: u8,
-) -> Result<&'a [Value], PartError>
-    ensures items { Gives (λ x. items_view x.now) result (counted_items place name.now 0 most (view v.now)) }
-    ensures few { IfOk result (λ x. length x.now ≤ most) }
-{
-    counted_items(v, name, place, 0, most)
-}
-
-#[tactic(auto, using(crate::proofs::ReadingLemmas::counts), unfolding(roman_parts::specs::Reading::items_at, roman_parts::specs::Reading::counted_items))]
-/// The items of a member that is a list of so many items at least and at most.
-pub(crate) fn counted_items<'a>(
-    v: &'a Value,
-    name: &str,
-    place: List,
-    least: u8,
-    most: u8,
-) -> Result<&'a [Value], PartError>
-    ensures items { Gives (λ x. items_view x.now) result (counted_items place name.now least most (view v.now)) }
-    ensures some { IfOk result (λ x. least ≤ length x.now) }
-    ensures few { IfOk result (λ x. length x.now ≤ most) }
-{
-    let items = match list(member_at(v, name, place)?) {
-        Ok(items) => items,
-        Err(miss) => return Err(missed(miss, place)),
-    };
-    if items.len() < least as usize {
-        return Err(refused(Kind::Count, place));
-    }
-    if items.len() > most as usize {
-        return Err(refused(Kind::Count, place));
-    }
-    Ok(items)
 }

@@ -1,4 +1,4 @@
-//! Names of behaviours and services.
+//! Names of behaviours, services and targets.
 ghost use Rattle.std.specs.Prelude.{◌≡◌, ◌<◌, map, length, IfSome};
 ghost use Rattle.roman_read.specs.Names.{place_of};
 ghost use Rattle.roman_library.specs.Library.{behaviour_name, service_name};

@@ -4,7 +4,7 @@ ghost use Rattle.serde_json.specs.View.{view};
 ghost use Rattle.roman_parts.specs.Parts.{target_of};
 ghost use Rattle.roman_parts.specs.Reading.{Gives};
 ghost use Rattle.roman_library.specs.Documents.{environment_in, target_in};
-ghost use Rattle.roman_library.specs.Library.{IsTarget};
+ghost use Rattle.roman_parts.specs.Named.{IsTarget};
 ghost use Rattle.roman_library.specs.Refusals.{Loads, CausesLoad};
 
 use crate::looks::member_at;

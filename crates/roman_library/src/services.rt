@@ -10,12 +10,12 @@ ghost use Rattle.roman_library.specs.Refusals.{Loads, IsQuiet, placed};
 ghost use Rattle.roman_library.specs.declared.refusal.Part.TheVariants as part;
 
 use crate::library::Service;
-use crate::looks::{few_items, member_at, refused, text_at, truth_at};
+use crate::looks::{member_at, refused, text_at, truth_at};
 use crate::names::{place_of_behaviour, place_of_service};
 use crate::placing::placed;
 use crate::refusal::{LoadError, Part};
 use roman_model::{MAX_BEHAVIOURS, MAX_SERVICES};
-use roman_parts::{Behaviour, List, PartError, read_name};
+use roman_parts::{Behaviour, List, PartError, counted_member, place_in, read_name};
 use roman_read::{Kind, member};
 use serde_json::Value;
 use std::alloc::Global;
@@ -35,7 +35,7 @@ pub(crate) fn read_services(
     ensures few { IfOk result (λ services. vec_len services ≤ MAX_SERVICES) }
     ensures quiet { IsQuiet result }
 {
-    let items = few_items(v, "services", List::Services, MAX_SERVICES);
+    let items = counted_member(v, "services", List::Services, 0, MAX_SERVICES as u32);
     let items = placed(alloc, document, Part::System, items)?;
     read_items(alloc, document, items, version, catalogue)
 }
@@ -102,19 +102,15 @@ fn read_behaviour_place(v: &Value, catalogue: &[Behaviour]) -> Result<u8, PartEr
     }
 }
 
-#[tactic(auto, unfolding(crate::specs::Documents::state_of, roman_parts::specs::Lists::place_in))]
+#[tactic(auto, unfolding(crate::specs::Documents::state_of))]
 /// A service's state.
 fn read_state(v: &Value, behaviour: &Behaviour) -> Result<u8, PartError>
     ensures state { Gives (λ x. x) result (state_of behaviour.now (view v.now)) }
     ensures within { IfOk result (λ state. state < behaviour.now.beh.states) }
 {
-    let state = match member(v, "state") {
-        Ok(state) => text_at(state, List::State)?,
-        Err(_) => return Ok(behaviour.start()),
-    };
-    match behaviour.states().find(state.as_bytes()) {
-        Some(place) => Ok(place as u8),
-        None => Err(refused(Kind::Unknown, List::State)),
+    match member(v, "state") {
+        Ok(state) => place_in(behaviour.states(), state, List::State, 0),
+        Err(_) => Ok(behaviour.start()),
     }
 }
 

@@ -5,26 +5,27 @@ ghost use Rattle.roman_model.specs.System.{IsEnv};
 ghost use Rattle.roman_parts.specs.Reading.{Gives};
 ghost use Rattle.roman_multi.specs.Combining as combining;
 ghost use Rattle.roman_library.specs.Documents.{broken_rule, combined_of, parts_in, targets_in};
-ghost use Rattle.roman_library.specs.Library.{ArePartsOf, IsCatalogue, IsTarget};
+ghost use Rattle.roman_parts.specs.Named.{IsTarget};
+ghost use Rattle.roman_library.specs.Library.{ArePartsOf, IsCatalogue};
 ghost use Rattle.roman_library.specs.Refusals.{Loads, CausesLoad};
 
 use crate::listing::{Listed, load_items};
-use crate::looks::{counted_items, refused};
+use crate::looks::refused;
 use crate::names::place_of_target;
 use crate::parts::{load_target, target_over};
 use crate::placing::placed;
 use crate::refusal::{LoadError, Part};
 use roman_io::Shelf;
 use roman_multi::{CombineError, Combined, Named, combine};
-use roman_parts::{Behaviour, Environment, List, PartError, read_name};
+use roman_parts::{Behaviour, Environment, List, PartError, counted_member, read_name};
 use roman_read::Kind;
 use serde_json::Value;
 use std::alloc::Global;
 
 /// The fewest and the most targets.
-const FEWEST: u8 = 2;
+const FEWEST: u32 = 2;
 
-const MOST: u8 = 4;
+const MOST: u32 = 4;
 
 /// The version whose documents have several targets.
 const SEVERAL: u64 = 3;
@@ -78,7 +79,7 @@ fn load_targets<F: Shelf>(
     ensures texts { F.texts shelf.new ≡ F.texts shelf.old }
     ensures cause { CausesLoad (F.faults shelf.old) (F.faults shelf.new) result }
 {
-    let items = counted_items(v, "targets", List::Targets, FEWEST, MOST);
+    let items = counted_member(v, "targets", List::Targets, FEWEST, MOST);
     let items = placed(alloc, document, Part::System, items)?;
     load_items(alloc, shelf, document, items, environment)
 }
@@ -87,7 +88,7 @@ impl Listed for Named {
     ghost use Rattle.std.specs.Prelude.{All};
     ghost use Rattle.roman_library.specs.Documents.{named_target_of};
     ghost use Rattle.roman_library.specs.declared.refusal.Part.TheVariants as part;
-    ghost use Rattle.roman_library.specs.Library.{IsTarget};
+    ghost use Rattle.roman_parts.specs.Named.{IsTarget};
 
     ghost part_at = { part.Target };
 

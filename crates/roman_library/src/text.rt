@@ -41,10 +41,9 @@ impl DocError {
 }
 
 impl From<AllocError> for DocError {
-    ghost use Rattle.roman_library.specs.declared.text.DocError.{DocError};
     ghost use Rattle.roman_library.specs.declared.text.DocError.TheVariants.{Memory};
 
-    ghost from_gives = { λ e r. r ≡ Memory };
+    ghost from_gives = { λ _ error. error ≡ Memory };
 
     fn from(_error: AllocError) -> DocError {
         DocError::Memory

@@ -1,14 +1,10 @@
 -- Words that are numbered as names, one after another.
-use Rattle.std.proofs.Common.{◌≡◌, ℕ, ◌+◌, ◌<◌, ◌&&◌, ◌++◌, ◌∷◌, [], List, length, get_or, take, drop, map, Option, Some, None, IsTrue, Bor, is_none, refl, ap, sym, ◌∙◌, subst, add-one, drop-cons}
-use Rattle.std.proofs.lemmas.Bool.{and_parts, false≢true}
+use Rattle.std.proofs.Common.{◌≡◌, ℕ, ◌+◌, ◌<◌, ◌&&◌, ◌++◌, ◌∷◌, [], List, length, get_or, take, drop, map, None, IsTrue, Bor, is_none, refl, ap, sym, ◌∙◌, subst, add-one, drop-cons}
+use Rattle.std.proofs.lemmas.Bool.{and_parts}
 use Rattle.std.proofs.lemmas.List.{take_more, get_or-map, length-map, length_push}
 use Rattle.roman_read.specs.Names.{is_name, place_of}
+use Rattle.roman_parts.proofs.CallerLemmas.{none_is}
 use Rattle.roman_make.specs.Names.{are_new}
-
--- what is tested to be nothing is nothing
-is_nothing : {X : Type 0} (o : Option X) → IsTrue (is_none o) → o ≡ None
-is_nothing None t = refl
-is_nothing (Some x) t = absurd (false≢true t)
 
 -- the word is a name, no word before it is the same, and those behind it go on
 pub record IsNext (before : List (List ℕ)) (word : List ℕ) (rest : List (List ℕ)) : Type 0 where
@@ -20,7 +16,7 @@ next_word : (before : List (List ℕ)) (word : List ℕ) (rest : List (List ℕ)
 next_word before word rest new =
     let parts = and_parts (is_name word && is_none (place_of before word)) (are_new (before ++ word ∷ []) rest) new in
     let first = and_parts (is_name word) (is_none (place_of before word)) parts.0 in
-    record { name = first.0; new = is_nothing (place_of before word) first.1; further = parts.1 }
+    record { name = first.0; new = none_is (place_of before word) first.1; further = parts.1 }
 
 -- the words behind their references
 abbrev pub shown : List (Bor (List ℕ)) → List (List ℕ)

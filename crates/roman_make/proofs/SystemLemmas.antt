@@ -1,13 +1,13 @@
 -- The library that is made is the one of the definition, and is a library.
-use Rattle.std.proofs.Common.{◌≡◌, ℕ, zero, suc, ◌≤◌, ◌∷◌, [], List, length, map, take, ap, sym, subst, inl, inr, lit<, lit≤, arith}
+use Rattle.std.proofs.Common.{◌≡◌, ℕ, zero, suc, ◌≤◌, ◌∷◌, [], List, length, map, take, sym, subst, inl, inr, lit<, lit≤, arith}
 use Rattle.std.proofs.lemmas.List.{length-map, length-take-le}
 use Rattle.std.proofs.lemmas.List.Elements.{All-cons, All-map}
 use Rattle.std.proofs.lemmas.Simd.{map-map}
 use Rattle.roman_model.specs.Lists.{IsIn, HasNoRepeats}
 use Rattle.roman_model.specs.System.{IsEnv}
-use Rattle.roman_model.proofs.CallerLemmas.{HasNoRepeats-below, HasNoRepeats-map}
-use Rattle.roman_parts.specs.Named.{NamedEnv, NamedBeh, NamedTarget}
-use Rattle.roman_library.specs.Library.{PlainLibrary, IsLibrary, AreServices, IsService, IsBehaviour, IsTarget, service_name}
+use Rattle.roman_model.proofs.CallerLemmas.{HasNoRepeats-below, HasNoRepeats-map, in_map}
+use Rattle.roman_parts.specs.Named.{NamedEnv, NamedBeh, NamedTarget, IsBehaviour, IsTarget}
+use Rattle.roman_library.specs.Library.{PlainLibrary, IsLibrary, AreServices, IsService, service_name}
 use Rattle.roman_make.specs.Made.{number_in, floor, worker, worker_names, idle_worker, shift, made}
 
 -- ---- names that don't repeat
@@ -15,12 +15,7 @@ use Rattle.roman_make.specs.Made.{number_in, floor, worker, worker_names, idle_w
 -- numbers of names don't repeat, so the names don't
 once_from_map : {X Y : Type 0} (f : X → Y) (xs : List X) → HasNoRepeats (map f xs) → HasNoRepeats xs
 once_from_map f [] once = tt
-once_from_map {X} f (x ∷ xs) once = (λ i. once.0 (in_map xs i), once_from_map f xs once.1)
-  where
-    in_map : (ys : List X) → IsIn x ys → IsIn (f x) (map f ys)
-    in_map [] i = absurd i
-    in_map (y ∷ ys) (inl e) = inl (ap f e)
-    in_map (y ∷ ys) (inr i) = inr (in_map ys i)
+once_from_map f (x ∷ xs) once = (λ i. once.0 (in_map f x xs i), once_from_map f xs once.1)
 
 in_take : {X : Type 0} (n : ℕ) (x : X) (xs : List X) → IsIn x (take n xs) → IsIn x xs
 in_take zero x xs i = absurd i

@@ -18,9 +18,11 @@ Row = List ℕ × List ℕ × List ℕ
 
 -- ---- the environment
 
+-- the name of the one state
 abbrev pub floor_states : List (List ℕ)
 floor_states = codes "floor" ∷ []
 
+-- the names of the actions, by number
 abbrev pub floor_actions : List (List ℕ)
 floor_actions = codes "start" ∷ codes "stop" ∷ codes "mend" ∷ codes "hold" ∷ codes "go" ∷ []
 
@@ -56,6 +58,7 @@ machine states finals rows = normal_beh 1 5 (record {
 
 -- ---- the workers
 
+-- the names of a worker's states, by number
 abbrev pub worker_states : List (List ℕ)
 worker_states = codes "idle" ∷ codes "busy" ∷ codes "worn" ∷ []
 
@@ -92,9 +95,11 @@ idle_worker name = record { name = name; behaviour = 0; state = 0; frozen = fals
 
 -- ---- the target
 
+-- the names of the target's states, by number
 abbrev pub shift_states : List (List ℕ)
 shift_states = codes "rest" ∷ codes "work" ∷ codes "tidy" ∷ codes "pause" ∷ []
 
+-- a shift starts, may pause, stops, and is tidied up
 abbrev pub shift_rows : List Row
 shift_rows =
     (codes "rest", codes "start", codes "work") ∷

@@ -1,7 +1,7 @@
 //! The parts of the made systems.
 ghost use Rattle.std.specs.Prelude.{◌≡◌, ◌≤◌, length, map, take, IfOk, IsTrue};
 ghost use Rattle.std.specs.List.{list_all};
-ghost use Rattle.roman_library.specs.Library.{IsBehaviour, IsTarget};
+ghost use Rattle.roman_parts.specs.Named.{IsBehaviour, IsTarget};
 ghost use Rattle.roman_make.specs.Made.{floor, idle_worker, shift, worker, worker_names};
 ghost use Rattle.roman_model.specs.System.{IsEnv};
 ghost use Rattle.roman_read.specs.Names.{is_name};

@@ -1,18 +1,20 @@
 -- Which rule forbids the targets to be combined.
-use Rattle.std.proofs.Common.{◌≡◌, ℕ, ◌<◌, ◌≤◌, List, [], ◌∷◌, map, length, Some, None, Err, IsTrue, IsFalse, refl, ap, ap₂, ◌∙◌, arith}
+use Rattle.std.proofs.Common.{◌≡◌, ℕ, ◌<◌, ◌≤◌, List, [], ◌∷◌, map, length, Some, None, Err, IsTrue, IsFalse, refl, ap, ap₂, ◌∙◌, subst, arith}
 use Rattle.std.proofs.lemmas.Bool.{ltb-false, lt-ltb, le-ltb, true≢false}
 use Rattle.std.proofs.lemmas.List.{length-map}
 use Rattle.roman_model.specs.Lists.{below, product_of}
 use Rattle.roman_model.specs.Combined.{target_sizes, combined_env, combined_target}
+use Rattle.roman_model.specs.Numbers.{count}
 use Rattle.roman_model.specs.declared.limits.TheConstants.{MAX_STATES, MAX_ACTIONS}
 use Rattle.roman_model.specs.declared.request.Request.{Request}
 use Rattle.roman_model.proofs.CallerLemmas.{length-below}
 use Rattle.roman_parts.specs.Named.{NamedEnv, NamedBeh, NamedTarget}
 use Rattle.roman_multi.specs.Combining.{PlainCombined, machines, combined_state_names, request_names, requests_in, has_many_states, has_bad_count, has_long_name, has_one_name, forbidding, Keeps, combined_parts, combined_behaviour}
-use Rattle.roman_multi.specs.Lists.{AreCombinedNames}
+use Rattle.roman_multi.specs.Lists.{AreCombinedNames, flat}
 use Rattle.roman_multi.specs.declared.parts.Named.{Named}
 use Rattle.roman_multi.specs.declared.error.CombineError.{CombineError}
 use Rattle.roman_multi.specs.declared.error.CombineError.TheVariants as error
+use Rattle.roman_multi.proofs.FlatLemmas.{fits_within}
 
 pub forbids_states : (env : NamedEnv) (targets : List Named) → IsTrue (has_many_states targets) → forbidding env targets ≡ Some error.States
 unfolding forbidding
@@ -58,6 +60,21 @@ few_states targets few = le-ltb MAX_STATES (product_of (target_sizes (machines t
 
 pub many_states : (targets : List Named) → (product_of (target_sizes (machines targets)) ≤ MAX_STATES → ⊥) → IsTrue (has_many_states targets)
 many_states targets many = lt-ltb MAX_STATES (product_of (target_sizes (machines targets))) (omega arith)
+
+-- the combined states are few enough, and so are the combined actions, of which there are some
+pub record HasGoodCounts (env : NamedEnv) (targets : List Named) : Type 0 where
+  pub few : product_of (target_sizes (machines targets)) ≤ MAX_STATES
+  pub states : IsFalse (has_many_states targets)
+  pub actions : IsFalse (has_bad_count (requests_in env targets))
+  pub some : (0 < length (requests_in env targets)) × (length (requests_in env targets) ≤ MAX_ACTIONS)
+
+-- so they are where their shape fits and the count of the requests isn't bad
+pub good_counts : (env : NamedEnv) (targets : List Named) (sizes : List ℕ) (cap : ℕ) (requests : List Request) → sizes ≡ target_sizes (machines targets) → cap ≡ MAX_STATES → count (flat sizes) ≤ cap →
+    requests ≡ requests_in env targets → IsFalse (has_bad_count requests) → HasGoodCounts env targets
+good_counts env targets sizes cap requests same is fits asked good =
+    let few : product_of (target_sizes (machines targets)) ≤ MAX_STATES = fits_within sizes (target_sizes (machines targets)) cap same is fits in
+    let actions : IsFalse (has_bad_count (requests_in env targets)) = subst (λ rs. IsFalse (has_bad_count rs)) asked good in
+    record { few = few; states = few_states targets few; actions = actions; some = good_count (requests_in env targets) actions }
 
 pub state_count : (targets : List Named) → length (combined_state_names targets) ≡ product_of (target_sizes (machines targets))
 state_count targets = length-map (below (product_of (target_sizes (machines targets)))) _ ∙ length-below (product_of (target_sizes (machines targets)))

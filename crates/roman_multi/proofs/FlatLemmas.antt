@@ -9,8 +9,8 @@ use Rattle.roman_model.specs.Combined.{target_sizes, combined_start}
 use Rattle.roman_model.proofs.CallerLemmas.{IsPairOf-at}
 use Rattle.roman_model.specs.declared.limits.TheConstants.{MAX_STATES}
 use Rattle.roman_radix.specs.Radix.{with_part}
-use Rattle.roman_parts.specs.Named.{NamedEnv}
-use Rattle.roman_multi.specs.Combining.{IsKnown, machines}
+use Rattle.roman_parts.specs.Named.{NamedEnv, IsTarget}
+use Rattle.roman_multi.specs.Combining.{machines}
 use Rattle.roman_multi.specs.declared.parts.Named.{Named}
 use Rattle.roman_multi.proofs.KnownLemmas.{machines_known, size_is, starts_below}
 
@@ -59,7 +59,7 @@ moved_is sizes shape t k b next same l is =
     pair = IsPairOf-at (flat sizes) t (subst (λ n. t < n) (sym (count-flat sizes)) l)
 
 -- the starts are a pair of the shape
-pub starts_pair : (env : NamedEnv) (targets : List Named) (shape : Sizes) (starts : List ℕ) → All (λ named. IsKnown env named.target) targets → shape ≡ flat (target_sizes (machines targets)) →
+pub starts_pair : (env : NamedEnv) (targets : List Named) (shape : Sizes) (starts : List ℕ) → All (λ named. IsTarget env named.target) targets → shape ≡ flat (target_sizes (machines targets)) →
     starts ≡ map (λ target. target.start) (machines targets) → IsPairOf shape (record { t = 0; e = 0; bs = starts })
 starts_pair env targets shape starts known same is =
     subst (λ (n : Sizes). IsPairOf n (record { t = 0; e = 0; bs = starts })) (sym same) (record {

@@ -11,9 +11,9 @@ use Rattle.roman_model.specs.Several.{Several}
 use Rattle.roman_model.specs.Combined.{target_sizes, IsSeveral}
 use Rattle.roman_model.specs.declared.limits.TheConstants.{MAX_STATES, MAX_ACTIONS}
 use Rattle.roman_model.proofs.CallerLemmas.{from_map, target_size_at}
-use Rattle.roman_parts.specs.Named.{NamedEnv}
+use Rattle.roman_parts.specs.Named.{NamedEnv, IsTarget}
 use Rattle.roman_parts.proofs.CallerLemmas.{IsOver-states}
-use Rattle.roman_multi.specs.Combining.{IsKnown, machines, requests_in}
+use Rattle.roman_multi.specs.Combining.{machines, requests_in}
 use Rattle.roman_multi.specs.declared.parts.Named.{Named}
 
 -- what holds of all holds of what is read
@@ -30,12 +30,12 @@ pub known_more : {X : Type 0} (P : X → Type 0) (xs : List X) (i : ℕ) (d : X)
 known_more P xs i d all l here = subst (All P) (sym (take_more xs i d l)) (All-push P (take i xs) (get_or xs i d) all here)
 
 -- the machines are in range and deterministic
-pub machines_known : (env : NamedEnv) (targets : List Named) → All (λ named. IsKnown env named.target) targets → (target : Beh) → IsIn target (machines targets) →
+pub machines_known : (env : NamedEnv) (targets : List Named) → All (λ named. IsTarget env named.target) targets → (target : Beh) → IsIn target (machines targets) →
     IsBeh env.env target × IsDeterministic target
 machines_known env targets known target i =
     let (named, j, same) = from_map (λ (named : Named). named.target.beh) target targets i in
-    let is : IsKnown env named.target = all_in (λ (named : Named). IsKnown env named.target) targets named known j in
-    subst (λ b. IsBeh env.env b × IsDeterministic b) (sym same) (is.known env.env (sym is.over.env_states) (sym is.over.actions), is.single)
+    let is : IsTarget env named.target = all_in (λ (named : Named). IsTarget env named.target) targets named known j in
+    subst (λ b. IsBeh env.env b × IsDeterministic b) (sym same) (is.known env.env (sym is.env_states) (sym is.actions), is.single)
 
 -- the machine at a place, and how many states it has
 pub machine_at : (targets : List Named) (i : ℕ) (d : Named) → i < length targets → slice_get (machines targets) i ≡ Some (get_or targets i d).target.beh
@@ -70,15 +70,15 @@ starts_below env [] ok = tt
 starts_below env (target ∷ targets) ok = ((ok target (inl refl)).0.start, starts_below env targets (λ x i. ok x (inr i)))
 
 -- no size is 0
-pub sizes_positive : (env : NamedEnv) (targets : List Named) → All (λ named. IsKnown env named.target) targets → All (λ size. 0 < size) (target_sizes (machines targets))
+pub sizes_positive : (env : NamedEnv) (targets : List Named) → All (λ named. IsTarget env named.target) targets → All (λ size. 0 < size) (target_sizes (machines targets))
 sizes_positive env targets known k d l =
     let within : k < length targets = subst (λ n. k < n) (sizes_length targets) l in
     all_of targets known k d within
   where
-    all_of : (targets : List Named) → All (λ named. IsKnown env named.target) targets → (k d : ℕ) → k < length targets → 0 < get_or (target_sizes (machines targets)) k d
+    all_of : (targets : List Named) → All (λ named. IsTarget env named.target) targets → (k d : ℕ) → k < length targets → 0 < get_or (target_sizes (machines targets)) k d
     all_of [] known k d l = absurd (omega arith)
     all_of (named ∷ targets) known zero d l =
-        let is : IsKnown env named.target = known 0 named (omega arith) in
+        let is : IsTarget env named.target = known 0 named (omega arith) in
         (IsOver-states named.target.env_states named.target.actions named.target.beh is.known).0
     all_of (named ∷ targets) known (suc k) d l = all_of targets (λ j e m. known (suc j) e (omega arith)) k d (omega arith)
 
@@ -86,7 +86,7 @@ sizes_positive env targets known k d l =
 abbrev pub several : NamedEnv → List Named → Several
 several env targets = record { env = env.env; targets = machines targets; seats = [] }
 
-pub several_is : (env : NamedEnv) (targets : List Named) → IsEnv env.env → All (λ named. IsKnown env named.target) targets → product_of (target_sizes (machines targets)) ≤ MAX_STATES →
+pub several_is : (env : NamedEnv) (targets : List Named) → IsEnv env.env → All (λ named. IsTarget env named.target) targets → product_of (target_sizes (machines targets)) ≤ MAX_STATES →
     (0 < length (requests_in env targets)) × (length (requests_in env targets) ≤ MAX_ACTIONS) → IsSeveral (several env targets)
 several_is env targets ok known few some = record {
   env = ok;

@@ -1,11 +1,11 @@
 -- Lists that loops make over the numbers below a bound.
-use Rattle.std.proofs.Common.{◌≡◌, ℕ, suc, ◌<◌, ◌+◌, Bool, false, not, List, [], ◌∷◌, ◌++◌, length, Option, None, Some, IsTrue, IsFalse, is_some, MatchOption, flat_map, slice_get, get_or, refl, sym, ap, ap₂, ◌∙◌, add-one}
+use Rattle.std.proofs.Common.{◌≡◌, ℕ, suc, ◌<◌, ◌+◌, Bool, false, not, List, [], ◌∷◌, ◌++◌, length, Option, None, Some, IsTrue, IsFalse, is_some, MatchOption, flat_map, slice_get, get_or, refl, sym, ap, ap₂, ◌∙◌, add-one, append_assoc}
 use Rattle.std.specs.List.{list_any}
 use Rattle.std.proofs.lemmas.Bool.{or_from}
 use Rattle.std.proofs.lemmas.List.Folds.{list_any-append}
 use Rattle.std.proofs.lemmas.Option.{slice_get-get_or}
 use Rattle.roman_model.specs.Lists.{below, is_empty}
-use Rattle.roman_model.proofs.CallerLemmas.{any_from, in_below}
+use Rattle.roman_model.proofs.CallerLemmas.{any_from, flat_map_row, in_below}
 
 -- what a target's step says of its next states
 pub goes_is : (o : Option ℕ) (xs : List ℕ) → MatchOption o (xs ≡ []) (λ to. xs ≡ to ∷ []) → is_some o ≡ not (is_empty xs)
@@ -19,27 +19,12 @@ none_more p n before here = list_any-append p (below n) (n ∷ []) ∙ or_from (
 pub any_at : (p : ℕ → Bool) (n m : ℕ) → m < n → IsTrue (p m) → IsTrue (list_any p (below n))
 any_at p n m l t = any_from p m (below n) (in_below n m l) t
 
-append_none : {X : Type 0} (xs : List X) → xs ++ [] ≡ xs
-append_none [] = refl
-append_none (x ∷ xs) = ap (λ ys. x ∷ ys) (append_none xs)
-
-append_again : {X : Type 0} (xs ys zs : List X) → (xs ++ ys) ++ zs ≡ xs ++ (ys ++ zs)
-append_again [] ys zs = refl
-append_again (x ∷ xs) ys zs = ap (λ ws. x ∷ ws) (append_again xs ys zs)
-
-flat_map-append : {X Y : Type 0} (f : X → List Y) (xs ys : List X) → flat_map f (xs ++ ys) ≡ flat_map f xs ++ flat_map f ys
-flat_map-append f [] ys = refl
-flat_map-append f (x ∷ xs) ys = ap (λ zs. f x ++ zs) (flat_map-append f xs ys) ∙ sym (append_again (f x) (flat_map f xs) (flat_map f ys))
-
-pub flat_map_more : {Y : Type 0} (f : ℕ → List Y) (n : ℕ) → flat_map f (below (suc n)) ≡ flat_map f (below n) ++ f n
-flat_map_more f n = flat_map-append f (below n) (n ∷ []) ∙ ap (λ ys. flat_map f (below n) ++ ys) (append_none (f n))
-
 pub flat_map_pushed : {Y : Type 0} (f : ℕ → List Y) (n : ℕ) (old now new ys : List Y) → now ≡ old ++ flat_map f (below n) → new ≡ now ++ ys → ys ≡ f n → new ≡ old ++ flat_map f (below (n + 1))
 flat_map_pushed f n old now new ys before step is =
-    step ∙ ap₂ (λ us vs. us ++ vs) before is ∙ append_again old (flat_map f (below n)) (f n) ∙ ap (λ ys. old ++ ys) (sym (flat_map_more f n) ∙ ap (λ m. flat_map f (below m)) (sym (add-one n)))
+    step ∙ ap₂ (λ us vs. us ++ vs) before is ∙ append_assoc old (flat_map f (below n)) (f n) ∙ ap (λ ys. old ++ ys) (sym (flat_map_row f n) ∙ ap (λ m. flat_map f (below m)) (sym (add-one n)))
 
 pub flat_map_begun : {Y : Type 0} (f : ℕ → List Y) (n : ℕ) (now new ys : List Y) → now ≡ flat_map f (below n) → new ≡ now ++ ys → ys ≡ f n → new ≡ flat_map f (below (n + 1))
-flat_map_begun f n now new ys before step is = step ∙ ap₂ (λ us vs. us ++ vs) before is ∙ sym (flat_map_more f n) ∙ ap (λ m. flat_map f (below m)) (sym (add-one n))
+flat_map_begun f n now new ys before step is = step ∙ ap₂ (λ us vs. us ++ vs) before is ∙ sym (flat_map_row f n) ∙ ap (λ m. flat_map f (below m)) (sym (add-one n))
 
 -- a step that is found
 pub goes_found : (o : Option ℕ) (xs : List ℕ) (b : Bool) → MatchOption o (xs ≡ []) (λ to. xs ≡ to ∷ []) → b ≡ is_some o → IsTrue b → IsTrue (not (is_empty xs))

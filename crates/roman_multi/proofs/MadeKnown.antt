@@ -8,9 +8,9 @@ use Rattle.roman_model.specs.declared.limits.TheConstants.{MAX_STATES}
 use Rattle.roman_model.specs.declared.request.Request.{Request}
 use Rattle.roman_model.proofs.CallerLemmas.{IsBeh-made, combined_system}
 use Rattle.std.proofs.lemmas.Bool.{ltb-false}
-use Rattle.roman_parts.specs.Named.{NamedEnv, NamedBeh, IsOver}
+use Rattle.roman_parts.specs.Named.{NamedEnv, NamedBeh, IsOver, IsTarget}
 use Rattle.roman_parts.proofs.CallerLemmas.{IsOver-states, IsOver-start}
-use Rattle.roman_multi.specs.Combining.{IsKnown, machines, requests_in, has_many_states, has_bad_count, has_long_name, has_one_name, forbidding}
+use Rattle.roman_multi.specs.Combining.{machines, requests_in, has_many_states, has_bad_count, has_long_name, has_one_name, forbidding}
 use Rattle.roman_multi.specs.declared.parts.Named.{Named}
 use Rattle.roman_multi.specs.declared.error.CombineError.TheVariants as error
 use Rattle.roman_multi.proofs.KnownLemmas.{several, several_is}
@@ -51,7 +51,7 @@ combined_behaviour_over env requests behaviour known =
     IsOver-made env.env.states (length requests) behaviour.beh.states behaviour.beh.start (is_final behaviour.beh) _
     (IsOver-states behaviour.env_states behaviour.actions behaviour.beh known) (IsOver-start behaviour.env_states behaviour.actions behaviour.beh known)
 
-module _ (env : NamedEnv) (targets : List Named) (world : IsEnv env.env) (known : All (λ named. IsKnown env named.target) targets) (allowed : forbidding env targets ≡ None) where
+module _ (env : NamedEnv) (targets : List Named) (world : IsEnv env.env) (known : All (λ named. IsTarget env named.target) targets) (allowed : forbidding env targets ≡ None) where
   pub combined_is_system : IsSys (combined (several env targets))
   combined_is_system =
       let are = are_allowed env targets allowed in

@@ -1,6 +1,5 @@
 -- The steps that the loops list are those of the combined behaviours, and the requests are the combined actions.
 use Rattle.std.proofs.Common.{◌≡◌, ℕ, ◌<◌, ◌≤◌, ◌^◌, ◌==◌, ◌&&◌, Bool, List, [], ◌∷◌, map, length, Option, Some, None, IsTrue, flat_map, filter, slice_get, inl, inr, refl, sym, ap, ap₂, ◌∙◌, subst, get_or, arith}
-use Rattle.std.proofs.lemmas.Bool.{eq-eqb, eqb-true}
 use Rattle.roman_guard.specs.Meaning.{states_of}
 use Rattle.roman_model.specs.Lists.{IsIn, below}
 use Rattle.roman_model.specs.System.{Move, Beh, Env, has, has_move, is_final, IsBeh}
@@ -10,22 +9,17 @@ use Rattle.roman_model.specs.Made.{beh_from}
 use Rattle.roman_model.specs.Combined.{has_move_on, combined_beh, stands_in, uses, requests_of}
 use Rattle.roman_model.specs.declared.request.Request.{Request}
 use Rattle.roman_parts.specs.Listed.{move_of, listed_beh, AreMoves}
-use Rattle.roman_multi.specs.Lists.{moves_in, moves_by, moves_from, listed_moves, moves_on, used_at, used_requests}
-use Rattle.roman_model.proofs.CallerLemmas.{same_test, any_true, any_from, in_map, from_map, in_flat_map, from_flat_map, in_below, from_below, in_filter, filter_in, filter_same, in_beh_next, from_beh_next, flat_map_same_in, beh_from_same, move_test, move_passes, get_in, stands_uses}
+use Rattle.roman_multi.specs.Lists.{moves_in, moves_by, moves_from, listed_moves, moves_on, used_at}
+use Rattle.roman_model.proofs.CallerLemmas.{same_test, any_true, any_from, in_map, from_map, in_flat_map, from_flat_map, in_below, from_below, filter_in, filter_same, in_beh_next, from_beh_next, flat_map_same_in, beh_from_same, listed_number, move_test, move_passes, number_listed, get_in, stands_uses}
 use Rattle.std.proofs.Common.{All}
 use Rattle.std.proofs.lemmas.List.{length-map}
-use Rattle.roman_parts.specs.Named.{NamedEnv}
-use Rattle.roman_multi.specs.Combining.{IsKnown, machines, requests_in}
+use Rattle.roman_parts.specs.Named.{NamedEnv, IsTarget}
+use Rattle.roman_multi.specs.Combining.{machines, requests_in}
 use Rattle.roman_multi.specs.declared.parts.Named.{Named}
 use Rattle.roman_multi.proofs.KnownLemmas.{machines_known}
 use Rattle.roman_multi.proofs.TripleLemmas.{get_or_in}
 use Rattle.roman_guard.proofs.CallerLemmas.{states_of-single}
-
-pub has_in : (ns : List ℕ) (n : ℕ) → IsTrue (has ns n) → IsIn n ns
-has_in ns n t = let (m, i, same) = any_true (λ m. m == n) ns t in subst (λ k. IsIn k ns) (eqb-true m n same) i
-
-pub in_has : (ns : List ℕ) (n : ℕ) → IsIn n ns → IsTrue (has ns n)
-in_has ns n i = any_from (λ m. m == n) n ns i (eq-eqb n n refl)
+use Rattle.roman_parts.proofs.CallerLemmas.{has_filter}
 
 from_moves : (env_states actions states : ℕ) (next : ℕ → ℕ → ℕ → List ℕ) (x : ℕ × ℕ × ℕ × ℕ) → IsIn x (listed_moves env_states actions states next) →
     (e : ℕ) × (e < env_states) × (x.0 < states) × (x.2 < actions) × (x.1 ≡ 2 ^ e) × IsIn x.3 (next x.0 x.2 e)
@@ -68,7 +62,7 @@ listed_moves_made env_states actions states start fins next few =
     let guard : states_of (2 ^ e) ≡ e ∷ [] = single e he in
     any_from (λ m. m.from == b && m.action == n && has m.guard e && m.to == b') (record { from = b; guard = states_of (2 ^ e); action = n; to = b' })
     (map move_of (listed_moves env_states actions states next))
-    (in_map move_of (b, 2 ^ e, n, b') (listed_moves env_states actions states next) (in_moves env_states actions states next b e n b' hb he hn (has_in (next b n e) b' t)))
+    (in_map move_of (b, 2 ^ e, n, b') (listed_moves env_states actions states next) (in_moves env_states actions states next b e n b' hb he hn (number_listed (next b n e) b' t)))
     (move_passes b e n b' (states_of (2 ^ e)) (subst (λ es. IsIn e es) (sym guard) (inl refl)))))
   where
     single : (e : ℕ) → e < env_states → states_of (2 ^ e) ≡ e ∷ []
@@ -85,13 +79,8 @@ listed_moves_made env_states actions states start fins next few =
         let e3 : y.3 ≡ b' = ap (λ (z : Move). z.to) (sym same) ∙ to in
         let guard2 : IsIn e (d ∷ []) = subst (λ es. IsIn e es) (single d hd) (subst (λ w. IsIn e (states_of w)) is (subst (λ (z : Move). IsIn e z.guard) same guard)) in
         let e1 : e ≡ d = elim guard2 [ inl f ↦ f | inr none ↦ absurd none ] in
-        in_has (next b n e) b'
+        listed_number (next b n e) b'
         (subst (λ k. IsIn k (next b n e)) e3 (subst (λ k. IsIn y.3 (next b k e)) e2 (subst (λ k. IsIn y.3 (next k y.2 e)) e0 (subst (λ k. IsIn y.3 (next y.0 y.2 k)) (sym e1) own))))
-
-pub has-filter : (p : ℕ → Bool) (n b : ℕ) → b < n → has (filter p (below n)) b ≡ p b
-has-filter p n b l = same_test (has (filter p (below n)) b) (p b)
-    (λ t. (filter_in p b (below n) (has_in (filter p (below n)) b t)).1)
-    (λ t. in_has (filter p (below n)) b (in_filter p b (below n) (in_below n b l) t))
 
 -- the combined behaviour
 pub combined_beh_is : (env : Env) (beh : Beh) (requests : List Request) → env.states ≤ 64 → IsBeh env beh →
@@ -100,18 +89,22 @@ pub combined_beh_is : (env : Env) (beh : Beh) (requests : List Request) → env.
 combined_beh_is env beh requests few ok =
     listed_moves_made env.states (length requests) beh.states beh.start (filter (is_final beh) (below beh.states)) (λ b n e. moves_on beh b e (slice_get requests n)) few
     ∙ beh_from_same env.states (length requests) beh.states beh.start (has (filter (is_final beh) (below beh.states))) (is_final beh) (λ b e n b'. has (moves_on beh b e (slice_get requests n)) b') (λ b e n b'. has_move_on beh (slice_get requests n) b e b')
-    (λ b hb. has-filter (is_final beh) beh.states b hb) (λ b e n b' hb he hn hb'. goes b e (slice_get requests n) b')
+    (λ b hb. has_filter (is_final beh) beh.states b hb) (λ b e n b' hb he hn hb'. goes b e (slice_get requests n) b')
   where
     goes : (b e : ℕ) (o : Option Request) (b' : ℕ) → has (moves_on beh b e o) b' ≡ has_move_on beh o b e b'
     goes b e None b' = refl
     goes b e (Some r) b' = same_test (has (beh_next beh b e r.action) b') (has_move beh b e r.action b')
-        (λ t. from_beh_next beh b e r.action b' (has_in (beh_next beh b e r.action) b' t))
-        (λ t. in_has (beh_next beh b e r.action) b' (in_beh_next env beh b e r.action b' ok t))
+        (λ t. from_beh_next beh b e r.action b' (number_listed (beh_next beh b e r.action) b' t))
+        (λ t. listed_number (beh_next beh b e r.action) b' (in_beh_next env beh b e r.action b' ok t))
 
 -- the next states of a behaviour are its own
 pub moves_on_below : (beh : Beh) (b e : ℕ) (o : Option Request) (to : ℕ) → IsIn to (moves_on beh b e o) → to < beh.states
 moves_on_below beh b e None to i = absurd i
 moves_on_below beh b e (Some r) to i = from_below beh.states to (filter_in (has_move beh b e r.action) to (below beh.states) i).0
+
+-- the requests of all targets
+abbrev pub used_requests : ℕ → ℕ → List Beh → List Request
+used_requests env_states actions targets = flat_map (λ i. used_at env_states actions (slice_get targets i) i) (below (length targets))
 
 -- the combined actions
 pub requests_are : (env : Env) (targets : List Beh) → ((target : Beh) → IsIn target targets → IsBeh env target) → used_requests env.states env.actions targets ≡ requests_of env.actions targets
@@ -129,7 +122,7 @@ requests_are env targets ok =
         ap (map (λ a. record { target = i; action = a }))
         (filter_same (uses env.states target) (stands_in (Some target)) (below env.actions) (λ a j. sym (stands_uses env target a (ok target (get_in targets i target at)))))
 
-pub all_requests_are : (env : NamedEnv) (targets : List Named) (env_states actions i : ℕ) (items : List Request) → All (λ named. IsKnown env named.target) targets →
+pub all_requests_are : (env : NamedEnv) (targets : List Named) (env_states actions i : ℕ) (items : List Request) → All (λ named. IsTarget env named.target) targets →
     env_states ≡ env.env.states → actions ≡ env.env.actions → i ≡ length targets →
     items ≡ flat_map (λ i. used_at env_states actions (slice_get (machines targets) i) i) (below i) → items ≡ requests_in env targets
 all_requests_are env targets env_states actions i items known es ns done is =

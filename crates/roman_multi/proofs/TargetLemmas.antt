@@ -12,8 +12,9 @@ use Rattle.roman_model.specs.Combined.{targets_go, target_sizes, combined_start,
 use Rattle.roman_model.specs.declared.request.Request.{Request}
 use Rattle.roman_parts.specs.Listed.{listed_beh, AreMoves}
 use Rattle.roman_multi.specs.Lists.{moves_in, listed_moves, member_next, next_of_all}
-use Rattle.roman_model.proofs.CallerLemmas.{same_test, in_map, from_map, in_beh_next, from_beh_next, states_number-at, beh_from_same, from_made_move, made_move, get_in, IsMemberStep, from_combined_target, combined_target_goes}
-use Rattle.roman_multi.proofs.MoveLemmas.{has_in, in_has, has-filter, listed_moves_made, moves_in_range, passing_below}
+use Rattle.roman_model.proofs.CallerLemmas.{same_test, in_map, from_map, in_beh_next, from_beh_next, states_number-at, beh_from_same, from_made_move, made_move, get_in, listed_number, number_listed, IsMemberStep, from_combined_target, combined_target_goes}
+use Rattle.roman_parts.proofs.CallerLemmas.{has_filter}
+use Rattle.roman_multi.proofs.MoveLemmas.{listed_moves_made, moves_in_range, passing_below}
 
 from_next_of_all : (targets : List Beh) (ts : List ℕ) (e : ℕ) (o : Option Request) (t' : ℕ) → IsIn t' (next_of_all targets ts e o) →
     (r : Request) × (target : Beh) × (x : ℕ) × (o ≡ Some r) × (slice_get targets r.target ≡ Some target) × IsTrue (has_move target (slice_index ts r.target) e r.action x)
@@ -35,7 +36,7 @@ next_goes w t e n t' ok ht i =
     let (r, target, x, at, member, moves, same) = from_next_of_all w.targets (states_at (target_sizes w.targets) t) e (slice_get (all_requests w) n) t' i in
     subst (λ k. IsTrue (has_move (combined w).target t e n k)) (sym same) (combined_target_goes w t e n x r target ok ht at member moves)
 
--- the combined target: its steps ns they are listed, one environment state for a guard
+-- the combined target: its steps as they are listed, one environment state for a guard
 pub combined_target_is : (w : Several) (fins : List ℕ) → IsSeveral w → w.env.states ≤ 64 →
     ((t : ℕ) → t < product_of (target_sizes w.targets) → has fins t ≡ are_final w.targets (states_at (target_sizes w.targets) t)) →
     normal_beh w.env.states (length (all_requests w))
@@ -46,7 +47,7 @@ pub combined_target_is : (w : Several) (fins : List ℕ) → IsSeveral w → w.e
 combined_target_is w fins ok few ends =
     listed_moves_made w.env.states (length (all_requests w)) size start fins next few
     ∙ beh_from_same w.env.states (length (all_requests w)) size start (has fins) (λ t. are_final w.targets (states_at (target_sizes w.targets) t)) (λ t e n t'. has (next t n e) t') goes ends
-    (λ t e n t' ht he hn ht'. same_test (has (next t n e) t') (goes t e n t') (λ h. there t e n t' ht (has_in (next t n e) t' h)) (λ h. in_has (next t n e) t' (back t e n t' ht he hn ht' h)))
+    (λ t e n t' ht he hn ht'. same_test (has (next t n e) t') (goes t e n t') (λ h. there t e n t' ht (number_listed (next t n e) t' h)) (λ h. listed_number (next t n e) t' (back t e n t' ht he hn ht' h)))
   where
     size : ℕ
     size = product_of (target_sizes w.targets)
@@ -127,7 +128,7 @@ made_target_is w count start finals steps env_states actions lists es ns =
     ∙ ap₂ (λ n m. normal_beh w.env.states (length (all_requests w)) (listed_beh n m finals steps)) lists.count lists.start
     ∙ ap₂ (λ xs ys. normal_beh w.env.states (length (all_requests w)) (listed_beh (product_of (target_sizes w.targets)) (combined_start w.targets) xs ys)) lists.finals lists.steps
     ∙ combined_target_is w (filter (λ t. are_final w.targets (states_at (target_sizes w.targets) t)) (below (product_of (target_sizes w.targets)))) lists.several lists.several.env.states.1
-    (λ t l. has-filter (λ t. are_final w.targets (states_at (target_sizes w.targets) t)) (product_of (target_sizes w.targets)) t l)
+    (λ t l. has_filter (λ t. are_final w.targets (states_at (target_sizes w.targets) t)) (product_of (target_sizes w.targets)) t l)
 
 pub made_steps_in_range : (w : Several) (count start : ℕ) (finals : List ℕ) (steps : List (ℕ × ℕ × ℕ × ℕ)) (actions : ℕ) → AreListsOf w count start finals steps → actions ≡ length (all_requests w) →
     AreMoves count actions steps

@@ -1,5 +1,5 @@
 -- The triples that the loops list are those of the combined environment.
-use Rattle.std.proofs.Common.{◌≡◌, ℕ, zero, suc, ◌<◌, ◌==◌, ◌&&◌, List, [], ◌∷◌, map, length, get_or, Option, Some, None, IsTrue, Result, Ok, Err, IfOk, slice_get, inl, inr, refl, sym, ap, ap₂, ◌∙◌, subst, arith}
+use Rattle.std.proofs.Common.{◌≡◌, ℕ, zero, suc, ◌<◌, ◌==◌, ◌&&◌, List, [], ◌∷◌, map, length, get_or, Option, Some, None, IsTrue, slice_get, inl, inr, refl, sym, ap, ap₂, ◌∙◌, subst, arith}
 use Rattle.std.proofs.lemmas.Bool.{false≢true, eq-eqb, eqb-true, and_parts, and_from}
 use Rattle.roman_model.specs.Lists.{IsIn, below}
 use Rattle.roman_model.specs.System.{Triple, Env, has_triple, IsEnv}
@@ -73,10 +73,6 @@ listed_in_range env requests ok k d l =
     let i : IsIn (get_or (listed_triples env requests) k d) (listed_triples env requests) = get_or_in (listed_triples env requests) k d l in
     let (he, hn, t) = from_listed env requests (get_or (listed_triples env requests) k d) i in
     (he, hn, next_in_range env (get_or (listed_triples env requests) k d).0 (slice_get requests (get_or (listed_triples env requests) k d).1) (get_or (listed_triples env requests) k d).2 ok t)
-
-pub if_ok_more : {X E : Type 0} (P Q : X → Type 0) (r : Result X E) → ((x : X) → P x → Q x) → IfOk r P → IfOk r Q
-if_ok_more P Q (Ok x) more h = more x h
-if_ok_more P Q (Err e) more h = h
 
 pub made_env_is : (env : Env) (requests : List Request) (states actions start : ℕ) (steps : List (ℕ × ℕ × ℕ)) → IsEnv env → states ≡ env.states → actions ≡ length requests →
     start ≡ env.start → steps ≡ listed_triples env requests → normal_env (listed_env states actions start steps) ≡ combined_env requests env

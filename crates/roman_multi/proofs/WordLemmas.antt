@@ -1,16 +1,11 @@
 -- Names that are joined, and tables of them.
-use Rattle.std.proofs.Common.{◌≡◌, ℕ, zero, suc, ◌+◌, ◌<◌, ◌≤◌, ◌==◌, ◌&&◌, false, not, List, [], ◌∷◌, ◌++◌, length, take, get_or, slice_index, None, IsTrue, IsFalse, refl, sym, ap, ◌∙◌, arith}
+use Rattle.std.proofs.Common.{◌≡◌, ℕ, zero, suc, ◌+◌, ◌<◌, ◌≤◌, ◌==◌, ◌&&◌, false, not, List, [], ◌∷◌, ◌++◌, length, take, get_or, slice_index, IsTrue, IsFalse, refl, sym, ap, ◌∙◌, append_assoc, arith}
 use Rattle.std.specs.Prelude.{slice_index_or, if◌then◌else◌, nat_le}
-use Rattle.std.specs.List.{list_all, IsDistinct}
-use Rattle.std.specs.Str.{bytes_eq}
-use Rattle.std.proofs.lemmas.Bool.{and_parts, and_from, false≢true, ltb-false, le-leb, ne_eqb, false_from_ne_true}
-use Rattle.std.proofs.lemmas.List.{take_more, get_or_default, get_or-take, length-take-le}
-use Rattle.std.proofs.lemmas.List.Folds.{list_any_none}
-use Rattle.std.proofs.lemmas.Map.Made.{AllPairs-from_IsDistinct}
-use Rattle.std.proofs.lemmas.Slice.Eq.{bytes_eq-Decides}
+use Rattle.std.specs.List.{list_all}
+use Rattle.std.proofs.lemmas.Bool.{and_parts, and_from, false≢true, ltb-false, le-leb, ne_eqb}
+use Rattle.std.proofs.lemmas.List.{take_more}
 use Rattle.roman_model.specs.Lists.{is_empty}
-use Rattle.roman_read.specs.Names.{is_name, is_name_byte, place_of}
-use Rattle.roman_read.proofs.CallerLemmas.{place_of-absent}
+use Rattle.roman_read.specs.Names.{is_name, is_name_byte}
 use Rattle.roman_multi.specs.Combining.{joined, names_at, is_long}
 use Rattle.roman_multi.specs.Lists.{is_word}
 use Rattle.roman_multi.specs.declared.parts.Named.{Named}
@@ -19,11 +14,7 @@ use Rattle.roman_multi.specs.declared.parts.Named.{Named}
 joined_push : (names : List (List ℕ)) (name : List ℕ) → joined (names ++ name ∷ []) ≡ joined names ++ (if is_empty names then name else 45 ∷ name)
 joined_push [] name = refl
 joined_push (first ∷ []) name = refl
-joined_push (first ∷ other ∷ names) name = ap (λ bytes. first ++ 45 ∷ bytes) (joined_push (other ∷ names) name) ∙ again first (45 ∷ joined (other ∷ names)) (45 ∷ name)
-  where
-    again : (xs ys zs : List ℕ) → xs ++ (ys ++ zs) ≡ (xs ++ ys) ++ zs
-    again [] ys zs = refl
-    again (x ∷ xs) ys zs = ap (λ ws. x ∷ ws) (again xs ys zs)
+joined_push (first ∷ other ∷ names) name = ap (λ bytes. first ++ 45 ∷ bytes) (joined_push (other ∷ names) name) ∙ sym (append_assoc first (45 ∷ joined (other ∷ names)) (45 ∷ name))
 
 take_empty : (names : List (List ℕ)) (i : ℕ) → i < length names → is_empty (take i names) ≡ (i == 0)
 take_empty [] i l = absurd (omega arith)
@@ -63,17 +54,3 @@ word_is_name bytes t short =
 pub is_word_from : (bytes : List ℕ) → IsTrue (list_all is_name_byte bytes) → 0 < length bytes → IsTrue (is_word bytes)
 is_word_from [] t l = absurd (omega arith)
 is_word_from (b ∷ bytes) t l = t
-
--- no name of a table stands before its place
-pub fresh : (names : List (List ℕ)) (i : ℕ) (d : List ℕ) → IsDistinct bytes_eq names → i < length names → place_of (take i names) (get_or names i d) ≡ None
-fresh names i d distinct l = place_of-absent (take i names) (get_or names i d)
-    (list_any_none (bytes_eq (get_or names i d)) (take i names) (λ k e m. other k e m))
-  where
-    other : (k : ℕ) (e : List ℕ) → k < length (take i names) → bytes_eq (get_or names i d) (get_or (take i names) k e) ≡ false
-    other k e m =
-        let before : k < i = omega (arith, length-take-le i names (omega arith)) in
-        let within : k < length names = omega arith in
-        let there : get_or (take i names) k e ≡ get_or names k e = get_or-take i names k e before in
-        false_from_ne_true (bytes_eq (get_or names i d) (get_or (take i names) k e)) (λ t.
-        AllPairs-from_IsDistinct bytes_eq-Decides names distinct k i d before l
-        (get_or_default names k d e within ∙ sym there ∙ sym ((bytes_eq-Decides (get_or names i d) (get_or (take i names) k e)).0 t)))

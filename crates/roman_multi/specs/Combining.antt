@@ -2,13 +2,13 @@
 use Rattle.std.specs.Prelude.{◌≡◌, ℕ, Bool, ◌||◌, List, [], ◌∷◌, ◌++◌, map, length, take, is_some, Option, None, Some, Result, Ok, Err, nat_lt, slice_index_or, if◌then◌else◌}
 use Rattle.std.specs.List.{list_any}
 use Rattle.roman_model.specs.Lists.{below, is_empty, product_of}
-use Rattle.roman_model.specs.System.{Beh, IsDeterministic}
+use Rattle.roman_model.specs.System.{Beh}
 use Rattle.roman_model.specs.Numbers.{states_at}
 use Rattle.roman_model.specs.Combined.{requests_of, target_sizes, combined_env, combined_beh, combined_target}
 use Rattle.roman_model.specs.declared.request.Request.{Request}
 use Rattle.roman_model.specs.declared.limits.TheConstants.{MAX_STATES, MAX_ACTIONS, MAX_NAME_BYTES}
 use Rattle.roman_read.specs.Names.{place_of}
-use Rattle.roman_parts.specs.Named.{NamedEnv, NamedBeh, NamedTarget, IsOver}
+use Rattle.roman_parts.specs.Named.{NamedEnv, NamedBeh, NamedTarget}
 use Rattle.roman_multi.specs.declared.parts.Named.{Named}
 use Rattle.roman_multi.specs.declared.parts.Combined.{Combined}
 use Rattle.roman_multi.specs.declared.error.CombineError.{CombineError}
@@ -145,10 +145,3 @@ pub record IsOf (env : NamedEnv) (target : NamedTarget) : Type 0 where
 pub record IsBehaviourOf (env : NamedEnv) (behaviour : NamedBeh) : Type 0 where
   pub env_states : behaviour.env_states ≡ env.env.states
   pub actions : behaviour.actions ≡ env.env.actions
-
--- the target's numbers are in range, it is deterministic, and it has a name for each of its states
-pub record IsKnown (env : NamedEnv) (target : NamedTarget) : Type 0 where
-  pub over : IsOf env target
-  pub names : length target.states ≡ target.beh.states
-  pub known : IsOver target.env_states target.actions target.beh
-  pub single : IsDeterministic target.beh

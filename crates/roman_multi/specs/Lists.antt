@@ -1,4 +1,4 @@
--- The lists that the loops make: the combined actions, and the steps by them.
+-- The combined actions, and the steps by them, as lists.
 use Rattle.std.specs.Prelude.{◌≡◌, ℕ, ◌^◌, ◌&&◌, Bool, not, List, [], map, length, slice_index, slice_set, slice_get, Option, None, Some, Result, Ok, Err, IsTrue, IsFalse}
 use Rattle.std.specs.List.{filter, flat_map, list_all}
 use Rattle.roman_model.specs.Lists.{below, is_empty}
@@ -30,10 +30,6 @@ used_by env_states actions target place = map (λ a. record { target = place; ac
 abbrev pub used_at : ℕ → ℕ → Option Beh → ℕ → List Request
 used_at env_states actions None place = []
 used_at env_states actions (Some target) place = used_by env_states actions target place
-
--- the requests of all targets
-abbrev pub used_requests : ℕ → ℕ → List Beh → List Request
-used_requests env_states actions targets = flat_map (λ i. used_at env_states actions (slice_get targets i) i) (below (length targets))
 
 -- the environment's next states by a request
 abbrev pub next_on : Env → ℕ → Option Request → List ℕ

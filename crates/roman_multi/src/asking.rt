@@ -4,7 +4,8 @@ ghost use Rattle.std.specs.List.{list_any};
 ghost use Rattle.roman_model.specs.Lists.{below, is_empty};
 ghost use Rattle.roman_model.specs.SystemArena.{beh_next};
 ghost use Rattle.roman_model.specs.Combined.{uses};
-ghost use Rattle.roman_multi.specs.Combining.{IsKnown, requests_in};
+ghost use Rattle.roman_parts.specs.Named.{IsTarget};
+ghost use Rattle.roman_multi.specs.Combining.{requests_in};
 ghost use Rattle.roman_multi.specs.Lists.{used_by};
 
 use crate::parts::Named;
@@ -71,7 +72,7 @@ pub(crate) fn requests(
     targets: &[Named],
 ) -> Result<Vec<Request>, AllocError>
     requires few { length targets.now ≤ 4 }
-    requires known { All (λ named. IsKnown env.now named.target) targets.now }
+    requires known { All (λ named. IsTarget env.now named.target) targets.now }
     ensures requests { IfOk result (λ made. made.items ≡ requests_in env.now targets.now) }
 {
     let env_states = env.states().len() as u8;

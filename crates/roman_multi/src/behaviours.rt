@@ -8,7 +8,6 @@ ghost use Rattle.roman_model.specs.declared.limits.TheConstants.{MAX_ACTIONS, MA
 ghost use Rattle.roman_multi.specs.Combining.{IsBehaviourOf, combined_behaviour};
 ghost use Rattle.roman_multi.specs.Lists.{listed_moves, moves_by, moves_from, moves_in, moves_on};
 
-use crate::tables::copied;
 use roman_guard::StateSet;
 use roman_model::Request;
 use roman_parts::{Behaviour, Environment};
@@ -124,7 +123,7 @@ fn combine_behaviour(
     let env_states = env.states().len() as u8;
     let finals = finals_of(alloc, behaviour)?;
     let steps = moves_of(alloc, behaviour, requests, env_states)?;
-    let states = copied(alloc, behaviour.states())?;
+    let states = behaviour.states().copy(alloc)?;
     Behaviour::from_lists(
         alloc,
         *behaviour.name(),

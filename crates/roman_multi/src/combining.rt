@@ -1,6 +1,7 @@
 //! The combination.
 ghost use Rattle.std.specs.Prelude.{◌≡◌, ◌<◌, ◌≤◌, length, All, IfOk};
-ghost use Rattle.roman_multi.specs.Combining.{IsBehaviourOf, IsKnown, IsOf, Keeps, combined_parts, forbidding, has_bad_count, machines, plain_combined, request_names, requests_in, combined_state_names};
+ghost use Rattle.roman_parts.specs.Named.{IsTarget};
+ghost use Rattle.roman_multi.specs.Combining.{IsBehaviourOf, IsOf, Keeps, combined_parts, forbidding, has_bad_count, machines, plain_combined, request_names, requests_in, combined_state_names};
 ghost use Rattle.roman_multi.specs.Lists.{AreCombinedNames, flat};
 ghost use Rattle.roman_model.specs.Combined.{target_sizes};
 ghost use Rattle.roman_model.specs.Lists.{product_of};
@@ -73,7 +74,7 @@ fn combine_parts(
 ) -> Result<Combined, AllocError>
     requires count { length targets.now ≤ 4 }
     requires catalogue { All (IsBehaviourOf env.now) catalogue.now }
-    requires known { All (λ named. IsKnown env.now named.target) targets.now }
+    requires known { All (λ named. IsTarget env.now named.target) targets.now }
     requires shape { shape.now ≡ flat (target_sizes (machines targets.now)) }
     requires few { product_of (target_sizes (machines targets.now)) ≤ MAX_STATES }
     requires requests { requests.now ≡ requests_in env.now targets.now }
@@ -101,14 +102,13 @@ fn names_of(
     requests: &[Request],
 ) -> Result<(NameTable, NameTable), CombineError>
     requires count { (0 < length targets.now) × (length targets.now ≤ 4) }
-    requires known { All (λ named. IsKnown env.now named.target) targets.now }
     requires shape { shape.now ≡ flat (target_sizes (machines targets.now)) }
     requires states { product_of (target_sizes (machines targets.now)) ≤ MAX_STATES }
     requires requests { requests.now ≡ requests_in env.now targets.now }
     requires actions { length requests.now ≤ MAX_ACTIONS }
     ensures { AreCombinedNames env.now targets.now result }
 {
-    let states = state_words(alloc, env, targets, shape)?;
+    let states = state_words(alloc, targets, shape)?;
     let actions = request_words(alloc, env, targets, requests)?;
     if has_long(&states) || has_long(&actions) {
         return Err(CombineError::LongName);

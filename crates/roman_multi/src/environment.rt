@@ -5,7 +5,6 @@ ghost use Rattle.roman_model.specs.Combined.{combined_env};
 ghost use Rattle.roman_model.specs.declared.limits.TheConstants.{MAX_ACTIONS};
 ghost use Rattle.roman_multi.specs.Lists.{listed_triples, triples_by};
 
-use crate::tables::copied;
 use roman_model::Request;
 use roman_parts::Environment;
 use roman_read::NameTable;
@@ -89,6 +88,6 @@ pub(crate) fn combine_environment(
     ensures names { IfOk result (λ made. (made.states ≡ env.now.states) × (made.actions ≡ names)) }
 {
     let steps = triples_of(alloc, env, requests)?;
-    let states = copied(alloc, env.states())?;
+    let states = env.states().copy(alloc)?;
     Environment::from_lists(alloc, states, names, env.start(), &steps)
 }

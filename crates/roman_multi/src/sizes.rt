@@ -1,7 +1,8 @@
 //! How many states the targets have.
 ghost use Rattle.std.specs.Prelude.{◌≡◌, All, IfOk};
 ghost use Rattle.roman_model.specs.Combined.{target_sizes};
-ghost use Rattle.roman_multi.specs.Combining.{IsOf, IsKnown, machines};
+ghost use Rattle.roman_parts.specs.Named.{IsTarget};
+ghost use Rattle.roman_multi.specs.Combining.{IsOf, machines};
 
 use crate::parts::Named;
 use roman_parts::Environment;
@@ -15,7 +16,7 @@ pub(crate) fn sizes_of(
 ) -> Result<Vec<u8>, AllocError>
     requires { All (λ named. IsOf env.now named.target) targets.now }
     ensures sizes { IfOk result (λ sizes. sizes.items ≡ target_sizes (machines targets.now)) }
-    ensures known { IfOk result (λ _. All (λ named. IsKnown env.now named.target) targets.now) }
+    ensures known { IfOk result (λ _. All (λ named. IsTarget env.now named.target) targets.now) }
 {
     let mut sizes = Vec::with_capacity(alloc, targets.len())?;
     for i in 0..targets.len() {

@@ -1,13 +1,12 @@
 //! Tables of names.
-ghost use Rattle.std.specs.Prelude.{◌≡◌, ◌-◌, ◌^◌, ◌<◌, ◌≤◌, ◌++◌, ◌∷◌, [], length, map, None, All, IfOk, IsTrue, IsFalse, OnOk};
+ghost use Rattle.std.specs.Prelude.{◌≤◌, length, map, All, IsTrue, IsFalse};
 ghost use Rattle.std.specs.List.{list_any};
-ghost use Rattle.roman_read.specs.Names.{place_of};
 ghost use Rattle.roman_multi.specs.Combining.{is_long};
 ghost use Rattle.roman_multi.specs.Lists.{is_word, TablesNames};
 
 use crate::error::CombineError;
 use roman_read::{AddError, Name, NameTable};
-use std::alloc::{AllocError, Global};
+use std::alloc::Global;
 
 /// The words as names, numbered as they stand; `Repeated` exactly where two are the same.
 pub(crate) fn table_of(alloc: Global, words: &[Vec<u8>]) -> Result<NameTable, CombineError>
@@ -26,28 +25,4 @@ pub(crate) fn table_of(alloc: Global, words: &[Vec<u8>]) -> Result<NameTable, Co
         }
     }
     Ok(names)
-}
-
-/// A table with the same names.
-pub(crate) fn copied(alloc: Global, table: &NameTable) -> Result<NameTable, AllocError>
-    ensures { IfOk result (λ names. names ≡ table.now) }
-{
-    let mut names = NameTable::new(alloc);
-    for i in 0..table.len() {
-        add_new(&mut names, *table.at(i))?;
-    }
-    Ok(names)
-}
-
-/// Adds a name that isn't there.
-fn add_new(names: &mut NameTable, name: Name) -> Result<(), AllocError>
-    requires few { length names.old < 2 ^ 32 - 1 }
-    requires new { place_of names.old name ≡ None }
-    ensures { OnOk result (names.new ≡ names.old ++ name ∷ []) }
-{
-    match names.add(name) {
-        Ok(_) => Ok(()),
-        Err(AddError::Repeated(_)) => unreachable!(),
-        Err(AddError::Memory) => Err(AllocError),
-    }
 }

@@ -6,7 +6,8 @@ ghost use Rattle.roman_model.specs.Numbers.{states_at};
 ghost use Rattle.roman_model.specs.Several.{are_final};
 ghost use Rattle.roman_model.specs.Combined.{target_sizes, combined_start, combined_target};
 ghost use Rattle.roman_model.specs.declared.limits.TheConstants.{MAX_ACTIONS, MAX_STATES};
-ghost use Rattle.roman_multi.specs.Combining.{IsKnown, machines, requests_in};
+ghost use Rattle.roman_parts.specs.Named.{IsTarget};
+ghost use Rattle.roman_multi.specs.Combining.{machines, requests_in};
 ghost use Rattle.roman_multi.specs.Lists.{flat, listed_moves, moves_by, moves_from, moves_in, next_of_all};
 
 use crate::behaviours::Move;
@@ -30,7 +31,7 @@ fn push_move(
     e: u8,
     request: &Request,
 ) -> Result<(), AllocError>
-    requires known { All (λ named. IsKnown env.now named.target) targets.now }
+    requires known { All (λ named. IsTarget env.now named.target) targets.now }
     requires shape { shape.now ≡ flat (target_sizes (machines targets.now)) }
     requires few { product_of (target_sizes (machines targets.now)) ≤ MAX_STATES }
     requires state { t < product_of (target_sizes (machines targets.now)) }
@@ -63,7 +64,7 @@ fn push_request(
     n: u8,
     request: &Request,
 ) -> Result<(), AllocError>
-    requires known { All (λ named. IsKnown env.now named.target) targets.now }
+    requires known { All (λ named. IsTarget env.now named.target) targets.now }
     requires shape { shape.now ≡ flat (target_sizes (machines targets.now)) }
     requires few { product_of (target_sizes (machines targets.now)) ≤ MAX_STATES }
     requires state { t < product_of (target_sizes (machines targets.now)) }
@@ -87,7 +88,7 @@ fn push_state(
     requests: &[Request],
     t: u8,
 ) -> Result<(), AllocError>
-    requires known { All (λ named. IsKnown env.now named.target) targets.now }
+    requires known { All (λ named. IsTarget env.now named.target) targets.now }
     requires shape { shape.now ≡ flat (target_sizes (machines targets.now)) }
     requires few { product_of (target_sizes (machines targets.now)) ≤ MAX_STATES }
     requires state { t < product_of (target_sizes (machines targets.now)) }
@@ -112,7 +113,7 @@ fn moves_of(
     shape: &Shape,
     requests: &[Request],
 ) -> Result<Vec<Move>, AllocError>
-    requires known { All (λ named. IsKnown env.now named.target) targets.now }
+    requires known { All (λ named. IsTarget env.now named.target) targets.now }
     requires shape { shape.now ≡ flat (target_sizes (machines targets.now)) }
     requires few { product_of (target_sizes (machines targets.now)) ≤ MAX_STATES }
     requires some { length requests.now ≤ MAX_ACTIONS }
@@ -130,8 +131,7 @@ fn moves_of(
 }
 
 /// Whether each target is in a final state.
-fn are_final(env: &Environment, targets: &[Named], shape: &Shape, t: u8) -> bool
-    requires known { All (λ named. IsKnown env.now named.target) targets.now }
+fn are_final(targets: &[Named], shape: &Shape, t: u8) -> bool
     requires shape { shape.now ≡ flat (target_sizes (machines targets.now)) }
     requires state { t < product_of (target_sizes (machines targets.now)) }
     requires count { length targets.now ≤ 4 }
@@ -147,13 +147,7 @@ fn are_final(env: &Environment, targets: &[Named], shape: &Shape, t: u8) -> bool
 }
 
 /// The combined states in which each target is final.
-fn finals_of(
-    alloc: Global,
-    env: &Environment,
-    targets: &[Named],
-    shape: &Shape,
-) -> Result<Vec<u8>, AllocError>
-    requires known { All (λ named. IsKnown env.now named.target) targets.now }
+fn finals_of(alloc: Global, targets: &[Named], shape: &Shape) -> Result<Vec<u8>, AllocError>
     requires shape { shape.now ≡ flat (target_sizes (machines targets.now)) }
     requires few { product_of (target_sizes (machines targets.now)) ≤ MAX_STATES }
     requires count { length targets.now ≤ 4 }
@@ -163,7 +157,7 @@ fn finals_of(
 {
     let mut finals = Vec::new(alloc);
     for t in 0..shape.pairs() as u8 {
-        if are_final(env, targets, shape, t) {
+        if are_final(targets, shape, t) {
             finals.push(t)?;
         }
     }
@@ -177,7 +171,7 @@ fn start_of(
     targets: &[Named],
     shape: &Shape,
 ) -> Result<u8, AllocError>
-    requires known { All (λ named. IsKnown env.now named.target) targets.now }
+    requires known { All (λ named. IsTarget env.now named.target) targets.now }
     requires shape { shape.now ≡ flat (target_sizes (machines targets.now)) }
     requires few { product_of (target_sizes (machines targets.now)) ≤ MAX_STATES }
     ensures { IfOk result (λ start. start ≡ combined_start (machines targets.now)) }
@@ -200,7 +194,7 @@ pub(crate) fn combine_target(
     over: &Environment,
 ) -> Result<Target, AllocError>
     requires count { length targets.now ≤ 4 }
-    requires known { All (λ named. IsKnown env.now named.target) targets.now }
+    requires known { All (λ named. IsTarget env.now named.target) targets.now }
     requires shape { shape.now ≡ flat (target_sizes (machines targets.now)) }
     requires few { product_of (target_sizes (machines targets.now)) ≤ MAX_STATES }
     requires requests { requests.now ≡ requests_in env.now targets.now }
@@ -214,7 +208,7 @@ pub(crate) fn combine_target(
         (λ made. made.beh ≡ combined_target env.now.env.states requests.now (machines targets.now)) }
 {
     env.known();
-    let finals = finals_of(alloc, env, targets, shape)?;
+    let finals = finals_of(alloc, targets, shape)?;
     let start = start_of(alloc, env, targets, shape)?;
     let steps = moves_of(alloc, env, targets, shape, requests)?;
     Target::from_lists(alloc, states, start, &finals, &steps, over)

@@ -5,7 +5,7 @@ ghost use Rattle.roman_model.specs.Combined.{target_sizes};
 ghost use Rattle.roman_model.specs.Lists.{product_of};
 ghost use Rattle.roman_model.specs.Numbers.{states_at};
 ghost use Rattle.roman_read.specs.Names.{is_name_byte};
-ghost use Rattle.roman_multi.specs.Combining.{IsKnown, is_long, joined, machines, names_at, request_name, combined_state_names};
+ghost use Rattle.roman_multi.specs.Combining.{is_long, joined, machines, names_at, request_name, combined_state_names};
 ghost use Rattle.roman_multi.specs.Lists.{flat, is_word};
 
 use crate::parts::Named;
@@ -33,13 +33,11 @@ fn push_name(word: &mut Vec<u8>, name: &Name, first: bool) -> Result<(), AllocEr
 /// The name of combined state `t`.
 fn state_word(
     alloc: Global,
-    env: &Environment,
     targets: &[Named],
     shape: &Shape,
     t: u32,
 ) -> Result<Vec<u8>, AllocError>
     requires some { (0 < length targets.now) × (length targets.now ≤ 4) }
-    requires known { All (λ named. IsKnown env.now named.target) targets.now }
     requires shape { shape.now ≡ flat (target_sizes (machines targets.now)) }
     requires state { t < product_of (target_sizes (machines targets.now)) }
     ensures word { IfOk result
@@ -58,19 +56,17 @@ fn state_word(
 /// The names of the combined states.
 pub(crate) fn state_words(
     alloc: Global,
-    env: &Environment,
     targets: &[Named],
     shape: &Shape,
 ) -> Result<Vec<Vec<u8>>, AllocError>
     requires some { (0 < length targets.now) × (length targets.now ≤ 4) }
-    requires known { All (λ named. IsKnown env.now named.target) targets.now }
     requires shape { shape.now ≡ flat (target_sizes (machines targets.now)) }
     ensures words { IfOk result (λ words. map (λ word. word.items) words.items ≡ combined_state_names targets.now) }
     ensures bytes { IfOk result (λ words. All (λ word. IsTrue (is_word word.items)) words.items) }
 {
     let mut words = Vec::new(alloc);
     for t in 0..shape.pairs() {
-        words.push(state_word(alloc, env, targets, shape, t)?)?;
+        words.push(state_word(alloc, targets, shape, t)?)?;
     }
     Ok(words)
 }

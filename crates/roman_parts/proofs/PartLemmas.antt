@@ -6,7 +6,7 @@ use Rattle.std.proofs.lemmas.List.Quantifiers.{position-Some}
 use Rattle.serde_json.specs.Data.{Data, Items, no_items, item}
 use Rattle.serde_json.specs.Find.{as_object}
 use Rattle.serde_json.specs.Events.{items_len}
-use Rattle.roman_model.specs.System.{Beh, Move, IsEnv, IsDeterministic}
+use Rattle.roman_model.specs.System.{Beh, Move, IsEnv}
 use Rattle.roman_model.specs.declared.limits.TheConstants.{MAX_STATES, MAX_ACTIONS}
 use Rattle.roman_read.specs.Items.{each_item}
 use Rattle.roman_read.specs.Json.{member_of, text_of}
@@ -16,7 +16,7 @@ use Rattle.roman_read.specs.declared.rules.Kind.TheVariants as kind
 use Rattle.roman_read.proofs.CallerLemmas.{same_ok, bind_ok}
 use Rattle.roman_parts.specs.Choices.{choice_of, refuse_choice, single_of}
 use Rattle.roman_parts.specs.Lists.{name_in, name_step, names_of, place_in, start_of, finals_of}
-use Rattle.roman_parts.specs.Named.{NamedEnv, NamedBeh, NamedTarget, IsOver}
+use Rattle.roman_parts.specs.Named.{NamedEnv, NamedBeh, NamedTarget, IsBehaviour, IsTarget}
 use Rattle.roman_parts.specs.Parts.{environment_of, name_of, behaviour_of, target_of}
 use Rattle.roman_parts.specs.Reading.{looked, found, check, items_at, counted_items}
 use Rattle.roman_parts.specs.Steps.{triples_of, moves_of}
@@ -114,12 +114,9 @@ environment_known d env h =
       actions = refl;
     })
 
--- the behaviour is over that environment, has a name for each of its states, and the name that was read
+-- the behaviour is one of that environment, and has the name that was read
 pub record IsNamedBehaviour (env : NamedEnv) (d : Data) (b : NamedBeh) : Type 0 where
-  pub env_states : b.env_states ≡ env.env.states
-  pub actions : b.actions ≡ env.env.actions
-  pub names : length b.states ≡ b.beh.states
-  pub known : IsOver b.env_states b.actions b.beh
+  pub known : IsBehaviour env b
   pub name : name_of d ≡ Ok b.name
 
 pub behaviour_known : (env : NamedEnv) (d : Data) (b : NamedBeh) → behaviour_of env d ≡ Ok b → IsNamedBehaviour env d b
@@ -133,21 +130,15 @@ behaviour_known env d b h =
     let (finals, e3, h5) = bind_ok (finals_of states whole) _ b h4 in
     let (steps, e4, h6) = bind_ok (moves_of env.states env.actions states whole) _ b h5 in
     subst (IsNamedBehaviour env d) (same_ok _ b h6) (record {
-      env_states = refl;
-      actions = refl;
-      names = refl;
-      known = IsOver-normal env.env.states env.env.actions (record { states = length states; start = start; finals = finals; steps = steps })
-          (names_counted list.States (codes "states") MAX_STATES whole states e1) (start_below states whole start e2);
+      known = record {
+        env_states = refl;
+        actions = refl;
+        names = refl;
+        known = IsOver-normal env.env.states env.env.actions (record { states = length states; start = start; finals = finals; steps = steps })
+            (names_counted list.States (codes "states") MAX_STATES whole states e1) (start_below states whole start e2);
+      };
       name = ap name_of same ∙ e0;
     })
-
--- the target is over that environment, is deterministic, and has a name for each of its states
-pub record IsNamedTarget (env : NamedEnv) (t : NamedTarget) : Type 0 where
-  pub env_states : t.env_states ≡ env.env.states
-  pub actions : t.actions ≡ env.env.actions
-  pub names : length t.states ≡ t.beh.states
-  pub known : IsOver t.env_states t.actions t.beh
-  pub single : IsDeterministic t.beh
 
 choice_free : (env_states : List (List ℕ)) (moves steps : List Move) → single_of env_states moves ≡ Ok steps → (choice_of moves ≡ None) × (moves ≡ steps)
 unfolding single_of
@@ -157,7 +148,7 @@ choice_free env_states moves steps h = by (choice_of moves) refl h
     by None e g = (e, same_ok moves steps g)
     by (Some (j, (i, x))) e g = absurd (let f : ⊥ = cc in f)
 
-pub target_known : (env : NamedEnv) (d : Data) (t : NamedTarget) → target_of env d ≡ Ok t → IsNamedTarget env t
+pub target_known : (env : NamedEnv) (d : Data) (t : NamedTarget) → target_of env d ≡ Ok t → IsTarget env t
 unfolding target_of
 target_known env d t h =
     let (whole, e, h1) = bind_ok (check (is_some (as_object d)) kind.Form list.Whole 0 d) _ t h in
@@ -168,7 +159,7 @@ target_known env d t h =
     let (steps, e5, h6) = bind_ok (single_of env.states moves) _ t h5 in
     let (none, same) = choice_free env.states moves steps e5 in
     let beh : Beh = record { states = length states; start = start; finals = finals; steps = steps } in
-    subst (IsNamedTarget env) (same_ok _ t h6) (record {
+    subst (IsTarget env) (same_ok _ t h6) (record {
       env_states = refl;
       actions = refl;
       names = refl;

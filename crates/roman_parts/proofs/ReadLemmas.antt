@@ -1,5 +1,5 @@
 -- Lists of names, final states and steps: what they are read as, and how they are refused.
-use Rattle.std.proofs.Common.{◌≡◌, ◌≢◌, ℕ, zero, suc, ◌<◌, ◌≤◌, ◌⊎◌, ◌&&◌, inl, inr, Bool, true, false, List, [], ◌∷◌, ◌++◌, length, get_or, Option, Some, None, is_none, nat_le, codes, Result, Ok, Err, IsTrue, IsFalse, slice_get, refl, sym, ap, ◌∙◌, subst, arith, leb-true, true≢false}
+use Rattle.std.proofs.Common.{◌≡◌, ◌≢◌, ℕ, suc, ◌<◌, ◌≤◌, ◌⊎◌, ◌&&◌, inl, inr, Bool, true, false, List, [], ◌∷◌, ◌++◌, length, get_or, Option, Some, None, is_none, nat_le, codes, Result, Ok, Err, IsTrue, IsFalse, slice_get, refl, sym, ap, ◌∙◌, subst, arith, leb-true, true≢false}
 use Rattle.std.specs.List.{AllZip, list_any, position_or_len}
 use Rattle.std.specs.Str.{bytes_eq}
 use Rattle.std.proofs.lemmas.Bool.{and_parts, and_from, both_ways, cases_order, le-leb}
@@ -12,7 +12,7 @@ use Rattle.serde_json.specs.View.{items_of}
 use Rattle.roman_model.specs.Lists.{IsIn, HasNoRepeats}
 use Rattle.roman_model.specs.System.{Triple, Move}
 use Rattle.roman_model.specs.declared.limits.TheConstants.{MAX_STEPS}
-use Rattle.roman_model.proofs.CallerLemmas.{by_test, any_from, any_true, from_push, in_push, in_append_left}
+use Rattle.roman_model.proofs.CallerLemmas.{by_test, any_from, any_true, from_push, in_push, in_append_left, get_in}
 use Rattle.roman_read.specs.Items.{◌>>=◌, each_item, pushing}
 use Rattle.roman_read.specs.Json.{member_of, text_of, list_of}
 use Rattle.roman_read.specs.Kinds.{kind_of}
@@ -74,11 +74,6 @@ in_place names text k h =
           both_ways (bytes_eq text (get_or names j [])) (before j earlier) (subst (λ (n : List ℕ). IsTrue (bytes_eq text n)) (sym is) (itself text)),
     )
 
-get_in : {X : Type 0} (xs : List X) (k : ℕ) (x : X) → slice_get xs k ≡ Some x → IsIn x xs
-get_in [] k x h = absurd (let f : ⊥ = cc in f)
-get_in (y ∷ ys) zero x h = inl (let same : y ≡ x = cc in sym same)
-get_in (y ∷ ys) (suc k) x h = inr (get_in ys k x h)
-
 there_some : (names : List (List ℕ)) (text : List ℕ) → IsIn text names → (k : ℕ) × (place_of names text ≡ Some k)
 there_some names text there = (position_or_len (bytes_eq text) names, place_of-present names text (any_from (bytes_eq text) text names there (itself text)))
 
@@ -98,7 +93,7 @@ absent_none names text never = by_test (list_any (bytes_eq text) names)
     (λ yes. let (n, i, same) = any_true (bytes_eq text) names yes in absurd (never (subst (λ (n : List ℕ). IsIn n names) (sym ((bytes_eq-Decides text n).0 same)) i)))
     (λ fails. place_of-absent names text fails)
 
-none_absent : (names : List (List ℕ)) (text : List ℕ) → place_of names text ≡ None → IsIn text names → ⊥
+pub none_absent : (names : List (List ℕ)) (text : List ℕ) → place_of names text ≡ None → IsIn text names → ⊥
 none_absent names text none there = let (k, some) = there_some names text there in cc
 
 pub place_ok : (names : List (List ℕ)) (list : Place) (i : ℕ) (d : Data) (k : ℕ) → place_in names list i d ≡ Ok k → IsPlace names d k

@@ -1,17 +1,17 @@
 -- Rows that were laid out from the masks of a list of steps hold the steps of the record in normal form.
-use Rattle.std.proofs.Common.{◌≡◌, ℕ, zero, suc, ◌+◌, ◌-◌, ◌*◌, ◌<◌, ◌≤◌, ◌==◌, ◌&&◌, Bool, false, IsTrue, List, [], ◌∷◌, ◌++◌, map, length, get_or, All, Some, slice_get, filter, flat_map, refl, sym, ap, ap₂, ◌∙◌, subst, inl, inr, arith}
+use Rattle.std.proofs.Common.{◌≡◌, ℕ, zero, suc, ◌+◌, ◌-◌, ◌*◌, ◌<◌, ◌≤◌, ◌==◌, ◌&&◌, Bool, false, IsTrue, List, [], ◌∷◌, ◌++◌, map, length, get_or, All, Some, slice_get, filter, refl, sym, ap, ◌∙◌, subst, arith}
 use Rattle.std.proofs.lemmas.Bool.{false_from_ne_true, and_parts, eqb-true, eq-eqb}
 use Rattle.std.proofs.lemmas.List.{get_or-map, length-map}
 use Rattle.std.proofs.lemmas.List.Elements.{filter-append, All-filter, All-contains, All-same}
 use Rattle.std.proofs.lemmas.Option.{slice_get-get_or, get_or_from_slice_get, same_Some}
 use Rattle.std.proofs.lemmas.Nat.{mul-add-lt}
-use Rattle.roman_model.specs.Lists.{IsIn, below}
+use Rattle.roman_model.specs.Lists.{below}
 use Rattle.roman_model.specs.System.{Env, Beh, has_triple, has_move, has}
 use Rattle.roman_model.specs.SystemArena.{env_next, env_prev, beh_next, beh_prev}
 use Rattle.roman_model.specs.Made.{guarded_step}
 use Rattle.roman_model.specs.Normal.{normal_env, normal_beh}
 use Rattle.roman_model.specs.declared.limits.TheConstants.{MAX_STATES, MAX_ACTIONS}
-use Rattle.roman_model.proofs.CallerLemmas.{same_test, any_true, any_from, any_same, in_contains, in_below, from_below, in_filter, filter_in, filter_same, list_any-map, length-below, get_or-below}
+use Rattle.roman_model.proofs.CallerLemmas.{same_test, any_true, any_from, any_same, in_contains, in_below, from_below, in_filter, filter_in, filter_same, list_any-map, length-below, get_or-below, flat_map_same_in}
 use Rattle.roman_guard.specs.Meaning.{has_state, states_below, states_of}
 use Rattle.roman_guard.proofs.CallerLemmas.{states_below-zero, states_below-suc, states_below-same, states_below-past}
 use Rattle.roman_parts.specs.Listed.{triple_of, listed_env, move_of, listed_beh, AreTriples, AreMoves}
@@ -53,22 +53,23 @@ leads_in_range states actions steps e a e' range t =
     let (l, m, n) = All-contains (λ y. (y.0 < states) × (y.1 < actions) × (y.2 < states)) steps x range (in_contains steps x i) in
     (subst (λ k. k < states) (eqb-true x.0 e from) l, subst (λ k. k < actions) (eqb-true x.1 a action) m, subst (λ k. k < states) (eqb-true x.2 e' to) n)
 
-flat_map_same : {X Y : Type 0} (f g : X → List Y) (xs : List X) → ((x : X) → IsIn x xs → f x ≡ g x) → flat_map f xs ≡ flat_map g xs
-flat_map_same f g [] same = refl
-flat_map_same f g (x ∷ xs) same = ap₂ (λ ys zs. ys ++ zs) (same x (inl refl)) (flat_map_same f g xs (λ y i. same y (inr i)))
-
 -- rows with the next states have the triples of the normal form
 row_triples-normal : (env : Env) (rows : List (List ℕ)) →
     ((e a : ℕ) → e < env.states → a < env.actions → slice_get rows (e * env.actions + a) ≡ Some (env_next env e a)) →
     row_triples env.states env.actions rows ≡ (normal_env env).triples
 unfolding row_triples
 row_triples-normal env rows next =
-    flat_map_same _ _ (below env.states) (λ e ie. flat_map_same _ _ (below env.actions) (λ a ia.
+    flat_map_same_in _ _ (below env.states) (λ e ie. flat_map_same_in _ _ (below env.actions) (λ a ia.
     ap (map (λ e'. record { from = e; action = a; to = e' }))
     (get_or_from_slice_get rows (e * env.actions + a) (env_next env e a) [] (next e a (from_below env.states e ie) (from_below env.actions a ia)))))
 
 all_below_bound : (n : ℕ) → All (λ x. x < n) (below n)
 all_below_bound n = λ k d less. subst (λ x. x < n) (sym (get_or-below n k d (omega (arith, length-below n)))) (omega (arith, length-below n))
+
+-- the rows have the triples of the normal form, and serve its look-ups
+pub record AreLaidTriples (states actions start : ℕ) (steps : List (ℕ × ℕ × ℕ)) (to from : List ℕ) : Type 0 where
+  pub triples : row_triples states actions (map states_of to) ≡ (normal_env (listed_env states actions start steps)).triples
+  pub rows : HasRows (normal_env (listed_env states actions start steps)) (map states_of to) (map states_of from)
 
 -- the masks of a list of steps, laid out as rows
 module _ (states actions start : ℕ) (steps : List (ℕ × ℕ × ℕ)) (to from : List ℕ)
@@ -92,16 +93,14 @@ module _ (states actions start : ℕ) (steps : List (ℕ × ℕ × ℕ)) (to fro
       (λ e. from_has.has e' a e ha ∙ leads_is states actions start steps e a e')
       (λ e past. false_from_ne_true _ (λ t. let (l, m, n) = steps_in_range e a e' t in let none : ⊥ = omega arith in none))
 
-  -- are the triples of the normal form
-  pub laid_triples : row_triples states actions (map states_of to) ≡ (normal_env (listed_env states actions start steps)).triples
-  laid_triples = row_triples-normal (listed_env states actions start steps) (map states_of to) next_row
-
-  -- and serve its look-ups
-  pub laid_rows : HasRows (normal_env (listed_env states actions start steps)) (map states_of to) (map states_of from)
-  laid_rows = record {
-    known = IsEnv-normal (listed_env states actions start steps) many_states many_actions starts;
-    next = λ e a he ha. next_row e a he ha ∙ ap Some (sym (env_next-normal (listed_env states actions start steps) e a he ha));
-    prev = λ e' a he' ha. prev_row e' a he' ha ∙ ap Some (sym (env_prev-normal (listed_env states actions start steps) e' a he' ha));
+  pub laid_triples : AreLaidTriples states actions start steps to from
+  laid_triples = record {
+    triples = row_triples-normal (listed_env states actions start steps) (map states_of to) next_row;
+    rows = record {
+      known = IsEnv-normal (listed_env states actions start steps) many_states many_actions starts;
+      next = λ e a he ha. next_row e a he ha ∙ ap Some (sym (env_next-normal (listed_env states actions start steps) e a he ha));
+      prev = λ e' a he' ha. prev_row e' a he' ha ∙ ap Some (sym (env_prev-normal (listed_env states actions start steps) e' a he' ha));
+    };
   }
 
 -- what a look-up gives is below the number of states
@@ -120,7 +119,7 @@ prev_below env to from e' a k xs rows he' ha place row =
 -- The table of a behaviour.
 
 -- a number below the bound is among those that pass where it passes
-has_filter : (p : ℕ → Bool) (n i : ℕ) → i < n → has (filter p (below n)) i ≡ p i
+pub has_filter : (p : ℕ → Bool) (n i : ℕ) → i < n → has (filter p (below n)) i ≡ p i
 has_filter p n i less = same_test (has (filter p (below n)) i) (p i)
     (λ t. let (k, ik, same) = any_true (λ m. m == i) (filter p (below n)) t in subst (λ m. IsTrue (p m)) (eqb-true k i same) (filter_in p k (below n) ik).1)
     (λ t. any_from (λ m. m == i) i (filter p (below n)) (in_filter p i (below n) (in_below n i less) t) (eq-eqb i i refl))
@@ -153,12 +152,18 @@ row_moves-normal : (env_states actions : ℕ) (beh : Beh) (rows : List (List ℕ
     row_moves beh.states env_states actions rows ≡ (normal_beh env_states actions beh).steps
 unfolding row_moves
 row_moves-normal env_states actions beh rows next =
-    flat_map_same _ _ (below beh.states) (λ b ib. flat_map_same _ _ (below actions) (λ a ia. flat_map_same _ _ (below beh.states) (λ b' ib'.
+    flat_map_same_in _ _ (below beh.states) (λ b ib. flat_map_same_in _ _ (below actions) (λ a ia. flat_map_same_in _ _ (below beh.states) (λ b' ib'.
     ap (guarded_step b a b') (filter_same _ _ (below env_states) (λ e ie.
     ap (λ xs. has xs b')
     (get_or_from_slice_get rows ((b * env_states + e) * actions + a) (beh_next beh b e a) []
     (next b e a (from_below beh.states b ib) (from_below env_states e ie) (from_below actions a ia)))
     ∙ has_filter (has_move beh b e a) beh.states b' (from_below beh.states b' ib'))))))
+
+-- the rows have the steps of the normal form, with its final states, and serve its look-ups
+pub record AreLaidMoves (states env_states actions start : ℕ) (finals : List ℕ) (steps : List (ℕ × ℕ × ℕ × ℕ)) (mask : ℕ) (to from : List ℕ) : Type 0 where
+  pub moves : row_moves states env_states actions (map states_of to) ≡ (normal_beh env_states actions (listed_beh states start finals steps)).steps
+  pub final : states_of mask ≡ (normal_beh env_states actions (listed_beh states start finals steps)).finals
+  pub rows : HasGuardedRows (record { env_states = env_states; actions = actions; beh = normal_beh env_states actions (listed_beh states start finals steps) }) mask (map states_of to) (map states_of from)
 
 -- the masks of a list of steps, laid out as rows
 module _ (states env_states actions start : ℕ) (finals : List ℕ) (steps : List (ℕ × ℕ × ℕ × ℕ)) (mask : ℕ) (to from : List ℕ)
@@ -191,12 +196,7 @@ module _ (states env_states actions start : ℕ) (finals : List ℕ) (steps : Li
       (λ b. from_has.has b' e a b he ha ∙ goes_is states start finals steps b e a b' (omega arith))
       (λ b past. false_from_ne_true _ (λ t. let (l, m, n) = moves_in_range b e a b' he t in let none : ⊥ = omega arith in none))
 
-  -- are the steps of the normal form
-  pub laid_moves : row_moves states env_states actions (map states_of to) ≡ (normal_beh env_states actions (listed_beh states start finals steps)).steps
-  laid_moves = row_moves-normal env_states actions (listed_beh states start finals steps) (map states_of to) out_row
-
-  -- with its final states
-  pub laid_finals : states_of mask ≡ (normal_beh env_states actions (listed_beh states start finals steps)).finals
+  laid_finals : states_of mask ≡ (normal_beh env_states actions (listed_beh states start finals steps)).finals
   laid_finals =
       mask_filter mask states (has finals) (omega arith) mask_has
       (λ b past. false_from_ne_true _ (λ t.
@@ -205,15 +205,18 @@ module _ (states env_states actions start : ℕ) (finals : List ℕ) (steps : Li
       let e : k ≡ b = eqb-true k b same in
       let none : ⊥ = omega arith in none))
 
-  -- and serve its look-ups
-  pub laid_guarded_rows : HasGuardedRows (record { env_states = env_states; actions = actions; beh = normal_beh env_states actions (listed_beh states start finals steps) }) mask (map states_of to) (map states_of from)
-  laid_guarded_rows = record {
-    env_states = many_env_states;
-    actions = many_actions;
-    known = IsOver-normal env_states actions (listed_beh states start finals steps) many_states starts;
-    final = λ b hb. is_final-normal env_states actions (listed_beh states start finals steps) b hb ∙ sym (mask_has b);
-    next = λ b e a hb he ha. out_row b e a hb he ha ∙ ap Some (sym (beh_next-normal env_states actions (listed_beh states start finals steps) b e a hb he ha));
-    prev = λ b' e a hb' he ha. into_row b' e a hb' he ha ∙ ap Some (sym (beh_prev-normal env_states actions (listed_beh states start finals steps) b' e a hb' he ha));
+  pub laid_moves : AreLaidMoves states env_states actions start finals steps mask to from
+  laid_moves = record {
+    moves = row_moves-normal env_states actions (listed_beh states start finals steps) (map states_of to) out_row;
+    final = laid_finals;
+    rows = record {
+      env_states = many_env_states;
+      actions = many_actions;
+      known = IsOver-normal env_states actions (listed_beh states start finals steps) many_states starts;
+      final = λ b hb. is_final-normal env_states actions (listed_beh states start finals steps) b hb ∙ sym (mask_has b);
+      next = λ b e a hb he ha. out_row b e a hb he ha ∙ ap Some (sym (beh_next-normal env_states actions (listed_beh states start finals steps) b e a hb he ha));
+      prev = λ b' e a hb' he ha. into_row b' e a hb' he ha ∙ ap Some (sym (beh_prev-normal env_states actions (listed_beh states start finals steps) b' e a hb' he ha));
+    };
   }
 
 -- what a look-up gives is below the number of states

@@ -14,13 +14,13 @@ use Rattle.roman_model.specs.Lists.{IsIn, HasNoRepeats, below}
 use Rattle.roman_model.specs.System.{Env, Beh, Triple, Move, IsEnv, IsBeh, IsDeterministic, has, has_triple, has_move, is_final}
 use Rattle.roman_model.specs.Normal.{normal_env, normal_beh}
 use Rattle.roman_model.specs.declared.limits.TheConstants.{MAX_STATES, MAX_ACTIONS, MAX_STEPS}
-use Rattle.roman_model.proofs.CallerLemmas.{by_test, same_test, none_from, find_not_found, in_contains, contains_in, filter_in, from_below, triple_listed, number_listed, listed_number, step_listed, listed_step}
+use Rattle.roman_model.proofs.CallerLemmas.{by_test, same_test, get_in, none_from, find_not_found, in_contains, contains_in, filter_in, triple_listed, number_listed, listed_number, step_listed, listed_step}
 use Rattle.roman_read.specs.Items.{◌>>=◌, each_item, pushing}
 use Rattle.roman_read.specs.Json.{member_of, text_of}
 use Rattle.roman_read.specs.Names.{is_name}
 use Rattle.roman_read.specs.Listed.{IsListAt, AreItems}
 use Rattle.roman_read.proofs.CallerLemmas.{all_given}
-use Rattle.roman_parts.specs.Choices.{first_below, choice_between, choice_at, choice_with, choice_of, refuse_choice, single_of}
+use Rattle.roman_parts.specs.Choices.{choice_between, choice_at, choice_with, choice_of, refuse_choice, single_of}
 use Rattle.roman_parts.specs.Guards.{state_in, among_of, guard_of, guarded_states}
 use Rattle.roman_parts.specs.Lists.{names_of, start_of, finals_of}
 use Rattle.roman_parts.specs.Named.{NamedEnv, NamedBeh, NamedTarget, IsOver}
@@ -32,6 +32,7 @@ use Rattle.roman_parts.specs.Written.{list_value, names_value, place_value, plac
 use Rattle.roman_parts.specs.declared.error.List.{List as Place}
 use Rattle.roman_parts.specs.declared.error.List.TheVariants as list
 use Rattle.roman_parts.specs.declared.error.PartError.{PartError}
+use Rattle.roman_parts.proofs.ChoiceLemmas.{first_below-none}
 use Rattle.roman_parts.proofs.NormalForms.{forms_normal, forms_unique}
 use Rattle.roman_parts.proofs.NormalLemmas.{from_normal_triple, has_triple-normal, from_normal_move, has_move-normal, is_final-normal}
 use Rattle.roman_parts.proofs.ReadLemmas.{ok_place, place_ok, place_err, err_place, pushing_steps, lists_read}
@@ -43,11 +44,6 @@ there : (names : List (List ℕ)) (k : ℕ) → k < length names → slice_get n
 there [] k h = absurd (omega (arith, h))
 there (n ∷ ns) zero h = refl
 there (n ∷ ns) (suc k) h = there ns k (omega (arith, h))
-
-pub get_in : {X : Type 0} (xs : List X) (k : ℕ) (x : X) → slice_get xs k ≡ Some x → IsIn x xs
-get_in [] k x h = absurd (let f : ⊥ = cc in f)
-get_in (y ∷ ys) zero x h = inl (let same : y ≡ x = cc in sym same)
-get_in (y ∷ ys) (suc k) x h = inr (get_in ys k x h)
 
 -- a name that stands once stands at one place
 once_at : (names : List (List ℕ)) (j k : ℕ) (name : List ℕ) → HasNoRepeats names → j < k → slice_get names j ≡ Some name → slice_get names k ≡ Some name → ⊥
@@ -187,11 +183,6 @@ normal_beh_is env_states actions b over form =
 
 -- No choices
 
-none_below : {X : Type 0} (f : ℕ → Option X) (n : ℕ) → ((k : ℕ) → k < n → f k ≡ None) → first_below f n ≡ None
-unfolding first_below
-none_below f n none =
-    rw (find_not_found (λ k. is_some (f k)) (below n) (none_from (λ k. is_some (f k)) (below n) (λ k i. ap is_some (none k (from_below n k i))))) refl
-
 between_none : (steps : List Move) (single : (x y : Move) (e : ℕ) → IsIn x steps → IsIn y steps → x.from ≡ y.from → x.action ≡ y.action → IsIn e x.guard → IsIn e y.guard → x.to ≡ y.to) (m n : Option Move) →
     ((x : Move) → m ≡ Some x → IsIn x steps) → ((x : Move) → n ≡ Some x → IsIn x steps) → choice_between m n ≡ None
 unfolding choice_between
@@ -210,12 +201,16 @@ between_none steps single (Some x) (Some y) in_m in_n = by_test (x.from == y.fro
 
 no_choice_in : (b : Beh) → IsDeterministic b → choice_of b.steps ≡ None
 unfolding choice_of choice_with choice_at
-no_choice_in b single = none_below (choice_with b.steps) (length b.steps) (λ j l. none_below (choice_at b.steps j) j (λ i less.
-    between_none b.steps
-    (λ x y e in_x in_y from action here there'.
-    single x.from e x.action x.to y.to (listed_step b x.from e x.action x.to (record { step = x; listed = in_x; from = refl; action = refl; to = refl; guard = here }))
-    (listed_step b x.from e x.action y.to (record { step = y; listed = in_y; from = sym from; action = sym action; to = refl; guard = there' })))
-    (slice_get b.steps j) (slice_get b.steps i) (λ x h. get_in b.steps j x h) (λ x h. get_in b.steps i x h)))
+no_choice_in b single = first_below-none (choice_with b.steps) (length b.steps) (length b.steps) (omega arith) (record {
+  none = λ j l. first_below-none (choice_at b.steps j) j j (omega arith) (record {
+    none = λ i less.
+        between_none b.steps
+        (λ x y e in_x in_y from action here there'.
+        single x.from e x.action x.to y.to (listed_step b x.from e x.action x.to (record { step = x; listed = in_x; from = refl; action = refl; to = refl; guard = here }))
+        (listed_step b x.from e x.action y.to (record { step = y; listed = in_y; from = sym from; action = sym action; to = refl; guard = there' })))
+        (slice_get b.steps j) (slice_get b.steps i) (λ x h. get_in b.steps j x h) (λ x h. get_in b.steps i x h);
+  });
+})
 
 -- Parts
 

@@ -1,6 +1,6 @@
 -- Environments, behaviours and targets with the names of their states and actions.
-use Rattle.std.specs.Prelude.{◌≡◌, ℕ, List}
-use Rattle.roman_model.specs.System.{Env, Beh, IsBeh}
+use Rattle.std.specs.Prelude.{◌≡◌, ℕ, List, length}
+use Rattle.roman_model.specs.System.{Env, Beh, IsBeh, IsDeterministic}
 
 -- an environment: the names of its states and actions, each a list of bytes, and the record in normal form
 pub record NamedEnv : Type 0 where
@@ -26,3 +26,18 @@ pub record NamedTarget : Type 0 where
 -- the behaviour's numbers are in range over an environment with so many states and actions
 abbrev pub IsOver : ℕ → ℕ → Beh → Type 0
 IsOver env_states actions beh = (env : Env) → env.states ≡ env_states → env.actions ≡ actions → IsBeh env beh
+
+-- the behaviour is over that environment, and has a name for each of its states
+pub record IsBehaviour (environment : NamedEnv) (behaviour : NamedBeh) : Type 0 where
+  pub env_states : behaviour.env_states ≡ environment.env.states
+  pub actions : behaviour.actions ≡ environment.env.actions
+  pub names : length behaviour.states ≡ behaviour.beh.states
+  pub known : IsOver behaviour.env_states behaviour.actions behaviour.beh
+
+-- the target is over that environment, is deterministic, and has a name for each of its states
+pub record IsTarget (environment : NamedEnv) (target : NamedTarget) : Type 0 where
+  pub env_states : target.env_states ≡ environment.env.states
+  pub actions : target.actions ≡ environment.env.actions
+  pub names : length target.states ≡ target.beh.states
+  pub known : IsOver target.env_states target.actions target.beh
+  pub single : IsDeterministic target.beh

@@ -9,6 +9,7 @@ abbrev pub Rises : {X : Type 0} → (X → X → Type 0) → List X → Type 0
 Rises Before [] = Unit {0}
 Rises Before (x ∷ xs) = ((y : _) → IsIn y xs → Before x y) × Rises Before xs
 
+-- the one number comes before the other
 abbrev pub IsLess : ℕ → ℕ → Type 0
 IsLess m n = m < n
 
@@ -16,9 +17,11 @@ IsLess m n = m < n
 abbrev pub AreBefore : ℕ × ℕ × ℕ → ℕ × ℕ × ℕ → Type 0
 AreBefore x y = (x.0 < y.0) ⊎ ((x.0 ≡ y.0) × ((x.1 < y.1) ⊎ ((x.1 ≡ y.1) × (x.2 < y.2))))
 
+-- the one triple comes before the other, by its numbers
 abbrev pub IsTripleBefore : Triple → Triple → Type 0
 IsTripleBefore x y = AreBefore (x.from, x.action, x.to) (y.from, y.action, y.to)
 
+-- so does the one step, whatever the guards are
 abbrev pub IsMoveBefore : Move → Move → Type 0
 IsMoveBefore x y = AreBefore (x.from, x.action, x.to) (y.from, y.action, y.to)
 

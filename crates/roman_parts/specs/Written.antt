@@ -13,9 +13,11 @@ use Rattle.roman_parts.specs.Parts.{environment_of, behaviour_of, target_of}
 
 -- ---- the writer
 
+-- a list of values
 abbrev pub list_value : List Data → Data
 list_value ds = array (items_of ds)
 
+-- a list of names
 abbrev pub names_value : List (List ℕ) → Data
 names_value names = list_value (map string names)
 
@@ -23,17 +25,20 @@ names_value names = list_value (map string names)
 abbrev pub place_value : List (List ℕ) → ℕ → Data
 place_value names k = string (name_at names k)
 
+-- the names with those numbers
 abbrev pub places_value : List (List ℕ) → List ℕ → Data
 places_value names ks = list_value (map (place_value names) ks)
 
+-- a step of an environment, by the names of its states and its action
 abbrev pub triple_value : List (List ℕ) → List (List ℕ) → Triple → Data
 triple_value states actions x = list_value (place_value states x.from ∷ place_value actions x.action ∷ place_value states x.to ∷ [])
 
--- a guard is written as the list of its states
+-- a step of a behaviour or a target, whose guard is written as the list of its states
 abbrev pub move_value : List (List ℕ) → List (List ℕ) → List (List ℕ) → Move → Data
 move_value env_states actions states x =
     list_value (place_value states x.from ∷ places_value env_states x.guard ∷ place_value actions x.action ∷ place_value states x.to ∷ [])
 
+-- an environment, with its members in the order of their names
 abbrev pub environment_value : NamedEnv → Data
 environment_value env =
     object (member (codes "actions") (names_value env.actions)
@@ -42,6 +47,7 @@ environment_value env =
     (member (codes "steps") (list_value (map (triple_value env.states env.actions) env.env.triples))
     no_members))))
 
+-- a behaviour over that environment
 abbrev pub behaviour_value : NamedEnv → NamedBeh → Data
 behaviour_value env b =
     object (member (codes "final") (places_value b.states b.beh.finals)
@@ -51,6 +57,7 @@ behaviour_value env b =
     (member (codes "steps") (list_value (map (move_value env.states env.actions b.states) b.beh.steps))
     no_members)))))
 
+-- a target over that environment
 abbrev pub target_value : NamedEnv → NamedTarget → Data
 target_value env t =
     object (member (codes "final") (places_value t.states t.beh.finals)

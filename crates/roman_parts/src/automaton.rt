@@ -139,7 +139,7 @@ impl Automaton {
     }
 }
 
-// The mask of the states that are listed.
+/// The mask of the states that are listed.
 fn mask_of(states: &[u8]) -> u64
     requires { All (λ b. b < 64) states.now }
     ensures { (b : ℕ) → has_state result b ≡ has states.now b }

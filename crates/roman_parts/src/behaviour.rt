@@ -69,6 +69,7 @@ impl Behaviour {
         ensures normal { IfOk result (λ made. made.beh
             ≡ normal_beh env.now.env.states env.now.env.actions (listed_beh (length states) start finals.now steps.now)) }
     {
+        env.known();
         let cells = Cells::over(&states, env);
         let automaton = Automaton::from_lists(alloc, cells, start, finals, steps)?;
         Ok(Behaviour {
@@ -92,8 +93,8 @@ impl Behaviour {
     /// Tells a prover what holds of every behaviour: each of its states has a name, and its numbers are
     /// in range. It does nothing.
     pub fn known(&self)
-        ensures names { length self.now.states ≡ self.now.beh.states }
-        ensures over { IsOver self.now.env_states self.now.actions self.now.beh }
+        ensures count { length self.now.states ≡ self.now.beh.states }
+        ensures known { IsOver self.now.env_states self.now.actions self.now.beh }
     {
         let _states = &self.states;
     }

@@ -10,9 +10,9 @@ use roman_guard::StateSet;
 use roman_model::MAX_STEPS;
 use roman_read::{Kind, NameTable};
 
-#[tactic(auto, using(crate::proofs::SingleLemmas::choice_within), unfolding(crate::specs::Choices::single_of))]
 /// Refuses a choice: the first transition that leaves one with an earlier one, with the first such
 /// and the least environment state in which they do. It takes no memory.
+#[tactic(auto, using(crate::proofs::SingleLemmas::choice_within), unfolding(crate::specs::Choices::single_of))]
 pub(crate) fn check_single(
     env_states: &NameTable,
     steps: &[(u8, StateSet, u8, u8)],
@@ -35,9 +35,9 @@ pub(crate) fn check_single(
     }
 }
 
+/// The first transition that leaves a choice with an earlier one, the first such, and the least
+/// environment state in which they do.
 #[tactic(auto, using(crate::proofs::ChoiceLemmas::searching, crate::proofs::ChoiceLemmas::choice_steps), unfolding(crate::specs::Choices::choice_of))]
-// The first transition that leaves a choice with an earlier one, the first such, and the least
-// environment state in which they do.
 fn find_choice(steps: &[(u8, StateSet, u8, u8)]) -> Option<(usize, (usize, u8))>
     ensures { result ≡ choice_of (map move_of steps.now) }
 {
@@ -49,9 +49,9 @@ fn find_choice(steps: &[(u8, StateSet, u8, u8)]) -> Option<(usize, (usize, u8))>
     None
 }
 
+/// The first transition before number `j` with which it leaves a choice, and the least environment
+/// state in which it does.
 #[tactic(auto, using(crate::proofs::ChoiceLemmas::searching, crate::proofs::ChoiceLemmas::choice_steps), unfolding(crate::specs::Choices::choice_with))]
-// The first transition before number `j` with which it leaves a choice, and the least environment
-// state in which it does.
 fn choice_with(steps: &[(u8, StateSet, u8, u8)], j: usize) -> Option<(usize, u8)>
     requires { j < length steps.now }
     ensures { result ≡ choice_with (map move_of steps.now) j }
@@ -65,8 +65,8 @@ fn choice_with(steps: &[(u8, StateSet, u8, u8)], j: usize) -> Option<(usize, u8)
     None
 }
 
+/// The least environment state in which two transitions leave a choice.
 #[tactic(auto, using(crate::proofs::ChoiceLemmas::pairs))]
-// The least environment state in which two transitions leave a choice.
 fn choice_between(step: &(u8, StateSet, u8, u8), other: &(u8, StateSet, u8, u8)) -> Option<u8>
     ensures { result ≡ choice_between (Some (move_of step.now)) (Some (move_of other.now)) }
 {

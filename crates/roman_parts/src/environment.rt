@@ -100,7 +100,7 @@ impl Environment {
 
     /// Tells a prover what holds of every environment: its numbers are in range. It does nothing.
     pub fn known(&self)
-        ensures { IsEnv self.now.env }
+        ensures known { IsEnv self.now.env }
     {
         let _states = &self.states;
     }

@@ -14,8 +14,8 @@ use roman_read::{Kind, NameTable};
 use serde_json::Value;
 use std::alloc::Global;
 
-#[tactic(auto, unfolding(crate::specs::Guards::guarded_states))]
 /// The environment states that a guard means.
+#[tactic(auto, unfolding(crate::specs::Guards::guarded_states))]
 pub(crate) fn read_states(
     alloc: Global,
     states: &NameTable,
@@ -30,7 +30,7 @@ pub(crate) fn read_states(
     Ok(compile(&guard, states.len() as u8))
 }
 
-// The guard that a value is.
+/// The guard that a value is.
 #[cycle(formula)]
 #[tactic(auto, using(crate::proofs::GuardLemmas::guards))]
 fn read_guard(alloc: Global, states: &NameTable, v: &Value, index: u32) -> Result<Guard, PartError>
@@ -52,7 +52,7 @@ fn read_guard(alloc: Global, states: &NameTable, v: &Value, index: u32) -> Resul
     }
 }
 
-// The guard of one operator.
+/// The guard of one operator.
 #[cycle(formula)]
 #[tactic(auto, using(crate::proofs::GuardLemmas::guards))]
 fn read_operator(
@@ -79,7 +79,7 @@ fn read_operator(
     Err(refused(Kind::Form, List::Steps, index))
 }
 
-// The guards of a list.
+/// The guards of a list.
 #[cycle(formula)]
 #[tactic(auto, using(crate::proofs::GuardLemmas::guard_lists))]
 fn read_guards(
@@ -99,8 +99,8 @@ fn read_guards(
     Ok(guards)
 }
 
+/// The guard that is a list of states.
 #[tactic(auto, using(crate::proofs::GuardLemmas::guards), unfolding(crate::specs::Guards::among_of))]
-// The guard that is a list of states.
 fn read_among(
     alloc: Global,
     states: &NameTable,
@@ -113,8 +113,8 @@ fn read_among(
     Ok(Guard::Among(read_places(alloc, states, items, index)?))
 }
 
+/// The states that are listed.
 #[tactic(auto, using(roman_read::proofs::CallerLemmas::pushes), unfolding(crate::specs::Guards::state_in))]
-// The states that are listed.
 fn read_places(
     alloc: Global,
     states: &NameTable,
@@ -132,8 +132,8 @@ fn read_places(
     Ok(places)
 }
 
+/// The one member of an object that has exactly one.
 #[tactic(auto, using(crate::proofs::GuardLemmas::soles))]
-// The one member of an object that has exactly one.
 fn sole(v: &Value) -> Option<(&str, &Value)>
     ensures { option_map (λ m. (m.0.now, view m.1.now)) result ≡ sole_of (view v.now) }
 {

@@ -25,6 +25,8 @@ pub use behaviour::Behaviour;
 pub use environment::Environment;
 pub use error::{List, PartError};
 pub use laws::{lists_are_read, normal_forms_are_normal, normal_forms_are_unique, parts_are_said};
+pub use names::place_in;
 pub use parts::{read_behaviour, read_environment, read_name, read_target};
+pub use reading::counted_member;
 pub use roman_read::{Kind, Name, NameTable};
 pub use target::Target;

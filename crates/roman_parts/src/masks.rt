@@ -1,6 +1,5 @@
 //! Masks of states, one for each cell of a table.
 ghost use Rattle.std.specs.Prelude.{◌≡◌, ◌+◌, ◌*◌, ◌^◌, ◌<◌, ◌≤◌, length, IfOk, vec_len};
-ghost use Rattle.roman_model.specs.System.{IsEnv};
 ghost use Rattle.roman_parts.specs.Cells.{PutsIntoCell, leads, leads_back, HasCells, goes, goes_back, HasGuardedCells, MarksMove};
 ghost use Rattle.roman_parts.specs.Listed.{AreTriples, AreMoves};
 
@@ -26,7 +25,6 @@ impl Cells {
         ensures states { result.states ≡ length states.now }
         ensures env_states { result.env_states ≡ env.now.env.states }
         ensures actions { result.actions ≡ env.now.env.actions }
-        ensures known { IsEnv env.now.env }
     {
         Cells {
             states: states.len() as usize,
@@ -129,7 +127,7 @@ pub(crate) fn into_masks(
     Ok(masks)
 }
 
-// Puts a state into the cells of a state, an action and each environment state of the guard.
+/// Puts a state into the cells of a state, an action and each environment state of the guard.
 fn mark_move(masks: &mut [u64], cells: Cells, at: u8, guard: StateSet, action: u8, n: u8)
     requires len { length masks.old ≡ cells.states * cells.env_states * cells.actions }
     requires at { at < cells.states }
@@ -145,8 +143,8 @@ fn mark_move(masks: &mut [u64], cells: Cells, at: u8, guard: StateSet, action: u
     }
 }
 
+/// Puts a state into a cell.
 #[tactic(auto, using(crate::proofs::CellLemmas::marking))]
-// Puts a state into a cell.
 fn mark(masks: &mut [u64], cell: usize, n: u8)
     requires cell { cell < length masks.old }
     requires small { n < 64 }

@@ -10,8 +10,8 @@ use roman_read::{AddError, Kind, Name, NameTable, member, text};
 use serde_json::Value;
 use std::alloc::Global;
 
-#[tactic(auto, using(roman_read::proofs::CallerLemmas::each), unfolding(crate::specs::Lists::names_of))]
 /// The names of a member that is a list of 1 to `most` names.
+#[tactic(auto, using(roman_read::proofs::CallerLemmas::each), unfolding(crate::specs::Lists::names_of))]
 pub(crate) fn read_names(
     alloc: Global,
     v: &Value,
@@ -32,8 +32,8 @@ pub(crate) fn read_names(
     Ok(names)
 }
 
+/// Adds the next name of a list.
 #[tactic(auto, unfolding(crate::specs::Lists::name_step))]
-// Adds the next name of a list.
 fn add_name(names: &mut NameTable, item: &Value, place: List, index: u32) -> Result<(), PartError>
     requires { length names.old < 2 ^ 32 - 1 }
     ensures step { Gives (λ _. names.new) result (name_step place index names.old (view item.now)) }
@@ -61,15 +61,11 @@ pub(crate) fn name_in(v: &Value, place: List, index: u32) -> Result<Name, PartEr
     }
 }
 
+/// The place of the name that a value is, among at most 64 names. `Refused` comes where the value is no
+/// text, or none of the names, and says that it is item `index` of that list. No memory is taken.
 #[tactic(auto, unfolding(crate::specs::Lists::place_in))]
-/// The place of the name that a value is.
-pub(crate) fn place_in(
-    names: &NameTable,
-    v: &Value,
-    place: List,
-    index: u32,
-) -> Result<u8, PartError>
-    requires { length names.now ≤ 64 }
+pub fn place_in(names: &NameTable, v: &Value, place: List, index: u32) -> Result<u8, PartError>
+    requires few { length names.now ≤ 64 }
     ensures place { Gives (λ x. x) result (place_in names.now place index (view v.now)) }
     ensures within { IfOk result (λ found. found < length names.now) }
 {
@@ -83,8 +79,8 @@ pub(crate) fn place_in(
     }
 }
 
-#[tactic(auto, unfolding(crate::specs::Lists::start_of))]
 /// The start state.
+#[tactic(auto, unfolding(crate::specs::Lists::start_of))]
 pub(crate) fn read_start(states: &NameTable, v: &Value) -> Result<u8, PartError>
     requires { length states.now ≤ 64 }
     ensures start { Gives (λ x. x) result (start_of states.now (view v.now)) }

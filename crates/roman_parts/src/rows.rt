@@ -61,7 +61,7 @@ impl Rows {
     }
 }
 
-// The items between a bound and the next.
+/// The items between a bound and the next.
 fn between<'a>(bounds: &[u32], items: &'a [u8], k: usize) -> &'a [u8]
     requires place { k + 1 < length bounds.now }
     requires cut { IsCut bounds.now items.now }
@@ -72,7 +72,7 @@ fn between<'a>(bounds: &[u32], items: &'a [u8], k: usize) -> &'a [u8]
     &items[from..to]
 }
 
-// How many states the masks have together.
+/// How many states the masks have together.
 fn count(masks: &[u64]) -> usize
     requires { length masks.now ≤ 2 ^ 17 }
 {
@@ -83,7 +83,7 @@ fn count(masks: &[u64]) -> usize
     total
 }
 
-// Puts the states of a mask, rising, behind the items.
+/// Puts the states of a mask, rising, behind the items.
 fn push_states(items: &mut Vec<u8>, mask: u64) -> Result<(), AllocError>
     ensures { OnOk result (items.new.items ≡ items.old.items ++ states_of mask) }
 {

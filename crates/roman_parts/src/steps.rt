@@ -15,8 +15,8 @@ use roman_read::{Kind, NameTable};
 use serde_json::Value;
 use std::alloc::Global;
 
-#[tactic(auto, using(crate::proofs::StepLemmas::step_lists), unfolding(crate::specs::Steps::triples_of))]
 /// The transitions of an environment.
+#[tactic(auto, using(crate::proofs::StepLemmas::step_lists), unfolding(crate::specs::Steps::triples_of))]
 pub(crate) fn read_triples(
     alloc: Global,
     states: &NameTable,
@@ -38,8 +38,8 @@ pub(crate) fn read_triples(
     Ok(steps)
 }
 
+/// One transition of an environment.
 #[tactic(auto, using(crate::proofs::StepLemmas::items), unfolding(crate::specs::Steps::triple_item))]
-// One transition of an environment.
 fn read_triple(
     states: &NameTable,
     actions: &NameTable,
@@ -61,8 +61,8 @@ fn read_triple(
     Ok((from, action, to))
 }
 
-#[tactic(auto, using(crate::proofs::StepLemmas::step_lists), unfolding(crate::specs::Steps::moves_of))]
 /// The transitions of a behaviour.
+#[tactic(auto, using(crate::proofs::StepLemmas::step_lists), unfolding(crate::specs::Steps::moves_of))]
 pub(crate) fn read_moves(
     alloc: Global,
     env_states: &NameTable,
@@ -89,8 +89,8 @@ pub(crate) fn read_moves(
     Ok(steps)
 }
 
+/// One transition of a behaviour.
 #[tactic(auto, using(crate::proofs::StepLemmas::items), unfolding(crate::specs::Steps::move_item))]
-// One transition of a behaviour.
 fn read_move(
     alloc: Global,
     env_states: &NameTable,

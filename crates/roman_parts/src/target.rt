@@ -69,6 +69,7 @@ impl Target {
         ensures normal { IfOk result (λ made. made.beh
             ≡ normal_beh env.now.env.states env.now.env.actions (listed_beh (length states) start finals.now steps.now)) }
     {
+        env.known();
         let cells = Cells::over(&states, env);
         let automaton = Automaton::from_lists(alloc, cells, start, finals, steps)?;
         Ok(Target { states, automaton })
@@ -87,8 +88,8 @@ impl Target {
     /// Tells a prover what holds of every target: each of its states has a name, its numbers are in
     /// range, and it is deterministic. It does nothing.
     pub fn known(&self)
-        ensures names { length self.now.states ≡ self.now.beh.states }
-        ensures over { IsOver self.now.env_states self.now.actions self.now.beh }
+        ensures count { length self.now.states ≡ self.now.beh.states }
+        ensures known { IsOver self.now.env_states self.now.actions self.now.beh }
         ensures single { IsDeterministic self.now.beh }
     {
         let _states = &self.states;
@@ -130,7 +131,7 @@ impl Target {
             (beh_next self.now.beh t e a ≡ []) (λ to. beh_next self.now.beh t e a ≡ to ∷ []) }
         ensures below { IfSome result (λ to. to < self.now.beh.states) }
     {
-        let _states = &self.states;
+        self.known();
         self.automaton.next(t, e, a).first().copied()
     }
 

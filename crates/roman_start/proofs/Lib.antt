@@ -1,2 +1,3 @@
-pub mod CallerLemmas
+pub mod StartLemmas
 pub mod SeatingLemmas
+pub mod CallerLemmas

@@ -8,7 +8,7 @@ use Rattle.roman_library.specs.Library.{PlainLibrary, IsLibrary}
 use Rattle.roman_start.specs.Starts.{parts_of, start_pair_of, starting}
 use Rattle.roman_start.specs.Seating.{IsSeated}
 use Rattle.roman_start.specs.declared.seating.Seated.{Seated}
-use Rattle.roman_start.proofs.CallerLemmas.{start_pair}
+use Rattle.roman_start.proofs.StartLemmas.{start_pair}
 
 -- the same of a system and states that are the library's
 pub seated_pair : (library : PlainLibrary) (parts : NamedSys) (bs : List ℕ) → IsLibrary library → parts ≡ parts_of library → bs ≡ (start_pair_of library).bs →

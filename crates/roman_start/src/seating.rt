@@ -50,7 +50,7 @@ pub fn seat_library(alloc: Global, library: Library) -> Result<Seated, JointErro
     })
 }
 
-// The places that the services take in a system.
+/// The places that the services take in a system.
 fn seats_of(alloc: Global, services: &[Service]) -> Result<Vec<Seat>, AllocError>
     ensures { IfOk result (λ seats. seats.items ≡ map seat_of_service services.now) }
 {
@@ -63,7 +63,7 @@ fn seats_of(alloc: Global, services: &[Service]) -> Result<Vec<Seat>, AllocError
     services.iter().map(seat).collect(alloc)
 }
 
-// The services' states, with room for as many as there may be.
+/// The services' states, with room for as many as there may be.
 fn states_of(alloc: Global, services: &[Service]) -> Result<Vec<u8>, AllocError>
     requires { length services.now ≤ MAX_SERVICES }
     ensures states { IfOk result (λ states. states.items ≡ map state_of_service services.now) }
@@ -76,7 +76,7 @@ fn states_of(alloc: Global, services: &[Service]) -> Result<Vec<u8>, AllocError>
     Ok(states)
 }
 
-// The number of the pair of the parts' starts and these states.
+/// The number of the pair of the parts' starts and these states.
 fn start_of(joint: &Joint, states: &[u8]) -> u32
     requires { IsPair (system_of joint.now) (starting joint.now states.now) }
     ensures number { result ≡ number (sizes_of (system_of joint.now)) (starting joint.now states.now) }

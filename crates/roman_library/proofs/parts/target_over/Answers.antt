@@ -9,7 +9,7 @@ returns-in-Ok-clause-known c =
     record {
       env_states = over.0;
       actions = over.1;
-      names = c.known.ensures.names;
-      known = c.known.ensures.over;
+      names = c.known.ensures.count;
+      known = c.known.ensures.known;
       single = c.known.ensures.single;
     }

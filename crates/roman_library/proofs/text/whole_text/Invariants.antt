@@ -1,6 +1,6 @@
 use Rattle.std.proofs.Common.{◌≡◌, ◌-◌, vec_len, IfSome}
 use Rattle.roman_io.specs.Shelf.{shelf_text}
-use Rattle.roman_library.specs.Texts.{IsPrefix}
+use Rattle.roman_library.proofs.PrefixLemmas.{IsPrefix}
 use Rattle.roman_library.proofs.text.whole_text.Given as goal
 
 abbrev pub invariant-pieces : goal.invariant-pieces

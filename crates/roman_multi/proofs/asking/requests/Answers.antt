@@ -9,12 +9,12 @@ use Rattle.roman_multi.proofs.asking.requests.Goals as goal
 pub push_requests-requires-clause-states : goal.push_requests-requires-clause-states
 push_requests-requires-clause-states c =
     c.len-env_states.ensures.len ∙ ap length c.states.ensures.names ∙ c.states.ensures.count
-    ∙ sym (c.requires.known c.loop-i.i c.index-targets-i.result c.loop-i-test.true).over.env_states
+    ∙ sym (c.requires.known c.loop-i.i c.index-targets-i.result c.loop-i-test.true).env_states
 
 pub push_requests-requires-clause-actions : goal.push_requests-requires-clause-actions
 push_requests-requires-clause-actions c =
     c.len-actions.ensures.len ∙ ap length c.actions.ensures.names ∙ c.actions.ensures.count
-    ∙ sym (c.requires.known c.loop-i.i c.index-targets-i.result c.loop-i-test.true).over.actions
+    ∙ sym (c.requires.known c.loop-i.i c.index-targets-i.result c.loop-i-test.true).actions
 
 pub loop-i-preserved : goal.loop-i-preserved
 loop-i-preserved c =

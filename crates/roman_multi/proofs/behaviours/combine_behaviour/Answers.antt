@@ -18,7 +18,7 @@ moves_of-requires c =
 pub from_lists-requires : goal.from_lists-requires
 from_lists-requires c =
     let es : c.len-env_states.result ≡ c.args.env.now.env.states = c.len-env_states.ensures.len ∙ ap length c.states.ensures.names ∙ c.states.ensures.count in
-    let count : length c.in_ok-states.states ≡ c.args.behaviour.now.beh.states = ap length (c.in_ok-states.ensures ∙ c.states-2.ensures.names) ∙ c.states-2.ensures.count in
+    let count : length c.in_ok-states.states ≡ c.args.behaviour.now.beh.states = ap length (c.in_ok-states.ensures.same ∙ c.states-2.ensures.names) ∙ c.states-2.ensures.count in
     let lists : AreListsOf c.args.env.now c.args.requests.now c.args.behaviour.now (length c.in_ok-states.states) c.start.result c.deref.result.now c.deref-2.result.now = record {
       world = c.states.ensures.known;
       of = c.requires.of;
@@ -41,7 +41,7 @@ from_lists-requires c =
 pub returns : goal.returns
 returns c =
     let es : c.len-env_states.result ≡ c.args.env.now.env.states = c.len-env_states.ensures.len ∙ ap length c.states.ensures.names ∙ c.states.ensures.count in
-    let kept : c.in_ok-states.states ≡ c.args.behaviour.now.states = c.in_ok-states.ensures ∙ c.states-2.ensures.names in
+    let kept : c.in_ok-states.states ≡ c.args.behaviour.now.states = c.in_ok-states.ensures.same ∙ c.states-2.ensures.names in
     let lists : AreListsOf c.args.env.now c.args.requests.now c.args.behaviour.now (length c.in_ok-states.states) c.start.result c.deref.result.now c.deref-2.result.now = record {
       world = c.states.ensures.known;
       of = c.requires.of;

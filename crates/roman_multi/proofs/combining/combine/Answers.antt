@@ -1,4 +1,4 @@
-use Rattle.std.proofs.Common.{◌≡◌, ◌<◌, ◌≤◌, ap, sym, subst, ◌∙◌, refl, List, length, All, IsTrue, IsFalse, arith}
+use Rattle.std.proofs.Common.{◌≡◌, ◌<◌, ◌≤◌, ap, sym, subst, ◌∙◌, refl, List, length, All, IsTrue, arith}
 use Rattle.std.proofs.lemmas.Bool.{false≢true}
 use Rattle.std.proofs.lemmas.Result.{err_from_is_err_and}
 use Rattle.roman_model.specs.Combined.{target_sizes}
@@ -7,7 +7,7 @@ use Rattle.roman_model.specs.declared.limits.TheConstants.{MAX_STATES, MAX_ACTIO
 use Rattle.roman_model.specs.declared.request.Request.{Request}
 use Rattle.roman_multi.specs.Combining.{machines, has_bad_count, requests_in}
 use Rattle.roman_multi.specs.Lists.{flat}
-use Rattle.roman_multi.proofs.CombineLemmas.{forbids_states, forbids_actions, forbids_none, names_forbid, good_count, few_states, many_states}
+use Rattle.roman_multi.proofs.CombineLemmas.{forbids_states, forbids_actions, forbids_none, names_forbid, few_states, good_counts, many_states}
 use Rattle.roman_multi.proofs.FlatLemmas.{fits_within, within_fits}
 use Rattle.roman_multi.proofs.KnownLemmas.{sizes_positive}
 use Rattle.roman_multi.proofs.combining.combine.Goals as goal
@@ -33,46 +33,39 @@ returns-then-has_bad_count-clause-rules c =
 pub names_of-requires : goal.names_of-requires
 names_of-requires c =
     let sizes : c.deref.result.now ≡ target_sizes (machines c.args.targets.now) = c.deref.ensures.value ∙ c.in_ok-sizes.ensures.sizes in
-    let few : product_of (target_sizes (machines c.args.targets.now)) ≤ MAX_STATES = fits_within c.deref.result.now (target_sizes (machines c.args.targets.now)) c.from.result sizes c.from.ensures (c.in-Some.ensures.fits.0 refl) in
-    let asked : c.deref-2.result.now ≡ requests_in c.args.env.now c.args.targets.now = c.deref-2.ensures.value ∙ c.in_ok-requests.ensures.requests in
-    let good : IsFalse (has_bad_count (requests_in c.args.env.now c.args.targets.now)) =
-    subst (λ rs. IsFalse (has_bad_count rs)) asked (sym c.has_bad_count.ensures ∙ c.if-has_bad_count.false) in
+    let counts = good_counts c.args.env.now c.args.targets.now c.deref.result.now c.from.result c.deref-2.result.now sizes c.from.ensures (c.in-Some.ensures.fits.0 refl)
+    (c.deref-2.ensures.value ∙ c.in_ok-requests.ensures.requests) (sym c.has_bad_count.ensures ∙ c.if-has_bad_count.false) in
     let again : c.deref-3.result.now ≡ requests_in c.args.env.now c.args.targets.now = c.deref-3.ensures.value ∙ c.in_ok-requests.ensures.requests in
     record {
       count = (omega arith, c.requires.count.1);
-      known = c.in_ok-sizes.ensures.known;
       shape = c.in-Some.ensures.shape ∙ ap flat sizes;
-      states = few;
+      states = counts.few;
       requests = again;
-      actions = subst (λ (rs : List Request). length rs ≤ MAX_ACTIONS) (sym again) (good_count (requests_in c.args.env.now c.args.targets.now) good).1;
+      actions = subst (λ (rs : List Request). length rs ≤ MAX_ACTIONS) (sym again) counts.some.1;
     }
 
 pub returns-in_err-states-clause-rules : goal.returns-in_err-states-clause-rules
 returns-in_err-states-clause-rules c =
     let p = err_from_is_err_and c.from_residual-in_err-states.result c.from_residual-in_err-states.ensures.1 in
     let sizes : c.deref.result.now ≡ target_sizes (machines c.args.targets.now) = c.deref.ensures.value ∙ c.in_ok-sizes.ensures.sizes in
-    let few : product_of (target_sizes (machines c.args.targets.now)) ≤ MAX_STATES = fits_within c.deref.result.now (target_sizes (machines c.args.targets.now)) c.from.result sizes c.from.ensures (c.in-Some.ensures.fits.0 refl) in
-    let asked : c.deref-2.result.now ≡ requests_in c.args.env.now c.args.targets.now = c.deref-2.ensures.value ∙ c.in_ok-requests.ensures.requests in
-    let good : IsFalse (has_bad_count (requests_in c.args.env.now c.args.targets.now)) =
-    subst (λ rs. IsFalse (has_bad_count rs)) asked (sym c.has_bad_count.ensures ∙ c.if-has_bad_count.false) in
-    rw (p.1, p.2) (names_forbid c.args.env.now c.args.targets.now c.in_err-states.field-0.0 (few_states c.args.targets.now few) good c.in_err-states.ensures)
+    let counts = good_counts c.args.env.now c.args.targets.now c.deref.result.now c.from.result c.deref-2.result.now sizes c.from.ensures (c.in-Some.ensures.fits.0 refl)
+    (c.deref-2.ensures.value ∙ c.in_ok-requests.ensures.requests) (sym c.has_bad_count.ensures ∙ c.if-has_bad_count.false) in
+    rw (p.1, p.2) (names_forbid c.args.env.now c.args.targets.now c.in_err-states.field-0.0 counts.states counts.actions c.in_err-states.ensures)
 
 pub combine_parts-requires : goal.combine_parts-requires
 combine_parts-requires c =
     let sizes : c.deref.result.now ≡ target_sizes (machines c.args.targets.now) = c.deref.ensures.value ∙ c.in_ok-sizes.ensures.sizes in
-    let few : product_of (target_sizes (machines c.args.targets.now)) ≤ MAX_STATES = fits_within c.deref.result.now (target_sizes (machines c.args.targets.now)) c.from.result sizes c.from.ensures (c.in-Some.ensures.fits.0 refl) in
-    let asked : c.deref-2.result.now ≡ requests_in c.args.env.now c.args.targets.now = c.deref-2.ensures.value ∙ c.in_ok-requests.ensures.requests in
-    let good : IsFalse (has_bad_count (requests_in c.args.env.now c.args.targets.now)) =
-    subst (λ rs. IsFalse (has_bad_count rs)) asked (sym c.has_bad_count.ensures ∙ c.if-has_bad_count.false) in
+    let counts = good_counts c.args.env.now c.args.targets.now c.deref.result.now c.from.result c.deref-2.result.now sizes c.from.ensures (c.in-Some.ensures.fits.0 refl)
+    (c.deref-2.ensures.value ∙ c.in_ok-requests.ensures.requests) (sym c.has_bad_count.ensures ∙ c.if-has_bad_count.false) in
     let again : c.deref-4.result.now ≡ requests_in c.args.env.now c.args.targets.now = c.deref-4.ensures.value ∙ c.in_ok-requests.ensures.requests in
     record {
       count = c.requires.count.1;
       catalogue = c.requires.catalogue;
       known = c.in_ok-sizes.ensures.known;
       shape = c.in-Some.ensures.shape ∙ ap flat sizes;
-      few = few;
+      few = counts.few;
       requests = again;
-      some = subst (λ (rs : List Request). (0 < length rs) × (length rs ≤ MAX_ACTIONS)) (sym again) (good_count (requests_in c.args.env.now c.args.targets.now) good);
+      some = subst (λ (rs : List Request). (0 < length rs) × (length rs ≤ MAX_ACTIONS)) (sym again) counts.some;
       states = c.in_ok-states.ensures.0;
       actions = c.in_ok-states.ensures.1;
     }
@@ -83,8 +76,6 @@ returns-clause-parts c = c.in_ok-made.ensures
 pub returns-clause-rules : goal.returns-clause-rules
 returns-clause-rules c =
     let sizes : c.deref.result.now ≡ target_sizes (machines c.args.targets.now) = c.deref.ensures.value ∙ c.in_ok-sizes.ensures.sizes in
-    let few : product_of (target_sizes (machines c.args.targets.now)) ≤ MAX_STATES = fits_within c.deref.result.now (target_sizes (machines c.args.targets.now)) c.from.result sizes c.from.ensures (c.in-Some.ensures.fits.0 refl) in
-    let asked : c.deref-2.result.now ≡ requests_in c.args.env.now c.args.targets.now = c.deref-2.ensures.value ∙ c.in_ok-requests.ensures.requests in
-    let good : IsFalse (has_bad_count (requests_in c.args.env.now c.args.targets.now)) =
-    subst (λ rs. IsFalse (has_bad_count rs)) asked (sym c.has_bad_count.ensures ∙ c.if-has_bad_count.false) in
-    forbids_none c.args.env.now c.args.targets.now (few_states c.args.targets.now few) good c.in_ok-states.ensures.2 c.in_ok-states.ensures.3
+    let counts = good_counts c.args.env.now c.args.targets.now c.deref.result.now c.from.result c.deref-2.result.now sizes c.from.ensures (c.in-Some.ensures.fits.0 refl)
+    (c.deref-2.ensures.value ∙ c.in_ok-requests.ensures.requests) (sym c.has_bad_count.ensures ∙ c.if-has_bad_count.false) in
+    forbids_none c.args.env.now c.args.targets.now counts.states counts.actions c.in_ok-states.ensures.2 c.in_ok-states.ensures.3

@@ -2,7 +2,8 @@ use Rattle.std.proofs.Common.{◌≡◌, ◌≤◌, ◌++◌, ◌∷◌, [], ap,
 use Rattle.roman_model.specs.Combined.{target_sizes}
 use Rattle.roman_model.specs.declared.limits.TheConstants.{MAX_STATES}
 use Rattle.roman_parts.proofs.CallerLemmas.{IsOver-states}
-use Rattle.roman_multi.specs.Combining.{IsKnown, machines}
+use Rattle.roman_parts.specs.Named.{IsTarget}
+use Rattle.roman_multi.specs.Combining.{machines}
 use Rattle.roman_multi.specs.declared.parts.Named.{Named}
 use Rattle.roman_multi.proofs.KnownLemmas.{known_more, sizes_more}
 use Rattle.roman_multi.proofs.sizes.sizes_of.Goals as goal
@@ -23,8 +24,9 @@ loop-i-preserved c =
           c.in_ok-push.ensures.items ∙ ap (λ xs. xs ++ c.len.result ∷ []) c.loop-i.invariant.sizes
           ∙ ap (λ n. target_sizes (machines (take c.loop-i.i c.args.targets.now)) ++ n ∷ []) count
           ∙ sym (sizes_more c.args.targets.now c.loop-i.i c.index-targets-i.result c.loop-i-test.true);
-      known = known_more (λ (x : Named). IsKnown c.args.env.now x.target) c.args.targets.now c.loop-i.i c.index-targets-i.result c.loop-i.invariant.known c.loop-i-test.true (record {
-        over = c.requires c.loop-i.i c.index-targets-i.result c.loop-i-test.true;
+      known = known_more (λ (x : Named). IsTarget c.args.env.now x.target) c.args.targets.now c.loop-i.i c.index-targets-i.result c.loop-i.invariant.known c.loop-i-test.true (record {
+        env_states = (c.requires c.loop-i.i c.index-targets-i.result c.loop-i-test.true).env_states;
+        actions = (c.requires c.loop-i.i c.index-targets-i.result c.loop-i-test.true).actions;
         names = c.states.ensures.count;
         known = c.states.ensures.known;
         single = c.states.ensures.single;

@@ -1,10 +1,11 @@
 use Rattle.std.proofs.Common.{◌≡◌, take, All}
 use Rattle.roman_model.specs.Combined.{target_sizes}
-use Rattle.roman_multi.specs.Combining.{IsKnown, machines}
+use Rattle.roman_parts.specs.Named.{IsTarget}
+use Rattle.roman_multi.specs.Combining.{machines}
 use Rattle.roman_multi.proofs.sizes.sizes_of.Given as goal
 
 abbrev pub invariant-loop-i : goal.invariant-loop-i
 invariant-loop-i l = record {
   sizes : l.sizes.items ≡ target_sizes (machines (take l.i l.targets));
-  known : All (λ named. IsKnown l.env named.target) (take l.i l.targets);
+  known : All (λ named. IsTarget l.env named.target) (take l.i l.targets);
 }

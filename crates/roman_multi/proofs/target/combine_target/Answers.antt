@@ -1,4 +1,5 @@
 use Rattle.std.proofs.Common.{◌<◌, ◌≤◌, List, ap, sym, ◌∙◌, length, slice_get, subst}
+use Rattle.std.proofs.lemmas.Result.{IfOk-weaker}
 use Rattle.roman_model.specs.Lists.{product_of}
 use Rattle.roman_model.specs.Combined.{target_sizes, combined_target}
 use Rattle.roman_model.specs.Numbers.{states_at}
@@ -10,7 +11,6 @@ use Rattle.roman_multi.specs.Combining.{machines}
 use Rattle.roman_multi.specs.Lists.{listed_moves, next_of_all}
 use Rattle.roman_multi.proofs.KnownLemmas.{several, several_is}
 use Rattle.roman_multi.proofs.MoveLemmas.{requests_in_range}
-use Rattle.roman_multi.proofs.TripleLemmas.{if_ok_more}
 use Rattle.roman_multi.proofs.TargetLemmas.{AreListsOf, made_target_is, made_steps_in_range, made_finals_below}
 use Rattle.roman_multi.proofs.target.combine_target.Goals as goal
 
@@ -23,7 +23,7 @@ moves_of-requires-clause-actions c = λ k d l. (requests_in_range c.args.env.now
 pub from_lists-requires : goal.from_lists-requires
 from_lists-requires c =
     let lists : AreListsOf (several c.args.env.now c.args.targets.now) (length c.args.states) c.in_ok-start.start c.deref.result.now c.deref-2.result.now = record {
-      several = several_is c.args.env.now c.args.targets.now c.known.ensures c.requires.known c.requires.few
+      several = several_is c.args.env.now c.args.targets.now c.known.ensures.known c.requires.known c.requires.few
           (subst (λ (xs : List Request). (0 < length xs) × (length xs ≤ MAX_ACTIONS)) c.requires.requests c.requires.some);
       count = c.requires.states;
       start = c.in_ok-start.ensures;
@@ -47,7 +47,7 @@ from_lists-requires c =
 pub returns-clause-target : goal.returns-clause-target
 returns-clause-target c =
     let lists : AreListsOf (several c.args.env.now c.args.targets.now) (length c.args.states) c.in_ok-start.start c.deref.result.now c.deref-2.result.now = record {
-      several = several_is c.args.env.now c.args.targets.now c.known.ensures c.requires.known c.requires.few
+      several = several_is c.args.env.now c.args.targets.now c.known.ensures.known c.requires.known c.requires.few
           (subst (λ (xs : List Request). (0 < length xs) × (length xs ≤ MAX_ACTIONS)) c.requires.requests c.requires.some);
       count = c.requires.states;
       start = c.in_ok-start.ensures;
@@ -57,7 +57,7 @@ returns-clause-target c =
           ∙ ap (λ (xs : List Request). listed_moves c.args.env.now.env.states (length xs) (product_of (target_sizes (machines c.args.targets.now)))
           (λ t n e. next_of_all (machines c.args.targets.now) (states_at (target_sizes (machines c.args.targets.now)) t) e (slice_get xs n))) c.requires.requests;
     } in
-    if_ok_more _ _ c.from_lists.result
+    IfOk-weaker c.from_lists.result _ _
     (λ made e. e
     ∙ made_target_is (several c.args.env.now c.args.targets.now) (length c.args.states) c.in_ok-start.start c.deref.result.now c.deref-2.result.now
     c.args.over.now.env.states c.args.over.now.env.actions lists c.requires.over.0 (c.requires.over.1 ∙ ap length c.requires.requests)

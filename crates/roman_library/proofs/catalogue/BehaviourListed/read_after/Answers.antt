@@ -2,7 +2,8 @@
 use Rattle.std.proofs.Common.{◌≡◌, ◌∷◌, ◌++◌, [], map, refl, rules, None}
 use Rattle.serde_json.specs.View.{view}
 use Rattle.roman_read.specs.Names.{place_of}
-use Rattle.roman_library.specs.Library.{IsBehaviour, behaviour_name}
+use Rattle.roman_parts.specs.Named.{IsBehaviour}
+use Rattle.roman_library.specs.Library.{behaviour_name}
 use Rattle.roman_library.proofs.LibraryLemmas.{behaviour_is_over, behaviour_has_name, IsCatalogue-push}
 use Rattle.roman_library.proofs.catalogue.BehaviourListed.read_after.Goals as goal
 
@@ -12,7 +13,7 @@ returns-clause-known c = λ before.
     let d = view c.args.v.now in
     let b = c.in_ok-behaviour.behaviour in
     let over = behaviour_is_over env d b c.in_ok-behaviour.ensures.behaviour in
-    let is : IsBehaviour env b = record { env_states = over.0; actions = over.1; names = c.known.ensures.names; known = c.known.ensures.over } in
+    let is : IsBehaviour env b = record { env_states = over.0; actions = over.1; names = c.known.ensures.count; known = c.known.ensures.known } in
     let named = behaviour_has_name env d b c.in_ok-name.name c.in_ok-behaviour.ensures.behaviour c.in_ok-name.ensures.name in
     let free : place_of (map behaviour_name c.args.before.now) c.in_ok-name.name ≡ None = search rules in
     let new : place_of (map behaviour_name c.args.before.now) b.name ≡ None = rw named free in

@@ -1,5 +1,5 @@
 use Rattle.std.proofs.Common.{◌≡◌, ◌*◌, ℕ, List, length, arith}
-use Rattle.roman_parts.proofs.TableLemmas.{laid_moves, laid_finals, laid_guarded_rows}
+use Rattle.roman_parts.proofs.TableLemmas.{laid_moves}
 use Rattle.roman_parts.proofs.automaton.Automaton.from_lists.Goals as goal
 
 pub invariant_of-result : goal.invariant_of-result
@@ -9,21 +9,18 @@ invariant_of-result c =
     let from : List ℕ = c.in_ok-into_masks.field-0.items in
     let to_len : length to ≡ n.states * n.env_states * n.actions = omega (arith, c.in_ok-out_masks.ensures.len) in
     let from_len : length from ≡ n.states * n.env_states * n.actions = omega (arith, c.in_ok-into_masks.ensures.len) in
+    let laid = laid_moves n.states n.env_states n.actions c.args.start c.args.finals.now c.args.steps.now c.mask_of.result to from
+    c.requires.states c.requires.env_states c.requires.actions c.requires.start c.requires.finals c.requires.steps c.mask_of.ensures to_len from_len
+    c.in_ok-out_masks.ensures.has c.in_ok-into_masks.ensures.has in
     rw (
       c.in_ok-next.ensures.rows,
       c.deref.ensures.value,
       c.in_ok-prev.ensures.rows,
       c.deref-2.ensures.value,
-      laid_moves n.states n.env_states n.actions c.args.start c.args.finals.now c.args.steps.now c.mask_of.result to from
-          c.requires.states c.requires.env_states c.requires.actions c.requires.start c.requires.finals c.requires.steps c.mask_of.ensures to_len from_len
-          c.in_ok-out_masks.ensures.has c.in_ok-into_masks.ensures.has,
-      laid_finals n.states n.env_states n.actions c.args.start c.args.finals.now c.args.steps.now c.mask_of.result to from
-          c.requires.states c.requires.env_states c.requires.actions c.requires.start c.requires.finals c.requires.steps c.mask_of.ensures to_len from_len
-          c.in_ok-out_masks.ensures.has c.in_ok-into_masks.ensures.has,
+      laid.moves,
+      laid.final,
     )
-    (laid_guarded_rows n.states n.env_states n.actions c.args.start c.args.finals.now c.args.steps.now c.mask_of.result to from
-    c.requires.states c.requires.env_states c.requires.actions c.requires.start c.requires.finals c.requires.steps c.mask_of.ensures to_len from_len
-    c.in_ok-out_masks.ensures.has c.in_ok-into_masks.ensures.has)
+    laid.rows
 
 pub returns-clause-normal : goal.returns-clause-normal
 returns-clause-normal c =
@@ -32,13 +29,12 @@ returns-clause-normal c =
     let from : List ℕ = c.in_ok-into_masks.field-0.items in
     let to_len : length to ≡ n.states * n.env_states * n.actions = omega (arith, c.in_ok-out_masks.ensures.len) in
     let from_len : length from ≡ n.states * n.env_states * n.actions = omega (arith, c.in_ok-into_masks.ensures.len) in
+    let laid = laid_moves n.states n.env_states n.actions c.args.start c.args.finals.now c.args.steps.now c.mask_of.result to from
+    c.requires.states c.requires.env_states c.requires.actions c.requires.start c.requires.finals c.requires.steps c.mask_of.ensures to_len from_len
+    c.in_ok-out_masks.ensures.has c.in_ok-into_masks.ensures.has in
     rw (
       c.in_ok-next.ensures.rows,
       c.deref.ensures.value,
-      laid_moves n.states n.env_states n.actions c.args.start c.args.finals.now c.args.steps.now c.mask_of.result to from
-          c.requires.states c.requires.env_states c.requires.actions c.requires.start c.requires.finals c.requires.steps c.mask_of.ensures to_len from_len
-          c.in_ok-out_masks.ensures.has c.in_ok-into_masks.ensures.has,
-      laid_finals n.states n.env_states n.actions c.args.start c.args.finals.now c.args.steps.now c.mask_of.result to from
-          c.requires.states c.requires.env_states c.requires.actions c.requires.start c.requires.finals c.requires.steps c.mask_of.ensures to_len from_len
-          c.in_ok-out_masks.ensures.has c.in_ok-into_masks.ensures.has,
+      laid.moves,
+      laid.final,
     )

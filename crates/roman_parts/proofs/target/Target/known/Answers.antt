@@ -1,4 +1,4 @@
 use Rattle.roman_parts.proofs.target.Target.known.Goals as goal
 
-pub returns-clause-over : goal.returns-clause-over
-returns-clause-over c = rw (← c.self.view_is) c.self.invariant.known
+pub returns-clause-known : goal.returns-clause-known
+returns-clause-known c = rw (← c.self.view_is) c.self.invariant.known
