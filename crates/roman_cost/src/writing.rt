@@ -21,6 +21,7 @@ use crate::costs::Costs;
 use roman_io::{Failed, Sink};
 use roman_read::Name;
 use roman_relation::Relation;
+use roman_rules::Rules;
 use roman_text::{Page, Piece};
 
 /// Puts the text of advice from the related pair `start` on: what the requests for which it was built
@@ -90,7 +91,7 @@ fn push_choices<O: Sink>(
     ensures cause { HasCause (O.faults out.old) (O.faults out.new) result }
 {
     relation.joint.known();
-    for a in 0..relation.joint.environment().actions().len() as u8 {
+    for a in 0..relation.joint.actions() {
         if !relation.joint.allowed(start, a) {
             continue;
         }
