@@ -81,7 +81,7 @@ pub(crate) fn row_of<T>(table: &[T], i: usize, n: usize) -> &[T]
     &table[from..from + n]
 }
 
-// What a related pair costs at worst for one request more than the row has.
+/// What a related pair costs at worst for one request more than the row has.
 fn dearest(
     joint: &Joint,
     costs: &Costs,

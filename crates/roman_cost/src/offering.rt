@@ -30,7 +30,7 @@ pub(crate) fn offered_seats(
     Ok(table)
 }
 
-// Puts behind the table the services that may be offered at a related pair, for each action.
+/// Puts behind the table the services that may be offered at a related pair, for each action.
 fn push_offers(table: &mut Vec<SeatSet>, relation: &Relation, p: u32) -> Result<(), AllocError>
     requires relation { IsRelation relation.now.joint relation.now.order }
     requires pair { p < count (sizes_of (system_of relation.now.joint)) }
@@ -43,7 +43,7 @@ fn push_offers(table: &mut Vec<SeatSet>, relation: &Relation, p: u32) -> Result<
     Ok(())
 }
 
-// The services that may be offered for an action at a related pair; none where it isn't allowed.
+/// The services that may be offered for an action at a related pair; none where it isn't allowed.
 fn offers_at(relation: &Relation, p: u32, a: u8) -> SeatSet
     requires relation { IsRelation relation.now.joint relation.now.order }
     requires pair { p < count (sizes_of (system_of relation.now.joint)) }
