@@ -53,13 +53,7 @@ impl Losses {
         ensures losses { IfOk result (λ losses. AreLosses base.now.joint losses) }
     {
         let mut trials = Trials::build(alloc, base)?;
-        let frozen = try_all(alloc, base, p, Way::Freeze, &mut trials, steps)?;
-        let gone = try_all(alloc, base, p, Way::Die, &mut trials, steps)?;
-        Ok(Losses {
-            pair: p,
-            frozen,
-            gone,
-        })
+        try_both_ways(alloc, base, p, &mut trials, steps)
     }
 
     /// What is left where the service at the place `first` fails so, or those at the places `first` and
@@ -108,6 +102,29 @@ fn entry(table: &[Outlook], first: u8, second: Option<u8>) -> Outlook
         None => table[PLACES * k + k],
         Some(second) => table[PLACES * second as usize + k],
     }
+}
+
+/// Tries the failures of each service, and of each two, in either way.
+fn try_both_ways<L: Ledger>(
+    alloc: Global,
+    base: &Relation,
+    p: u32,
+    trials: &mut Trials,
+    steps: &mut Steps<L>,
+) -> Result<Losses, AllocError>
+    requires base { IsRelation base.now.joint base.now.order }
+    requires pair { p < count (sizes_of (system_of base.now.joint)) }
+    requires trials { AreTrialsOf base.now.joint trials.old }
+    ensures pair { IfOk result (λ losses. losses.pair ≡ p) }
+    ensures losses { IfOk result (λ losses. AreLosses base.now.joint losses) }
+{
+    let frozen = try_all(alloc, base, p, Way::Freeze, trials, steps)?;
+    let gone = try_all(alloc, base, p, Way::Die, trials, steps)?;
+    Ok(Losses {
+        pair: p,
+        frozen,
+        gone,
+    })
 }
 
 /// Tries the failures of each service, and of each two, in one way.
