@@ -1,5 +1,5 @@
 -- Loops that keep the best seat so far.
-use Rattle.std.proofs.Common.{◌≡◌, ◌≢◌, ℕ, ◌+◌, Bool, true, false, cond, List, [], ◌∷◌, ◌++◌, Option, Some, None, filter, nat_le, refl, sym, ap, ◌∙◌, inl, inr, add-one}
+use Rattle.std.proofs.Common.{◌≡◌, ◌≢◌, ℕ, ◌+◌, Bool, true, false, cond, List, [], ◌∷◌, ◌++◌, Option, Some, None, filter, nat_le, refl, sym, ap, ◌∙◌, inl, inr, add-one, append-nil}
 use Rattle.roman_model.specs.Lists.{IsIn, below}
 use Rattle.roman_model.specs.System.{has}
 use Rattle.roman_model.specs.Plans.{least_from, first_least}
@@ -35,12 +35,8 @@ best_of-taken f p k cost best new passes before e is =
 pub best_of-passed : (f : ℕ → ℕ) (p : ℕ → Bool) (k : ℕ) (best : Option (ℕ × ℕ)) → p k ≡ false → best ≡ best_of f (filter p (below k)) →
     best ≡ best_of f (filter p (below (k + 1)))
 best_of-passed f p k best fails before =
-    before ∙ ap (best_of f) (sym (ap (λ b. filter p (below k) ++ cond b (k ∷ []) []) fails ∙ none (filter p (below k)))) ∙ ap (best_of f) (sym (filter_below_more p k))
+    before ∙ ap (best_of f) (sym (ap (λ b. filter p (below k) ++ cond b (k ∷ []) []) fails ∙ append-nil (filter p (below k)))) ∙ ap (best_of f) (sym (filter_below_more p k))
     ∙ ap (λ n. best_of f (filter p (below n))) (sym (add-one k))
-  where
-    none : (xs : List ℕ) → xs ++ [] ≡ xs
-    none [] = refl
-    none (x ∷ xs) = ap (λ ys. x ∷ ys) (none xs)
 
 -- the numbers below a bound that a list of such numbers has are that list
 pub filter_has : (q : ℕ → Bool) (n : ℕ) → filter (has (filter q (below n))) (below n) ≡ filter q (below n)

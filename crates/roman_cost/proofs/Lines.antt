@@ -13,7 +13,6 @@ use Rattle.roman_model.specs.Explanation.{name_at}
 use Rattle.roman_model.specs.Numbers.{sizes_of, count, pair_at}
 use Rattle.roman_model.specs.Offers.{is_related}
 use Rattle.roman_model.specs.Plans.{Costs, allowed_actions, least, least_at, choice, through}
-use Rattle.roman_model.specs.System as model
 use Rattle.roman_model.proofs.CallerLemmas.{related_great, length-below, get_or-below, numbers_are_pairs, choice_is}
 use Rattle.roman_text.proofs.CallerLemmas.{IsFilling, fill_whole}
 use Rattle.roman_joint.specs.NamedSys.{NamedSys, system_of, seat_of}

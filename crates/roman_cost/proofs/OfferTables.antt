@@ -1,5 +1,5 @@
 -- Tables of offers, one pair after another.
-use Rattle.std.proofs.Common.{◌≡◌, ℕ, suc, ◌+◌, ◌*◌, ◌<◌, ◌≤◌, true, false, List, [], ◌∷◌, ◌++◌, length, get_or, take, slice_index, slice_range, IsTrue, IsFalse, eqb, inl, inr, refl, sym, ap, ◌∙◌, subst, arith, length-append}
+use Rattle.std.proofs.Common.{◌≡◌, ℕ, suc, ◌+◌, ◌*◌, ◌<◌, ◌≤◌, true, false, List, [], ◌∷◌, ◌++◌, length, get_or, take, slice_index, slice_range, IsTrue, IsFalse, eqb, inl, inr, refl, sym, ap, ◌∙◌, subst, arith, append_assoc, append-nil, length-append}
 use Rattle.std.proofs.Math.Nat.{mul-le-mul_left}
 use Rattle.std.proofs.lemmas.Bool.{cases_eq, both_ways, eq-eqb, eqb-true}
 use Rattle.std.proofs.lemmas.List.{get_or_append_left, get_or_push, length_push, take_more, take_all}
@@ -25,16 +25,12 @@ pub record IsBegun (s : Sys) (p : ℕ) (old table : List ℕ) (n : ℕ) : Type 0
   pub each : (a : ℕ) → a < n → IsOffers s p a (slice_index row a)
 
 pub IsBegun-none : (s : Sys) (p : ℕ) (old : List ℕ) → IsBegun s p old old 0
-IsBegun-none s p old = record { row = []; pushed = none old; len = refl; each = λ a l. absurd (omega arith) }
-  where
-    none : (xs : List ℕ) → xs ≡ xs ++ []
-    none [] = refl
-    none (x ∷ xs) = ap (λ ys. x ∷ ys) (none xs)
+IsBegun-none s p old = record { row = []; pushed = sym (append-nil old); len = refl; each = λ a l. absurd (omega arith) }
 
 pub IsBegun-more : (s : Sys) (p : ℕ) (old table new : List ℕ) (n bits : ℕ) → IsBegun s p old table n → IsOffers s p n bits → new ≡ table ++ bits ∷ [] → IsBegun s p old new (n + 1)
 IsBegun-more s p old table new n bits begun are next = record {
   row = begun.row ++ bits ∷ [];
-  pushed = next ∙ ap (λ xs. xs ++ bits ∷ []) begun.pushed ∙ again old begun.row;
+  pushed = next ∙ ap (λ xs. xs ++ bits ∷ []) begun.pushed ∙ append_assoc old begun.row (bits ∷ []);
   len = length_push begun.row bits ∙ ap (λ m. m + 1) begun.len;
   each = λ a l. elim (cases_eq a n) [
     | inl e ↦ subst (λ m. IsOffers s p m (slice_index (begun.row ++ bits ∷ []) m)) (sym e) (subst (IsOffers s p n) (sym (get_or_push begun.row bits 0 n begun.len)) are)
@@ -43,10 +39,6 @@ IsBegun-more s p old table new n bits begun are next = record {
         subst (IsOffers s p a) (sym (get_or_append_left begun.row (bits ∷ []) 0 a (subst (λ m. a < m) (sym begun.len) small))) (begun.each a small)
   ];
 }
-  where
-    again : (xs ys : List ℕ) → (xs ++ ys) ++ bits ∷ [] ≡ xs ++ (ys ++ bits ∷ [])
-    again [] ys = refl
-    again (x ∷ xs) ys = ap (λ zs. x ∷ zs) (again xs ys)
 
 pub IsBegun-all : (s : Sys) (p : ℕ) (old table : List ℕ) (n : ℕ) → n ≡ s.env.actions → IsBegun s p old table n → PushesOffers s p old table
 IsBegun-all s p old table n all begun = record {

@@ -1,7 +1,7 @@
 -- Rows of values: where a row stands, and how great its values are.
-use Rattle.std.proofs.Common.{◌≡◌, ℕ, zero, suc, ◌+◌, ◌-◌, ◌*◌, ◌<◌, ◌≤◌, List, [], ◌∷◌, ◌++◌, map, length, get_or, take, drop, replicate, All, slice_range, refl, sym, ap, ap₂, ◌∙◌, inl, inr, arith, append-nil, length-append}
+use Rattle.std.proofs.Common.{◌≡◌, ℕ, zero, suc, ◌+◌, ◌-◌, ◌*◌, ◌<◌, ◌≤◌, List, [], ◌∷◌, ◌++◌, map, length, get_or, take, drop, replicate, All, slice_range, refl, sym, ap, ap₂, ◌∙◌, inl, inr, arith, append_assoc, append-nil, length-append}
 use Rattle.std.proofs.Math.Nat.{mul-le-mul_left}
-use Rattle.std.proofs.Math.Seq.{drop-append_seam}
+use Rattle.std.proofs.Math.Seq.{take-nil, take-length, drop-append_seam}
 use Rattle.std.proofs.lemmas.Bool.{cases_eq}
 use Rattle.std.proofs.lemmas.List.{take-append-le, drop-append-le, length-drop, length-map, take_more, map_push}
 use Rattle.roman_model.specs.Lists.{IsIn, below}
@@ -49,11 +49,7 @@ range_left xs ys i n l =
 pub range_seam : {X : Type 0} (xs ys : List X) (i n : ℕ) → i ≡ length xs → n ≡ length ys → slice_range (xs ++ ys) i (i + n) ≡ ys
 range_seam xs ys i n at long =
     let whole : i + n - i ≡ length ys = omega arith in
-    ap₂ take whole (ap (λ k. drop k (xs ++ ys)) at ∙ drop-append_seam xs ys) ∙ all ys
-  where
-    all : {X : Type 0} (ys : List X) → take (length ys) ys ≡ ys
-    all [] = refl
-    all (y ∷ ys) = ap (λ zs. y ∷ zs) (all ys)
+    ap₂ take whole (ap (λ k. drop k (xs ++ ys)) at ∙ drop-append_seam xs ys) ∙ take-length ys
 
 pub row_at : (s : Sys) (C : Costs) (pairs more : List ℕ) (n h : ℕ) → h < n →
     slice_range (value_rows s C pairs n ++ more) (h * length pairs) (h * length pairs + length pairs) ≡ map (least_at s C h) pairs
@@ -81,6 +77,11 @@ row_fits s C pairs more values n h l is =
     let long : length values ≡ length (value_rows s C pairs n ++ more) = ap length is in
     omega (arith, up, long, length_rows (least_at s C) pairs n, length-append (value_rows s C pairs n) more)
 
+-- the row of so many requests, where a further row is begun
+pub row_told : (s : Sys) (C : Costs) (pairs more values row : List ℕ) (n h : ℕ) → h < n → values ≡ value_rows s C pairs n ++ more →
+    row ≡ slice_range values (h * length pairs) (h * length pairs + length pairs) → row ≡ map (least_at s C h) pairs
+row_told s C pairs more values row n h l is told = told ∙ ap (λ vs. slice_range vs (h * length pairs) (h * length pairs + length pairs)) is ∙ row_at s C pairs more n h l
+
 -- a row of advice
 pub table_row : (s : Sys) (C : Costs) (table : AdviceTable) (values : List ℕ) (n h : ℕ) → Advises s C table → h ≤ table.requests → values ≡ table.values → n ≡ length table.pairs →
     slice_range values (h * n) (h * n + n) ≡ map (least_at s C h) (related_pairs s)
@@ -90,10 +91,6 @@ table_row s C table values n h says few same long =
     ∙ row_at s C table.pairs [] (suc table.requests) h (omega arith) ∙ ap (map (least_at s C h)) says.pairs
 
 -- The rows so far.
-
-take-nil : (n : ℕ) → take {A = ℕ} n [] ≡ []
-take-nil zero = refl
-take-nil (suc n) = refl
 
 pub first_row : (s : Sys) (C : Costs) (pairs : List ℕ) (n : ℕ) → n ≡ length pairs → replicate n 0 ≡ value_rows s C pairs 1
 first_row s C pairs n e = ap (λ k. replicate k 0) e ∙ zeros pairs ∙ sym (append-nil (map (least_at s C 0) pairs))
@@ -112,9 +109,5 @@ resized_row s C pairs values new n m empty none long is =
 pub row_more : (f : ℕ → ℕ) (rows pairs values new : List ℕ) (i value : ℕ) → i < length pairs → values ≡ rows ++ map f (take i pairs) → value ≡ f (get_or pairs i 0) →
     new ≡ values ++ value ∷ [] → new ≡ rows ++ map f (take (i + 1) pairs)
 row_more f rows pairs values new i value l before is next =
-    next ∙ ap₂ (λ vs v. vs ++ v ∷ []) before is ∙ append_again rows (map f (take i pairs)) (f (get_or pairs i 0) ∷ [])
+    next ∙ ap₂ (λ vs v. vs ++ v ∷ []) before is ∙ append_assoc rows (map f (take i pairs)) (f (get_or pairs i 0) ∷ [])
     ∙ ap (λ vs. rows ++ vs) (sym (map_push f (take i pairs) (get_or pairs i 0)) ∙ ap (map f) (sym (take_more pairs i 0 l)))
-  where
-    append_again : (xs ys zs : List ℕ) → (xs ++ ys) ++ zs ≡ xs ++ (ys ++ zs)
-    append_again [] ys zs = refl
-    append_again (x ∷ xs) ys zs = ap (λ ws. x ∷ ws) (append_again xs ys zs)

@@ -3,9 +3,9 @@ use Rattle.std.specs.Prelude.{◌≡◌, ℕ, suc, ◌-◌, ◌<◌, ◌≤◌, 
 use Rattle.std.specs.List.{flat_map}
 use Rattle.roman_model.specs.Composition.{Great}
 use Rattle.roman_model.specs.Explanation.{name_at}
-use Rattle.roman_model.specs.Lists.{IsIn, below}
+use Rattle.roman_model.specs.Lists.{IsIn, IsSublist, below}
 use Rattle.roman_model.specs.Numbers.{sizes_of, count, number, pair_at}
-use Rattle.roman_model.specs.Plans.{Costs, Plan, IsPlan, IsChoice, worst, allowed_actions}
+use Rattle.roman_model.specs.Plans.{Costs, Plan, IsPlan, IsChoice, worst, through, allowed_actions}
 use Rattle.roman_model.specs.System.{Sys, Pair, IsSys, IsPair}
 use Rattle.roman_model.specs.SystemArena.{is_allowed}
 use Rattle.roman_joint.specs.NamedSys.{NamedSys, system_of}
@@ -22,15 +22,19 @@ pub record IsLeastCost (s : Sys) (C : Costs) (h : ℕ) (p : Pair) (value : ℕ) 
   pub none_less : (other : Plan) → IsPlan s h p other → value ≤ worst s C p other
 
 -- a text names the value of the pair itself, a seat and its cost for each action that is allowed, and all values at the
--- related pairs; the values are least costs, the seats are choices, and what a seat costs is what it costs with them
+-- related pairs, whose numbers rise; the values are least costs, the seats are choices, and what a seat costs is what it
+-- costs to delegate to it where the values of one request less follow
 pub record TellsLeast (n : NamedSys) (C : Costs) (requests : ℕ) (p : Pair) (text : List ℕ) : Type 0 where
   pub value : ℕ → ℕ → ℕ
   pub seat : ℕ → ℕ
   pub cost : ℕ → ℕ
   pub pairs : List ℕ
   pub related : (q : ℕ) → IsIn q pairs ↔ (q < count (sizes_of (system_of n))) × Great (system_of n) (pair_at (sizes_of (system_of n)) q)
+  pub order : IsSublist pairs (below (count (sizes_of (system_of n))))
   pub least : (h q : ℕ) → IsIn q pairs → IsLeastCost (system_of n) C h (pair_at (sizes_of (system_of n)) q) (value h q)
   pub choice : (a : ℕ) → IsTrue (is_allowed (system_of n) p a) → IsChoice (system_of n) C (requests - 1) p a (seat a)
+  pub costs : (a : ℕ) → IsTrue (is_allowed (system_of n) p a) →
+      cost a ≡ through (system_of n) C (λ q. value (requests - 1) (number (sizes_of (system_of n)) q)) p a (seat a)
   pub says : text
       ≡ worst_line (value requests (number (sizes_of (system_of n)) p))
       ++ flat_map (λ a. service_text (name_at n.environment.actions a) (name_at (map seat_name n.seats) (seat a)) (cost a)) (allowed_actions (system_of n) p)

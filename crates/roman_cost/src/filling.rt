@@ -15,7 +15,7 @@ use crate::outcomes::greater;
 use crate::seats::cheapest;
 use roman_joint::Joint;
 use roman_relation::Relation;
-use roman_rules::SeatSet;
+use roman_rules::{Rules, SeatSet};
 use std::alloc::{AllocError, Global};
 
 /// The related pairs, rising, and for each pair how many related pairs come before it.
@@ -62,7 +62,7 @@ pub(crate) fn push_row(
         ≡ value_rows (system_of joint.now) (seat_costs joint.now costs.now.listed) pairs.now (suc (suc h))) }
 {
     costs.known();
-    let actions = joint.environment().actions().len() as usize;
+    let actions = joint.actions() as usize;
     for (i, p) in pairs.iter().enumerate() {
         let row = row_of(values, h as usize, pairs.len());
         let seats = row_of(offered, i, actions);
@@ -81,7 +81,7 @@ pub(crate) fn row_of<T>(table: &[T], i: usize, n: usize) -> &[T]
     &table[from..from + n]
 }
 
-// What a related pair costs at worst for one request more than the row has.
+/// What a related pair costs at worst for one request more than the row has.
 fn dearest(
     joint: &Joint,
     costs: &Costs,
@@ -103,7 +103,7 @@ fn dearest(
 {
     joint.known();
     let mut worst = 0;
-    for a in 0..joint.environment().actions().len() as u8 {
+    for a in 0..joint.actions() {
         let seats = offered[a as usize];
         if !seats.is_empty() {
             let (_, cost) = cheapest(joint, costs, ranks, row, p, a, seats);

@@ -44,7 +44,7 @@ pub fn read_costs<F: Shelf>(
 }
 
 #[tactic(auto, unfolding(crate::specs::Costs::value_of))]
-// The value of a text of costs.
+/// The value of a text of costs.
 fn read_value<F: Shelf>(alloc: Global, shelf: &mut F, name: &str) -> Result<Value, CostError>
     ensures value { IfSome (F.texts shelf.old) (λ texts. ReadsAs view result (value_of texts name.now)) }
     ensures texts { F.texts shelf.new ≡ F.texts shelf.old }
@@ -60,7 +60,7 @@ fn read_value<F: Shelf>(alloc: Global, shelf: &mut F, name: &str) -> Result<Valu
 }
 
 #[tactic(auto, using(crate::proofs::ReadingLemmas::counts), unfolding(crate::specs::Costs::costs_in))]
-// The costs that a value lists.
+/// The costs that a value lists.
 fn costs_in(alloc: Global, joint: &Joint, v: &Value) -> Result<Costs, CostError>
     requires few { length joint.now.catalogue ≤ MAX_BEHAVIOURS }
     ensures costs { ReadsAs (λ costs. costs.listed) result
@@ -76,7 +76,7 @@ fn costs_in(alloc: Global, joint: &Joint, v: &Value) -> Result<Costs, CostError>
 }
 
 #[tactic(auto, using(roman_read::proofs::CallerLemmas::each))]
-// The costs that the items of a list are.
+/// The costs that the items of a list are.
 fn read_items(alloc: Global, joint: &Joint, items: &[Value]) -> Result<Costs, CostError>
     requires few { length joint.now.catalogue ≤ MAX_BEHAVIOURS }
     requires items { length items.now ≤ MAX_COSTS }
@@ -95,7 +95,7 @@ fn read_items(alloc: Global, joint: &Joint, items: &[Value]) -> Result<Costs, Co
 }
 
 #[tactic(auto, unfolding(crate::specs::Costs::cost_step))]
-// Adds the next item of a list.
+/// Adds the next item of a list.
 fn add_item(costs: &mut Costs, joint: &Joint, v: &Value, index: u32) -> Result<(), CostError>
     requires few { length joint.now.catalogue ≤ MAX_BEHAVIOURS }
     requires of { AreOf joint.now costs.old }
@@ -113,7 +113,7 @@ fn add_item(costs: &mut Costs, joint: &Joint, v: &Value, index: u32) -> Result<(
 }
 
 #[tactic(auto, using(roman_parts::proofs::CallerLemmas::items), unfolding(crate::specs::Costs::cost_item))]
-// One item, by the names of a system.
+/// One item, by the names of a system.
 fn read_item(joint: &Joint, v: &Value, index: u32) -> Result<Listed, CostError>
     requires { length joint.now.catalogue ≤ MAX_BEHAVIOURS }
     ensures item { ReadsAs (λ x. x) result

@@ -54,7 +54,7 @@ pub(crate) fn cheapest(
     best.unwrap()
 }
 
-// What an action costs at worst at a pair that is delegated to a service, where it has outcomes.
+/// What an action costs at worst at a pair that is delegated to a service, where it has outcomes.
 fn cost_through(
     joint: &Joint,
     costs: &Costs,
@@ -81,7 +81,7 @@ fn cost_through(
     cost + greatest_outcome(ranks, row, outcomes)
 }
 
-// The better of the best service so far and another: of two that cost as much the earlier.
+/// The better of the best service so far and another: of two that cost as much the earlier.
 fn better(best: Option<(u8, u32)>, k: u8, cost: u32) -> Option<(u8, u32)>
     ensures { result ≡ better_of best k cost }
 {

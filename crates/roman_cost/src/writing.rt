@@ -21,6 +21,7 @@ use crate::costs::Costs;
 use roman_io::{Failed, Sink};
 use roman_read::Name;
 use roman_relation::Relation;
+use roman_rules::Rules;
 use roman_text::{Page, Piece};
 
 /// Puts the text of advice from the related pair `start` on: what the requests for which it was built
@@ -46,18 +47,10 @@ pub fn put_advice<O: Sink>(
 {
     let worst = advice.value(advice.requests(), start);
     let mut page = Page::new();
-    if let Err(failed) = page.push(worst_piece(worst).bytes(), out) {
-        return Err(failed);
-    }
-    if let Err(failed) = push_choices(advice, relation, costs, start, &mut page, out) {
-        return Err(failed);
-    }
-    if let Err(failed) = push_values(advice, &mut page, out) {
-        return Err(failed);
-    }
-    if let Err(failed) = page.push(b"end\n", out) {
-        return Err(failed);
-    }
+    page.push(worst_piece(worst).bytes(), out)?;
+    push_choices(advice, relation, costs, start, &mut page, out)?;
+    push_values(advice, &mut page, out)?;
+    page.push(b"end\n", out)?;
     page.flush(out)
 }
 
@@ -90,14 +83,12 @@ fn push_choices<O: Sink>(
     ensures cause { HasCause (O.faults out.old) (O.faults out.new) result }
 {
     relation.joint.known();
-    for a in 0..relation.joint.environment().actions().len() as u8 {
+    for a in 0..relation.joint.actions() {
         if !relation.joint.allowed(start, a) {
             continue;
         }
         let line = choice_piece(advice, relation, costs, start, a);
-        if let Err(failed) = page.push(line.bytes(), out) {
-            return Err(failed);
-        }
+        page.push(line.bytes(), out)?;
     }
     Ok(())
 }
@@ -138,9 +129,7 @@ fn push_values<O: Sink>(advice: &Advice, page: &mut Page, out: &mut O) -> Result
     ensures cause { HasCause (O.faults out.old) (O.faults out.new) result }
 {
     for h in 0..advice.requests() {
-        if let Err(failed) = push_row(advice, h + 1, page, out) {
-            return Err(failed);
-        }
+        push_row(advice, h + 1, page, out)?;
     }
     Ok(())
 }
@@ -154,9 +143,7 @@ fn push_row<O: Sink>(advice: &Advice, h: u8, page: &mut Page, out: &mut O) -> Re
 {
     for p in advice.pairs() {
         let line = value_piece(h, *p, advice.value(h, *p));
-        if let Err(failed) = page.push(line.bytes(), out) {
-            return Err(failed);
-        }
+        page.push(line.bytes(), out)?;
     }
     Ok(())
 }

@@ -24,9 +24,11 @@ pub record Turn : Type 0 where
   pub text : List ℕ
   pub after : Situation
 
+-- a turn's line
 abbrev pub line_of : Turn → List ℕ
 line_of x = x.line
 
+-- a turn's text
 abbrev pub turn_text : Turn → List ℕ
 turn_text x = x.text
 

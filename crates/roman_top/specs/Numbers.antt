@@ -3,6 +3,7 @@ use Rattle.std.specs.Prelude.{ℕ}
 use Rattle.roman_top.specs.declared.status.Status.{Status}
 use Rattle.roman_top.specs.declared.status.Status.TheVariants as status
 
+-- the number of a status, in the order of the variants
 abbrev pub status_number : Status → ℕ
 status_number status.Done = 0
 status_number status.No = 1

@@ -12,6 +12,7 @@ pub record World : Type 0 where
   pub input_faults : ℕ
   pub out_faults : ℕ
 
+-- the outside of which that is told
 abbrev pub world : Option Texts → ℕ → Option (List ℕ) → ℕ → Option (List ℕ) → ℕ → World
 world texts shelf_faults rest input_faults written out_faults = record {
   texts = texts;
@@ -29,6 +30,7 @@ pub record Desk : Type 0 where
   pub shelf_faults : ℕ
   pub out_faults : ℕ
 
+-- the shelf and the sink of which that is told
 abbrev pub desk : Option Texts → ℕ → Option (List ℕ) → ℕ → Desk
 desk texts shelf_faults written out_faults = record { texts = texts; written = written; shelf_faults = shelf_faults; out_faults = out_faults }
 

@@ -63,7 +63,8 @@ pub fn serve<F: Shelf, I: Source, O: Sink, L: Ledger>(
         (world (F.texts shelf.new) (F.faults shelf.new) (I.rest input.new) (I.faults input.new) (O.written out.new) (O.faults out.new)) result }
 
     // Where no count of faults rises, a command gets its answer, or there is no memory: with an
-    // accepted document within its limit, and a session or a certificate that isn't too long.
+    // accepted document within its limit, a session or certificate that isn't too long, and for
+    // `advise` costs that are accepted and come to no more values than there may be.
     ensures complete { AnswersWherePossible (command_of words.now)
         (world (F.texts shelf.old) (F.faults shelf.old) (I.rest input.old) (I.faults input.old) (O.written out.old) (O.faults out.old))
         (world (F.texts shelf.new) (F.faults shelf.new) (I.rest input.new) (I.faults input.new) (O.written out.new) (O.faults out.new)) result }

@@ -1,4 +1,4 @@
-use Rattle.std.proofs.Common.{◌≡◌, ◌<◌, ◌+◌, ℕ, length, Bool, true, false, filter, cond, ap, ap₂, sym, ◌∙◌, subst, arith}
+use Rattle.std.proofs.Common.{◌≡◌, ◌<◌, ◌+◌, ℕ, Bool, true, false, filter, cond, ap, ap₂, sym, ◌∙◌, subst, arith}
 use Rattle.std.specs.Prelude.{max}
 use Rattle.std.proofs.lemmas.List.{get_or_read_under}
 use Rattle.roman_model.specs.Lists.{below}
@@ -6,7 +6,6 @@ use Rattle.roman_model.specs.Numbers.{sizes_of, pair_at}
 use Rattle.roman_model.specs.Plans.{max_over, least, choice, through}
 use Rattle.roman_model.specs.SystemArena.{is_allowed}
 use Rattle.roman_model.proofs.CallerLemmas.{max_over_below}
-use Rattle.roman_parts.specs.Named.{NamedEnv}
 use Rattle.roman_joint.specs.NamedSys.{system_of}
 use Rattle.roman_cost.specs.Filling.{IsOffers}
 use Rattle.roman_cost.specs.Tables.{seat_costs}
@@ -30,7 +29,7 @@ loop-a-preserved c = λ h is.
     let C = seat_costs c.args.joint.now c.args.costs.now.listed in
     let P = pair_at (sizes_of s) c.args.p in
     let f : ℕ → ℕ = λ a. through s C (least s C h) P a (choice s C h P a) in
-    let l : c.loop-a.a < s.env.actions = omega (arith, c.loop-a-test.true, c.len-a-end.ensures.len, c.actions.ensures.count, ap length c.actions.ensures.names, ap (λ (e : NamedEnv). length e.actions) c.environment.ensures, ap (λ (e : NamedEnv). e.env.actions) c.environment.ensures) in
+    let l : c.loop-a.a < s.env.actions = omega (arith, c.loop-a-test.true, c.actions-a-end.ensures) in
     let seats = get_or_read_under c.args.offered.now c.loop-a.a s.env.actions c.index-offered-a.result 0 c.index-offered-a.is l (sym c.requires.offered.len) in
     let are = subst (IsOffers s c.args.p c.loop-a.a) (sym seats) (c.requires.offered.each c.loop-a.a l) in
     elim c.if-not-is_empty.branch [
@@ -45,5 +44,5 @@ returns c = λ h is.
     let s = system_of c.args.joint.now in
     let C = seat_costs c.args.joint.now c.args.costs.now.listed in
     let P = pair_at (sizes_of s) c.args.p in
-    let end : c.loop-a.a ≡ s.env.actions = omega (arith, c.loop-a-test.false, c.loop-a.auto.a-end, c.len-a-end.ensures.len, c.actions.ensures.count, ap length c.actions.ensures.names, ap (λ (e : NamedEnv). length e.actions) c.environment.ensures, ap (λ (e : NamedEnv). e.env.actions) c.environment.ensures) in
+    let end : c.loop-a.a ≡ s.env.actions = omega (arith, c.loop-a-test.false, c.loop-a.auto.a-end, c.actions-a-end.ensures) in
     c.loop-a.invariant h is ∙ ap (λ n. max_over (λ a. through s C (least s C h) P a (choice s C h P a)) (filter (is_allowed s P) (below n))) end

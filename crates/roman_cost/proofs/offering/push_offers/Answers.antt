@@ -1,5 +1,4 @@
-use Rattle.std.proofs.Common.{◌≡◌, length, ap, arith}
-use Rattle.roman_parts.specs.Named.{NamedEnv}
+use Rattle.std.proofs.Common.{◌≡◌, arith}
 use Rattle.roman_joint.specs.NamedSys.{system_of}
 use Rattle.roman_cost.proofs.OfferTables.{IsBegun-none, IsBegun-more, IsBegun-all}
 use Rattle.roman_cost.proofs.offering.push_offers.Goals as goal
@@ -15,6 +14,5 @@ loop-a-preserved c =
 pub returns : goal.returns
 returns c =
     let s = system_of c.args.relation.now.joint in
-    let end : c.loop-a.a ≡ s.env.actions =
-    omega (arith, c.loop-a-test.false, c.loop-a.auto.a-end, c.len-a-end.ensures.len, c.actions.ensures.count, ap length c.actions.ensures.names, ap (λ (e : NamedEnv). length e.actions) c.environment.ensures, ap (λ (e : NamedEnv). e.env.actions) c.environment.ensures) in
+    let end : c.loop-a.a ≡ s.env.actions = omega (arith, c.loop-a-test.false, c.loop-a.auto.a-end, c.actions-a-end.ensures) in
     IsBegun-all s c.args.p c.args.table.now.items c.loop-a.table.items c.loop-a.a end c.loop-a.invariant

@@ -1,6 +1,6 @@
-use Rattle.std.proofs.Common.{◌<◌, ◌≤◌, ◌+◌, ◌-◌, length, refl, sym, ap, ◌∙◌, arith}
+use Rattle.std.proofs.Common.{◌<◌, ◌≤◌, ◌+◌, ◌-◌, refl, sym, ◌∙◌, arith}
+use Rattle.std.proofs.lemmas.Result.{err_from_is_err_and}
 use Rattle.roman_model.specs.Numbers.{sizes_of, pair_at}
-use Rattle.roman_parts.specs.Named.{NamedEnv}
 use Rattle.roman_joint.specs.NamedSys.{system_of}
 use Rattle.roman_cost.specs.AdviceText.{choice_line}
 use Rattle.roman_cost.specs.Tables.{seat_costs}
@@ -18,20 +18,21 @@ pub loop-a-preserved-then-not-allowed : goal.loop-a-preserved-then-not-allowed
 loop-a-preserved-then-not-allowed g c =
     let n = c.args.relation.now.joint in
     let C = seat_costs n c.args.costs.now.listed in
-    let l : c.loop-a.a < (system_of n).env.actions = omega (arith, c.loop-a-test.true, c.len-a-end.ensures.len, c.actions.ensures.count, ap length c.actions.ensures.names, ap (λ (e : NamedEnv). length e.actions) c.environment.ensures, ap (λ (e : NamedEnv). e.env.actions) c.environment.ensures) in
+    let l : c.loop-a.a < (system_of n).env.actions = omega (arith, c.loop-a-test.true, c.actions-a-end.ensures) in
     let next = next_unallowed n C (c.args.advice.now.requests - 1) (pair_at (sizes_of (system_of n)) c.args.start) c.loop-a.a l (sym c.if-not-allowed.ensures) in
     record { filling = fill_same _ _ _ _ _ _ next c.loop-a.invariant.filling; cause = c.loop-a.invariant.cause }
 
-pub returns-in-Err-clause-gathers : goal.returns-in-Err-clause-gathers
-returns-in-Err-clause-gathers g c =
+pub returns-in_err-push-clause-gathers : goal.returns-in_err-push-clause-gathers
+returns-in_err-push-clause-gathers g c =
     let n = c.args.relation.now.joint in
     let C = seat_costs n c.args.costs.now.listed in
     let h = c.args.advice.now.requests - 1 in
     let p = pair_at (sizes_of (system_of n)) c.args.start in
     let a = c.loop-a.a in
-    let l : a < (system_of n).env.actions = omega (arith, c.loop-a-test.true, c.len-a-end.ensures.len, c.actions.ensures.count, ap length c.actions.ensures.names, ap (λ (e : NamedEnv). length e.actions) c.environment.ensures, ap (λ (e : NamedEnv). e.env.actions) c.environment.ensures) in
+    let l : a < (system_of n).env.actions = omega (arith, c.loop-a-test.true, c.actions-a-end.ensures) in
     let next = as_taken (choices_from n C h p a) (choice_line n C h p a) (choices_from n C h p (a + 1)) c.bytes.result.now (next_choice n C h p a l (sym c.if-not-allowed.ensures)) (c.bytes.ensures ∙ c.choice_piece-line.ensures) in
-    (fill_failed _ _ _ _ _ _ _ (fill_same _ _ _ _ _ _ next c.loop-a.invariant.filling) c.in-Err.ensures.gathers.0, c.in-Err.ensures.gathers.1)
+    let p = err_from_is_err_and c.from_residual.result c.from_residual.ensures.1 in
+    rw p.1 (fill_failed _ _ _ _ _ _ _ (fill_same _ _ _ _ _ _ next c.loop-a.invariant.filling) c.in_err-push.ensures.gathers.0, c.in_err-push.ensures.gathers.1)
 
 pub loop-a-preserved : goal.loop-a-preserved
 loop-a-preserved g c =
@@ -40,16 +41,16 @@ loop-a-preserved g c =
     let h = c.args.advice.now.requests - 1 in
     let p = pair_at (sizes_of (system_of n)) c.args.start in
     let a = c.loop-a.a in
-    let l : a < (system_of n).env.actions = omega (arith, c.loop-a-test.true, c.len-a-end.ensures.len, c.actions.ensures.count, ap length c.actions.ensures.names, ap (λ (e : NamedEnv). length e.actions) c.environment.ensures, ap (λ (e : NamedEnv). e.env.actions) c.environment.ensures) in
+    let l : a < (system_of n).env.actions = omega (arith, c.loop-a-test.true, c.actions-a-end.ensures) in
     let next = as_taken (choices_from n C h p a) (choice_line n C h p a) (choices_from n C h p (a + 1)) c.bytes.result.now (next_choice n C h p a l (sym c.if-not-allowed.ensures)) (c.bytes.ensures ∙ c.choice_piece-line.ensures) in
     record {
-      filling = fill_more _ _ _ _ _ _ _ _ (fill_same _ _ _ _ _ _ next c.loop-a.invariant.filling) c.in_default.ensures.gathers;
-      cause = c.in_default.ensures.cause.stays ∙ c.loop-a.invariant.cause;
+      filling = fill_more _ _ _ _ _ _ _ _ (fill_same _ _ _ _ _ _ next c.loop-a.invariant.filling) c.in_ok-push.ensures.gathers;
+      cause = c.in_ok-push.ensures.cause.stays ∙ c.loop-a.invariant.cause;
     }
 
 pub returns-clause-gathers : goal.returns-clause-gathers
 returns-clause-gathers g c =
     let n = c.args.relation.now.joint in
     let C = seat_costs n c.args.costs.now.listed in
-    let l : (system_of n).env.actions ≤ c.loop-a.a = omega (arith, c.len-a-end.ensures.len, c.actions.ensures.count, ap length c.actions.ensures.names, ap (λ (e : NamedEnv). length e.actions) c.environment.ensures, ap (λ (e : NamedEnv). e.env.actions) c.environment.ensures) in
+    let l : (system_of n).env.actions ≤ c.loop-a.a = omega (arith, c.actions-a-end.ensures) in
     fill_end _ _ _ _ (fill_same _ _ _ _ _ _ (no_choice n C (c.args.advice.now.requests - 1) (pair_at (sizes_of (system_of n)) c.args.start) c.loop-a.a l) c.loop-a.invariant.filling)
