@@ -25,7 +25,7 @@ use Rattle.roman_top.specs.World.{World}
 use Rattle.roman_top.specs.declared.status.Status.{Status}
 use Rattle.roman_top.specs.declared.status.Status.TheVariants as status
 use Rattle.roman_top.proofs.EndingLemmas.{told_more, work_of}
-use Rattle.roman_top.proofs.StartsKnown.{starts_known}
+use Rattle.roman_top.proofs.StartsKnown.{starts_known, some_start}
 
 -- the turns of some answers
 record HasTurns (s : Situation) (ls : List (List ℕ)) (text : List ℕ) : Type 0 where
@@ -70,11 +70,16 @@ reported texts system library text s accepted says start =
 
 -- a run keeps the promise
 keeps_promise : (asked : Option Command) (texts : Texts) (old new : World) (result : Status) → HasRun asked texts old new result → KeepsPromise asked texts old new
-keeps_promise (Some (On system Synth)) texts old new result run = λ library accepted. record {
-  text = run.text;
-  great = λ s start. reported texts system library run.text s accepted (work_of Synthesises (document_opening texts system) library run.text result accepted run.run).0 start;
-  wrote = run.wrote;
-}
+keeps_promise (Some (On system Synth)) texts old new result run = λ library accepted.
+    let (start, begins) = some_start texts system library accepted in
+    record {
+      start = start;
+      begins = begins;
+      known = (starts_known texts system library start accepted begins).situation;
+      text = run.text;
+      great = reported texts system library run.text start accepted (work_of Synthesises (document_opening texts system) library run.text result accepted run.run).0 begins;
+      wrote = run.wrote;
+    }
 keeps_promise (Some (On system (Run name))) texts old new result run = λ library accepted. record {
   session = run.session;
   given = run.given;

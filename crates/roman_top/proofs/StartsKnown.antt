@@ -1,11 +1,12 @@
 -- Sessions of accepted documents begin well formed.
-use Rattle.std.proofs.Common.{map, IsFalse, sym, ap, ◌∙◌, subst, arith}
+use Rattle.std.proofs.Common.{◌≡◌, ℕ, List, [], map, IsFalse, refl, sym, ap, ◌∙◌, subst, arith}
 use Rattle.std.proofs.lemmas.Bool.{both_ways, lt-ltb}
 use Rattle.std.proofs.lemmas.List.{length-map}
+use Rattle.roman_io.specs.Shelf.{Texts}
 use Rattle.roman_model.specs.Lists.{IsIn}
 use Rattle.roman_model.specs.System.{Pair, IsPair, IsBeh, IsSys}
 use Rattle.roman_model.specs.System as model
-use Rattle.roman_model.proofs.CallerLemmas.{from_map, in_contains, there_is}
+use Rattle.roman_model.proofs.CallerLemmas.{from_map, in_contains, order_goes_on, there_is}
 use Rattle.roman_joint.specs.NamedSys.{NamedSys, IsNamedSys, beh_at, seat_of, system_of, cells}
 use Rattle.roman_joint.proofs.CallerLemmas.{beh_read}
 use Rattle.roman_library.specs.Documents.{library_of}
@@ -13,13 +14,14 @@ use Rattle.roman_library.specs.Library.{PlainLibrary, IsService, IsLibrary}
 use Rattle.roman_library.specs.declared.library.Service.{Service}
 use Rattle.roman_session.specs.Situations.{Situation, IsPhase}
 use Rattle.roman_session.specs.Situations as situation
+use Rattle.roman_session.specs.declared.phase.Phase.TheVariants.{Idle}
 use Rattle.roman_start.specs.Starts.{seat_of_service, parts_of, start_pair_of}
 use Rattle.roman_session.specs.Starts.{IsStart}
 use Rattle.roman_session.proofs.CallerLemmas.{is_within}
 use Rattle.roman_start.proofs.CallerLemmas.{behaviours_within, names_once, start_pair}
 use Rattle.roman_hearing.specs.Known.{AreNamed, IsKnownSituation}
 use Rattle.roman_top.specs.Accepted.{StartsAreKnown}
-use Rattle.roman_top.specs.Opening.{is_past_limit}
+use Rattle.roman_top.specs.Opening.{Accepted, document_opening, is_past_limit}
 use Rattle.roman_top.proofs.EndingLemmas.{accepted_is}
 use Rattle.roman_library.specs.Known.{IsKnownLibrary}
 use Rattle.roman_library.proofs.CallerLemmas.{libraries_known, behaviour_there}
@@ -75,3 +77,13 @@ pub starts_known : StartsAreKnown
 starts_known texts system library s accepted start =
     let is = accepted_is (library_of texts system) library accepted in
     start_known library s (libraries_known texts system library is.means) is.within start
+
+-- and there is a situation to start from: some removal list is complete
+pub some_start : (texts : Texts) (system : List ℕ) (library : PlainLibrary) → document_opening texts system ≡ Accepted library → (s : Situation) × IsStart library s
+some_start texts system library accepted =
+    let is = accepted_is (library_of texts system) library accepted in
+    let sys : IsSys (system_of (parts_of library)) = library_sys library (libraries_known texts system library is.means).known in
+    let (list, complete) = order_goes_on (system_of (parts_of library)) [] sys (λ x i. absurd i) tt in (
+      record { parts = parts_of library; here = start_pair_of library; phase = Idle; list = list },
+      record { parts = refl; here = refl; phase = refl; list = complete },
+    )

@@ -65,8 +65,11 @@ pub record HasAnsweredLines (asked : Option Command) (library : PlainLibrary) (t
 
 -- the report on the library's situation was written
 pub record HasReported (library : PlainLibrary) (old new : World) : Type 0 where
+  pub start : Situation
+  pub begins : IsStart library start
+  pub known : IsSituation start
   pub text : List ℕ
-  pub great : (s : Situation) → IsStart library s → ReportsGreat s text
+  pub great : ReportsGreat start text
   pub wrote : Wrote old.written new.written text
 
 -- what is promised of a session and of a synthesis of an accepted document within its limit
