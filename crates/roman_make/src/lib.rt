@@ -15,6 +15,3 @@ mod tables;
 pub use error::MakeError;
 pub use lines::script;
 pub use system::make;
-
-#[cfg(test)]
-mod tests;
