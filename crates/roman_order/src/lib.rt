@@ -11,8 +11,6 @@
 mod flags;
 mod order;
 mod removal;
-#[cfg(test)]
-mod tests;
 
 pub use order::Order;
 pub use roman_model::Reason;

@@ -18,6 +18,3 @@ pub use name::Name;
 pub use rules::{Kind, Miss};
 pub use table::{AddError, NameTable};
 pub use texts::{ParseError, parse};
-
-#[cfg(test)]
-mod tests;
