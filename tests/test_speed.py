@@ -15,15 +15,15 @@ LIMIT = 16_777_216
 
 # Millions of instructions of each command on each system; `talk` is `run` with many requests.
 INSTRUCTIONS = {
-    "workers": {"synth": 21.7, "certify": 37.5, "check": 34.1, "run": 280.1, "shortest": 26.6, "resilience": 796.0},
-    "lamps": {"synth": 21.6, "certify": 57.3, "check": 67.0, "run": 411.5, "shortest": 32.9, "talk": 37.8},
-    "cycle": {"synth": 163.1, "shortest": 170.4},
+    "workers": {"synth": 18.9, "certify": 34.3, "check": 32.3, "run": 239.1, "shortest": 23.9, "resilience": 633.6},
+    "lamps": {"synth": 18.9, "certify": 53.8, "check": 64.9, "run": 356.1, "shortest": 30.2, "talk": 34.5},
+    "cycle": {"synth": 146.5, "shortest": 153.8},
 }
 # Megabytes of each command on each system.
 MEGABYTES = {
     "workers": {"synth": 3.4, "resilience": 7.3},
-    "lamps": {"synth": 5.7},
-    "cycle": {"synth": 3.5},
+    "lamps": {"synth": 5.8},
+    "cycle": {"synth": 3.8},
 }
 ROOM = 1.1
 
