@@ -16,13 +16,6 @@ impl Joint {
         ensures same { IfOk result (λ copy. copy ≡ self.now) }
     {
         Ok(Joint {
-            environment: self.environment.copy(alloc)?,
-            catalogue: copy_catalogue(alloc, &self.catalogue)?,
-            target: self.target.copy(alloc)?,
-            seats: copy_seats(alloc, &self.seats)?,
-            shape: self.shape,
-            rows: self.rows,
-            scenes: Vec::from_slice(alloc, &self.scenes)?,
             moves: moves_of(
                 alloc,
                 &self.environment,
@@ -31,6 +24,13 @@ impl Joint {
                 &self.shape,
                 &self.rows,
             )?,
+            scenes: Vec::from_slice(alloc, &self.scenes)?,
+            seats: copy_seats(alloc, &self.seats)?,
+            target: self.target.copy(alloc)?,
+            environment: self.environment.copy(alloc)?,
+            catalogue: copy_catalogue(alloc, &self.catalogue)?,
+            shape: self.shape,
+            rows: self.rows,
             limit: self.limit,
         })
     }

@@ -16,19 +16,19 @@ invariant_of-result c =
     let n : NamedSys = named_sys_in c.self.inside in
     let seats = c.in_ok-copy_seats.field-0.items in
     let made : NamedSys = record {
-      environment = c.in_ok-copy.field-0;
+      environment = c.in_ok-copy-2.field-0;
       catalogue = c.in_ok-copy_catalogue.field-0.items;
-      target = c.in_ok-copy-2.field-0;
+      target = c.in_ok-copy.field-0;
       seats = seats;
       limit = c.self.inside.limit;
     } in
     let parts : HasSameParts made n = record {
-      environment = c.in_ok-copy.ensures.same;
-      catalogue = c.in_ok-copy_catalogue.ensures ∙ c.deref.ensures.value;
-      target = c.in_ok-copy-2.ensures.same;
+      environment = c.in_ok-copy-2.ensures.same;
+      catalogue = c.in_ok-copy_catalogue.ensures ∙ c.deref-5.ensures.value;
+      target = c.in_ok-copy.ensures.same;
       limit = refl;
     } in
-    let same : made ≡ n = with_the_seats made n seats parts (c.in_ok-copy_seats.ensures.items ∙ c.deref-2.ensures.value) in
+    let same : made ≡ n = with_the_seats made n seats parts (c.in_ok-copy_seats.ensures.items ∙ c.deref-4.ensures.value) in
     let scenes : c.in_ok-from_slice.field-0.items ≡ c.self.inside.scenes.items = c.in_ok-from_slice.ensures.items ∙ c.deref-3.ensures.value in
     record {
       known = subst IsNamedSys (sym same) old.known;
@@ -38,8 +38,8 @@ invariant_of-result c =
           (subst (λ (xs : List Scene). AreScenes n.environment.env n.target.beh xs) (sym scenes) old.scenes);
       moves = subst (λ (m : NamedSys). HoldsMoves (system_of m) c.in_ok-moves_of.field-0) (sym same) (c.in_ok-moves_of.ensures.moves n (record {
         known = old.known;
-        catalogue_of = c.deref-4.ensures.value;
-        seats_of = c.deref-5.ensures.value;
+        catalogue_of = c.deref.ensures.value;
+        seats_of = c.deref-2.ensures.value;
         sizes_are = old.shape;
         envs_are = refl;
         actions_are = refl;
