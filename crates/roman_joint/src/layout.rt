@@ -3,11 +3,8 @@ ghost use Rattle.std.specs.Prelude.{◌≡◌, ◌≢◌, ℕ, ◌/◌, ◌<◌,
 ghost use Rattle.roman_lanes.specs.Rows.{is_on};
 ghost use Rattle.roman_joint.specs.Rows.{lane_has_state, AreRowsOf};
 
-use roman_model::MAX_SERVICES;
+use crate::seat::PLACES;
 use roman_radix::Shape;
-
-/// How many services' numbers a table has room for.
-const PLACES: usize = MAX_SERVICES as usize;
 
 /// How the numbers of pairs split: the states of the last services are a pair's lane, and the rest is
 /// its row.

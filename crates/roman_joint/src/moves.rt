@@ -9,16 +9,18 @@ ghost use Rattle.roman_joint.specs.Moves.{lane_moves_from, AreSeatsOf, HoldsSpan
 use crate::layout::Rows;
 use crate::seat::Seat;
 use crate::ways::{Ways, ways_of};
+use roman_model::MAX_SERVICES;
 use roman_parts::{Behaviour, Environment};
 use roman_radix::Shape;
 use std::alloc::{AllocError, Global};
 
-/// The greatest number of ways that services within the lanes may go on one action while the
-/// environment is in one state.
-const MAX_MOVES: u32 = 160;
-
 /// The greatest number of services within the lanes.
-const MAX_SPANS: u32 = 32;
+const MAX_SPANS: u32 = MAX_SERVICES as u32;
+
+/// The greatest number of ways that services within the lanes may go on one action while the
+/// environment is in one state: those with more than one state have at most 64 together, and each
+/// goes fewer ways than twice its states; the others go one way each.
+const MAX_MOVES: u32 = 2 * 64 + MAX_SPANS;
 
 /// Lanes from which a service goes the same way: lane l goes to lane `l + to - from`.
 #[derive(Clone, Copy, Debug)]

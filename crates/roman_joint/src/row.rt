@@ -1,9 +1,6 @@
 //! Rows of pairs.
 
-use roman_model::MAX_SERVICES;
-
-/// How many services' states a row has room for.
-const PLACES: usize = MAX_SERVICES as usize;
+use crate::seat::PLACES;
 
 /// What is looked up for a row once: plain data, good for the joint that made it until its services
 /// change. At all pairs of a row the target, the environment and the services before the lanes are in

@@ -1,6 +1,10 @@
 //! The services of a system.
 
+use roman_model::MAX_SERVICES;
 use roman_parts::Name;
+
+/// How many services a table has room for.
+pub(crate) const PLACES: usize = MAX_SERVICES as usize;
 
 /// A service: a named instance of a behaviour, with its place in a system.
 #[derive(Clone, Copy, Debug, PartialEq, Eq)]

@@ -1,5 +1,5 @@
 //! The behaviours of services, one after the other.
-ghost use Rattle.std.specs.Prelude.{◌≡◌, ◌+◌, ◌/◌, ◌%◌, ◌≤◌, ◌<◌, ◌↔◌, ◌||◌, not, All, length, map, take, drop, slice_index, IsSome, IfSome};
+ghost use Rattle.std.specs.Prelude.{◌≡◌, ◌+◌, ◌/◌, ◌%◌, ◌≤◌, ◌<◌, ◌↔◌, ◌||◌, not, All, length, map, take, drop, slice_index, IsSome, IfSome, IfOk, vec_capacity};
 ghost use Rattle.std.specs.List.{AllByRecursion};
 ghost use Rattle.roman_model.specs.Lists.{product_of};
 ghost use Rattle.roman_model.specs.System.{IsSys, IsBeh, is_final, all_final};
@@ -8,13 +8,21 @@ ghost use Rattle.roman_model.specs.declared.limits.TheConstants.{MAX_SERVICES};
 ghost use Rattle.roman_parts.specs.Named.{NamedEnv};
 ghost use Rattle.roman_joint.specs.NamedSys.{beh_at, seat_of, system_of, cells, IsOverEnv, TargetIsOverEnv};
 
-use crate::seat::Seat;
+use crate::seat::{PLACES, Seat};
 use roman_model::MAX_SERVICES;
 use roman_parts::{Behaviour, Environment, Target};
 use roman_radix::Shape;
+use std::alloc::{AllocError, Global};
 
-/// How many services' sizes a table has room for.
-const PLACES: usize = MAX_SERVICES as usize;
+/// The same services again, with room for as many as there may be.
+pub(crate) fn copy_seats(alloc: Global, seats: &[Seat]) -> Result<Vec<Seat>, AllocError>
+    ensures items { IfOk result (λ copy. copy.items ≡ seats.now) }
+    ensures room { IfOk result (λ copy. MAX_SERVICES ≤ vec_capacity copy) }
+{
+    let mut copy = Vec::with_capacity(alloc, MAX_SERVICES as usize)?;
+    copy.extend_from_slice(seats)?;
+    Ok(copy)
+}
 
 /// How many states each service has, in the first places of a table.
 pub(crate) fn sizes_of_seats(catalogue: &[Behaviour], seats: &[Seat]) -> [u8; PLACES]

@@ -11,11 +11,8 @@ ghost use Rattle.roman_joint.specs.Rows.{lanes_in, low_in, lane_has_state, AreRo
 
 use crate::joint::Joint;
 use crate::layout::Rows;
-use roman_model::MAX_SERVICES;
+use crate::seat::PLACES;
 use roman_radix::Shape;
-
-/// How many services' states a table has room for.
-const PLACES: usize = MAX_SERVICES as usize;
 
 /// The states of the services before the lanes at the pairs of a row, in the first places of a table.
 pub(crate) fn row_states(joint: &Joint, x: u32) -> [u8; PLACES]

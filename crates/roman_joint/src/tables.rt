@@ -1,5 +1,5 @@
 //! The tables of a joint, taken once.
-ghost use Rattle.std.specs.Prelude.{◌≡◌, ◌≤◌, length, vec_capacity, IfOk};
+ghost use Rattle.std.specs.Prelude.{◌≡◌, ◌≤◌, vec_capacity, IfOk};
 ghost use Rattle.roman_model.specs.declared.limits.TheConstants.{MAX_SERVICES};
 ghost use Rattle.roman_joint.specs.NamedSys.{NamedSys, system_of, TargetIsOverEnv};
 ghost use Rattle.roman_joint.specs.Scenes.{AreScenes};
@@ -10,7 +10,7 @@ use crate::layout::{Rows, rows_of};
 use crate::moves::{Moves, moves_of};
 use crate::scene::{Scene, all_scenes};
 use crate::seat::Seat;
-use roman_model::MAX_SERVICES;
+use crate::seats::copy_seats;
 use roman_parts::{Behaviour, Environment, Target};
 use roman_radix::Shape;
 use std::alloc::{AllocError, Global};
@@ -34,7 +34,6 @@ pub(crate) fn tables_of(
     seats: &[Seat],
     shape: &Shape,
 ) -> Result<Tables, AllocError>
-    requires few { length seats.now ≤ MAX_SERVICES }
     requires target { TargetIsOverEnv environment.now target.now }
     requires seats { (n : NamedSys) × AreSeatsOf n catalogue.now seats.now shape.now environment.now.env.states environment.now.env.actions }
     ensures places { IfOk result (λ tables. tables.places.items ≡ seats.now) }
@@ -47,10 +46,7 @@ pub(crate) fn tables_of(
     let rows = rows_of(shape);
     let scenes = all_scenes(alloc, environment, target)?;
     let moves = moves_of(alloc, environment, catalogue, seats, shape, &rows)?;
-    let mut places = Vec::with_capacity(alloc, MAX_SERVICES as usize)?;
-    for seat in seats {
-        places.push_reserved(*seat);
-    }
+    let places = copy_seats(alloc, seats)?;
     Ok(Tables {
         places,
         scenes,

@@ -2,10 +2,8 @@
 ghost use Rattle.std.specs.Prelude.{◌≡◌, ◌⊎◌, ℕ, ◌+◌, ◌-◌, ◌*◌, ◌^◌, ◌<◌, ◌≤◌, List, length, drop};
 ghost use Rattle.std.specs.Int.{bit_at};
 
-use roman_model::{MAX_SERVICES, MAX_STATES};
-
-/// How many services' states a walk has room for.
-const PLACES: usize = MAX_SERVICES as usize;
+use crate::seat::PLACES;
+use roman_model::MAX_STATES;
 
 /// Where a walk backwards from a pair has come: the delegations of an action that may lead to the
 /// pair are given by action, then by the environment's state, the target's, the service and the

@@ -1,12 +1,11 @@
 //! Equal joints.
 ghost use Rattle.std.specs.Prelude.{◌≡◌, ◌≤◌, IfOk, length, vec_capacity};
-ghost use Rattle.roman_model.specs.declared.limits.TheConstants.{MAX_SERVICES};
 ghost use Rattle.roman_joint.specs.Parts.{HasSameParts};
 
 use super::Joint;
 use crate::moves::moves_of;
 use crate::seat::Seat;
-use roman_model::MAX_SERVICES;
+use crate::seats::copy_seats;
 use roman_parts::Behaviour;
 use std::alloc::{AllocError, Global};
 
@@ -58,16 +57,6 @@ fn copy_catalogue(alloc: Global, catalogue: &[Behaviour]) -> Result<Vec<Behaviou
         copies.push(behaviour.copy(alloc)?)?;
     }
     Ok(copies)
-}
-
-/// The same services again, with room for as many as there may be.
-fn copy_seats(alloc: Global, seats: &[Seat]) -> Result<Vec<Seat>, AllocError>
-    ensures items { IfOk result (λ copy. copy.items ≡ seats.now) }
-    ensures room { IfOk result (λ copy. MAX_SERVICES ≤ vec_capacity copy) }
-{
-    let mut copy = Vec::with_capacity(alloc, MAX_SERVICES as usize)?;
-    copy.extend_from_slice(seats)?;
-    Ok(copy)
 }
 
 /// Puts these services in place of those that are there. There is room for them.
