@@ -16,6 +16,10 @@ pub record NamedSys : Type 0 where
   pub seats : List Seat
   pub limit : ℕ
 
+-- these parts as one
+abbrev pub named_parts : NamedEnv → List NamedBeh → NamedTarget → List Seat → ℕ → NamedSys
+named_parts environment catalogue target seats limit = record { environment = environment; catalogue = catalogue; target = target; seats = seats; limit = limit }
+
 -- one state, and no steps
 abbrev pub still : Beh
 still = record { states = 1; start = 0; finals = []; steps = [] }

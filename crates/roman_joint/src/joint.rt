@@ -4,7 +4,7 @@ ghost use Rattle.roman_model.specs.Lists.{HasNoRepeats};
 ghost use Rattle.roman_model.specs.Numbers.{sizes_of};
 ghost use Rattle.roman_model.specs.declared.limits.TheConstants.{MAX_SERVICES, MAX_CELLS};
 ghost use Rattle.roman_joint.specs.Behaviours.{IsSeatBehaviour};
-ghost use Rattle.roman_joint.specs.NamedSys.{NamedSys, system_of, cells, IsOverEnv, TargetIsOverEnv, IsNamedSys};
+ghost use Rattle.roman_joint.specs.NamedSys.{NamedSys, named_parts, system_of, cells, IsOverEnv, TargetIsOverEnv, IsNamedSys};
 ghost use Rattle.roman_joint.specs.Rows.{AreRowsOf, low_in};
 ghost use Rattle.roman_joint.specs.Moves.{AreMovesOf};
 ghost use Rattle.roman_model.specs.System as model;
@@ -84,9 +84,9 @@ impl Joint {
         requires behaviours { All (λ seat. seat.behaviour < vec_len catalogue) seats.items }
         requires names { HasNoRepeats (map (λ seat. seat.name) seats.items) }
         requires limit { (0 < limit) × (limit ≤ MAX_CELLS) }
-        ensures parts { IfOk result (λ joint. joint ≡ record { environment = environment; catalogue = catalogue.items; target = target; seats = seats.items; limit = limit }) }
+        ensures parts { IfOk result (λ joint. joint ≡ named_parts environment catalogue.items target seats.items limit) }
         ensures limit { (result ≡ Err JointError.Limit)
-            ↔ (limit < cells (system_of (record { environment = environment; catalogue = catalogue.items; target = target; seats = seats.items; limit = limit }))) }
+            ↔ (limit < cells (system_of (named_parts environment catalogue.items target seats.items limit))) }
     {
         let shape = shape_of(&environment, &catalogue, &target, &seats, limit);
         let Some(shape) = shape else {

@@ -6,7 +6,7 @@ ghost use Rattle.roman_model.specs.System.{IsSys, IsBeh, is_final, all_final};
 ghost use Rattle.roman_model.specs.Numbers.{sizes_of, count, pair_at};
 ghost use Rattle.roman_model.specs.declared.limits.TheConstants.{MAX_SERVICES};
 ghost use Rattle.roman_parts.specs.Named.{NamedEnv};
-ghost use Rattle.roman_joint.specs.NamedSys.{beh_at, seat_of, system_of, cells, IsOverEnv, TargetIsOverEnv};
+ghost use Rattle.roman_joint.specs.NamedSys.{named_parts, beh_at, seat_of, system_of, cells, IsOverEnv, TargetIsOverEnv};
 
 use crate::seat::{PLACES, Seat};
 use roman_model::MAX_SERVICES;
@@ -51,11 +51,11 @@ pub(crate) fn shape_of(
     requires target { TargetIsOverEnv environment.now target.now }
     requires few { length seats.now ≤ MAX_SERVICES }
     requires behaviours { All (λ seat. seat.behaviour < length catalogue.now) seats.now }
-    ensures system { IsSys (system_of (record { environment = environment.now; catalogue = catalogue.now; target = target.now; seats = seats.now; limit = limit })) }
+    ensures system { IsSys (system_of (named_parts environment.now catalogue.now target.now seats.now limit)) }
     ensures fits { IsSome result
-        ↔ (cells (system_of (record { environment = environment.now; catalogue = catalogue.now; target = target.now; seats = seats.now; limit = limit })) ≤ limit) }
+        ↔ (cells (system_of (named_parts environment.now catalogue.now target.now seats.now limit)) ≤ limit) }
     ensures shape { IfSome result (λ shape. shape
-        ≡ sizes_of (system_of (record { environment = environment.now; catalogue = catalogue.now; target = target.now; seats = seats.now; limit = limit }))) }
+        ≡ sizes_of (system_of (named_parts environment.now catalogue.now target.now seats.now limit))) }
 {
     let sizes = sizes_of_seats(catalogue, seats);
     Shape::new(

@@ -1,17 +1,13 @@
-use Rattle.std.proofs.Common.{ℕ, List, refl, ap, ◌∙◌, arith}
-use Rattle.roman_parts.specs.Named.{NamedEnv, NamedBeh, NamedTarget}
+use Rattle.std.proofs.Common.{List, refl, ap, ◌∙◌, arith}
 use Rattle.roman_joint.specs.declared.seat.Seat.{Seat}
-use Rattle.roman_joint.specs.NamedSys.{NamedSys}
+use Rattle.roman_joint.specs.NamedSys.{named_parts}
 use Rattle.roman_joint.specs.Moves.{AreSeatsOf}
 use Rattle.roman_joint.proofs.Shown.{is_joint}
 use Rattle.roman_joint.proofs.joint.Joint.build.Goals as goal
 use Rattle.roman_joint.proofs.joint.Joint.build.Goals.{After-deref-4}
 
-abbrev named : NamedEnv → NamedTarget → ℕ → List NamedBeh → List Seat → NamedSys
-named environment target limit catalogue seats = record { environment = environment; catalogue = catalogue; target = target; seats = seats; limit = limit }
-
 -- the services of the system that is built
-parts : (c : After-deref-4) → AreSeatsOf (named c.args.environment c.args.target c.args.limit c.args.catalogue.items c.args.seats.items)
+parts : (c : After-deref-4) → AreSeatsOf (named_parts c.args.environment c.args.catalogue.items c.args.target c.args.seats.items c.args.limit)
     c.deref-3.result.now c.deref-4.result.now c.in-Some.shape c.args.environment.env.states c.args.environment.env.actions
 parts c =
     record {
@@ -33,7 +29,7 @@ parts c =
 
 pub invariant_of-result : goal.invariant_of-result
 invariant_of-result c =
-    let n = named c.args.environment c.args.target c.args.limit c.args.catalogue.items in
+    let n = λ (seats : List Seat). named_parts c.args.environment c.args.catalogue.items c.args.target seats c.args.limit in
     let of = parts (goal.at.invariant_of-result c).After-deref-4 in
     is_joint _ (n c.args.seats.items) (ap n (c.in-Ok.ensures.places ∙ c.deref-4.ensures.value)) (record {
       known = of.known;
