@@ -14,8 +14,9 @@ use crate::words::{less, with_lanes};
 fn rests_within(joint: &Joint, k: u8) -> u64
     requires within { low_in (system_of joint.now) ≤ k }
     requires seat { k < length joint.now.seats }
-    ensures { (lane : ℕ) → lane < lanes_in (system_of joint.now) → is_on result lane
-        ≡ may_rest_in (slice_get (system_of joint.now).seats k) (lane_state_of (sizes_of (system_of joint.now)) k lane) }
+    ensures { let s = system_of joint.now in
+        (lane : ℕ) → lane < lanes_in s → is_on result lane
+        ≡ may_rest_in (slice_get s.seats k) (lane_state_of (sizes_of s) k lane) }
 {
     let shape = joint.shape();
     let rows = joint.layout();
@@ -32,8 +33,9 @@ fn rests_within(joint: &Joint, k: u8) -> u64
 fn rests_on(joint: &Joint, row: &Row, k: u8) -> u64
     requires row { (x : ℕ) × IsRow (system_of joint.now) x row.now }
     requires seat { k < length joint.now.seats }
-    ensures { (x lane : ℕ) → IsRow (system_of joint.now) x row.now → lane < lanes_in (system_of joint.now) → is_on result lane
-        ≡ may_rest_in (slice_get (system_of joint.now).seats k) (slice_index (pair_at (sizes_of (system_of joint.now)) (x * lanes_in (system_of joint.now) + lane)).bs k) }
+    ensures { let s = system_of joint.now in
+        (x lane : ℕ) → IsRow s x row.now → lane < lanes_in s → is_on result lane
+        ≡ may_rest_in (slice_get s.seats k) (slice_index (pair_at (sizes_of s) (x * lanes_in s + lane)).bs k) }
 {
     let rows = joint.layout();
     if k < rows.low {
@@ -49,8 +51,9 @@ impl Joint {
     /// lanes.
     pub fn unfine(&self, row: &Row) -> u64
         requires { (x : ℕ) × IsRow (system_of self.now) x row.now }
-        ensures { (x : ℕ) → IsRow (system_of self.now) x row.now →
-            HasLanes (lanes_in (system_of self.now)) x (λ p. not ((numbered (system_of self.now)).fine p)) result }
+        ensures { let s = system_of self.now in
+            (x : ℕ) → IsRow s x row.now →
+            HasLanes (lanes_in s) x (λ p. not ((numbered s).fine p)) result }
     {
         self.known();
         if !self.target().is_final(row.target) {

@@ -26,9 +26,10 @@ fn good_before(joint: &Joint, words: &[u64], row: &Row, turn: &Turn<'_>, a: u8, 
     requires action { a < (system_of joint.now).env.actions }
     requires room { length words.now * lanes_in (system_of joint.now) ≡ count (sizes_of (system_of joint.now)) }
     requires seat { k < low_in (system_of joint.now) }
-    ensures { (x : ℕ) (gone : ℕ → Bool) → IsRow (system_of joint.now) x row.now →
-        AreRows (lanes_in (system_of joint.now)) (λ q. not (gone q)) words.now →
-        HasLanes (lanes_in (system_of joint.now)) x (λ p. not (is_beaten (numbered (system_of joint.now)) gone p a k)) result }
+    ensures { let s = system_of joint.now in
+        (x : ℕ) (gone : ℕ → Bool) → IsRow s x row.now →
+        AreRows (lanes_in s) (λ q. not (gone q)) words.now →
+        HasLanes (lanes_in s) x (λ p. not (is_beaten (numbered s) gone p a k)) result }
 {
     let rows = joint.layout();
     let b = row.states[k as usize];
@@ -66,9 +67,10 @@ fn good_within(joint: &Joint, row: &Row, alive: u64, a: u8, k: u8) -> u64
     requires action { a < (system_of joint.now).env.actions }
     requires within { low_in (system_of joint.now) ≤ k }
     requires seat { k < length joint.now.seats }
-    ensures { (x : ℕ) (gone : ℕ → Bool) (turn : Turn) → IsRow (system_of joint.now) x row.now →
-        IsTurn (system_of joint.now) row.now a turn → AreAlive (system_of joint.now) gone turn alive →
-        HasLanes (lanes_in (system_of joint.now)) x (λ p. not (is_beaten (numbered (system_of joint.now)) gone p a k)) result }
+    ensures { let s = system_of joint.now in
+        (x : ℕ) (gone : ℕ → Bool) (turn : Turn) → IsRow s x row.now →
+        IsTurn s row.now a turn → AreAlive s gone turn alive →
+        HasLanes (lanes_in s) x (λ p. not (is_beaten (numbered s) gone p a k)) result }
 {
     joint.known();
     if joint.seat(k).frozen {
@@ -93,9 +95,10 @@ fn good_on(
     requires action { a < (system_of joint.now).env.actions }
     requires room { length words.now * lanes_in (system_of joint.now) ≡ count (sizes_of (system_of joint.now)) }
     requires seat { k < length joint.now.seats }
-    ensures { (x : ℕ) (gone : ℕ → Bool) → IsRow (system_of joint.now) x row.now →
-        AreRows (lanes_in (system_of joint.now)) (λ q. not (gone q)) words.now → AreAlive (system_of joint.now) gone turn.now alive →
-        HasLanes (lanes_in (system_of joint.now)) x (λ p. not (is_beaten (numbered (system_of joint.now)) gone p a k)) result }
+    ensures { let s = system_of joint.now in
+        (x : ℕ) (gone : ℕ → Bool) → IsRow s x row.now →
+        AreRows (lanes_in s) (λ q. not (gone q)) words.now → AreAlive s gone turn.now alive →
+        HasLanes (lanes_in s) x (λ p. not (is_beaten (numbered s) gone p a k)) result }
 {
     if k < joint.layout().low {
         good_before(joint, words, row, turn, a, k)
@@ -126,9 +129,10 @@ impl Joint {
         requires action { a < (system_of self.now).env.actions }
         requires seat { k < length self.now.seats }
         requires room { length words.now * lanes_in (system_of self.now) ≡ count (sizes_of (system_of self.now)) }
-        ensures { (x : ℕ) (gone : ℕ → Bool) → IsRow (system_of self.now) x row.now →
-            AreRows (lanes_in (system_of self.now)) (λ q. not (gone q)) words.now →
-            HasLanes (lanes_in (system_of self.now)) x (λ p. not (is_beaten (numbered (system_of self.now)) gone p a k)) result }
+        ensures { let s = system_of self.now in
+            (x : ℕ) (gone : ℕ → Bool) → IsRow s x row.now →
+            AreRows (lanes_in s) (λ q. not (gone q)) words.now →
+            HasLanes (lanes_in s) x (λ p. not (is_beaten (numbered s) gone p a k)) result }
     {
         self.known();
         let Some(turn) = turn_of(self, row, a) else {
@@ -146,9 +150,10 @@ impl Joint {
         requires action { a < (system_of self.now).env.actions }
         requires lane { lane < lanes_in (system_of self.now) }
         requires room { length words.now * lanes_in (system_of self.now) ≡ count (sizes_of (system_of self.now)) }
-        ensures { (x : ℕ) (gone : ℕ → Bool) → IsRow (system_of self.now) x row.now →
-            AreRows (lanes_in (system_of self.now)) (λ q. not (gone q)) words.now →
-            HasBits result (has (mask_of (numbered (system_of self.now)) gone (x * lanes_in (system_of self.now) + lane) a)) }
+        ensures { let s = system_of self.now in
+            (x : ℕ) (gone : ℕ → Bool) → IsRow s x row.now →
+            AreRows (lanes_in s) (λ q. not (gone q)) words.now →
+            HasBits result (has (mask_of (numbered s) gone (x * lanes_in s + lane) a)) }
     {
         self.known();
         let Some(turn) = turn_of(self, row, a) else {
@@ -170,9 +175,10 @@ impl Joint {
         requires row { (x : ℕ) × IsRow (system_of self.now) x row.now }
         requires action { a < (system_of self.now).env.actions }
         requires room { length words.now * lanes_in (system_of self.now) ≡ count (sizes_of (system_of self.now)) }
-        ensures counted { (x : ℕ) (gone : ℕ → Bool) → IsRow (system_of self.now) x row.now →
-            AreRows (lanes_in (system_of self.now)) (λ q. not (gone q)) words.now →
-            result ≡ sum_by (λ lane. length (mask_of (numbered (system_of self.now)) gone (x * lanes_in (system_of self.now) + lane) a)) (below (lanes_in (system_of self.now))) }
+        ensures counted { let s = system_of self.now in
+            (x : ℕ) (gone : ℕ → Bool) → IsRow s x row.now →
+            AreRows (lanes_in s) (λ q. not (gone q)) words.now →
+            result ≡ sum_by (λ lane. length (mask_of (numbered s) gone (x * lanes_in s + lane) a)) (below (lanes_in s)) }
         ensures few { result ≤ 2048 }
     {
         self.known();
@@ -194,10 +200,11 @@ impl Joint {
         requires row { (x : ℕ) × IsRow (system_of self.now) x row.now }
         requires action { a < (system_of self.now).env.actions }
         requires room { length words.now * lanes_in (system_of self.now) ≡ count (sizes_of (system_of self.now)) }
-        ensures lost { (x : ℕ) (gone : ℕ → Bool) → IsRow (system_of self.now) x row.now →
-            AreRows (lanes_in (system_of self.now)) (λ q. not (gone q)) words.now →
-            (lane : ℕ) → lane < lanes_in (system_of self.now) →
-            is_on result lane ≡ (is_on wanted lane && is_justified (numbered (system_of self.now)) gone (x * lanes_in (system_of self.now) + lane) (Act a)) }
+        ensures lost { let s = system_of self.now in
+            (x : ℕ) (gone : ℕ → Bool) → IsRow s x row.now →
+            AreRows (lanes_in s) (λ q. not (gone q)) words.now →
+            (lane : ℕ) → lane < lanes_in s →
+            is_on result lane ≡ (is_on wanted lane && is_justified (numbered s) gone (x * lanes_in s + lane) (Act a)) }
         ensures within { (lane : ℕ) → is_on wanted lane ≡ false → is_on result lane ≡ false }
     {
         self.known();

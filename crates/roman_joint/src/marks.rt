@@ -164,12 +164,14 @@ impl Joint {
         requires row { (x : ℕ) × IsRow (system_of self.now) x row.now }
         requires room { count (sizes_of (system_of self.now)) ≤ 64 * length marks.old * lanes_in (system_of self.now) }
         ensures long { length marks.new ≡ length marks.old }
-        ensures marked { (x lane p a k : ℕ) → IsRow (system_of self.now) x row.now → lane < lanes_in (system_of self.now) → is_on lost lane ≡ true →
-            p < count (sizes_of (system_of self.now)) → IsIn (x * lanes_in (system_of self.now) + lane) ((numbered (system_of self.now)).outcomes p a k) →
-            has_flag marks.new (p / lanes_in (system_of self.now)) ≡ true }
+        ensures marked { let s = system_of self.now in
+            (x lane p a k : ℕ) → IsRow s x row.now → lane < lanes_in s → is_on lost lane ≡ true →
+            p < count (sizes_of s) → IsIn (x * lanes_in s + lane) ((numbered s).outcomes p a k) →
+            has_flag marks.new (p / lanes_in s) ≡ true }
         ensures still { (y : ℕ) → has_flag marks.old y ≡ true → has_flag marks.new y ≡ true }
-        ensures cost { (x lane : ℕ) → IsRow (system_of self.now) x row.now → lane < lanes_in (system_of self.now) → is_on lost lane ≡ true →
-            steps.new ≤ steps.old + length (back (numbered (system_of self.now)) (x * lanes_in (system_of self.now) + lane)) }
+        ensures cost { let s = system_of self.now in
+            (x lane : ℕ) → IsRow s x row.now → lane < lanes_in s → is_on lost lane ≡ true →
+            steps.new ≤ steps.old + length (back (numbered s) (x * lanes_in s + lane)) }
     {
         self.known();
         for a in 0..self.environment().actions().len() as u8 {
