@@ -14,6 +14,7 @@ impl Joint {
     pub fn copy(&self, alloc: Global) -> Result<Joint, AllocError>
         ensures same { IfOk result (λ copy. copy ≡ self.now) }
     {
+        // Each `?` drops what is copied by then, so what is least to drop comes first.
         Ok(Joint {
             moves: moves_of(
                 alloc,
