@@ -1,7 +1,6 @@
 -- Advice by costs that were read, as part of a run.
 use Rattle.std.proofs.Common.{◌≡◌, ◌≢◌, ◌↔◌, ℕ, ◌*◌, ◌<◌, ◌≤◌, inl, inr, Bool, IsTrue, IsFalse, List, Option, Some, IfSome, Result, Ok, Err, refl, sym, ap, ◌∙◌, subst}
 use Rattle.std.proofs.lemmas.Bool.{cond-true, cond-false, lt-ltb, le-ltb, cases_lt}
-use Rattle.roman_io.specs.Faults.{HasCause}
 use Rattle.roman_io.specs.Shelf.{Texts}
 use Rattle.roman_io.specs.Sink.{Puts}
 use Rattle.roman_model.specs.Composition.{Great}
@@ -9,19 +8,15 @@ use Rattle.roman_model.specs.System.{Sys, Pair, IsSys}
 use Rattle.roman_model.specs.Numbers.{sizes_of, count, pair_at}
 use Rattle.roman_model.specs.Offers.{is_related, related_count}
 use Rattle.roman_model.proofs.CallerLemmas.{by_test, same_test, related_great, great_related, numbers_are_pairs}
-use Rattle.roman_read.specs.declared.rules.Kind.{Kind}
 use Rattle.roman_parts.specs.declared.error.PartError.{PartError}
-use Rattle.roman_parts.specs.declared.error.PartError.TheVariants as part_error
 use Rattle.roman_joint.specs.NamedSys.{NamedSys, system_of}
 use Rattle.roman_library.specs.Library.{PlainLibrary}
-use Rattle.roman_library.specs.Refusals.{refusal_of}
-use Rattle.roman_library.specs.declared.refusal.Part.TheVariants as part
 use Rattle.roman_start.specs.Starts.{parts_of, start_pair_of}
 use Rattle.roman_start.specs.Seating.{IsSeated}
 use Rattle.roman_start.specs.declared.seating.Seated.{Seated}
 use Rattle.roman_cost.specs.AdviceText.{Advising, Unrelated, TooMany, Told, advice_text, advised_by}
 use Rattle.roman_cost.specs.Costs.{costs_of}
-use Rattle.roman_cost.specs.Refusals.{ReadsAs, HasCostCause, place_of_rule}
+use Rattle.roman_cost.specs.Refusals.{ReadsAs, HasCostCause}
 use Rattle.roman_cost.specs.Tables.{CostTable}
 use Rattle.roman_cost.specs.declared.costs.Listed.{Listed}
 use Rattle.roman_cost.specs.declared.error.CostError.{CostError}
@@ -29,18 +24,16 @@ use Rattle.roman_cost.specs.declared.error.CostError.TheVariants as cost
 use Rattle.roman_cost.specs.declared.error.AdviceError.{AdviceError}
 use Rattle.roman_cost.specs.declared.error.AdviceError.TheVariants as advice_error
 use Rattle.roman_cost.specs.declared.limits.TheConstants.{MAX_VALUES}
-use Rattle.roman_top.specs.Advice.{SaysAdvice, OnCosts, GivesAdvice, Affords, TellsRead, CausedByRead, IsSpoken}
-use Rattle.roman_top.specs.Causes.{ShelfCause, SinkCause}
+use Rattle.roman_top.specs.Advice.{SaysAdvice, OnCosts, GivesAdvice, Affords, TellsRead, CausedByRead}
+use Rattle.roman_top.specs.Causes.{SinkCause}
 use Rattle.roman_top.specs.Command.{Advise, On}
 use Rattle.roman_top.specs.Complete.{IsAnswered}
-use Rattle.roman_top.specs.Endings.{Accepts, Opens, Finishes, EndsBare, Writes, WritesText}
-use Rattle.roman_top.specs.Opening.{EndsWith, document_opening, OnOpening}
-use Rattle.roman_top.specs.RefusalLine.{refusal_line}
+use Rattle.roman_top.specs.Endings.{Accepts, Opens, Finishes, EndsBare, IsSpoken, Writes, WritesText}
+use Rattle.roman_top.specs.Opening.{document_opening, OnOpening}
 use Rattle.roman_top.specs.Served.{ServedBeside}
 use Rattle.roman_top.specs.World.{desk}
 use Rattle.roman_top.specs.declared.status.Status.{Status}
-use Rattle.roman_top.specs.declared.status.Status.TheVariants as status
-use Rattle.roman_top.proofs.EndingLemmas.{told_both, on_accepted, writes_put, writes_weaker}
+use Rattle.roman_top.proofs.EndingLemmas.{told_both, on_accepted, writes_put, writes_weaker, spoken_shelf}
 use Rattle.roman_top.proofs.ServedLemmas.{job_served}
 
 -- ---- what a request for advice comes to
@@ -84,46 +77,15 @@ advice_moved n m listed h start old new result same writes = subst (λ (n : Name
 
 -- ---- how the parts end
 
--- after a put
-pub finished_spoken : {T E : Type 0} (ends : Status) (old new : Option (List ℕ)) (result : Status) (r : Result T E) → IsSpoken old new ends → Finishes r ends result → IsSpoken old new result
-finished_spoken ends old new result (Ok x) spoken finishes = subst (IsSpoken old new) (sym finishes) spoken
-finished_spoken ends old new result (Err e) spoken finishes = subst (IsSpoken old new) (sym finishes) tt
+-- costs that were read, or refused
+pub read_caused : (read known : Result CostTable CostError) (old new : Option (List ℕ)) (result : Status) → read ≡ known → ((n n_now : ℕ) → HasCostCause n n_now known → n_now ≡ n) → IsSpoken old new result →
+    CausedByRead read result
+read_caused read known old new result is stays spoken n n_now caused =
+    spoken_shelf old new n n_now result spoken (stays n n_now (subst (λ (r : Result CostTable CostError). HasCostCause n n_now r) is caused))
 
-pub finished_sink : {T E : Type 0} (ends : Status) (old new : ℕ) (result : Status) (r : Result T E) → (new ≡ old → SinkCause old new ends) → Finishes r ends result → HasCause old new r → SinkCause old new result
-finished_sink ends old new result (Ok x) stays finishes cause = subst (SinkCause old new) (sym finishes) (stays cause.stays)
-finished_sink ends old new result (Err e) stays finishes cause = subst (SinkCause old new) (sym finishes) cause.failed
-
-pub spoken_stops : (old new : Option (List ℕ)) (result : Status) → IsSpoken old new result → EndsBare old new result
-spoken_stops old new status.Usage spoken = absurd spoken
-spoken_stops old new status.ShelfFault spoken = absurd spoken
-spoken_stops old new status.ReadFault spoken = absurd spoken
-spoken_stops old new status.TooLong spoken = absurd spoken
-spoken_stops old new status.Memory spoken = spoken
-spoken_stops old new _ spoken = tt
-
-spoken_shelf : (old new : Option (List ℕ)) (n n_now : ℕ) (result : Status) → IsSpoken old new result → n_now ≡ n → ShelfCause n n_now result
-spoken_shelf old new n n_now status.ShelfFault spoken same = absurd spoken
-spoken_shelf old new n n_now _ spoken same = same
-
--- costs that were read
-pub read_caused : (read : Result CostTable CostError) (costs : CostTable) (old new : Option (List ℕ)) (result : Status) → read ≡ Ok costs → IsSpoken old new result → CausedByRead read result
-read_caused read costs old new result is spoken n n_now caused =
-    spoken_shelf old new n n_now result spoken (subst (λ (r : Result CostTable CostError). HasCostCause n n_now r) is caused)
-
-pub read_writes : (name : List ℕ) (n : NamedSys) (requests : ℕ) (p : Pair) (read : Result CostTable CostError) (costs : CostTable) (old new : Option (List ℕ)) (result : Status) → read ≡ Ok costs →
-    Writes (SaysAdvice (advised_by n costs.listed requests p)) old new result → Writes (TellsRead name n requests p read) old new result
-read_writes name n requests p read costs old new result is writes = subst (λ (r : Result CostTable CostError). Writes (TellsRead name n requests p r) old new result) (sym is) writes
-
--- costs that were refused
-pub refused_caused : (read : Result CostTable CostError) (kind : Kind) (whole : Bool) (index : ℕ) (old new : Option (List ℕ)) (result : Status) → read ≡ Err (cost.Refused kind whole index) → IsSpoken old new result → CausedByRead read result
-refused_caused read kind whole index old new result is spoken n n_now caused =
-    spoken_shelf old new n n_now result spoken (subst (λ (r : Result CostTable CostError). HasCostCause n n_now r) is caused)
-
-pub refused_writes : (name : List ℕ) (n : NamedSys) (requests : ℕ) (p : Pair) (read : Result CostTable CostError) (kind : Kind) (whole : Bool) (index : ℕ) (old new : Option (List ℕ)) (result : Status) →
-    read ≡ Err (cost.Refused kind whole index) → Writes (EndsWith (refusal_line (refusal_of name part.Costs (part_error.Refused kind (place_of_rule whole) index))) status.Refused) old new result →
-    Writes (TellsRead name n requests p read) old new result
-refused_writes name n requests p read kind whole index old new result is writes =
-    subst (λ (r : Result CostTable CostError). Writes (TellsRead name n requests p r) old new result) (sym is) writes
+pub read_writes : (name : List ℕ) (n : NamedSys) (requests : ℕ) (p : Pair) (read known : Result CostTable CostError) (old new : Option (List ℕ)) (result : Status) → read ≡ known →
+    Writes (TellsRead name n requests p known) old new result → Writes (TellsRead name n requests p read) old new result
+read_writes name n requests p read known old new result is writes = subst (λ (r : Result CostTable CostError). Writes (TellsRead name n requests p r) old new result) (sym is) writes
 
 -- ---- the whole
 

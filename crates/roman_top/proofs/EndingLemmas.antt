@@ -1,13 +1,15 @@
 -- How the parts of a run end.
 use Rattle.std.proofs.Common.{◌≡◌, ℕ, ◌<◌, cond, Bool, true, false, IsTrue, IsFalse, MatchBool, List, Option, None, Some, IfSome, Result, Ok, Err, refl, sym, ap, ◌∙◌, subst}
 use Rattle.std.proofs.lemmas.Bool.{false≢true, true≢false, cond-true, lt-ltb}
+use Rattle.roman_io.specs.Faults.{HasCause}
 use Rattle.roman_io.specs.Shelf.{Texts}
 use Rattle.roman_io.specs.Sink.{Puts}
 use Rattle.roman_joint.specs.NamedSys.{cells}
 use Rattle.roman_library.specs.Documents.{library_of}
 use Rattle.roman_library.specs.Library.{PlainLibrary}
 use Rattle.roman_library.specs.declared.refusal.Refusal.{Refusal}
-use Rattle.roman_top.specs.Endings.{WritesText, Writes, TurnsAway, ReadsTo, OpensTo, Finishes}
+use Rattle.roman_top.specs.Causes.{ShelfCause, SinkCause}
+use Rattle.roman_top.specs.Endings.{WritesText, Writes, EndsBare, TurnsAway, ReadsTo, OpensTo, Finishes, IsSpoken}
 use Rattle.roman_top.specs.Opening.{Opening, Refused, Past, Accepted, opening_of, document_opening, OnOpening, library_system, is_past_limit, limit_line}
 use Rattle.roman_top.specs.RefusalLine.{refusal_line}
 use Rattle.roman_top.specs.declared.status.Status.{Status}
@@ -81,6 +83,28 @@ writes_weaker One Other old new status.ReadFault weaker w = tt
 writes_weaker One Other old new status.WriteFault weaker w = record { text = w.text; ends = w.ends; run = weaker w.text w.ends w.run; wrote = w.wrote }
 writes_weaker One Other old new status.Memory weaker w = tt
 writes_weaker One Other old new result weaker w = record { text = w.text; run = weaker w.text result w.run; wrote = w.wrote }
+
+-- after a put
+pub finished_spoken : {T E : Type 0} (ends : Status) (old new : Option (List ℕ)) (result : Status) (r : Result T E) → IsSpoken old new ends → Finishes r ends result → IsSpoken old new result
+finished_spoken ends old new result (Ok x) spoken finishes = subst (IsSpoken old new) (sym finishes) spoken
+finished_spoken ends old new result (Err e) spoken finishes = subst (IsSpoken old new) (sym finishes) tt
+
+pub finished_sink : {T E : Type 0} (ends : Status) (old new : ℕ) (result : Status) (r : Result T E) → (new ≡ old → SinkCause old new ends) → Finishes r ends result → HasCause old new r → SinkCause old new result
+finished_sink ends old new result (Ok x) stays finishes cause = subst (SinkCause old new) (sym finishes) (stays cause.stays)
+finished_sink ends old new result (Err e) stays finishes cause = subst (SinkCause old new) (sym finishes) cause.failed
+
+-- neither the shelf nor the input stops it
+pub spoken_stops : (old new : Option (List ℕ)) (result : Status) → IsSpoken old new result → EndsBare old new result
+spoken_stops old new status.Usage spoken = absurd spoken
+spoken_stops old new status.ShelfFault spoken = absurd spoken
+spoken_stops old new status.ReadFault spoken = absurd spoken
+spoken_stops old new status.TooLong spoken = absurd spoken
+spoken_stops old new status.Memory spoken = spoken
+spoken_stops old new _ spoken = tt
+
+pub spoken_shelf : (old new : Option (List ℕ)) (n n_now : ℕ) (result : Status) → IsSpoken old new result → n_now ≡ n → ShelfCause n n_now result
+spoken_shelf old new n n_now status.ShelfFault spoken same = absurd spoken
+spoken_shelf old new n n_now _ spoken same = same
 
 pub match_true : (b : Bool) (P Q : Type 0) → IsTrue b → P → MatchBool b P Q
 match_true true P Q e p = p

@@ -22,15 +22,10 @@ module _ {X : Type 0} (told told_now : Option Texts) (shelf shelf_now : ℕ) (ol
   failed_leaves rose is = subst (λ (result : Status). Leaves {X = X} (desk told shelf old out) (desk told_now shelf_now new out_now) (Err result)) (sym is)
       (record { away = tt; stops = tt; texts = texts; shelf = shelves; out = subst (λ (n : ℕ). Rose n out_now) outs rose })
 
-  refused_leaves : {T E : Type 0} (r : Result T E) → HasCause out_mid out_now r → Finishes r status.Refused result → Leaves {X = X} (desk told shelf old out) (desk told_now shelf_now new out_now) (Err result)
-  refused_leaves (Ok x) cause is = subst (λ (result : Status). Leaves {X = X} (desk told shelf old out) (desk told_now shelf_now new out_now) (Err result)) (sym is)
-      (record { away = tt; stops = tt; texts = texts; shelf = shelves; out = cause.stays ∙ outs })
-  refused_leaves (Err e) cause is = failed_leaves cause.failed is
-
-  past_leaves : {T E : Type 0} (r : Result T E) → HasCause out_mid out_now r → Finishes r status.Limit result → Leaves {X = X} (desk told shelf old out) (desk told_now shelf_now new out_now) (Err result)
-  past_leaves (Ok x) cause is = subst (λ (result : Status). Leaves {X = X} (desk told shelf old out) (desk told_now shelf_now new out_now) (Err result)) (sym is)
-      (record { away = tt; stops = tt; texts = texts; shelf = shelves; out = cause.stays ∙ outs })
-  past_leaves (Err e) cause is = failed_leaves cause.failed is
+  line_leaves : {T E : Type 0} (ends : Status) (r : Result T E) → (out_now ≡ out → Leaves {X = X} (desk told shelf old out) (desk told_now shelf_now new out_now) (Err ends)) → HasCause out_mid out_now r → Finishes r ends result →
+      Leaves {X = X} (desk told shelf old out) (desk told_now shelf_now new out_now) (Err result)
+  line_leaves ends (Ok x) leaves cause is = subst (λ (result : Status). Leaves {X = X} (desk told shelf old out) (desk told_now shelf_now new out_now) (Err result)) (sym is) (leaves (cause.stays ∙ outs))
+  line_leaves ends (Err e) leaves cause is = failed_leaves cause.failed is
 
 -- Reading a document
 
@@ -54,7 +49,8 @@ module _ {X : Type 0} (view : X → PlainLibrary) (name : List ℕ) (told told_n
       Puts old new (refusal_line refusal) r → HasCause out out_now r → Finishes r status.Refused result → OpensLibrary view name (desk told shelf old out) (desk told_now shelf_now new out_now) (Err result)
   read_refused refusal new out_now result r means shelves puts cause finishes = record {
     reads = refused view told name refusal old new result r means puts finishes;
-    leaves = refused_leaves told told_now shelf shelf_now old new out out out_now result texts shelves refl r cause finishes;
+    leaves = line_leaves told told_now shelf shelf_now old new out out out_now result texts shelves refl status.Refused r
+        (λ stays. record { away = tt; stops = tt; texts = texts; shelf = shelves; out = stays }) cause finishes;
   }
 
 -- Opening it
@@ -83,5 +79,6 @@ module _ {X Y : Type 0} (view : Y → PlainLibrary) (Holds : PlainLibrary → X 
         Finishes r status.Limit result → Opens Holds name (desk told shelf old out) (desk told_now shelf_now new out_now) (Err result)
     opens_past_limit new out_now result r past puts cause finishes = record {
       opens = exceeded Holds told name (view y) old mid new result r read.reads past read.leaves.stops puts finishes;
-      leaves = past_leaves told told_now shelf shelf_now old new out out_mid out_now result read.leaves.texts read.leaves.shelf read.leaves.out r cause finishes;
+      leaves = line_leaves told told_now shelf shelf_now old new out out_mid out_now result read.leaves.texts read.leaves.shelf read.leaves.out status.Limit r
+          (λ stays. record { away = tt; stops = tt; texts = read.leaves.texts; shelf = read.leaves.shelf; out = stays }) cause finishes;
     }

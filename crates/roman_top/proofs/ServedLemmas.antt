@@ -6,17 +6,17 @@ use Rattle.roman_io.specs.Sink.{Puts}
 use Rattle.roman_io.specs.Source.{Gave}
 use Rattle.roman_io.proofs.CallerLemmas.{Gave-nil}
 use Rattle.roman_library.specs.Library.{PlainLibrary}
-use Rattle.roman_top.specs.Causes.{ShelfCause, InputCause, SinkCause}
+use Rattle.roman_top.specs.Causes.{InputCause, SinkCause}
 use Rattle.roman_top.specs.Command.{Job, Run, Command, On, Make, usage_line}
-use Rattle.roman_top.specs.Endings.{WritesText, WritesPrefix, Writes, EndsBare, DoesJob, TurnsAway, IsAway, Opens, Finishes, IsDone}
+use Rattle.roman_top.specs.Endings.{WritesText, WritesPrefix, Writes, EndsBare, DoesJob, TurnsAway, IsAway, Accepts, Opens, Finishes, IsSpoken}
 use Rattle.roman_top.specs.Faults.{IsFree, AtShelfFault, HasRunPrefix, IsOfTaken, EndsInput}
 use Rattle.roman_top.specs.Opening.{document_opening, OnOpening}
 use Rattle.roman_top.specs.Run.{JobDoes, Makes, IsSessionText, HasRun}
 use Rattle.roman_top.specs.Served.{Served, ServedBeside}
-use Rattle.roman_top.specs.World.{World, Desk, world, beside, IsUnwritten}
+use Rattle.roman_top.specs.World.{World, Desk, world, desk, beside, IsUnwritten}
 use Rattle.roman_top.specs.declared.status.Status.{Status}
 use Rattle.roman_top.specs.declared.status.Status.TheVariants as status
-use Rattle.roman_top.proofs.EndingLemmas.{told_more, away_is_run}
+use Rattle.roman_top.proofs.EndingLemmas.{told_more, writes_weaker, spoken_stops, spoken_shelf, away_is_run, on_accepted}
 
 -- the same words ask for the same
 pub served_as : (asked other : Option Command) (old new : World) (result : Status) → asked ≡ other → Served other old new result → Served asked old new result
@@ -106,7 +106,6 @@ away_served {X} Holds system job old new result opens rest faults =
       shelf = opens.leaves.shelf;
       input = input_stays old.written new.written faults result opens.leaves.stops;
       out = opens.leaves.out;
-      taken = inl refl;
       ends = (aside job).ends system before after result opens.leaves.away;
       texts = opens.leaves.texts;
     }
@@ -148,37 +147,46 @@ job_served system job old new result plain does rest faults =
       shelf = does.shelf;
       input = input_stays old.written new.written faults result does.stops;
       out = does.out;
-      taken = inl refl;
       ends = is.ends system before after result;
       texts = does.texts;
     }
 
+-- by what was done of an opened document, and is a run
+pub opened_served : {X : Type 0} (Holds : PlainLibrary → X → Type 0) (x : X) (Work : List ℕ → Status → Type 0) (system : List ℕ) (job : Job) (told told_now : Option Texts) (shelf shelf_now : ℕ) (old mid new : Option (List ℕ))
+    (out out_mid out_now : ℕ) (result : Status) → IsPlain job → ((texts : Texts) (library : PlainLibrary) → Holds library x → (text : List ℕ) (ends : Status) → Work text ends → JobDoes job texts [] library text ends) →
+    Opens Holds system (desk told shelf old out) (desk told_now shelf_now mid out_mid) (Ok x) → Writes Work mid new result → IsSpoken mid new result → SinkCause out_mid out_now result →
+    ServedBeside (Some (On system job)) (desk told shelf old out) (desk told_now shelf_now new out_now) result
+opened_served Holds x Work system job told told_now shelf shelf_now old mid new out out_mid out_now result plain is_run opens writes spoken cause =
+    let mine : Writes Work old new result = subst (λ (o : Option (List ℕ)). Writes Work o new result) opens.leaves.stops writes in
+    let said : IsSpoken old new result = subst (λ (o : Option (List ℕ)). IsSpoken o new result) opens.leaves.stops spoken in
+    job_served system job (desk told shelf old out) (desk told_now shelf_now new out_now) result plain (record {
+      writes = told_more told (λ texts. Accepts (document_opening texts system) (λ library. Holds library x)) (λ texts. Writes (OnOpening (JobDoes job texts []) (document_opening texts system)) old new result) opens.opens
+          (λ texts accepts. writes_weaker Work (OnOpening (JobDoes job texts []) (document_opening texts system)) old new result
+          (λ (text : List ℕ) (ends : Status) (work : Work text ends).
+          on_accepted (JobDoes job texts []) (document_opening texts system) accepts.library text ends accepts.accepted (is_run texts accepts.library accepts.holds text ends work)) mine);
+      stops = spoken_stops old new result said;
+      texts = opens.leaves.texts;
+      shelf = spoken_shelf old new shelf shelf_now result said opens.leaves.shelf;
+      out = subst (λ (n : ℕ). SinkCause n out_now result) opens.leaves.out cause;
+    })
+
 -- Made systems
 
 -- no other fault comes
-never_of : (old new : Option (List ℕ)) (result ends : Status) → IsDone old new result → result ≡ ends → IsDone old new ends
-never_of old new result ends done is = subst (IsDone old new) is done
-
-shelf_unasked : (old new : Option (List ℕ)) (n : ℕ) (result : Status) → IsDone old new result → ShelfCause n n result
-shelf_unasked old new n status.ShelfFault done = absurd done
-shelf_unasked old new n _ done = refl
-
-input_unasked : (old new : Option (List ℕ)) (n : ℕ) (result : Status) → IsDone old new result → InputCause n n result
-input_unasked old new n status.ReadFault done = absurd done
-input_unasked old new n _ done = refl
+spoken_at : (old new : Option (List ℕ)) (result ends : Status) → IsSpoken old new result → result ≡ ends → IsSpoken old new ends
+spoken_at old new result ends spoken is = subst (IsSpoken old new) is spoken
 
 pub made_served : (n : ℕ) (told : Option Texts) (shelf : ℕ) (rest : Option (List ℕ)) (input : ℕ) (old new : Option (List ℕ)) (out out_now : ℕ) (result : Status) →
-    Writes (Makes n) old new result → IsDone old new result → SinkCause out out_now result → Served (Some (Make n)) (world told shelf rest input old out) (world told shelf rest input new out_now) result
-made_served n told shelf rest input old new out out_now result writes done cause = record {
+    Writes (Makes n) old new result → IsSpoken old new result → SinkCause out out_now result → Served (Some (Make n)) (world told shelf rest input old out) (world told shelf rest input new out_now) result
+made_served n told shelf rest input old new out out_now result writes spoken cause = record {
   run = λ free. let w = free_text (Makes n) old new result free writes in record { session = []; given = tt; text = w.text; run = w.run; wrote = w.wrote };
-  shelf_fault = λ is. absurd (never_of old new result status.ShelfFault done is);
-  read_fault = λ is. absurd (never_of old new result status.ReadFault done is);
+  shelf_fault = λ is. absurd (spoken_at old new result status.ShelfFault spoken is);
+  read_fault = λ is. absurd (spoken_at old new result status.ReadFault spoken is);
   write_fault = λ is. let w = prefix_text (Makes n) old new result is writes in (record { session = []; given = tt; text = w.text; ends = w.ends; run = w.run; wrote = w.wrote }, tt);
-  memory = λ is. (refl, never_of old new result status.Memory done is);
-  shelf = shelf_unasked old new shelf result done;
-  input = input_unasked old new input result done;
+  memory = λ is. (refl, spoken_at old new result status.Memory spoken is);
+  shelf = spoken_shelf old new shelf shelf result spoken refl;
+  input = input_stays old new input result (spoken_stops old new result spoken);
   out = cause;
-  taken = inl refl;
   ends = tt;
   texts = refl;
 }
@@ -197,7 +205,6 @@ usage_served told shelf rest input old new out out_now result (Ok x) puts finish
       shelf = refl;
       input = refl;
       out = cause.stays;
-      taken = inl refl;
       ends = tt;
       texts = refl;
     })
@@ -211,7 +218,6 @@ usage_served told shelf rest input old new out out_now result (Err e) puts finis
       shelf = refl;
       input = refl;
       out = cause.failed;
-      taken = inl refl;
       ends = tt;
       texts = refl;
     })

@@ -1,5 +1,5 @@
 -- Sessions, as part of a run.
-use Rattle.std.proofs.Common.{◌≡◌, ℕ, ◌+◌, List, Option, None, Some, IfSome, Result, Ok, Err, OnOk, IsErrOf, IsTrue, IsFalse, ◌⊎◌, inl, inr, refl, sym, ◌∙◌, subst}
+use Rattle.std.proofs.Common.{◌≡◌, ℕ, ◌+◌, ◌-◌, List, Option, None, Some, IfSome, Result, Ok, Err, OnOk, IsErrOf, IsTrue, IsFalse, ◌⊎◌, inr, refl, sym, ◌∙◌, subst}
 use Rattle.std.proofs.lemmas.Bool.{cond-true, cond-false}
 use Rattle.roman_io.specs.Faults.{Rose}
 use Rattle.roman_io.specs.Shelf.{Texts, shelf_text, rest_from}
@@ -40,7 +40,7 @@ pub record Heard (old new : Hall) (result : Result (Unit {0}) HearError) : Type 
   pub write_fault : IsErrOf result hear.WriteFault → StopsShort old new
   pub prefix : IsErrOf result hear.WriteFault → AreBehaviours old.spot.situation.parts → TellsPrefixOfAll old new.spot.written
   pub taken : GaveAtMost (MAX_SESSION_BYTES + PIECE_BYTES) old.rest new.rest
-  pub past : OnOk result (IsAtEnd new.rest ⊎ GaveQuit 4095 old.rest new.rest)
+  pub past : OnOk result (IsAtEnd new.rest ⊎ GaveQuit (PIECE_BYTES - 1) old.rest new.rest)
 
 -- Sessions of accepted documents
 
@@ -211,7 +211,7 @@ of_session (Err hear.ReadFault) = tt
 of_session (Err hear.WriteFault) = tt
 of_session (Err hear.TooLong) = tt
 
-ends_input : (system : List ℕ) (old new : World) (heard : Result (Unit {0}) HearError) → OnOk heard (IsAtEnd new.rest ⊎ GaveQuit 4095 old.rest new.rest) →
+ends_input : (system : List ℕ) (old new : World) (heard : Result (Unit {0}) HearError) → OnOk heard (IsAtEnd new.rest ⊎ GaveQuit (PIECE_BYTES - 1) old.rest new.rest) →
     EndsInput (Some (On system (Run None))) old new (heard_status status.ReadFault heard)
 ends_input system old new (Ok x) past = past
 ends_input system old new (Err hear.ReadFault) past = tt
@@ -244,11 +244,6 @@ heard_input system start now told told_mid shelf shelf_mid rest rest_now input i
       shelf = shelf_stays shelf shelf_mid heard shelves;
       input = input_cause input input_now heard reads;
       out = sink_cause out out_mid out_now status.ReadFault heard outs writes (λ same. same);
-      taken = inr (record {
-        accepted = told_more told Starts (λ texts. (library : _) × (document_opening texts system ≡ _)) opens (λ texts accepts. (accepts.library, accepts.accepted));
-        session = of_session heard;
-        few = h.taken;
-      });
       ends = ends_input system before after heard h.past;
       texts = texts;
     }
@@ -257,18 +252,22 @@ module _ (system : List ℕ) (start now : Situation) (told told_mid : Option Tex
     (heard : Result (Unit {0}) HearError) (result : Status) (opens : Opens IsStart system (desk told shelf old out) (desk told_mid shelf_mid mid out_mid) (Ok start)) (behaviours : AreBehaviours start.parts)
     (h : Heard (hall start rest mid) (hall now rest_now new) heard) (reads : CausedBy hear.ReadFault input input_now heard) (writes : CausedBy hear.WriteFault out_mid out_now heard)
     (is : result ≡ heard_status status.ReadFault heard) where
-  pub input_served : Served (Some (On system (Run None))) (world told shelf rest input old out) (world told_mid shelf_mid rest_now input_now new out_now) result
+  input_served : Served (Some (On system (Run None))) (world told shelf rest input old out) (world told_mid shelf_mid rest_now input_now new out_now) result
   input_served =
       let all : Heard (hall start rest old) (hall now rest_now new) heard = subst (λ (o : Option (List ℕ)). Heard (hall start rest o) (hall now rest_now new) heard) opens.leaves.stops h in
       subst (λ (result : Status). Served (Some (On system (Run None))) (world told shelf rest input old out) (world told_mid shelf_mid rest_now input_now new out_now) result) (sym is)
       (heard_input system start now told told_mid shelf shelf_mid rest rest_now input input_now old new out out_mid out_now heard opens.opens behaviours opens.leaves.texts opens.leaves.shelf opens.leaves.out all reads writes)
 
-  pub input_took : TakesInput (Some (On system (Run None))) (world told shelf rest input old out) (world told_mid shelf_mid rest_now input_now new out_now) result
+  input_took : TakesInput (Some (On system (Run None))) (world told shelf rest input old out) (world told_mid shelf_mid rest_now input_now new out_now) result
   input_took = record {
     accepted = told_more told (λ texts. Accepts (document_opening texts system) (λ library. IsStart library start)) (λ texts. (library : _) × (document_opening texts system ≡ _)) opens.opens (λ texts accepts. (accepts.library, accepts.accepted));
     session = subst IsOfSession (sym is) (of_session heard);
     few = h.taken;
   }
+
+  pub input_done : Served (Some (On system (Run None))) (world told shelf rest input old out) (world told_mid shelf_mid rest_now input_now new out_now) result
+      × TakesInput (Some (On system (Run None))) (world told shelf rest input old out) (world told_mid shelf_mid rest_now input_now new out_now) result
+  input_done = (input_served, input_took)
 
 -- the text of the shelf that a session is
 shelf_given : (texts : Texts) (system name : List ℕ) (rest : Option (List ℕ)) (session : List ℕ) → Had (rest_from (Some texts) name 0) session → IsSessionText (Some (On system (Run (Some name)))) texts rest session
@@ -294,7 +293,6 @@ heard_shelf system name start now None told_now shelf shelf_mid shelf_now old ne
   shelf = shelf_cause shelf shelf_mid shelf_now heard shelves reads;
   input = input_stays input heard;
   out = sink_cause out out_mid out_now status.ShelfFault heard outs writes (λ same. same);
-  taken = inl refl;
   ends = tt;
   texts = texts;
 }
@@ -310,7 +308,6 @@ heard_shelf system name start now (Some held) told_now shelf shelf_mid shelf_now
       shelf = shelf_cause shelf shelf_mid shelf_now heard shelves reads;
       input = input_stays input heard;
       out = sink_cause out out_mid out_now status.ShelfFault heard outs writes (λ same. same);
-      taken = inl refl;
       ends = tt;
       texts = texts;
     }

@@ -1,7 +1,6 @@
 -- What is told of costs, and of advice by them.
-use Rattle.std.specs.Prelude.{◌≡◌, ℕ, ◌≤◌, ◌*◌, List, [], codes, Option, Result, Ok, Err}
+use Rattle.std.specs.Prelude.{◌≡◌, ℕ, ◌≤◌, ◌*◌, false, List, Result, Ok, Err}
 use Rattle.roman_io.specs.Shelf.{Texts}
-use Rattle.roman_io.specs.Sink.{Wrote}
 use Rattle.roman_model.specs.Offers.{related_count}
 use Rattle.roman_model.specs.System.{Pair}
 use Rattle.roman_parts.specs.declared.error.PartError.{PartError}
@@ -11,6 +10,8 @@ use Rattle.roman_library.specs.Library.{PlainLibrary}
 use Rattle.roman_library.specs.Refusals.{refusal_of}
 use Rattle.roman_library.specs.declared.refusal.Part.TheVariants as part
 use Rattle.roman_start.specs.Starts.{parts_of, start_pair_of}
+use Rattle.roman_text.specs.Report.{line_text}
+use Rattle.roman_text.specs.declared.report.ReportLine.TheVariants as line
 use Rattle.roman_cost.specs.AdviceText.{Advising, Unrelated, TooMany, Told, advised_by}
 use Rattle.roman_cost.specs.Costs.{costs_of}
 use Rattle.roman_cost.specs.Refusals.{HasCostCause, place_of_rule}
@@ -20,24 +21,20 @@ use Rattle.roman_cost.specs.declared.error.CostError.{CostError}
 use Rattle.roman_cost.specs.declared.error.CostError.TheVariants as cost
 use Rattle.roman_cost.specs.declared.limits.TheConstants.{MAX_VALUES}
 use Rattle.roman_top.specs.Causes.{ShelfCause}
-use Rattle.roman_top.specs.Opening.{EndsWith, library_system, limit_line}
+use Rattle.roman_top.specs.Opening.{EndsSaying, library_system, limit_line}
 use Rattle.roman_top.specs.RefusalLine.{refusal_line}
 use Rattle.roman_top.specs.declared.status.Status.{Status}
 use Rattle.roman_top.specs.declared.status.Status.TheVariants as status
 
--- the line of a start pair that isn't related
-abbrev pub unrelated_line : List ℕ
-unrelated_line = codes "answer none\n"
-
 -- the pair isn't related, there are too many values, or the advice
 abbrev pub SaysAdvice : Advising → List ℕ → Status → Type 0
-SaysAdvice Unrelated out result = EndsWith unrelated_line status.No out result
-SaysAdvice TooMany out result = EndsWith (limit_line MAX_VALUES) status.Limit out result
-SaysAdvice (Told text) out result = EndsWith text status.Done out result
+SaysAdvice Unrelated out result = EndsSaying (line_text (line.Answer false)) status.No out result
+SaysAdvice TooMany out result = EndsSaying (limit_line MAX_VALUES) status.Limit out result
+SaysAdvice (Told text) out result = EndsSaying text status.Done out result
 
 -- costs that are refused get the line of their refusal; by those that are read the work is done
 abbrev pub OnCosts : List ℕ → (List Listed → List ℕ → Status → Type 0) → Result (List Listed) PartError → List ℕ → Status → Type 0
-OnCosts name Work (Err error) out result = EndsWith (refusal_line (refusal_of name part.Costs error)) status.Refused out result
+OnCosts name Work (Err error) out result = EndsSaying (refusal_line (refusal_of name part.Costs error)) status.Refused out result
 OnCosts name Work (Ok listed) out result = Work listed out result
 
 -- advise: what the costs of that name come to for so many requests from the library's start on
@@ -58,19 +55,9 @@ abbrev pub TellsRead : List ℕ → NamedSys → ℕ → Pair → Result CostTab
 TellsRead name n requests p (Ok costs) out result = SaysAdvice (advised_by n costs.listed requests p) out result
 TellsRead name n requests p (Err cost.Fault) out result = ⊥
 TellsRead name n requests p (Err (cost.Refused kind whole index)) out result =
-    EndsWith (refusal_line (refusal_of name part.Costs (part_error.Refused kind (place_of_rule whole) index))) status.Refused out result
+    EndsSaying (refusal_line (refusal_of name part.Costs (part_error.Refused kind (place_of_rule whole) index))) status.Refused out result
 TellsRead name n requests p (Err cost.Memory) out result = ⊥
 
 -- a fault of reading costs is one of the shelf, and no other status is
 abbrev pub CausedByRead : Result CostTable CostError → Status → Type 0
 CausedByRead read result = (old new : ℕ) → HasCostCause old new read → ShelfCause old new result
-
--- neither the shelf nor the input failed, and nothing was written where memory did
-abbrev pub IsSpoken : Option (List ℕ) → Option (List ℕ) → Status → Type 0
-IsSpoken old new status.Done = Unit {0}
-IsSpoken old new status.No = Unit {0}
-IsSpoken old new status.Refused = Unit {0}
-IsSpoken old new status.Limit = Unit {0}
-IsSpoken old new status.WriteFault = Unit {0}
-IsSpoken old new status.Memory = Wrote old new []
-IsSpoken old new _ = ⊥

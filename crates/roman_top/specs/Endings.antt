@@ -139,12 +139,15 @@ status_of false = status.No
 abbrev pub Reports : Situation → List ℕ → Status → Type 0
 Reports s out result = (out ≡ report_text s.parts s.here) × EndsBy (present_system s) s.here result
 
--- the work was done, or the sink failed; or memory did, and nothing was written
-abbrev pub IsDone : Option (List ℕ) → Option (List ℕ) → Status → Type 0
-IsDone old new status.Done = Unit {0}
-IsDone old new status.WriteFault = Unit {0}
-IsDone old new status.Memory = Wrote old new []
-IsDone old new _ = ⊥
+-- neither the shelf nor the input failed, and nothing was written where memory did
+abbrev pub IsSpoken : Option (List ℕ) → Option (List ℕ) → Status → Type 0
+IsSpoken old new status.Done = Unit {0}
+IsSpoken old new status.No = Unit {0}
+IsSpoken old new status.Refused = Unit {0}
+IsSpoken old new status.Limit = Unit {0}
+IsSpoken old new status.WriteFault = Unit {0}
+IsSpoken old new status.Memory = Wrote old new []
+IsSpoken old new _ = ⊥
 
 -- ---- sessions
 

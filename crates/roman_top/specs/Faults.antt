@@ -1,5 +1,5 @@
 -- Runs that a fault or running out of memory has ended: what was written and taken by then.
-use Rattle.std.specs.Prelude.{◌≡◌, ℕ, ◌+◌, ◌⊎◌, List, ◌++◌, Option, None, Some, IfSome, IsSome}
+use Rattle.std.specs.Prelude.{◌≡◌, ℕ, ◌+◌, ◌-◌, ◌⊎◌, List, ◌++◌, Option, None, Some, IfSome, IsSome}
 use Rattle.roman_io.specs.Shelf.{Texts, shelf_text}
 use Rattle.roman_io.specs.Sink.{Wrote, WrotePrefix}
 use Rattle.roman_io.specs.Source.{Gave, Had, IsAtEnd, GaveAtMost}
@@ -107,7 +107,7 @@ abbrev pub TakesInput : Option Command → World → World → Status → Type 0
 TakesInput (Some (On system (Run None))) old new result = HasTakenBytes system old new result
 TakesInput _ old new result = ⊥
 
--- a session from the input that was done is at the input's end, or at most 4,095 bytes past its `quit`
+-- a session from the input that was done is at the input's end, or at most 4,095 bytes past its `quit`, less than a piece
 abbrev pub EndsInput : Option Command → World → World → Status → Type 0
-EndsInput (Some (On system (Run None))) old new status.Done = IsAtEnd new.rest ⊎ GaveQuit 4095 old.rest new.rest
+EndsInput (Some (On system (Run None))) old new status.Done = IsAtEnd new.rest ⊎ GaveQuit (PIECE_BYTES - 1) old.rest new.rest
 EndsInput _ old new result = Unit {0}

@@ -12,8 +12,8 @@ use Rattle.roman_top.specs.declared.status.Status.{Status}
 use Rattle.roman_top.specs.declared.status.Status.TheVariants as status
 
 -- that text is written, and that is the status
-abbrev pub EndsWith : List ℕ → Status → List ℕ → Status → Type 0
-EndsWith text ends out result = (out ≡ text) × (result ≡ ends)
+abbrev pub EndsSaying : List ℕ → Status → List ℕ → Status → Type 0
+EndsSaying text ends out result = (out ≡ text) × (result ≡ ends)
 
 -- the system of a library
 abbrev pub library_system : PlainLibrary → Sys
@@ -44,6 +44,6 @@ document_opening texts name = opening_of (library_of texts name)
 
 -- an accepted library gets its work done; else there is the line of the first refusal, or that of the limit
 abbrev pub OnOpening : (PlainLibrary → List ℕ → Status → Type 0) → Opening → List ℕ → Status → Type 0
-OnOpening Work (Refused refusal) out result = EndsWith (refusal_line refusal) status.Refused out result
-OnOpening Work (Past library) out result = EndsWith (limit_line library.limit) status.Limit out result
+OnOpening Work (Refused refusal) out result = EndsSaying (refusal_line refusal) status.Refused out result
+OnOpening Work (Past library) out result = EndsSaying (limit_line library.limit) status.Limit out result
 OnOpening Work (Accepted library) out result = Work library out result

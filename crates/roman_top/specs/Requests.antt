@@ -1,5 +1,6 @@
 -- For how many requests a word asks for advice.
 use Rattle.std.specs.Prelude.{ℕ, ◌+◌, ◌-◌, ◌*◌, ◌&&◌, Bool, List, [], ◌∷◌, Option, None, Some, nat_le, if◌then◌else◌}
+use Rattle.roman_cost.specs.declared.limits.TheConstants.{MAX_REQUESTS}
 
 -- the byte is a digit other than 0
 abbrev pub is_first_digit : ℕ → Bool
@@ -17,5 +18,5 @@ two_digits tens ones = (tens - 48) * 10 + (ones - 48)
 abbrev pub request_count_of : List ℕ → Option ℕ
 request_count_of [] = None
 request_count_of (digit ∷ []) = if is_first_digit digit then Some (digit - 48) else None
-request_count_of (tens ∷ ones ∷ []) = if is_first_digit tens && is_digit ones && nat_le (two_digits tens ones) 64 then Some (two_digits tens ones) else None
+request_count_of (tens ∷ ones ∷ []) = if is_first_digit tens && is_digit ones && nat_le (two_digits tens ones) MAX_REQUESTS then Some (two_digits tens ones) else None
 request_count_of (tens ∷ ones ∷ another ∷ more) = None

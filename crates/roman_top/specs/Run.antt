@@ -17,7 +17,7 @@ use Rattle.roman_rank.specs.DepthText.{TellsDepths}
 use Rattle.roman_top.specs.Command.{Job, Synth, Run, Certify, Check, Shortest, Advise, Resilience, Command, On, Make, usage_line}
 use Rattle.roman_top.specs.Advice.{GivesAdvice}
 use Rattle.roman_top.specs.Made.{Summarises}
-use Rattle.roman_top.specs.Opening.{EndsWith, library_system, document_opening, OnOpening}
+use Rattle.roman_top.specs.Opening.{EndsSaying, library_system, document_opening, OnOpening}
 use Rattle.roman_top.specs.Outlooks.{outlook_text}
 use Rattle.roman_top.specs.Sessions.{ToldFromStart}
 use Rattle.roman_top.specs.Verdicts.{greatest_text, rejected_text}
@@ -42,7 +42,7 @@ Synthesises library out result =
 pub record CertifiesSystem (s : Sys) (out : List ℕ) (result : Status) : Type 0 where
   pub list : List (Entry ℕ)
   pub complete : IsCompleteList s list
-  pub says : EndsWith (cert_text (count (sizes_of s)) list) status.Done out result
+  pub says : EndsSaying (cert_text (count (sizes_of s)) list) status.Done out result
 
 -- certify: the certificate of the system
 abbrev pub Certifies : PlainLibrary → List ℕ → Status → Type 0
@@ -50,9 +50,9 @@ Certifies library out result = CertifiesSystem (library_system library) out resu
 
 -- what is said of a certificate with that verdict
 abbrev pub SaysVerdict : Verdict → List ℕ → Status → Type 0
-SaysVerdict (Greatest related start) out result = EndsWith (greatest_text related start) status.Done out result
-SaysVerdict (Rejected line why) out result = EndsWith (rejected_text line why) status.No out result
-SaysVerdict TooLong out result = EndsWith [] status.TooLong out result
+SaysVerdict (Greatest related start) out result = EndsSaying (greatest_text related start) status.Done out result
+SaysVerdict (Rejected line why) out result = EndsSaying (rejected_text line why) status.No out result
+SaysVerdict TooLong out result = EndsSaying [] status.TooLong out result
 
 -- check: the verdict on the certificate
 abbrev pub Checks : List ℕ → PlainLibrary → List ℕ → Status → Type 0
@@ -62,16 +62,16 @@ Checks certificate library out result =
 
 -- the depths of the system's pairs; what is told of the start pair is the least number of requests within which the
 -- opponent wins against every delegation
-abbrev pub ShortensSystem : Sys → Pair → List ℕ → Status → Type 0
-ShortensSystem s p out result = TellsDepths s p out × (result ≡ status.Done)
+abbrev pub TellsShortestOf : Sys → Pair → List ℕ → Status → Type 0
+TellsShortestOf s p out result = TellsDepths s p out × (result ≡ status.Done)
 
 -- shortest: the depths, from the starting states
-abbrev pub Shortens : PlainLibrary → List ℕ → Status → Type 0
-Shortens library out result = ShortensSystem (library_system library) (start_pair_of library) out result
+abbrev pub TellsShortest : PlainLibrary → List ℕ → Status → Type 0
+TellsShortest library out result = TellsShortestOf (library_system library) (start_pair_of library) out result
 
 -- resilience: what the starting states can look forward to, and what is left of it where services fail
 abbrev pub Foresees : PlainLibrary → List ℕ → Status → Type 0
-Foresees library out result = EndsWith (outlook_text (parts_of library) (start_pair_of library)) status.Done out result
+Foresees library out result = EndsSaying (outlook_text (parts_of library) (start_pair_of library)) status.Done out result
 
 -- run: what is told of the lines, or of those that end within as much as is ever read
 abbrev pub Talks : List ℕ → PlainLibrary → List ℕ → Status → Type 0
@@ -90,7 +90,7 @@ JobDoes Synth texts session = Synthesises
 JobDoes (Run name) texts session = Talks session
 JobDoes Certify texts session = Certifies
 JobDoes (Check certificate) texts session = Checks (shelf_text texts certificate)
-JobDoes Shortest texts session = Shortens
+JobDoes Shortest texts session = TellsShortest
 JobDoes (Advise costs requests) texts session = GivesAdvice costs requests texts
 JobDoes Resilience texts session = Foresees
 
@@ -98,7 +98,7 @@ JobDoes Resilience texts session = Foresees
 
 -- a run of a command, or of words without a shape
 abbrev pub Runs : Option Command → Texts → List ℕ → List ℕ → Status → Type 0
-Runs None texts session out result = EndsWith usage_line status.Usage out result
+Runs None texts session out result = EndsSaying usage_line status.Usage out result
 Runs (Some (On system job)) texts session out result = OnOpening (JobDoes job texts session) (document_opening texts system) out result
 Runs (Some (Make n)) texts session out result = Makes n out result
 

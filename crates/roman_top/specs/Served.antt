@@ -1,15 +1,15 @@
 -- What a call of `serve` does, by its words and the outside before and after it.
-use Rattle.std.specs.Prelude.{◌≡◌, ◌⊎◌, ℕ, List, Option}
+use Rattle.std.specs.Prelude.{◌≡◌, ℕ, List, Option}
 use Rattle.roman_top.specs.Command.{Command}
 use Rattle.roman_top.specs.Run.{WithTexts, HasRun}
 use Rattle.roman_top.specs.Causes.{ShelfCause, InputCause, SinkCause}
-use Rattle.roman_top.specs.Faults.{IsFree, AtShelfFault, AtReadFault, AtWriteFault, AtMemory, TakesInput, EndsInput}
+use Rattle.roman_top.specs.Faults.{IsFree, AtShelfFault, AtReadFault, AtWriteFault, AtMemory, EndsInput}
 use Rattle.roman_top.specs.World.{World, Desk, beside}
 use Rattle.roman_top.specs.declared.status.Status.{Status}
 use Rattle.roman_top.specs.declared.status.Status.TheVariants as status
 
 -- a run, where neither a fault nor running out of memory ended it; else what stands in the sink then; which counts of faults rose;
--- what was taken from the input; and the shelf's texts stay
+-- where the input stands after a session from it was done; and the shelf's texts stay
 pub record Served (asked : Option Command) (old new : World) (result : Status) : Type 0 where
   pub run : IsFree result → WithTexts asked old.texts (λ texts. HasRun asked texts old new result)
   pub shelf_fault : result ≡ status.ShelfFault → AtShelfFault asked old new
@@ -19,7 +19,6 @@ pub record Served (asked : Option Command) (old new : World) (result : Status) :
   pub shelf : ShelfCause old.shelf_faults new.shelf_faults result
   pub input : InputCause old.input_faults new.input_faults result
   pub out : SinkCause old.out_faults new.out_faults result
-  pub taken : (new.rest ≡ old.rest) ⊎ TakesInput asked old new result
   pub ends : EndsInput asked old new result
   pub texts : new.texts ≡ old.texts
 

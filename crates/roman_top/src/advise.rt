@@ -1,5 +1,5 @@
 //! `advise SYSTEM COSTS H`.
-ghost use Rattle.std.specs.Prelude.{◌≡◌, ◌<◌, Some, IfOk};
+ghost use Rattle.std.specs.Prelude.{◌≡◌, ◌<◌, false, Some, IfOk};
 ghost use Rattle.roman_io.specs.Faults.{HasCause};
 ghost use Rattle.roman_io.specs.Sink.{Puts};
 ghost use Rattle.roman_model.specs.Numbers.{sizes_of, count, pair_at};
@@ -11,11 +11,13 @@ ghost use Rattle.roman_relation.specs.Greatest.{IsRelation};
 ghost use Rattle.roman_cost.specs.AdviceText.{advised_by};
 ghost use Rattle.roman_cost.specs.Refusals.{place_of_rule};
 ghost use Rattle.roman_cost.specs.Tables.{AreOf};
-ghost use Rattle.roman_top.specs.Advice.{unrelated_line, SaysAdvice, TellsRead, CausedByRead, IsSpoken};
+ghost use Rattle.roman_text.specs.Report.{line_text};
+ghost use Rattle.roman_text.specs.declared.report.ReportLine.TheVariants as line;
+ghost use Rattle.roman_top.specs.Advice.{SaysAdvice, TellsRead, CausedByRead};
 ghost use Rattle.roman_top.specs.Causes.{SinkCause};
 ghost use Rattle.roman_top.specs.Command.{Advise, On};
-ghost use Rattle.roman_top.specs.Endings.{EndsBare, Writes};
-ghost use Rattle.roman_top.specs.Opening.{EndsWith};
+ghost use Rattle.roman_top.specs.Endings.{EndsBare, IsSpoken, Writes};
+ghost use Rattle.roman_top.specs.Opening.{EndsSaying};
 ghost use Rattle.roman_top.specs.RefusalLine.{refusal_line};
 ghost use Rattle.roman_top.specs.Served.{ServedBeside};
 ghost use Rattle.roman_top.specs.World.{desk};
@@ -26,6 +28,7 @@ use crate::opening::open_system;
 use crate::refusals::put_refusal;
 use crate::requests::Requests;
 use crate::status::{Status, finish};
+use crate::verdicts::answer_line;
 use roman_cost::{Advice, AdviceError, CostError, Costs, MAX_VALUES, put_advice, read_costs};
 use roman_io::{Failed, Shelf, Sink, Steps};
 use roman_library::{FileName, Part, Refusal};
@@ -96,7 +99,7 @@ fn refuse<O: Sink>(
     index: u32,
     out: &mut O,
 ) -> Status
-    ensures writes { Writes (EndsWith (refusal_line (refusal_of name.now part.Costs (part_error.Refused kind (place_of_rule whole) index))) status.Refused)
+    ensures writes { Writes (EndsSaying (refusal_line (refusal_of name.now part.Costs (part_error.Refused kind (place_of_rule whole) index))) status.Refused)
         (O.written out.old) (O.written out.new) result }
     ensures spoken { IsSpoken (O.written out.old) (O.written out.new) result }
     ensures out { SinkCause (O.faults out.old) (O.faults out.new) result }
@@ -177,8 +180,8 @@ fn tell_relation<O: Sink>(
 
 /// Puts the line that says that the start pair isn't related.
 fn put_unrelated<O: Sink>(out: &mut O) -> Result<(), Failed>
-    ensures puts { Puts (O.written out.old) (O.written out.new) unrelated_line result }
+    ensures puts { Puts (O.written out.old) (O.written out.new) (line_text (line.Answer false)) result }
     ensures cause { HasCause (O.faults out.old) (O.faults out.new) result }
 {
-    out.put(b"answer none\n")
+    out.put(answer_line(false))
 }

@@ -3,7 +3,7 @@ ghost use Rattle.std.specs.Prelude.{Some};
 ghost use Rattle.roman_joint.specs.NamedSys.{system_of};
 ghost use Rattle.roman_top.specs.Causes.{SinkCause};
 ghost use Rattle.roman_top.specs.Command.{Certify, On};
-ghost use Rattle.roman_top.specs.Endings.{IsDone, Writes};
+ghost use Rattle.roman_top.specs.Endings.{IsSpoken, Writes};
 ghost use Rattle.roman_top.specs.Run.{CertifiesSystem};
 ghost use Rattle.roman_top.specs.Served.{ServedBeside};
 ghost use Rattle.roman_top.specs.World.{desk};
@@ -44,7 +44,7 @@ fn certify_joint<O: Sink, L: Ledger>(
     steps: &mut Steps<L>,
 ) -> Status
     ensures writes { Writes (CertifiesSystem (system_of joint)) (O.written out.old) (O.written out.new) result }
-    ensures stops { IsDone (O.written out.old) (O.written out.new) result }
+    ensures spoken { IsSpoken (O.written out.old) (O.written out.new) result }
     ensures out { SinkCause (O.faults out.old) (O.faults out.new) result }
 {
     match Relation::build(alloc, joint, steps) {

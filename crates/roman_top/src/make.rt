@@ -3,7 +3,7 @@ ghost use Rattle.roman_make.specs.Made.{made};
 ghost use Rattle.roman_session.specs.Starts.{IsStart};
 ghost use Rattle.roman_top.specs.Run.{Makes};
 ghost use Rattle.roman_top.specs.Causes.{SinkCause};
-ghost use Rattle.roman_top.specs.Endings.{IsDone, Writes};
+ghost use Rattle.roman_top.specs.Endings.{IsSpoken, Writes};
 
 use crate::status::{Status, finish};
 use crate::summary::{put_summary, run_script};
@@ -22,7 +22,7 @@ pub(crate) fn summarise<O: Sink, L: Ledger>(
     steps: &mut Steps<L>,
 ) -> Status
     ensures writes { Writes (Makes workers.count) (O.written out.old) (O.written out.new) result }
-    ensures done { IsDone (O.written out.old) (O.written out.new) result }
+    ensures spoken { IsSpoken (O.written out.old) (O.written out.new) result }
     ensures out { SinkCause (O.faults out.old) (O.faults out.new) result }
 {
     let n = workers.count;
@@ -47,7 +47,7 @@ fn summarise_session<O: Sink, L: Ledger>(
 ) -> Status
     requires { IsStart (made n) session }
     ensures writes { Writes (Makes n) (O.written out.old) (O.written out.new) result }
-    ensures done { IsDone (O.written out.old) (O.written out.new) result }
+    ensures spoken { IsSpoken (O.written out.old) (O.written out.new) result }
     ensures out { SinkCause (O.faults out.old) (O.faults out.new) result }
 {
     let mut session = session;

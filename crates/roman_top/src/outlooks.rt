@@ -34,18 +34,10 @@ pub(crate) fn put_outlooks<O: Sink>(
     ensures cause { HasCause (O.faults out.old) (O.faults out.new) result }
 {
     let mut page = Page::new();
-    if let Err(failed) = push_head(base, losses.pair, &mut page, out) {
-        return Err(failed);
-    }
-    if let Err(failed) = push_ones(&base.joint, losses, &mut page, out) {
-        return Err(failed);
-    }
-    if let Err(failed) = push_twos(&base.joint, losses, &mut page, out) {
-        return Err(failed);
-    }
-    if let Err(failed) = page.push(b"end\n", out) {
-        return Err(failed);
-    }
+    push_head(base, losses.pair, &mut page, out)?;
+    push_ones(&base.joint, losses, &mut page, out)?;
+    push_twos(&base.joint, losses, &mut page, out)?;
+    page.push(b"end\n", out)?;
     page.flush(out)
 }
 
@@ -58,9 +50,7 @@ fn push_head<O: Sink>(base: &Relation, p: u32, page: &mut Page, out: &mut O) -> 
     ensures cause { HasCause (O.faults out.old) (O.faults out.new) result }
 {
     let services = services_piece(base.joint.seats());
-    if let Err(failed) = page.push(services.bytes(), out) {
-        return Err(failed);
-    }
+    page.push(services.bytes(), out)?;
     page.push(outlook_piece(&now(base, p)).bytes(), out)
 }
 
@@ -77,9 +67,7 @@ fn push_ones<O: Sink>(
     ensures cause { HasCause (O.faults out.old) (O.faults out.new) result }
 {
     for k in 0..joint.seats() {
-        if let Err(failed) = push_lines(joint, losses, k, None, page, out) {
-            return Err(failed);
-        }
+        push_lines(joint, losses, k, None, page, out)?;
     }
     Ok(())
 }
@@ -97,9 +85,7 @@ fn push_twos<O: Sink>(
     ensures cause { HasCause (O.faults out.old) (O.faults out.new) result }
 {
     for k in 0..joint.seats() {
-        if let Err(failed) = push_twos_with(joint, losses, k, page, out) {
-            return Err(failed);
-        }
+        push_twos_with(joint, losses, k, page, out)?;
     }
     Ok(())
 }
@@ -120,9 +106,7 @@ fn push_twos_with<O: Sink>(
     ensures cause { HasCause (O.faults out.old) (O.faults out.new) result }
 {
     for j in k + 1..joint.seats() {
-        if let Err(failed) = push_lines(joint, losses, k, Some(j), page, out) {
-            return Err(failed);
-        }
+        push_lines(joint, losses, k, Some(j), page, out)?;
     }
     Ok(())
 }
@@ -144,9 +128,7 @@ fn push_lines<O: Sink>(
     ensures cause { HasCause (O.faults out.old) (O.faults out.new) result }
 {
     let frozen = losses.left(first, second, Way::Freeze);
-    if let Err(failed) = push_line(joint, first, second, Way::Freeze, &frozen, page, out) {
-        return Err(failed);
-    }
+    push_line(joint, first, second, Way::Freeze, &frozen, page, out)?;
     let gone = losses.left(first, second, Way::Die);
     push_line(joint, first, second, Way::Die, &gone, page, out)
 }
@@ -168,9 +150,7 @@ fn push_line<O: Sink>(
     ensures cause { HasCause (O.faults out.old) (O.faults out.new) result }
 {
     let prefix = names_piece(joint, first, second).text(way_word(way));
-    if let Err(failed) = page.push(prefix.bytes(), out) {
-        return Err(failed);
-    }
+    page.push(prefix.bytes(), out)?;
     page.push(outlook_piece(left).bytes(), out)
 }
 

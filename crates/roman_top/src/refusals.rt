@@ -17,15 +17,9 @@ pub(crate) fn put_refusal<O: Sink>(refusal: &Refusal, out: &mut O) -> Result<(),
     ensures cause { HasCause (O.faults out.old) (O.faults out.new) result }
 {
     let mut page = Page::new();
-    if let Err(failed) = page.push(b"refused ", out) {
-        return Err(failed);
-    }
-    if let Err(failed) = page.push(refusal.document.bytes(), out) {
-        return Err(failed);
-    }
-    if let Err(failed) = page.push(rule_piece(refusal).bytes(), out) {
-        return Err(failed);
-    }
+    page.push(b"refused ", out)?;
+    page.push(refusal.document.bytes(), out)?;
+    page.push(rule_piece(refusal).bytes(), out)?;
     page.flush(out)
 }
 

@@ -1,6 +1,7 @@
 //! For how many requests advice is asked for.
 ghost use Rattle.std.specs.Prelude.{◌≡◌, ◌≤◌};
 ghost use Rattle.std.specs.Option.{option_map};
+ghost use Rattle.roman_cost.specs.declared.limits.TheConstants.{MAX_REQUESTS};
 ghost use Rattle.roman_top.specs.Requests.{request_count_of};
 
 use roman_cost::MAX_REQUESTS;
@@ -11,7 +12,7 @@ pub(crate) struct Requests {
     /// The number.
     pub(crate) count: u8,
     ghost some: { 1 ≤ count },
-    ghost few: { count ≤ 64 },
+    ghost few: { count ≤ MAX_REQUESTS },
 }
 
 /// The number of requests that a word is: a number from 1 to [`MAX_REQUESTS`], with no sign and no

@@ -4,8 +4,8 @@ ghost use Rattle.roman_model.specs.Numbers.{sizes_of, count, pair_at};
 ghost use Rattle.roman_joint.specs.NamedSys.{system_of};
 ghost use Rattle.roman_top.specs.Causes.{SinkCause};
 ghost use Rattle.roman_top.specs.Command.{Resilience, On};
-ghost use Rattle.roman_top.specs.Endings.{IsDone, Writes};
-ghost use Rattle.roman_top.specs.Opening.{EndsWith};
+ghost use Rattle.roman_top.specs.Endings.{IsSpoken, Writes};
+ghost use Rattle.roman_top.specs.Opening.{EndsSaying};
 ghost use Rattle.roman_top.specs.Outlooks.{outlook_text};
 ghost use Rattle.roman_top.specs.Served.{ServedBeside};
 ghost use Rattle.roman_top.specs.World.{desk};
@@ -50,8 +50,8 @@ fn foresee_from<O: Sink, L: Ledger>(
     steps: &mut Steps<L>,
 ) -> Status
     requires { start < count (sizes_of (system_of joint)) }
-    ensures writes { Writes (EndsWith (outlook_text joint (pair_at (sizes_of (system_of joint)) start)) status.Done) (O.written out.old) (O.written out.new) result }
-    ensures stops { IsDone (O.written out.old) (O.written out.new) result }
+    ensures writes { Writes (EndsSaying (outlook_text joint (pair_at (sizes_of (system_of joint)) start)) status.Done) (O.written out.old) (O.written out.new) result }
+    ensures spoken { IsSpoken (O.written out.old) (O.written out.new) result }
     ensures out { SinkCause (O.faults out.old) (O.faults out.new) result }
 {
     let base = match Relation::build(alloc, joint, steps) {

@@ -51,8 +51,8 @@ pub fn serve<F: Shelf, I: Source, O: Sink, L: Ledger>(
     out: &mut O,
     steps: &mut Steps<L>,
 ) -> Status
-    // What was written and the status are a run, where neither a fault nor running out of memory ended it;
-    // else this stands in the sink, that count of faults rose, and that was taken from the input.
+    // What was written and the status are a run, where neither a fault nor running out of memory ended
+    // it. `Served` also says what stands in the sink otherwise, and which count of faults rose.
     ensures served { Served (command_of words.now)
         (world (F.texts shelf.old) (F.faults shelf.old) (I.rest input.old) (I.faults input.old) (O.written out.old) (O.faults out.old))
         (world (F.texts shelf.new) (F.faults shelf.new) (I.rest input.new) (I.faults input.new) (O.written out.new) (O.faults out.new)) result }

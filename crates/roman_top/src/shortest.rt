@@ -4,8 +4,8 @@ ghost use Rattle.roman_model.specs.Numbers.{sizes_of, count, pair_at};
 ghost use Rattle.roman_joint.specs.NamedSys.{system_of};
 ghost use Rattle.roman_top.specs.Causes.{SinkCause};
 ghost use Rattle.roman_top.specs.Command.{Shortest, On};
-ghost use Rattle.roman_top.specs.Endings.{IsDone, Writes};
-ghost use Rattle.roman_top.specs.Run.{ShortensSystem};
+ghost use Rattle.roman_top.specs.Endings.{IsSpoken, Writes};
+ghost use Rattle.roman_top.specs.Run.{TellsShortestOf};
 ghost use Rattle.roman_top.specs.Served.{ServedBeside};
 ghost use Rattle.roman_top.specs.World.{desk};
 
@@ -46,8 +46,8 @@ fn tell_depths<O: Sink, L: Ledger>(
     steps: &mut Steps<L>,
 ) -> Status
     requires { start < count (sizes_of (system_of joint)) }
-    ensures writes { Writes (ShortensSystem (system_of joint) (pair_at (sizes_of (system_of joint)) start)) (O.written out.old) (O.written out.new) result }
-    ensures stops { IsDone (O.written out.old) (O.written out.new) result }
+    ensures writes { Writes (TellsShortestOf (system_of joint) (pair_at (sizes_of (system_of joint)) start)) (O.written out.old) (O.written out.new) result }
+    ensures spoken { IsSpoken (O.written out.old) (O.written out.new) result }
     ensures out { SinkCause (O.faults out.old) (O.faults out.new) result }
 {
     let relation = match Relation::build(alloc, joint, steps) {

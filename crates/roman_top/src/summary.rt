@@ -37,7 +37,7 @@ fn play<L: Ledger>(session: &mut Session, from: u8, to: u8, steps: &mut Steps<L>
     let mut waste = Waste::new();
     for i in from..to {
         let Some(line) = script(i) else {
-            continue;
+            unreachable!()
         };
         let _ = session.answer(line, &mut waste, steps);
     }
@@ -68,12 +68,8 @@ pub(crate) fn put_summary<O: Sink>(n: u8, stages: &[Stage], out: &mut O) -> Resu
     ensures cause { HasCause (O.faults out.old) (O.faults out.new) result }
 {
     let mut page = Page::new();
-    if let Err(failed) = page.push(made_piece(n).bytes(), out) {
-        return Err(failed);
-    }
-    if let Err(failed) = push_stages(stages, &mut page, out) {
-        return Err(failed);
-    }
+    page.push(made_piece(n).bytes(), out)?;
+    push_stages(stages, &mut page, out)?;
     page.flush(out)
 }
 
@@ -90,9 +86,7 @@ fn push_stages<O: Sink>(stages: &[Stage], page: &mut Page, out: &mut O) -> Resul
     ensures cause { HasCause (O.faults out.old) (O.faults out.new) result }
 {
     for stage in stages {
-        if let Err(failed) = page.push(stage_piece(stage).bytes(), out) {
-            return Err(failed);
-        }
+        page.push(stage_piece(stage).bytes(), out)?;
     }
     page.push(b"end\n", out)
 }

@@ -36,19 +36,7 @@ pub(crate) fn talk_input<F: Shelf, I: Source, O: Sink, L: Ledger>(
         Ok(session) => session,
         Err(status) => return status,
     };
-    input_status(hear(&mut session, input, out, steps))
-}
-
-/// How the run ends after a session from the input was heard.
-fn input_status(heard: Result<(), HearError>) -> Status
-    ensures { result ≡ heard_status Status.ReadFault heard }
-{
-    match heard {
-        Ok(()) => Status::Done,
-        Err(HearError::ReadFault) => Status::ReadFault,
-        Err(HearError::WriteFault) => Status::WriteFault,
-        Err(HearError::TooLong) => Status::TooLong,
-    }
+    status_after(hear(&mut session, input, out, steps), Status::ReadFault)
 }
 
 /// Answers the session on the shelf.
@@ -68,16 +56,20 @@ pub(crate) fn talk_shelf<F: Shelf, O: Sink, L: Ledger>(
         Ok(session) => session,
         Err(status) => return status,
     };
-    shelf_status(hear_text(&mut session, name, shelf, out, steps))
+    status_after(
+        hear_text(&mut session, name, shelf, out, steps),
+        Status::ShelfFault,
+    )
 }
 
-/// How the run ends after a session on the shelf was heard.
-fn shelf_status(heard: Result<(), HearError>) -> Status
-    ensures { result ≡ heard_status Status.ShelfFault heard }
+/// How the run ends after a session was heard, where that status stands for a fault of what it comes
+/// from.
+fn status_after(heard: Result<(), HearError>, fault: Status) -> Status
+    ensures { result ≡ heard_status fault heard }
 {
     match heard {
         Ok(()) => Status::Done,
-        Err(HearError::ReadFault) => Status::ShelfFault,
+        Err(HearError::ReadFault) => fault,
         Err(HearError::WriteFault) => Status::WriteFault,
         Err(HearError::TooLong) => Status::TooLong,
     }

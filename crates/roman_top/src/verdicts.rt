@@ -22,7 +22,7 @@ pub(crate) fn put_greatest<O: Sink>(related: u32, start: bool, out: &mut O) -> R
 }
 
 /// The line that says whether a pair is related.
-fn answer_line(related: bool) -> &'static [u8]
+pub(crate) fn answer_line(related: bool) -> &'static [u8]
     ensures line { result.now ≡ line_text (Answer related) }
     ensures short { length result.now ≤ 32 }
 {

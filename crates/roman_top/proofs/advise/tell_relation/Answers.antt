@@ -3,7 +3,8 @@ use Rattle.roman_model.specs.Numbers.{sizes_of, pair_at}
 use Rattle.roman_joint.specs.NamedSys.{system_of}
 use Rattle.roman_cost.specs.AdviceText.{Unrelated, TooMany, Told, advice_text, advised_by}
 use Rattle.roman_top.specs.declared.status.Status.TheVariants as status
-use Rattle.roman_top.proofs.AdviseLemmas.{told_related, advice_put, advised_unrelated, advised_many, advised_told, few_values, finished_spoken, finished_sink}
+use Rattle.roman_top.proofs.AdviseLemmas.{told_related, advice_put, advised_unrelated, advised_many, advised_told, few_values}
+use Rattle.roman_top.proofs.EndingLemmas.{finished_spoken, finished_sink}
 use Rattle.roman_top.proofs.advise.tell_relation.Goals as goal
 
 pub returns-then-not-related-clause-writes : goal.returns-then-not-related-clause-writes

@@ -1,4 +1,5 @@
 use Rattle.std.proofs.Common.{ℕ, ◌++◌, codes, decimal, refl, ap, ◌∙◌}
+use Rattle.std.proofs.lemmas.Result.{err_from_is_err_and}
 use Rattle.roman_model.specs.Numbers.{sizes_of, pair_at}
 use Rattle.roman_model.specs.Without.{outlook}
 use Rattle.roman_joint.specs.NamedSys.{system_of}
@@ -7,13 +8,14 @@ use Rattle.roman_top.specs.Outlooks.{outlook_words}
 use Rattle.roman_top.proofs.OutlookLemmas.{head_pieces}
 use Rattle.roman_top.proofs.outlooks.push_head.Goals as goal
 
-pub returns-in-Err-clause-gathers : goal.returns-in-Err-clause-gathers
-returns-in-Err-clause-gathers g c =
+pub returns-in_err-push-clause-gathers : goal.returns-in_err-push-clause-gathers
+returns-in_err-push-clause-gathers g c =
     let n = c.args.base.now.joint in
     let now = outlook (system_of n) (pair_at (sizes_of (system_of n)) c.args.p) in
     let first = c.bytes.ensures ∙ (c.services_piece-services.ensures ∙ ap (λ (m : ℕ). codes "services " ++ decimal m ++ codes "\nstart") c.seats.ensures.count) in
     let e = head_pieces n now c.bytes.result.now (outlook_words now) first refl in
-    (fill_failed _ _ _ _ _ _ _ (fill_behind _ _ _ _ e) c.in-Err.ensures.gathers.0, c.in-Err.ensures.gathers.1)
+    let p = err_from_is_err_and c.from_residual.result c.from_residual.ensures.1 in
+    rw p.1 (fill_failed _ _ _ _ _ _ _ (fill_behind _ _ _ _ e) c.in_err-push.ensures.gathers.0, c.in_err-push.ensures.gathers.1)
 
 pub returns-clause-gathers : goal.returns-clause-gathers
 returns-clause-gathers g c =
@@ -22,4 +24,4 @@ returns-clause-gathers g c =
     let first = c.bytes.ensures ∙ (c.services_piece-services.ensures ∙ ap (λ (m : ℕ). codes "services " ++ decimal m ++ codes "\nstart") c.seats.ensures.count) in
     let words = c.bytes-2.ensures ∙ (c.outlook_piece.ensures ∙ ap outlook_words c.now.ensures.outlook) in
     let e = head_pieces n now c.bytes.result.now c.bytes-2.result.now first words in
-    fill_last _ _ _ _ _ _ _ c.push-2.result (fill_more _ _ _ _ _ _ _ _ (fill_behind _ _ _ _ e) c.in_default.ensures.gathers) c.push-2.ensures.gathers
+    fill_last _ _ _ _ _ _ _ c.push-2.result (fill_more _ _ _ _ _ _ _ _ (fill_behind _ _ _ _ e) c.in_ok-push.ensures.gathers) c.push-2.ensures.gathers

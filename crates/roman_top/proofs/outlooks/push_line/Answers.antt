@@ -1,4 +1,5 @@
 use Rattle.std.proofs.Common.{ℕ, List, ◌++◌, refl, ap₂, ◌∙◌}
+use Rattle.std.proofs.lemmas.Result.{err_from_is_err_and}
 use Rattle.roman_text.proofs.CallerLemmas.{fill_behind, fill_more, fill_failed, fill_last}
 use Rattle.roman_whatif.specs.Left.{places}
 use Rattle.roman_whatif.specs.Told.{told}
@@ -6,14 +7,15 @@ use Rattle.roman_top.specs.Outlooks.{outlook_words}
 use Rattle.roman_top.proofs.OutlookLemmas.{line_pieces}
 use Rattle.roman_top.proofs.outlooks.push_line.Goals as goal
 
-pub returns-in-Err-clause-gathers : goal.returns-in-Err-clause-gathers
-returns-in-Err-clause-gathers g c =
+pub returns-in_err-push-clause-gathers : goal.returns-in_err-push-clause-gathers
+returns-in_err-push-clause-gathers g c =
     let prefix = c.bytes.ensures ∙ (c.text-prefix.ensures.text ∙ ap₂ (λ (x y : List ℕ). x ++ y) c.names_piece.ensures.text c.way_word.ensures.word) in
     let e = line_pieces c.args.joint.now (places c.args.first c.args.second) c.args.way (told c.args.left.now) c.bytes.result.now (outlook_words (told c.args.left.now)) prefix refl in
-    (fill_failed _ _ _ _ _ _ _ (fill_behind _ _ _ _ e) c.in-Err.ensures.gathers.0, c.in-Err.ensures.gathers.1)
+    let p = err_from_is_err_and c.from_residual.result c.from_residual.ensures.1 in
+    rw p.1 (fill_failed _ _ _ _ _ _ _ (fill_behind _ _ _ _ e) c.in_err-push.ensures.gathers.0, c.in_err-push.ensures.gathers.1)
 
 pub returns-clause-gathers : goal.returns-clause-gathers
 returns-clause-gathers g c =
     let prefix = c.bytes.ensures ∙ (c.text-prefix.ensures.text ∙ ap₂ (λ (x y : List ℕ). x ++ y) c.names_piece.ensures.text c.way_word.ensures.word) in
     let e = line_pieces c.args.joint.now (places c.args.first c.args.second) c.args.way (told c.args.left.now) c.bytes.result.now c.bytes-2.result.now prefix (c.bytes-2.ensures ∙ c.outlook_piece.ensures) in
-    fill_last _ _ _ _ _ _ _ c.push-2.result (fill_more _ _ _ _ _ _ _ _ (fill_behind _ _ _ _ e) c.in_default.ensures.gathers) c.push-2.ensures.gathers
+    fill_last _ _ _ _ _ _ _ c.push-2.result (fill_more _ _ _ _ _ _ _ _ (fill_behind _ _ _ _ e) c.in_ok-push.ensures.gathers) c.push-2.ensures.gathers

@@ -1,4 +1,5 @@
 use Rattle.std.proofs.Common.{refl}
+use Rattle.std.proofs.lemmas.Result.{err_from_is_err_and}
 use Rattle.roman_model.specs.Numbers.{sizes_of, pair_at}
 use Rattle.roman_model.specs.Without.{outlook, system_without, pair_without}
 use Rattle.roman_model.specs.declared.way.Way.TheVariants.{Die}
@@ -15,13 +16,14 @@ left-frozen-requires g c = (c.args.joint.now, c.requires.losses, record { one = 
 pub left-gone-requires : goal.left-gone-requires
 left-gone-requires g c = (c.args.joint.now, c.requires.losses, record { one = c.requires.first; later = c.requires.second })
 
-pub returns-in-Err-clause-gathers : goal.returns-in-Err-clause-gathers
-returns-in-Err-clause-gathers g c =
+pub returns-in_err-push_line-clause-gathers : goal.returns-in_err-push_line-clause-gathers
+returns-in_err-push_line-clause-gathers g c =
     let n = c.args.joint.now in
     let p = pair_at (sizes_of (system_of n)) c.args.losses.now.pair in
     let K = places c.args.first c.args.second in
     let e = both_lines n p K (told c.left-frozen.result) (outlook (system_without Die K (system_of n)) (pair_without Die K p)) (c.left-frozen.ensures n c.requires.losses (record { one = c.requires.first; later = c.requires.second })) refl in
-    (fill_failed _ _ _ _ _ _ _ (fill_behind _ _ _ _ e) c.in-Err.ensures.gathers.0, c.in-Err.ensures.gathers.1)
+    let p = err_from_is_err_and c.from_residual.result c.from_residual.ensures.1 in
+    rw p.1 (fill_failed _ _ _ _ _ _ _ (fill_behind _ _ _ _ e) c.in_err-push_line.ensures.gathers.0, c.in_err-push_line.ensures.gathers.1)
 
 pub returns-clause-gathers : goal.returns-clause-gathers
 returns-clause-gathers g c =
@@ -29,4 +31,4 @@ returns-clause-gathers g c =
     let p = pair_at (sizes_of (system_of n)) c.args.losses.now.pair in
     let K = places c.args.first c.args.second in
     let e = both_lines n p K (told c.left-frozen.result) (told c.left-gone.result) (c.left-frozen.ensures n c.requires.losses (record { one = c.requires.first; later = c.requires.second })) (c.left-gone.ensures n c.requires.losses (record { one = c.requires.first; later = c.requires.second })) in
-    fill_last _ _ _ _ _ _ _ c.push_line-2.result (fill_more _ _ _ _ _ _ _ _ (fill_behind _ _ _ _ e) c.in_default.ensures.gathers) c.push_line-2.ensures.gathers
+    fill_last _ _ _ _ _ _ _ c.push_line-2.result (fill_more _ _ _ _ _ _ _ _ (fill_behind _ _ _ _ e) c.in_ok-push_line.ensures.gathers) c.push_line-2.ensures.gathers

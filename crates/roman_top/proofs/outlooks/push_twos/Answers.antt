@@ -1,4 +1,5 @@
 use Rattle.std.proofs.Common.{ℕ, ◌+◌, ◌<◌, ◌≤◌, List, [], ◌∷◌, map, length, drop, ◌∙◌, arith}
+use Rattle.std.proofs.lemmas.Result.{err_from_is_err_and}
 use Rattle.roman_model.specs.Lists.{below}
 use Rattle.roman_model.specs.Numbers.{sizes_of, pair_at}
 use Rattle.roman_joint.specs.NamedSys.{system_of}
@@ -7,13 +8,14 @@ use Rattle.roman_top.specs.Outlooks.{lines_without}
 use Rattle.roman_top.proofs.OutlookLemmas.{all_next, all_end}
 use Rattle.roman_top.proofs.outlooks.push_twos.Goals as goal
 
-pub returns-in-Err-clause-gathers : goal.returns-in-Err-clause-gathers
-returns-in-Err-clause-gathers g c =
+pub returns-in_err-push_twos_with-clause-gathers : goal.returns-in_err-push_twos_with-clause-gathers
+returns-in_err-push_twos_with-clause-gathers g c =
     let n = c.args.joint.now in
     let with : ℕ → List (List ℕ) = λ k. map (λ (j : ℕ). k ∷ j ∷ []) (drop (k + 1) (below (length n.seats))) in
     let within : c.loop-k.k < length n.seats = omega (arith, c.seats-k-end.ensures.count) in
     let next = all_next with (lines_without n (pair_at (sizes_of (system_of n)) c.args.losses.now.pair)) (length n.seats) c.loop-k.k within in
-    (fill_failed _ _ _ _ _ _ _ (fill_same _ _ _ _ _ _ next c.loop-k.invariant.filling) c.in-Err.ensures.gathers.0, c.in-Err.ensures.gathers.1)
+    let p = err_from_is_err_and c.from_residual.result c.from_residual.ensures.1 in
+    rw p.1 (fill_failed _ _ _ _ _ _ _ (fill_same _ _ _ _ _ _ next c.loop-k.invariant.filling) c.in_err-push_twos_with.ensures.gathers.0, c.in_err-push_twos_with.ensures.gathers.1)
 
 pub loop-k-preserved : goal.loop-k-preserved
 loop-k-preserved g c =
@@ -22,8 +24,8 @@ loop-k-preserved g c =
     let within : c.loop-k.k < length n.seats = omega (arith, c.seats-k-end.ensures.count) in
     let next = all_next with (lines_without n (pair_at (sizes_of (system_of n)) c.args.losses.now.pair)) (length n.seats) c.loop-k.k within in
     record {
-      filling = fill_more _ _ _ _ _ _ _ _ (fill_same _ _ _ _ _ _ next c.loop-k.invariant.filling) c.in_default.ensures.gathers;
-      cause = c.in_default.ensures.cause.stays ∙ c.loop-k.invariant.cause;
+      filling = fill_more _ _ _ _ _ _ _ _ (fill_same _ _ _ _ _ _ next c.loop-k.invariant.filling) c.in_ok-push_twos_with.ensures.gathers;
+      cause = c.in_ok-push_twos_with.ensures.cause.stays ∙ c.loop-k.invariant.cause;
     }
 
 pub returns-clause-gathers : goal.returns-clause-gathers

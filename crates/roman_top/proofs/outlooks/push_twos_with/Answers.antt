@@ -1,4 +1,5 @@
 use Rattle.std.proofs.Common.{ℕ, ◌<◌, ◌≤◌, [], ◌∷◌, length, ◌∙◌, arith}
+use Rattle.std.proofs.lemmas.Result.{err_from_is_err_and}
 use Rattle.roman_model.specs.Numbers.{sizes_of, pair_at}
 use Rattle.roman_joint.specs.NamedSys.{system_of}
 use Rattle.roman_text.proofs.CallerLemmas.{fill_same, fill_more, fill_failed, fill_end}
@@ -6,12 +7,13 @@ use Rattle.roman_top.specs.Outlooks.{lines_without}
 use Rattle.roman_top.proofs.OutlookLemmas.{each_next, each_end}
 use Rattle.roman_top.proofs.outlooks.push_twos_with.Goals as goal
 
-pub returns-in-Err-clause-gathers : goal.returns-in-Err-clause-gathers
-returns-in-Err-clause-gathers g c =
+pub returns-in_err-push_lines-clause-gathers : goal.returns-in_err-push_lines-clause-gathers
+returns-in_err-push_lines-clause-gathers g c =
     let n = c.args.joint.now in
     let within : c.loop-j.j < length n.seats = omega (arith, c.seats-j-end.ensures.count) in
     let next = each_next (λ (j : ℕ). c.args.k ∷ j ∷ []) (lines_without n (pair_at (sizes_of (system_of n)) c.args.losses.now.pair)) (length n.seats) c.loop-j.j within in
-    (fill_failed _ _ _ _ _ _ _ (fill_same _ _ _ _ _ _ next c.loop-j.invariant.filling) c.in-Err.ensures.gathers.0, c.in-Err.ensures.gathers.1)
+    let p = err_from_is_err_and c.from_residual.result c.from_residual.ensures.1 in
+    rw p.1 (fill_failed _ _ _ _ _ _ _ (fill_same _ _ _ _ _ _ next c.loop-j.invariant.filling) c.in_err-push_lines.ensures.gathers.0, c.in_err-push_lines.ensures.gathers.1)
 
 pub loop-j-preserved : goal.loop-j-preserved
 loop-j-preserved g c =
@@ -19,8 +21,8 @@ loop-j-preserved g c =
     let within : c.loop-j.j < length n.seats = omega (arith, c.seats-j-end.ensures.count) in
     let next = each_next (λ (j : ℕ). c.args.k ∷ j ∷ []) (lines_without n (pair_at (sizes_of (system_of n)) c.args.losses.now.pair)) (length n.seats) c.loop-j.j within in
     record {
-      filling = fill_more _ _ _ _ _ _ _ _ (fill_same _ _ _ _ _ _ next c.loop-j.invariant.filling) c.in_default.ensures.gathers;
-      cause = c.in_default.ensures.cause.stays ∙ c.loop-j.invariant.cause;
+      filling = fill_more _ _ _ _ _ _ _ _ (fill_same _ _ _ _ _ _ next c.loop-j.invariant.filling) c.in_ok-push_lines.ensures.gathers;
+      cause = c.in_ok-push_lines.ensures.cause.stays ∙ c.loop-j.invariant.cause;
     }
 
 pub returns-clause-gathers : goal.returns-clause-gathers

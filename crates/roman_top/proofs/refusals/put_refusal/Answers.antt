@@ -1,30 +1,34 @@
 use Rattle.std.proofs.Common.{refl, ◌∙◌}
+use Rattle.std.proofs.lemmas.Result.{err_from_is_err_and}
 use Rattle.roman_text.proofs.CallerLemmas.{fill_whole, fill_more, fill_failed, fill_put}
 use Rattle.roman_top.proofs.RefusalLemmas.{refusal_pieces}
 use Rattle.roman_top.proofs.refusals.put_refusal.Goals as goal
 
-pub returns-in-Err-clause-puts : goal.returns-in-Err-clause-puts
-returns-in-Err-clause-puts g c =
+pub returns-in_err-push-clause-puts : goal.returns-in_err-push-clause-puts
+returns-in_err-push-clause-puts g c =
     let e = refusal_pieces c.args.refusal.now _ _ refl refl in
-    fill_failed _ _ _ _ _ _ _ (fill_whole _ _ _ _ c.new-page.ensures.empty e) c.in-Err.ensures.gathers.0
+    let p = err_from_is_err_and c.from_residual.result c.from_residual.ensures.1 in
+    rw p.1 (fill_failed _ _ _ _ _ _ _ (fill_whole _ _ _ _ c.new-page.ensures.empty e) c.in_err-push.ensures.gathers.0)
 
-pub returns-in-Err-push-clause-puts : goal.returns-in-Err-push-clause-puts
-returns-in-Err-push-clause-puts g c =
+pub returns-in_err-push-2-clause-puts : goal.returns-in_err-push-2-clause-puts
+returns-in_err-push-2-clause-puts g c =
     let e = refusal_pieces c.args.refusal.now _ _ c.bytes.ensures.bytes refl in
-    let first = fill_more _ _ _ _ _ _ _ _ (fill_whole _ _ _ _ c.new-page.ensures.empty e) c.in_default.ensures.gathers in
-    fill_failed _ _ _ _ _ _ _ first c.in-Err-push.ensures.gathers.0
+    let first = fill_more _ _ _ _ _ _ _ _ (fill_whole _ _ _ _ c.new-page.ensures.empty e) c.in_ok-push.ensures.gathers in
+    let p = err_from_is_err_and c.from_residual-in_err-push-2.result c.from_residual-in_err-push-2.ensures.1 in
+    rw p.1 (fill_failed _ _ _ _ _ _ _ first c.in_err-push-2.ensures.gathers.0)
 
-pub returns-in-Err-push-2-clause-puts : goal.returns-in-Err-push-2-clause-puts
-returns-in-Err-push-2-clause-puts g c =
+pub returns-in_err-push-3-clause-puts : goal.returns-in_err-push-3-clause-puts
+returns-in_err-push-3-clause-puts g c =
     let e = refusal_pieces c.args.refusal.now _ _ c.bytes.ensures.bytes (c.bytes-2.ensures ∙ c.rule_piece.ensures) in
-    let first = fill_more _ _ _ _ _ _ _ _ (fill_whole _ _ _ _ c.new-page.ensures.empty e) c.in_default.ensures.gathers in
-    let second = fill_more _ _ _ _ _ _ _ _ first c.in_default-push.ensures.gathers in
-    fill_failed _ _ _ _ _ _ _ second c.in-Err-push-2.ensures.gathers.0
+    let first = fill_more _ _ _ _ _ _ _ _ (fill_whole _ _ _ _ c.new-page.ensures.empty e) c.in_ok-push.ensures.gathers in
+    let second = fill_more _ _ _ _ _ _ _ _ first c.in_ok-push-2.ensures.gathers in
+    let p = err_from_is_err_and c.from_residual-in_err-push-3.result c.from_residual-in_err-push-3.ensures.1 in
+    rw p.1 (fill_failed _ _ _ _ _ _ _ second c.in_err-push-3.ensures.gathers.0)
 
 pub returns-clause-puts : goal.returns-clause-puts
 returns-clause-puts g c =
     let e = refusal_pieces c.args.refusal.now _ _ c.bytes.ensures.bytes (c.bytes-2.ensures ∙ c.rule_piece.ensures) in
-    let first = fill_more _ _ _ _ _ _ _ _ (fill_whole _ _ _ _ c.new-page.ensures.empty e) c.in_default.ensures.gathers in
-    let second = fill_more _ _ _ _ _ _ _ _ first c.in_default-push.ensures.gathers in
-    let third = fill_more _ _ _ _ _ _ _ _ second c.in_default-push-2.ensures.gathers in
+    let first = fill_more _ _ _ _ _ _ _ _ (fill_whole _ _ _ _ c.new-page.ensures.empty e) c.in_ok-push.ensures.gathers in
+    let second = fill_more _ _ _ _ _ _ _ _ first c.in_ok-push-2.ensures.gathers in
+    let third = fill_more _ _ _ _ _ _ _ _ second c.in_ok-push-3.ensures.gathers in
     fill_put _ _ _ _ _ c.flush.result third c.flush.ensures.puts

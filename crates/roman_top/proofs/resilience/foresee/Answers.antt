@@ -1,7 +1,12 @@
 use Rattle.std.proofs.Common.{◌<◌, sym, subst}
 use Rattle.roman_model.specs.Numbers.{sizes_of, count}
 use Rattle.roman_joint.specs.NamedSys.{NamedSys, system_of}
-use Rattle.roman_top.proofs.ResilienceLemmas.{foresee_served}
+use Rattle.roman_start.specs.Seating.{IsSeated}
+use Rattle.roman_top.specs.Command.{Resilience}
+use Rattle.roman_top.specs.Opening.{EndsSaying}
+use Rattle.roman_top.specs.declared.status.Status.TheVariants as status
+use Rattle.roman_top.proofs.ResilienceLemmas.{text_at, foreseen_is_run}
+use Rattle.roman_top.proofs.ServedLemmas.{opened_served}
 use Rattle.roman_top.proofs.resilience.foresee.Goals as goal
 
 pub foresee_from-requires : goal.foresee_from-requires
@@ -11,5 +16,6 @@ foresee_from-requires g c =
 
 pub returns-in-Ok : goal.returns-in-Ok
 returns-in-Ok g c = record {
-  served = foresee_served c.args.system.now c.in-Ok.field-0 _ _ _ _ _ _ _ _ _ _ c.foresee_from.result c.in-Ok.ensures.opens c.foresee_from.ensures.writes c.foresee_from.ensures.stops c.foresee_from.ensures.out;
+  served = opened_served IsSeated c.in-Ok.field-0 (EndsSaying (text_at c.in-Ok.field-0.joint c.in-Ok.field-0.start) status.Done) c.args.system.now Resilience _ _ _ _ _ _ _ _ _ _ c.foresee_from.result tt
+      (λ texts. foreseen_is_run c.in-Ok.field-0) c.in-Ok.ensures.opens c.foresee_from.ensures.writes c.foresee_from.ensures.spoken c.foresee_from.ensures.out;
 }

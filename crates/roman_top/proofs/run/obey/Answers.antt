@@ -45,4 +45,4 @@ returns-in-Shortest-clause-served g c =
 pub returns-in-Make-clause-served : goal.returns-in-Make-clause-served
 returns-in-Make-clause-served g c =
     served_as _ (Some (Make c.in-Make.workers.count)) _ _ c.summarise.result (ap (λ command. Some (command_as command)) c.in-Make.is)
-    (made_served c.in-Make.workers.count _ _ _ _ _ _ _ _ c.summarise.result c.summarise.ensures.writes c.summarise.ensures.done c.summarise.ensures.out)
+    (made_served c.in-Make.workers.count _ _ _ _ _ _ _ _ c.summarise.result c.summarise.ensures.writes c.summarise.ensures.spoken c.summarise.ensures.out)

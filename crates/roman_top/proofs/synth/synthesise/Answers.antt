@@ -1,12 +1,14 @@
 use Rattle.roman_session.specs.Starts.{IsStart}
 use Rattle.roman_top.specs.Command.{Synth}
-use Rattle.roman_top.proofs.ServedLemmas.{away_served}
-use Rattle.roman_top.proofs.SynthLemmas.{synth_served}
+use Rattle.roman_top.specs.Endings.{Reports}
+use Rattle.roman_top.proofs.ServedLemmas.{away_served, opened_served}
+use Rattle.roman_top.proofs.SynthLemmas.{reported_is_run, told_spoken}
 use Rattle.roman_top.proofs.synth.synthesise.Goals as goal
 
 pub returns-in-Ok : goal.returns-in-Ok
 returns-in-Ok g c = record {
-  served = synth_served c.args.system.now c.in-Ok.session _ _ _ _ _ _ _ _ _ _ c.report.result c.in-Ok.ensures.opens c.report.ensures.writes c.report.ensures.told c.report.ensures.out;
+  served = opened_served IsStart c.in-Ok.session (Reports c.in-Ok.session) c.args.system.now Synth _ _ _ _ _ _ _ _ _ _ c.report.result tt (λ texts. reported_is_run c.in-Ok.session)
+      c.in-Ok.ensures.opens c.report.ensures.writes (told_spoken _ _ c.report.result c.report.ensures.told) c.report.ensures.out;
 }
 
 pub returns-in-Err : goal.returns-in-Err

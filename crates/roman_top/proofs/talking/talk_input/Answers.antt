@@ -2,16 +2,18 @@ use Rattle.std.proofs.Common.{None, inr}
 use Rattle.roman_session.specs.Starts.{IsStart}
 use Rattle.roman_top.specs.Command.{Run}
 use Rattle.roman_top.proofs.ServedLemmas.{away_served}
-use Rattle.roman_top.proofs.TalkLemmas.{input_served, input_took}
+use Rattle.roman_top.proofs.TalkLemmas.{input_done}
 use Rattle.roman_top.proofs.talking.talk_input.Goals as goal
 
 pub returns-in-Err-clause-served : goal.returns-in-Err-clause-served
 returns-in-Err-clause-served g c =
     away_served IsStart c.args.system.now (Run None) _ _ c.in-Err.status c.in-Err.ensures.opens (g.I.Source.rest c.args.input.now) (g.I.Source.faults c.args.input.now)
 
-pub returns-clause-served : goal.returns-clause-served
-returns-clause-served g c =
-    input_served c.args.system.now c.in-Ok.session c.hear.new.session _ _ _ _ _ _ _ _ _ _ _ _ _ _ c.hear.result c.input_status.result c.in-Ok.ensures.opens c.in-Ok.ensures.behaviours
+pub returns : goal.returns
+returns g c =
+    let (served, took) =
+    input_done c.args.system.now c.in-Ok.session c.hear.new.session _ _ _ _ (g.I.Source.rest c.args.input.now) (g.I.Source.rest c.hear.new.source) (g.I.Source.faults c.args.input.now)
+    (g.I.Source.faults c.hear.new.source) _ _ (g.O.Sink.written c.hear.new.out) _ _ (g.O.Sink.faults c.hear.new.out) c.hear.result c.status_after.result c.in-Ok.ensures.opens c.in-Ok.ensures.behaviours
     (record {
       ok = c.hear.ensures.ok;
       too_long = c.hear.ensures.too_long;
@@ -21,18 +23,5 @@ returns-clause-served g c =
       taken = c.hear.ensures.taken;
       past = c.hear.ensures.past;
     })
-    c.hear.ensures.reads c.hear.ensures.writes c.input_status.ensures
-
-pub returns-clause-input : goal.returns-clause-input
-returns-clause-input g c =
-    inr (input_took c.args.system.now c.in-Ok.session c.hear.new.session _ _ _ _ _ _ _ _ _ _ _ _ _ _ c.hear.result c.input_status.result c.in-Ok.ensures.opens c.in-Ok.ensures.behaviours
-    (record {
-      ok = c.hear.ensures.ok;
-      too_long = c.hear.ensures.too_long;
-      read_fault = c.hear.ensures.read_fault;
-      write_fault = c.hear.ensures.write_fault;
-      prefix = c.hear.ensures.prefix;
-      taken = c.hear.ensures.taken;
-      past = c.hear.ensures.past;
-    })
-    c.hear.ensures.reads c.hear.ensures.writes c.input_status.ensures)
+    c.hear.ensures.reads c.hear.ensures.writes c.status_after.ensures in
+    record { served = served; input = inr took }
