@@ -85,18 +85,29 @@ class Systems(unittest.TestCase):
         self.assertTrue(any('"b0  start" -> "b0 still"' in line for line in dot))
         self.assertTrue(any("belt (loose)" in line for line in dot))
 
+    def test_version_1_has_no_loose_services(self) -> None:
+        lamp = json.loads((TOP / "samples" / "lamp.json").read_text(encoding="utf-8"))
+        lamp["services"][0]["rests"] = False
+        with tempfile.TemporaryDirectory() as folder:
+            path = Path(folder) / "lamp.json"
+            for version, told in ((1, "l1>"), (2, "l1 (loose)>")):
+                path.write_text(json.dumps({**lamp, "roman": version}), encoding="utf-8")
+                self.assertIn(f"<B>lamp</B>: {told}", draw(str(path), "--dot").stdout)
+
     def test_guards_in_words(self) -> None:
         dot = draw("samples/greenhouse.json", "--dot").stdout
         for words in ("and (not (day-windy or night-windy))", "(night-calm or night-windy) or"):
             self.assertIn(words, dot)
 
     def test_what_can_not_be_drawn(self) -> None:
-        texts = ["{", "{}", "[]", '{"roman":1,"environment":{"file":"gone"}}']
+        texts = ["{", "{}", "[]", '{"roman":1,"environment":{"file":"gone"}}', "[" * 100_000]
+        texts += ['{"roman":1,"environment":{"file":0}}', '{"roman":1,"environment":{"file":null}}']
         lamp = (TOP / "samples" / "lamp.json").read_text(encoding="utf-8")
         for right, wrong in (
             ('["off", true, "on", "on"]', '["off", "e", "on", "on"]'),
             ('["off", true, "on", "on"]', '["off", true]'),
             ('["off", true, "on", "on"]', "1"),
+            ('["off", true, "on", "on"]', '["off", ' + '{"not":' * 900 + "true" + "}" * 900 + ', "on", "on"]'),
             ('["e", "on", "e"]', '["e", "on"]'),
             ('"name": "lamp",', ""),
             ('"start": "off",', ""),
