@@ -70,7 +70,10 @@ class LeastCost:
         1,000,000. Raises ValueError for an item of another form, and for a second one with both names,
         as `advise` refuses them. Names aren't looked up in a document."""
         self._costs: Dict[Tuple[str, str], int] = {}
-        for behaviour, action, cost in costs:
+        for item in costs:
+            if not isinstance(item, Sequence):
+                raise ValueError(f"{item!r} isn't [behaviour, action, cost]")
+            behaviour, action, cost = item
             if not isinstance(behaviour, str) or not isinstance(action, str):
                 raise ValueError(f"{behaviour!r} and {action!r} aren't both names")
             if type(cost) is not int or not 0 <= cost <= GREATEST_COST:
@@ -81,9 +84,12 @@ class LeastCost:
 
     @classmethod
     def read(cls, file: Union[str, os.PathLike[str]]) -> LeastCost:
-        """From a JSON file with such a table."""
+        """From a JSON file with such a table. Raises ValueError for one that isn't a list, too."""
         with open(file, encoding="utf-8") as text:
-            return cls(json.load(text))
+            table = json.load(text)
+        if not isinstance(table, list):
+            raise ValueError(f"{os.fspath(file)} isn't a list of items [behaviour, action, cost]")
+        return cls(table)
 
     def __call__(self, choice: Choice) -> str:
         def cost(service: str) -> int:

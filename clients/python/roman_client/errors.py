@@ -55,7 +55,8 @@ class BadLine(Refusal):
 
 
 class UnknownName(Refusal):
-    """`error name`: a word names no action, service, behaviour or state."""
+    """`error name`: a word names no action, service, behaviour or state, or is no name for a service that
+    joins."""
 
 
 class Busy(Refusal):

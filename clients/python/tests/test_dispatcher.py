@@ -169,6 +169,9 @@ class Dispatching(unittest.TestCase):
             ["lamp", "dim", None],
             ["lamp", "dim"],
             ["lamp", "dim", 1, 1],
+            3,
+            None,
+            {"lamp": 1, "dim": 2, "cost": 3},
             [1, "dim", 1],
             ["lamp", ["dim"], 1],
             ["lamp", "on", 0],
@@ -176,6 +179,12 @@ class Dispatching(unittest.TestCase):
         for item in bad:
             with self.subTest(item), self.assertRaises(ValueError):
                 LeastCost([*good, item])
+        with tempfile.TemporaryDirectory() as folder:
+            costs = Path(folder) / "costs"
+            for text in ("", "{}", "3", "null", '"abc"'):
+                costs.write_text(text, encoding="utf-8")
+                with self.subTest(text), self.assertRaises(ValueError):
+                    LeastCost.read(costs)
 
     def test_devices_are_there_for_all(self) -> None:
         with lamps(2) as session:
