@@ -87,6 +87,9 @@ class Guide(unittest.TestCase):
             report = self.says("synth", f"samples/{name}.json")
             self.assertEqual(report.split("\n", 1)[0], f"pairs {cells // factors[-1]}")
 
+    def test_the_summary_of_a_made_system(self) -> None:
+        self.assertIn(self.says("make", "2"), blocks(""))
+
     def test_the_certificate(self) -> None:
         certificate = self.says("certify", "samples/flaky.json")
         self.assertIn(certificate, blocks(""))
