@@ -64,6 +64,8 @@ class Session:
             cwd=folder,
             bufsize=0,
         )
+        assert self._process.stdin is not None
+        os.set_blocking(self._process.stdin.fileno(), False)
         self._watch = selectors.DefaultSelector()
         for stream in (self._process.stdout, self._process.stderr):
             assert stream is not None
@@ -154,7 +156,7 @@ class Session:
         except OSError:
             pass
         try:
-            self._process.wait(timeout=5)
+            self._process.wait(timeout=5 if self._timeout is None else min(5, self._timeout))
         except subprocess.TimeoutExpired:
             pass
         return self._stop()
@@ -256,24 +258,41 @@ class Session:
         return line, reply
 
     def _send(self, data: bytes) -> None:
-        """Writes a line. The program has read all lines before it, so there is room in the pipe."""
+        """Writes a line. The program has read all lines before it, so there is room in the pipe but for one
+        that is longer than the pipe; that one waits for the program to read, as a reply is waited for."""
         assert self._process.stdin is not None
         self._sent += len(data)
         try:
-            while data:
+            while True:
                 data = data[self._process.stdin.write(data) or 0 :]
+                if not data:
+                    return
+                self._wait(0.01)
+                if self._is_late():
+                    raise self._no_reply()
         except (BrokenPipeError, ValueError):
             raise self._ending() from None
 
     def _next_line(self) -> str:
         """The next line of a reply, which is to be whole by the time that `_answered` set for it."""
-        until = self._until
         while not self._lines:
-            if not self._gather(0.2 if until is None else min(0.2, until - time.monotonic())):
-                raise self._ending()
-            if until is not None and not self._lines and time.monotonic() >= until:
-                raise NoReply(f"no whole reply within {self._timeout} seconds")
+            self._wait(0.2)
+            if not self._lines and self._is_late():
+                raise self._no_reply()
         return self._lines.popleft()
+
+    def _wait(self, seconds: float) -> None:
+        """Waits that long for something to read, but not past the time that `_answered` set."""
+        left = seconds if self._until is None else self._until - time.monotonic()
+        if not self._gather(min(seconds, left)):
+            raise self._ending()
+
+    def _is_late(self) -> bool:
+        """Whether the time that `_answered` set has come."""
+        return self._until is not None and time.monotonic() >= self._until
+
+    def _no_reply(self) -> NoReply:
+        return NoReply(f"no whole reply within {self._timeout} seconds")
 
     def _gather(self, seconds: float) -> bool:
         """Waits that long for something to read, and reads what is there. False at the end of it: the

@@ -78,6 +78,25 @@ class Pipes(unittest.TestCase):
             with self.assertRaises(roman.ProgramEnded):
                 talk.do("on")
 
+    def test_a_program_that_hangs_before_it_has_read_a_long_line(self) -> None:
+        with session("time.sleep(60)", timeout=0.5) as talk:
+            with self.assertRaises(roman.NoReply):
+                talk.do("a" * 1_000_000)
+        with session("say('x'); time.sleep(1); raise SystemExit(7)") as talk:
+            with self.assertRaises(roman.ProgramEnded) as caught:
+                talk.do("a" * 1_000_000)
+            self.assertEqual(caught.exception.status, 7)
+
+    def test_a_long_line_that_is_read_slowly(self) -> None:
+        code = "line = sys.stdin.readline(); say(f'offer {len(line)}\\n'); sys.stdin.readline()"
+        with session(code, timeout=10) as talk:
+            self.assertEqual(talk.do("a" * 1_000_000).services, ("1000004",))
+
+    def test_a_program_that_hangs_at_its_end(self) -> None:
+        with session("time.sleep(60)", timeout=0.5) as talk:
+            self.assertEqual(talk.close(), -9)
+        self.assertLess(time.monotonic() - self.begun, 4)
+
     def test_a_report_that_comes_too_slowly(self) -> None:
         code = f"""
 sys.stdin.readline()
