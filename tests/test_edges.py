@@ -87,6 +87,15 @@ class Outside(unittest.TestCase):
         self.addCleanup(os.close, folder)
         self.assertEqual(run(["run", "lamp.json"], self.folder, stdin=folder), Ended(program.READ_FAULT, b""))
 
+    def test_a_pipe_in_place_of_a_file(self):
+        source, sink = os.pipe()
+        with os.fdopen(source, "rb") as pipe, os.fdopen(sink, "wb") as text:
+            text.write(self.lamp)
+            text.flush()
+            done = subprocess.run([program.ROMAN, "synth", f"/dev/fd/{pipe.fileno()}"], pass_fds=[pipe.fileno()],
+                                  capture_output=True, timeout=60, check=False)
+        self.assertEqual(Ended(done.returncode, done.stdout), Ended(program.SHELF_FAULT, b""))
+
     def test_input_that_never_ends(self):
         with open("/dev/zero", "rb") as zeros:
             self.assertEqual(run(["run", "lamp.json"], self.folder, stdin=zeros), Ended(program.TOO_LONG, b""))
