@@ -58,6 +58,6 @@ TellsRead name n requests p (Err (cost.Refused kind whole index)) out result =
     EndsSaying (refusal_line (refusal_of name part.Costs (part_error.Refused kind (place_of_rule whole) index))) status.Refused out result
 TellsRead name n requests p (Err cost.Memory) out result = ⊥
 
--- a fault of reading costs is one of the shelf, and no other status is
+-- a fault of reading costs ends the run as one of the shelf, and nothing else does
 abbrev pub CausedByRead : Result CostTable CostError → Status → Type 0
 CausedByRead read result = (old new : ℕ) → HasCostCause old new read → ShelfCause old new result

@@ -15,7 +15,7 @@ use Rattle.roman_top.specs.World.{World}
 use Rattle.roman_top.specs.declared.status.Status.{Status}
 use Rattle.roman_top.specs.declared.status.Status.TheVariants as status
 
--- the bytes of the session are told, and not too many
+-- the bytes of the session are told, and no more than are ever heard, or a line `quit` ends within that many
 abbrev pub IsShort : Option (List ℕ) → Type 0
 IsShort None = ⊥
 IsShort (Some session) = IsTrue (is_heard_out session)

@@ -46,7 +46,7 @@ Writes IsRun old new status.WriteFault = WritesPrefix IsRun old new
 Writes IsRun old new status.Memory = Unit {0}
 Writes IsRun old new result = WritesText IsRun old new result
 
--- nothing was written where the shelf or memory failed; Usage isn't answered, and the input isn't read
+-- nothing was written where the shelf or memory failed; neither Usage nor a fault of the input is answered
 abbrev pub EndsBare : Option (List ℕ) → Option (List ℕ) → Status → Type 0
 EndsBare old new status.Usage = ⊥
 EndsBare old new status.ShelfFault = Wrote old new []
@@ -79,17 +79,17 @@ abbrev pub OpensTo : {X : Type 0} → (PlainLibrary → X → Type 0) → Openin
 OpensTo Holds opening old new (Ok x) = Accepts opening (λ library. Holds library x)
 OpensTo Holds opening old new (Err result) = Writes (TurnsAway opening) old new result
 
--- the same before its cells are counted
+-- a document is read, its cells not being counted yet, or turned away with its line
 abbrev pub ReadsTo : {X : Type 0} → (X → PlainLibrary) → Texts → List ℕ → Option (List ℕ) → Option (List ℕ) → Result X Status → Type 0
 ReadsTo view texts name old new (Ok x) = library_of texts name ≡ Ok (view x)
 ReadsTo view texts name old new (Err result) = Writes (TurnsAway (document_opening texts name)) old new result
 
--- nothing was written by then; else it stops
+-- nothing was written where a value is answered; where a status is, nothing was if the shelf or memory failed
 abbrev pub StopsIn : {X : Type 0} → Option (List ℕ) → Option (List ℕ) → Result X Status → Type 0
 StopsIn old new (Ok x) = new ≡ old
 StopsIn old new (Err result) = EndsBare old new result
 
--- such a document, a fault or running out of memory kept a document from being opened
+-- a broken rule, the limit, a fault of the shelf or the sink, or running out of memory kept a document from being opened
 abbrev pub IsAway : Status → Type 0
 IsAway status.Refused = Unit {0}
 IsAway status.Limit = Unit {0}
@@ -111,7 +111,7 @@ pub record Opens {X : Type 0} (Holds : PlainLibrary → X → Type 0) (name : Li
   pub opens : IfSome old.texts (λ texts. OpensTo Holds (document_opening texts name) old.written new.written result)
   pub leaves : Leaves old new result
 
--- it is read or refused
+-- the document of that name is read or turned away
 pub record OpensLibrary {X : Type 0} (view : X → PlainLibrary) (name : List ℕ) (old new : Desk) (result : Result X Status) : Type 0 where
   pub reads : IfSome old.texts (λ texts. ReadsTo view texts name old.written new.written result)
   pub leaves : Leaves old new result
@@ -123,7 +123,7 @@ abbrev pub Finishes : {T E : Type 0} → Result T E → Status → Status → Ty
 Finishes (Ok x) ends result = result ≡ ends
 Finishes (Err e) ends result = result ≡ status.WriteFault
 
--- a pair's answer was told, or the sink failed
+-- a yes or a no was told, of a pair or of a certificate, or the sink failed
 abbrev pub IsTold : Status → Type 0
 IsTold status.Done = Unit {0}
 IsTold status.No = Unit {0}
@@ -139,7 +139,7 @@ status_of false = status.No
 abbrev pub Reports : Situation → List ℕ → Status → Type 0
 Reports s out result = (out ≡ report_text s.parts s.here) × EndsBy (present_system s) s.here result
 
--- neither the shelf nor the input failed, and nothing was written where memory did
+-- neither Usage, TooLong nor a fault of the shelf or the input is answered, and nothing was written where memory failed
 abbrev pub IsSpoken : Option (List ℕ) → Option (List ℕ) → Status → Type 0
 IsSpoken old new status.Done = Unit {0}
 IsSpoken old new status.No = Unit {0}
@@ -178,7 +178,7 @@ FindsVerdict A start certificate (Err check.Fault) = Unit {0}
 FindsVerdict A start certificate (Err check.TooLong) = cert_verdict A start certificate ≡ TooLong
 FindsVerdict A start certificate (Err check.Memory) = Unit {0}
 
--- a count of faults rose where the check failed, and stayed elsewhere
+-- a count of faults rose where the check ended in a fault, and stayed elsewhere
 abbrev pub CheckCause : {X : Type 0} → ℕ → ℕ → Result X CheckError → Type 0
 CheckCause old new (Ok x) = new ≡ old
 CheckCause old new (Err check.Fault) = Rose old new
@@ -192,6 +192,6 @@ JudgesCheck (Err check.Fault) out result = ⊥
 JudgesCheck (Err check.TooLong) out result = SaysVerdict TooLong out result
 JudgesCheck (Err check.Memory) out result = ⊥
 
--- a fault of the check is one of the shelf, and no other status is
+-- a fault of the check ends the run as one of the shelf, and nothing else does
 abbrev pub CausedByCheck : Result Verdict CheckError → Status → Type 0
 CausedByCheck checked result = (old new : ℕ) → CheckCause old new checked → ShelfCause old new result

@@ -73,7 +73,7 @@ pub record HasPrefixOfTaken (texts : Texts) (system : List ℕ) (old new : World
   pub ends : AreWhole taken ⊎ Had old.rest taken
   pub run : HasRunPrefix (Some (On system (Run None))) texts (Some taken) old new
 
--- so it is for a session from the input; of other runs nothing more is said
+-- of a session from the input a prefix of what it is told of lines that were taken was written; of other runs nothing is said
 abbrev pub IsOfTaken : Option Command → Texts → World → World → Type 0
 IsOfTaken (Some (On system (Run None))) texts old new = HasPrefixOfTaken texts system old new
 IsOfTaken _ texts old new = Unit {0}
@@ -88,7 +88,7 @@ AtMemory asked old new = IsSome asked × IsUnwritten old new
 
 -- ---- what was taken from the input
 
--- bytes are taken for a session alone
+-- the status is one with which a session from the input may end: bytes are taken for sessions alone
 abbrev pub IsOfSession : Status → Type 0
 IsOfSession status.Done = Unit {0}
 IsOfSession status.ReadFault = Unit {0}

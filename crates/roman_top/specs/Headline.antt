@@ -32,7 +32,7 @@ line_of x = x.line
 abbrev pub turn_text : Turn → List ℕ
 turn_text x = x.text
 
--- it is a step between well-formed situations, a request is open before it only if it can be served, and the text keeps its word
+-- a turn is a step between well-formed situations, a request is open before it only if it can be served, and the text keeps its word
 pub record IsSoundTurn (x : Turn) : Type 0 where
   pub before : IsSituation x.before
   pub after : IsSituation x.after
@@ -40,7 +40,7 @@ pub record IsSoundTurn (x : Turn) : Type 0 where
   pub step : Step x.before x.line x.text x.after
   pub keeps : KeepsWord x.before x.line x.text
 
--- each turn begins where the one before it led
+-- each turn is sound, and begins where the one before it led
 abbrev pub AreTurns : Situation → List Turn → Type 0
 AreTurns s [] = Unit {0}
 AreTurns s (x ∷ xs) = (x.before ≡ s) × IsSoundTurn x × AreTurns x.after xs
@@ -79,6 +79,6 @@ KeepsPromise (Some (On system (Run name))) texts old new =
 KeepsPromise (Some (On system Synth)) texts old new = (library : PlainLibrary) → document_opening texts system ≡ Accepted library → HasReported library old new
 KeepsPromise _ texts old new = Unit {0}
 
--- so it is where neither a fault nor running out of memory ended the run
+-- the promise is kept where neither a fault nor running out of memory ended the run
 abbrev pub HasHeadline : Option Command → World → World → Status → Type 0
 HasHeadline asked old new result = IsFree result → WithTexts asked old.texts (λ texts. KeepsPromise asked texts old new)

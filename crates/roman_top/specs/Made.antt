@@ -17,7 +17,7 @@ stage_line word pairs related composes =
 abbrev pub standing : List ℕ → Situation → List ℕ
 standing word s = stage_line word (length (pairs (present_system s))) (related_count (present_system s)) (is_related (present_system s) s.here)
 
--- the stages of the script, each with the lines before it
+-- the stages of the script, each with the lines that lead to it from the one before
 abbrev pub stages : List (List ℕ × List (List ℕ))
 stages =
     (codes "start", [])
@@ -34,7 +34,7 @@ Passes s [] out = out ≡ codes "end\n"
 Passes s (stage ∷ more) out =
     (replies rest : List ℕ) × (next : Situation) × Answers s stage.1 replies next × Passes next more rest × (out ≡ standing stage.0 next ++ rest)
 
--- the first line
+-- the first line of the summary
 abbrev pub made_line : ℕ → List ℕ
 made_line n = codes "made " ++ decimal n ++ codes "\n"
 

@@ -27,7 +27,7 @@ is_past_limit library = nat_lt library.limit (cells (library_system library))
 abbrev pub limit_line : ℕ → List ℕ
 limit_line limit = codes "limit " ++ decimal limit ++ codes "\n"
 
--- a document is refused, its library is past its limit, or it is accepted
+-- a document is refused, its library is past its limit, or it is accepted and within it
 pub data Opening : Type 0 where
   Refused : (refusal : Refusal) → Opening
   Past : (library : PlainLibrary) → Opening

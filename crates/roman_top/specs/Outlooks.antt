@@ -15,7 +15,7 @@ abbrev pub outlook_words : Outlook → List ℕ
 outlook_words o =
     (if o.composes then codes " composition related " else codes " none related ") ++ decimal o.related ++ codes " choices " ++ decimal o.choices ++ codes "\n"
 
--- how services fail
+-- the word for how services fail
 abbrev pub way_word : Way → List ℕ
 way_word Freeze = codes " freeze"
 way_word Die = codes " die"
@@ -24,11 +24,11 @@ way_word Die = codes " die"
 abbrev pub service_names : NamedSys → List ℕ → List ℕ
 service_names parts K = flat_map (λ k. codes " " ++ name_at (map seat_name parts.seats) k) K
 
--- the line that says what is left where they fail so
+-- the line that says what is left where the services at the places K fail so
 abbrev pub line_without : NamedSys → List ℕ → Way → Outlook → List ℕ
 line_without parts K way left = codes "without" ++ service_names parts K ++ way_word way ++ outlook_words left
 
--- what is left where they freeze, and where they die
+-- the lines that say what is left where the services at the places K freeze, and where they die
 unfoldable pub lines_without : NamedSys → Pair → List ℕ → List ℕ
 lines_without parts p K =
     let left = λ (way : Way). outlook (system_without way K (system_of parts)) (pair_without way K p) in
@@ -38,7 +38,7 @@ lines_without parts p K =
 abbrev pub ones : ℕ → List (List ℕ)
 ones n = map (λ k. k ∷ []) (below n)
 
--- each two of them, ordered by the first and then by the second
+-- each two of so many places, ordered by the first and then by the second
 abbrev pub twos : ℕ → List (List ℕ)
 twos n = flat_map (λ k. map (λ j. k ∷ j ∷ []) (drop (k + 1) (below n))) (below n)
 
@@ -46,7 +46,7 @@ twos n = flat_map (λ k. map (λ j. k ∷ j ∷ []) (drop (k + 1) (below n))) (b
 abbrev pub head_text : NamedSys → Outlook → List ℕ
 head_text parts now = codes "services " ++ decimal (length parts.seats) ++ codes "\nstart" ++ outlook_words now
 
--- the whole text
+-- the whole text of `resilience`
 unfoldable pub outlook_text : NamedSys → Pair → List ℕ
 outlook_text parts p =
     head_text parts (outlook (system_of parts) p)

@@ -65,7 +65,7 @@ Checks certificate library out result =
 abbrev pub TellsShortestOf : Sys → Pair → List ℕ → Status → Type 0
 TellsShortestOf s p out result = TellsDepths s p out × (result ≡ status.Done)
 
--- shortest: the depths, from the starting states
+-- shortest: the depths of the system's pairs, and that of the starting states
 abbrev pub TellsShortest : PlainLibrary → List ℕ → Status → Type 0
 TellsShortest library out result = TellsShortestOf (library_system library) (start_pair_of library) out result
 
@@ -113,7 +113,7 @@ abbrev pub texts_for : Option Command → Option Texts → Option Texts
 texts_for (Some (On system job)) told = told
 texts_for _ told = Some []
 
--- this holds of these texts
+-- this holds of the texts that a call asks for, where the shelf tells them
 abbrev pub WithTexts : Option Command → Option Texts → (Texts → Type 0) → Type 0
 WithTexts asked told Holds = IfSome (texts_for asked told) Holds
 

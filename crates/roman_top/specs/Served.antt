@@ -22,6 +22,6 @@ pub record Served (asked : Option Command) (old new : World) (result : Status) :
   pub ends : EndsInput asked old new result
   pub texts : new.texts ≡ old.texts
 
--- the same of a call that leaves the input alone, whatever is told of it
+-- what a call does that leaves the input alone, whatever is told of that
 abbrev pub ServedBeside : Option Command → Desk → Desk → Status → Type 0
 ServedBeside asked old new result = (rest : Option (List ℕ)) (faults : ℕ) → Served asked (beside old rest faults) (beside new rest faults) result

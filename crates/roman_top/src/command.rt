@@ -29,7 +29,7 @@ pub(crate) enum Command<'a> {
         /// The certificate's name.
         certificate: &'a str,
     },
-    /// `shortest SYSTEM`: within how many requests the opponent wins.
+    /// `shortest SYSTEM`: how many pairs have each depth, and the depth of the start pair.
     Shortest(&'a str),
     /// `advise SYSTEM COSTS H`: the least that H requests cost at worst, and how to come by it.
     Advise {

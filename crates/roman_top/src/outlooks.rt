@@ -90,7 +90,7 @@ fn push_twos<O: Sink>(
     Ok(())
 }
 
-/// Takes what is left where the service at place k fails and one after it.
+/// Takes what is left where the service at place k fails with one after it, for each of those.
 fn push_twos_with<O: Sink>(
     joint: &Joint,
     losses: &Losses,
@@ -154,7 +154,7 @@ fn push_line<O: Sink>(
     page.push(outlook_piece(left).bytes(), out)
 }
 
-/// The line of how many services there are, and the word of the next.
+/// The line of how many services there are, and the first word of the next line.
 fn services_piece(services: u8) -> Piece
     ensures { result ≡ codes "services " ++ decimal services ++ codes "\nstart" }
 {
@@ -164,7 +164,7 @@ fn services_piece(services: u8) -> Piece
         .text(b"\nstart")
 }
 
-/// The word of a line, and the names of the services that fail.
+/// The first word of a line, and the names of the services that fail.
 fn names_piece(joint: &Joint, first: u8, second: Option<u8>) -> Piece
     requires first { first < length joint.now.seats }
     requires second { IfSome second (λ j. j < length joint.now.seats) }

@@ -41,7 +41,8 @@ pub(crate) fn foresee<F: Shelf, O: Sink, L: Ledger>(
     }
 }
 
-/// Writes it for a pair of a joint. The memory is taken before anything is written.
+/// Writes what a pair of a joint can look forward to, and what is left of it where services fail.
+/// The memory is taken before anything is written.
 fn foresee_from<O: Sink, L: Ledger>(
     alloc: Global,
     joint: Joint,

@@ -35,12 +35,18 @@ use std::sync::ledger::Ledger;
 /// - `make N`, for N from 1 to 10, asks the shelf for nothing: it makes a system of N workers, runs its
 ///   script on a session, and writes a summary of how the session stands at the start, after each of
 ///   the script's first four lines, and at its end.
-/// - `resilience SYSTEM` writes whether the start pair is related, how many pairs are and how many
-///   services may be offered, and the same where one service freezes or dies, or two do.
-/// - `shortest SYSTEM` writes within how many requests the opponent wins.
+/// - `resilience SYSTEM` writes how many services there are; then whether the start pair is
+///   related, how many pairs are, and how many services the masks of all pairs and actions have
+///   together, whether the pairs are related or not; and these three where one service freezes or
+///   dies, or two do.
+/// - `shortest SYSTEM` writes how many pairs there are, how many are related, and how many have
+///   each depth, the least number of requests within which the opponent wins there; and the depth
+///   of the start pair, or that it is related.
 /// - `advise SYSTEM COSTS H`, for H from 1 to 64, writes the least that H requests cost at worst by the
-///   costs on the shelf, the service to take for each of them, and these values for each related pair;
-///   or that the start pair isn't related, or that there are too many of them.
+///   costs on the shelf, for each action that is allowed at the start pair the service to take and
+///   what the H requests then cost at worst, and the least for 1 to H requests at each related
+///   pair; or that the start pair isn't related, or that there are more of these values, related
+///   pairs times H, than 1,048,576.
 ///
 /// The call returns on every input, and takes bytes from `input` for `run SYSTEM` alone.
 pub fn serve<F: Shelf, I: Source, O: Sink, L: Ledger>(
@@ -57,7 +63,9 @@ pub fn serve<F: Shelf, I: Source, O: Sink, L: Ledger>(
         (world (F.texts shelf.old) (F.faults shelf.old) (I.rest input.old) (I.faults input.old) (O.written out.old) (O.faults out.old))
         (world (F.texts shelf.new) (F.faults shelf.new) (I.rest input.new) (I.faults input.new) (O.written out.new) (O.faults out.new)) result }
 
-    // The same on its face: each answer of a session is a step that keeps its word.
+    // On its face, where neither a fault nor running out of memory ended the run: each answer of a
+    // session is a step that keeps its word, and the report of `synth` is right by the greatest
+    // ND-simulation.
     ensures headline { HasHeadline (command_of words.now)
         (world (F.texts shelf.old) (F.faults shelf.old) (I.rest input.old) (I.faults input.old) (O.written out.old) (O.faults out.old))
         (world (F.texts shelf.new) (F.faults shelf.new) (I.rest input.new) (I.faults input.new) (O.written out.new) (O.faults out.new)) result }

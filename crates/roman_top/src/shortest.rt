@@ -19,7 +19,8 @@ use roman_start::Seated;
 use std::alloc::Global;
 use std::sync::ledger::Ledger;
 
-/// Writes within how many requests the opponent wins.
+/// Writes how many pairs there are, are related and have each depth, and the depth of the start
+/// pair.
 pub(crate) fn shortest<F: Shelf, O: Sink, L: Ledger>(
     alloc: Global,
     system: &str,
@@ -37,7 +38,7 @@ pub(crate) fn shortest<F: Shelf, O: Sink, L: Ledger>(
     }
 }
 
-/// Writes the depths of a joint's pairs, from the pair `start` on.
+/// Writes how many of a joint's pairs have each depth, and the depth of the pair `start`.
 fn tell_depths<O: Sink, L: Ledger>(
     alloc: Global,
     joint: Joint,

@@ -8,9 +8,9 @@ use roman_io::Failed;
 /// How a run of the program ended. The variants are in the order of their exit statuses, from 0 to 9.
 #[derive(Clone, Copy, Debug, PartialEq, Eq)]
 pub enum Status {
-    /// 0: The whole text of the command was written. Of `synth` it says that the start pair is related,
-    /// of `check` that the certificate is valid and complete, and of `run` that the session was read to
-    /// its end or to its line `quit`.
+    /// 0: The whole text of the command was written. Of `synth` and `advise` it says that the start
+    /// pair is related, of `check` that the certificate is valid and complete, and of `run` that
+    /// the session was read to its end or to its line `quit`.
     Done,
     /// 1: The start pair isn't related, with the report (`synth`) or the line `answer none` (`advise`)
     /// in the sink; or the certificate is rejected, with the line that says so (`check`).
@@ -21,8 +21,8 @@ pub enum Status {
     /// 3: The document, or the text of costs, isn't accepted. The line of the first rule that it breaks
     /// was written.
     Refused,
-    /// 4: The cells of the system exceed the document's limit, or the values of `advise` theirs. The
-    /// line `limit` with that limit was written.
+    /// 4: The cells of the system exceed the document's limit, or the values of `advise`, related
+    /// pairs times H, exceed 1,048,576. The line `limit` with that limit was written.
     Limit,
     /// 5: A call of the shelf failed, and its count of faults rose; never of `make` or of words without
     /// a shape. Of a session on the shelf the replies to those lines stand in the sink that were read
@@ -37,7 +37,8 @@ pub enum Status {
     /// lines that end within them in the sink; or the certificate has more than 268,435,456 before a
     /// line at fault ends, and nothing was written.
     TooLong,
-    /// 9: There is no memory. Nothing was written, and nothing was taken from the input.
+    /// 9: There is no memory; never of words without a shape. Nothing was written, and nothing was
+    /// taken from the input.
     Memory,
 }
 

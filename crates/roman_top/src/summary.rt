@@ -73,14 +73,14 @@ pub(crate) fn put_summary<O: Sink>(n: u8, stages: &[Stage], out: &mut O) -> Resu
     page.flush(out)
 }
 
-/// The first line.
+/// The first line of the summary.
 fn made_piece(n: u8) -> Piece
     ensures { result ≡ made_line n }
 {
     Piece::new().text(b"made ").number(u32::from(n)).text(b"\n")
 }
 
-/// Takes the lines of the stages, and the last line.
+/// Takes the lines of the stages, and the last line of the summary.
 fn push_stages<O: Sink>(stages: &[Stage], page: &mut Page, out: &mut O) -> Result<(), Failed>
     ensures gathers { Gathers (O.written out.old) (O.written out.new) page.new (page.old ++ lines_of stages.now) result }
     ensures cause { HasCause (O.faults out.old) (O.faults out.new) result }
