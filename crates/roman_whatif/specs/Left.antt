@@ -18,7 +18,7 @@ pub record IsScratchOf (base joint : NamedSys) (order : Board) : Type 0 where
   pub parts : HasSameParts joint base
   pub caps : HasCaps joint order
 
--- it is such a scratch, and nothing waits there
+-- changes of the base can be tried there, and nothing waits there
 pub record IsIdleScratchOf (base joint : NamedSys) (order : Board) : Type 0 where
   pub scratch : IsScratchOf base joint order
   pub idle : order.waiting ≡ []

@@ -22,12 +22,12 @@ pub record MayFail (parts : NamedSys) (first : ℕ) (second : Option ℕ) : Type
   pub one : first < length parts.seats
   pub later : IfSome second (λ j. (first < j) × (j < length parts.seats))
 
--- it is told what is left where the seat at place j fails, alone or with an earlier one
+-- the table tells what is left where the seat at place j fails, alone or with an earlier one
 pub record IsToldOf (parts : NamedSys) (p : ℕ) (way : Way) (j : ℕ) (table : List declared.Outlook) : Type 0 where
   pub alone : told_at table (32 * j + j) ≡ left_of parts p way (j ∷ [])
   pub two : (k : ℕ) → k < j → told_at table (32 * j + k) ≡ left_of parts p way (k ∷ j ∷ [])
 
--- it is told of each seat, and of each two
+-- the table tells what is left where each seat fails, and each two
 pub record AreTold (parts : NamedSys) (p : ℕ) (way : Way) (table : List declared.Outlook) : Type 0 where
   pub few : length parts.seats ≤ 32
   pub room : length table ≡ 32 * length parts.seats

@@ -15,9 +15,9 @@ use roman_relation::Relation;
 use roman_repair::freeze;
 use std::sync::ledger::Ledger;
 
-/// What is left where the service at the place `first` of `base` fails, or those at the places `first`
-/// and `second`, which is the greater: what the pair that is then left of `p` can look forward to. A
-/// service that is frozen already stays so where it freezes.
+/// What is left where the service at the place `first` of `base`, whose list is complete, fails, or
+/// those at the places `first` and `second`, which is the greater: what the pair that is then left
+/// of the pair `p` can look forward to. A service that is frozen already stays so where it freezes.
 ///
 /// It is tried on `scratch`, which was made from `base`; `base` stays as it is. No memory is taken.
 pub fn without<L: Ledger>(

@@ -1,10 +1,10 @@
 //! What is left of a composition where services fail.
 //!
 //! [`now`] tells what a pair can look forward to as things stand: whether it is related, how many pairs
-//! are, and in how many ways requests can be delegated. [`without`] tells the same where one or two
-//! services freeze or die: it tries it on a scratch, a copy of the relation, and leaves the relation as
-//! it is. [`Losses`] tries each service and each two of them, and keeps what it found in a table.
-//! `specs/Left` says what of the system and of the pair is left then.
+//! are, and how many services the masks of all pairs and actions have. [`without`] tells the same
+//! where one or two services freeze or die: it tries it on a scratch, a copy of the relation, and
+//! leaves the relation as it is. [`Losses`] tries each service and each two of them, and keeps what
+//! it found in two tables. `specs/Left` says what of the system and of the pair is left then.
 #![tactic(auto)]
 
 mod failing;

@@ -31,16 +31,17 @@ const NOTHING: Outlook = Outlook {
 pub struct Losses {
     /// The number of the pair in the relation from which the losses were built.
     pub pair: u32,
-    /// What is left where services freeze, `32 * j + k` for those at the places k and j, k being less than
-    /// j, and `32 * j + j` for the one at place j.
+    /// What is left where services freeze: at `32 * j + k` for those at the places k and j, k being
+    /// less than j, and at `32 * j + j` for the one at place j.
     pub frozen: Vec<Outlook>,
     /// What is left where services die, at the same places as where they freeze.
     pub gone: Vec<Outlook>,
 }
 
 impl Losses {
-    /// Tries all failures on two copies of `base`, and keeps what is left after each. The one error is
-    /// that there is no memory.
+    /// Tries the failures of each service, and of each two, on two copies of `base`, whose list is
+    /// complete, and keeps what is left of its pair `p` after each. The one error is that there is
+    /// no memory.
     pub fn build<L: Ledger>(
         alloc: Global,
         base: &Relation,

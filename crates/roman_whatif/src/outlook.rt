@@ -16,7 +16,8 @@ pub struct Outlook {
     pub composes: bool,
     /// How many pairs of the system are related.
     pub related: u32,
-    /// How many services may be offered, over all pairs and actions: the sum of the masks' sizes.
+    /// How many services the masks of all pairs and actions have together, whether the pairs are
+    /// related or not. At a related pair these are the services that may be offered.
     pub choices: u64,
 }
 
