@@ -1,4 +1,4 @@
--- The text of advice: what requests cost at worst at a pair, the service to take for each of them, and all values.
+-- The text of advice: what requests cost at worst at a pair, the service to take for each allowed action, and all values.
 use Rattle.std.specs.Prelude.{ℕ, suc, ◌-◌, ◌*◌, List, ◌++◌, map, nat_lt, codes, decimal, if◌then◌else◌}
 use Rattle.std.specs.List.{flat_map}
 use Rattle.roman_model.specs.Explanation.{name_at}
@@ -52,7 +52,7 @@ pub data Advising : Type 0 where
   TooMany : Advising
   Told : (text : List ℕ) → Advising
 
--- by costs that were read
+-- what a request for advice comes to by costs that were read
 abbrev pub advised_by : NamedSys → List Listed → ℕ → Pair → Advising
 advised_by n listed requests p =
     if is_related (system_of n) p

@@ -34,7 +34,7 @@ pub record HavePlaces (pairs ranks : List ℕ) : Type 0 where
   pub below : (p : ℕ) → IsIn p pairs → slice_index ranks p < length pairs
   pub at : (p : ℕ) → IsIn p pairs → slice_index pairs (slice_index ranks p) ≡ p
 
--- the pairs have ranks, and each row a value for each of them
+-- there are not too many requests, the pairs have ranks, and each row has a value for each of them, none too great
 pub record HasRanks (requests : ℕ) (pairs places values : List ℕ) : Type 0 where
   pub few : requests ≤ MAX_REQUESTS
   pub ranks : HavePlaces pairs places

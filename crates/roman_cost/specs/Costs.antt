@@ -29,7 +29,7 @@ cost_item behaviours actions i d = do
   cost ← check (nat_le number MAX_COST) kind.Count list.Steps i number
   Ok (record { behaviour = behaviour; action = action; cost = cost })
 
--- the same behind those before it, of which none is for both
+-- item i behind those that are listed before it, none of which is for the same behaviour and action
 unfoldable pub cost_step : List (List ℕ) → List (List ℕ) → ℕ → List Listed → Data → Result (List Listed) PartError
 cost_step behaviours actions i listed d = do
   item ← cost_item behaviours actions i d

@@ -20,23 +20,23 @@ IsRanked ranks row p = (p < length ranks) × (slice_index ranks p < length row)
 abbrev pub AreSmall : List ℕ → Type 0
 AreSmall row = All (λ value. value ≤ MAX_REQUESTS * MAX_COST) row
 
--- the bits are those of the seats that are offered for an action at the pair of that number; none is set where it isn't allowed
+-- the bits are those of the seats that are offered for an action at the pair of that number: some where it is allowed, else none
 pub record IsOffers (s : Sys) (p a bits : ℕ) : Type 0 where
   pub offered : IsTrue (is_allowed s (pair_at (sizes_of s) p) a) → HasBits bits (has (offers s (pair_at (sizes_of s) p) a))
   pub some : IsTrue (is_allowed s (pair_at (sizes_of s) p) a) → bits ≢ 0
   pub none : IsFalse (is_allowed s (pair_at (sizes_of s) p) a) → bits ≡ 0
 
--- those of each action, at one pair
+-- the bits of the seats that are offered for each action, at one pair
 pub record AreOffers (s : Sys) (p : ℕ) (row : List ℕ) : Type 0 where
   pub len : length row ≡ s.env.actions
   pub each : (a : ℕ) → a < s.env.actions → IsOffers s p a (slice_index row a)
 
--- a row of them for each of the pairs, one behind another
+-- for each of the pairs a row of the bits of the seats that are offered for each action, one behind another
 pub record HasOffers (s : Sys) (pairs table : List ℕ) : Type 0 where
   pub len : length table ≡ length pairs * s.env.actions
   pub each : (r : ℕ) → r < length pairs → AreOffers s (slice_index pairs r) (slice_range table (r * s.env.actions) (r * s.env.actions + s.env.actions))
 
--- a table goes on by those of each action at one pair
+-- a table goes on by the bits of the seats that are offered for each action at one pair
 pub record PushesOffers (s : Sys) (p : ℕ) (old new : List ℕ) : Type 0 where
   pub row : List ℕ
   pub are : AreOffers s p row

@@ -30,7 +30,7 @@ IsCostCause old new error.Fault = Rose old new
 IsCostCause old new (error.Refused kind whole index) = new ≡ old
 IsCostCause old new error.Memory = new ≡ old
 
--- so it did where the answer is an error, and it stayed where it is none
+-- a count of faults rose where the answer is a fault, and stayed elsewhere
 abbrev pub HasCostCause : {T : Type 0} → ℕ → ℕ → Result T CostError → Type 0
 HasCostCause old new (Ok x) = new ≡ old
 HasCostCause old new (Err e) = IsCostCause old new e

@@ -124,10 +124,10 @@ impl Advice {
         self.values[h as usize * self.pairs.len() + rank as usize]
     }
 
-    /// Of the services that may be offered for the action `a` at a related pair `p` the least one
-    /// through which it costs least, with `h - 1` requests after it, and that cost. The relation and
-    /// the costs are those of [`build`](Advice::build), and `h` is from 1 to the number that was built.
-    /// No memory is taken.
+    /// Of the services that may be offered for the action `a`, which the target allows at the
+    /// related pair `p`, the least one through which it costs least, with `h - 1` requests after
+    /// it, and that cost. The relation and the costs are those of [`build`](Advice::build), and `h`
+    /// is from 1 to the number that was built. No memory is taken.
     pub fn choice(&self, relation: &Relation, costs: &Costs, h: u8, p: u32, a: u8) -> (u8, u32)
         requires relation { IsRelation relation.now.joint relation.now.order }
         requires costs { AreOf relation.now.joint costs.now }

@@ -2,9 +2,10 @@
 //!
 //! [`read_costs`] reads what behaviours cost for actions from a text on a shelf. [`Advice`] has for
 //! each related pair the least that so many requests cost there at worst, whatever the target asks
-//! for and whatever comes of it, and the service to delegate the next one to. [`put_advice`] puts it as
-//! a text. `specs/Costs` says what a text of costs means, `specs/AdviceText` what the text of advice
-//! is, and `specs/Laws` what it says of plans.
+//! for and whatever comes of it, and the service to delegate the next one to. [`put_advice`] puts
+//! all these values as a text, and the services for the requests that may come first. `specs/Costs`
+//! says what a text of costs means, `specs/AdviceText` what the text of advice is, and `specs/Laws`
+//! what it says of plans.
 #![tactic(auto)]
 
 mod advice;

@@ -36,7 +36,7 @@ pub(crate) fn greatest_outcome(ranks: &[u32], row: &[u32], outcomes: Outcomes<'_
     greatest
 }
 
-/// The greatest value of the pairs with one environment state, by the service's.
+/// The greatest value of the outcomes with one environment state, over the states of the service.
 fn greatest_state(ranks: &[u32], row: &[u32], from: u32, states: &[u8], stride: u32) -> u32
     requires ranked { All (λ b. IsRanked ranks.now row.now (from + b * stride)) states.now }
     requires fits { All (λ b. from + b * stride < 2 ^ 32) states.now }

@@ -54,7 +54,7 @@ pub(crate) fn cheapest(
     best.unwrap()
 }
 
-/// What an action costs at worst at a pair that is delegated to a service, where it has outcomes.
+/// What an action costs at worst at a pair where it is delegated to a service that has outcomes.
 fn cost_through(
     joint: &Joint,
     costs: &Costs,

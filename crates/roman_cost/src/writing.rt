@@ -25,9 +25,10 @@ use roman_rules::Rules;
 use roman_text::{Page, Piece};
 
 /// Puts the text of advice from the related pair `start` on: what the requests for which it was built
-/// cost at worst, the service to take for each of them, and all values. The relation and the costs are
-/// those of [`build`](Advice::build). The error comes only where the sink's count of faults rose; a
-/// prefix of the text was then written.
+/// cost at worst, for each action that the target allows there the service to take and what they
+/// then cost, and all values for one request or more. The relation and the costs are those of
+/// [`build`](Advice::build). The error comes only where the sink's count of faults rose; a prefix
+/// of the text was then written.
 pub fn put_advice<O: Sink>(
     advice: &Advice,
     relation: &Relation,
