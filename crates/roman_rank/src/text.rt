@@ -30,7 +30,7 @@ pub fn write_depths<O: Sink>(ranks: &Ranks, p: u32, out: &mut O) -> Result<(), F
     page.flush(out)
 }
 
-/// The first two lines.
+/// The first two lines of the text.
 fn head_piece(pairs: u32, related: u32) -> Piece
     ensures { result ≡ head_lines pairs related }
 {
@@ -58,7 +58,7 @@ fn level_piece(n: u32, count: u32) -> Piece
     text.text(b": ").number(count).text(b"\n")
 }
 
-/// The line of the start pair, and the last line.
+/// The line of the start pair, and the last line of the text.
 fn last_piece(depth: Option<u32>) -> Piece
     ensures { result ≡ last_lines depth }
 {
