@@ -9,7 +9,7 @@ use thiserror::Error;
 /// Why no system is made.
 #[derive(Clone, Copy, Debug, PartialEq, Eq, Error)]
 pub enum MakeError {
-    /// There are no systems for this number.
+    /// The number isn't from 1 to 10.
     #[error("the number isn't 1 to 10")]
     Range,
     /// There is no memory.

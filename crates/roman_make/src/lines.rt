@@ -2,7 +2,7 @@
 ghost use Rattle.std.specs.Prelude.{◌≡◌, ◌≤◌, ◌↔◌, IsNone, IfSome, Some, slice_get};
 ghost use Rattle.roman_make.specs.Script.{script_lines};
 
-/// The lines.
+/// The lines of the session, each without its newline.
 static LINES: [&[u8]; 13] = [
     b"freeze w1",
     b"thaw w1",

@@ -48,7 +48,7 @@ fn every_state() -> StateSet
     StateSet::single(0)
 }
 
-/// A worker.
+/// The behaviour of a worker.
 pub(crate) fn make_worker(alloc: Global, env: &Environment) -> Result<Behaviour, AllocError>
     requires { env.now ≡ floor }
     ensures worker { IfOk result (λ made. made ≡ worker) }
