@@ -54,12 +54,12 @@ pub record Spot : Type 0 where
 abbrev pub spot : Situation → Option (List ℕ) → Spot
 spot situation written = record { situation = situation; written = written }
 
--- the same with what its source has left, where that is told
+-- where a session stands, what was written by then, and what its source has left, where these are told
 pub record Hall : Type 0 where
   pub spot : Spot
   pub rest : Option (List ℕ)
 
--- the same with what a source has left
+-- the hall of a situation, of what a source has left, and of what was written
 abbrev pub hall : Situation → Option (List ℕ) → Option (List ℕ) → Hall
 hall situation rest written = record { spot = spot situation written; rest = rest }
 
@@ -77,21 +77,21 @@ pub record TellsPrefix (old : Spot) (lines : List (List ℕ)) (new : Spot) : Typ
 
 -- ---- how a session ends
 
--- it was heard to its end, or to `quit`
+-- the session was heard to its end, or to `quit`, and all that it is told was written
 pub record IsHeardOut (old : Hall) (new : Spot) : Type 0 where
   pub session : List ℕ
   pub had : Had old.rest session
   pub out : IsTrue (is_heard_out session)
   pub tells : Tells old.spot (lines session) new
 
--- it is too long
+-- the session is too long, and what it is told of the lines that end within as much as is ever heard was written
 pub record IsCutOff (old : Hall) (new : Spot) : Type 0 where
   pub session : List ℕ
   pub had : Had old.rest session
   pub long : IsFalse (is_heard_out session)
   pub tells : Tells old.spot (ended_lines (prefix_of session)) new
 
--- it would go on: the source gave not too many bytes, and their whole lines are answered, none of which is `quit`
+-- the session would go on: the source gave not too many bytes, and their whole lines are answered, none of which is `quit`
 pub record GoesOn (old new : Hall) : Type 0 where
   pub taken : List ℕ
   pub gave : Gave old.rest new.rest taken
@@ -103,7 +103,7 @@ pub record GoesOn (old new : Hall) : Type 0 where
 abbrev pub AreWhole : List ℕ → Type 0
 AreWhole bytes = bytes ≡ text_of_lines (ended_lines bytes)
 
--- the lines of the first bytes that the source gave are answered, but the last answer wasn't written whole; these bytes are
+-- the lines of the first bytes that the source gave are answered, and a prefix of the answers was written; these bytes are
 -- whole lines, or all that the source had
 pub record StopsShort (old new : Hall) : Type 0 where
   pub heard : List ℕ

@@ -44,12 +44,12 @@ pub record StopsAtQuit (old : Spot) (taken piece : List ℕ) (new : Spot) (page 
   pub quit : IsTrue (has_quit (ended_lines (taken ++ heard ++ 10 ∷ [])))
   pub tells : TellsOnPage old (ended_lines (taken ++ heard ++ 10 ∷ [])) new page
 
--- the answer to the last of those lines wasn't written whole, and lines may follow
+-- a prefix of what the session is told of those lines was written, and its situation is well formed
 pub record FallsShort (old : Spot) (lines : List (List ℕ)) (new : Spot) : Type 0 where
   pub tells : TellsPrefix old lines new
   pub known : IsSituation new.situation
 
--- some prefix of the bytes ends with a line whose answer wasn't written whole
+-- a prefix was written of what the session is told of the whole lines of some first bytes, and its situation is well formed
 pub record FailsIn (old : Spot) (bytes : List ℕ) (new : Spot) : Type 0 where
   pub heard : List ℕ
   pub past : List ℕ
@@ -62,7 +62,7 @@ HearsBytes old taken bytes new (Ok More) = IsHearing old (taken ++ bytes) new
 HearsBytes old taken bytes new (Ok Quit) = StopsAtQuit old taken bytes new.spot new.page
 HearsBytes old taken bytes new (Err failed) = FailsIn old (taken ++ bytes) new.spot
 
--- so was as much of a piece as there is room for; where there is too little, the session is too long
+-- as much of a piece was heard as there is room for; where there is too little, the session is too long
 abbrev pub HearsPiece : ℕ → Spot → List ℕ → List ℕ → Ear → Result Next HearError → Type 0
 HearsPiece room old taken piece new (Ok More) = IsHearing old (taken ++ piece) new × (length piece ≤ room)
 HearsPiece room old taken piece new (Ok Quit) = StopsAtQuit old taken (take room piece) new.spot new.page

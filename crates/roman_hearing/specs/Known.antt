@@ -9,12 +9,12 @@ use Rattle.roman_session.specs.Steps.{Step}
 abbrev pub AreBehaviours : NamedSys → Type 0
 AreBehaviours parts = All (IsBehaviour parts.environment) parts.catalogue
 
--- so they are, and each state of the environment has a name
+-- the behaviours are over the environment, each state of which has a name
 pub record AreNamed (parts : NamedSys) : Type 0 where
   pub behaviours : AreBehaviours parts
   pub environment : length parts.environment.states ≡ parts.environment.env.states
 
--- the situation is well formed, and whatever its session comes to will be
+-- the situation is well formed, and its behaviours and its environment's names are as in every library
 pub record IsKnownSituation (s : Situation) : Type 0 where
   pub situation : IsSituation s
   pub named : AreNamed s.parts

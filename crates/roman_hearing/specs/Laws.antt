@@ -12,7 +12,7 @@ use Rattle.roman_session.specs.Reports.{report_text}
 use Rattle.roman_start.specs.Starts.{parts_of, start_pair_of}
 use Rattle.roman_hearing.specs.Afresh.{afresh}
 
--- a request that isn't refused is offered to some service
+-- for a request that isn't refused some seat is offered
 abbrev pub RequestsAreOffered : Type 0
 RequestsAreOffered = (s : Situation) (action : List ℕ) (a : ℕ) → IsSituation s → asked s action ≡ Ok a → offers (present_system s) s.here a ≢ []
 

@@ -51,7 +51,7 @@ pub record AnswersRequest (s : Situation) (a : ℕ) (text : List ℕ) : Type 0 w
   pub forbidden : IsGreat s → (MayAsk s a → ⊥) → text ≡ codes "not allowed\n"
   pub offers : IsGreat s → MayAsk s a → OffersServing s a text
 
--- a request for an action of the document: while another is open it is put off, and the pair is related
+-- a request for an action of the document: while another is open it is refused as busy, and the pair is related
 pub record AnswersAsk (s : Situation) (action text : List ℕ) : Type 0 where
   pub idle : (a : ℕ) → s.phase ≡ Idle → named s.parts.environment.actions action ≡ Ok a → AnswersRequest s a text
   pub busy : (a : ℕ) → (s.phase ≡ Idle → ⊥) → named s.parts.environment.actions action ≡ Ok a → (text ≡ codes "error busy\n") × IsGreat s

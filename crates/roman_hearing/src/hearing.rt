@@ -26,15 +26,15 @@ pub enum HearError {
     /// The sink failed, and its count of faults rose. A prefix of the replies stands in it.
     #[error("the sink of the session failed")]
     WriteFault,
-    /// The session has more than [`MAX_SESSION_BYTES`], and no line `quit` that ends within them. The
-    /// replies to the lines that end within them stand in the sink.
+    /// The session has more than [`MAX_SESSION_BYTES`] bytes, and no line `quit` that ends within
+    /// the first so many. The replies to the lines that end within them stand in the sink.
     #[error("the session is too long")]
     TooLong,
 }
 
 /// Hears a session line by line, to its end or to its first line `quit`, and writes the reply to each.
-/// It takes 4,096 bytes at a time, and answers the lines that end in them before it takes more. The
-/// last line may lack its newline.
+/// It takes at most 4,096 bytes at a time, and answers the lines that end in them before it takes
+/// more. The last line may lack its newline.
 ///
 /// The bytes may come in any pieces, and without an end: no more than the greatest number of a session
 /// is heard, and each variant of [`HearError`] says when it comes. No memory is taken. Where the source
@@ -50,13 +50,18 @@ pub fn hear<S: Source, O: Sink, L: Ledger>(
     ensures ok { OnOk result (IsHeardOut (hall session.old (S.rest source.old) (O.written out.old)) (spot session.new (O.written out.new))) }
     ensures too_long { IsErrOf result HearError.TooLong → IsCutOff (hall session.old (S.rest source.old) (O.written out.old)) (spot session.new (O.written out.new)) }
 
-    // A fault has its cause, and each line of what was taken has its answer till then.
+    // A fault has its cause. At one of the source each whole line that was taken has its answer. At
+    // one of the sink a prefix was written of the answers to some first lines that were taken, and
+    // so of what may be told of the whole session.
     ensures read_fault { IsErrOf result HearError.ReadFault → GoesOn (hall session.old (S.rest source.old) (O.written out.old)) (hall session.new (S.rest source.new) (O.written out.new)) }
     ensures write_fault { IsErrOf result HearError.WriteFault → StopsShort (hall session.old (S.rest source.old) (O.written out.old)) (hall session.new (S.rest source.new) (O.written out.new)) }
     ensures prefix { IsErrOf result HearError.WriteFault → AreBehaviours session.old.parts → TellsPrefixOfAll (hall session.old (S.rest source.old) (O.written out.old)) (O.written out.new) }
     ensures reads { CausedBy HearError.ReadFault (S.faults source.old) (S.faults source.new) result }
     ensures writes { CausedBy HearError.WriteFault (O.faults out.old) (O.faults out.new) result }
 
+    // No more bytes are taken than a session may have and one piece. Once the session was heard,
+    // none are left or less than a piece was taken past its line `quit`. The source reads on from
+    // the same shelf, if it reads one, and the shelf's texts stay.
     ensures taken { GaveAtMost (MAX_SESSION_BYTES + PIECE_BYTES) (S.rest source.old) (S.rest source.new) }
     ensures past { OnOk result (IsAtEnd (S.rest source.new) ⊎ GaveQuit (PIECE_BYTES - 1) (S.rest source.old) (S.rest source.new)) }
     ensures borrowed { S.borrowed source.new ≡ S.borrowed source.old }

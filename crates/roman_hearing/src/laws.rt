@@ -4,7 +4,7 @@ ghost use Rattle.roman_hearing.specs.Laws.{RequestsAreOffered, OutcomesAreRelate
 ghost use Rattle.roman_hearing.specs.Several.{SeveralAreServed};
 ghost use Rattle.roman_hearing.specs.Words.{AnswersAreGreat, OpenIsGreat};
 
-/// A request that isn't refused is offered to at least one service.
+/// For a request that isn't refused at least one service is offered.
 pub fn requests_are_offered()
     ensures offered { RequestsAreOffered }
 {}
