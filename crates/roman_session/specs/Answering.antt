@@ -25,7 +25,8 @@ pub record AnsweredOn {T E : Type 0} (old : Situation) (line : List ℕ) (new : 
   pub step : Step old line text new
   pub gathers : Gathers before after holds (held ++ text) result
 
--- the same of an event of this shape
+-- the session went on by the step of an event of this shape: its text was taken behind what a page held, or where the sink
+-- failed a prefix of both was written
 pub record DoneOn {T E : Type 0} (old : Situation) (shape : LineShape) (new : Situation) (before after : Option (List ℕ)) (held holds : List ℕ) (result : Result T E) : Type 0 where
   pub text : List ℕ
   pub step : StepOn old shape text new
@@ -44,6 +45,6 @@ SeenStaysRelated old line new =
 abbrev pub next_after : Result LineShape LineError → Next
 next_after shape = if is_quit shape then Quit else More
 
--- whether it goes on after a line
+-- whether a session goes on after a line
 abbrev pub next_of : List ℕ → Next
 next_of line = next_after (shape_of line)

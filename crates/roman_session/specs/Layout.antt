@@ -20,8 +20,8 @@ situation_in a = record {
   list = map (entry_at (system_of a.relation.joint)) a.relation.order.list;
 }
 
--- the relation's list is complete, the situation is one, the catalogue is a document's, there is room for the greatest
--- number of services, the number is the current pair's, and the mask is of the services that are offered
+-- the relation's list is complete, the situation is one, the catalogue has at most as many behaviours as a document, there is
+-- room for the greatest number of services, the number is the current pair's, and the mask is of the services that are offered
 pub record IsSession (a : Inside) : Type 0 where
   pub relation : IsRelation a.relation.joint a.relation.order
   pub known : IsSituation (situation_in a)

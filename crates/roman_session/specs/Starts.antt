@@ -6,7 +6,7 @@ use Rattle.roman_start.specs.Starts.{parts_of, start_pair_of}
 use Rattle.roman_session.specs.Situations.{Situation, present_system}
 use Rattle.roman_session.specs.declared.phase.Phase.TheVariants.{Idle}
 
--- nothing was asked for yet, and the list is any complete one
+-- a session of the library in its starting states: no request is open, and the list is any complete one
 pub record IsStart (library : PlainLibrary) (s : Situation) : Type 0 where
   pub parts : s.parts ≡ parts_of library
   pub here : s.here ≡ start_pair_of library

@@ -93,11 +93,11 @@ pub record Changing : Type 0 where
 abbrev pub freezing : Situation → ℕ → Changing
 freezing s k = record { change = Freeze k; seats = with_frozen s.parts.seats k true; here = s.here }
 
--- it takes delegations again
+-- the service at place k takes delegations again
 abbrev pub thawing : Situation → ℕ → Changing
 thawing s k = record { change = Thaw k; seats = with_frozen s.parts.seats k false; here = s.here }
 
--- it is gone
+-- the service at place k is gone
 abbrev pub dying : Situation → ℕ → Changing
 dying s k = record { change = Die k (seat_at s k); seats = remove s.parts.seats k; here = without k s.here }
 

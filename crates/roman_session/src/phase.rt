@@ -1,7 +1,7 @@
 //! What a session waits for.
 
-/// What a session waits for. Actions have the numbers of the document, and services are named by their
-/// places.
+/// What a session waits for. Actions have their numbers in the library, where those of several
+/// targets are combined, and services are named by their places, both from 0.
 #[derive(Clone, Copy, Debug, PartialEq, Eq)]
 pub enum Phase {
     /// No request is open.

@@ -196,8 +196,8 @@ impl Session {
         self.phase = Phase::Offered(a);
     }
 
-    /// Moves the target, the environment and the service at place k to other states, where no request
-    /// is open then.
+    /// Moves the target, the environment and the service at place k to other states. No request is
+    /// open then.
     fn move_to(&mut self, t: u8, e: u8, k: u8, b: u8)
         requires pair { IsPair (present_system self.old) (moved self.old.here t e k b) }
         requires seat { k < length self.old.parts.seats }

@@ -135,7 +135,8 @@ impl Session {
         }
     }
 
-    /// Answers why there is no composition, on a page.
+    /// Answers `explain`: a refusal is taken on the page, and an explanation is written behind what
+    /// that held.
     fn answer_question<O: Sink, L: Ledger>(
         &mut self,
         page: &mut Page,
