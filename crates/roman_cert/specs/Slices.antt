@@ -13,13 +13,13 @@ use Rattle.roman_order.specs.Board.{Board, is_marked}
 unfoldable pub lost_text : NamedSys → Entry ℕ → List ℕ
 lost_text n x = text_of_lines (lost_line (names_in n) (entry_at (system_of n) x) ∷ [])
 
--- the lines that say how the ready services may answer the entry's action, where that is one of the list
+-- the lines that say how the ready services may answer the entry's action, where the entry is one of the list
 unfoldable pub answers_text : NamedSys → List (Entry ℕ) → Entry ℕ → List ℕ
 answers_text n L x =
     let s = system_of n in
     text_of_lines (answer_lines s (names_in n) (map (entry_at s) L) (pair_at (sizes_of s) x.node) x.reason)
 
--- both
+-- the lines that say which pair is lost and why, and how the ready services may answer
 unfoldable pub entry_text : NamedSys → List (Entry ℕ) → Entry ℕ → List ℕ
 entry_text n L x = lost_text n x ++ answers_text n L x
 
@@ -27,6 +27,6 @@ entry_text n L x = lost_text n x ++ answers_text n L x
 unfoldable pub marked_entries : Board → List (Entry ℕ)
 marked_entries board = filter (λ x. is_marked board x.node) board.list
 
--- both for each of those entries of the list, and the last line
+-- the lines of each of the entries M of the list L, and the last line
 unfoldable pub slice_text : NamedSys → List (Entry ℕ) → List (Entry ℕ) → List ℕ
 slice_text n L M = flat_map (entry_text n L) M ++ codes "end\n"
