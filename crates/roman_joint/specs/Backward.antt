@@ -17,22 +17,22 @@ abbrev pub from_states : Sys → Pair → ℕ → ℕ → ℕ → ℕ → List �
 from_states s q a e t k bs =
     map (λ b. record { node = number (sizes_of s) (record { t = t; e = e; bs = slice_set q.bs k b }); action = a; seat = k }) bs
 
--- those of a to seat k from t and e that lead to q
+-- the delegations of a to seat k from the target's state t and the environment's e that lead to q
 abbrev pub from_seat : Sys → Pair → ℕ → ℕ → ℕ → ℕ → List (Delegation ℕ)
 from_seat s q a e t k = from_states s q a e t k (seat_prev (slice_get s.seats k) (slice_index q.bs k) e a)
 
--- those of a from t and e, to any seat
+-- the delegations of a, to any seat, from the target's state t and the environment's e that lead to q
 abbrev pub from_target : Sys → Pair → ℕ → ℕ → ℕ → List (Delegation ℕ)
 from_target s q a e t = flat_map (from_seat s q a e t) (below (length s.seats))
 
--- those of a from e
+-- the delegations of a from the environment's state e that lead to q
 abbrev pub from_env : Sys → Pair → ℕ → ℕ → List (Delegation ℕ)
 from_env s q a e = flat_map (from_target s q a e) (beh_prev s.target q.t e a)
 
--- those of a
+-- the delegations of a that lead to q
 abbrev pub from_action : Sys → Pair → ℕ → List (Delegation ℕ)
 from_action s q a = flat_map (from_env s q a) (env_prev s.env q.e a)
 
--- all that lead to q
+-- all delegations that lead to q
 abbrev pub from_all : Sys → Pair → List (Delegation ℕ)
 from_all s q = flat_map (from_action s q) (below s.env.actions)

@@ -20,25 +20,25 @@ pub record Grows (old new : List ℕ) : Type 0 where
   pub long : length new ≡ length old
   pub still : (x : ℕ) → IsTrue (has_flag old x) → IsTrue (has_flag new x)
 
--- the row's own row at the target's t and the environment's e
+-- the row at the target's t and the environment's e at which the seats before the lanes are in the row's states
 abbrev pub row_at : Sys → Row → ℕ → ℕ → ℕ
 row_at s row e t = t * target_rows_of (sizes_of s) + e * env_rows_of (sizes_of s) + row.part
 
--- the rows from which seat k goes to the row by a, where the row at the states of the others is `base` and u rows lie between two of its states
+-- the rows are marked from which seat k goes by a, in environment state e, to its state in the row, where `base` is the row before with the seat in that state, and u rows lie between two of its states
 pub record MarksSeat (s : Sys) (row : Row) (marks : List ℕ) (a e base k : ℕ) : Type 0 where
   pub moved : (u b x : ℕ) → u * lanes_in s ≡ stride_of (sizes_of s) k → IsIn b (seat_prev (slice_get s.seats k) (slice_index row.states k) e a) →
       x + slice_index row.states k * u ≡ base + b * u → IsMarked marks x
 
--- the rows at t and e from which a leads to the row
+-- the rows at the target's t and the environment's e from which a leads to the row are marked
 pub record MarksTurn (s : Sys) (row : Row) (marks : List ℕ) (a e t : ℕ) : Type 0 where
   pub own : IsMarked marks (row_at s row e t)
   pub seats : (k : ℕ) → k < low_in s → MarksSeat s row marks a e (row_at s row e t) k
 
--- those at e
+-- the rows at the environment's e from which a leads to the row are marked
 pub record MarksEnv (s : Sys) (row : Row) (marks : List ℕ) (a e : ℕ) : Type 0 where
   pub turns : (t : ℕ) → IsIn t (beh_prev s.target row.target e a) → MarksTurn s row marks a e t
 
--- those from which a leads to the row
+-- the rows from which a leads to the row are marked
 pub record MarksAction (s : Sys) (row : Row) (marks : List ℕ) (a : ℕ) : Type 0 where
   pub envs : (e : ℕ) → IsIn e (env_prev s.env row.env a) → MarksEnv s row marks a e
 

@@ -16,11 +16,11 @@ pub record NamedSys : Type 0 where
   pub seats : List Seat
   pub limit : ℕ
 
--- these parts as one
+-- an environment, a catalogue, a target, services and a limit as a system with its names
 abbrev pub named_parts : NamedEnv → List NamedBeh → NamedTarget → List Seat → ℕ → NamedSys
 named_parts environment catalogue target seats limit = record { environment = environment; catalogue = catalogue; target = target; seats = seats; limit = limit }
 
--- one state, and no steps
+-- a behaviour of one state, with no final state and no steps
 abbrev pub still : Beh
 still = record { states = 1; start = 0; finals = []; steps = [] }
 
@@ -46,11 +46,11 @@ cells s = count (sizes_of s) * s.env.actions
 abbrev pub IsOverEnv : NamedEnv → NamedBeh → Type 0
 IsOverEnv environment beh = (beh.env_states ≡ environment.env.states) × (beh.actions ≡ environment.env.actions)
 
--- the target was
+-- the target was made over that environment
 abbrev pub TargetIsOverEnv : NamedEnv → NamedTarget → Type 0
 TargetIsOverEnv environment target = (target.env_states ≡ environment.env.states) × (target.actions ≡ environment.env.actions)
 
--- the parts are those of a system within the limit, and no two services have one name
+-- the parts are made over one environment and are those of a system within the limit, which is at most the greatest there is, and no two services have one name
 pub record IsNamedSys (n : NamedSys) : Type 0 where
   pub system : IsSys (system_of n)
   pub fits : cells (system_of n) ≤ n.limit

@@ -59,7 +59,7 @@ pub record IsRow (s : Sys) (x : ℕ) (row : Row) : Type 0 where
 abbrev pub is_open : Sys → Row → ℕ → Bool
 is_open s row a = not (is_empty (env_next s.env row.env a)) && not (is_empty (beh_next s.target row.target row.env a))
 
--- the action leads from the row to one state of the target and these of the environment; the rows of the first of all begin at `base`
+-- the action leads from the row to one state of the target and these of the environment; `base` is the row at that state of the target and state 0 of the environment
 pub record IsTurn (s : Sys) (row : Row) (a : ℕ) (turn : Turn) : Type 0 where
   pub to : ℕ
   pub target : beh_next s.target row.target row.env a ≡ to ∷ []
@@ -67,7 +67,7 @@ pub record IsTurn (s : Sys) (row : Row) (a : ℕ) (turn : Turn) : Type 0 where
   pub worlds : turn.envs.now ≡ env_next s.env row.env a
   pub some : IsFalse (is_empty turn.envs.now)
 
--- the lanes are those at which the environment's rows of the turn hold pairs that aren't gone
+-- the lanes are those at which no row of the turn, whichever state of the environment comes, holds a pair that is gone
 pub record AreAlive (s : Sys) (gone : ℕ → Bool) (turn : Turn) (alive : ℕ) : Type 0 where
   pub each : (lane : ℕ) → lane < lanes_in s → is_on alive lane ≡ not (list_any (λ e. gone ((turn.base + e * env_rows_of (sizes_of s)) * lanes_in s + lane)) turn.envs.now)
 

@@ -38,20 +38,20 @@ states_before s walk = seat_prev (slice_get s.seats walk.seat) (slice_index (goa
 abbrev pub left_of_seat : Sys → Walk → List (Delegation ℕ)
 left_of_seat s walk = from_states s (goal_of s walk) walk.action walk.env walk.target walk.seat (drop walk.states_taken (states_before s walk))
 
--- of the other services at these states
+-- what is left of the services behind the present one, at the same states of the environment and the target
 abbrev pub left_of_target : Sys → Walk → List (Delegation ℕ)
 left_of_target s walk = flat_map (from_seat s (goal_of s walk) walk.action walk.env walk.target) (drop (walk.seat + 1) (below (length s.seats)))
 
--- of the target's other states at this state of the environment
+-- what is left of the target's states that weren't taken, at the same state of the environment
 abbrev pub left_of_env : Sys → Walk → List (Delegation ℕ)
 left_of_env s walk =
     flat_map (from_target s (goal_of s walk) walk.action walk.env) (drop walk.targets_taken (beh_prev s.target (goal_of s walk).t walk.env walk.action))
 
--- of the environment's other states on this action
+-- what is left of the environment's states that weren't taken, on the same action
 abbrev pub left_of_action : Sys → Walk → List (Delegation ℕ)
 left_of_action s walk = flat_map (from_env s (goal_of s walk) walk.action) (drop walk.envs_taken (env_prev s.env (goal_of s walk).e walk.action))
 
--- and of the other actions
+-- what is left of the actions behind the present one
 abbrev pub left_of_all : Sys → Walk → List (Delegation ℕ)
 left_of_all s walk = flat_map (from_action s (goal_of s walk)) (drop (walk.action + 1) (below s.env.actions))
 

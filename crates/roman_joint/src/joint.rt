@@ -66,8 +66,8 @@ impl Model for Joint {
 impl Joint {
     /// The joint of these parts: a catalogue and a target that were made over this environment, and at
     /// most 32 services with distinct names, whose behaviours are places of the catalogue. The limit, 1
-    /// to 16,777,216, is on cells: pairs times actions. Places for 32 services are taken at once, so
-    /// that later changes take no memory.
+    /// to 16,777,216, is on cells: pairs times actions. Places for 32 services and their moves are
+    /// taken at once, so that later changes take no memory.
     ///
     /// `Limit` comes exactly where the cells exceed the limit, and `Memory` only where there is none.
     pub fn build(
@@ -171,8 +171,9 @@ impl Joint {
         &self.rows
     }
 
-    // The moves of the service at place k, within the lanes, on an action while the environment is in a
-    // state: the lanes that have an outcome, and where lanes go.
+    // The moves of the service at place k, within the lanes, on an action while the environment is
+    // in a state, whether it is frozen or not: the lanes from which its behaviour goes somewhere,
+    // and where lanes go.
     pub(crate) fn lane_moves(&self, k: u8, e: u8, a: u8) -> (u64, &[Move])
         requires within { low_in (system_of self.now) ≤ k }
         requires seat { k < length self.now.seats }

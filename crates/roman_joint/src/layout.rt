@@ -60,7 +60,7 @@ pub(crate) fn rows_of(shape: &Shape) -> Rows
     }
 }
 
-/// A stride in rows.
+/// A stride, in rows where `in_rows` says so, and else in lanes, as it is given.
 fn scaled(stride: u32, lanes: u32, in_rows: bool) -> u32
     requires { 0 < lanes }
     ensures { result ≡ (if in_rows then stride / lanes else stride) }

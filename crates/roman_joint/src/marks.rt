@@ -51,7 +51,8 @@ fn mark_moved(marks: &mut [u64], base: u64, b: u8, stride: u32, taken: u64)
     mark(marks, whole - taken);
 }
 
-/// Marks the rows from which a seat goes to the row's, where the row at the other states is `base`.
+/// Marks the rows from which a seat goes to its state in the row, where `base` is the row before
+/// with the seat in that state.
 fn mark_seat<L: Ledger>(
     joint: &Joint,
     row: &Row,

@@ -1,5 +1,6 @@
-//! Moves of services within the lanes: for each of them, each action and each state of the environment
-//! the lanes that have an outcome, and together those that go the same way.
+//! Moves of services within the lanes: for each of them, each action and each state of the
+//! environment the lanes from which its behaviour goes somewhere, and together those that go the
+//! same way. Whether a service is frozen makes no difference to them.
 ghost use Rattle.std.specs.Prelude.{◌≡◌, ◌+◌, ◌-◌, ◌*◌, ◌<◌, ◌≤◌, ◌++◌, ◌∷◌, [], ◌==◌, ◌^◌, if◌then◌else◌, length, slice_index, slice_range, vec_len, vec_capacity, IfOk};
 ghost use Rattle.roman_radix.specs.Rows.{low_of};
 ghost use Rattle.roman_joint.specs.NamedSys.{NamedSys, system_of};
@@ -17,9 +18,10 @@ use std::alloc::{AllocError, Global};
 /// The greatest number of services within the lanes.
 const MAX_SPANS: u32 = MAX_SERVICES as u32;
 
-/// The greatest number of ways that services within the lanes may go on one action while the
-/// environment is in one state: those with more than one state have at most 64 together, and each
-/// goes fewer ways than twice its states; the others go one way each.
+/// No fewer than the ways that services within the lanes may go on one action while the environment
+/// is in one state: the sizes of those with more than one state add up to at most 64, as their
+/// product is at most that, and each goes fewer ways than twice its size; the others go one way
+/// each.
 const MAX_MOVES: u32 = 2 * 64 + MAX_SPANS;
 
 /// Lanes from which a service goes the same way: lane l goes to lane `l + to - from`.
@@ -33,7 +35,7 @@ pub(crate) struct Move {
 /// Where the moves stand of a service on one action while the environment is in one state.
 #[derive(Clone, Copy, Debug)]
 pub(crate) struct Span {
-    /// The lanes that have an outcome.
+    /// The lanes from which the service's behaviour goes somewhere.
     pub(crate) some: u64,
     pub(crate) first: u32,
     pub(crate) end: u32,

@@ -1,4 +1,5 @@
-//! The behaviours of services, one after the other.
+//! The services of a joint: copies of them, their sizes and the shape of these, and where they
+//! rest.
 ghost use Rattle.std.specs.Prelude.{◌≡◌, ◌+◌, ◌/◌, ◌%◌, ◌≤◌, ◌<◌, ◌↔◌, ◌||◌, not, All, length, map, take, drop, slice_index, IsSome, IfSome, IfOk, vec_capacity};
 ghost use Rattle.std.specs.List.{AllByRecursion};
 ghost use Rattle.roman_model.specs.Lists.{product_of};

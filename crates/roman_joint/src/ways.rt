@@ -12,13 +12,13 @@ use crate::words::with_lanes;
 use roman_parts::Behaviour;
 use roman_radix::Shape;
 
-/// How many ways there are: from each state to each.
+/// The places for ways: 64 states go at most 127 ways, from each state to each.
 const WAYS: usize = 128;
 
 /// The lanes that go each way: way j goes up by j + 1 states, less the number of states.
 #[derive(Drop)]
 pub(crate) struct Ways {
-    /// The lanes that have an outcome.
+    /// The lanes from which the behaviour goes somewhere.
     pub(crate) some: u64,
     pub(crate) lanes: [u64; WAYS],
 }
