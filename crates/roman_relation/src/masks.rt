@@ -39,7 +39,7 @@ pub(crate) fn choices<J: Rules>(joint: &J, order: &Order) -> u64
     count
 }
 
-/// How many those of the pairs of a row have.
+/// How many seats the masks of the pairs of a row have together, over all actions: at most 65,536.
 fn row_choices<J: Rules>(joint: &J, order: &Order, x: u32) -> u64
     requires shaped { IsShaped (J.arena joint.now) (J.lanes joint.now) order.now }
     requires row { x < order.now.rows }

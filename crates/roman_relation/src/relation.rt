@@ -29,8 +29,10 @@ use std::sync::ledger::Ledger;
 /// Behavior Composition Synthesis" (Artificial Intelligence 196, 2013).
 ///
 /// The two fields can be lent apart. What the calls say of the greatest ND-simulation they say where
-/// the list is [complete](Relation::build): it holds exactly the pairs that aren't related, and nothing
-/// waits.
+/// the list is [complete](Relation::build): it holds exactly the pairs that aren't related, and
+/// nothing waits. The order must be shaped for the joint, as [`build`](Relation::build) leaves it;
+/// [`afresh`](Relation::afresh) and [`reset_to`](Relation::reset_to) shape it themselves, and need
+/// the room that `build` reserves.
 #[derive(Drop)]
 pub struct Relation {
     /// The system.

@@ -26,7 +26,7 @@ pub(crate) fn list_unfine<J: Rules>(joint: &J, order: &mut Order)
     }
 }
 
-/// Lists those of the row `x`.
+/// Lists the pairs of the row `x` that aren't listed and don't meet clause 2.
 fn list_unfine_row<J: Rules>(joint: &J, order: &mut Order, x: u32)
     requires shaped { IsShaped (J.arena joint.now) (J.lanes joint.now) order.old }
     requires row { x < order.old.rows }
