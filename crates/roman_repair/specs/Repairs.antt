@@ -39,6 +39,6 @@ pub record IsBegun (joint : NamedSys) (order : Board) : Type 0 where
 abbrev pub fall_of : NamedSys → Board → Tally → ℕ
 fall_of joint order tally = fall (numbered (system_of joint)) (drop tally.kept order.list)
 
--- the steps are at most the fall and one reading of the new system
+-- the steps are at most the fall, and as many more as the new system has delegations of an allowed action to a ready seat
 abbrev pub IsWithinReading : NamedSys → Board → Tally → ℕ → ℕ → Type 0
 IsWithinReading joint order tally before now = now ≤ before + (fall_of joint order tally + readings (numbered (system_of joint)))

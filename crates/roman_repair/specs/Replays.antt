@@ -17,7 +17,7 @@ abbrev pub is_possible : Arena ℕ → ℕ → Reason → Bool
 is_possible A p Final = true
 is_possible A p (Act a) = A.allows p a
 
--- entries that may be kept after those of a list: their nodes are distinct, and none of them is listed
+-- entries that may be kept after those of a list: their nodes are distinct nodes of the arena, none of which is listed, and their actions are allowed there
 pub record AreCandidates (A : Arena ℕ) (kept L : List (Entry ℕ)) : Type 0 where
   pub once : HasNoRepeats (nodes_of L)
   pub new : (x : Entry ℕ) → IsIn x L → IsFalse (has_entry kept x.node)

@@ -18,11 +18,12 @@ use std::sync::ledger::Ledger;
 /// Adds a service, which is ready and whose name is new, at the last place; its behaviour is a place of
 /// the catalogue. Each entry of the old list becomes one for each state of the newcomer, and these are
 /// replayed: one is kept exactly where those kept before it justify it. No memory is taken. The steps
-/// are at most as many as delegations lead to the pairs that are added, and one reading of the new
-/// system.
+/// are at most as many as delegations lead to the pairs that are added, and as many more as there
+/// are delegations of an allowed action to a ready service in the new system.
 ///
 /// `Full` comes exactly where there are 32 services, and `Limit` exactly where there are fewer and the
-/// system with the service has more cells than the limit. The relation then stays as it is.
+/// system with the service has more cells than the limit. The relation then stays as it is, and no
+/// step is counted.
 pub fn join<L: Ledger>(
     relation: &mut Relation,
     seat: Seat,

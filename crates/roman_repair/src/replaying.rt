@@ -146,7 +146,8 @@ fn keep_entry<J: Rules, L: Ledger>(
 /// Replays the entries that wait, after those of the list. Each stands for the pairs to which its own
 /// is grown where a service with so many states comes last, or for its own, where `states` is 1.
 ///
-/// No row is asked twice about a reason while it goes on to hold, and none about an entry more than once.
+/// Nothing is asked about a pair that lies in the row that was asked last, for the same reason, if
+/// that held there then. About any other pair its row is asked once.
 pub(crate) fn replay<J: Rules, L: Ledger>(
     joint: &J,
     order: &mut Order,

@@ -31,7 +31,8 @@ pub(crate) fn settle_on<L: Ledger>(relation: &mut Relation, steps: &mut Steps<L>
 }
 
 /// Replays the list that waits, each entry for so many pairs, and goes on to a complete one. At most
-/// one reading goes into the replay.
+/// as many steps go into the replay as there are delegations of an allowed action to a ready
+/// service.
 pub(crate) fn replay_and_settle_on<L: Ledger>(
     relation: &mut Relation,
     states: u8,

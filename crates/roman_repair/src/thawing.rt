@@ -16,7 +16,8 @@ use std::sync::ledger::Ledger;
 
 /// Makes the service at place k ready, which is frozen. The old list is replayed: an entry is kept
 /// exactly where those kept before it still justify it. No memory is taken. The steps are at most as
-/// many as delegations lead to the pairs that are added, and one reading of the new system.
+/// many as delegations lead to the pairs that are added, and as many more as there are delegations
+/// of an allowed action to a ready service in the new system.
 pub fn thaw<L: Ledger>(relation: &mut Relation, k: u8, steps: &mut Steps<L>) -> Tally
     requires relation { IsRelation relation.old.joint relation.old.order }
     requires place { k < length relation.old.joint.seats }
