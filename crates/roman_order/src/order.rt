@@ -62,10 +62,10 @@ impl Model for Order {
 }
 
 impl Order {
-    /// Makes an order for at most `cap_pairs` pairs, which is shaped for no rows. It reserves room for
-    /// as many entries, for as many again that wait, and for words, places, marks and levels; none of
-    /// it is written, so the pages of what isn't used stay untouched. No other call but
-    /// [`copy`](Order::copy) takes memory. The one error is that there is no memory.
+    /// Makes an order for at most `cap_pairs` pairs, which is shaped for no rows. It reserves room
+    /// for as many entries, for as many again that wait, and for words, kept words, places, marks
+    /// and levels; none of it is written, so the pages of what isn't used stay untouched. No other
+    /// call but [`copy`](Order::copy) takes memory. The one error is that there is no memory.
     pub fn build(alloc: Global, cap_pairs: u32) -> Result<Order, AllocError>
         ensures { IfOk result (λ order. order ≡ record {
           cap_pairs = cap_pairs;
@@ -95,8 +95,9 @@ impl Order {
         })
     }
 
-    /// Makes an equal order with tables of its own and the same room, in one pass over what the tables
-    /// hold. The one error is that there is no memory.
+    /// Makes an equal order with tables of its own and the same room, in one pass over what the
+    /// tables hold. Places that [`place_all`](Order::place_all) made aren't copied. The one error
+    /// is that there is no memory.
     pub fn copy(&self, alloc: Global) -> Result<Order, AllocError>
         ensures { IfOk result (λ order. order ≡ self.now) }
     {
@@ -214,8 +215,9 @@ impl Order {
         Some((entry.pair, entry.reason))
     }
 
-    /// Tells a prover what holds of every order: the pairs of the list differ and are in range, and each
-    /// table is as long as the shape needs. It does nothing.
+    /// Tells a prover what holds of every order: the pairs of the list differ and are in range,
+    /// there is room for the pairs of the shape, a row has 1 to 64 of them, and the marks and the
+    /// kept words are as many as the shape needs. It does nothing.
     pub fn known(&self)
         ensures distinct { IsDistinct (λ x y. x == y) (nodes_of self.now.list) }
         ensures in_range { (p : ℕ) → has_entry self.now.list p ≡ true → p < pairs_of self.now }
