@@ -157,12 +157,14 @@ impl Asked {
         has_lane(lanes, lane)
     }
 
-    /// Whether a reason, with an action of the system, holds at the pair `p`, where the words tell the
-    /// pairs that aren't gone, row by row. Nothing is asked where that is known: the row was asked
-    /// about the same reason before, and it held there. Afterwards the row is that of the pair.
+    /// Whether a reason holds at the pair `p`, where the words tell the pairs that aren't gone, row
+    /// by row. The action of the reason, if it has one, must be one of the system, and no pair may
+    /// have come back that was gone when the row was asked. Nothing is asked where the answer is
+    /// known: the pair's row was the last that was asked, about the same reason, and it held there.
+    /// Afterwards the row is that of the pair.
     ///
-    /// A step is counted for each ready seat where the row is asked, and none where the action isn't
-    /// allowed.
+    /// A step is counted for each ready seat where the row is asked about an action that is allowed
+    /// there, and else none.
     pub fn holds<J: Rules, L: Ledger>(
         &mut self,
         joint: &J,

@@ -111,7 +111,9 @@ pub trait Rules {
             result ≡ sum_by (λ lane. length (mask_of (arena self.now) gone (x * lanes self.now + lane) a)) (below (lanes self.now)) }
         ensures few { result ≤ 2048 };
 
-    /// Those of the pairs `wanted` of a row at which the action `a` is allowed and no seat serves it.
+    /// Those of the pairs `wanted` of a row at which the action `a` is allowed and no seat serves
+    /// it. The words tell the pairs that aren't gone, row by row; no bit is set that `wanted`
+    /// doesn't have.
     fn unserved(&self, row: &Self::Row, words: &[u64], a: u8, wanted: u64) -> u64
         requires row { (x : ℕ) × is_row self.now x row.now }
         requires action { a < (arena self.now).actions }
@@ -143,8 +145,9 @@ pub trait Rules {
         ensures cost { (x lane : ℕ) → is_row self.now x row.now → lane < lanes self.now → is_on lost lane ≡ true →
             steps.new ≤ steps.old + length (predecessors (arena self.now) (x * lanes self.now + lane)) };
 
-    /// Looks for an outcome of the action `a` at the pair `p`, delegated to seat `k`, whose pair isn't
-    /// alive. The action must be allowed there, and the seat ready. One step is counted.
+    /// Looks for the first outcome of the action `a` at the pair `p`, delegated to seat `k`, whose
+    /// pair isn't alive. The action must be allowed there, the seat ready, and `alive` may be
+    /// called at every pair. Exactly one step is counted.
     fn examine<F: Fn(u32) -> bool, L: Ledger>(
         &self,
         alive: &F,
