@@ -77,7 +77,7 @@ abbrev pub opened : Texts → List ℕ → Part → Data → Option (List ℕ) �
 opened texts document part d None = Ok (document, d)
 opened texts document part d (Some file) = value_at texts file part >>= (λ value. Ok (file, value))
 
--- the same, of a value that may name a file
+-- what a value stands for, itself or the value of the file that it names, with the document in which that stands
 unfoldable pub part_of : Texts → List ℕ → Part → Data → Result (List ℕ × Data) Refusal
 part_of texts document part d = placed document part (file_of d) >>= opened texts document part d
 
@@ -97,7 +97,7 @@ listed_in at read texts document env before i d = do
   (file, value) ← part_of texts document (at i) d
   placed file (at i) (read env before value)
 
--- the same, put behind those before it
+-- part i of a list, read after those before it and put behind them
 unfoldable pub listed_step : {X : Type 0} → PartAt → ReadAfter X → Texts → List ℕ → NamedEnv → ℕ → List X → Data → Result (List X) Refusal
 listed_step at read texts document env i before d = listed_in at read texts document env before i d >>= (λ x. Ok (before ++ x ∷ []))
 
@@ -121,11 +121,11 @@ environment_in texts document d = do
 unfoldable pub new_behaviour_of : NamedEnv → List NamedBeh → Data → Result NamedBeh PartError
 new_behaviour_of env before d = new_name_of (map behaviour_name before) d >>= (λ name. behaviour_of env d)
 
--- behaviour i, after those before it
+-- behaviour i of a document, read after those before it
 abbrev pub behaviour_in : Texts → List ℕ → NamedEnv → List NamedBeh → ℕ → Data → Result NamedBeh Refusal
 behaviour_in texts document env before i d = listed_in part.Behaviour new_behaviour_of texts document env before i d
 
--- the same, put behind those before it
+-- behaviour i, read after those before it and put behind them
 abbrev pub behaviour_step : Texts → List ℕ → NamedEnv → ℕ → List NamedBeh → Data → Result (List NamedBeh) Refusal
 behaviour_step texts document env = listed_step part.Behaviour new_behaviour_of texts document env
 

@@ -37,7 +37,7 @@ IsCause old new error.Fault = Rose old new
 IsCause old new (error.Refused refusal) = new ≡ old
 IsCause old new error.Memory = new ≡ old
 
--- so it did where the answer is an error, and it stayed where it is none
+-- a count of faults rose where the answer is a fault, and stayed elsewhere
 abbrev pub CausesLoad : {T : Type 0} → ℕ → ℕ → Result T LoadError → Type 0
 CausesLoad old new (Ok x) = new ≡ old
 CausesLoad old new (Err e) = IsCause old new e

@@ -25,7 +25,7 @@ pub record NamesTargets (texts : Texts) (document : List ℕ) (said : PlainTarge
   pub catalogue : catalogue_in texts document said.environment value ≡ Ok said.catalogue
   pub targets : targets_in texts document said.environment value ≡ Ok said.targets
 
--- they are known, no rule forbids to combine them, and the library has what combines them
+-- what the document says is in range, no rule forbids to combine its targets, and the library has what combines them
 pub record CombinesTargets (said : PlainTargets) (library : PlainLibrary) : Type 0 where
   pub known : IsEnv said.environment.env
   pub behaviours : IsCatalogue said.environment said.catalogue

@@ -5,8 +5,9 @@ ghost use Rattle.roman_library.specs.Reads.{DocumentListsAreRead};
 ghost use Rattle.roman_library.specs.Targets.{TargetsAreCombined, AcceptedNameTargets};
 ghost use Rattle.roman_library.specs.Written.{LibrariesAreSaid};
 
-/// What an accepted document means is a library: its parts are over one environment, its numbers are
-/// in range, and its names are apart.
+/// What an accepted document means is a library: its parts are over one environment, which has a
+/// name for each of its states and actions, its numbers are in range, the limits hold, and no two
+/// of its behaviours and no two of its services have one name.
 pub fn libraries_are_known()
     ensures known { LibrariesAreKnown }
 {}

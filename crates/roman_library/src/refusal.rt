@@ -21,7 +21,7 @@ pub enum Part {
     Service(u32),
     /// The target with this number, from 0; 0 also where there is only one.
     Target(u32),
-    /// The costs of a request for advice, which stand in a document of their own.
+    /// The costs that advice goes by, which stand in a text of their own.
     Costs,
 }
 
@@ -36,7 +36,9 @@ pub struct Refusal {
     pub part: Part,
     /// The member or list of that part.
     pub list: List,
-    /// The number of the item in that list, from 0; 0 for a member that is no list.
+    /// The number of the item in that list, from 0; 0 also for the list as a whole, and for a
+    /// member that is no list. A broken rule on combined targets has its own number there, from 1
+    /// to 4.
     pub index: u32,
 }
 

@@ -22,9 +22,10 @@ use roman_read::Kind;
 use serde_json::Value;
 use std::alloc::Global;
 
-/// The fewest and the most targets.
+/// The fewest targets of a document that has several.
 const FEWEST: u32 = 2;
 
+/// The most targets of a document that has several.
 const MOST: u32 = 4;
 
 /// The version whose documents have several targets.
