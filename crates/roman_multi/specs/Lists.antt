@@ -26,7 +26,7 @@ flat sizes = record { target = 1; env = 1; seats = sizes }
 abbrev pub used_by : ℕ → ℕ → Beh → ℕ → List Request
 used_by env_states actions target place = map (λ a. record { target = place; action = a }) (filter (uses env_states target) (below actions))
 
--- the same, where there is a target
+-- the requests of the target at that place, or none where no target stands there
 abbrev pub used_at : ℕ → ℕ → Option Beh → ℕ → List Request
 used_at env_states actions None place = []
 used_at env_states actions (Some target) place = used_by env_states actions target place

@@ -21,9 +21,10 @@ use roman_radix::Shape;
 use roman_read::NameTable;
 use std::alloc::{AllocError, Global};
 
-/// The 2 to 4 targets as one, with the environment and the catalogue over its actions. All of them are
-/// over `env`. The actions are, target by target, those that stand in some step of the target, each
-/// named by the action and the target; the states are those of the targets together.
+/// The 2 to 4 targets as one, with the environment and the catalogue over its actions. The targets
+/// and the catalogue are over `env`. The actions are, target by target, those that stand in some
+/// step of the target, each named by the action, a dash and the target. The states are the lists of
+/// one state for each target, the last one's changing fastest; their names join those by dashes.
 ///
 /// `States`, `Actions`, `LongName` and `Repeated` come exactly where their rules are broken, the first
 /// of them in this order, and `Memory` only where there is none.

@@ -6,7 +6,8 @@ ghost use Rattle.roman_multi.specs.declared.error.CombineError.TheVariants.{Memo
 use std::alloc::{AllocError, AllocFailed};
 use thiserror::Error;
 
-/// Why targets aren't combined: the first rule that forbids it, in the order of the variants.
+/// Why targets aren't combined: the first rule that forbids it, in the order of the variants, or
+/// want of memory.
 #[derive(Clone, Copy, Debug, PartialEq, Eq, Error)]
 pub enum CombineError {
     /// There are more than 64 combined states.
