@@ -3,7 +3,7 @@ use Rattle.std.specs.Prelude.{◌≡◌, ℕ, ◌+◌, ◌*◌, ◌<◌, ◌==�
 use Rattle.std.specs.List.{list_any}
 use Rattle.roman_guard.specs.Meaning.{has_state}
 
--- cell k has n
+-- the mask of cell k has state n
 unfoldable pub cell_has : List ℕ → ℕ → ℕ → Bool
 cell_has masks k n = has_state (slice_index masks k) n
 
@@ -19,7 +19,7 @@ is_triple t e a e' = t.0 == e && t.1 == a && t.2 == e'
 unfoldable pub leads : List (ℕ × ℕ × ℕ) → ℕ → ℕ → ℕ → Bool
 leads steps e a e' = list_any (λ t. is_triple t e a e') steps
 
--- the same, from the state that it leads to
+-- some step is (e, a, e'), asked from the state e' that it leads to
 unfoldable pub leads_back : List (ℕ × ℕ × ℕ) → ℕ → ℕ → ℕ → Bool
 leads_back steps e' a e = leads steps e a e'
 
@@ -35,7 +35,7 @@ is_move m b e a b' = m.0 == b && m.2 == a && has_state m.1 e && m.3 == b'
 unfoldable pub goes : List (ℕ × ℕ × ℕ × ℕ) → ℕ → ℕ → ℕ → ℕ → Bool
 goes steps b e a b' = list_any (λ m. is_move m b e a b') steps
 
--- the same, from the state that it goes to
+-- some step is (b, G, a, b') with e in G, asked from the state b' that it goes to
 unfoldable pub goes_back : List (ℕ × ℕ × ℕ × ℕ) → ℕ → ℕ → ℕ → ℕ → Bool
 goes_back steps b' e a b = goes steps b e a b'
 

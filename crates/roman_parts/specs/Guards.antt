@@ -64,6 +64,7 @@ unfoldable mutual
   guards_of states i (array items) = each_guard states i items
   guards_of states i (object ms) = no_guard i
 
+  -- what each guard means, item by item
   pub each_guard : List (List ℕ) → ℕ → Items → Result (List (ℕ → Bool)) PartError
   each_guard states i no_items = Ok []
   each_guard states i (item d ds) = guard_of states i d >>= (λ set. each_guard states i ds >>= (λ sets. Ok (set ∷ sets)))

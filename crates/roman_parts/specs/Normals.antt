@@ -17,11 +17,11 @@ IsLess m n = m < n
 abbrev pub AreBefore : ℕ × ℕ × ℕ → ℕ × ℕ × ℕ → Type 0
 AreBefore x y = (x.0 < y.0) ⊎ ((x.0 ≡ y.0) × ((x.1 < y.1) ⊎ ((x.1 ≡ y.1) × (x.2 < y.2))))
 
--- the one triple comes before the other, by its numbers
+-- the one triple comes before the other, by its state, its action and the state it leads to
 abbrev pub IsTripleBefore : Triple → Triple → Type 0
 IsTripleBefore x y = AreBefore (x.from, x.action, x.to) (y.from, y.action, y.to)
 
--- so does the one step, whatever the guards are
+-- the one step comes before the other, by its state, its action and the state it goes to, whatever the guards are
 abbrev pub IsMoveBefore : Move → Move → Type 0
 IsMoveBefore x y = AreBefore (x.from, x.action, x.to) (y.from, y.action, y.to)
 
@@ -35,7 +35,7 @@ pub record IsNormalBeh (beh : Beh) : Type 0 where
   pub steps : Rises IsMoveBefore beh.steps
   pub guards : (m : Move) → IsIn m beh.steps → Rises IsLess m.guard × (m.guard ≢ [])
 
--- the form is normal, and has the same triples, for numbers in range
+-- the form is normal, and has the same numbers, and the same triples for numbers in range
 pub record IsNormalOfEnv (env normal : Env) : Type 0 where
   pub form : IsNormalEnv normal
   pub states : normal.states ≡ env.states
@@ -43,7 +43,7 @@ pub record IsNormalOfEnv (env normal : Env) : Type 0 where
   pub start : normal.start ≡ env.start
   pub same : (e a e' : ℕ) → e < env.states → a < env.actions → e' < env.states → has_triple normal e a e' ≡ has_triple env e a e'
 
--- the form is normal, and has the same steps and final states, for numbers in range
+-- the form is normal, and has the same numbers, and the same steps and final states for numbers in range
 pub record IsNormalOfBeh (env_states actions : ℕ) (beh normal : Beh) : Type 0 where
   pub form : IsNormalBeh normal
   pub states : normal.states ≡ beh.states
@@ -51,7 +51,7 @@ pub record IsNormalOfBeh (env_states actions : ℕ) (beh normal : Beh) : Type 0 
   pub final : (b : ℕ) → b < beh.states → is_final normal b ≡ is_final beh b
   pub same : (b e a b' : ℕ) → b < beh.states → e < env_states → a < actions → b' < beh.states → has_move normal b e a b' ≡ has_move beh b e a b'
 
--- normal forms are normal, and have the steps of the lists from which they come
+-- normal forms are normal, and have the numbers, steps and final states of the records from which they come
 pub record NormalFormsAreNormal : Type 0 where
   pub env : (env : Env) → IsNormalOfEnv env (normal_env env)
   pub beh : (env_states actions : ℕ) (beh : Beh) → IsNormalOfBeh env_states actions beh (normal_beh env_states actions beh)
@@ -70,7 +70,7 @@ pub record SameBeh (x y : Beh) : Type 0 where
   pub finals : (b : ℕ) → is_final x b ≡ is_final y b
   pub steps : (b e a b' : ℕ) → has_move x b e a b' ≡ has_move y b e a b'
 
--- two normal forms with the same steps are equal
+-- two normal forms with the same numbers, steps and final states are equal
 pub record NormalFormsAreUnique : Type 0 where
   pub env : (x y : Env) → IsNormalEnv x → IsNormalEnv y → SameEnv x y → x ≡ y
   pub beh : (x y : Beh) → IsNormalBeh x → IsNormalBeh y → SameBeh x y → x ≡ y

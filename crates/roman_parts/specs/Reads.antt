@@ -32,7 +32,7 @@ pub record IsNewName (before : List (List ℕ)) (d : Data) (name : List ℕ) : T
   pub named : IsTrue (is_name name)
   pub new : IsIn name before → ⊥
 
--- the first rule that such an item breaks: it is no text, the text is no name, or stands before
+-- the first rule that an item of a list of names breaks: it is no text, the text is no name, or stands before
 abbrev pub BreaksName : Place → ℕ → List (List ℕ) → Data → PartError → Type 0
 BreaksName list i before d e =
     IsNoText list i d e
@@ -46,7 +46,7 @@ pub record IsPlace (names : List (List ℕ)) (d : Data) (k : ℕ) : Type 0 where
   pub there : slice_get names k ≡ Some name
   pub first : (j : ℕ) → j < k → slice_get names j ≡ Some name → ⊥
 
--- the first rule that such an item breaks: it is no text, or none of the names
+-- the first rule that an item breaks which is to be one of the names: it is no text, or none of them
 abbrev pub BreaksPlace : List (List ℕ) → Place → ℕ → Data → PartError → Type 0
 BreaksPlace names list i d e = IsNoText list i d e ⊎ ((text : List ℕ) × (text_of d ≡ Ok text) × (IsIn text names → ⊥) × (e ≡ Refused Unknown list i))
 
@@ -72,7 +72,7 @@ pub record IsTripleItem (states actions : List (List ℕ)) (d : Data) (x : Tripl
 abbrev pub HasPlace : List (List ℕ) → Data → Type 0
 HasPlace names d = (k : ℕ) × IsPlace names d k
 
--- the first rule that such an item breaks: it is no list of three, or one of them names nothing, from the left
+-- the first rule that a step of an environment breaks: it is no list of three, or one of them is no text or names nothing, from the left
 abbrev pub BreaksTriple : List (List ℕ) → List (List ℕ) → ℕ → List Triple → Data → PartError → Type 0
 BreaksTriple states actions i before d e =
     IsNoRow 3 i d e
@@ -94,7 +94,7 @@ pub record IsMoveItem (env_states actions states : List (List ℕ)) (i : ℕ) (d
   pub action_is : IsPlace actions action x.action
   pub to_is : IsPlace states to x.to
 
--- the first rule that such an item breaks: it is no list of four, or one of them is refused, from the left
+-- the first rule that a step of a behaviour breaks: it is no list of four, or one of them is refused, from the left
 abbrev pub BreaksMove : List (List ℕ) → List (List ℕ) → List (List ℕ) → ℕ → List Move → Data → PartError → Type 0
 BreaksMove env_states actions states i before d e =
     IsNoRow 4 i d e

@@ -50,7 +50,7 @@ pub record IsNamed (names : List (List ℕ)) (g : GuardedBeh) : Type 0 where
   pub count : length names ≡ g.beh.states
   pub known : IsOver g.env_states g.actions g.beh
 
--- so is a target's, which is deterministic
+-- a target's automaton is in range and deterministic, and has a state for each of the names
 pub record IsNamedTarget (names : List (List ℕ)) (g : GuardedBeh) : Type 0 where
   pub count : length names ≡ g.beh.states
   pub known : IsOver g.env_states g.actions g.beh

@@ -85,7 +85,7 @@ pub record IsSayableEnv (env : NamedEnv) : Type 0 where
   pub form : IsNormalEnv env.env
   pub few : length env.env.triples ≤ MAX_STEPS
 
--- so is the behaviour, over that environment
+-- the behaviour over that environment is in range and in normal form, it has a name, the names of its states can be listed, and its steps aren't too many
 pub record IsSayableBeh (env : NamedEnv) (b : NamedBeh) : Type 0 where
   pub name : IsTrue (is_name b.name)
   pub states : CanList b.states MAX_STATES
@@ -96,7 +96,7 @@ pub record IsSayableBeh (env : NamedEnv) (b : NamedBeh) : Type 0 where
   pub form : IsNormalBeh b.beh
   pub few : length b.beh.steps ≤ MAX_STEPS
 
--- so is the target, and it is deterministic
+-- the target over that environment is in range, deterministic and in normal form, the names of its states can be listed, and its steps aren't too many
 pub record IsSayableTarget (env : NamedEnv) (t : NamedTarget) : Type 0 where
   pub states : CanList t.states MAX_STATES
   pub state_count : length t.states ≡ t.beh.states

@@ -55,7 +55,8 @@ pub enum PartError {
         kind: Kind,
         /// The member or list at which it is broken.
         list: List,
-        /// The number of the item, from 0; 0 for a member that is no list.
+        /// The number of the item, from 0; 0 also for the list as a whole, and for a member that is
+        /// no list.
         index: u32,
     },
     /// There is no memory for the part, or it has 2^32 final states or more.

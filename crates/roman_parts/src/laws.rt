@@ -5,7 +5,7 @@ ghost use Rattle.roman_parts.specs.Reads.{ListsAreRead};
 ghost use Rattle.roman_parts.specs.Written.{PartsAreSaid};
 
 /// In a normal form triples, steps, final states and guards rise without repeats, no guard is empty,
-/// and the steps are those of the lists from which it comes.
+/// and numbers, steps and final states are those of the record from which it comes.
 pub fn normal_forms_are_normal()
     ensures normal { NormalFormsAreNormal }
 {}

@@ -61,8 +61,9 @@ pub(crate) fn name_in(v: &Value, place: List, index: u32) -> Result<Name, PartEr
     }
 }
 
-/// The place of the name that a value is, among at most 64 names. `Refused` comes where the value is no
-/// text, or none of the names, and says that it is item `index` of that list. No memory is taken.
+/// The place of the name that a value is, among at most 64 names. `Refused` comes exactly where the
+/// value is no text, or none of the names, and names item `index` of the list `place`. No memory is
+/// taken.
 #[tactic(auto, unfolding(crate::specs::Lists::place_in))]
 pub fn place_in(names: &NameTable, v: &Value, place: List, index: u32) -> Result<u8, PartError>
     requires few { length names.now ≤ 64 }

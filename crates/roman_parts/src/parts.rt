@@ -71,8 +71,8 @@ pub fn read_target(alloc: Global, v: &Value, env: &Environment) -> Result<Target
 }
 
 #[tactic(auto, unfolding(crate::specs::Parts::name_of))]
-/// The name of a part: its member `name`. `Refused` comes where that is missing, is no text, or isn't
-/// a name.
+/// The name of a part: its member `name`. `Refused` comes exactly where the part is no object, or
+/// the member is missing, is no text, or isn't a name.
 pub fn read_name(v: &Value) -> Result<Name, PartError>
     ensures name { Gives (λ x. x) result (name_of (view v.now)) }
 {

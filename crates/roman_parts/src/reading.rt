@@ -54,8 +54,9 @@ pub(crate) fn list_member<'a>(
 }
 
 #[tactic(auto, using(crate::proofs::ReadingLemmas::counts), unfolding(crate::specs::Reading::counted_items))]
-/// The items of a member that is an array of so many items at least and at most. `Refused` comes where
-/// the member is missing, is no array, or has fewer or more, and names the list. No memory is taken.
+/// The items of a member that is an array of so many items at least and at most. `Refused` comes
+/// exactly where the value is no object, or the member is missing, is no array, or has fewer or
+/// more; it names the list `place`. No memory is taken.
 pub fn counted_member<'a>(
     v: &'a Value,
     name: &str,
