@@ -30,11 +30,11 @@ pub data LineShape : Type 0 where
 abbrev pub is_blank : ℕ → Bool
 is_blank byte = byte == 32 || byte == 9
 
--- any other byte
+-- a byte that is neither a space nor a tab
 abbrev pub is_part : ℕ → Bool
 is_part byte = not (is_blank byte)
 
--- some bytes
+-- there is a byte
 abbrev pub has_bytes : List ℕ → Bool
 has_bytes [] = false
 has_bytes (byte ∷ bytes) = true

@@ -13,8 +13,9 @@ pub fn split_lines()
     ensures only { (bytes : List ℕ) (lines : List (List ℕ)) (rest : List ℕ) → IsSplit bytes lines rest → (lines ≡ ended_lines bytes) × (rest ≡ unfinished bytes) }
 {}
 
-/// Each event has the words of its line, and those words alone are that event. Words without a shape
-/// are those of no event.
+/// Each event has the words of its line, and those words alone are that event, but for the event
+/// that gets no reply, which the words of comments are too. Words without a shape are those of no
+/// event.
 pub fn spell_events()
     ensures read { (event : LineShape) → shape_of_words (spelling event) ≡ Ok event }
     ensures only { (words : List (List ℕ)) (event : LineShape) → shape_of_words words ≡ Ok event → event ≢ nothing → words ≡ spelling event }

@@ -63,7 +63,7 @@ impl Splitter {
         &self.bytes[..self.len]
     }
 
-    /// Whether bytes of an unfinished line are held.
+    /// Whether any byte of the current line is held.
     pub fn rest(&self) -> bool
         ensures rest { result ≡ nat_lt 0 (length self.now) }
     {

@@ -110,7 +110,8 @@ impl Page {
         Ok(())
     }
 
-    /// Takes a byte and the name behind it, as [`Page::push`] takes bytes.
+    /// Takes a byte and the name behind it, as [`Page::push`] takes bytes, but puts what is held
+    /// first where fewer than 128 bytes have room.
     #[inline]
     pub fn push_name<O: Sink>(&mut self, before: u8, name: &Name, out: &mut O) -> Result<(), Failed>
         ensures gathers { Gathers (O.written out.old) (O.written out.new) self.new
@@ -147,7 +148,7 @@ impl Page {
         Ok(())
     }
 
-    /// Puts what is held where the longest line has no room behind it.
+    /// Puts what is held where the longest reply has no room behind it.
     fn make_room<O: Sink>(&mut self, out: &mut O) -> Result<(), Failed>
         ensures gathers { Gathers (O.written out.old) (O.written out.new) self.new self.old result }
         ensures room { OnOk result (length self.new + LONGEST ≤ PIECE_BYTES) }

@@ -5,7 +5,8 @@ use itoa::Buffer;
 use roman_read::Name;
 use std::marker::Model;
 
-/// The greatest number of bytes of a piece. No line, and no part of one, has more.
+/// The greatest number of bytes of a piece. No [`Reply`](crate::Reply) and no
+/// [`ReportLine`](crate::ReportLine) has more.
 pub(crate) const LONGEST: usize = 128;
 
 /// Up to 128 bytes that are put together from parts. Contracts see the list of them.

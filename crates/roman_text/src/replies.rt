@@ -27,7 +27,7 @@ pub enum Reply {
     Aborted,
     /// The services changed.
     Kept {
-        /// How many entries of the removal list the replay kept.
+        /// How many entries of the renamed removal list the replay kept.
         kept: u32,
         /// How many pairs were added to it after that.
         added: u32,
@@ -38,7 +38,7 @@ pub enum Reply {
     Bye,
     /// The line is no event.
     ErrorLine,
-    /// A word of the line names nothing.
+    /// A word of the line names nothing, or a service is to join under what isn't a name.
     ErrorName,
     /// A request is open.
     ErrorBusy,

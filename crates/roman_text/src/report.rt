@@ -48,7 +48,7 @@ pub enum ReportLine {
     End,
 }
 
-/// The bytes of a report line, or of the part of one, with the newline at its end.
+/// The bytes of a report line, with its newline, or of the part of one.
 pub fn report_piece(line: &ReportLine) -> Piece
     ensures { result ≡ line_text line.now }
 {

@@ -14,7 +14,8 @@ use roman_io::{Failed, Sink};
 use roman_read::Name;
 
 impl Page {
-    /// Takes a reply, as [`Page::push`] takes bytes.
+    /// Takes a reply, as [`Page::push`] takes bytes, but puts what is held first where fewer than
+    /// 128 bytes have room.
     pub fn push_reply<O: Sink>(&mut self, reply: &Reply, out: &mut O) -> Result<(), Failed>
         ensures gathers { Gathers (O.written out.old) (O.written out.new) self.new (self.old ++ reply_text reply.now) result }
         ensures cause { HasCause (O.faults out.old) (O.faults out.new) result }
