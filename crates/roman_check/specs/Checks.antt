@@ -24,7 +24,7 @@ pub record NoneAtFault (A : Arena ℕ) (before now : Option (List ℕ)) : Type 0
   pub gave : Gave before now taken
   pub none : faults A (ended_lines taken) (length (ended_lines taken)) ≡ []
 
--- no line was rejected
+-- the verdict is that the list is complete, and not that a line is at fault
 abbrev pub SaysGreatest : Verdict → Type 0
 SaysGreatest (Greatest related start) = Unit {0}
 SaysGreatest (Rejected line why) = ⊥

@@ -3,7 +3,7 @@ use Rattle.std.specs.Prelude.{◌≡◌, ◌≢◌, ℕ, ◌<◌, ◌≤◌, Lis
 use Rattle.std.specs.Str.Parse.{AllDigits}
 use Rattle.roman_check.specs.declared.numbers.TheConstants.{MOST_DIGITS}
 
--- one to ten bytes, of which none but a single one is a zero that leads
+-- one to ten bytes, the first of which is no zero unless it is the only one
 pub record IsTrim (text : List ℕ) : Type 0 where
   pub some : 0 < length text
   pub few : length text ≤ MOST_DIGITS

@@ -15,7 +15,7 @@ why_number Repeated = 2
 why_number Unjustified = 3
 why_number (Unlisted pair) = 4
 
--- so are the errors
+-- the errors are numbered from 1 on
 abbrev pub error_number : CheckError → ℕ
 error_number Fault = 1
 error_number TooLong = 2

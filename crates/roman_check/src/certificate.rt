@@ -61,7 +61,8 @@ fn read<J: Rules, S: Source, L: Ledger>(
 /// nothing past the first line at fault but the rest of one piece. `Fault` comes only where the
 /// source's count of faults rose, and then no line that was read whole is at fault. `TooLong` comes
 /// exactly where the certificate gave byte 268,435,457 before a line at fault. `Memory` comes only
-/// where there is none; nothing was then taken from the source.
+/// where there is none; nothing was then taken from the source. A word for each row of pairs is
+/// taken at the start, and no other memory.
 ///
 /// Where the source tells nothing of its bytes, the clauses speak of some bytes that it may have had.
 pub fn check<J: Rules, S: Source, L: Ledger>(

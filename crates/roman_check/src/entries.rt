@@ -9,8 +9,8 @@ ghost use Rattle.roman_check.specs.Readings.{entry_with, IsEndedAt, ReadsOff};
 use crate::numbers::{is_number, number_below, number_to, trim_below};
 use roman_model::Reason;
 
-/// As many bytes as an entry's line has at most, its newline too, and the bytes at which one is looked
-/// for: past that no test of an index is needed.
+/// No fewer bytes than are looked at for one entry, which are eleven for each of its two numbers:
+/// where so many follow, no test of an index is needed.
 const ROOM: usize = 24;
 
 /// Whether that is the first line of a certificate.
