@@ -8,7 +8,7 @@ use Rattle.roman_generator.specs.declared.sight.Sight.{Sight}
 abbrev pub CanMove : Sys → Pair → ℕ → ℕ → ℕ → ℕ → Type 0
 CanMove s p a k b e = SStep s p.bs p.e a k (slice_set p.bs k b) e
 
--- by such a step, and a target step, p becomes the pair with number q
+-- by a system step by a, delegated to seat k, to the seat's state b and the environment's e, and a target step, p becomes the pair with number q
 pub record Becomes (s : Sys) (p : Pair) (a k b e q : ℕ) : Type 0 where
   pub to : ℕ
   pub target : TStep s p.t p.e a to e

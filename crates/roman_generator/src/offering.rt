@@ -11,9 +11,10 @@ ghost use Rattle.roman_relation.specs.Greatest.{IsRelation};
 use roman_relation::Relation;
 use roman_rules::SeatSet;
 
-/// The services that may be offered for the action `a` at the pair `p`, which is related, where `a` is
-/// allowed: those that may serve it, whatever comes of it. There is at least one, and no memory is
-/// taken.
+/// The services that may be offered for the action `a` at the pair `p`, which is related, where `a`
+/// is allowed: the ready ones that have an outcome on it, and only outcomes that are related. There
+/// is at least one, and no memory is taken. The relation's list must be complete, as
+/// [`Relation::build`] and the repairs leave it.
 ///
 /// These are the offers of the orchestrator generator of De Giacomo, Patrizi and Sardina, "Automatic
 /// Behavior Composition Synthesis" (Artificial Intelligence 196, 2013).
