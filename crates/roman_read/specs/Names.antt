@@ -8,7 +8,7 @@ use Rattle.std.specs.Str.{bytes_eq}
 abbrev pub is_name_byte : ℕ → Bool
 is_name_byte c = is_ascii_alphanumeric c || c == 95 || c == 45
 
--- 1 to 32 such bytes
+-- 1 to 32 bytes, each an ASCII letter, a digit, `_` or `-`
 abbrev pub is_name : List ℕ → Bool
 is_name bytes = nat_le 1 (length bytes) && nat_le (length bytes) 32 && list_all is_name_byte bytes
 

@@ -1,4 +1,4 @@
-//! Looks into a value.
+//! Looks into a value, which take no memory.
 ghost use Rattle.serde_json.specs.View.{view, items_view};
 ghost use Rattle.roman_read.specs.Json.{Finds, member_of, text_of, list_of, number_of, truth_of};
 

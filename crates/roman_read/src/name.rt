@@ -17,8 +17,9 @@ use std::marker::Model;
 /// The greatest number of bytes of a name.
 const LONGEST: usize = 32;
 
-/// The name of a state, an action, a behaviour or a service: 1 to 32 bytes, each an ASCII letter, a
-/// digit, `_` or `-`. It is `Copy` and kept in place. Contracts see the list of its bytes.
+/// The name of a state, an action, a behaviour, a target or a service: 1 to 32 bytes, each an ASCII
+/// letter, a digit, `_` or `-`. It is `Copy` and kept in place. Contracts see the list of its
+/// bytes.
 #[derive(Clone, Copy)]
 pub struct Name {
     bytes: [u8; LONGEST],

@@ -12,13 +12,14 @@ pub enum Kind {
     Missing,
     /// A value has the wrong shape.
     Form,
-    /// A text isn't a name.
+    /// A text isn't a name, or is too short or too long for that of a file, or a combined name is
+    /// too long.
     BadName,
     /// A name stands there already.
     Repeated,
     /// A text names nothing.
     Unknown,
-    /// There are too few or too many of something.
+    /// There are too few or too many of something, or a number is too small or too great.
     Count,
     /// Two transitions of a target go from one state by one action to different successors, in an
     /// environment state that the guards of both have.

@@ -13,7 +13,8 @@ use thiserror::Error;
 const FEW: usize = 8;
 
 /// Names that are numbered from 0 in the order in which they were added, none of them twice.
-/// Contracts see the list of them.
+/// Contracts see the list of them. Only [`add`](NameTable::add) and [`copy`](NameTable::copy) take
+/// memory.
 #[derive(Drop)]
 pub struct NameTable {
     names: IndexSet<Name>,

@@ -31,8 +31,9 @@ impl ParseError {
 }
 
 /// The JSON value (RFC 8259) that the bytes are, with at most 127 arrays and objects inside one
-/// another. Of a member that an object names twice the last value counts. `NotJson` comes exactly where
-/// the bytes are no UTF-8 or no such value, and `Memory` only where there is none.
+/// another, and no number too great for a float. Of a member that an object names twice the last
+/// value counts. `NotJson` comes exactly where the bytes are no UTF-8 or `serde_json` reads no
+/// value from them, and `Memory` only where there is none.
 #[tactic(auto, using(crate::proofs::JsonLemmas::json_of_text, crate::proofs::JsonLemmas::json_of_no_text))]
 pub fn parse(alloc: Global, bytes: &[u8]) -> Result<Value, ParseError>
     ensures parse { Parses bytes.now result }
