@@ -2,9 +2,10 @@
 //!
 //! A [`Shelf`] has texts by name, a [`Source`] gives bytes, and a [`Sink`] takes them. Each counts
 //! its faults, and its calls answer [`Failed`] exactly when they raise that count; a full counter
-//! stays full. Contracts may speak of an object's content only if its type tells it: those in
-//! memory do, and an adapter to a file or a terminal can't. [`Words`] are those of a command, and
-//! [`Steps`] counts work, for contracts alone. `specs/` says what each call gives and takes.
+//! stays full. Contracts may speak of an object's content only if its type tells it: those that
+//! keep it in memory do, and an adapter to a file or a terminal can't. [`Words`] are those of a
+//! command, and [`Steps`] counts work, for contracts alone. `specs/` says what each call gives and
+//! takes.
 #![tactic(auto)]
 
 mod calls;

@@ -17,9 +17,10 @@ pub trait Shelf {
     ghost faults: { Self → ℕ };
 
     /// Copies bytes of the text `name`, from the byte numbered `at` on, counted from 0, to the
-    /// beginning of `into`, and answers how many: at most as many as `into` has places. Into a place
-    /// that isn't empty it copies none exactly at or past the text's end. What stands in `into` past
-    /// that number is left open.
+    /// beginning of `into`, and answers how many: at most as many as `into` has places. Into a
+    /// place that isn't empty it copies none exactly at or past the text's end. What stands in
+    /// `into` past that number is left open. A name without a text stands for the empty text, if
+    /// the call doesn't fail.
     ///
     /// The error comes only where the count of faults rises.
     fn fetch(&mut self, name: &str, at: u64, into: &mut [u8]) -> Result<usize, Failed>

@@ -8,7 +8,7 @@ use std::marker::Brand;
 use std::sync::ledger::{Blank, Ledger};
 use std::test::Fail;
 
-/// Two texts under three names, one of which comes twice.
+/// Three texts under two names, one of which comes twice.
 fn files(alloc: Global) -> Result<Vec<(String, Vec<u8>)>, AllocError> {
     let mut files = Vec::new(alloc);
     for (name, text) in [("lamp", "on"), ("cell", "b0"), ("lamp", "off")] {
