@@ -22,11 +22,11 @@ pub record IsSizes (n : Sizes) : Type 0 where
 abbrev pub stride_of : Sizes → ℕ → ℕ
 stride_of n k = product_of (drop (k + 1) n.seats)
 
--- what one more state of the environment adds to it
+-- what one more state of the environment adds to a pair's number
 abbrev pub env_stride_of : Sizes → ℕ
 env_stride_of n = product_of n.seats
 
--- what one more state of the target adds to it
+-- what one more state of the target adds to a pair's number
 abbrev pub target_stride_of : Sizes → ℕ
 target_stride_of n = n.env * product_of n.seats
 

@@ -1,4 +1,4 @@
--- How pairs lie in rows: the last components, as many of them as have at most 64 states together, are a pair's lane in its row.
+-- How pairs lie in rows: the last components, as many of them as have sizes whose product is at most 64, are a pair's lane in its row.
 use Rattle.std.specs.Prelude.{ℕ, suc, ◌*◌, ltb, if◌then◌else◌, List, [], ◌∷◌, take, drop}
 use Rattle.roman_model.specs.Lists.{product_of}
 use Rattle.roman_model.specs.Numbers.{Sizes}

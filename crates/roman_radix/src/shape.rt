@@ -89,9 +89,9 @@ impl Shape {
         let _pairs = &self.pairs;
     }
 
-    /// How many components stand before the lanes, which are the last components, as many of them as
-    /// have at most 64 states together. At all pairs of a row the target, the environment and the
-    /// components before the lanes are in one state.
+    /// How many components stand before the lanes, which are the last components, as many of them
+    /// as have sizes whose product is at most 64. At all pairs of a row the target, the environment
+    /// and the components before the lanes are each in one state.
     pub fn low(&self) -> u8
         ensures value { result ≡ low_of self.now.seats }
         ensures within { result ≤ length self.now.seats }
