@@ -11,6 +11,6 @@ pub record HasLanes (lanes row : ℕ) (test : ℕ → Bool) (word : ℕ) : Type 
   pub each : (lane : ℕ) → lane < lanes → is_on word lane ≡ test (row * lanes + lane)
   pub rest : (lane : ℕ) → lanes ≤ lane → is_on word lane ≡ false
 
--- each word is that of its row
+-- each word has a bit for each number of its row that passes the test, and no other bit
 pub record AreRows (lanes : ℕ) (test : ℕ → Bool) (words : List ℕ) : Type 0 where
   pub each : (row : ℕ) → row < length words → HasLanes lanes row test (slice_index words row)

@@ -16,7 +16,7 @@ pub fn count_equal(values: &[u32], value: u32) -> usize
     count + equal_cells(&values[blocks * LANES..], value)
 }
 
-/// The same by a plain loop, for the numbers that no whole block has.
+/// How many of the numbers are `value`, by a plain loop, for those that no whole block has.
 fn equal_cells(values: &[u32], value: u32) -> usize
     ensures counted { result ≡ count_by (λ x. x == value) values.now }
     ensures bound { result ≤ length values.now }
