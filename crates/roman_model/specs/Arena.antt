@@ -40,7 +40,7 @@ abbrev pub is_justified : {N : Type 0} → Arena N → (N → Bool) → N → Re
 is_justified A gone p Final = not (A.fine p)
 is_justified A gone p (Act a) = A.allows p a && all_below (is_beaten A gone p a) A.seats
 
--- the seats that have an outcome on the action, and none that is gone, rising
+-- the seats that have an outcome on the action, and none that is gone, rising; none where the action isn't allowed
 abbrev pub mask : {N : Type 0} → Arena N → (N → Bool) → N → ℕ → List ℕ
 mask A gone p a = if A.allows p a then filter (λ k. not (is_beaten A gone p a k)) (below A.seats) else []
 

@@ -142,7 +142,7 @@ greatest s start = Greatest (related_count s) (is_related s (pair_at (sizes_of s
 abbrev pub IsWithinCells : Sys → Type 0
 IsWithinCells s = count (sizes_of s) * s.env.actions ≤ MAX_CELLS
 
--- the certificate of a complete list is accepted
+-- the certificate of a complete list is accepted, where the system has few enough cells
 abbrev pub WrittenIsGreatest : Type 0
 WrittenIsGreatest = (s : Sys) (start : ℕ) (L : List (Entry ℕ)) → IsSys s → IsWithinCells s → start < count (sizes_of s) →
     ((x : Entry ℕ) → IsIn x L → x.node < count (sizes_of s)) → IsCompleteList s L →
@@ -154,7 +154,7 @@ pub record AcceptedIsComplete (s : Sys) (start : ℕ) (bytes : List ℕ) (relate
   pub complete : IsCompleteList s (entries_on (numbered s) (lines bytes))
   pub said : Greatest related starts ≡ greatest s start
 
--- what is accepted is complete
+-- what is accepted of a system with few enough cells is complete
 abbrev pub GreatestIsComplete : Type 0
 GreatestIsComplete = (s : Sys) (start : ℕ) (bytes : List ℕ) (related : ℕ) (starts : Bool) → IsSys s → IsWithinCells s → start < count (sizes_of s) →
     cert_verdict (numbered s) start bytes ≡ Greatest related starts → AcceptedIsComplete s start bytes related starts

@@ -104,6 +104,6 @@ pub record CombinedServesAll (w : Several) : Type 0 where
   pub system : IsSys (combined w)
   pub great : (p : Pair) → IsPair (combined w) p → Great (combined w) p ↔ GreatAll w (couple_all w p)
 
--- so it is for whatever targets are within the limits
+-- whatever targets are within the limits, their combined system is one, and a pair of it is related exactly where some simulation of all of them holds it
 abbrev pub CombinedIsAll : Type 0
 CombinedIsAll = (w : Several) → IsSeveral w → CombinedServesAll w

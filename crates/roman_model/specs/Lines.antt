@@ -32,6 +32,6 @@ text_of_lines lines = flat_map (λ line. line ++ 10 ∷ []) lines
 abbrev pub IsLine : List ℕ → Type 0
 IsLine line = IsFalse (has line 10)
 
--- nor has any of them
+-- no line has a newline in it
 abbrev pub AreLines : List (List ℕ) → Type 0
 AreLines ls = (line : List ℕ) → IsIn line ls → IsLine line

@@ -45,7 +45,7 @@ states_number [] bs = 0
 states_number (size ∷ sizes) [] = 0
 states_number (size ∷ sizes) (b ∷ bs) = b * product_of sizes + states_number sizes bs
 
--- the list of that number
+-- the list of one state for each seat that has that number
 abbrev pub states_at : List ℕ → ℕ → List ℕ
 states_at [] i = []
 states_at (size ∷ sizes) i = i / product_of sizes ∷ states_at sizes (i % product_of sizes)

@@ -66,7 +66,7 @@ least s C (suc h) p = max_over (λ a. through s C (least s C h) p a (choice_by s
 abbrev pub choice : Sys → Costs → ℕ → Pair → ℕ → ℕ
 choice s C h p a = choice_by s C (least s C h) p a
 
--- the plan that takes that seat at each pair
+-- the plan that takes the seat of `choice` at each pair
 abbrev pub chosen : Sys → Costs → ℕ → Pair → Plan
 chosen s C zero p = Leaf
 chosen s C (suc h) p = Node (choice s C h p) (λ a q. chosen s C h q)
@@ -84,7 +84,7 @@ pub record LeastIsLeast (s : Sys) (C : Costs) (h : ℕ) (p : Pair) : Type 0 wher
   pub none_less : (plan : Plan) → IsPlan s h p plan → least s C h p ≤ worst s C p plan
   pub choice : (a : ℕ) → IsTrue (is_allowed s p a) → IsChoice s C h p a (choice s C h p a)
 
--- at each related pair
+-- at each related pair the plan that takes the choices is one, and no plan has less than its worst cost
 abbrev pub PlansCostLeast : Type 0
 PlansCostLeast = (s : Sys) (C : Costs) (h : ℕ) (p : Pair) → IsSys s → IsPair s p → Great s p → LeastIsLeast s C h p
 

@@ -3,14 +3,16 @@
 ghost use Rattle.roman_model.specs.Certificate.{GreatestIsComplete, WrittenIsGreatest};
 ghost use Rattle.roman_model.specs.Explanation.{ExplanationIsLeast, ExplanationIsOrder};
 
-/// The certificate of a complete removal list is accepted: the verdict on it says how many pairs
-/// are related, and whether the start pair is.
+/// The certificate of a complete removal list is accepted, where the system has no more cells than
+/// a document may allow: the verdict on it says how many pairs are related, and whether the start
+/// pair is.
 pub fn written_is_greatest()
     ensures greatest { WrittenIsGreatest }
 {}
 
 /// A certificate that is accepted is a complete removal list, and the verdict on it says how many
-/// pairs are related, and whether the start pair is.
+/// pairs are related, and whether the start pair is. The system has no more cells than a document
+/// may allow.
 pub fn greatest_is_complete()
     ensures complete { GreatestIsComplete }
 {}

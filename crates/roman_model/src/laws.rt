@@ -49,7 +49,8 @@ pub fn offers_are_generator()
     ensures offered { OffersAreGenerator }
 {}
 
-/// Whoever starts at a related pair and follows the offers stays related.
+/// Whoever starts at a related pair and follows the offers stays at related pairs, at which clause
+/// 2 holds and each allowed action has an offer.
 pub fn following_stays()
     ensures related { FollowingStays }
 {}
@@ -66,14 +67,16 @@ pub fn depth_wins()
     ensures won { DepthWins }
 {}
 
-/// The depth of a pair is the least number of requests within which the opponent wins from it: a
-/// pair that isn't lost by then has a seat for each allowed action that holds out.
+/// The depth of a pair is the least number of requests within which the opponent wins from it, and
+/// a related pair has none. A pair that isn't lost within n requests meets clause 2, and one that
+/// isn't lost within n + 1 has for each allowed action a seat that has an outcome and leads to no
+/// pair lost within n.
 pub fn depth_is_least()
     ensures least { DepthIsLeast }
 {}
 
-/// At a related pair the plan that always takes the offered seat through which a request costs
-/// least has the least worst cost of all plans for that many requests.
+/// At a related pair the plan that always takes the first of the offered seats through which a
+/// request costs least has the least worst cost of all plans for that many requests.
 pub fn plans_cost_least()
     ensures least { PlansCostLeast }
 {}

@@ -11,8 +11,9 @@
 //! removal lists where the services change, and `NumberedChange` of those over numbers; `Play` has the
 //! opponent's game; `Certificate` and `Explanation` have their texts; `Plans` has what delegations cost
 //! at worst, and `Without` systems that lack some of their seats; `Several` has the simulations of
-//! several targets, and `Combined` the one system that stands for them. `Laws` has the laws that stand
-//! with no other subject. Each law is the contract of a function with an empty body.
+//! several targets, and `Combined` the one system that stands for them; `Lists` and `Lines` have
+//! words on lists, numbers and texts. `Laws` has the laws that stand with no other subject. Each
+//! law is the contract of a function with an empty body.
 #![tactic(auto)]
 
 mod certificates;
