@@ -20,7 +20,7 @@ offers s p a = mask (arena s) (λ q. not (is_related s q)) p a
 abbrev pub related_count : Sys → ℕ
 related_count s = length (filter (is_related s) (pairs s))
 
--- how many offers there are, over all pairs and actions
+-- how many seats can serve an action, over all pairs and actions, also at pairs that aren't related
 abbrev pub choice_count : Sys → ℕ
 choice_count s = choices (arena s) (λ q. not (is_related s q))
 

@@ -31,7 +31,7 @@ abbrev pub pair_without : Way → List ℕ → Pair → Pair
 pair_without way.Freeze K p = p
 pair_without way.Die K p = record { t = p.t; e = p.e; bs = leave_out (has K) p.bs }
 
--- whether the pair is related, how many pairs are, and how many offers there are
+-- whether the pair is related, how many pairs are, and how many seats can serve an action, over all pairs and actions
 pub record Outlook : Type 0 where
   pub composes : Bool
   pub related : ℕ

@@ -28,10 +28,10 @@ pub(crate) fn depths_by<J: Rules>(
     order.known();
     let pairs = joint.pairs();
     let mut depths = vec![in alloc; u32::MAX; pairs as usize]?;
-    // no pair is deeper than there are pairs
-    let deepest = order.levels().len().min(pairs as usize + 1);
+    // No pair is deeper than there are pairs.
+    let count = order.levels().len().min(pairs as usize + 1);
     let mut start = 0;
-    for n in 0..deepest {
+    for n in 0..count {
         let end = order.levels()[n];
         give_depth(order, &mut depths, start, end, n as u32);
         start = end;

@@ -47,6 +47,7 @@ fn choice_piece(kind: &Kind) -> Piece
     }
 }
 
+/// The word for what is wrong.
 fn word_of_kind(kind: &Kind) -> &'static [u8]
     ensures word { result.now ≡ kind_word kind.now }
     ensures short { length result.now ≤ 16 }
@@ -65,6 +66,7 @@ fn word_of_kind(kind: &Kind) -> &'static [u8]
     }
 }
 
+/// The word for the part of the document in which a rule is broken.
 fn word_of_part(part: &Part) -> &'static [u8]
     ensures word { result.now ≡ part_word part.now }
     ensures short { length result.now ≤ 16 }
@@ -79,6 +81,7 @@ fn word_of_part(part: &Part) -> &'static [u8]
     }
 }
 
+/// The number of that part among those with the same word, from 0.
 fn number_of_part(part: &Part) -> u32
     ensures { result ≡ part_number part.now }
 {
@@ -92,6 +95,7 @@ fn number_of_part(part: &Part) -> u32
     }
 }
 
+/// The word for the list or member in which a rule is broken.
 fn word_of_list(list: &List) -> &'static [u8]
     ensures word { result.now ≡ list_word list.now }
     ensures short { length result.now ≤ 16 }

@@ -36,9 +36,8 @@ use std::sync::ledger::Ledger;
 ///   script on a session, and writes a summary of how the session stands at the start, after each of
 ///   the script's first four lines, and at its end.
 /// - `resilience SYSTEM` writes how many services there are; then whether the start pair is
-///   related, how many pairs are, and how many services the masks of all pairs and actions have
-///   together, whether the pairs are related or not; and these three where one service freezes or
-///   dies, or two do.
+///   related, how many pairs are, and how many services can serve an action, over all pairs,
+///   related or not, and all actions; and these three where one service freezes or dies, or two do.
 /// - `shortest SYSTEM` writes how many pairs there are, how many are related, and how many have
 ///   each depth, the least number of requests within which the opponent wins there; and the depth
 ///   of the start pair, or that it is related.

@@ -16,8 +16,8 @@ loop-n-preserved g c =
     let lent : c.deref_mut.result.now ≡ old = c.deref_mut.ensures.value in
     let long : length new ≡ length old = omega (arith, c.give_depth.auto.depths, ap length lent) in
     let back : take c.loop-n.depths.len (new ++ drop (length new) old) ≡ new = front_is c.loop-n.depths.len new (drop (length new) old) (omega (arith, long, c.loop-n.depths.ok.0)) in
-    let few : n < 2 ^ 32 - 1 = omega (arith, c.loop-n-test.true, c.min-deepest.ensures, c.pairs-pairs.ensures, c.requires.few) in
-    let within : n < length levels = omega (arith, c.loop-n-test.true, c.min-deepest.ensures, ap length c.levels.ensures) in
+    let few : n < 2 ^ 32 - 1 = omega (arith, c.loop-n-test.true, c.min-count.ensures, c.pairs-pairs.ensures, c.requires.few) in
+    let within : n < length levels = omega (arith, c.loop-n-test.true, c.min-count.ensures, ap length c.levels.ensures) in
     let gives : GivesLevel L (start_of levels n) (slice_index levels n) n old new =
     subst (λ xs. GivesLevel L (start_of levels n) (slice_index levels n) n xs new) lent
     (subst (λ k. GivesLevel L (start_of levels n) k n c.deref_mut.result.now new) end
@@ -31,4 +31,4 @@ loop-n-preserved g c =
 pub returns : goal.returns
 returns g c =
     ranks_all (g.J.Rules.arena c.args.joint.now) c.known.ensures.numbered c.args.order.now.levels c.args.order.now.list c.loop-n.n c.loop-n.depths.items c.requires.levels c.requires.all
-    (omega (arith, c.loop-n-test.false, c.loop-n.auto.n-end, c.min-deepest.ensures, c.pairs-pairs.ensures, ap length c.levels.ensures)) c.loop-n.invariant.ranks
+    (omega (arith, c.loop-n-test.false, c.loop-n.auto.n-end, c.min-count.ensures, c.pairs-pairs.ensures, ap length c.levels.ensures)) c.loop-n.invariant.ranks
