@@ -1,8 +1,10 @@
 -- Marks that go through a removal list from its end: each entry on which p's rests is marked before it is reached.
-use Rattle.std.proofs.Common.{◌≡◌, ℕ, ◌+◌, ◌<◌, ◌≤◌, Bool, true, false, ◌-◌, ◌&&◌, ◌||◌, ◌⊎◌, List, [], ◌∷◌, ◌++◌, length, take, drop, Option, Some, IsTrue, IsFalse, filter, refl, sym, ap, ap₂, ◌∙◌, subst, inl, inr, arith, append_assoc, length-append, length-take, take-append-drop}
+use Rattle.std.proofs.Common.{◌≡◌, ◌≢◌, ℕ, ◌+◌, ◌<◌, ◌≤◌, Bool, true, false, ◌-◌, ◌&&◌, ◌||◌, ◌⊎◌, List, [], ◌∷◌, ◌++◌, length, take, drop, Option, Some, IsTrue, IsFalse, filter, refl, sym, ap, ap₂, ◌∙◌, subst, inl, inr, arith, add-one, append_assoc, length-append, length-take, take-append-drop}
 use Rattle.std.specs.List.{list_any, slice_get}
 use Rattle.std.specs.Option.{option_to_list}
-use Rattle.std.proofs.lemmas.Bool.{or_cases, or_left, or_right, and_parts, cond-true, cond-false}
+use Rattle.std.proofs.Math.Bool.{or-false}
+use Rattle.std.proofs.lemmas.Bool.{or_cases, or_left, or_right, and_parts, cond-true, cond-false, false≢true}
+use Rattle.std.proofs.lemmas.List.Folds.{list_any-append}
 use Rattle.std.proofs.lemmas.Option.{slice_get_within}
 use Rattle.roman_model.specs.Lists.{IsIn, below}
 use Rattle.roman_model.specs.Arena.{Arena, Entry, is_among, is_listed, IsOrder}
@@ -10,6 +12,7 @@ use Rattle.roman_model.specs.Explanation.{entries_before, answer, ready_seats, a
 use Rattle.roman_model.specs.declared.reason.Reason.TheVariants.{Act}
 use Rattle.roman_model.proofs.CallerLemmas.{same_test, any_true, any_from, any_within, in_append_right, from_append, split_at, by_test, list_any-flat_map, IsSame, among_in, order_middle, before_falls, before_is, answer_before, rests_is}
 use Rattle.roman_rules.specs.Numbered.{IsNumbered}
+use Rattle.roman_order.specs.Board.{Board, is_marked}
 use Rattle.roman_cert.proofs.Texts.{drop_at, some_at}
 use Rattle.roman_cert.proofs.Answering.{entries_at, unready_answer}
 
@@ -107,3 +110,33 @@ answers_all A ok L p a q =
 -- where the answers of all seats are marked, those to the request are
 pub answers_marked : (A : Arena ℕ) → IsNumbered A → (L : List (Entry ℕ)) (p a n q : ℕ) (old new : Bool) → n ≡ A.seats → new ≡ (old || answers_up_to A L p a n q) → new ≡ (old || is_among A (answers A L p (Act a)) q)
 answers_marked A ok L p a n q old new seats is = is ∙ ap (λ (b : Bool). old || b) (ap (λ m. answers_up_to A L p a m q) seats ∙ answers_all A ok L p a q)
+
+-- the answer of one more seat is marked, where it has one
+pub seats_more : (A : Arena ℕ) (L : List (Entry ℕ)) (p a k q : ℕ) (first old now : Bool) (found : Option ℕ) → found ≡ answer A L p a k →
+    old ≡ (first || answers_up_to A L p a k q) → now ≡ (old || is_among A (option_to_list found) q) → now ≡ (first || answers_up_to A L p a (k + 1) q)
+seats_more A L p a k q first old now found is before after =
+    let test : ℕ → Bool = λ n. is_among A (option_to_list (answer A L p a n)) q in
+    let one_more : answers_up_to A L p a (k + 1) q ≡ (answers_up_to A L p a k q || test k) =
+    ap (λ m. list_any test (below m)) (add-one k) ∙ list_any-append test (below k) (k ∷ []) ∙ ap (λ b. list_any test (below k) || b) (or-false (test k)) in
+    after ∙ ap₂ (λ b o. b || is_among A (option_to_list o) q) before is ∙ regroup first (answers_up_to A L p a k q) (test k) ∙ ap (λ b. first || b) (sym one_more)
+  where
+    regroup : (x y z : Bool) → ((x || y) || z) ≡ (x || (y || z))
+    regroup true y z = refl
+    regroup false y z = refl
+
+-- a mark is one pair's
+pub marks_one : (A : Arena ℕ) → IsSame A → (old now : Board) (r q : ℕ) → IsTrue (is_marked now r) →
+    ((x : ℕ) → x ≢ r → is_marked now x ≡ is_marked old x) → is_marked now q ≡ (is_marked old q || is_among A (r ∷ []) q)
+marks_one A same old now r q marked others = by_test (A.same q r)
+    (λ t. subst (λ x. is_marked now x ≡ true) (sym (same.is q r t)) marked ∙ sym (or_some (is_marked old q) (A.same q r) t))
+    (λ f. others q (λ e. false≢true (sym f ∙ subst (λ x. IsTrue (A.same q x)) e (same.itself q))) ∙ sym (or_none (is_marked old q) (A.same q r) f))
+  where
+    or_some : (x y : Bool) → y ≡ true → (x || (y || false)) ≡ true
+    or_some true y e = refl
+    or_some false true e = refl
+    or_some false false e = e
+
+    or_none : (x y : Bool) → y ≡ false → (x || (y || false)) ≡ x
+    or_none true y e = refl
+    or_none false true e = e
+    or_none false false e = refl

@@ -13,7 +13,7 @@ ghost use Rattle.roman_cert.specs.Certified.{WroteGreatest};
 
 use roman_io::{Failed, Sink};
 use roman_model::Reason;
-use roman_order::Order;
+use roman_order::{Ahead, Order};
 use roman_relation::Relation;
 use roman_rules::Rules;
 use roman_text::{Page, Piece};
@@ -43,8 +43,9 @@ pub(crate) fn write_list<O: Sink>(pairs: u32, order: &Order, out: &mut O) -> Res
     let mut page = Page::new();
     let head = head_piece(pairs);
     page.push(head.bytes(), out)?;
+    let mut ahead = Ahead::nothing(0);
     for i in 0..order.len() {
-        let (pair, reason) = order.entry(i);
+        let (pair, reason) = order.walk(i, &mut ahead);
         push_entry(pair, reason, &mut page, out)?;
     }
     page.push(b"end\n", out)?;

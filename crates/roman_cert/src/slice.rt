@@ -21,7 +21,7 @@ use crate::marking::mark_slice;
 use roman_io::{Failed, Sink, Steps};
 use roman_joint::Joint;
 use roman_model::Reason;
-use roman_order::Order;
+use roman_order::{Ahead, Order};
 use roman_relation::Relation;
 use roman_rules::Rules;
 use roman_text::Page;
@@ -83,8 +83,9 @@ fn write_marked<O: Sink, L: Ledger>(
     joint.known();
     order.known();
     let mut page = Page::new();
+    let mut ahead = Ahead::nothing(0);
     for i in 0..order.len() {
-        let (p, reason) = order.entry(i);
+        let (p, reason) = order.walk(i, &mut ahead);
         if !order.marked(p) {
             continue;
         }

@@ -99,10 +99,15 @@ row_ends x rows lanes n l e = omega (arith, row_fits x lanes rows lanes l (le_it
     le_itself k = omega arith
 
 -- as many rows as words
+pub same_rows : (rows words lanes : ℕ) → 0 < lanes → rows * lanes ≡ words * lanes → rows ≡ words
+same_rows rows words lanes some e = (same_from_place rows 0 words 0 lanes some some (ap (λ n. n + 0) e)).0
+
 pub row_among : (x rows words lanes : ℕ) → x < rows → 0 < lanes → rows * lanes ≡ words * lanes → x < words
-row_among x rows words lanes l some e =
-    let same : rows ≡ words = (same_from_place rows 0 words 0 lanes some some (ap (λ n. n + 0) e)).0 in
-    omega arith
+row_among x rows words lanes l some e = let same = same_rows rows words lanes some e in omega arith
+
+-- a band ends within as many as there are
+pub band_ends : (band y bands : ℕ) → y < bands → y * band + band ≤ bands * band
+band_ends band y bands l = row_ends y bands band (bands * band) l refl
 
 -- the row of a pair
 pub row_within : (row lane lanes rows p : ℕ) → row * lanes + lane ≡ p → p < rows * lanes → row < rows

@@ -5,7 +5,10 @@ ghost use Rattle.roman_model.specs.Arena.{Entry, is_listed, is_justified};
 ghost use Rattle.roman_model.specs.Certificate.{reasons, could_be_listed};
 ghost use Rattle.roman_lanes.specs.Rows.{is_on, AreRows};
 
-use roman_rules::Rules;
+use roman_rules::{Rules, are_clear, copy_rows};
+
+/// The greatest number of rows in a band.
+const BAND: usize = 64;
 
 /// Those of the pairs `left` of a row at which a reason holds, where the words tell the pairs that
 /// aren't gone.
@@ -44,6 +47,56 @@ fn missing_in<J: Rules>(joint: &J, words: &[u64], x: u32) -> u64
     missing_among(joint, &row, words, left)
 }
 
+/// Whether some pair of the band `y` is missing, where the words tell the pairs that aren't listed. What
+/// `left` holds before and after doesn't matter.
+fn misses_some<J: Rules>(joint: &J, words: &[u64], y: u32, left: &mut [u64]) -> bool
+    requires band { y * J.band joint.now + J.band joint.now ≤ length words.now }
+    requires room { length words.now * J.lanes joint.now ≡ length (J.arena joint.now).nodes }
+    requires left { length left.old ≡ J.band joint.now }
+    ensures long { length left.new ≡ length left.old }
+    ensures none { let A = J.arena joint.now in let lanes = J.lanes joint.now in
+        result ≡ false → (L : List (Entry ℕ)) → AreRows lanes (λ p. not (is_listed A L p)) words.now →
+        (i lane : ℕ) → i < J.band joint.now → lane < lanes → could_be_listed A L ((y * J.band joint.now + i) * lanes + lane) ≡ false }
+{
+    joint.known();
+    let x = y * joint.band();
+    copy_rows(words, x, left);
+    let row = joint.first_row(y);
+    joint.unfine_band(&row, left);
+    if !are_clear(left) {
+        return true;
+    }
+    for a in 0..joint.actions() {
+        copy_rows(words, x, left);
+        joint.unserved_band(&row, words, a, left);
+        if !are_clear(left) {
+            return true;
+        }
+    }
+    false
+}
+
+/// How many rows there are before the first band in which a pair is missing, where the words tell the
+/// pairs that aren't listed: all of them where there is no such band.
+fn rows_before<J: Rules>(joint: &J, words: &[u64]) -> u32
+    requires { length words.now * J.lanes joint.now ≡ length (J.arena joint.now).nodes }
+    ensures within { result ≤ length words.now }
+    ensures none { let A = J.arena joint.now in let lanes = J.lanes joint.now in
+        (L : List (Entry ℕ)) → AreRows lanes (λ p. not (is_listed A L p)) words.now →
+        (x lane : ℕ) → x < result → lane < lanes → could_be_listed A L (x * lanes + lane) ≡ false }
+{
+    joint.known();
+    let band = joint.band();
+    let mut room = [0; BAND];
+    let left = &mut room[..band as usize];
+    for y in 0..joint.bands() {
+        if misses_some(joint, words, y, left) {
+            return y * band;
+        }
+    }
+    joint.rows()
+}
+
 /// The least pair that isn't listed and at which a reason holds, where the words tell the pairs that
 /// aren't listed.
 pub(crate) fn first_missing<J: Rules>(joint: &J, words: &[u64]) -> Option<u32>
@@ -54,7 +107,7 @@ pub(crate) fn first_missing<J: Rules>(joint: &J, words: &[u64]) -> Option<u32>
 {
     joint.known();
     let lanes = joint.lanes();
-    for x in 0..joint.rows() {
+    for x in rows_before(joint, words)..joint.rows() {
         let missing = missing_in(joint, words, x);
         if missing != 0 {
             return Some(x * lanes + missing.trailing_zeros());

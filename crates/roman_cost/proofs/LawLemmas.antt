@@ -1,33 +1,20 @@
 -- The text of advice tells least costs.
-use Rattle.std.proofs.Common.{◌≡◌, ℕ, ◌+◌, ◌-◌, List, ◌++◌, codes, sym, ap}
+use Rattle.std.proofs.Common.{◌≡◌, ℕ, ◌-◌, List, ◌++◌, codes, sym, ap}
 use Rattle.std.specs.List.{flat_map}
-use Rattle.roman_model.specs.Composition.{Great}
 use Rattle.roman_model.specs.Lists.{below}
 use Rattle.roman_model.specs.Numbers.{sizes_of, count, number, pair_at}
-use Rattle.roman_model.specs.Plans.{Costs, chosen, least, least_at, choice, through, allowed_actions}
-use Rattle.roman_model.specs.System.{Sys, Pair, IsSys, IsPair}
-use Rattle.roman_model.specs.SystemArena.{outcomes}
-use Rattle.roman_model.proofs.CallerLemmas.{related_great, great_related, numbers_are_pairs, filter_sublist, outcome_pair, max_over_same, choice_is, plans_least}
+use Rattle.roman_model.specs.Plans.{least, least_at, choice, through, allowed_actions}
+use Rattle.roman_model.specs.System.{Pair, IsPair}
+use Rattle.roman_model.specs.SystemArena.{is_allowed}
+use Rattle.roman_model.proofs.CallerLemmas.{related_great, great_related, numbers_are_pairs, filter_in, filter_sublist, from_allowed}
 use Rattle.roman_joint.specs.NamedSys.{NamedSys, system_of}
 use Rattle.roman_cost.specs.AdviceText.{worst_line, choice_line, certificate_text, advice_text}
 use Rattle.roman_cost.specs.Advised.{related_pairs}
-use Rattle.roman_cost.specs.Laws.{IsLeastCost, AdviceIsLeast}
+use Rattle.roman_cost.specs.Laws.{AdviceIsLeast}
 use Rattle.roman_cost.specs.Tables.{seat_costs}
 use Rattle.roman_cost.specs.declared.costs.Listed.{Listed}
+use Rattle.roman_cost.proofs.PlanningLemmas.{in_allowed, least_cost, choice_cheapest, cheapest_same}
 use Rattle.roman_cost.proofs.Ranks.{related_at, in_related, from_related}
-
--- `least` is a least cost
-least_cost : (s : Sys) (C : Costs) (h : ℕ) (p : Pair) → IsSys s → IsPair s p → Great s p → IsLeastCost s C h p (least s C h p)
-least_cost s C h p ok pair great =
-    let all = plans_least s C h p ok pair great in
-    record { plan = chosen s C h p; is = all.plan; cost = all.cost; none_less = all.none_less }
-
--- what a seat costs is the same by the values at the numbers of the outcomes
-through_values : (s : Sys) (C : Costs) (h : ℕ) (p : Pair) (a k : ℕ) → IsSys s → IsPair s p →
-    through s C (least s C h) p a k ≡ through s C (λ q. least_at s C h (number (sizes_of s) q)) p a k
-through_values s C h p a k ok pair =
-    ap (λ n. C k a + n) (max_over_same (least s C h) (λ q. least_at s C h (number (sizes_of s) q)) (outcomes s p a k)
-    (λ q i. ap (least s C h) (sym ((numbers_are_pairs s).back q (outcome_pair s p a k q ok pair i)))))
 
 -- the first line has what the requests cost at the pair of that number
 same_text : (n : NamedSys) (listed : List Listed) (requests : ℕ) (p : Pair) → IsPair (system_of n) p →
@@ -59,7 +46,12 @@ advice_least n listed requests p ok pair great =
       least = λ h q i. let (l, t) = from_related s q i in
           let there = (numbers_are_pairs s).pair q l in
           least_cost s C h (pair_at (sizes_of s) q) ok there (related_great s (pair_at (sizes_of s) q) ok there t);
-      choice = λ a allowed. choice_is s C (requests - 1) p a ok great allowed;
-      costs = λ a allowed. through_values s C (requests - 1) p a (choice s C (requests - 1) p a) ok pair;
+      actions = allowed_actions s p;
+      allowed = λ a. (λ i. from_allowed s p a (filter_in (is_allowed s p) a (below s.env.actions) i).1, in_allowed s p a ok);
+      rising = filter_sublist (is_allowed s p) (below s.env.actions);
+      cheapest = λ a i. cheapest_same s C (least s C (requests - 1)) (λ q. least_at s C (requests - 1) (number (sizes_of s) q)) p a (choice s C (requests - 1) p a)
+          (through s C (least s C (requests - 1)) p a (choice s C (requests - 1) p a)) ok pair
+          (λ q there. ap (least s C (requests - 1)) (sym ((numbers_are_pairs s).back q there)))
+          (choice_cheapest s C (requests - 1) p a ok pair great (from_allowed s p a (filter_in (is_allowed s p) a (below s.env.actions) i).1));
       says = same_text n listed requests p pair;
     }

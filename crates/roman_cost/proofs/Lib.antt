@@ -7,4 +7,6 @@ mod Ranks
 mod OfferedSeats
 mod OfferTables
 mod Lines
+mod PlanningLemmas
 mod LawLemmas
+pub mod CallerLemmas

@@ -1,43 +1,36 @@
--- What the text of advice says, by the greatest ND-simulation and by plans alone.
-use Rattle.std.specs.Prelude.{◌≡◌, ℕ, suc, ◌-◌, ◌<◌, ◌≤◌, ◌↔◌, List, ◌++◌, map, codes, IsTrue}
+-- What the text of advice says, by the greatest ND-simulation, by steps and by plans alone.
+use Rattle.std.specs.Prelude.{◌≡◌, ℕ, suc, ◌-◌, ◌<◌, ◌↔◌, List, ◌++◌, map, codes}
 use Rattle.std.specs.List.{flat_map}
 use Rattle.roman_model.specs.Composition.{Great}
 use Rattle.roman_model.specs.Explanation.{name_at}
 use Rattle.roman_model.specs.Lists.{IsIn, IsSublist, below}
 use Rattle.roman_model.specs.Numbers.{sizes_of, count, number, pair_at}
-use Rattle.roman_model.specs.Plans.{Costs, Plan, IsPlan, IsChoice, worst, through, allowed_actions}
-use Rattle.roman_model.specs.System.{Sys, Pair, IsSys, IsPair}
-use Rattle.roman_model.specs.SystemArena.{is_allowed}
+use Rattle.roman_model.specs.Plans.{Costs}
+use Rattle.roman_model.specs.System.{Pair, IsSys, IsPair, Allows}
 use Rattle.roman_joint.specs.NamedSys.{NamedSys, system_of}
 use Rattle.roman_joint.specs.Names.{seat_name}
 use Rattle.roman_cost.specs.AdviceText.{worst_line, service_text, value_line, advice_text}
+use Rattle.roman_cost.specs.ServingPlans.{IsLeastCost, IsCheapest}
 use Rattle.roman_cost.specs.Tables.{seat_costs}
 use Rattle.roman_cost.specs.declared.costs.Listed.{Listed}
 
--- so many requests cost that at worst: some plan has that worst cost, and no plan has less
-pub record IsLeastCost (s : Sys) (C : Costs) (h : ℕ) (p : Pair) (value : ℕ) : Type 0 where
-  pub plan : Plan
-  pub is : IsPlan s h p plan
-  pub cost : worst s C p plan ≡ value
-  pub none_less : (other : Plan) → IsPlan s h p other → value ≤ worst s C p other
-
--- a text names the value of the pair itself, a seat and its cost for each action that is allowed, and all values at the
--- related pairs, whose numbers rise; the values are least costs, the seats are choices, and what a seat costs is what it
--- costs to delegate to it where the values of one request less follow
+-- a text names the value of the pair itself, for each action that the target allows the cheapest seat and its cost, where the values
+-- of one request less follow, and all values at the related pairs, by their numbers, which rise; the values are least costs
 pub record TellsLeast (n : NamedSys) (C : Costs) (requests : ℕ) (p : Pair) (text : List ℕ) : Type 0 where
   pub value : ℕ → ℕ → ℕ
-  pub seat : ℕ → ℕ
-  pub cost : ℕ → ℕ
   pub pairs : List ℕ
   pub related : (q : ℕ) → IsIn q pairs ↔ (q < count (sizes_of (system_of n))) × Great (system_of n) (pair_at (sizes_of (system_of n)) q)
   pub order : IsSublist pairs (below (count (sizes_of (system_of n))))
   pub least : (h q : ℕ) → IsIn q pairs → IsLeastCost (system_of n) C h (pair_at (sizes_of (system_of n)) q) (value h q)
-  pub choice : (a : ℕ) → IsTrue (is_allowed (system_of n) p a) → IsChoice (system_of n) C (requests - 1) p a (seat a)
-  pub costs : (a : ℕ) → IsTrue (is_allowed (system_of n) p a) →
-      cost a ≡ through (system_of n) C (λ q. value (requests - 1) (number (sizes_of (system_of n)) q)) p a (seat a)
+  pub actions : List ℕ
+  pub allowed : (a : ℕ) → IsIn a actions ↔ Allows (system_of n) p.t p.e a
+  pub rising : IsSublist actions (below (system_of n).env.actions)
+  pub seat : ℕ → ℕ
+  pub cost : ℕ → ℕ
+  pub cheapest : (a : ℕ) → IsIn a actions → IsCheapest (system_of n) C (λ q. value (requests - 1) (number (sizes_of (system_of n)) q)) p a (seat a) (cost a)
   pub says : text
       ≡ worst_line (value requests (number (sizes_of (system_of n)) p))
-      ++ flat_map (λ a. service_text (name_at n.environment.actions a) (name_at (map seat_name n.seats) (seat a)) (cost a)) (allowed_actions (system_of n) p)
+      ++ flat_map (λ a. service_text (name_at n.environment.actions a) (name_at (map seat_name n.seats) (seat a)) (cost a)) actions
       ++ flat_map (λ h. flat_map (λ q. value_line (suc h) q (value (suc h) q)) pairs) (below requests)
       ++ codes "end\n"
 

@@ -5,4 +5,5 @@ pub mod Refusals
 pub mod Advised
 pub mod Filling
 pub mod AdviceText
+pub mod ServingPlans
 pub mod Laws

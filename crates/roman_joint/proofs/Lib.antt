@@ -17,4 +17,6 @@ pub mod AllowedLemmas
 pub mod MarkLemmas
 pub mod MoveLemmas
 pub mod NameLemmas
+pub mod RunLemmas
+pub mod BandLemmas
 pub mod CallerLemmas

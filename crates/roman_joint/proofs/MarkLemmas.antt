@@ -1,33 +1,39 @@
--- Marks on the rows before a row.
-use Rattle.std.proofs.Common.{◌≡◌, ℕ, zero, suc, ◌+◌, ◌-◌, ◌*◌, ◌/◌, ◌%◌, ◌^◌, ◌<◌, ◌≤◌, true, cond, List, [], ◌∷◌, ◌++◌, length, take, get_or, Option, Some, slice_get, slice_index, IsTrue, IsFalse, inl, inr, refl, sym, ap, ap₂, ◌∙◌, subst, arith, add-one}
+-- Marks on the bands before a band.
+use Rattle.std.proofs.Common.{◌≡◌, ◌≢◌, ℕ, zero, suc, ◌+◌, ◌-◌, ◌*◌, ◌/◌, ◌%◌, ◌^◌, ◌<◌, ◌≤◌, Bool, true, cond, count_by, map, List, [], ◌∷◌, ◌++◌, length, take, get_or, Option, Some, slice_get, slice_index, IsTrue, IsFalse, inl, inr, refl, sym, ap, ap₂, ◌∙◌, subst, arith, add-one}
 use Rattle.std.proofs.Math.ListN.{set}
-use Rattle.std.specs.Prelude.{bit_or}
-use Rattle.std.specs.List.{flat_map}
-use Rattle.std.proofs.lemmas.Bool.{cases_eq, cases_lt}
+use Rattle.std.specs.Prelude.{bit_or, ltb}
+use Rattle.std.specs.Int.{bit_at}
+use Rattle.std.specs.List.{flat_map, filter}
+use Rattle.std.proofs.lemmas.Bool.{cases_eq, cases_lt, lt-ltb, le-ltb}
 use Rattle.std.proofs.lemmas.Option.{slice_get_within}
 use Rattle.std.proofs.lemmas.List.{get_or-set_same, get_or-set_other, length-set, length-map, length-append, take_more, append-nil}
 use Rattle.std.proofs.lemmas.List.Concat.{flat_map-append}
+use Rattle.std.proofs.lemmas.List.Elements.{filter-append}
+use Rattle.std.proofs.lemmas.List.Sums.{length-filter}
 use Rattle.std.proofs.lemmas.Nat.{same_from_place, div-add-mod', mod_below, div_below}
-use Rattle.roman_model.specs.Lists.{IsIn, below, product_of}
-use Rattle.roman_model.proofs.CallerLemmas.{in_below, no_longer, triple_in_range, move_in_range, in_env_prev, in_beh_prev, seat_in, in_back, AreBelow-length, IsPairOf-at, number-moved, number-pair_at, numbered_is_arena}
+use Rattle.roman_model.specs.Lists.{IsIn, HasNoRepeats, below, product_of}
+use Rattle.roman_model.proofs.CallerLemmas.{by_test, in_below, from_below, from_map, from_flat_map, filter_in, in_filter, flat_map_same, flat_map_same_in, HasNoRepeats-below, HasNoRepeats-filter, HasNoRepeats-map, HasNoRepeats-flat_map, no_longer, triple_in_range, move_in_range, in_env_prev, in_beh_prev, seat_in, in_back, AreBelow-length, IsPairOf-at, number-moved, number-pair_at, numbered_is_arena}
 use Rattle.roman_model.specs.System.{Seat, Sys, Pair, IsSys, IsBeh}
 use Rattle.roman_model.specs.SystemArena.{env_prev, beh_prev}
-use Rattle.roman_model.specs.Arena.{Delegation, back}
+use Rattle.roman_model.specs.Arena.{Arena, is_among, Delegation, delegations, back}
 use Rattle.roman_model.specs.Numbers.{sizes_of, count, number, pair_at, numbered}
 use Rattle.roman_radix.specs.Radix.{IsSizes, stride_of}
-use Rattle.roman_radix.specs.Rows.{env_rows_of, target_rows_of}
-use Rattle.roman_radix.proofs.CallerLemmas.{row_mod, env_rows_are}
+use Rattle.roman_radix.specs.Rows.{row_sizes, env_rows_of, target_rows_of}
+use Rattle.roman_radix.proofs.CallerLemmas.{row_mod, env_rows_are, low_of-le, lanes_positive, length_rows, row_size, row_stride_of, IsSizes-rows}
 use Rattle.roman_lanes.specs.Rows.{is_on}
 use Rattle.roman_lanes.specs.Flags.{has_flag}
-use Rattle.roman_joint.specs.Backward.{seat_prev, from_seat, from_all}
-use Rattle.roman_joint.specs.Rows.{lanes_in, low_in, IsRow}
-use Rattle.roman_joint.specs.Marks.{IsMarked, Grows, row_at, MarksSeat, MarksTurn, MarksEnv, MarksAction, IsAt}
+use Rattle.roman_joint.specs.Backward.{seat_prev, from_states, from_seat, from_target, from_env, from_action, from_all}
+use Rattle.roman_joint.specs.Rows.{lanes_in, low_in, lane_state_of, IsRow}
+use Rattle.roman_joint.specs.Bands.{mid_in, band_in}
+use Rattle.roman_joint.specs.Scenes.{AreLeading}
+use Rattle.roman_joint.specs.Marks.{IsMarked, Grows, row_at, MarksSeat, MarksTurn, MarksEnv, MarksAction, IsAt, front_target, front_env, front_action, front_all}
 use Rattle.roman_joint.specs.declared.row.Row.{Row}
-use Rattle.roman_joint.proofs.BackwardLemmas.{Steps, Found, origin, in_seat_prev, leads_found, from_all_found, found_backwards}
+use Rattle.roman_joint.proofs.BackwardLemmas.{Steps, Found, delegation, origin, in_seat_prev, leads_found, from_all_found, found_backwards}
 use Rattle.roman_joint.proofs.Rows.{size_of_seat}
 use Rattle.roman_joint.proofs.WordLemmas.{on_set_same, on_set_other}
-use Rattle.roman_joint.proofs.SplitLemmas.{stride_rows}
+use Rattle.roman_joint.proofs.SplitLemmas.{stride_rows, quotient}
 use Rattle.roman_joint.proofs.LeadLemmas.{lane_state, lane_part}
+use Rattle.roman_joint.proofs.BandLemmas.{row_in, InBand, in_band, mid_low}
 
 -- Marks that are added
 
@@ -35,16 +41,16 @@ pub grows_itself : (marks : List ℕ) → Grows marks marks
 grows_itself marks = record { long = refl; still = λ x t. t }
 
 pub grows_on : (a b c : List ℕ) → Grows a b → Grows b c → Grows a c
-grows_on a b c x y = record { long = y.long ∙ x.long; still = λ row t. y.still row (x.still row t) }
+grows_on a b c x y = record { long = y.long ∙ x.long; still = λ band t. y.still band (x.still band t) }
 
-pub marked_on : (a b : List ℕ) (x : ℕ) → Grows a b → IsMarked a x → IsMarked b x
-marked_on a b x more m l = more.still x (m (subst (λ n. x < 64 * n) more.long l))
+pub marked_on : (a b : List ℕ) (y : ℕ) → Grows a b → IsMarked a y → IsMarked b y
+marked_on a b y more m l = more.still y (m (subst (λ n. y < 64 * n) more.long l))
 
 pub seat_on : (s : Sys) (row : Row) (m n : List ℕ) (a e base k : ℕ) → Grows m n → MarksSeat s row m a e base k → MarksSeat s row n a e base k
-seat_on s row m n a e base k more old = record { moved = λ u b x h i is. marked_on m n x more (old.moved u b x h i is) }
+seat_on s row m n a e base k more old = record { moved = λ u b x h i is. marked_on m n (x / band_in s) more (old.moved u b x h i is) }
 
 pub turn_on : (s : Sys) (row : Row) (m n : List ℕ) (a e t : ℕ) → Grows m n → MarksTurn s row m a e t → MarksTurn s row n a e t
-turn_on s row m n a e t more old = record { own = marked_on m n (row_at s row e t) more old.own; seats = λ k l. seat_on s row m n a e (row_at s row e t) k more (old.seats k l) }
+turn_on s row m n a e t more old = record { own = marked_on m n (row_at s row e t / band_in s) more old.own; seats = λ k l. seat_on s row m n a e (row_at s row e t) k more (old.seats k l) }
 
 pub env_on : (s : Sys) (row : Row) (m n : List ℕ) (a e : ℕ) → Grows m n → MarksEnv s row m a e → MarksEnv s row n a e
 env_on s row m n a e more old = record { turns = λ t i. turn_on s row m n a e t more (old.turns t i) }
@@ -67,30 +73,30 @@ unfolding has_flag is_on
 flag_is marks x = refl
 
 -- one mark more
-pub put_mark : (marks : List ℕ) (x place lane : ℕ) → place < length marks → place ≡ x / 64 → lane ≡ x % 64 →
-    Grows marks (set marks place (bit_or (get_or marks place 0) (1 * 2 ^ lane % 2 ^ 64))) × IsTrue (has_flag (set marks place (bit_or (get_or marks place 0) (1 * 2 ^ lane % 2 ^ 64))) x)
-put_mark marks x place lane room at is = (
-  record { long = length-set marks place word; still = λ y t. flag_is (set marks place word) y ∙ each y (sym (flag_is marks y) ∙ t) },
-  flag_is (set marks place word) x ∙ (ap₂ (λ y z. is_on (slice_index (set marks place word) y) z) (sym at) (sym is) ∙ here),
+pub put_mark : (marks : List ℕ) (y place lane : ℕ) → place < length marks → place ≡ y / 64 → lane ≡ y % 64 →
+    Grows marks (set marks place (bit_or (get_or marks place 0) (1 * 2 ^ lane % 2 ^ 64))) × IsTrue (has_flag (set marks place (bit_or (get_or marks place 0) (1 * 2 ^ lane % 2 ^ 64))) y)
+put_mark marks y place lane room at is = (
+  record { long = length-set marks place word; still = λ z t. flag_is (set marks place word) z ∙ each z (sym (flag_is marks z) ∙ t) },
+  flag_is (set marks place word) y ∙ (ap₂ (λ u z. is_on (slice_index (set marks place word) u) z) (sym at) (sym is) ∙ here),
 )
   where
     word : ℕ
     word = bit_or (get_or marks place 0) (1 * 2 ^ lane % 2 ^ 64)
 
     low : lane < 64
-    low = subst (λ y. y < 64) (sym is) (mod_below x 64 (omega arith))
+    low = subst (λ y. y < 64) (sym is) (mod_below y 64 (omega arith))
 
     here : is_on (slice_index (set marks place word) place) lane ≡ true
     here = ap (λ w. is_on w lane) (get_or-set_same marks place word 0 room) ∙ on_set_same (get_or marks place 0) lane low
 
-    each : (y : ℕ) → is_on (slice_index marks (y / 64)) (y % 64) ≡ true → is_on (slice_index (set marks place word) (y / 64)) (y % 64) ≡ true
-    each y t = elim (cases_eq (y / 64) place) [
-      | inl same ↦ elim (cases_eq (y % 64) lane) [
+    each : (z : ℕ) → is_on (slice_index marks (z / 64)) (z % 64) ≡ true → is_on (slice_index (set marks place word) (z / 64)) (z % 64) ≡ true
+    each z t = elim (cases_eq (z / 64) place) [
+      | inl same ↦ elim (cases_eq (z % 64) lane) [
         | inl own ↦ ap₂ (λ u v. is_on (slice_index (set marks place word) u) v) same own ∙ here
-        | inr other ↦ ap (λ u. is_on (slice_index (set marks place word) u) (y % 64)) same ∙ (ap (λ w. is_on w (y % 64)) (get_or-set_same marks place word 0 room)
-            ∙ (on_set_other (get_or marks place 0) lane (y % 64) low other ∙ (ap (λ u. is_on (get_or marks u 0) (y % 64)) (sym same) ∙ t)))
+        | inr other ↦ ap (λ u. is_on (slice_index (set marks place word) u) (z % 64)) same ∙ (ap (λ w. is_on w (z % 64)) (get_or-set_same marks place word 0 room)
+            ∙ (on_set_other (get_or marks place 0) lane (z % 64) low other ∙ (ap (λ u. is_on (get_or marks u 0) (z % 64)) (sym same) ∙ t)))
       ]
-      | inr other ↦ ap (λ w. is_on w (y % 64)) (get_or-set_other marks place (y / 64) word 0 other) ∙ t
+      | inr other ↦ ap (λ w. is_on w (z % 64)) (get_or-set_other marks place (z / 64) word 0 other) ∙ t
     ]
 
 -- Rows from which a row is reached
@@ -138,57 +144,126 @@ own_row from l own w at lane b S in_l taken moves is =
     let sides : from * w + l ≡ at * w + (lane + b * S - own * S) = omega arith in
     (same_from_place from l at (lane + b * S - own * S) w in_l moves sides).0
 
--- the rows marked are those before the row
-pub marks_all : (s : Sys) (row : Row) (x lane p a k : ℕ) (marks : List ℕ) → IsSys s → IsSizes (sizes_of s) → IsRow s x row → lane < lanes_in s → count (sizes_of s) ≤ 64 * length marks * lanes_in s →
-    ((a : ℕ) → a < s.env.actions → MarksAction s row marks a) → p < count (sizes_of s) → 0 < lanes_in s → IsIn (x * lanes_in s + lane) ((numbered s).outcomes p a k) → IsTrue (has_flag marks (p / lanes_in s))
-marks_all s row x lane p a k marks sys sizes ok in_lanes room all below_p pos i =
+-- a band's first row at other states of the target and the environment is again a band's first
+first_at : (s : Sys) (row : Row) (y e t : ℕ) → IsSizes (sizes_of s) → IsRow s (y * band_in s) row → (c : ℕ) × (row_at s row e t ≡ c * band_in s)
+first_at s row y e t sizes ok =
+    let n = sizes_of s in
+    let m = row_sizes n in
+    let v = band_in s in
+    let g = env_rows_of m in
+    let vpos : 0 < v = lanes_positive m.seats (IsSizes-rows n sizes).seats in
+    let whole : g * v ≡ env_rows_of n = env_rows_are m in
+    let part : row.part ≡ y % g * v + 0 = ok.part ∙ (ap₂ (λ a b. a % b) (first y v) (sym whole) ∙ row_mod y v 0 g vpos) in
+    (t * (n.env * g) + e * g + y % g, sums t n.env e g v (env_rows_of n) row.part (y % g) whole part)
+  where
+    first : (y v : ℕ) → y * v ≡ y * v + 0
+    first y v = omega arith
+
+    sums : (t m e g v r part d : ℕ) → g * v ≡ r → part ≡ d * v + 0 → t * (m * r) + e * r + part ≡ (t * (m * g) + e * g + d) * v
+    sums t m e g v r part d whole is = subst (λ x. t * (m * x) + e * x + part ≡ (t * (m * g) + e * g + d) * v) whole (omega arith)
+
+-- by a seat before the bands' own the band changes, and the row within it stays
+band_before : (from own u at b v i h c : ℕ) → 0 < v → i < v → h * v ≡ u → at ≡ c * v → from + own * u ≡ at + i + b * u →
+    from / v * v + own * u ≡ at + b * u
+band_before from own u at b v i h c pos in_v e is sum =
+    let split : from / v * v + from % v ≡ from = div-add-mod' from v in
+    let left : own * (h * v) ≡ own * u = ap (λ m. own * m) e in
+    let right : b * (h * v) ≡ b * u = ap (λ m. b * m) e in
+    let sides : (from / v + own * h) * v + from % v ≡ (c + b * h) * v + i = omega (arith, split, left, right, is, sum) in
+    let (same, rest) = same_from_place (from / v + own * h) (from % v) (c + b * h) i v (mod_below from v pos) in_v sides in
+    omega (arith, split, rest, sum)
+
+-- the bands marked are those before the band
+pub marks_all : (s : Sys) (row : Row) (y i lane p a k : ℕ) (marks : List ℕ) → IsSys s → IsSizes (sizes_of s) → IsRow s (y * band_in s) row → i < band_in s → lane < lanes_in s →
+    count (sizes_of s) ≤ 64 * length marks * band_in s * lanes_in s →
+    ((a : ℕ) → a < s.env.actions → MarksAction s row marks a) → p < count (sizes_of s) → IsIn ((y * band_in s + i) * lanes_in s + lane) ((numbered s).outcomes p a k) →
+    IsTrue (has_flag marks (p / lanes_in s / band_in s))
+marks_all s row y i lane p a k marks sys sizes first in_band_ in_lanes room all below_p led =
     let n = sizes_of s in
     let w = lanes_in s in
-    let q_ = x * w + lane in
+    let q_ = (y * band_in s + i) * w + lane in
+    let here = in_band s y i row sizes first in_band_ in
     let split : p / w * w + p % w ≡ p = div-add-mod' p w in
     let d : Delegation ℕ = record { node = p; action = a; seat = k } in
-    let lead : IsIn d (back (numbered s) q_) = in_back (numbered s) (numbered_is_arena s sys) q_ p a k (in_below (count n) p below_p) i in
-    let found : Found s (pair_at n q_) d = from_all_found s (pair_at n q_) d (leads_found s q_ d sys (ok.below lane in_lanes) lead) in
-    by_steps found.e found.t found.b found.steps (split ∙ ap (λ (y : Delegation ℕ). y.node) found.is)
+    let lead : IsIn d (back (numbered s) q_) = in_back (numbered s) (numbered_is_arena s sys) q_ p a k (in_below (count n) p below_p) led in
+    let found : Found s (pair_at n q_) d = from_all_found s (pair_at n q_) d (leads_found s q_ d sys (here.looked.below lane in_lanes) lead) in
+    by_steps here found.e found.t found.b found.steps (split ∙ ap (λ (z : Delegation ℕ). z.node) found.is)
   where
-    in_table : (from w p long : ℕ) → from ≡ p / w → 0 < w → p < 64 * long * w → from < 64 * long
-    in_table from w p long is pos l = subst (λ y. y < 64 * long) (sym is) (div_below p w (64 * long) pos l)
+    in_table : (p w v long : ℕ) → 0 < w → 0 < v → p < long * v * w → p / w / v < long
+    in_table p w v long wpos vpos l = div_below (p / w) v long vpos (div_below p w (long * v) wpos l)
 
-    by_steps : (e t b : ℕ) → Steps s (pair_at (sizes_of s) (x * lanes_in s + lane)) a e t k b →
-        p / lanes_in s * lanes_in s + p % lanes_in s ≡ number (sizes_of s) (origin (pair_at (sizes_of s) (x * lanes_in s + lane)) e t k b) → IsTrue (has_flag marks (p / lanes_in s))
-    by_steps e t b st is =
+    by_steps : InBand s y i row → (e t b : ℕ) → Steps s (pair_at (sizes_of s) ((y * band_in s + i) * lanes_in s + lane)) a e t k b →
+        p / lanes_in s * lanes_in s + p % lanes_in s ≡ number (sizes_of s) (origin (pair_at (sizes_of s) ((y * band_in s + i) * lanes_in s + lane)) e t k b) →
+        IsTrue (has_flag marks (p / lanes_in s / band_in s))
+    by_steps here e t b st is =
         let n = sizes_of s in
+        let m = row_sizes n in
+        let msizes = IsSizes-rows n sizes in
         let w = lanes_in s in
+        let v = band_in s in
+        let x = y * v + i in
+        let now = row_in s x row in
+        let ok = here.looked in
+        let pos : 0 < w = lanes_positive n.seats sizes.seats in
+        let vpos : 0 < v = lanes_positive m.seats msizes.seats in
         let from = p / w in
         let l = p % w in
         let in_l : l < w = mod_below p w pos in
         let q = pair_at n (x * w + lane) in
         let own = slice_index q.bs k in
         let S = stride_of n k in
-        let in_seats : k < length n.seats = omega (arith, length-map s.seats (λ (y : Seat). y.beh.states), slice_get_within s.seats k st.seat st.seated) in
+        let in_seats : k < length n.seats = omega (arith, length-map s.seats (λ (z : Seat). z.beh.states), slice_get_within s.seats k st.seat st.seated) in
         let beh : IsBeh s.env st.seat.beh = sys.seats st.seat (seat_in s.seats k st.seat st.seated) in
         let action : a < s.env.actions = (triple_in_range s.env e a q.e sys.env st.world).1 in
-        let sum : from * w + l + own * S ≡ row_at s row e t * w + lane + b * S = number_before s row x from lane l e t k b ok in_lanes in_seats is in
-        let in_env : IsIn e (env_prev s.env row.env a) = subst (λ y. IsIn e (env_prev s.env y a)) (ok.envs lane in_lanes) (in_env_prev s.env e a q.e sys.env st.world) in
-        let in_target : IsIn t (beh_prev s.target row.target e a) = subst (λ y. IsIn t (beh_prev s.target y e a)) (ok.targets lane in_lanes) (in_beh_prev s.env s.target t e a q.t sys.target st.goal) in
+        let sum : from * w + l + own * S ≡ row_at s now e t * w + lane + b * S = number_before s now x from lane l e t k b ok in_lanes in_seats is in
+        let at = row_at s row e t in
+        let up : row_at s now e t ≡ at + i = omega (arith, here.part) in
+        let (c, bands) = first_at s row y e t sizes first in
+        let in_env : IsIn e (env_prev s.env row.env a) = subst (λ z. IsIn e (env_prev s.env z a)) (ok.envs lane in_lanes) (in_env_prev s.env e a q.e sys.env st.world) in
+        let in_target : IsIn t (beh_prev s.target row.target e a) = subst (λ z. IsIn t (beh_prev s.target z e a)) (ok.targets lane in_lanes) (in_beh_prev s.env s.target t e a q.t sys.target st.goal) in
         let in_seat : IsIn b (seat_prev (slice_get s.seats k) own e a) = in_seat_prev s.env (slice_get s.seats k) st.seat own e a b st.seated beh st.ready st.moves in
         let turn : MarksTurn s row marks a e t = ((all a action).envs e in_env).turns t in_target in
-        let here : from < 64 * length marks = in_table from w p (length marks) refl pos (omega arith) in
+        let in_marks : from / v < 64 * length marks = in_table p w v (64 * length marks) pos vpos (omega (arith, below_p, room)) in
+        let state : b < slice_index n.seats k = subst (λ z. b < z) (sym (size_of_seat s.seats k st.seat st.seated)) (move_in_range s.env st.seat.beh b e a own beh st.moves).0 in
+        let split : from / v * v + from % v ≡ from = div-add-mod' from v in
+        let in_v : from % v < v = mod_below from v vpos in
+        let own_band : from / v ≡ c → IsTrue (has_flag marks (from / v)) = λ same.
+        let there : at / v ≡ from / v = quotient at c v vpos (sym bands) ∙ sym same in
+        subst (λ z. IsMarked marks z) there turn.own in_marks in
         elim (cases_lt k (low_in s)) [
           | inl before ↦
               let u : ℕ = S / w in
               let stride : u * w ≡ S = stride_rows n k sizes before in
-              let part : own ≡ slice_index row.states k = ok.states k lane before in_lanes in
-              (turn.seats k before).moved u b from stride (subst (λ y. IsIn b (seat_prev (slice_get s.seats k) y e a)) part in_seat)
-              (subst (λ y. from + y * u ≡ row_at s row e t + b * u) part (row_before from l own u w (row_at s row e t) lane b S in_l in_lanes stride sum)) here
+              let is_rows : u ≡ stride_of m k = quotient S (stride_of m k) w pos (row_stride_of n k before) in
+              let part : own ≡ slice_index now.states k = ok.states k lane before in_lanes in
+              let rows : from + own * u ≡ row_at s now e t + b * u = row_before from l own u w (row_at s now e t) lane b S in_l in_lanes stride sum in
+              elim (cases_lt k (mid_in s)) [
+                | inl front ↦
+                    let same : own ≡ slice_index row.states k = part ∙ here.before k front in
+                    let h : ℕ = stride_of m k / v in
+                    let bandwise : h * v ≡ u = stride_rows m k msizes front ∙ sym is_rows in
+                    let moved : from / v * v + own * u ≡ at + b * u = band_before from own u at b v i h c vpos in_band_ bandwise bands (omega (arith, rows, up)) in
+                    subst (λ z. IsMarked marks z) (quotient (from / v * v) (from / v) v vpos refl)
+                    ((turn.seats k front).moved u b (from / v * v) stride (subst (λ z. IsIn b (seat_prev (slice_get s.seats k) z e a)) same in_seat)
+                    (subst (λ z. from / v * v + z * u ≡ at + b * u) same moved)) in_marks
+                | inr past ↦
+                    let R = stride_of m k in
+                    let in_rows : k < length m.seats = omega (arith, before, length_rows n) in
+                    let digit : own ≡ lane_state_of m k i = part ∙ here.within k past before in
+                    let moves = lane_state m k i msizes past in_rows in_band_ in
+                    let size : slice_index m.seats k ≡ slice_index n.seats k = row_size n k before in
+                    let taken : own * R ≤ i = subst (λ z. z * R ≤ i) (sym digit) moves.taken in
+                    let there : i + b * R - own * R < v = subst (λ z. i + b * R - z * R < v) (sym digit) (moves.moves b (subst (λ z. b < z) (sym size) state)) in
+                    let rowwise : from + own * R ≡ at + i + b * R = subst (λ z. from + own * z ≡ at + i + b * z) is_rows (omega (arith, rows, up)) in
+                    own_band (own_row (from / v) (from % v) own v c i b R in_v taken there (omega (arith, split, rowwise, bands)))
+              ]
           | inr within ↦
-              let state : b < slice_index n.seats k = subst (λ m. b < m) (sym (size_of_seat s.seats k st.seat st.seated)) (move_in_range s.env st.seat.beh b e a own beh st.moves).0 in
               let moves = lane_state n k lane sizes within in_seats in_lanes in
               let digit : own ≡ lane / S % slice_index n.seats k = lane_part n x lane k sizes (ok.below lane in_lanes) within in_seats in
-              let taken : own * S ≤ lane = subst (λ y. y * S ≤ lane) (sym digit) moves.taken in
-              let there : lane + b * S - own * S < w = subst (λ y. lane + b * S - y * S < w) (sym digit) (moves.moves b state) in
-              let at : from ≡ row_at s row e t = own_row from l own w (row_at s row e t) lane b S in_l taken there sum in
-              subst (λ y. IsTrue (has_flag marks y)) (sym at) (turn.own (subst (λ y. y < 64 * length marks) at here))
+              let taken : own * S ≤ lane = subst (λ z. z * S ≤ lane) (sym digit) moves.taken in
+              let there : lane + b * S - own * S < w = subst (λ z. lane + b * S - z * S < w) (sym digit) (moves.moves b state) in
+              let is_at : from ≡ row_at s now e t = own_row from l own w (row_at s now e t) lane b S in_l taken there sum in
+              own_band (same_from_place (from / v) (from % v) c i v in_v in_band_ (omega (arith, split, is_at, up, bands))).0
         ]
 
 -- the states before of a seat that is ready
@@ -207,27 +282,116 @@ count_more f xs i l =
 pub count_below : {X : Type 0} (f : ℕ → List X) (k : ℕ) → length (flat_map f (below (k + 1))) ≡ length (flat_map f (below k)) + length (f k)
 count_below f k = rw add-one (ap length (flat_map-append f (below k) (k ∷ [])) ∙ (length-append (flat_map f (below k)) (f k ++ []) ∙ ap (λ ys. length (flat_map f (below k)) + length ys) (append-nil (f k))))
 
-pub count_fewer : {X : Type 0} (f : ℕ → List X) (k n : ℕ) → k ≤ n → length (flat_map f (below k)) ≤ length (flat_map f (below n))
-count_fewer f k zero l = let none : k ≡ 0 = omega arith in subst (λ m. length (flat_map f (below m)) ≤ length (flat_map f (below 0))) (sym none) (omega arith)
-count_fewer f k (suc n) l = elim (cases_eq k (suc n)) [
-  | inl same ↦ subst (λ m. length (flat_map f (below m)) ≤ length (flat_map f (below (suc n)))) (sym same) (omega arith)
-  | inr less ↦
-      let next : length (flat_map f (below (suc n))) ≡ length (flat_map f (below n)) + length (f n) = ap (λ m. length (flat_map f (below m))) (sym (add-one n)) ∙ count_below f n in
-      let before : length (flat_map f (below k)) ≤ length (flat_map f (below n)) = count_fewer f k n (omega arith) in
-      omega arith
-]
-
 -- the delegations of a seat are as many as the states before
-pub count_seat : (s : Sys) (q : Pair) (a e t k : ℕ) (row : Row) → IsAt s row q → k < low_in s → length (from_seat s q a e t k) ≡ length (seat_prev (slice_get s.seats k) (slice_index row.states k) e a)
+pub count_seat : (s : Sys) (q : Pair) (a e t k : ℕ) (row : Row) → IsAt s row q → k < mid_in s → length (from_seat s q a e t k) ≡ length (seat_prev (slice_get s.seats k) (slice_index row.states k) e a)
 count_seat s q a e t k row at before =
     length-map (seat_prev (slice_get s.seats k) (slice_index q.bs k) e a) _ ∙ ap (λ b. length (seat_prev (slice_get s.seats k) b e a)) (at.states k before)
 
--- a pair of the row is in its states
-pub pair_there : (s : Sys) (row : Row) (x lane : ℕ) → IsRow s x row → lane < lanes_in s → IsAt s row (pair_at (sizes_of s) (x * lanes_in s + lane))
-pair_there s row x lane ok l = record { target = ok.targets lane l; env = ok.envs lane l; states = λ k before. ok.states k lane before l }
+-- a pair of the band is in the states of its first row
+pub pair_there : (s : Sys) (row : Row) (y i lane : ℕ) → IsSizes (sizes_of s) → IsRow s (y * band_in s) row → i < band_in s → lane < lanes_in s →
+    IsAt s row (pair_at (sizes_of s) ((y * band_in s + i) * lanes_in s + lane))
+pair_there s row y i lane sizes ok in_rows in_lanes =
+    let here = in_band s y i row sizes ok in_rows in
+    record {
+      target = here.looked.targets lane in_lanes;
+      env = here.looked.envs lane in_lanes;
+      states = λ k front. here.looked.states k lane (mid_low s k front) in_lanes ∙ here.before k front;
+    }
 
--- those found backwards are no more than those that lead to the pair
-pub count_found : (s : Sys) (p : ℕ) → IsSys s → p < count (sizes_of s) → length (from_all s (pair_at (sizes_of s) p)) ≤ length (back (numbered s) p)
-count_found s p sys l =
+-- where an action doesn't lead to a band, no delegation does
+pub none_leads : (s : Sys) (q : Pair) (row : Row) (a : ℕ) → IsAt s row q → AreLeading s.env s.target row.target row.env row.leading → a < s.env.actions → bit_at row.leading a ≡ 0 →
+    length (front_action s q a) ≡ 0
+none_leads s q row a at leading l off =
+    ap length (flat_map_same_in (front_env s q a) (λ e. nothing) (env_prev s.env q.e a)
+    (λ e i. ap (λ ts. flat_map (front_target s q a e) ts) (ap (λ t. beh_prev s.target t e a) at.target ∙ leading.others a l off e (subst (λ z. IsIn e (env_prev s.env z a)) at.env i)))
+    ∙ none (env_prev s.env q.e a))
+  where
+    nothing : List (Delegation ℕ)
+    nothing = []
+
+    none : (xs : List ℕ) → flat_map (λ e. nothing) xs ≡ []
+    none [] = refl
+    none (x ∷ xs) = none xs
+
+-- Those that are counted are the delegations to the first seats
+
+only_flat : {X Y : Type 0} (f : Y → Bool) (g : X → List Y) (xs : List X) → filter f (flat_map g xs) ≡ flat_map (λ x. filter f (g x)) xs
+only_flat f g [] = refl
+only_flat f g (x ∷ xs) = filter-append f (g x) (flat_map g xs) ∙ ap (λ ys. filter f (g x) ++ ys) (only_flat f g xs)
+
+first_only : {X : Type 0} (f g : ℕ → List X) (m n : ℕ) → m ≤ n → ((k : ℕ) → k < m → f k ≡ g k) → ((k : ℕ) → m ≤ k → f k ≡ []) → flat_map f (below n) ≡ flat_map g (below m)
+first_only f g m zero l same none = let zero_ : m ≡ 0 = omega arith in subst (λ z. [] ≡ flat_map g (below z)) (sym zero_) refl
+first_only f g m (suc n) l same none = elim (cases_eq m (suc n)) [
+  | inl all ↦ subst (λ z. flat_map f (below (suc n)) ≡ flat_map g (below z)) (sym all) (flat_map_same_in f g (below (suc n)) (λ k i. same k (subst (λ z. k < z) (sym all) (from_below (suc n) k i))))
+  | inr less ↦
+      flat_map-append f (below n) (n ∷ []) ∙ (ap (λ ys. flat_map f (below n) ++ (ys ++ [])) (none n (omega arith))
+      ∙ (append-nil (flat_map f (below n)) ∙ first_only f g m n (omega arith) same none))
+]
+
+-- the delegation is to a seat before the bands' own
+abbrev is_front : Sys → Delegation ℕ → Bool
+is_front s d = ltb d.seat (mid_in s)
+
+seat_only : (s : Sys) (q : Pair) (a e t k : ℕ) (bs : List ℕ) → filter (is_front s) (from_states s q a e t k bs) ≡ cond (ltb k (mid_in s)) (from_states s q a e t k bs) []
+seat_only s q a e t k [] = by_test (ltb k (mid_in s)) (λ yes. sym (ap (λ z. cond z (from_states s q a e t k []) []) yes)) (λ no. sym (ap (λ z. cond z (from_states s q a e t k []) []) no))
+seat_only s q a e t k (b ∷ bs) = by_test (ltb k (mid_in s))
+    (λ yes. ap (λ z. cond z (delegation s q a e t k b ∷ filter (is_front s) (from_states s q a e t k bs)) (filter (is_front s) (from_states s q a e t k bs))) yes
+    ∙ (ap (λ z. delegation s q a e t k b ∷ z) (seat_only s q a e t k bs ∙ ap (λ z. cond z (from_states s q a e t k bs) []) yes)
+    ∙ sym (ap (λ z. cond z (from_states s q a e t k (b ∷ bs)) []) yes)))
+    (λ no. ap (λ z. cond z (delegation s q a e t k b ∷ filter (is_front s) (from_states s q a e t k bs)) (filter (is_front s) (from_states s q a e t k bs))) no
+    ∙ (seat_only s q a e t k bs ∙ (ap (λ z. cond z (from_states s q a e t k bs) []) no ∙ sym (ap (λ z. cond z (from_states s q a e t k (b ∷ bs)) []) no))))
+
+front_only : (s : Sys) (q : Pair) → filter (is_front s) (from_all s q) ≡ front_all s q
+front_only s q =
+    only_flat f (from_action s q) (below s.env.actions)
+    ∙ flat_map_same (λ a. filter f (from_action s q a)) (front_action s q) (below s.env.actions)
+    (λ a. only_flat f (from_env s q a) (env_prev s.env q.e a)
+    ∙ flat_map_same (λ e. filter f (from_env s q a e)) (front_env s q a) (env_prev s.env q.e a)
+    (λ e. only_flat f (from_target s q a e) (beh_prev s.target q.t e a)
+    ∙ flat_map_same (λ t. filter f (from_target s q a e t)) (front_target s q a e) (beh_prev s.target q.t e a)
+    (λ t. only_flat f (from_seat s q a e t) (below (length s.seats))
+    ∙ first_only (λ k. filter f (from_seat s q a e t k)) (from_seat s q a e t) (mid_in s) (length s.seats) few
+    (λ k l. here a e t k ∙ ap (λ z. cond z (from_seat s q a e t k) []) (lt-ltb k (mid_in s) l))
+    (λ k l. here a e t k ∙ ap (λ z. cond z (from_seat s q a e t k) []) (le-ltb k (mid_in s) l)))))
+  where
+    f : Delegation ℕ → Bool
+    f = is_front s
+
+    here : (a e t k : ℕ) → filter f (from_seat s q a e t k) ≡ cond (ltb k (mid_in s)) (from_seat s q a e t k) []
+    here a e t k = seat_only s q a e t k (seat_prev (slice_get s.seats k) (slice_index q.bs k) e a)
+
+    few : mid_in s ≤ length s.seats
+    few = omega (arith, low_of-le (row_sizes (sizes_of s)).seats, length_rows (sizes_of s), low_of-le (sizes_of s).seats, length-map s.seats (λ (z : Seat). z.beh.states))
+
+-- those found backwards to first seats are just as many as lead to the pair
+pub count_front : (s : Sys) (p : ℕ) → IsSys s → p < count (sizes_of s) → count_by (λ (d : Delegation ℕ). ltb d.seat (mid_in s)) (back (numbered s) p) ≡ length (front_all s (pair_at (sizes_of s) p))
+count_front s p sys l =
     let found = found_backwards s p sys l in
-    no_longer (from_all s (pair_at (sizes_of s) p)) (back (numbered s) p) found.once (λ d i. (found.same d).0 i)
+    let all = from_all s (pair_at (sizes_of s) p) in
+    let lead = back (numbered s) p in
+    let f : Delegation ℕ → Bool = is_front s in
+    let up : length (filter f all) ≤ length (filter f lead) = no_longer (filter f all) (filter f lead) (HasNoRepeats-filter f all found.once)
+    (λ d i. let (j, t) = filter_in f d all i in in_filter f d lead ((found.same d).0 j) t) in
+    let down : length (filter f lead) ≤ length (filter f all) = no_longer (filter f lead) (filter f all) (HasNoRepeats-filter f lead (back_once (numbered s) p (HasNoRepeats-below (count (sizes_of s)))))
+    (λ d i. let (j, t) = filter_in f d lead i in in_filter f d all ((found.same d).1 j) t) in
+    let same : length (filter f lead) ≡ length (filter f all) = omega arith in
+    sym (length-filter f lead) ∙ (same ∙ ap length (front_only s (pair_at (sizes_of s) p)))
+  where
+    back_once : (A : Arena ℕ) (q : ℕ) → HasNoRepeats A.nodes → HasNoRepeats (back A q)
+    back_once A q once = HasNoRepeats-filter (λ d. is_among A (A.outcomes d.node d.action d.seat) q) (delegations A)
+        (HasNoRepeats-flat_map (λ p. flat_map (λ a. map (λ k. record { node = p; action = a; seat = k }) (below A.seats)) (below A.actions)) A.nodes
+        (λ p i. HasNoRepeats-flat_map (λ a. map (λ k. record { node = p; action = a; seat = k }) (below A.seats)) (below A.actions)
+        (λ a j. HasNoRepeats-map (λ k. record { node = p; action = a; seat = k }) (below A.seats) (λ k o u v is. ap (λ (d : Delegation ℕ). d.seat) is) (HasNoRepeats-below A.seats))
+        (λ a b d i j u v. sym (action_of p a d u) ∙ action_of p b d v)
+        (HasNoRepeats-below A.actions))
+        (λ p r d i j u v. sym (node_of p d u) ∙ node_of r d v)
+        once)
+      where
+        action_of : (p a : ℕ) (d : Delegation ℕ) → IsIn d (map (λ k. record { node = p; action = a; seat = k }) (below A.seats)) → d.action ≡ a
+        action_of p a d i = let (k, j, is) = from_map (λ k. record { node = p; action = a; seat = k }) d (below A.seats) i in ap (λ (z : Delegation ℕ). z.action) is
+
+        node_of : (p : ℕ) (d : Delegation ℕ) → IsIn d (flat_map (λ a. map (λ k. record { node = p; action = a; seat = k }) (below A.seats)) (below A.actions)) → d.node ≡ p
+        node_of p d i =
+            let (a, j, u) = from_flat_map (λ a. map (λ k. record { node = p; action = a; seat = k }) (below A.seats)) d (below A.actions) i in
+            let (k, l, is) = from_map (λ k. record { node = p; action = a; seat = k }) d (below A.seats) u in
+            ap (λ (z : Delegation ℕ). z.node) is

@@ -9,7 +9,7 @@ use Rattle.roman_model.specs.System.{Sys, Seat, IsBeh}
 use Rattle.roman_model.specs.Numbers.{Sizes, IsPairOf, sizes_of, count, pair_at}
 use Rattle.roman_model.proofs.CallerLemmas.{part_at, IsPairOf-at, AreBelow-index}
 use Rattle.roman_radix.specs.Radix.{AreSizes, IsSizes, stride_of, env_stride_of, target_stride_of}
-use Rattle.roman_radix.specs.Rows.{low_of, lanes_of, env_rows_of, target_rows_of}
+use Rattle.roman_radix.specs.Rows.{low_of, lanes_of, row_sizes, env_rows_of, target_rows_of}
 use Rattle.roman_radix.proofs.CallerLemmas.{product_positive, product_more, AreSizes-drop, AreSizes-index, low_of-le, lanes_positive, tails_from, exact, row_div, row_least, row_below, env_rows_are}
 use Rattle.roman_lanes.specs.Rows.{is_on}
 use Rattle.roman_joint.specs.NamedSys.{NamedSys, system_of, IsNamedSys}
@@ -61,17 +61,19 @@ target_rows_are n = by n.env (env_rows_of n) (lanes_of n.seats) (env_stride_of n
     by e r w p is = let same : e * (r * w) ≡ e * p = ap (λ x. e * x) is in omega arith
 
 -- how often a factor goes into a product
-quotient : (a m w : ℕ) → 0 < w → m * w ≡ a → a / w ≡ m
+pub quotient : (a m w : ℕ) → 0 < w → m * w ≡ a → a / w ≡ m
 quotient a m w pos is = factor (a / w) m w pos (exact a m w pos (sym is) ∙ sym is)
 
 -- the rows of sizes
-pub rows_made : (n : Sizes) (r : Rows) → IsSizes n → r.low ≡ low_of n.seats → r.lanes ≡ lanes_of n.seats → ((lane : ℕ) → is_on r.full lane ≡ ltb lane r.lanes) →
+pub rows_made : (n : Sizes) (r : Rows) → IsSizes n → r.low ≡ low_of n.seats → r.mid ≡ low_of (row_sizes n).seats → r.band ≡ lanes_of (row_sizes n).seats → r.lanes ≡ lanes_of n.seats → ((lane : ℕ) → is_on r.full lane ≡ ltb lane r.lanes) →
     r.rows * lanes_of n.seats ≡ count n → r.env_rows ≡ env_stride_of n / r.lanes → r.target_rows ≡ target_stride_of n / r.lanes →
     ((k : ℕ) → k < length n.seats → slice_index r.strides k ≡ cond (ltb k r.low) (stride_of n k / r.lanes) (stride_of n k)) →
     ((k : ℕ) → k < length n.seats → slice_index r.sizes k ≡ slice_index n.seats k) →
     ((k lane : ℕ) → k < length n.seats → lane < 64 → is_on (slice_index r.firsts k) lane ≡ lane_has_state (stride_of n k) (slice_index n.seats k) 0 lane) → AreRowsOf n r
-rows_made n r h is_low is_lanes full rows env target strides sizes firsts = record {
+rows_made n r h is_low is_mid is_band is_lanes full rows env target strides sizes firsts = record {
   low = is_low;
+  mid = is_mid;
+  band = is_band;
   lanes = is_lanes;
   full = λ lane. full lane ∙ ap (ltb lane) is_lanes;
   rows = rows;

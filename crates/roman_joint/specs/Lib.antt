@@ -12,3 +12,4 @@ pub mod Scenes
 pub mod Rows
 pub mod Marks
 pub mod Moves
+pub mod Bands

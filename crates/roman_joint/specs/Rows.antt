@@ -6,7 +6,7 @@ use Rattle.roman_model.specs.System.{Sys, Seat, is_final}
 use Rattle.roman_model.specs.SystemArena.{env_next, beh_next}
 use Rattle.roman_model.specs.Numbers.{Sizes, sizes_of, count, pair_at}
 use Rattle.roman_radix.specs.Radix.{stride_of}
-use Rattle.roman_radix.specs.Rows.{low_of, lanes_of, env_rows_of, target_rows_of}
+use Rattle.roman_radix.specs.Rows.{low_of, lanes_of, row_sizes, env_rows_of, target_rows_of}
 use Rattle.roman_lanes.specs.Rows.{is_on}
 use Rattle.roman_joint.specs.Scenes.{ArePermitted, AreLeading}
 use Rattle.roman_joint.specs.declared.layout.Rows.{Rows}
@@ -32,6 +32,8 @@ lane_state_of n k lane = lane / stride_of n k % slice_index n.seats k
 -- the rows are those of the sizes: strides of seats before the lanes are counted in rows, those of seats within them in lanes
 pub record AreRowsOf (n : Sizes) (r : Rows) : Type 0 where
   pub low : r.low ≡ low_of n.seats
+  pub mid : r.mid ≡ low_of (row_sizes n).seats
+  pub band : r.band ≡ lanes_of (row_sizes n).seats
   pub lanes : r.lanes ≡ lanes_of n.seats
   pub full : (lane : ℕ) → is_on r.full lane ≡ ltb lane (lanes_of n.seats)
   pub rows : r.rows * lanes_of n.seats ≡ count n

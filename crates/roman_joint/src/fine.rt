@@ -1,12 +1,15 @@
 //! Which pairs of a row don't meet clause 2.
 ghost use Rattle.std.specs.Prelude.{◌≡◌, ℕ, ◌+◌, ◌*◌, ◌<◌, ◌≤◌, not, length, slice_get, slice_index};
+ghost use Rattle.roman_model.specs.Lists.{all_below};
 ghost use Rattle.roman_model.specs.Numbers.{sizes_of, pair_at, numbered};
-ghost use Rattle.roman_lanes.specs.Rows.{is_on, HasLanes};
+ghost use Rattle.roman_lanes.specs.Rows.{is_on, HasLanes, Keeps};
 ghost use Rattle.roman_joint.specs.NamedSys.{system_of};
 ghost use Rattle.roman_joint.specs.Rows.{lanes_in, low_in, lane_state_of, IsRow, may_rest as may_rest_in};
+ghost use Rattle.roman_joint.specs.Bands.{band_in};
 
 use crate::joint::Joint;
 use crate::row::Row;
+use crate::runs::clear;
 use crate::states::{may_rest, state_lanes};
 use crate::words::{less, with_lanes};
 
@@ -45,6 +48,43 @@ fn rests_on(joint: &Joint, row: &Row, k: u8) -> u64
     rests_within(joint, k)
 }
 
+/// The lanes of a row of a band at which a seat may rest: of the band's i-th row, from its first.
+fn rests_in(joint: &Joint, row: &Row, i: u32, k: u8) -> u64
+    requires row { (y : ℕ) × IsRow (system_of joint.now) (y * band_in (system_of joint.now)) row.now }
+    requires within { i < band_in (system_of joint.now) }
+    requires seat { k < length joint.now.seats }
+    ensures { let s = system_of joint.now in
+        (y lane : ℕ) → IsRow s (y * band_in s) row.now → lane < lanes_in s → is_on result lane
+        ≡ may_rest_in (slice_get s.seats k) (slice_index (pair_at (sizes_of s) ((y * band_in s + i) * lanes_in s + lane)).bs k) }
+{
+    let rows = joint.layout();
+    if k < rows.mid || rows.low <= k {
+        return rests_on(joint, row, k);
+    }
+    let b = i / rows.strides[k as usize] % u32::from(rows.sizes[k as usize]);
+    let rests = may_rest(joint, k, b as u8);
+    with_lanes(0, rows.full, rests)
+}
+
+/// The lanes of the i-th row of a band at which each seat may rest.
+fn all_rest_in(joint: &Joint, row: &Row, i: u32) -> u64
+    requires row { (y : ℕ) × IsRow (system_of joint.now) (y * band_in (system_of joint.now)) row.now }
+    requires within { i < band_in (system_of joint.now) }
+    ensures { let s = system_of joint.now in
+        (y lane : ℕ) → IsRow s (y * band_in s) row.now → lane < lanes_in s → is_on result lane
+        ≡ all_below (λ k. may_rest_in (slice_get s.seats k) (slice_index (pair_at (sizes_of s) ((y * band_in s + i) * lanes_in s + lane)).bs k)) (length s.seats) }
+{
+    joint.known();
+    let mut rests = joint.layout().full;
+    for k in 0..joint.seats() {
+        if rests == 0 {
+            return 0;
+        }
+        rests &= rests_in(joint, row, i, k);
+    }
+    rests
+}
+
 impl Joint {
     /// The pairs of a row that don't meet clause 2 of an ND-simulation: the target is final there, and
     /// some service that rests isn't. Bit l is for the pair at lane l, and no bit is set past the
@@ -68,5 +108,25 @@ impl Joint {
             rests &= rests_on(self, row, k);
         }
         less(full, rests)
+    }
+    /// Clears those of the pairs `left` of a band that meet clause 2 of an ND-simulation. The row is the
+    /// band's first; there is a word of `left` for each row of the band.
+    pub fn unfine_band(&self, row: &Row, left: &mut [u64])
+        requires row { (y : ℕ) × IsRow (system_of self.now) (y * band_in (system_of self.now)) row.now }
+        requires long { length left.old ≡ band_in (system_of self.now) }
+        ensures long { length left.new ≡ length left.old }
+        ensures unfine { let s = system_of self.now in
+            (y : ℕ) → IsRow s (y * band_in s) row.now →
+            Keeps (lanes_in s) (y * band_in s) (band_in s) (λ p. not ((numbered s).fine p)) left.old left.new }
+    {
+        self.known();
+        if !self.target().is_final(row.target) {
+            clear(left);
+            return;
+        }
+        for i in 0..self.layout().band {
+            let rests = all_rest_in(self, row, i);
+            left[i as usize] = less(left[i as usize], rests);
+        }
     }
 }

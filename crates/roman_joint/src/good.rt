@@ -168,31 +168,6 @@ impl Joint {
         mask
     }
 
-    /// How many choices of a service there are for the action `a` at all pairs of a row together, at
-    /// most 2,048: over the pairs, the services that serve it. The words tell the pairs that aren't
-    /// gone, row by row.
-    pub fn choices(&self, row: &Row, words: &[u64], a: u8) -> u32
-        requires row { (x : ℕ) × IsRow (system_of self.now) x row.now }
-        requires action { a < (system_of self.now).env.actions }
-        requires room { length words.now * lanes_in (system_of self.now) ≡ count (sizes_of (system_of self.now)) }
-        ensures counted { let s = system_of self.now in
-            (x : ℕ) (gone : ℕ → Bool) → IsRow s x row.now →
-            AreRows (lanes_in s) (λ q. not (gone q)) words.now →
-            result ≡ sum_by (λ lane. length (mask_of (numbered s) gone (x * lanes_in s + lane) a)) (below (lanes_in s)) }
-        ensures few { result ≤ 2048 }
-    {
-        self.known();
-        let Some(turn) = turn_of(self, row, a) else {
-            return 0;
-        };
-        let alive = alive_on(self, words, &turn);
-        let mut count = 0;
-        for k in 0..serving(self, alive) {
-            count += good_on(self, words, row, &turn, alive, a, k).count_ones();
-        }
-        count
-    }
-
     /// Those of the pairs `wanted` of a row at which the action `a` is allowed and no service serves
     /// it. The words tell the pairs that aren't gone, row by row; no bit is set that `wanted` doesn't
     /// have.

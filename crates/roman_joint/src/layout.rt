@@ -12,6 +12,10 @@ use roman_radix::Shape;
 pub(crate) struct Rows {
     /// The first service within the lanes.
     pub(crate) low: u8,
+    /// The first service within a band.
+    pub(crate) mid: u8,
+    /// How many rows a band has.
+    pub(crate) band: u32,
     /// How many lanes a row has.
     pub(crate) lanes: u32,
     /// All lanes.
@@ -36,6 +40,7 @@ pub(crate) fn rows_of(shape: &Shape) -> Rows
 {
     shape.known();
     let low = shape.low();
+    let (mid, band) = shape.band();
     let lanes = shape.lanes();
     let mut strides = [0; PLACES];
     let mut sizes = [0; PLACES];
@@ -49,6 +54,8 @@ pub(crate) fn rows_of(shape: &Shape) -> Rows
     }
     Rows {
         low,
+        mid,
+        band,
         lanes,
         full: all_lanes(lanes),
         rows: shape.rows(),

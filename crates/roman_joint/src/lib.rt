@@ -9,6 +9,7 @@
 //! of that system's pairs.
 #![tactic(auto)]
 
+mod band;
 mod error;
 mod fine;
 mod good;
@@ -19,6 +20,7 @@ mod moves;
 mod numbered;
 mod outcomes;
 mod row;
+mod runs;
 mod scene;
 mod seat;
 mod seats;

@@ -1,15 +1,15 @@
-//! Marks on the rows from which pairs of a row are reached.
-ghost use Rattle.std.specs.Prelude.{◌≡◌, ℕ, ◌+◌, ◌*◌, ◌/◌, ◌^◌, ◌<◌, ◌≤◌, true, length};
+//! Marks on the bands from which pairs of a band are reached.
+ghost use Rattle.std.specs.Prelude.{◌≡◌, ℕ, ◌+◌, ◌*◌, ◌/◌, ◌^◌, ◌<◌, ◌≤◌, true, length, count_by, ltb};
 ghost use Rattle.roman_model.specs.Lists.{IsIn};
 ghost use Rattle.roman_model.specs.System.{Pair};
 ghost use Rattle.roman_model.specs.Arena.{back};
 ghost use Rattle.roman_model.specs.Numbers.{sizes_of, count, numbered};
-ghost use Rattle.roman_lanes.specs.Rows.{is_on};
 ghost use Rattle.roman_lanes.specs.Flags.{has_flag};
 ghost use Rattle.roman_joint.specs.NamedSys.{system_of};
-ghost use Rattle.roman_joint.specs.Backward.{from_seat, from_target, from_env, from_action};
-ghost use Rattle.roman_joint.specs.Rows.{lanes_in, low_in, IsRow};
-ghost use Rattle.roman_joint.specs.Marks.{IsMarked, Grows, MarksSeat, MarksTurn, MarksEnv, MarksAction, IsAt};
+ghost use Rattle.roman_joint.specs.Backward.{from_seat};
+ghost use Rattle.roman_joint.specs.Rows.{lanes_in, IsRow};
+ghost use Rattle.roman_joint.specs.Bands.{mid_in, band_in};
+ghost use Rattle.roman_joint.specs.Marks.{IsMarked, Grows, MarksSeat, MarksTurn, MarksEnv, MarksAction, IsAt, front_target, front_env, front_action};
 
 use crate::joint::Joint;
 use crate::row::Row;
@@ -17,16 +17,16 @@ use crate::states::prev_states;
 use roman_io::Steps;
 use std::sync::ledger::Ledger;
 
-/// Marks a row, if the table has a place for it.
-fn mark(marks: &mut [u64], x: u64)
+/// Marks a band, if the table has a place for it.
+fn mark(marks: &mut [u64], y: u64)
     ensures grows { Grows marks.old marks.new }
-    ensures marked { IsMarked marks.new x }
+    ensures marked { IsMarked marks.new y }
 {
-    let place = x / 64;
+    let place = y / 64;
     if place >= marks.len() as u64 {
         return;
     }
-    let lane = (x % 64) as u32;
+    let lane = (y % 64) as u32;
     marks[place as usize] |= 1 << lane;
 }
 
@@ -38,21 +38,22 @@ fn times(state: u8, stride: u32) -> u64
     u64::from(state) * u64::from(stride)
 }
 
-/// Marks the row that lies a state's rows after another, less those of the present state.
-fn mark_moved(marks: &mut [u64], base: u64, b: u8, stride: u32, taken: u64)
-    requires { base < 2 ^ 50 }
+/// Marks the band of the row that lies a state's rows after another, less those of the present state.
+fn mark_moved(marks: &mut [u64], base: u64, b: u8, stride: u32, taken: u64, band: u32)
+    requires base { base < 2 ^ 50 }
+    requires band { 0 < band }
     ensures grows { Grows marks.old marks.new }
-    ensures marked { (x : ℕ) → x + taken ≡ base + b * stride → IsMarked marks.new x }
+    ensures marked { (x : ℕ) → x + taken ≡ base + b * stride → IsMarked marks.new (x / band) }
 {
     let whole = base + times(b, stride);
     if whole < taken {
         return;
     }
-    mark(marks, whole - taken);
+    mark(marks, (whole - taken) / u64::from(band));
 }
 
-/// Marks the rows from which a seat goes to its state in the row, where `base` is the row before
-/// with the seat in that state.
+/// Marks the bands from which a seat before the bands' own goes to its state in the row, where `base` is
+/// the row before with the seat in that state.
 fn mark_seat<L: Ledger>(
     joint: &Joint,
     row: &Row,
@@ -67,11 +68,12 @@ fn mark_seat<L: Ledger>(
     requires base { base < 2 ^ 50 }
     requires env { e < (system_of joint.now).env.states }
     requires action { a < (system_of joint.now).env.actions }
-    requires seat { k < low_in (system_of joint.now) }
+    requires seat { k < mid_in (system_of joint.now) }
     ensures grows { Grows marks.old marks.new }
     ensures marks { MarksSeat (system_of joint.now) row.now marks.new a e base k }
-    ensures cost { (q : Pair) (t : ℕ) → IsAt (system_of joint.now) row.now q → steps.new ≤ steps.old + length (from_seat (system_of joint.now) q a e t k) }
+    ensures steps { (q : Pair) (t : ℕ) → IsAt (system_of joint.now) row.now q → steps.new ≡ steps.old + length (from_seat (system_of joint.now) q a e t k) }
 {
+    joint.known();
     let rows = joint.layout();
     let own = row.states[k as usize];
     let states = prev_states(joint, k, own, e, a);
@@ -79,12 +81,13 @@ fn mark_seat<L: Ledger>(
     let taken = times(own, stride);
     for b in states {
         steps.tick();
-        mark_moved(marks, base, *b, stride, taken);
+        mark_moved(marks, base, *b, stride, taken, rows.band);
     }
 }
 
-/// Marks the rows at a state of the target and one of the environment from which an action leads to
-/// the row's. Its own row there is marked for all seats within the lanes.
+/// Marks the bands at a state of the target and one of the environment from which an action leads to
+/// the row's band. The one with the same states of the seats before the bands' own is marked for all
+/// other seats.
 fn mark_turn<L: Ledger>(
     joint: &Joint,
     row: &Row,
@@ -99,17 +102,18 @@ fn mark_turn<L: Ledger>(
     requires action { a < (system_of joint.now).env.actions }
     ensures grows { Grows marks.old marks.new }
     ensures marks { MarksTurn (system_of joint.now) row.now marks.new a e t }
-    ensures cost { (q : Pair) → IsAt (system_of joint.now) row.now q → steps.new ≤ steps.old + length (from_target (system_of joint.now) q a e t) }
+    ensures steps { (q : Pair) → IsAt (system_of joint.now) row.now q → steps.new ≡ steps.old + length (front_target (system_of joint.now) q a e t) }
 {
+    joint.known();
     let rows = joint.layout();
     let base = times(t, rows.target_rows) + times(e, rows.env_rows) + u64::from(row.part);
-    mark(marks, base);
-    for k in 0..rows.low {
+    mark(marks, base / u64::from(rows.band));
+    for k in 0..rows.mid {
         mark_seat(joint, row, marks, base, e, a, k, steps);
     }
 }
 
-/// Marks the rows at a state of the environment from which an action leads to the row's.
+/// Marks the bands at a state of the environment from which an action leads to the row's band.
 fn mark_env<L: Ledger>(
     joint: &Joint,
     row: &Row,
@@ -123,7 +127,7 @@ fn mark_env<L: Ledger>(
     requires action { a < (system_of joint.now).env.actions }
     ensures grows { Grows marks.old marks.new }
     ensures marks { MarksEnv (system_of joint.now) row.now marks.new a e }
-    ensures cost { (q : Pair) → IsAt (system_of joint.now) row.now q → steps.new ≤ steps.old + length (from_env (system_of joint.now) q a e) }
+    ensures steps { (q : Pair) → IsAt (system_of joint.now) row.now q → steps.new ≡ steps.old + length (front_env (system_of joint.now) q a e) }
 {
     joint.known();
     let targets = joint.target().into(row.target, e, a);
@@ -132,13 +136,13 @@ fn mark_env<L: Ledger>(
     }
 }
 
-/// Marks the rows from which an action leads to the row's.
+/// Marks the bands from which an action leads to the row's band.
 fn mark_action<L: Ledger>(joint: &Joint, row: &Row, marks: &mut [u64], a: u8, steps: &mut Steps<L>)
     requires row { (x : ℕ) × IsRow (system_of joint.now) x row.now }
     requires action { a < (system_of joint.now).env.actions }
     ensures grows { Grows marks.old marks.new }
     ensures marks { MarksAction (system_of joint.now) row.now marks.new a }
-    ensures cost { (q : Pair) → IsAt (system_of joint.now) row.now q → steps.new ≤ steps.old + length (from_action (system_of joint.now) q a) }
+    ensures steps { (q : Pair) → IsAt (system_of joint.now) row.now q → steps.new ≡ steps.old + length (front_action (system_of joint.now) q a) }
 {
     joint.known();
     if (row.leading >> a) & 1 == 0 {
@@ -151,28 +155,24 @@ fn mark_action<L: Ledger>(joint: &Joint, row: &Row, marks: &mut [u64], a: u8, st
 }
 
 impl Joint {
-    /// Marks each row with a pair that has one of the pairs `lost` of a row as an outcome; other rows
-    /// may be marked as well. The marks are flags, 64 to a word, with one for each row, and those that
-    /// are set stay. Each move of a service before the lanes counts as one step: they are at most as
-    /// many as delegations lead to any one of the pairs that are lost.
-    pub fn mark_before<L: Ledger>(
-        &self,
-        row: &Row,
-        lost: u64,
-        marks: &mut [u64],
-        steps: &mut Steps<L>,
-    )
-        requires row { (x : ℕ) × IsRow (system_of self.now) x row.now }
-        requires room { count (sizes_of (system_of self.now)) ≤ 64 * length marks.old * lanes_in (system_of self.now) }
+    /// Goes back from a band: marks each band with a pair that has one of this band's as an outcome; other
+    /// bands may be marked as well. The row is the band's first. The marks are flags, 64 to a word, one
+    /// for each band, and those that are set stay.
+    ///
+    /// A step is counted for each delegation to a service before the bands' own that leads to a pair of
+    /// the band: there are as many at each.
+    pub fn mark_before<L: Ledger>(&self, row: &Row, marks: &mut [u64], steps: &mut Steps<L>)
+        requires row { (y : ℕ) × IsRow (system_of self.now) (y * band_in (system_of self.now)) row.now }
+        requires room { count (sizes_of (system_of self.now)) ≤ 64 * length marks.old * band_in (system_of self.now) * lanes_in (system_of self.now) }
         ensures long { length marks.new ≡ length marks.old }
         ensures marked { let s = system_of self.now in
-            (x lane p a k : ℕ) → IsRow s x row.now → lane < lanes_in s → is_on lost lane ≡ true →
-            p < count (sizes_of s) → IsIn (x * lanes_in s + lane) ((numbered s).outcomes p a k) →
-            has_flag marks.new (p / lanes_in s) ≡ true }
+            (y i lane p a k : ℕ) → IsRow s (y * band_in s) row.now → i < band_in s → lane < lanes_in s →
+            p < count (sizes_of s) → IsIn ((y * band_in s + i) * lanes_in s + lane) ((numbered s).outcomes p a k) →
+            has_flag marks.new (p / lanes_in s / band_in s) ≡ true }
         ensures still { (y : ℕ) → has_flag marks.old y ≡ true → has_flag marks.new y ≡ true }
-        ensures cost { let s = system_of self.now in
-            (x lane : ℕ) → IsRow s x row.now → lane < lanes_in s → is_on lost lane ≡ true →
-            steps.new ≤ steps.old + length (back (numbered s) (x * lanes_in s + lane)) }
+        ensures steps { let s = system_of self.now in
+            (y i lane : ℕ) → IsRow s (y * band_in s) row.now → i < band_in s → lane < lanes_in s →
+            steps.new ≡ steps.old + count_by (λ d. ltb d.seat (mid_in s)) (back (numbered s) ((y * band_in s + i) * lanes_in s + lane)) }
     {
         self.known();
         for a in 0..self.environment().actions().len() as u8 {

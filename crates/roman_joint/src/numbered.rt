@@ -11,12 +11,17 @@ impl Rules for Joint {
     ghost use Rattle.roman_model.specs.Numbers.{sizes_of, numbered};
     ghost use Rattle.roman_joint.specs.NamedSys.{system_of};
     ghost use Rattle.roman_joint.specs.Rows.{lanes_in, IsRow};
+    ghost use Rattle.roman_joint.specs.Bands.{mid_in, band_in};
 
     ghost arena = { λ joint. numbered (system_of joint) };
 
     type Row = Row;
 
     ghost lanes = { λ joint. lanes_in (system_of joint) };
+
+    ghost band = { λ joint. band_in (system_of joint) };
+
+    ghost mid = { λ joint. mid_in (system_of joint) };
 
     ghost is_row = { λ joint x row. IsRow (system_of joint) x row };
 
@@ -50,8 +55,20 @@ impl Rules for Joint {
         Joint::rows(self)
     }
 
+    fn band(&self) -> u32 {
+        Joint::band(self)
+    }
+
+    fn bands(&self) -> u32 {
+        Joint::bands(self)
+    }
+
     fn row(&self, x: u32) -> Row {
         Joint::row(self, x)
+    }
+
+    fn first_row(&self, y: u32) -> Row {
+        Joint::first_row(self, y)
     }
 
     fn row_actions(&self, row: &Row) -> u32 {
@@ -60,6 +77,10 @@ impl Rules for Joint {
 
     fn unfine(&self, row: &Row) -> u64 {
         Joint::unfine(self, row)
+    }
+
+    fn unfine_band(&self, row: &Row, left: &mut [u64]) {
+        Joint::unfine_band(self, row, left);
     }
 
     fn mask(&self, row: &Row, words: &[u64], a: u8, lane: u32) -> SeatSet {
@@ -74,14 +95,12 @@ impl Rules for Joint {
         Joint::unserved(self, row, words, a, wanted)
     }
 
-    fn mark_before<L: Ledger>(
-        &self,
-        row: &Row,
-        lost: u64,
-        marks: &mut [u64],
-        steps: &mut Steps<L>,
-    ) {
-        Joint::mark_before(self, row, lost, marks, steps);
+    fn unserved_band(&self, row: &Row, words: &[u64], a: u8, left: &mut [u64]) {
+        Joint::unserved_band(self, row, words, a, left);
+    }
+
+    fn mark_before<L: Ledger>(&self, row: &Row, marks: &mut [u64], steps: &mut Steps<L>) {
+        Joint::mark_before(self, row, marks, steps);
     }
 
     fn examine<F: Fn(u32) -> bool, L: Ledger>(

@@ -9,7 +9,7 @@ use Rattle.roman_model.specs.declared.request.Request.{Request}
 use Rattle.roman_parts.specs.Named.{NamedEnv, NamedBeh, IsBehaviour, IsTarget}
 use Rattle.roman_parts.specs.Reading.{Gives}
 use Rattle.roman_multi.specs.Combining as combining
-use Rattle.roman_multi.specs.Combining.{Keeps, combined_behaviour, combined_parts, forbidding, requests_in}
+use Rattle.roman_multi.specs.Combining.{KeepsRules, combined_behaviour, combined_parts, forbidding, requests_in}
 use Rattle.roman_multi.specs.declared.parts.Named.{Named}
 use Rattle.roman_multi.specs.declared.parts.Combined.{Combined}
 use Rattle.roman_multi.specs.declared.error.CombineError.{CombineError}
@@ -25,7 +25,7 @@ pub made_gives : (env : NamedEnv) (catalogue : List NamedBeh) (targets : List Na
 unfolding combined_of
 made_gives env catalogue targets made is allowed = rw allowed (ap Ok (sym is))
 
-pub broken_gives : (env : NamedEnv) (catalogue : List NamedBeh) (targets : List Named) (why : CombineError) → Keeps (Err why) (forbidding env targets) →
+pub broken_gives : (env : NamedEnv) (catalogue : List NamedBeh) (targets : List Named) (why : CombineError) → KeepsRules (Err why) (forbidding env targets) →
     Gives combining.plain_combined (Err (broken_rule why)) (combined_of env catalogue targets)
 unfolding combined_of
 broken_gives env catalogue targets error.States h = rw h refl

@@ -9,7 +9,7 @@ use Rattle.roman_model.specs.declared.limits.TheConstants.{MAX_STATES, MAX_ACTIO
 use Rattle.roman_model.specs.declared.request.Request.{Request}
 use Rattle.roman_model.proofs.CallerLemmas.{length-below}
 use Rattle.roman_parts.specs.Named.{NamedEnv, NamedBeh, NamedTarget}
-use Rattle.roman_multi.specs.Combining.{PlainCombined, machines, combined_state_names, request_names, requests_in, has_many_states, has_bad_count, has_long_name, has_one_name, forbidding, Keeps, combined_parts, combined_behaviour}
+use Rattle.roman_multi.specs.Combining.{PlainCombined, machines, combined_state_names, request_names, requests_in, has_many_states, has_bad_count, has_long_name, has_one_name, forbidding, KeepsRules, combined_parts, combined_behaviour}
 use Rattle.roman_multi.specs.Lists.{AreCombinedNames, flat}
 use Rattle.roman_multi.specs.declared.parts.Named.{Named}
 use Rattle.roman_multi.specs.declared.error.CombineError.{CombineError}
@@ -41,7 +41,7 @@ forbids_none env targets few good short apart = rw (few, good, short, apart) ref
 
 -- an error of the names is the first rule that forbids them
 pub names_forbid : (env : NamedEnv) (targets : List Named) (why : CombineError) → IsFalse (has_many_states targets) → IsFalse (has_bad_count (requests_in env targets)) → AreCombinedNames env targets (Err why) →
-    Keeps (Err why) (forbidding env targets)
+    KeepsRules (Err why) (forbidding env targets)
 names_forbid env targets error.States few good h = absurd h
 names_forbid env targets error.Actions few good h = absurd h
 names_forbid env targets error.LongName few good h = forbids_long env targets few good h

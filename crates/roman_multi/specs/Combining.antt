@@ -103,13 +103,13 @@ forbidding env targets =
     else None)))
 
 -- what is answered keeps to the rules: they allow what is made, and an error is the first that forbids; running out of memory says nothing
-abbrev pub Keeps : Result Combined CombineError → Option CombineError → Type 0
-Keeps (Ok made) rule = rule ≡ None
-Keeps (Err error.States) rule = rule ≡ Some error.States
-Keeps (Err error.Actions) rule = rule ≡ Some error.Actions
-Keeps (Err error.LongName) rule = rule ≡ Some error.LongName
-Keeps (Err error.Repeated) rule = rule ≡ Some error.Repeated
-Keeps (Err error.Memory) rule = Unit {0}
+abbrev pub KeepsRules : Result Combined CombineError → Option CombineError → Type 0
+KeepsRules (Ok made) rule = rule ≡ None
+KeepsRules (Err error.States) rule = rule ≡ Some error.States
+KeepsRules (Err error.Actions) rule = rule ≡ Some error.Actions
+KeepsRules (Err error.LongName) rule = rule ≡ Some error.LongName
+KeepsRules (Err error.Repeated) rule = rule ≡ Some error.Repeated
+KeepsRules (Err error.Memory) rule = Unit {0}
 
 -- ---- parts
 

@@ -1,7 +1,7 @@
 //! The combination.
 ghost use Rattle.std.specs.Prelude.{◌≡◌, ◌<◌, ◌≤◌, length, All, IfOk};
 ghost use Rattle.roman_parts.specs.Named.{IsTarget};
-ghost use Rattle.roman_multi.specs.Combining.{IsBehaviourOf, IsOf, Keeps, combined_parts, forbidding, has_bad_count, machines, plain_combined, request_names, requests_in, combined_state_names};
+ghost use Rattle.roman_multi.specs.Combining.{IsBehaviourOf, IsOf, KeepsRules, combined_parts, forbidding, has_bad_count, machines, plain_combined, request_names, requests_in, combined_state_names};
 ghost use Rattle.roman_multi.specs.Lists.{AreCombinedNames, flat};
 ghost use Rattle.roman_model.specs.Combined.{target_sizes};
 ghost use Rattle.roman_model.specs.Lists.{product_of};
@@ -38,7 +38,7 @@ pub fn combine(
     requires catalogue { All (IsBehaviourOf env.now) catalogue.now }
     requires targets { All (λ named. IsOf env.now named.target) targets.now }
     ensures parts { IfOk result (λ made. plain_combined made ≡ combined_parts env.now catalogue.now targets.now) }
-    ensures rules { Keeps result (forbidding env.now targets.now) }
+    ensures rules { KeepsRules result (forbidding env.now targets.now) }
 {
     let sizes = sizes_of(alloc, env, targets)?;
     let Some(shape) = Shape::new(1, 1, &sizes, u32::from(MAX_STATES)) else {

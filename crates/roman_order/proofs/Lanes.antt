@@ -1,21 +1,22 @@
 -- The lanes of a word, and the entries of the pairs at them.
-use Rattle.std.proofs.Common.{◌≡◌, ◌≢◌, ℕ, zero, suc, ◌+◌, ◌-◌, ◌*◌, ◌%◌, ◌^◌, ◌<◌, ◌≤◌, Bool, true, false, not, ◌&&◌, ◌||◌, eqb, List, [], ◌∷◌, ◌++◌, map, length, get_or, IsTrue, refl, ap, sym, ◌∙◌, subst, inl, inr, arith, filter, bit_and}
+use Rattle.std.proofs.Common.{◌≡◌, ◌≢◌, ℕ, zero, suc, ◌+◌, ◌-◌, ◌*◌, ◌%◌, ◌^◌, ◌<◌, ◌≤◌, Bool, true, false, not, ◌&&◌, ◌||◌, eqb, List, [], ◌∷◌, ◌++◌, map, length, get_or, IsTrue, refl, ap, sym, ◌∙◌, subst, inl, inr, arith, filter, bit_and, append-nil, append_assoc}
 use Rattle.std.specs.List.{list_any}
 use Rattle.std.specs.Int.{w64, bit_not}
 use Rattle.std.proofs.Math.ListN.{set}
 use Rattle.std.proofs.Math.Bool.{or-false}
 use Rattle.std.proofs.Math.Pow.{pow-lt}
-use Rattle.std.proofs.lemmas.Bool.{cases_eq, eq-eqb, ne_eqb, eqb-true, both_ways}
+use Rattle.std.proofs.lemmas.Bool.{cases_eq, and_parts, eq-eqb, ne_eqb, eqb-true, both_ways}
 use Rattle.std.proofs.lemmas.List.{length-set, get_or-set_same, get_or-set_other}
 use Rattle.std.proofs.lemmas.List.Folds.{list_any-append}
-use Rattle.std.proofs.lemmas.Nat.{same_from_place}
+use Rattle.std.proofs.lemmas.Nat.{same_from_place, and_le_r}
+use Rattle.std.proofs.lemmas.Nat.Bits.{bit_at-trailing_zeros}
 use Rattle.roman_model.specs.Lists.{IsIn, HasNoRepeats, below}
 use Rattle.roman_model.specs.Arena.{Entry}
 use Rattle.roman_model.specs.declared.reason.Reason.{Reason}
-use Rattle.roman_model.proofs.CallerLemmas.{filter_below_more, list_any-map, any_true, any_from, none_from, filter_in, in_filter, in_below, from_below, same_test, HasNoRepeats-filter, HasNoRepeats-below}
+use Rattle.roman_model.proofs.CallerLemmas.{flat_map_row, filter_below_more, list_any-map, any_true, any_from, none_from, filter_in, in_filter, in_below, from_below, same_test, HasNoRepeats-filter, HasNoRepeats-below}
 use Rattle.roman_lanes.specs.Rows.{is_on, HasLanes, AreRows}
 use Rattle.roman_lanes.proofs.CallerLemmas.{on_and, on_less, on_zero, on_ones, on_ones_above, on_pow_same, on_pow_other, on_clear_same, on_clear_other}
-use Rattle.roman_order.specs.Board.{as_entry, set_lanes, entries_in, has_entry}
+use Rattle.roman_order.specs.Board.{as_entry, set_lanes, entries_in, entries_in_rows, has_entry}
 
 -- ---- the lanes of a word, the first apart
 
@@ -64,6 +65,23 @@ without_first n t low on before = record {
 
 pub without_first-less : (n m t : ℕ) → IsFirstOf n m t → m ≤ n → m < n
 without_first-less n m t is h = elim (cases_eq m n) [ inl e ↦ absurd (both_ways (is_on n t) (sym (ap (λ w. is_on w t) e) ∙ is.off) is.on) | inr ne ↦ omega arith ]
+
+pub without_lane-fits : (n t : ℕ) → without_lane n t < 2 ^ 64
+without_lane-fits n t = omega (arith, and_le_r n (bit_not w64 (1 * 2 ^ t % 2 ^ 64)))
+
+pub without_lane-on : (n t lane : ℕ) → is_on (without_lane n t) lane ≡ true → is_on n lane ≡ true
+without_lane-on n t lane on = (and_parts (is_on n lane) (is_on (bit_not w64 (1 * 2 ^ t % 2 ^ 64)) lane) (sym (on_and n _ lane) ∙ on)).0
+
+-- a word that isn't 0 has a lane
+pub some_lane : (word : ℕ) → word ≢ 0 → word < 2 ^ 64 → 0 < length (set_lanes word)
+unfolding is_on
+some_lane word some fits =
+    let h = bit_at-trailing_zeros w64 word (omega arith) fits in
+    let is = without_first word _ h.0 (eq-eqb _ 1 h.1) (λ bit l. ap (λ n. eqb n 1) (h.2 bit l)) in
+    omega (arith, ap length (set_lanes-first word _ _ is))
+
+pub no_lane : (word : ℕ) → 0 < length (set_lanes word) → word ≢ 0
+no_lane word some none = omega (arith, ap (λ w. length (set_lanes w)) none, ap length set_lanes-zero, some)
 
 -- a word of one lane, as it is computed
 one_pow : (k : ℕ) → k < 64 → 1 * 2 ^ k % 2 ^ 64 ≡ 2 ^ k
@@ -116,12 +134,30 @@ has_entry-lane L first lost lane reason low =
     (λ t. any_from (λ l. eqb (first + lane) (first + l)) lane (set_lanes lost) (in_filter (is_on lost) lane (below 64) (in_below 64 lane low) t) (eq-eqb (first + lane) (first + lane) refl)))
 
 -- another pair is listed where it was
-has_entry-elsewhere : (L : List (Entry ℕ)) (first lost p : ℕ) (reason : Reason) → ((lane : ℕ) → lane < 64 → is_on lost lane ≡ true → p ≢ first + lane) →
+pub has_entry-elsewhere : (L : List (Entry ℕ)) (first lost p : ℕ) (reason : Reason) → ((lane : ℕ) → lane < 64 → is_on lost lane ≡ true → p ≢ first + lane) →
     has_entry (L ++ map (λ l. as_entry (first + l, reason)) (set_lanes lost)) p ≡ has_entry L p
 has_entry-elsewhere L first lost p reason apart =
     has_entry-lanes L first lost p reason
     ∙ (ap (λ b. has_entry L p || b) (none_from (λ l. eqb p (first + l)) (set_lanes lost)
     (λ l i. let (low, t) = in_lanes lost l i in ne_eqb p (first + l) (apart l low t))) ∙ or-false (has_entry L p))
+
+-- ---- entries of neighbouring rows
+
+-- one row more
+pub entries_in_rows-row : (lanes x rows : ℕ) (words : List ℕ) (reason : Reason) (L : List (Entry ℕ)) →
+    L ++ entries_in_rows lanes x (suc rows) words reason ≡ (L ++ entries_in_rows lanes x rows words reason) ++ entries_in lanes (x + rows) (get_or words rows 0) reason
+entries_in_rows-row lanes x rows words reason L =
+    ap (λ M. L ++ M) (flat_map_row (λ i. entries_in lanes (x + i) (get_or words i 0) reason) rows) ∙ sym (append_assoc L _ _)
+
+-- the pairs of a later row are listed where they were
+pub has_entry-later : (L : List (Entry ℕ)) (lanes x : ℕ) (words : List ℕ) (reason : Reason) → ((i lane : ℕ) → is_on (get_or words i 0) lane ≡ true → lane < lanes) →
+    (rows i lane : ℕ) → rows ≤ i → lane < lanes → has_entry (L ++ entries_in_rows lanes x rows words reason) ((x + i) * lanes + lane) ≡ has_entry L ((x + i) * lanes + lane)
+has_entry-later L lanes x words reason within zero i lane past l = ap (λ M. has_entry M ((x + i) * lanes + lane)) (append-nil L)
+has_entry-later L lanes x words reason within (suc rows) i lane past l =
+    ap (λ M. has_entry M ((x + i) * lanes + lane)) (entries_in_rows-row lanes x rows words reason L)
+    ∙ (has_entry-elsewhere (L ++ entries_in_rows lanes x rows words reason) ((x + rows) * lanes) (get_or words rows 0) ((x + i) * lanes + lane) reason
+    (λ j low t e. let same = (same_from_place (x + i) lane (x + rows) j lanes l (within rows j t) e).0 in omega arith)
+    ∙ has_entry-later L lanes x words reason within rows i lane (omega arith) l)
 
 -- ---- the words of the pairs that aren't listed
 

@@ -1,9 +1,13 @@
 pub mod Words
 pub mod Lanes
+pub mod Ones
 pub mod Places
+pub mod Events
 pub mod Pushes
-pub mod Stamps
 pub mod Counts
 pub mod Lent
 pub mod Tables
+pub mod Waiting
+pub mod Reading
+pub mod Stamps
 pub mod CallerLemmas

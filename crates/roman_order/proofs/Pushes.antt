@@ -1,21 +1,12 @@
--- More entries in a table.
+-- More entries in a list.
 use Rattle.std.proofs.Common.{◌≡◌, ℕ, ◌+◌, ◌*◌, ◌<◌, false, List, [], ◌∷◌, ◌++◌, map, sym, ◌∙◌, subst, inl, inr, refl, arith, append_assoc, append-nil}
-use Rattle.std.proofs.lemmas.List.{map_push}
 use Rattle.std.proofs.lemmas.Nat.{mul-add-lt}
 use Rattle.roman_model.specs.Arena.{Entry}
 use Rattle.roman_model.specs.Lists.{IsIn, HasNoRepeats}
 use Rattle.roman_model.specs.declared.reason.Reason.{Reason}
 use Rattle.roman_order.specs.Board.{as_entry, has_entry}
-use Rattle.roman_order.specs.Sound.{IsPlaced, entries_of}
-use Rattle.roman_order.specs.declared.removal.Removal.{Removal}
+use Rattle.roman_order.specs.Sound.{IsPlaced}
 use Rattle.roman_order.proofs.Places.{IsPlaced-push, has_entry-push_other}
-
--- the entry of what a table holds at a place
-abbrev pub entry_in : Removal → Entry ℕ
-entry_in y = record { node = y.pair; reason = y.reason }
-
-pub entries_of-push : (items : List Removal) (y : Removal) → entries_of (items ++ y ∷ []) ≡ entries_of items ++ entry_in y ∷ []
-entries_of-push items y = map_push entry_in items y
 
 -- a pair of a row is in range
 pub pair_below : (rows lanes x lane : ℕ) → x < rows → lane < lanes → x * lanes + lane < rows * lanes

@@ -1,35 +1,62 @@
 -- What the tables of an order hold and have room for.
-use Rattle.std.proofs.Common.{◌≡◌, ℕ, ◌+◌, ◌-◌, ◌*◌, ◌/◌, ◌%◌, ◌^◌, ◌<◌, ◌≤◌, true, false, [], ◌++◌, map, length, get_or, replicate, vec_capacity, ap, sym, ◌∙◌, subst, arith, bit_and, length-append}
+use Rattle.std.proofs.Common.{◌≡◌, ℕ, ◌+◌, ◌-◌, ◌*◌, ◌/◌, ◌%◌, ◌^◌, ◌<◌, ◌≤◌, true, false, not, [], ◌∷◌, ◌++◌, map, length, drop, get_or, replicate, vec_capacity, ap, ap₂, count_ones, sym, ◌∙◌, subst, arith, bit_and, length-append}
 use Rattle.std.specs.Int.{w64, bit_not}
 use Rattle.std.proofs.Math.ListN.{set}
 use Rattle.std.proofs.Math.Nat.{mul-le-mul_left}
 use Rattle.std.proofs.lemmas.List.{length-map, length-replicate, get_or-replicate}
 use Rattle.roman_model.specs.declared.reason.Reason.{Reason}
-use Rattle.roman_lanes.specs.Rows.{is_on}
+use Rattle.roman_lanes.specs.Rows.{is_on, AreRows}
 use Rattle.roman_lanes.proofs.CallerLemmas.{full_word}
 use Rattle.roman_order.specs.Board.{Board, as_entry, set_lanes, entries_in, has_entry}
-use Rattle.roman_order.specs.Sound.{board_of, removal_list, IsPlaced, IsSized, IsSound}
+use Rattle.roman_order.specs.Events.{entries_of}
+use Rattle.roman_order.specs.Sound.{board_of, removal_list, IsPlaced, CanWait, IsSized, IsSound}
+use Rattle.roman_order.specs.declared.event.Event.{Event}
 use Rattle.roman_order.specs.declared.order.Order.TheInside.{Inside}
 use Rattle.roman_order.proofs.Lanes.{AreRows-full, AreRows-pushed, one_lane, in_lanes, lanes_once}
 use Rattle.roman_order.proofs.Places.{IsPlaced-nil, length-le_from_apart}
-use Rattle.roman_order.proofs.Pushes.{entry_in, pair_below, IsPlaced-lanes}
+use Rattle.roman_order.proofs.Events.{few_events, length-firsts_of, entries_of-push, AreCounted-push, AreCounted-nil}
+use Rattle.roman_order.proofs.Ones.{ones_of}
+use Rattle.roman_order.proofs.Pushes.{pair_below, IsPlaced-lanes}
 
 -- the list has at most as many entries as there are pairs
 pub few_listed : (a : Inside) → IsSound a → length (removal_list a) ≤ a.rows * a.lanes
 few_listed a sound = length-le_from_apart (a.rows * a.lanes) (removal_list a) sound.placed.apart sound.placed.in_range
 
-pub few_entries : (a : Inside) → IsSound a → length a.entries.items < 2 ^ 32
-few_entries a sound = omega (arith, few_listed a sound, length-map a.entries.items entry_in, sound.sized.room, sound.sized.few)
+-- the count is the list's length, and there are at most as many events
+pub record IsFew (a : Inside) : Type 0 where
+  pub count : length (removal_list a) ≡ a.count
+  pub count_fits : a.count < 2 ^ 32
+  pub listed : a.count ≤ a.rows * a.lanes
+  pub events : length a.events.items ≤ a.count
+  pub firsts : length a.firsts.items ≡ length a.events.items
+
+pub few : (a : Inside) → IsSound a → IsFew a
+few a sound = record {
+  count = sym sound.counted.count;
+  count_fits = omega (arith, few_listed a sound, sound.counted.count, sound.sized.room, sound.sized.few);
+  listed = omega (arith, few_listed a sound, sound.counted.count);
+  events = omega (arith, sound.counted.count, few_events a.lanes a.events.items sound.counted.each);
+  firsts = ap length sound.counted.firsts ∙ length-firsts_of 0 a.events.items;
+}
+
+-- the entries of the list can wait
+pub list_waits : (a : Inside) → IsSound a → CanWait a.lanes a.events.items
+list_waits a sound = record {
+  each = sound.counted.each;
+  in_range = λ p h. omega (arith, sound.placed.in_range p h, sound.sized.room, sound.sized.few);
+}
 
 -- an order without entries, whose words are full
-pub blank_sound : (a : Inside) → IsSized a → a.entries.items ≡ [] → a.stamps.items ≡ [] →
+pub blank_sound : (a : Inside) → IsSized a → CanWait a.waiting_lanes (drop a.next a.waiting.items) → a.events.items ≡ [] → a.firsts.items ≡ [] → a.count ≡ 0 → a.stamps.items ≡ [] →
     a.words.items ≡ replicate a.rows ((2 ^ 64 - 1) / 2 ^ (64 - a.lanes)) → IsSound a
-blank_sound a sized entries stamps words =
+blank_sound a sized waits events firsts count stamps words =
     let full : ℕ = (2 ^ 64 - 1) / 2 ^ (64 - a.lanes) in
     record {
-      placed = rw entries (IsPlaced-nil (a.rows * a.lanes));
+      placed = rw events (IsPlaced-nil (a.rows * a.lanes));
+      counted = rw (events, firsts, count) (AreCounted-nil a.lanes);
+      waits = waits;
       stamped = rw stamps (λ p h. absurd (omega arith));
-      alive = rw (entries, words)
+      alive = rw (events, words)
           (AreRows-full a.lanes (replicate a.rows full) (λ y h. get_or-replicate a.rows y full 0 (omega (arith, h, length-replicate a.rows full)) ∙ full_word a.lanes sized.few_lanes.1));
       sized = sized;
     }
@@ -37,7 +64,8 @@ blank_sound a sized entries stamps words =
 -- where one order has as much room as another, its tables have room for what the other's hold
 pub record IsRoomFor (a b : Inside) : Type 0 where
   pub room : a.room ≡ b.room
-  pub entries : length b.entries.items ≤ vec_capacity a.entries
+  pub events : length b.events.items ≤ vec_capacity a.events
+  pub firsts : length b.firsts.items ≤ vec_capacity a.firsts
   pub words : length b.words.items ≤ vec_capacity a.words
   pub before : length b.before.items ≤ vec_capacity a.before
   pub marks : length b.marks.items ≤ vec_capacity a.marks
@@ -49,7 +77,8 @@ room_for a b x y is_x is_y same sound_a sound_b =
     let rows = mul-le-mul_left b.rows sound_b.sized.few_lanes.0 in
     record {
       room = room;
-      entries = omega (arith, few_listed b sound_b, length-map b.entries.items entry_in, sound_b.sized.room, sound_a.sized.entries_room);
+      events = omega (arith, (few b sound_b).events, (few b sound_b).listed, sound_b.sized.room, sound_a.sized.events_room);
+      firsts = omega (arith, (few b sound_b).firsts, (few b sound_b).events, (few b sound_b).listed, sound_b.sized.room, sound_a.sized.firsts_room);
       words = omega (arith, rows, sound_b.sized.words_long, sound_b.sized.room, sound_a.sized.words_room);
       before = omega (arith, rows, sound_b.sized.before_long, sound_b.sized.room, sound_a.sized.before_room);
       marks = omega (arith, sound_b.sized.marks_long, sound_b.sized.room, sound_a.sized.marks_room);
@@ -64,17 +93,6 @@ pub record IsFree (b : Board) (x lost : ℕ) : Type 0 where
   pub within : (lane : ℕ) → is_on lost lane ≡ true → lane < b.lanes
   pub alive : (lane : ℕ) → is_on lost lane ≡ true → has_entry b.list (x * b.lanes + lane) ≡ false
 
--- one pair that isn't listed
-pub free_lane : (a : Inside) (b : Board) (x lane : ℕ) → board_of a ≡ b → IsSound a → x < b.rows → lane < b.lanes →
-    has_entry b.list (x * b.lanes + lane) ≡ false → IsFree (board_of a) x (1 * 2 ^ lane % 2 ^ 64)
-free_lane a b x lane is sound row in_row alive =
-    let low : lane < 64 = omega (arith, ap (λ (z : Board). z.lanes) is, sound.sized.few_lanes.1) in
-    subst (λ (z : Board). IsFree z x (1 * 2 ^ lane % 2 ^ 64)) (sym is) (record {
-      row = row;
-      within = λ l t. let same : l ≡ lane = one_lane lane l low t in omega arith;
-      alive = λ l t. subst (λ m. has_entry b.list (x * b.lanes + m) ≡ false) (sym (one_lane lane l low t)) alive;
-    })
-
 -- their entries can be added
 pushed_placed : (a : Inside) (x lost : ℕ) (reason : Reason) → IsSound a → IsFree (board_of a) x lost →
     IsPlaced (a.rows * a.lanes) (removal_list a ++ entries_in a.lanes x lost reason)
@@ -83,28 +101,47 @@ pushed_placed a x lost reason sound free =
     (λ lane i. let on = (in_lanes lost lane i).1 in (pair_below a.rows a.lanes x lane free.row (free.within lane on), free.alive lane on)) sound.placed
 
 -- there is room for them
-pub room-row : (a : Inside) (x lost : ℕ) (reason : Reason) → IsSound a → IsFree (board_of a) x lost → length a.entries.items + length (set_lanes lost) ≤ a.room
-room-row a x lost reason sound free =
+pub record HasRoom (a : Inside) (lost : ℕ) : Type 0 where
+  pub events : length a.events.items < a.room
+  pub firsts : length a.firsts.items < a.room
+  pub count : a.count + count_ones lost < 2 ^ 32
+
+pub room-row : (a : Inside) (x lost : ℕ) (reason : Reason) → IsSound a → IsFree (board_of a) x lost → lost < 2 ^ 64 → 0 < length (set_lanes lost) → HasRoom a lost
+room-row a x lost reason sound free fits some =
     let placed = pushed_placed a x lost reason sound free in
     let f = λ (lane : ℕ). as_entry (x * a.lanes + lane, reason) in
-    omega (
+    let within : a.count + length (set_lanes lost) ≤ a.room = omega (
       arith,
       length-le_from_apart (a.rows * a.lanes) _ placed.apart placed.in_range,
       length-append (removal_list a) (map f (set_lanes lost)),
       length-map (set_lanes lost) f,
-      length-map a.entries.items entry_in,
+      sound.counted.count,
       sound.sized.room,
-    )
+    ) in
+    record {
+      events = omega (arith, within, some, (few a sound).events);
+      firsts = omega (arith, within, some, (few a sound).events, (few a sound).firsts);
+      count = omega (arith, within, ones_of lost fits, sound.sized.few);
+    }
 
 -- an order to which they were added
-pub pushed_sound : (a b : Inside) (x lost : ℕ) (reason : Reason) → IsSound a → IsFree (board_of a) x lost → lost < 2 ^ 64 → b.rows ≡ a.rows →
-    b.lanes ≡ a.lanes → removal_list b ≡ removal_list a ++ entries_in a.lanes x lost reason →
+pub pushed_sound : (a b : Inside) (x lost : ℕ) (reason : Reason) → IsSound a → IsFree (board_of a) x lost → lost < 2 ^ 64 → 0 < length (set_lanes lost) → b.rows ≡ a.rows →
+    b.lanes ≡ a.lanes → CanWait b.waiting_lanes (drop b.next b.waiting.items) → b.count ≡ a.count + count_ones lost → b.firsts.items ≡ a.firsts.items ++ a.count ∷ [] →
+    b.events.items ≡ a.events.items ++ record { row = x; reason = reason; lanes = lost } ∷ [] →
     b.words.items ≡ set a.words.items x (bit_and (get_or a.words.items x 0) (bit_not w64 lost)) → b.stamps.items ≡ [] → IsSized b → IsSound b
-pushed_sound a b x lost reason sound free fits rows lanes list words stamps sized = record {
-  placed = rw (rows, lanes, list) (pushed_placed a x lost reason sound free);
-  stamped = rw stamps (λ p h. absurd (omega arith));
-  alive = rw (lanes, list, words)
-      (AreRows-pushed a.lanes x lost (removal_list a) reason a.words.items sound.sized.few_lanes.1
-      (omega (arith, free.row, sound.sized.words_long)) fits free.within sound.alive);
-  sized = sized;
-}
+pushed_sound a b x lost reason sound free fits some rows lanes waits count firsts events words stamps sized =
+    let e : Event = record { row = x; reason = reason; lanes = lost } in
+    let list : removal_list b ≡ removal_list a ++ entries_in a.lanes x lost reason = ap₂ (λ n es. entries_of n es) lanes events ∙ entries_of-push a.lanes a.events.items e in
+    record {
+      placed = subst (λ n. IsPlaced n (removal_list b)) (sym (ap₂ (λ m n. m * n) rows lanes))
+          (subst (IsPlaced (a.rows * a.lanes)) (sym list) (pushed_placed a x lost reason sound free));
+      counted =
+          rw (lanes, firsts, events, count, ones_of lost fits) (AreCounted-push a.lanes a.count a.firsts.items a.events.items e sound.counted (record { some = some; within = free.within }));
+      waits = waits;
+      stamped = rw stamps (λ p h. absurd (omega arith));
+      alive = subst (λ n. AreRows n (λ p. not (has_entry (removal_list b) p)) b.words.items) (sym lanes)
+          (subst (λ L. AreRows a.lanes (λ p. not (has_entry L p)) b.words.items) (sym list)
+          (rw words (AreRows-pushed a.lanes x lost (removal_list a) reason a.words.items sound.sized.few_lanes.1
+          (omega (arith, free.row, sound.sized.words_long)) fits free.within sound.alive)));
+      sized = sized;
+    }

@@ -1,5 +1,5 @@
 -- What callers see of an order: the removal list, what waits, and what is kept beside them.
-use Rattle.std.specs.Prelude.{ℕ, ◌+◌, ◌*◌, ◌==◌, Bool, List, Option, map}
+use Rattle.std.specs.Prelude.{ℕ, ◌+◌, ◌*◌, ◌==◌, Bool, List, Option, map, flat_map, slice_index}
 use Rattle.std.specs.List.{list_any, position_from, filter}
 use Rattle.roman_model.specs.Lists.{below}
 use Rattle.roman_model.specs.Arena.{Entry}
@@ -17,6 +17,8 @@ pub record Board : Type 0 where
   -- the removal list, and the entries that wait
   pub list : List (Entry ℕ)
   pub waiting : List (Entry ℕ)
+  -- how many pairs each row had in the shape of what waits
+  pub waiting_lanes : ℕ
   -- words of flags, for each number of a pair or of a row whether it is marked
   pub marks : List ℕ
   -- for each row the word that was kept of it
@@ -55,3 +57,7 @@ set_lanes word = filter (is_on word) (below 64)
 -- the entries of those pairs of a row, for one reason
 abbrev pub entries_in : ℕ → ℕ → ℕ → Reason → List (Entry ℕ)
 entries_in lanes row word reason = map (λ lane. as_entry (row * lanes + lane, reason)) (set_lanes word)
+
+-- the same of so many rows from row x on, a word for each
+abbrev pub entries_in_rows : ℕ → ℕ → ℕ → List ℕ → Reason → List (Entry ℕ)
+entries_in_rows lanes x rows words reason = flat_map (λ i. entries_in lanes (x + i) (slice_index words i) reason) (below rows)

@@ -1,19 +1,20 @@
 -- How the tables of an order make what callers see.
-use Rattle.std.specs.Prelude.{◌≡◌, ℕ, ◌+◌, ◌-◌, ◌*◌, ◌/◌, ◌^◌, ◌<◌, ◌≤◌, ◌==◌, not, true, List, map, drop, length, unwrap_or, slice_index, vec_capacity}
-use Rattle.std.specs.List.{IsDistinct}
+use Rattle.std.specs.Prelude.{◌≡◌, ℕ, ◌+◌, ◌-◌, ◌*◌, ◌/◌, ◌^◌, ◌<◌, ◌≤◌, ◌==◌, not, true, List, [], ◌∷◌, drop, length, unwrap_or, slice_index, vec_capacity}
+use Rattle.std.specs.List.{IsDistinct, AllByRecursion}
 use Rattle.roman_model.specs.Arena.{Entry}
 use Rattle.roman_lanes.specs.Rows.{AreRows}
-use Rattle.roman_order.specs.Board.{Board, nodes_of, has_entry, place_in_list}
-use Rattle.roman_order.specs.declared.removal.Removal.{Removal}
+use Rattle.roman_order.specs.Board.{Board, set_lanes, nodes_of, has_entry, place_in_list}
+use Rattle.roman_order.specs.Events.{IsEvent, entries_of}
+use Rattle.roman_order.specs.declared.event.Event.{Event}
 use Rattle.roman_order.specs.declared.order.Order.TheInside.{Inside}
-
--- the entries that a table holds
-abbrev pub entries_of : List Removal → List (Entry ℕ)
-entries_of xs = map (λ x. record { node = x.pair; reason = x.reason }) xs
 
 -- the removal list
 abbrev pub removal_list : Inside → List (Entry ℕ)
-removal_list a = entries_of a.entries.items
+removal_list a = entries_of a.lanes a.events.items
+
+-- the entries that wait
+abbrev pub waiting_list : Inside → List (Entry ℕ)
+waiting_list a = entries_of a.waiting_lanes (drop a.next a.waiting.items)
 
 -- what callers see of the tables
 abbrev pub board_of : Inside → Board
@@ -22,7 +23,8 @@ board_of a = record {
   rows = a.rows;
   lanes = a.lanes;
   list = removal_list a;
-  waiting = entries_of (drop a.next a.waiting.items);
+  waiting = waiting_list a;
+  waiting_lanes = a.waiting_lanes;
   marks = a.marks.items;
   before = a.before.items;
   levels = a.levels.items;
@@ -41,6 +43,22 @@ pub record IsPlaced (pairs : ℕ) (L : List (Entry ℕ)) : Type 0 where
 abbrev pub AreStamps : List (Entry ℕ) → List ℕ → Type 0
 AreStamps L stamps = (p : ℕ) → p < length stamps → slice_index stamps p ≡ stamp_of L p
 
+-- the place of each event's first entry, where n entries stand before the first
+abbrev pub firsts_of : ℕ → List Event → List ℕ
+firsts_of n [] = []
+firsts_of n (e ∷ es) = n ∷ firsts_of (n + length (set_lanes e.lanes)) es
+
+-- the events have entries, which are counted
+pub record AreCounted (lanes n : ℕ) (places : List ℕ) (es : List Event) : Type 0 where
+  pub each : AllByRecursion (IsEvent lanes) es
+  pub count : n ≡ length (entries_of lanes es)
+  pub firsts : places ≡ firsts_of 0 es
+
+-- the events that wait have entries, whose pairs are numbers of 32 bits
+pub record CanWait (lanes : ℕ) (es : List Event) : Type 0 where
+  pub each : AllByRecursion (IsEvent lanes) es
+  pub in_range : (p : ℕ) → has_entry (entries_of lanes es) p ≡ true → p < 2 ^ 32
+
 -- the tables are as long as the shape needs, and have room for the greatest number of pairs
 pub record IsSized (a : Inside) : Type 0 where
   pub few_lanes : (0 < a.lanes) × (a.lanes ≤ 64)
@@ -50,7 +68,8 @@ pub record IsSized (a : Inside) : Type 0 where
   pub before_long : length a.before.items ≡ a.rows
   pub marks_long : length a.marks.items ≡ (a.rows * a.lanes + 63) / 64
   pub next_in : a.next ≤ length a.waiting.items
-  pub entries_room : a.room ≤ vec_capacity a.entries
+  pub events_room : a.room ≤ vec_capacity a.events
+  pub firsts_room : a.room ≤ vec_capacity a.firsts
   pub waiting_room : a.room ≤ vec_capacity a.waiting
   pub stamps_room : a.room ≤ vec_capacity a.stamps
   pub words_room : a.room ≤ vec_capacity a.words
@@ -62,6 +81,8 @@ pub record IsSized (a : Inside) : Type 0 where
 -- the tables say what the list does, and are sized for it
 pub record IsSound (a : Inside) : Type 0 where
   pub placed : IsPlaced (a.rows * a.lanes) (removal_list a)
+  pub counted : AreCounted a.lanes a.count a.firsts.items a.events.items
+  pub waits : CanWait a.waiting_lanes (drop a.next a.waiting.items)
   pub stamped : AreStamps (removal_list a) a.stamps.items
   pub alive : AreRows a.lanes (λ p. not (has_entry (removal_list a) p)) a.words.items
   pub sized : IsSized a

@@ -2,6 +2,7 @@
 ghost use Rattle.std.specs.Prelude.{◌≡◌, ◌≢◌, ℕ, ◌+◌, ◌*◌, ◌/◌, ◌^◌, ◌<◌, ◌≤◌, true, false, nat_lt, length, slice_index, IfSome, IfNone};
 ghost use Rattle.roman_lanes.specs.Rows.{is_on};
 ghost use Rattle.roman_lanes.specs.Flags.{has_flag};
+ghost use Rattle.roman_order.specs.Board.{set_lanes};
 
 use roman_lanes::first_set;
 
@@ -62,6 +63,13 @@ pub(crate) fn lowest(word: u64) -> u32
     ensures first { (bit : ℕ) → bit < result → is_on word bit ≡ false }
 {
     word.trailing_zeros()
+}
+
+/// How many lanes a word has.
+pub(crate) fn lanes_in(word: u64) -> u32
+    ensures { result ≡ length (set_lanes word) }
+{
+    word.count_ones()
 }
 
 /// Clears the lowest flag of a word, and gives its number.

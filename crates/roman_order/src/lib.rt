@@ -9,9 +9,12 @@
 //! `specs/` has what contracts see of an order (`Board`) and how its tables make that (`Sound`).
 #![tactic(auto)]
 
+mod ahead;
+mod event;
 mod flags;
 mod order;
-mod removal;
 
+pub use ahead::Ahead;
+pub use event::Event;
 pub use order::Order;
 pub use roman_model::Reason;

@@ -1,18 +1,21 @@
 //! The removal list, and what is kept beside it.
-ghost use Rattle.std.specs.Prelude.{◌≡◌, ℕ, ◌+◌, ◌*◌, ◌/◌, ◌<◌, ◌≤◌, ◌==◌, not, true, false, [], ◌∷◌, length, replicate, slice_get, count_by, vec_capacity};
+ghost use Rattle.std.specs.Prelude.{◌≡◌, ℕ, ◌+◌, ◌*◌, ◌/◌, ◌<◌, ◌≤◌, ◌==◌, not, true, false, [], ◌∷◌, ◌++◌, length, replicate, count_by, vec_capacity};
 ghost use Rattle.std.specs.Prelude.{IfOk, IfSome, IfNone};
 ghost use Rattle.std.specs.List.{IsDistinct};
 ghost use Rattle.roman_model.specs.Lists.{below};
 ghost use Rattle.roman_order.specs.Board.{pairs_of, as_entry, nodes_of, has_entry, is_marked};
+ghost use Rattle.roman_order.specs.Events.{IsEvent, entries_at};
 
 mod levels;
 mod marks;
 mod places;
 mod pushes;
+mod reading;
+mod walking;
 mod words;
 
-use crate::flags;
-use crate::removal::Removal;
+use crate::event::Event;
+use crate::flags::{self, lowest};
 use roman_model::Reason;
 use std::alloc::{AllocError, Global};
 use std::marker::Model;
@@ -33,12 +36,18 @@ pub struct Order {
     room: u32,
     rows: u32,
     lanes: u32,
-    // the entries that wait are those from here on
+    // how many entries the list has
+    count: u32,
+    // the entries that wait are those of the events from here on, of rows of so many lanes
     next: usize,
+    waiting_lanes: u32,
     // where the search for marks goes on
     cursor: usize,
-    entries: Vec<Removal>,
-    waiting: Vec<Removal>,
+    // the list; no event is without lanes
+    events: Vec<Event>,
+    // the place of each event's first entry
+    firsts: Vec<u32>,
+    waiting: Vec<Event>,
     // each pair's place in the list, or `u32::MAX`; empty where they weren't asked for
     stamps: Vec<u32>,
     // a word for each row, with the bits of the pairs that aren't listed
@@ -73,6 +82,7 @@ impl Order {
           lanes = 1;
           list = [];
           waiting = [];
+          waiting_lanes = 1;
           marks = [];
           before = [];
           levels = [];
@@ -83,9 +93,12 @@ impl Order {
             room: cap_pairs,
             rows: 0,
             lanes: 1,
+            count: 0,
             next: 0,
+            waiting_lanes: 1,
             cursor: 0,
-            entries: Vec::with_capacity(alloc, places)?,
+            events: Vec::with_capacity(alloc, places)?,
+            firsts: Vec::with_capacity(alloc, places)?,
             waiting: Vec::with_capacity(alloc, places)?,
             stamps: Vec::with_capacity(alloc, places)?,
             words: Vec::with_capacity(alloc, places)?,
@@ -106,9 +119,12 @@ impl Order {
             room: self.room,
             rows: self.rows,
             lanes: self.lanes,
+            count: self.count,
             next: self.next,
+            waiting_lanes: self.waiting_lanes,
             cursor: self.cursor,
-            entries: copied(alloc, &self.entries, places)?,
+            events: copied(alloc, &self.events, places)?,
+            firsts: copied(alloc, &self.firsts, places)?,
             waiting: copied(alloc, &self.waiting, places)?,
             stamps: Vec::with_capacity(alloc, places)?,
             words: copied(alloc, &self.words, places)?,
@@ -125,7 +141,8 @@ impl Order {
         requires idle { from.now.waiting ≡ [] }
         ensures { self.new ≡ from.now }
     {
-        rewrite(&mut self.entries, &from.entries);
+        rewrite(&mut self.events, &from.events);
+        rewrite(&mut self.firsts, &from.firsts);
         rewrite(&mut self.words, &from.words);
         rewrite(&mut self.before, &from.before);
         rewrite(&mut self.marks, &from.marks);
@@ -133,6 +150,8 @@ impl Order {
         self.stamps.clear();
         self.waiting.clear();
         self.next = 0;
+        self.waiting_lanes = from.waiting_lanes;
+        self.count = from.count;
         self.cursor = from.cursor;
         self.rows = from.rows;
         self.lanes = from.lanes;
@@ -156,7 +175,9 @@ impl Order {
         } }
         ensures unmarked { (p : ℕ) → is_marked self.new p ≡ false }
     {
-        self.entries.clear();
+        self.events.clear();
+        self.firsts.clear();
+        self.count = 0;
         self.stamps.clear();
         self.levels.clear();
         let pairs = rows * lanes;
@@ -181,6 +202,7 @@ impl Order {
           lanes = lanes;
           list = [];
           waiting = self.old.list;
+          waiting_lanes = self.old.lanes;
           marks = self.new.marks;
           before = self.new.before;
           levels = [];
@@ -188,7 +210,10 @@ impl Order {
         ensures unmarked { (p : ℕ) → is_marked self.new p ≡ false }
     {
         self.waiting.clear();
-        mem::swap(&mut self.entries, &mut self.waiting);
+        mem::swap(&mut self.events, &mut self.waiting);
+        self.waiting_lanes = self.lanes;
+        self.firsts.clear();
+        self.count = 0;
         self.stamps.clear();
         self.levels.clear();
         self.next = 0;
@@ -210,9 +235,32 @@ impl Order {
         if self.next == self.waiting.len() {
             return None;
         }
-        let entry = self.waiting[self.next];
+        let event = self.waiting[self.next];
+        let lane = lowest(event.lanes);
+        let left = event.lanes & !(1 << lane);
+        let pair = event.row * self.waiting_lanes + lane;
+        if left == 0 {
+            self.next += 1;
+        } else {
+            self.waiting[self.next].lanes = left;
+        }
+        Some((pair, event.reason))
+    }
+
+    /// Takes the first entries that wait, as far as they stand together: an event of the shape before
+    /// the order was reopened. `None` comes exactly where none waits.
+    pub fn next_waiting_event(&mut self) -> Option<Event>
+        ensures none { IfNone result ((self.old.waiting ≡ []) × (self.new ≡ self.old)) }
+        ensures first { IfSome result (λ e. self.old.waiting ≡ entries_at self.old.waiting_lanes e ++ self.new.waiting) }
+        ensures event { IfSome result (λ e. IsEvent self.old.waiting_lanes e) }
+        ensures rest { self.new ≡ record self.old { waiting = self.new.waiting } }
+    {
+        if self.next == self.waiting.len() {
+            return None;
+        }
+        let event = self.waiting[self.next];
         self.next += 1;
-        Some((entry.pair, entry.reason))
+        Some(event)
     }
 
     /// Tells a prover what holds of every order: the pairs of the list differ and are in range,
@@ -227,15 +275,14 @@ impl Order {
         ensures marks { length self.now.marks ≡ (pairs_of self.now + 63) / 64 }
         ensures before { length self.now.before ≡ self.now.rows }
     {
-        let _entries = &self.entries;
+        let _events = &self.events;
     }
 
     /// How many entries the list has: at most as many as pairs. The entries aren't counted.
-    #[tactic(auto, using(crate::proofs::Tables::few_entries))]
     pub fn len(&self) -> u32
         ensures value { result ≡ length self.now.list }
     {
-        self.entries.len() as u32
+        self.count
     }
 
     /// How many pairs aren't listed: the pairs less the entries, with no pass over them.
@@ -245,15 +292,6 @@ impl Order {
     {
         self.known();
         self.rows * self.lanes - self.len()
-    }
-
-    /// The entry at place `i` of the list, from 0: the pair, and why it was removed.
-    pub fn entry(&self, i: u32) -> (u32, Reason)
-        requires { i < length self.now.list }
-        ensures { slice_get self.now.list i ≡ Some (as_entry result) }
-    {
-        let entry = self.entries[i as usize];
-        (entry.pair, entry.reason)
     }
 
     /// Whether the pair `p` isn't listed, by the bit of its lane in its row's word.

@@ -6,3 +6,5 @@ pub use Rattle.roman_radix.proofs.Strides.{AreSizes-drop, AreSizes-index, produc
 pub use Rattle.roman_radix.proofs.Moves.{Replaced, replaced}
 -- Rows and lanes.
 pub use Rattle.roman_radix.proofs.RowLemmas.{env_rows_are, exact, lanes_few, lanes_positive, low_of-le, row_below, row_div, row_least, row_mod, tails_from}
+-- Rows as pairs of their own.
+pub use Rattle.roman_radix.proofs.RowLemmas.{AreSizes-take, count_rows, length_rows, row_size, row_stride_of, rows_are, IsSizes-rows}

@@ -1,12 +1,13 @@
 -- Rows and lanes.
-use Rattle.std.proofs.Common.{◌≡◌, ℕ, zero, suc, ◌+◌, ◌*◌, ◌/◌, ◌%◌, ◌<◌, ◌≤◌, cond, List, [], ◌∷◌, length, take, drop, inl, inr, sym, ap, ◌∙◌, subst, arith}
+use Rattle.std.proofs.Common.{◌≡◌, ℕ, zero, suc, ◌+◌, ◌*◌, ◌/◌, ◌%◌, ◌<◌, ◌≤◌, cond, List, [], ◌∷◌, length, take, drop, inl, inr, slice_index, sym, ap, ◌∙◌, subst, arith}
 use native.Mathlib.Nat.{div-div-eq-div-mul}
+use Rattle.std.proofs.lemmas.List.{get_or-take, length-take-le}
 use Rattle.std.proofs.lemmas.Nat.{div-mul-add, div-add-mod', mul-le}
 use Rattle.std.proofs.lemmas.Bool.{cases_lt, lt-ltb, le-ltb}
 use Rattle.roman_model.specs.Lists.{product_of}
 use Rattle.roman_model.specs.Numbers.{Sizes, count}
-use Rattle.roman_radix.specs.Radix.{AreSizes, IsSizes, env_stride_of}
-use Rattle.roman_radix.specs.Rows.{low_of, lanes_of, env_rows_of}
+use Rattle.roman_radix.specs.Radix.{AreSizes, IsSizes, env_stride_of, stride_of}
+use Rattle.roman_radix.specs.Rows.{low_of, lanes_of, env_rows_of, row_sizes}
 use Rattle.roman_radix.proofs.Strides.{product_positive, product_drop-le, AreSizes-drop}
 
 pub low_of-le : (ns : List ℕ) → low_of ns ≤ length ns
@@ -116,3 +117,46 @@ rows_are n h =
     let (m, e) = tails n.seats (low_of n.seats) in
     let whole : count n ≡ n.target * n.env * m * lanes_of n.seats = ap (λ x. n.target * n.env * x) e ∙ omega arith in
     exact (count n) (n.target * n.env * m) (lanes_of n.seats) (lanes_positive n.seats h.seats) whole
+
+-- Rows as pairs of their own: those of the sizes before the lanes.
+
+pub AreSizes-take : (k : ℕ) (ns : List ℕ) → AreSizes ns → AreSizes (take k ns)
+AreSizes-take zero ns h = tt
+AreSizes-take (suc k) [] h = tt
+AreSizes-take (suc k) (n ∷ ns) h = (h.0, h.1, AreSizes-take k ns h.2)
+
+-- the last of the first numbers, and those behind them
+pub product_middle : (ns : List ℕ) (j k : ℕ) → j ≤ k → product_of (drop j (take k ns)) * product_of (drop k ns) ≡ product_of (drop j ns)
+product_middle ns zero k l = product_split ns k
+product_middle [] (suc j) zero l = absurd (omega arith)
+product_middle [] (suc j) (suc k) l = omega arith
+product_middle (n ∷ ns) (suc j) zero l = absurd (omega arith)
+product_middle (n ∷ ns) (suc j) (suc k) l = product_middle ns j k (omega arith)
+
+-- there are as many of them as rows
+pub count_rows : (n : Sizes) → count (row_sizes n) * lanes_of n.seats ≡ count n
+count_rows n =
+    let whole : n.target * n.env * (product_of (take (low_of n.seats) n.seats) * lanes_of n.seats) ≡ count n = ap (λ m. n.target * n.env * m) (product_split n.seats (low_of n.seats)) in
+    omega arith ∙ whole
+
+pub length_rows : (n : Sizes) → length (row_sizes n).seats ≡ low_of n.seats
+length_rows n = length-take-le (low_of n.seats) n.seats (low_of-le n.seats)
+
+pub row_size : (n : Sizes) (k : ℕ) → k < low_of n.seats → slice_index (row_sizes n).seats k ≡ slice_index n.seats k
+row_size n k l = get_or-take (low_of n.seats) n.seats k 0 l
+
+-- what one more state of a component adds to a row's number
+pub row_stride_of : (n : Sizes) (k : ℕ) → k < low_of n.seats → stride_of (row_sizes n) k * lanes_of n.seats ≡ stride_of n k
+row_stride_of n k l = product_middle n.seats (k + 1) (low_of n.seats) (omega arith)
+
+pub IsSizes-rows : (n : Sizes) → IsSizes n → IsSizes (row_sizes n)
+IsSizes-rows n h =
+    let pos : 0 < lanes_of n.seats = lanes_positive n.seats h.seats in
+    let less : count (row_sizes n) * 1 ≤ count (row_sizes n) * lanes_of n.seats = mul-le (count (row_sizes n)) 1 (count (row_sizes n)) (lanes_of n.seats) (omega arith) (omega arith) in
+    record {
+      target = h.target;
+      env = h.env;
+      seats = AreSizes-take (low_of n.seats) n.seats h.seats;
+      few = omega (arith, length_rows n, low_of-le n.seats, h.few);
+      counted = omega (arith, less, count_rows n, h.counted);
+    }

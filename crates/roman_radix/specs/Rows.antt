@@ -19,3 +19,7 @@ env_rows_of n = product_of (take (low_of n.seats) n.seats)
 -- how many rows there are for each state of the target
 abbrev pub target_rows_of : Sizes → ℕ
 target_rows_of n = n.env * env_rows_of n
+
+-- the sizes by which rows are numbered: those of the components before the lanes
+abbrev pub row_sizes : Sizes → Sizes
+row_sizes n = record { target = n.target; env = n.env; seats = take (low_of n.seats) n.seats }

@@ -6,7 +6,7 @@ ghost use Rattle.roman_model.specs.Numbers.{IsPairOf, grown_sizes, sizes_without
 ghost use Rattle.roman_model.specs.Change.{grown, without};
 ghost use Rattle.roman_radix.specs.Radix.{IsSizes, stride_of, env_stride_of, target_stride_of, with_part, moved, AreSizes};
 ghost use Rattle.roman_radix.specs.Places.{padded, strides_of};
-ghost use Rattle.roman_radix.specs.Rows.{low_of, lanes_of};
+ghost use Rattle.roman_radix.specs.Rows.{low_of, lanes_of, row_sizes};
 
 use roman_model::MAX_SERVICES;
 use std::marker::Model;
@@ -105,6 +105,17 @@ impl Shape {
         ensures few { (0 < result) × (result ≤ 64) }
     {
         self.lanes
+    }
+
+    /// How many components stand before a band's own, and how many rows a band has, from 1 to 64. A
+    /// band's own components are the last of those before the lanes, as many of them as have sizes
+    /// whose product is at most 64: at all rows of a band the other components before the lanes are
+    /// each in one state. Row x is row `x % width` of band `x / width`.
+    pub fn band(&self) -> (u8, u32)
+        ensures first { result.0 ≡ low_of (row_sizes self.now).seats }
+        ensures width { result.1 ≡ lanes_of (row_sizes self.now).seats }
+    {
+        lanes_over(self.low, &self.sizes)
     }
 
     /// How many rows there are: the pairs divided by the lanes, with no rest.
@@ -360,8 +371,7 @@ fn strides_over(components: u8, sizes: &[u8; PLACES]) -> ([u32; PLACES], u32)
 
 /// How many components stand before the lanes, and how many lanes there are.
 fn lanes_over(components: u8, sizes: &[u8; PLACES]) -> (u8, u32)
-    requires few { components ≤ MAX_SERVICES }
-    requires padded { sizes.now ≡ padded (take components sizes.now) }
+    requires many { components ≤ length sizes.now }
     requires positive { AreSizes (take components sizes.now) }
     ensures low { result.0 ≡ low_of (take components sizes.now) }
     ensures lanes { result.1 ≡ lanes_of (take components sizes.now) }

@@ -6,7 +6,7 @@ ghost use Rattle.roman_order.specs.Board.{pairs_of};
 ghost use Rattle.roman_rank.specs.Ranking.{AreRanks, GivesLevel, HoldsAllLost};
 
 use roman_io::Steps;
-use roman_order::Order;
+use roman_order::{Ahead, Order};
 use roman_relation::settle_list;
 use roman_rules::Rules;
 use std::alloc::{AllocError, Global};
@@ -31,25 +31,29 @@ pub(crate) fn depths_by<J: Rules>(
     // No pair is deeper than there are pairs.
     let count = order.levels().len().min(pairs as usize + 1);
     let mut start = 0;
+    let mut near = 0;
     for n in 0..count {
         let end = order.levels()[n];
-        give_depth(order, &mut depths, start, end, n as u32);
+        near = give_depth(order, &mut depths, start, end, n as u32, near);
         start = end;
     }
     Ok(depths)
 }
 
-/// Gives the pairs of the entries from `start` on to `end` the depth `n`.
-fn give_depth(order: &Order, depths: &mut [u32], start: u32, end: u32, n: u32)
+/// Gives the pairs of the entries from `start` on to `end` the depth `n`. The first is looked for at
+/// the event at place `near` before others, and the place of the next level's first one is given.
+fn give_depth(order: &Order, depths: &mut [u32], start: u32, end: u32, n: u32, near: usize) -> usize
     requires pairs { length depths.old ≡ pairs_of order.now }
     requires within { end ≤ length order.now.list }
     ensures { GivesLevel order.now.list start end n depths.old depths.new }
 {
     order.known();
+    let mut ahead = Ahead::nothing(near);
     for i in start..end {
-        let (pair, _) = order.entry(i);
+        let (pair, _) = order.walk(i, &mut ahead);
         depths[pair as usize] = n;
     }
+    ahead.next()
 }
 
 /// The depth of each pair, or `u32::MAX`, by rounds on a list of its own.

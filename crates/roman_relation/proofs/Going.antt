@@ -23,14 +23,14 @@ goes_on_on A a b c p q = record {
 
 -- the second order has the room and the shape of the first, and the same entries wait
 abbrev pub SameFrame : Board → Board → Type 0
-SameFrame b c = (c.cap_pairs ≡ b.cap_pairs) × (c.rows ≡ b.rows) × (c.lanes ≡ b.lanes) × (c.waiting ≡ b.waiting)
+SameFrame b c = (c.cap_pairs ≡ b.cap_pairs) × (c.rows ≡ b.rows) × (c.lanes ≡ b.lanes) × (c.waiting ≡ b.waiting) × (c.waiting_lanes ≡ b.waiting_lanes)
 
 pub shaped_like : (A : Arena ℕ) (lanes : ℕ) (b c : Board) → SameFrame b c → IsShaped A lanes b → IsShaped A lanes c
 shaped_like A lanes b c same s = record { pairs = ap₂ (λ x y. x * y) same.1 same.2 ∙ s.pairs; lanes = same.2 ∙ s.lanes }
 
 -- what has the shape and has gone on has the shape
 pub shaped_on : (A : Arena ℕ) (lanes : ℕ) (b c : Board) → IsShaped A lanes b → SettlesOn A b c → IsShaped A lanes c
-shaped_on A lanes b c s g = shaped_like A lanes b c (subst (SameFrame b) (sym g.rest) (refl, refl, refl, refl)) s
+shaped_on A lanes b c s g = shaped_like A lanes b c (subst (SameFrame b) (sym g.rest) (refl, refl, refl, refl, refl)) s
 
 -- by entries that a removal list can have next
 pub goes_on_added : (A : Arena ℕ) (b c : Board) (M : List (Entry ℕ)) → IsOrder A (b.list ++ M) → c ≡ record b { list = b.list ++ M } → SettlesOn A b c
@@ -47,5 +47,5 @@ same_list L M b e = sym (take-length M) ∙ (ap (λ n. take n M) e ∙ b)
 
 -- such an order differs in nothing but what rounds change
 pub rest_from : (b c : Board) → SameFrame b c → c ≡ record b { list = c.list; marks = c.marks; before = c.before; levels = c.levels }
-rest_from b c (room, rows, lanes, waiting) =
-    λ i. record { cap_pairs = room i; rows = rows i; lanes = lanes i; list = c.list; waiting = waiting i; marks = c.marks; before = c.before; levels = c.levels }
+rest_from b c (room, rows, lanes, waiting, waiting_lanes) =
+    λ i. record { cap_pairs = room i; rows = rows i; lanes = lanes i; list = c.list; waiting = waiting i; waiting_lanes = waiting_lanes i; marks = c.marks; before = c.before; levels = c.levels }

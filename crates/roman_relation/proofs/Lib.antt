@@ -1,9 +1,12 @@
 pub mod Beginnings
 pub mod Going
 pub mod Lanes
+pub mod Bands
 pub mod Pushing
 pub mod Playing
 pub mod Marks
+pub mod Losses
+pub mod Backs
 pub mod Rising
 pub mod Choosing
 pub mod Relating

@@ -1,4 +1,4 @@
--- Marks that are taken off one by one, and rows that are noted.
+-- Marks that are taken off one by one, and bands that are noted.
 use Rattle.std.proofs.Common.{◌≡◌, ◌≢◌, ℕ, zero, suc, ◌+◌, ◌*◌, ◌/◌, ◌%◌, ◌<◌, ◌==◌, Bool, true, false, cond, not, List, [], ◌∷◌, ◌++◌, length, take, Some, slice_get, slice_index, IsTrue, inl, inr, refl, sym, ap, ◌∙◌, subst, arith}
 use Rattle.std.specs.Prelude.{count_by}
 use Rattle.std.proofs.lemmas.Bool.{cases_eq, cases_lt, both_ways, not_from_true, not_from_false, not-true, false_from_ne_true, or_cases, eqb-true}
@@ -47,65 +47,65 @@ marked_within words p on = elim (cases_lt p (64 * length words)) [
       absurd (both_ways (bit_at (slice_index words (p / 64)) (p % 64) == 1) (ap (λ w. bit_at w (p % 64) == 1) none ∙ ap (λ n. n == 1) (bit_at-zero (p % 64))) on)
 ]
 
--- ---- a row that is noted
+-- what is still marked once a mark is taken off was marked
+pub still_marked : (b c : Board) (y z : ℕ) → is_marked b y ≡ true → ((z ≡ y → ⊥) → is_marked c z ≡ is_marked b z) → is_marked c z ≡ true → is_marked b z ≡ true
+still_marked b c y z some others on = elim (cases_eq z y) [ inl e ↦ ap (is_marked b) e ∙ some | inr ne ↦ sym (others ne) ∙ on ]
 
--- the row's word is kept, and the rows before what it had lost are marked
-pub record IsNoted (A : Arena ℕ) (lanes row : ℕ) (b c : Board) : Type 0 where
+-- ---- a band that is noted
+
+-- the words of the band's rows are kept, and the bands before it are marked
+pub record IsNoted (A : Arena ℕ) (lanes band y : ℕ) (b c : Board) : Type 0 where
   pub some : 0 < lanes
   pub same : c.list ≡ b.list
-  pub inside : row < length b.before
   pub long : length c.before ≡ length b.before
-  pub kept : HasLanes lanes row (λ p. not (is_listed A b.list p)) (slice_index c.before row)
-  pub others : (y : ℕ) → y ≢ row → slice_index c.before y ≡ slice_index b.before y
-  pub still : (y : ℕ) → is_marked b y ≡ true → is_marked c y ≡ true
-  pub marked : (lane p a k : ℕ) → lane < lanes → is_on (slice_index b.before row) lane ≡ true → IsTrue (is_listed A b.list (row * lanes + lane)) → p < length A.nodes →
-      IsIn (row * lanes + lane) (A.outcomes p a k) → is_marked c (p / lanes) ≡ true
+  pub kept : (row : ℕ) → row / band ≡ y → HasLanes lanes row (λ p. not (is_listed A b.list p)) (slice_index c.before row)
+  pub others : (row : ℕ) → row / band ≢ y → slice_index c.before row ≡ slice_index b.before row
+  pub still : (z : ℕ) → is_marked b z ≡ true → is_marked c z ≡ true
+  pub marked : (p q a k : ℕ) → p < length A.nodes → q / lanes / band ≡ y → IsIn q (A.outcomes p a k) → is_marked c (p / lanes / band) ≡ true
 
--- the bit of a pair of the row
-pub noted_own : (A : Arena ℕ) (lanes row : ℕ) (b c : Board) (p : ℕ) → IsNoted A lanes row b c → p / lanes ≡ row → on_at lanes c.before p ≡ not (is_listed A b.list p)
-noted_own A lanes row b c p is e =
-    let place : row * lanes + p % lanes ≡ p = ap (λ x. x * lanes + p % lanes) (sym e) ∙ div-add-mod' p lanes in
-    ap (λ x. is_on (slice_index c.before x) (p % lanes)) e ∙ (is.kept.each (p % lanes) (mod_below p lanes is.some) ∙ ap (λ q. not (is_listed A b.list q)) place)
+-- the bit of a pair of the band
+pub noted_own : (A : Arena ℕ) (lanes band y : ℕ) (b c : Board) (p : ℕ) → IsNoted A lanes band y b c → p / lanes / band ≡ y → on_at lanes c.before p ≡ not (is_listed A b.list p)
+noted_own A lanes band y b c p is e = (is.kept (p / lanes) e).each (p % lanes) (mod_below p lanes is.some) ∙ ap (λ q. not (is_listed A b.list q)) (div-add-mod' p lanes)
 
 -- the bit of another pair
-pub noted_other : (A : Arena ℕ) (lanes row : ℕ) (b c : Board) (p : ℕ) → IsNoted A lanes row b c → p / lanes ≢ row → on_at lanes c.before p ≡ on_at lanes b.before p
-noted_other A lanes row b c p is ne = ap (λ w. is_on w (p % lanes)) (is.others (p / lanes) ne)
+pub noted_other : (A : Arena ℕ) (lanes band y : ℕ) (b c : Board) (p : ℕ) → IsNoted A lanes band y b c → p / lanes / band ≢ y → on_at lanes c.before p ≡ on_at lanes b.before p
+noted_other A lanes band y b c p is ne = ap (λ w. is_on w (p % lanes)) (is.others (p / lanes) ne)
 
-pub noted_marking : (A : Arena ℕ) (lanes row start end : ℕ) (b c : Board) → IsNoted A lanes row b c → IsMarking A lanes start end b →
-    IsMarking A lanes start end c
-noted_marking A lanes row start end b c is marking = subst (IsMarking A lanes start end) (sym (ap (λ L. record c { list = L }) is.same)) (record {
-  old = λ p l on. elim (cases_eq (p / lanes) row) [
+pub noted_marking : (A : Arena ℕ) (lanes band y start end : ℕ) (b c : Board) → IsNoted A lanes band y b c → IsMarking A lanes band start end b →
+    IsMarking A lanes band start end c
+noted_marking A lanes band y start end b c is marking = subst (IsMarking A lanes band start end) (sym (ap (λ L. record c { list = L }) is.same)) (record {
+  old = λ p l on. elim (cases_eq (p / lanes / band) y) [
     | inl e ↦ false_from_ne_true (is_listed A (take start b.list) p)
-        (λ t. both_ways (is_listed A b.list p) (not-true (is_listed A b.list p) (sym (noted_own A lanes row b c p is e) ∙ on)) (take_listed A start b.list p t))
-    | inr ne ↦ marking.old p l (sym (noted_other A lanes row b c p is ne) ∙ on)
+        (λ t. both_ways (is_listed A b.list p) (not-true (is_listed A b.list p) (sym (own p e) ∙ on)) (take_listed A start b.list p t))
+    | inr ne ↦ marking.old p l (sym (other p ne) ∙ on)
   ];
-  alive = λ p l off. elim (cases_eq (p / lanes) row) [
-    | inl e ↦ noted_own A lanes row b c p is e ∙ not_from_false (is_listed A b.list p) off
-    | inr ne ↦ noted_other A lanes row b c p is ne ∙ marking.alive p l off
+  alive = λ p l off. elim (cases_eq (p / lanes / band) y) [
+    | inl e ↦ own p e ∙ not_from_false (is_listed A b.list p) off
+    | inr ne ↦ other p ne ∙ marking.alive p l off
   ];
-  past = λ y lane h l. elim (cases_eq y row) [
-    | inl e ↦ ap (λ z. is_on (slice_index c.before z) lane) e ∙ is.kept.rest lane l
-    | inr ne ↦ ap (λ w. is_on w lane) (is.others y ne) ∙ marking.past y lane (omega (arith, is.long)) l
+  past = λ row lane h l. elim (cases_eq (row / band) y) [
+    | inl e ↦ (is.kept row e).rest lane l
+    | inr ne ↦ ap (λ w. is_on w lane) (is.others row ne) ∙ marking.past row lane (omega (arith, is.long)) l
   ];
-  noted = λ p t f. elim (cases_eq (p / lanes) row) [
-    | inl e ↦ noted_own A lanes row b c p is e ∙ not_from_true (is_listed A b.list p) (take_listed A end b.list p t)
-    | inr ne ↦ noted_other A lanes row b c p is ne ∙ marking.noted p t f
+  noted = λ p t f. elim (cases_eq (p / lanes / band) y) [
+    | inl e ↦ own p e ∙ not_from_true (is_listed A b.list p) (take_listed A end b.list p t)
+    | inr ne ↦ other p ne ∙ marking.noted p t f
   ];
-  marked = λ p q a k l m i t f off. by_test (on_at lanes b.before q)
-      (λ on. elim (cases_eq (q / lanes) row) [
-        | inl e ↦
-            let place : row * lanes + q % lanes ≡ q = ap (λ x. x * lanes + q % lanes) (sym e) ∙ div-add-mod' q lanes in
-            is.marked (q % lanes) p a k (mod_below q lanes is.some) (ap (λ x. is_on (slice_index b.before x) (q % lanes)) (sym e) ∙ on)
-            (subst (λ r. IsTrue (is_listed A b.list r)) (sym place) t) l
-            (subst (λ r. IsIn r (A.outcomes p a k)) (sym place) i)
-        | inr ne ↦ absurd (both_ways (on_at lanes b.before q) (sym (noted_other A lanes row b c q is ne) ∙ off) on)
-      ])
-      (λ was_off. is.still (p / lanes) (marking.marked p q a k l m i t f was_off));
+  marked = λ p q a k l m i t f off. elim (cases_eq (q / lanes / band) y) [
+    | inl e ↦ is.marked p q a k l e i
+    | inr ne ↦ is.still (p / lanes / band) (marking.marked p q a k l m i t f (sym (other q ne) ∙ off))
+  ];
 })
+  where
+    own : (p : ℕ) → p / lanes / band ≡ y → on_at lanes c.before p ≡ not (is_listed A b.list p)
+    own p e = noted_own A lanes band y b c p is e
+
+    other : (p : ℕ) → p / lanes / band ≢ y → on_at lanes c.before p ≡ on_at lanes b.before p
+    other p ne = noted_other A lanes band y b c p is ne
 
 -- one entry further
-pub noted_more : (A : Arena ℕ) → IsNumbered A → (lanes start i : ℕ) (b : Board) (x : Entry ℕ) → slice_get b.list i ≡ Some x → on_at lanes b.before x.node ≡ false → IsMarking A lanes start i b → IsMarking A lanes start (i + 1) b
-noted_more A ok lanes start i b x e off marking =
+pub noted_more : (A : Arena ℕ) → IsNumbered A → (lanes band start i : ℕ) (b : Board) (x : Entry ℕ) → slice_get b.list i ≡ Some x → on_at lanes b.before x.node ≡ false → IsMarking A lanes band start i b → IsMarking A lanes band start (i + 1) b
+noted_more A ok lanes band start i b x e off marking =
     let within : i < length b.list = slice_get_within b.list i x e in
     let more : take (i + 1) b.list ≡ take i b.list ++ x ∷ [] = take_more b.list i x within ∙ ap (λ y. take i b.list ++ y ∷ []) (get_or_from_slice_get b.list i x x e) in
     record {
@@ -122,13 +122,6 @@ noted_more A ok lanes start i b x e off marking =
 -- an entry's node is listed
 pub entry_listed : (A : Arena ℕ) → IsNumbered A → (L : List (Entry ℕ)) (i : ℕ) (x : Entry ℕ) → slice_get L i ≡ Some x → IsTrue (is_listed A L x.node)
 entry_listed A ok L i x e = in_listed A (numbered_same A ok) L x (contains_in L x (i, slice_get_within L i x e, get_or_from_slice_get L i x x e))
-
--- and a pair of the order
-pub entry_within : (A : Arena ℕ) → IsNumbered A → (lanes i : ℕ) (b d : Board) (x : Entry ℕ) → IsShaped A lanes b →
-    ((p : ℕ) → has_entry b.list p ≡ true → p < pairs_of b) → d.list ≡ b.list → slice_get d.list i ≡ Some x →
-    x.node < length A.nodes
-entry_within A ok lanes i b d x shaped in_range same e =
-    omega (arith, in_range x.node (sym (ap (λ L. has_entry L x.node) same) ∙ (sym (listed_is A ok d.list x.node) ∙ entry_listed A ok d.list i x e)), shaped.pairs)
 
 -- one entry further the fall has what leads to its node
 pub fall_more : (A : Arena ℕ) (L : List (Entry ℕ)) (i : ℕ) (x : Entry ℕ) → slice_get L i ≡ Some x → fall A (take (i + 1) L) ≡ fall A (take i L) + length (back A x.node)

@@ -17,15 +17,9 @@ use Rattle.roman_relation.specs.Rounds.{AreUnlisted, AwaitsRound, InRound, IsJud
 use Rattle.roman_relation.proofs.Beginnings.{listed_is, begins_listed, begins_unlisted, take_listed}
 use Rattle.roman_relation.proofs.Lanes.{at_pair, on_lane}
 
--- all actions are judged
-pub done_all : (A : Arena ℕ) → IsNumbered A → (start p n : ℕ) (c : Board) → A.actions ≤ n → ((a : ℕ) → a < n → IsJudged A start c p a) → IsPairJudged A start c p
-done_all A ok start p n c enough judged a off = by_test (A.allows p a)
-    (λ t. judged a (let l : a < A.actions = ok.allowed p a t in omega arith) off)
-    (λ refused. unallowed_unjustified A (is_listed A (take start c.list)) p a refused)
-
 -- between rounds a round can begin
-pub round_begins : (A : Arena ℕ) (lanes start : ℕ) (b : Board) → start ≡ length b.list → AwaitsRound A lanes b → InRound A lanes start b
-round_begins A lanes start b e ready =
+pub round_begins : (A : Arena ℕ) (lanes band start : ℕ) (b : Board) → start ≡ length b.list → AwaitsRound A lanes band b → InRound A lanes start b
+round_begins A lanes band start b e ready =
     let all : take start b.list ≡ b.list = ap (λ n. take n b.list) e ∙ take-length b.list in
     record {
       valid = ready.valid;
@@ -34,16 +28,16 @@ round_begins A lanes start b e ready =
       because = λ p t. inl (subst (λ L. IsTrue (is_listed A L p)) (sym all) t);
     }
 
--- after the marked rows were judged all pairs are done
-pub all_done : (A : Arena ℕ) (lanes start : ℕ) (b c : Board) → start ≡ length b.list → AwaitsRound A lanes b → Begins b.list c.list →
-    ((p : ℕ) → p < length A.nodes → is_marked b (p / lanes) ≡ true → IsPairJudged A start c p) → (p : ℕ) → p < length A.nodes → IsPairJudged A start c p
-all_done A lanes start b c e ready begins done p l a off = by_test (is_marked b (p / lanes))
+-- after the marked bands were judged all pairs are done
+pub all_done : (A : Arena ℕ) (lanes band start : ℕ) (b c : Board) → start ≡ length b.list → AwaitsRound A lanes band b → Begins b.list c.list →
+    ((p : ℕ) → p < length A.nodes → is_marked b (p / lanes / band) ≡ true → IsPairJudged A start c p) → (p : ℕ) → p < length A.nodes → IsPairJudged A start c p
+all_done A lanes band start b c e ready begins done p l a off = by_test (is_marked b (p / lanes / band))
     (λ t. done p l t a off)
     (λ f. subst (λ L. IsFalse (is_justified A (is_listed A L) p (Act a))) (sym (ap (λ n. take n c.list) e ∙ begins)) (ready.served p a l f (begins_unlisted A b.list c.list p begins off)))
 
 -- then nothing is marked, and the words that were kept are those at the round's start
-pub marking_starts : (A : Arena ℕ) (lanes start : ℕ) (c : Board) → 0 < lanes → length A.nodes ≤ length c.before * lanes → InRound A lanes start c → IsMarking A lanes start start c
-marking_starts A lanes start c some long round = record {
+pub marking_starts : (A : Arena ℕ) (lanes band start : ℕ) (c : Board) → 0 < lanes → length A.nodes ≤ length c.before * lanes → InRound A lanes start c → IsMarking A lanes band start start c
+marking_starts A lanes band start c some long round = record {
   old = λ p l on. not-true (is_listed A (take start c.list) p) (sym (at p l) ∙ on);
   alive = λ p l off. at p l ∙ not_from_false (is_listed A (take start c.list) p) (false_from_ne_true (is_listed A (take start c.list) p) (λ t. both_ways (is_listed A c.list p) off (take_listed A start c.list p t)));
   past = λ row lane l m. (round.kept.each row l).rest lane m;
@@ -54,18 +48,21 @@ marking_starts A lanes start c some long round = record {
     at : (p : ℕ) → p < length A.nodes → on_at lanes c.before p ≡ not (is_listed A (take start c.list) p)
     at p l = at_pair lanes (λ q. not (is_listed A (take start c.list) q)) c.before p some (omega arith) round.kept
 
+pub round_keeps : (A : Arena ℕ) (lanes start : ℕ) (c : Board) → 0 < lanes → length A.nodes ≤ length c.before * lanes → InRound A lanes start c → (p : ℕ) → p < length A.nodes → IsFalse (is_listed A (take start c.list) p) → on_at lanes c.before p ≡ true
+round_keeps A lanes start c some long round p l off = at_pair lanes (λ q. not (is_listed A (take start c.list) q)) c.before p some (omega arith) round.kept ∙ not_from_false (is_listed A (take start c.list) p) off
+
 -- when all entries are noted, the words that were kept are those of the list
-kept_at : (A : Arena ℕ) (lanes start : ℕ) (d : Board) → IsMarking A lanes start (length d.list) d → (p : ℕ) → p < length A.nodes → on_at lanes d.before p ≡ not (is_listed A d.list p)
-kept_at A lanes start d marking p l = by_test (is_listed A d.list p)
+kept_at : (A : Arena ℕ) (lanes band start : ℕ) (d : Board) → IsMarking A lanes band start (length d.list) d → (p : ℕ) → p < length A.nodes → on_at lanes d.before p ≡ not (is_listed A d.list p)
+kept_at A lanes band start d marking p l = by_test (is_listed A d.list p)
     (λ t. by_test (is_listed A (take start d.list) p)
     (λ old. false_from_ne_true (on_at lanes d.before p) (λ on. both_ways (is_listed A (take start d.list) p) (marking.old p l on) old) ∙ sym (not_from_true (is_listed A d.list p) t))
     (λ new. marking.noted p (subst (λ L. IsTrue (is_listed A L p)) (sym (take-length d.list)) t) new ∙ sym (not_from_true (is_listed A d.list p) t)))
     (λ f. marking.alive p l f ∙ sym (not_from_false (is_listed A d.list p) f))
 
-pub kept_ends : (A : Arena ℕ) (lanes start : ℕ) (d : Board) → 0 < lanes → length d.before * lanes ≤ length A.nodes → IsMarking A lanes start (length d.list) d → AreUnlisted A lanes d.list d.before
-kept_ends A lanes start d some long marking = record {
+pub kept_ends : (A : Arena ℕ) (lanes band start : ℕ) (d : Board) → 0 < lanes → length d.before * lanes ≤ length A.nodes → IsMarking A lanes band start (length d.list) d → AreUnlisted A lanes d.list d.before
+kept_ends A lanes band start d some long marking = record {
   each = λ row h. record {
-    each = λ lane l. sym (on_lane lanes row lane d.before l) ∙ kept_at A lanes start d marking (row * lanes + lane) (below_all row lane h l);
+    each = λ lane l. sym (on_lane lanes row lane d.before l) ∙ kept_at A lanes band start d marking (row * lanes + lane) (below_all row lane h l);
     rest = λ lane l. marking.past row lane h l;
   };
 }
@@ -73,19 +70,19 @@ kept_ends A lanes start d some long marking = record {
     below_all : (row lane : ℕ) → row < length d.before → lane < lanes → row * lanes + lane < length A.nodes
     below_all row lane h l = let m = mul-add-lt row lanes lane (length d.before) h l in omega (arith, m)
 
--- pairs of rows that aren't marked are served
-pub served_next : (A : Arena ℕ) → IsNumbered A → (lanes start : ℕ) (d : Board) → IsMarking A lanes start (length d.list) d → ((p : ℕ) → p < length A.nodes → IsPairJudged A start d p) →
-    (p a : ℕ) → p < length A.nodes → is_marked d (p / lanes) ≡ false → IsFalse (is_listed A d.list p) → IsFalse (is_justified A (is_listed A d.list) p (Act a))
-served_next A ok lanes start d marking done p a l unmarked off =
-    sym (justified_same A (is_listed A (take start d.list)) (is_listed A d.list) p (Act a) same) ∙ done p l a off
+-- pairs of bands that aren't marked are served
+pub served_next : (A : Arena ℕ) → IsNumbered A → (lanes band start : ℕ) (d : Board) → IsMarking A lanes band start (length d.list) d → ((p : ℕ) → p < length A.nodes → IsPairJudged A start d p) →
+    (p a : ℕ) → p < length A.nodes → is_marked d (p / lanes / band) ≡ false → IsFalse (is_listed A d.list p) → IsFalse (is_justified A (is_listed A d.list) p (Act a))
+served_next A ok lanes band start d marking done p a l certain off =
+    sym (justified_same (record A { outcomes = λ q b k. A.outcomes q a k }) (is_listed A (take start d.list)) (is_listed A d.list) p (Act a) (λ b k q i. same k q i)) ∙ done p l a off
   where
-    same : (b k q : ℕ) → IsIn q (A.outcomes p b k) → is_listed A (take start d.list) q ≡ is_listed A d.list q
-    same b k q i = same_test (is_listed A (take start d.list) q) (is_listed A d.list q) (take_listed A start d.list q)
+    same : (k q : ℕ) → IsIn q (A.outcomes p a k) → is_listed A (take start d.list) q ≡ is_listed A d.list q
+    same k q i = same_test (is_listed A (take start d.list) q) (is_listed A d.list q) (take_listed A start d.list q)
         (λ t. by_test (is_listed A (take start d.list) q) (λ u. u)
         (λ f.
-        let m : q < length A.nodes = ok.closed p b k q l i in
-        let kept_off : on_at lanes d.before q ≡ false = kept_at A lanes start d marking q m ∙ not_from_true (is_listed A d.list q) t in
-        absurd (both_ways (is_marked d (p / lanes)) unmarked (marking.marked p q b k l m i t f kept_off))))
+        let m : q < length A.nodes = ok.closed p a k q l i in
+        let kept_off : on_at lanes d.before q ≡ false = kept_at A lanes band start d marking q m ∙ not_from_true (is_listed A d.list q) t in
+        absurd (both_ways (is_marked d (p / lanes / band)) certain (marking.marked p q a k l m i t f kept_off))))
 
 -- ---- what a round lists
 
@@ -130,8 +127,8 @@ pub round_marks : (A : Arena ℕ) (lanes start : ℕ) (b c : Board) → c ≡ re
 round_marks A lanes start b c e round = subst (InRound A lanes start) (sym e) (record { valid = round.valid; begun = round.begun; kept = round.kept; because = round.because })
 
 -- a change of levels alone
-pub awaits_levels : (A : Arena ℕ) (lanes : ℕ) (b c : Board) (levels : List ℕ) → c ≡ record b { levels = levels } → AwaitsRound A lanes b → AwaitsRound A lanes c
-awaits_levels A lanes b c levels e ready = subst (AwaitsRound A lanes) (sym e) (record {
+pub awaits_levels : (A : Arena ℕ) (lanes band : ℕ) (b c : Board) (levels : List ℕ) → c ≡ record b { levels = levels } → AwaitsRound A lanes band b → AwaitsRound A lanes band c
+awaits_levels A lanes band b c levels e ready = subst (AwaitsRound A lanes band) (sym e) (record {
   shaped = record { pairs = ready.shaped.pairs; lanes = ready.shaped.lanes };
   valid = ready.valid;
   kept = ready.kept;

@@ -1,24 +1,22 @@
 -- Lists with entries for the lanes of a row.
-use Rattle.std.proofs.Common.{◌≡◌, ℕ, ◌+◌, ◌*◌, ◌<◌, ◌≤◌, ◌⊎◌, Bool, true, false, not, ◌&&◌, ◌||◌, List, [], ◌∷◌, ◌++◌, map, length, take, slice_index, IsTrue, IsFalse, inl, inr, refl, sym, ap, ◌∙◌, subst, arith, bit_and, append_assoc, length-append}
-use Rattle.std.proofs.lemmas.Bool.{both_ways, cases_lt, false_from_ne_true, or_cases, or_parts, or_left, or_from, and_parts, and_from, not_from_false, not-true, ne_eqb}
-use Rattle.std.proofs.Math.Bool.{and_comm}
-use Rattle.std.proofs.lemmas.List.{append-nil, take-append-le}
+use Rattle.std.proofs.Common.{◌≡◌, ℕ, zero, suc, ◌+◌, ◌*◌, ◌/◌, ◌<◌, ◌≤◌, ◌⊎◌, Bool, true, false, not, ◌&&◌, ◌||◌, List, [], ◌∷◌, ◌++◌, map, length, take, slice_index, IsTrue, IsFalse, inl, inr, refl, sym, ap, ◌∙◌, subst, arith, append_assoc, length-append}
+use Rattle.std.proofs.lemmas.Bool.{both_ways, cases_lt, cases_eq, false_from_ne_true, or_cases, or_parts, or_left, or_from, and_parts, and_from, not_from_false, not-true, ne_eqb}
+use Rattle.std.proofs.lemmas.List.{append-nil, take-append-le, get_or_past}
 use Rattle.roman_model.specs.Lists.{IsIn, HasNoRepeats, below}
 use Rattle.roman_model.specs.Arena.{Arena, Entry, is_listed, is_justified, IsOrder}
 use Rattle.roman_model.specs.declared.reason.Reason.{Reason}
 use Rattle.roman_model.specs.declared.reason.Reason.TheVariants.{Final, Act}
 use Rattle.roman_model.proofs.CallerLemmas.{from_map, any_from, in_below, listed_append, listed_push, listed_in, justified_more, order_push}
-use Rattle.roman_lanes.specs.Rows.{is_on, HasLanes, AreRows}
-use Rattle.roman_lanes.proofs.CallerLemmas.{on_and}
+use Rattle.roman_lanes.specs.Rows.{is_on, Keeps}
+use Rattle.roman_lanes.proofs.CallerLemmas.{on_zero}
 use Rattle.roman_rules.specs.Numbered.{IsNumbered}
 use Rattle.roman_rules.proofs.CallerLemmas.{numbered_same}
-use Rattle.roman_order.specs.Board.{Board, as_entry, set_lanes, entries_in, has_entry}
-use Rattle.roman_order.proofs.CallerLemmas.{in_lanes, lanes_once, has_entry-lane}
-use Rattle.roman_relation.specs.Shaped.{IsShaped}
+use Rattle.roman_order.specs.Board.{Board, as_entry, set_lanes, entries_in, entries_in_rows, has_entry}
+use Rattle.roman_order.proofs.CallerLemmas.{in_lanes, lanes_once, has_entry-lane, has_entry-later, entries_in_rows-row}
 use Rattle.roman_relation.specs.Settled.{Begins}
 use Rattle.roman_relation.specs.Rounds.{AreUnlisted, InRound, IsJudged, falls}
 use Rattle.roman_relation.proofs.Beginnings.{listed_is, begins_same, begins_unlisted, take_listed}
-use Rattle.roman_relation.proofs.Lanes.{words_row}
+use Rattle.roman_relation.proofs.Lanes.{lane_place}
 
 -- ---- a removal list with the entries of some lanes, for one reason that held before them
 
@@ -70,14 +68,7 @@ lost_parts A gone L lanes row reason lost lane is on =
     let (new, holds) = and_parts (not (is_listed A L p)) (is_justified A gone p reason) (sym (is.is lane (is.within lane on)) ∙ on) in
     (not-true (is_listed A L p) new, holds)
 
--- they aren't listed yet
-pub lost_free : (A : Arena ℕ) → IsNumbered A → (gone : ℕ → Bool) (b : Board) (lanes row : ℕ) (reason : Reason) (lost lane : ℕ) → b.lanes ≡ lanes →
-    IsLost A gone b.list lanes row reason lost → is_on lost lane ≡ true →
-    has_entry b.list (row * b.lanes + lane) ≡ false
-lost_free A ok gone b lanes row reason lost lane same is on =
-    ap (λ m. has_entry b.list (row * m + lane)) same ∙ (sym (listed_is A ok b.list (row * lanes + lane)) ∙ (lost_parts A gone b.list lanes row reason lost lane is on).0)
-
-pub lost_order : (A : Arena ℕ) → IsNumbered A → (gone : ℕ → Bool) (L : List (Entry ℕ)) (lanes row : ℕ) (reason : Reason) (lost : ℕ) →
+lost_order : (A : Arena ℕ) → IsNumbered A → (gone : ℕ → Bool) (L : List (Entry ℕ)) (lanes row : ℕ) (reason : Reason) (lost : ℕ) →
     IsLost A gone L lanes row reason lost → ((q : ℕ) → IsTrue (gone q) → IsTrue (is_listed A L q)) →
     IsOrder A L → IsOrder A (L ++ entries_in lanes row lost reason)
 lost_order A ok gone L lanes row reason lost is less order =
@@ -85,7 +76,7 @@ lost_order A ok gone L lanes row reason lost is less order =
     (λ lane i. lost_parts A gone L lanes row reason lost lane is (in_lanes lost lane i).1)
 
 -- where a pair of the row is still left, the reason doesn't hold
-pub lost_left : (A : Arena ℕ) → IsNumbered A → (gone : ℕ → Bool) (L : List (Entry ℕ)) (lanes row : ℕ) (reason : Reason) (lost lane : ℕ) →
+lost_left : (A : Arena ℕ) → IsNumbered A → (gone : ℕ → Bool) (L : List (Entry ℕ)) (lanes row : ℕ) (reason : Reason) (lost lane : ℕ) →
     IsLost A gone L lanes row reason lost → lane < lanes →
     IsFalse (is_listed A (L ++ entries_in lanes row lost reason) (row * lanes + lane)) → IsFalse (is_justified A gone (row * lanes + lane) reason)
 lost_left A ok gone L lanes row reason lost lane is l off =
@@ -96,7 +87,7 @@ lost_left A ok gone L lanes row reason lost lane is l off =
     (λ t. both_ways (is_on lost lane) parts.1 (is.is lane l ∙ and_from (not (is_listed A L p)) (is_justified A gone p reason) (not_from_false (is_listed A L p) parts.0) t))
 
 -- a pair that is listed then was listed, or the reason holds there
-pub lost_because : (A : Arena ℕ) → IsNumbered A → (gone : ℕ → Bool) (L : List (Entry ℕ)) (lanes row : ℕ) (reason : Reason) (lost q : ℕ) →
+lost_because : (A : Arena ℕ) → IsNumbered A → (gone : ℕ → Bool) (L : List (Entry ℕ)) (lanes row : ℕ) (reason : Reason) (lost q : ℕ) →
     IsLost A gone L lanes row reason lost →
     IsTrue (is_listed A (L ++ entries_in lanes row lost reason) q) → IsTrue (is_listed A L q) ⊎ IsTrue (is_justified A gone q reason)
 lost_because A ok gone L lanes row reason lost q is t =
@@ -107,54 +98,137 @@ lost_because A ok gone L lanes row reason lost q is t =
           inr (subst (λ r. IsTrue (is_justified A gone r reason)) (sym e) (lost_parts A gone L lanes row reason lost lane is on).1)
     ]
 
--- by the word of the row and what is found of it
-pub lost_word : (A : Arena ℕ) (gone : ℕ → Bool) (L : List (Entry ℕ)) (lanes row : ℕ) (reason : Reason) (lost word : ℕ) → lanes ≤ 64 →
-    HasLanes lanes row (λ p. not (is_listed A L p)) word →
-    ((lane : ℕ) → lane < lanes → is_on lost lane ≡ (is_on word lane && is_justified A gone (row * lanes + lane) reason)) →
-    ((lane : ℕ) → is_on word lane ≡ false → is_on lost lane ≡ false) →
-    IsLost A gone L lanes row reason lost
-lost_word A gone L lanes row reason lost word few left is none = record {
-  few = few;
-  within = λ lane on. elim (cases_lt lane lanes) [ inl l ↦ l | inr past ↦ absurd (both_ways (is_on lost lane) (none lane (left.rest lane past)) on) ];
-  is = λ lane l. is lane l ∙ ap (λ b. b && is_justified A gone (row * lanes + lane) reason) (left.each lane l);
-}
+-- ---- the pairs that neighbouring rows lose for a reason
 
-pub lost_unfine : (A : Arena ℕ) → IsNumbered A → (lanes row bits : ℕ) (b : Board) (words : List ℕ) → IsShaped A lanes b → length words ≡ b.rows →
-    row < b.rows → b.lanes ≤ 64 → AreRows b.lanes (λ p. not (has_entry b.list p)) words →
-    HasLanes lanes row (λ p. not (A.fine p)) bits → IsLost A (is_listed A b.list) b.list lanes row Final (bit_and bits (slice_index words row))
-lost_unfine A ok lanes row bits b words shaped long inside few alive fails =
-    let word = slice_index words row in
-    let turned = λ (lane : ℕ). on_and bits word lane ∙ and_comm (is_on bits lane) (is_on word lane) in
-    lost_word A (is_listed A b.list) b.list lanes row Final (bit_and bits word) word (omega (arith, few, shaped.lanes))
-    (words_row A ok lanes row b words shaped long inside alive)
-    (λ lane l. turned lane ∙ ap (λ x. is_on word lane && x) (fails.each lane l))
-    (λ lane off. turned lane ∙ ap (λ x. x && is_on bits lane) off)
+-- a word for each row
+pub record AreLost (A : Arena ℕ) (gone : ℕ → Bool) (L : List (Entry ℕ)) (lanes x rows : ℕ) (reason : Reason) (lost : List ℕ) : Type 0 where
+  pub few : lanes ≤ 64
+  pub within : (i lane : ℕ) → is_on (slice_index lost i) lane ≡ true → lane < lanes
+  pub is : (i lane : ℕ) → i < rows → lane < lanes → is_on (slice_index lost i) lane ≡ (not (is_listed A L ((x + i) * lanes + lane)) && is_justified A gone ((x + i) * lanes + lane) reason)
+
+-- by the words of the rows and what is found of them
+pub are_lost : (A : Arena ℕ) (gone : ℕ → Bool) (L : List (Entry ℕ)) (lanes x rows : ℕ) (reason : Reason) (words old lost : List ℕ) → lanes ≤ 64 → AreUnlisted A lanes L words →
+    x + rows ≤ length words → length old ≡ rows → ((i : ℕ) → i < rows → slice_index old i ≡ slice_index words (x + i)) →
+    Keeps lanes x rows (λ p. is_justified A gone p reason) old lost → AreLost A gone L lanes x rows reason lost
+are_lost A gone L lanes x rows reason words old lost few are inside long same keeps = record {
+  few = few;
+  within = λ i lane on. elim (cases_lt lane lanes) [ inl l ↦ l | inr past ↦ absurd (both_ways (is_on (slice_index lost i) lane) (keeps.none i lane (off i lane past)) on) ];
+  is = λ i lane h l. keeps.each i lane h l
+      ∙ ap (λ b. b && is_justified A gone ((x + i) * lanes + lane) reason) (ap (λ w. is_on w lane) (same i h) ∙ (are.each (x + i) (omega arith)).each lane l);
+}
+  where
+    off : (i lane : ℕ) → lanes ≤ lane → is_on (slice_index old i) lane ≡ false
+    off i lane past = elim (cases_lt i rows) [
+      | inl h ↦ ap (λ w. is_on w lane) (same i h) ∙ (are.each (x + i) (omega arith)).rest lane past
+      | inr out ↦ ap (λ w. is_on w lane) (get_or_past old i 0 (omega arith)) ∙ on_zero lane
+    ]
+
+-- they aren't listed yet
+pub lost_free : (A : Arena ℕ) → IsNumbered A → (gone : ℕ → Bool) (b : Board) (lanes x rows : ℕ) (reason : Reason) (lost : List ℕ) (i lane : ℕ) → b.lanes ≡ lanes → length lost ≡ rows →
+    AreLost A gone b.list lanes x rows reason lost → is_on (slice_index lost i) lane ≡ true → has_entry b.list ((x + i) * b.lanes + lane) ≡ false
+lost_free A ok gone b lanes x rows reason lost i lane same long are on = elim (cases_lt i rows) [
+  | inl h ↦
+      let p = (x + i) * lanes + lane in
+      let l : lane < lanes = are.within i lane on in
+      ap (λ m. has_entry b.list ((x + i) * m + lane)) same
+      ∙ (sym (listed_is A ok b.list p) ∙ not-true (is_listed A b.list p) (and_parts (not (is_listed A b.list p)) (is_justified A gone p reason) (sym (are.is i lane h l) ∙ on)).0)
+  | inr out ↦ absurd (both_ways (is_on (slice_index lost i) lane) (ap (λ w. is_on w lane) (get_or_past lost i 0 (omega arith)) ∙ on_zero lane) on)
+]
+
+-- what a row loses after those before it
+lost_row : (A : Arena ℕ) → IsNumbered A → (gone : ℕ → Bool) (L : List (Entry ℕ)) (lanes x rows : ℕ) (reason : Reason) (lost : List ℕ) (n : ℕ) → AreLost A gone L lanes x rows reason lost → n < rows →
+    IsLost A gone (L ++ entries_in_rows lanes x n lost reason) lanes (x + n) reason (slice_index lost n)
+lost_row A ok gone L lanes x rows reason lost n are h = record {
+  few = are.few;
+  within = are.within n;
+  is = λ lane l. are.is n lane h l ∙ ap (λ b. not b && is_justified A gone ((x + n) * lanes + lane) reason) (sym (later lane l));
+}
+  where
+    later : (lane : ℕ) → lane < lanes → is_listed A (L ++ entries_in_rows lanes x n lost reason) ((x + n) * lanes + lane) ≡ is_listed A L ((x + n) * lanes + lane)
+    later lane l =
+        listed_is A ok (L ++ entries_in_rows lanes x n lost reason) ((x + n) * lanes + lane)
+        ∙ (has_entry-later L lanes x lost reason are.within n n lane (omega arith) l ∙ sym (listed_is A ok L ((x + n) * lanes + lane)))
+
+-- a removal list with their entries is one
+pub rows_order : (A : Arena ℕ) → IsNumbered A → (gone : ℕ → Bool) (L : List (Entry ℕ)) (lanes x rows : ℕ) (reason : Reason) (lost : List ℕ) → AreLost A gone L lanes x rows reason lost →
+    ((q : ℕ) → IsTrue (gone q) → IsTrue (is_listed A L q)) → IsOrder A L → (n : ℕ) → n ≤ rows → IsOrder A (L ++ entries_in_rows lanes x n lost reason)
+rows_order A ok gone L lanes x rows reason lost are less order zero h = subst (IsOrder A) (sym (append-nil L)) order
+rows_order A ok gone L lanes x rows reason lost are less order (suc n) h =
+    let M : List (Entry ℕ) = L ++ entries_in_rows lanes x n lost reason in
+    subst (IsOrder A) (sym (entries_in_rows-row lanes x n lost reason L))
+    (lost_order A ok gone M lanes (x + n) reason (slice_index lost n) (lost_row A ok gone L lanes x rows reason lost n are (omega arith))
+    (λ q t. listed_append A L (entries_in_rows lanes x n lost reason) q ∙ or_left (is_listed A L q) (is_listed A (entries_in_rows lanes x n lost reason) q) (less q t))
+    (rows_order A ok gone L lanes x rows reason lost are less order n (omega arith)))
+
+-- a pair that is listed then was listed, or the reason holds there
+pub rows_because : (A : Arena ℕ) → IsNumbered A → (gone : ℕ → Bool) (L : List (Entry ℕ)) (lanes x rows : ℕ) (reason : Reason) (lost : List ℕ) → AreLost A gone L lanes x rows reason lost →
+    (n q : ℕ) → n ≤ rows → IsTrue (is_listed A (L ++ entries_in_rows lanes x n lost reason) q) → IsTrue (is_listed A L q) ⊎ IsTrue (is_justified A gone q reason)
+rows_because A ok gone L lanes x rows reason lost are zero q h t = inl (subst (λ M. IsTrue (is_listed A M q)) (append-nil L) t)
+rows_because A ok gone L lanes x rows reason lost are (suc n) q h t =
+    elim (lost_because A ok gone (L ++ entries_in_rows lanes x n lost reason) lanes (x + n) reason (slice_index lost n) q (lost_row A ok gone L lanes x rows reason lost n are (omega arith))
+    (subst (λ M. IsTrue (is_listed A M q)) (entries_in_rows-row lanes x n lost reason L) t)) [
+      | inl old ↦ rows_because A ok gone L lanes x rows reason lost are n q (omega arith) old
+      | inr here ↦ inr here
+    ]
+
+-- where a pair of one of the rows is still left, the reason doesn't hold
+pub rows_left : (A : Arena ℕ) → IsNumbered A → (gone : ℕ → Bool) (L : List (Entry ℕ)) (lanes x rows : ℕ) (reason : Reason) (lost : List ℕ) → AreLost A gone L lanes x rows reason lost →
+    (n i lane : ℕ) → n ≤ rows → i < n → lane < lanes → IsFalse (is_listed A (L ++ entries_in_rows lanes x n lost reason) ((x + i) * lanes + lane)) → IsFalse (is_justified A gone ((x + i) * lanes + lane) reason)
+rows_left A ok gone L lanes x rows reason lost are zero i lane h m l off = absurd (omega arith)
+rows_left A ok gone L lanes x rows reason lost are (suc n) i lane h m l off =
+    let M : List (Entry ℕ) = L ++ entries_in_rows lanes x n lost reason in
+    let p : ℕ = (x + i) * lanes + lane in
+    let off_row : IsFalse (is_listed A (M ++ entries_in lanes (x + n) (slice_index lost n) reason) p) = subst (λ N. IsFalse (is_listed A N p)) (entries_in_rows-row lanes x n lost reason L) off in
+    elim (cases_eq i n) [
+      | inl e ↦
+          subst (λ j. IsFalse (is_justified A gone ((x + j) * lanes + lane) reason)) (sym e)
+          (lost_left A ok gone M lanes (x + n) reason (slice_index lost n) lane (lost_row A ok gone L lanes x rows reason lost n are (omega arith)) l
+          (subst (λ j. IsFalse (is_listed A (M ++ entries_in lanes (x + n) (slice_index lost n) reason) ((x + j) * lanes + lane))) e off_row))
+      | inr ne ↦
+          rows_left A ok gone L lanes x rows reason lost are n i lane (omega arith) (omega arith) l
+          (or_parts (is_listed A M p) (is_listed A (entries_in lanes (x + n) (slice_index lost n) reason) p) (sym (listed_append A M (entries_in lanes (x + n) (slice_index lost n) reason) p) ∙ off_row)).0
+    ]
+
+-- a pair that is listed then was listed, or lies in one of the rows
+pub rows_only : (A : Arena ℕ) → IsNumbered A → (gone : ℕ → Bool) (L : List (Entry ℕ)) (lanes x rows : ℕ) (reason : Reason) (lost : List ℕ) → AreLost A gone L lanes x rows reason lost →
+    (n q : ℕ) → IsTrue (is_listed A (L ++ entries_in_rows lanes x n lost reason) q) → IsTrue (is_listed A L q) ⊎ ((x ≤ q / lanes) × (q / lanes < x + n))
+rows_only A ok gone L lanes x rows reason lost are zero q t = inl (subst (λ M. IsTrue (is_listed A M q)) (append-nil L) t)
+rows_only A ok gone L lanes x rows reason lost are (suc n) q t =
+    let M : List (Entry ℕ) = L ++ entries_in_rows lanes x n lost reason in
+    let e : List (Entry ℕ) = entries_in lanes (x + n) (slice_index lost n) reason in
+    elim (or_cases (is_listed A M q) (is_listed A e q) (sym (listed_append A M e q) ∙ subst (λ N. IsTrue (is_listed A N q)) (entries_in_rows-row lanes x n lost reason L) t)) [
+      | inl old ↦ elim (rows_only A ok gone L lanes x rows reason lost are n q old) [ inl was ↦ inl was | inr (low, high) ↦ inr (low, omega arith) ]
+      | inr here ↦
+          let (lane, low, on, same) = listed_lane A ok lanes (x + n) (slice_index lost n) reason q here in
+          let row : q / lanes ≡ x + n = ap (λ z. z / lanes) same ∙ (lane_place lanes (x + n) lane (are.within n lane on)).0 in
+          inr (omega arith, omega arith)
+    ]
 
 -- ---- an action
 
-pub lost_round : (A : Arena ℕ) → IsNumbered A → (lanes start row a lost : ℕ) (b c : Board) → a < A.actions →
-    IsLost A (is_listed A (take start b.list)) b.list lanes row (Act a) lost →
-    c ≡ record b { list = b.list ++ entries_in lanes row lost (Act a) } → InRound A lanes start b → InRound A lanes start c
-lost_round A ok lanes start row a lost b c action is e round = subst (InRound A lanes start) (sym e) (record {
-  valid = lost_order A ok (is_listed A (take start b.list)) b.list lanes row (Act a) lost is (λ q t. take_listed A start b.list q t) round.valid;
-  begun = omega (arith, round.begun, length-append b.list (entries_in lanes row lost (Act a)));
+pub rows_round : (A : Arena ℕ) → IsNumbered A → (lanes start x rows a : ℕ) (lost : List ℕ) (b c : Board) → a < A.actions →
+    AreLost A (is_listed A (take start b.list)) b.list lanes x rows (Act a) lost →
+    c ≡ record b { list = b.list ++ entries_in_rows lanes x rows lost (Act a) } → InRound A lanes start b → InRound A lanes start c
+rows_round A ok lanes start x rows a lost b c action are e round = subst (InRound A lanes start) (sym e) (record {
+  valid = rows_order A ok (is_listed A (take start b.list)) b.list lanes x rows (Act a) lost are (λ q t. take_listed A start b.list q t) round.valid rows (omega arith);
+  begun = omega (arith, round.begun, length-append b.list (entries_in_rows lanes x rows lost (Act a)));
   kept = subst (λ L. AreUnlisted A lanes L b.before) (sym front) round.kept;
   because = λ q t. subst (λ L. IsTrue (is_listed A L q) ⊎ IsTrue (falls A L q)) (sym front)
-      (elim (lost_because A ok (is_listed A (take start b.list)) b.list lanes row (Act a) lost q is t) [
+      (elim (rows_because A ok (is_listed A (take start b.list)) b.list lanes x rows (Act a) lost are rows q (omega arith) t) [
         | inl old ↦ round.because q old
         | inr here ↦ inr (any_from (λ d. is_justified A (is_listed A (take start b.list)) q (Act d)) a (below A.actions) (in_below A.actions a action) here)
       ]);
 })
   where
-    front : take start (b.list ++ entries_in lanes row lost (Act a)) ≡ take start b.list
-    front = take-append-le start b.list (entries_in lanes row lost (Act a)) round.begun
+    front : take start (b.list ++ entries_in_rows lanes x rows lost (Act a)) ≡ take start b.list
+    front = take-append-le start b.list (entries_in_rows lanes x rows lost (Act a)) round.begun
 
-pub lost_judged : (A : Arena ℕ) → IsNumbered A → (lanes start row a lost lane : ℕ) (b c : Board) →
-    IsLost A (is_listed A (take start b.list)) b.list lanes row (Act a) lost →
-    c ≡ record b { list = b.list ++ entries_in lanes row lost (Act a) } → start ≤ length b.list → lane < lanes → IsJudged A start c (row * lanes + lane) a
-lost_judged A ok lanes start row a lost lane b c is e begun l = subst (λ (d : Board). IsJudged A start d (row * lanes + lane) a) (sym e)
-    (λ off. subst (λ L. IsFalse (is_justified A (is_listed A L) (row * lanes + lane) (Act a))) (sym (take-append-le start b.list _ begun))
-    (lost_left A ok (is_listed A (take start b.list)) b.list lanes row (Act a) lost lane is l off))
+pub rows_judged : (A : Arena ℕ) → IsNumbered A → (lanes start x rows a : ℕ) (lost : List ℕ) (i lane : ℕ) (b c : Board) →
+    AreLost A (is_listed A (take start b.list)) b.list lanes x rows (Act a) lost →
+    c ≡ record b { list = b.list ++ entries_in_rows lanes x rows lost (Act a) } → start ≤ length b.list → i < rows → lane < lanes → IsJudged A start c ((x + i) * lanes + lane) a
+rows_judged A ok lanes start x rows a lost i lane b c are e begun h l = subst (λ (d : Board). IsJudged A start d ((x + i) * lanes + lane) a) (sym e)
+    (λ off. subst (λ L. IsFalse (is_justified A (is_listed A L) ((x + i) * lanes + lane) (Act a))) (sym (take-append-le start b.list _ begun))
+    (rows_left A ok (is_listed A (take start b.list)) b.list lanes x rows (Act a) lost are rows i lane (omega arith) h l off))
 
 -- what is judged stays judged
 pub judged_on : (A : Arena ℕ) (start p a : ℕ) (b c : Board) → start ≤ length b.list → Begins b.list c.list → IsJudged A start b p a → IsJudged A start c p a

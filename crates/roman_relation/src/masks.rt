@@ -33,24 +33,24 @@ pub(crate) fn choices<J: Rules>(joint: &J, order: &Order) -> u64
 {
     joint.known();
     let mut count = 0;
-    for x in 0..joint.rows() {
-        count += row_choices(joint, order, x);
+    for y in 0..joint.bands() {
+        count += band_choices(joint, order, y);
     }
     count
 }
 
-/// How many seats the masks of the pairs of a row have together, over all actions: at most 65,536.
-fn row_choices<J: Rules>(joint: &J, order: &Order, x: u32) -> u64
+/// How many seats the masks of the pairs of a band have together, over all actions: at most 4,194,304.
+fn band_choices<J: Rules>(joint: &J, order: &Order, y: u32) -> u64
     requires shaped { IsShaped (J.arena joint.now) (J.lanes joint.now) order.now }
-    requires row { x < order.now.rows }
+    requires band { y * J.band joint.now < order.now.rows }
     ensures counted { let A = J.arena joint.now in
-        result ≡ sum_by (λ lane. sum_by (λ a. length (mask_of A (is_listed A order.now.list) (x * J.lanes joint.now + lane) a))
-        (below A.actions)) (below (J.lanes joint.now)) }
-    ensures bound { result ≤ 65536 }
+        result ≡ sum_by (λ i. sum_by (λ lane. sum_by (λ a. length (mask_of A (is_listed A order.now.list) ((y * J.band joint.now + i) * J.lanes joint.now + lane) a))
+        (below A.actions)) (below (J.lanes joint.now))) (below (J.band joint.now)) }
+    ensures bound { result ≤ 4194304 }
 {
     joint.known();
     order.known();
-    let row = joint.row(x);
+    let row = joint.first_row(y);
     let words = order.words();
     let mut count = 0;
     for a in 0..joint.actions() {

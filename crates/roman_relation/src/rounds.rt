@@ -1,10 +1,11 @@
 //! Rounds that make a removal list complete.
-ghost use Rattle.std.specs.Prelude.{◌≡◌, ◌≢◌, ℕ, suc, true, false, ◌+◌, ◌<◌, ◌≤◌, [], ◌∷◌, ◌++◌};
+ghost use Rattle.std.specs.Prelude.{◌≡◌, ◌≢◌, ℕ, suc, true, false, ◌+◌, ◌/◌, ◌<◌, ◌≤◌, ◌⊎◌, IsTrue, [], ◌∷◌, ◌++◌};
 ghost use Rattle.std.specs.Prelude.{length, drop};
-ghost use Rattle.roman_model.specs.Arena.{IsOrder, fall};
+ghost use Rattle.roman_model.specs.Arena.{is_listed, IsOrder, fall};
+ghost use Rattle.roman_order.specs.Board.{is_marked};
 ghost use Rattle.roman_relation.specs.Shaped.{IsShaped};
 ghost use Rattle.roman_relation.specs.Settled.{Begins, SettlesOn, IsSettled, HoldsLost, RisesByDepth, AreLevels};
-ghost use Rattle.roman_relation.specs.Rounds.{AwaitsRound};
+ghost use Rattle.roman_relation.specs.Rounds.{AwaitsRound, moves_to_all};
 
 mod judging;
 mod losses;
@@ -19,42 +20,49 @@ use std::sync::ledger::Ledger;
 use unfine::list_unfine;
 
 /// Begins rounds on a removal list: lists the pairs that don't meet clause 2 of an ND-simulation, keeps
-/// the words of all rows, and marks all rows for the first round.
+/// the words of all rows, and marks all bands for the first round.
 pub fn begin_rounds<J: Rules>(joint: &J, order: &mut Order)
     requires shaped { IsShaped (J.arena joint.now) (J.lanes joint.now) order.old }
     requires valid { IsOrder (J.arena joint.now) order.old.list }
-    ensures ready { AwaitsRound (J.arena joint.now) (J.lanes joint.now) order.new }
+    ensures ready { AwaitsRound (J.arena joint.now) (J.lanes joint.now) (J.band joint.now) order.new }
     ensures goes_on { SettlesOn (J.arena joint.now) order.old order.new }
     ensures lost { order.old.list ≡ [] → HoldsLost (J.arena joint.now) 0 order.new.list }
 {
     joint.known();
     list_unfine(joint, order);
     order.keep_before();
-    order.mark_front(joint.rows());
+    order.mark_front(joint.bands());
 }
 
 /// One round, after [`begin_rounds`] or another round: lists each pair at which some allowed action is
 /// served by no service that keeps to the pairs that were left before the round, with the least such
-/// action. Only the pairs of marked rows are judged, and the rows of those that the next round has to
-/// judge are marked. The list is complete when a round adds nothing.
+/// action. Only the pairs of marked bands are judged, and the bands that the next round has to judge are
+/// then marked. The list is complete when a round adds nothing.
 ///
-/// The steps are at most as many as delegations lead to the pairs that are added.
+/// The steps are the moves of services before the bands' own that lead to the bands of the pairs that are
+/// added, each band once: at most as many as delegations lead to those pairs.
 pub fn play_round<J: Rules, L: Ledger>(joint: &J, order: &mut Order, steps: &mut Steps<L>)
-    requires ready { AwaitsRound (J.arena joint.now) (J.lanes joint.now) order.old }
-    ensures ready { AwaitsRound (J.arena joint.now) (J.lanes joint.now) order.new }
+    requires ready { AwaitsRound (J.arena joint.now) (J.lanes joint.now) (J.band joint.now) order.old }
+    ensures ready { AwaitsRound (J.arena joint.now) (J.lanes joint.now) (J.band joint.now) order.new }
     ensures goes_on { SettlesOn (J.arena joint.now) order.old order.new }
+    ensures only { let A = J.arena joint.now in
+        (p : ℕ) → IsTrue (is_listed A order.new.list p) →
+        IsTrue (is_listed A order.old.list p) ⊎ (is_marked order.old (p / J.lanes joint.now / J.band joint.now) ≡ true) }
     ensures lost { (n : ℕ) → HoldsLost (J.arena joint.now) n order.old.list →
         HoldsLost (J.arena joint.now) (suc n) order.new.list }
     ensures settled { length order.new.list ≡ length order.old.list →
         IsSettled (J.arena joint.now) order.new.list }
     ensures cost { steps.new
         ≤ steps.old + fall (J.arena joint.now) (drop (length order.old.list) order.new.list) }
+    ensures steps { steps.new ≡ steps.old + moves_to_all (J.arena joint.now) (J.lanes joint.now) (J.band joint.now) (J.mid joint.now) order.old.rows
+        (drop (length order.old.list) order.new.list) }
 {
     joint.known();
     order.known();
     let start = order.len();
+    let near = order.events().len();
     judge_marked(joint, order);
-    mark_losses(joint, order, start, steps);
+    mark_losses(joint, order, start, near, steps);
     order.known();
 }
 

@@ -1,20 +1,25 @@
 -- The candidates for a system that a service has joined.
-use Rattle.std.proofs.Common.{◌≡◌, ℕ, ◌+◌, ◌*◌, ◌<◌, List, [], ◌∷◌, map, flat_map, IsTrue, inl, refl, sym, ap, ◌∙◌, subst, arith}
-use Rattle.std.proofs.lemmas.Nat.{same_from_place}
+use Rattle.std.proofs.Common.{◌≡◌, ℕ, ◌+◌, ◌-◌, ◌*◌, ◌/◌, ◌%◌, ◌<◌, ◌≤◌, List, [], ◌∷◌, ◌++◌, map, flat_map, length, drop, cond, zero, suc, IsTrue, inl, inr, refl, sym, ap, ap₂, ◌∙◌, subst, arith}
+use Rattle.std.proofs.Math.Nat.{mul-le-mul_left}
+use Rattle.std.proofs.lemmas.Bool.{cases_lt, lt-ltb, le-ltb}
+use Rattle.std.proofs.lemmas.Nat.{same_from_place, mod_below, div-add-mod'}
 use Rattle.std.proofs.lemmas.List.{length_push}
 use Rattle.std.proofs.lemmas.List.Folds.{flat_map-map}
-use Rattle.roman_model.specs.Lists.{IsIn, HasNoRepeats, below}
+use Rattle.roman_model.specs.Lists.{IsIn, HasNoRepeats, below, product_of}
 use Rattle.roman_model.specs.System.{Sys, Seat, IsSys}
 use Rattle.roman_model.specs.SystemArena.{is_allowed}
-use Rattle.roman_model.specs.Arena.{Entry}
+use Rattle.roman_model.specs.Arena.{Arena, Entry}
 use Rattle.roman_model.specs.Change.{Join, after, CanChange}
-use Rattle.roman_model.specs.Numbers.{sizes_of, count, pair_at, numbered}
+use Rattle.roman_model.specs.Numbers.{Sizes, sizes_of, count, pair_at, numbered}
 use Rattle.roman_model.specs.declared.reason.Reason.{Reason}
 use Rattle.roman_model.specs.declared.reason.Reason.TheVariants.{Final, Act}
 use Rattle.roman_model.specs.NumberedChange.{grown_numbers}
-use Rattle.roman_model.proofs.CallerLemmas.{from_map, from_flat_map, from_below, in_append_right, length-below, HasNoRepeats-map, HasNoRepeats-flat_map, HasNoRepeats-below, map-map, map-flat_map, flat_map_same, pair_at-grown, sizes-joined, NumbersReplay}
+use Rattle.roman_model.proofs.CallerLemmas.{in_map, in_below, from_map, from_flat_map, from_below, in_append_right, length-below, HasNoRepeats-map, HasNoRepeats-flat_map, HasNoRepeats-below, map-map, map-flat_map, flat_map_same, pair_at-grown, sizes-joined, NumbersReplay}
+use Rattle.roman_radix.specs.Rows.{low_of, lanes_of}
+use Rattle.roman_radix.proofs.CallerLemmas.{row_mod}
+use Rattle.roman_joint.specs.Rows.{lanes_in}
 use Rattle.roman_joint.specs.NamedSys.{NamedSys, system_of, IsNamedSys}
-use Rattle.roman_order.specs.Board.{nodes_of}
+use Rattle.roman_order.specs.Board.{nodes_of, as_entry, set_lanes, entries_in}
 use Rattle.roman_repair.specs.Replays.{is_possible, AreCandidates}
 use Rattle.roman_repair.proofs.Keeping.{grown_number}
 
@@ -66,3 +71,74 @@ joined_candidates s seat L are replays = record {
         let pair : y.node < count (sizes_of s) = subst (λ n. y.node < n) (length-below (count (sizes_of s))) (are.nodes y j) in
         subst (λ (z : Entry ℕ). IsTrue (is_possible (numbered (after (Join seat) s)) z.node z.reason)) (sym e)
         (possible-joined s seat y.node b y.reason pair (from_below seat.beh.states b l) ∙ are.possible y j)
+
+-- ---- the rows of the grown pairs
+
+product_last : (ns : List ℕ) (n : ℕ) → product_of (ns ++ n ∷ []) ≡ product_of ns * n
+product_last [] n = omega arith
+product_last (x ∷ ns) n = ap (λ p. x * p) (product_last ns n) ∙ (let same : x * (product_of ns * n) ≡ x * product_of ns * n = omega arith in same)
+
+-- a row of pairs whose last seat has so many states is of whole slices
+lanes_last : (ns : List ℕ) (n : ℕ) → n ≤ 64 → (m : ℕ) × (lanes_of (ns ++ n ∷ []) ≡ m * n)
+lanes_last [] n few = (1, ap (λ b. product_of (drop (cond b 1 0) (n ∷ []))) (le-ltb 64 (n * 1) (omega arith)) ∙ omega arith)
+lanes_last (x ∷ ns) n few = elim (cases_lt 64 (product_of (x ∷ (ns ++ n ∷ [])))) [
+  | inl more ↦
+      let (m, is) = lanes_last ns n few in
+      (m, ap (λ b. product_of (drop (cond b (suc (low_of (ns ++ n ∷ []))) 0) (x ∷ (ns ++ n ∷ [])))) (lt-ltb 64 (product_of (x ∷ (ns ++ n ∷ []))) more) ∙ is)
+  | inr less ↦ (
+    product_of (x ∷ ns),
+    ap (λ b. product_of (drop (cond b (suc (low_of (ns ++ n ∷ []))) 0) (x ∷ (ns ++ n ∷ [])))) (le-ltb 64 (product_of (x ∷ (ns ++ n ∷ []))) less) ∙ product_last (x ∷ ns) n,
+  )
+]
+
+pub joined_lanes : (s : Sys) (seat : Seat) → CanChange (Join seat) s → (m : ℕ) × (lanes_in (after (Join seat) s) ≡ m * seat.beh.states)
+joined_lanes s seat can =
+    let (m, is) = lanes_last (sizes_of s).seats seat.beh.states can.0.states.1 in
+    (m, ap (λ (n : Sizes). lanes_of n.seats) (sizes-joined s seat) ∙ is)
+
+-- the entries of neighbouring pairs are those of a word of neighbouring lanes
+pub grown_entries : (n m states pair word : ℕ) (reason : Reason) → n ≡ m * states → set_lanes word ≡ map (λ i. pair * states % n + i) (below states) →
+    entries_in n (pair * states / n) word reason ≡ grown_numbers states (as_entry (pair, reason))
+grown_entries n m states pair word reason is lanes =
+    ap (map (λ lane. as_entry (pair * states / n * n + lane, reason))) lanes
+    ∙ map-map (λ lane. as_entry (pair * states / n * n + lane, reason)) (λ i. pair * states % n + i) (below states)
+    ∙ map_same (λ i. as_entry (pair * states / n * n + (pair * states % n + i), reason)) (grown_number states (as_entry (pair, reason))) (below states)
+    (λ i. ap (λ p. as_entry (p, reason)) (let whole : pair * states / n * n + pair * states % n ≡ pair * states = div-add-mod' (pair * states) n in
+    let place : pair * states / n * n + (pair * states % n + i) ≡ pair * states + i = omega arith in place))
+  where
+    map_same : {X Y : Type 0} (f g : X → Y) (xs : List X) → ((x : X) → f x ≡ g x) → map f xs ≡ map g xs
+    map_same f g [] same = refl
+    map_same f g (x ∷ xs) same = ap₂ (λ y ys. y ∷ ys) (same x) (map_same f g xs same)
+
+positive : (m n : ℕ) → 0 < m * n → (0 < m) × (0 < n)
+positive zero n some = absurd (let none : zero * n ≡ 0 = omega arith in omega (arith, none, some))
+positive (suc m) zero some = absurd (let none : suc m * zero ≡ 0 = omega arith in omega (arith, none, some))
+positive (suc m) (suc n) some = (omega arith, omega arith)
+
+pub states_some : (n m states : ℕ) → n ≡ m * states → 0 < n → 0 < states
+states_some n m states is some = (positive m states (omega (arith, is, some))).1
+
+-- and they lie in one row
+pub grown_within : (n m states pair : ℕ) → n ≡ m * states → 0 < n → pair * states % n + states ≤ n
+grown_within n m states pair is some =
+    let both = positive m states (omega (arith, is, some)) in
+    let place : pair * states % (m * states) ≡ pair % m * states = (let none : pair * states + 0 ≡ pair * states = omega arith in ap (λ p. p % (m * states)) (sym none) ∙ (row_mod pair states 0 m both.1 ∙ (let none : pair % m * states + 0 ≡ pair % m * states = omega arith in none))) in
+    let below : pair % m < m = mod_below pair m both.0 in
+    let slices : states * (pair % m + 1) ≤ states * m = mul-le-mul_left states (omega arith) in
+    omega (arith, is, ap (λ k. pair * states % k) is, place, slices)
+
+-- an entry stands for some pair, so that its number is one of the system
+pub first_candidate : (A : Arena ℕ) (kept : List (Entry ℕ)) (n m states pair : ℕ) (reason : Reason) → AreCandidates A kept (grown_numbers states (as_entry (pair, reason))) → n ≡ m * states → 0 < n →
+    pair * states < length A.nodes
+first_candidate A kept n m states pair reason are is some =
+    let first = are.nodes (as_entry (pair * states + 0, reason)) (in_map (grown_number states (as_entry (pair, reason))) 0 (below states) (in_below states 0 (positive m states (omega (arith, is, some))).1)) in
+    omega (arith, first)
+
+-- those entries, as they are computed
+pub grown_word : (n m states pair width lanes word : ℕ) (reason : Reason) → n ≡ m * states → width ≡ states → lanes ≡ n →
+    set_lanes word ≡ map (λ i. pair * width % lanes + i) (below (pair * width % lanes + width - pair * width % lanes)) → entries_in n (pair * width / lanes) word reason ≡ grown_numbers states (as_entry (pair, reason))
+grown_word n m states pair width lanes word reason is wide rows of =
+    let slices : pair * width % lanes + width - pair * width % lanes ≡ width = omega arith in
+    let those : set_lanes word ≡ map (λ i. pair * states % n + i) (below states) =
+    of ∙ ap (λ k. map (λ i. pair * width % lanes + i) (below k)) slices ∙ ap₂ (λ w l. map (λ i. pair * w % l + i) (below w)) wide rows in
+    ap₂ (λ w l. entries_in n (pair * w / l) word reason) wide rows ∙ grown_entries n m states pair word reason is those

@@ -22,13 +22,6 @@ pub possible_reason : (A : Arena ℕ) → IsNumbered A → (p : ℕ) (reason : R
 possible_reason A ok p Final possible = tt
 possible_reason A ok p (Act a) possible = ok.allowed p a possible
 
--- a pair by its row and lane, where the order and the system have as many lanes
-pub row_and_lane : (row lanes wide taken p : ℕ) → wide ≡ lanes → taken ≡ lanes → row * lanes ≤ p → row * wide + (p - row * taken) ≡ p
-row_and_lane row lanes wide taken p e f l =
-    let ours : row * wide ≡ row * lanes = ap (λ m. row * m) e in
-    let theirs : row * taken ≡ row * lanes = ap (λ m. row * m) f in
-    omega arith
-
 -- The list, with what a replay adds to it.
 
 -- the list after one candidate
@@ -41,7 +34,7 @@ last_first A kept x q =
     ∙ middle_first A (nodes_of kept) [] x.node q
     ∙ ap (λ ps. is_among A (x.node ∷ ps) q) (append-nil (nodes_of kept))
 
-with_replay_step : (A : Arena ℕ) (kept : List (Entry ℕ)) (x : Entry ℕ) (L : List (Entry ℕ)) → with_replay A kept (x ∷ L) ≡ with_replay A (with_one A kept x) L
+pub with_replay_step : (A : Arena ℕ) (kept : List (Entry ℕ)) (x : Entry ℕ) (L : List (Entry ℕ)) → with_replay A kept (x ∷ L) ≡ with_replay A (with_one A kept x) L
 with_replay_step A kept x L =
     ap (λ b. kept ++ (if b then x ∷ replay_from A (x.node ∷ nodes_of kept) L else replay_from A (nodes_of kept) L))
     (justified_same A (is_among A (nodes_of kept)) (is_listed A kept) x.node x.reason (λ a k q i. sym (listed_among A kept q)))
@@ -56,10 +49,7 @@ with_replay_step A kept x L =
     by_answer true = pushed
     by_answer false = refl
 
-pub with_replay_one : (A : Arena ℕ) (kept : List (Entry ℕ)) (x : Entry ℕ) → with_replay A kept (x ∷ []) ≡ with_one A kept x
-with_replay_one A kept x = with_replay_step A kept x [] ∙ append-nil (with_one A kept x)
-
-with_replay_append : (A : Arena ℕ) (kept L M : List (Entry ℕ)) → with_replay A kept (L ++ M) ≡ with_replay A (with_replay A kept L) M
+pub with_replay_append : (A : Arena ℕ) (kept L M : List (Entry ℕ)) → with_replay A kept (L ++ M) ≡ with_replay A (with_replay A kept L) M
 with_replay_append A kept [] M = ap (λ N. with_replay A N M) (sym (append-nil kept))
 with_replay_append A kept (x ∷ L) M =
     with_replay_step A kept x (L ++ M) ∙ with_replay_append A (with_one A kept x) L M ∙ ap (λ N. with_replay A N M) (sym (with_replay_step A kept x L))
@@ -93,7 +83,7 @@ candidates_step A kept x L are =
     new false y i = are.new y (inr i)
 
 -- and after several
-candidates_replayed : (A : Arena ℕ) (kept L M : List (Entry ℕ)) → AreCandidates A kept (L ++ M) → AreCandidates A (with_replay A kept L) M
+pub candidates_replayed : (A : Arena ℕ) (kept L M : List (Entry ℕ)) → AreCandidates A kept (L ++ M) → AreCandidates A (with_replay A kept L) M
 candidates_replayed A kept [] M are = subst (λ N. AreCandidates A N M) (sym (append-nil kept)) are
 candidates_replayed A kept (x ∷ L) M are =
     subst (λ N. AreCandidates A N M) (sym (with_replay_step A kept x L))
@@ -126,61 +116,17 @@ replaying_part A start now new all L M so_far list rest = record {
   rest = rest ∙ ap (λ (b : Board). record b { list = new.list }) so_far.rest ∙ ap (λ (W : List (Entry ℕ)). record start { list = new.list; waiting = W }) (sym (ap (λ (b : Board). b.waiting) rest));
 }
 
--- at the end none is left
-pub replaying_end : (A : Arena ℕ) (start now : Board) (all left : List (Entry ℕ)) → IsReplaying A start now all left → left ≡ [] → now.list ≡ with_replay A start.list all
-replaying_end A start now all left so_far none = sym (append-nil now.list) ∙ ap (with_replay A now.list) (sym none) ∙ so_far.list
-
--- What is known.
-
-pub known_kept : (A : Arena ℕ) (lanes : ℕ) (asked : Asked) (old new : List (Entry ℕ)) (x : Entry ℕ) (b : Bool) → new ≡ (if b then old ++ x ∷ [] else old) →
-    HoldsWhereKept A lanes (is_listed A old) asked → HoldsWhereKept A lanes (is_listed A new) asked
-known_kept A lanes asked old new x b is known = subst (λ L. HoldsWhereKept A lanes (is_listed A L) asked) (sym is) (by_answer b)
-  where
-    by_answer : (b : Bool) → HoldsWhereKept A lanes (is_listed A (if b then old ++ x ∷ [] else old)) asked
-    by_answer true = known_more A lanes (is_listed A old) (is_listed A (old ++ x ∷ [])) asked (λ q t. listed_append A old (x ∷ []) q ∙ or_left (is_listed A old q) (is_listed A (x ∷ []) q) t) known
-    by_answer false = known
-
 -- The candidates of one entry.
 
 -- the candidate with the state b
 abbrev pub grown_number : ℕ → Entry ℕ → ℕ → Entry ℕ
 grown_number states x b = record { node = x.node * states + b; reason = x.reason }
 
--- the candidates from the state b on
-pub grown_more : (states : ℕ) (x : Entry ℕ) (b : ℕ) → b < states → drop b (grown_numbers states x) ≡ grown_number states x b ∷ drop (b + 1) (grown_numbers states x)
-grown_more states x b l =
-    drop-map (grown_number states x) b (below states)
-    ∙ ap (map (grown_number states x)) (drop_more (below states) b 0 (subst (λ n. b < n) (sym (length-below states)) l) ∙ ap (λ c. c ∷ drop (b + 1) (below states)) (get_or-below states b 0 l))
-    ∙ ap (λ L. grown_number states x b ∷ L) (sym (drop-map (grown_number states x) (b + 1) (below states)))
-
-pub grown_end : (states : ℕ) (x : Entry ℕ) (b : ℕ) → states ≤ b → drop b (grown_numbers states x) ≡ []
-grown_end states x b l = drop_all b (grown_numbers states x) (omega (arith, length-map (below states) (grown_number states x), length-below states))
-
 -- in one state an entry is its own candidate
 pub grown_once : (states : ℕ) (x : Entry ℕ) → states ≡ 1 → grown_numbers states x ≡ x ∷ []
 grown_once states x one =
     let same : x.node * 1 + 0 ≡ x.node = omega arith in
     ap (λ n. grown_numbers n x) one ∙ ap (λ p. as_entry (p, x.reason) ∷ []) same
-
--- the candidate at hand, whose number is m, is the first of those that are left
-pub state_first : (A : Arena ℕ) (start now : Board) (states : ℕ) (x : Entry ℕ) (b m : ℕ) → IsReplaying A start now (grown_numbers states x) (drop b (grown_numbers states x)) → b < states →
-    m ≡ x.node * states + b → IsReplaying A start now (grown_numbers states x) (as_entry (m, x.reason) ∷ drop (b + 1) (grown_numbers states x))
-state_first A start now states x b m so_far l is =
-    subst (λ (y : Entry ℕ). IsReplaying A start now (grown_numbers states x) (y ∷ drop (b + 1) (grown_numbers states x))) (ap (λ i. as_entry (i, x.reason)) (sym is))
-    (subst (IsReplaying A start now (grown_numbers states x)) (grown_more states x b l) so_far)
-
--- so that number is a node
-pub state_within : (A : Arena ℕ) (start now : Board) (states : ℕ) (x : Entry ℕ) (b m : ℕ) →
-    IsReplaying A start now (grown_numbers states x) (drop b (grown_numbers states x)) → b < states →
-    m ≡ x.node * states + b → m < length A.nodes
-state_within A start now states x b m so_far l is = (state_first A start now states x b m so_far l is).candidates.nodes (as_entry (m, x.reason)) (inl refl)
-
-pub state_cost : (A : Arena ℕ) (states : ℕ) (x : Entry ℕ) (b m : ℕ) → b < states → m ≡ x.node * states + b →
-    readings_of_entries A (drop b (grown_numbers states x)) ≡ readings_of_reason A m x.reason + readings_of_entries A (drop (b + 1) (grown_numbers states x))
-state_cost A states x b m l is =
-    ap (readings_of_entries A) (grown_more states x b l)
-    ∙ sum_by-cons (λ (y : Entry ℕ). readings_of_reason A y.node y.reason) (grown_number states x b) (drop (b + 1) (grown_numbers states x))
-    ∙ ap (λ i. readings_of_reason A i x.reason + readings_of_entries A (drop (b + 1) (grown_numbers states x))) (sym is)
 
 -- Those of all entries that wait.
 
@@ -203,11 +149,6 @@ entry_cost A now next new states x first kept =
     ap (λ W. readings_of_entries A (flat_map (grown_numbers states) W)) first
     ∙ sum_by-append (λ (y : Entry ℕ). readings_of_reason A y.node y.reason) (grown_numbers states x) (flat_map (grown_numbers states) next.waiting)
     ∙ ap (λ W. readings_of_entries A (grown_numbers states x) + readings_of_entries A (flat_map (grown_numbers states) W)) (sym (ap (λ (b : Board). b.waiting) kept))
-
--- the answer to whether a candidate is justified tells the list after it
-pub one_kept : (A : Arena ℕ) (kept new : List (Entry ℕ)) (x : Entry ℕ) (b : Bool) → b ≡ is_justified A (is_listed A kept) x.node x.reason → new ≡ (if b then kept ++ x ∷ [] else kept) →
-    new ≡ with_one A kept x
-one_kept A kept new x b is list = list ∙ ap (λ y. if y then kept ++ x ∷ [] else kept) is
 
 -- Readings.
 

@@ -5,3 +5,4 @@ pub mod Joined
 pub mod DeathStates
 pub mod DeathEntries
 pub mod Whole
+pub mod Fronts

@@ -10,8 +10,10 @@
 #![tactic(auto)]
 
 mod dying;
+mod events;
 mod freezing;
 mod joining;
+mod lanes;
 mod reopening;
 mod replaying;
 mod settling;

@@ -15,6 +15,7 @@ pub(crate) fn reopen(relation: &mut Relation)
     ensures known { IsNamedSys relation.new.joint }
     ensures list { relation.new.order.list ≡ [] }
     ensures waiting { relation.new.order.waiting ≡ relation.old.order.list }
+    ensures wide { relation.new.order.waiting_lanes ≡ relation.old.order.lanes }
     ensures shaped { let joint = relation.new.joint in IsShaped (arena_of joint) (lanes_in (system_of joint)) relation.new.order }
     ensures caps { HasCaps relation.new.joint relation.new.order }
 {

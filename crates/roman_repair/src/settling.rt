@@ -1,11 +1,14 @@
 //! The end of every repair: the list is completed, and counted.
-ghost use Rattle.std.specs.Prelude.{◌≡◌, ◌+◌, ◌≤◌, length};
+ghost use Rattle.std.specs.Prelude.{◌≡◌, ℕ, ◌+◌, ◌*◌, ◌≤◌, length};
 ghost use Rattle.roman_model.specs.Arena.{replay as replay_of};
+ghost use Rattle.roman_joint.specs.NamedSys.{system_of};
+ghost use Rattle.roman_joint.specs.Rows.{lanes_in};
 ghost use Rattle.roman_relation.specs.Settled.{Begins};
 ghost use Rattle.roman_relation.specs.Greatest.{arena_of, IsRelation};
 ghost use Rattle.roman_repair.specs.Repairs.{IsBegun, IsWithinReading, fall_of};
 ghost use Rattle.roman_repair.specs.Replays.{candidates, IsReplayable};
 
+use crate::events::replay_events;
 use crate::replaying::replay;
 use crate::tally::Tally;
 use roman_io::Steps;
@@ -38,7 +41,8 @@ pub(crate) fn replay_and_settle_on<L: Ledger>(
     states: u8,
     steps: &mut Steps<L>,
 ) -> Tally
-    requires { IsReplayable relation.old.joint states relation.old.order }
+    requires replayable { IsReplayable relation.old.joint states relation.old.order }
+    requires whole { (m : ℕ) × (lanes_in (system_of relation.old.joint) ≡ m * states) }
     ensures joint { relation.new.joint ≡ relation.old.joint }
     ensures relation { IsRelation relation.new.joint relation.new.order }
     ensures begins { Begins (replay_of (arena_of relation.old.joint) (candidates states relation.old.order)) relation.new.order.list }
@@ -48,5 +52,26 @@ pub(crate) fn replay_and_settle_on<L: Ledger>(
 {
     relation.joint.known();
     replay(&relation.joint, &mut relation.order, states, steps);
+    settle_on(relation, steps)
+}
+
+/// Replays the list that waits, whose rows are those of the changed system, and goes on to a complete
+/// one. At most as many steps go into the replay as there are delegations of an allowed action to
+/// a ready service.
+pub(crate) fn replay_events_and_settle_on<L: Ledger>(
+    relation: &mut Relation,
+    steps: &mut Steps<L>,
+) -> Tally
+    requires replayable { IsReplayable relation.old.joint 1 relation.old.order }
+    requires same_rows { relation.old.order.waiting_lanes ≡ lanes_in (system_of relation.old.joint) }
+    ensures joint { relation.new.joint ≡ relation.old.joint }
+    ensures relation { IsRelation relation.new.joint relation.new.order }
+    ensures begins { Begins (replay_of (arena_of relation.old.joint) (candidates 1 relation.old.order)) relation.new.order.list }
+    ensures kept { result.kept ≡ length (replay_of (arena_of relation.old.joint) (candidates 1 relation.old.order)) }
+    ensures added { result.kept + result.added ≡ length relation.new.order.list }
+    ensures cost { IsWithinReading relation.new.joint relation.new.order result steps.old steps.new }
+{
+    relation.joint.known();
+    replay_events(&relation.joint, &mut relation.order, steps);
     settle_on(relation, steps)
 }

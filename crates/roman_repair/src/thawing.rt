@@ -8,7 +8,7 @@ ghost use Rattle.roman_relation.specs.Greatest.{IsRelation};
 ghost use Rattle.roman_repair.specs.Repairs.{IsRepaired, IsWithinReading};
 
 use crate::reopening::reopen;
-use crate::settling::replay_and_settle_on;
+use crate::settling::replay_events_and_settle_on;
 use crate::tally::Tally;
 use roman_io::Steps;
 use roman_relation::Relation;
@@ -30,5 +30,5 @@ pub fn thaw<L: Ledger>(relation: &mut Relation, k: u8, steps: &mut Steps<L>) -> 
     relation.order.known();
     relation.joint.set_frozen(k, false);
     reopen(relation);
-    replay_and_settle_on(relation, 1, steps)
+    replay_events_and_settle_on(relation, steps)
 }

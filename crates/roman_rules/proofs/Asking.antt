@@ -1,6 +1,6 @@
 -- What is known of a row goes on to hold, and counts of the numbers below a bound.
 use Rattle.std.proofs.Common.{◌≡◌, ℕ, ◌+◌, ◌*◌, ◌<◌, Bool, true, false, cond, [], ◌∷◌, length, filter, count_by, IsTrue, IsFalse, refl, sym, ap, ap₂, ◌∙◌, add-one, length-append, arith}
-use Rattle.std.proofs.lemmas.Bool.{cond-true}
+use Rattle.std.proofs.lemmas.Bool.{cond-true, cond-false}
 use Rattle.std.proofs.lemmas.List.Sums.{length-filter}
 use Rattle.roman_model.specs.Lists.{below}
 use Rattle.roman_model.specs.Arena.{Arena}
@@ -42,3 +42,7 @@ count_below_more f n =
 pub readings_of-allowed : (A : Arena ℕ) (p a : ℕ) → IsTrue (A.allows p a) → readings_of A p a ≡ count_by A.ready (below A.seats)
 unfolding readings_of
 readings_of-allowed A p a t = cond-true (A.allows p a) (count_by A.ready (below A.seats)) 0 t
+
+pub readings_of-refused : (A : Arena ℕ) (p a : ℕ) → IsFalse (A.allows p a) → readings_of A p a ≡ 0
+unfolding readings_of
+readings_of-refused A p a f = cond-false (A.allows p a) (count_by A.ready (below A.seats)) 0 f

@@ -1,5 +1,5 @@
 //! Entries of a list, judged row by row.
-ghost use Rattle.std.specs.Prelude.{◌≡◌, ℕ, ◌+◌, ◌*◌, ◌/◌, ◌%◌, ◌<◌, ◌≤◌, ◌==◌, Bool, true, not, length, count_by, MatchOption};
+ghost use Rattle.std.specs.Prelude.{◌≡◌, ℕ, ◌+◌, ◌*◌, ◌/◌, ◌%◌, ◌<◌, ◌≤◌, ◌==◌, Bool, true, not, length, count_by, IsTrue, MatchOption};
 ghost use Rattle.roman_model.specs.Lists.{below};
 ghost use Rattle.roman_model.specs.Arena.{Arena, is_justified};
 ghost use Rattle.roman_lanes.specs.Rows.{is_on, AreRows};
@@ -63,7 +63,7 @@ fn ask_seats<J: Rules, L: Ledger>(
         is_on result lane ≡ is_justified A gone (x * lanes + lane) (Reason.Act a) }
     ensures cost { let A = J.arena joint.now in let lanes = J.lanes joint.now in
         (x lane : ℕ) → J.is_row joint.now x row.now → lane < lanes →
-        steps.new ≤ steps.old + readings_of A (x * lanes + lane) a }
+        steps.new ≡ steps.old + readings_of A (x * lanes + lane) a }
 {
     joint.known();
     if (joint.row_actions(row) >> a) & 1 == 0 {
@@ -90,7 +90,7 @@ fn ask_row<J: Rules, L: Ledger>(
         is_on result lane ≡ is_justified A gone (x * lanes + lane) reason }
     ensures cost { let A = J.arena joint.now in let lanes = J.lanes joint.now in
         (lane : ℕ) → lane < lanes →
-        steps.new ≤ steps.old + readings_of_reason A (x * lanes + lane) reason }
+        steps.new ≡ steps.old + readings_of_reason A (x * lanes + lane) reason }
 {
     let row = joint.row(x);
     match reason {
@@ -123,8 +123,58 @@ impl Asked {
         Some((p - first) as u32)
     }
 
+    /// The lanes of the row `x` at which the reason is known to hold: none where another row was asked, or
+    /// about another reason.
+    pub fn known_at(&self, x: u32, reason: Reason) -> u64
+        ensures { (A : Arena ℕ) (lanes : ℕ) (gone : ℕ → Bool) → HoldsWhereKept A lanes gone self.now →
+            (lane : ℕ) → lane < lanes → is_on result lane ≡ true → IsTrue (is_justified A gone (x * lanes + lane) reason) }
+    {
+        if self.row == x && self.reason == reason {
+            return self.lanes;
+        }
+        0
+    }
+
+    /// Asks the row `x` about a reason, and gives the lanes at which it holds. The words tell the pairs
+    /// that aren't gone, row by row, and the action of the reason, if it has one, must be one of the
+    /// system.
+    ///
+    /// A step is counted for each ready seat where the reason is an action that is allowed in the
+    /// row, and else none.
+    pub fn ask<J: Rules, L: Ledger>(
+        &mut self,
+        joint: &J,
+        words: &[u64],
+        x: u32,
+        reason: Reason,
+        steps: &mut Steps<L>,
+    ) -> u64
+        requires row { x * J.lanes joint.now < length (J.arena joint.now).nodes }
+        requires reason { IsReasonOf (J.arena joint.now) reason }
+        requires room { length words.now * J.lanes joint.now ≡ length (J.arena joint.now).nodes }
+        ensures holds { let A = J.arena joint.now in let lanes = J.lanes joint.now in
+            (gone : ℕ → Bool) → AreRows lanes (λ q. not (gone q)) words.now →
+            (lane : ℕ) → lane < lanes →
+            is_on result lane ≡ is_justified A gone (x * lanes + lane) reason }
+        ensures known { let A = J.arena joint.now in let lanes = J.lanes joint.now in
+            (gone : ℕ → Bool) → AreRows lanes (λ q. not (gone q)) words.now →
+            HoldsWhereKept A lanes gone self.new }
+        ensures row { self.new.row ≡ x }
+        ensures cost { let A = J.arena joint.now in let lanes = J.lanes joint.now in
+            (lane : ℕ) → lane < lanes →
+            steps.new ≡ steps.old + readings_of_reason A (x * lanes + lane) reason }
+    {
+        let lanes = ask_row(joint, words, x, reason, steps);
+        *self = Asked {
+            row: x,
+            reason,
+            lanes,
+        };
+        lanes
+    }
+
     /// Asks the row `x` about a reason. Whether it holds at that lane.
-    fn ask<J: Rules, L: Ledger>(
+    fn ask_at<J: Rules, L: Ledger>(
         &mut self,
         joint: &J,
         words: &[u64],
@@ -145,15 +195,10 @@ impl Asked {
             HoldsWhereKept A lanes gone self.new }
         ensures row { self.new.row ≡ x }
         ensures cost { let A = J.arena joint.now in let lanes = J.lanes joint.now in
-            steps.new ≤ steps.old + readings_of_reason A (x * lanes + lane) reason }
+            steps.new ≡ steps.old + readings_of_reason A (x * lanes + lane) reason }
     {
         joint.known();
-        let lanes = ask_row(joint, words, x, reason, steps);
-        *self = Asked {
-            row: x,
-            reason,
-            lanes,
-        };
+        let lanes = self.ask(joint, words, x, reason, steps);
         has_lane(lanes, lane)
     }
 
@@ -188,11 +233,11 @@ impl Asked {
     {
         let lanes = joint.lanes();
         let Some(lane) = self.lane_of(p, lanes) else {
-            return self.ask(joint, words, p / lanes, p % lanes, reason, steps);
+            return self.ask_at(joint, words, p / lanes, p % lanes, reason, steps);
         };
         if self.reason == reason && has_lane(self.lanes, lane) {
             return true;
         }
-        self.ask(joint, words, self.row, lane, reason, steps)
+        self.ask_at(joint, words, self.row, lane, reason, steps)
     }
 }

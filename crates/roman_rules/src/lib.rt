@@ -13,9 +13,11 @@ mod bits;
 mod finding;
 mod rules;
 mod seat_set;
+mod words;
 
 pub use asked::Asked;
 pub use bits::with_bit;
 pub use finding::Finding;
 pub use rules::Rules;
 pub use seat_set::SeatSet;
+pub use words::{are_clear, copy_rows};

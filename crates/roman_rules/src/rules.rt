@@ -1,11 +1,11 @@
 //! What algorithms over the numbers of pairs ask of a system.
 ghost use Rattle.std.specs.Prelude.{◌≡◌, ℕ, ◌+◌, ◌*◌, ◌/◌, ◌<◌, ◌≤◌, Bool, true, false, not, ◌&&◌};
-ghost use Rattle.std.specs.Prelude.{length, sum_by, IsTrue};
+ghost use Rattle.std.specs.Prelude.{length, count_by, ltb, sum_by, IsTrue};
 ghost use Rattle.roman_model.specs.Lists.{IsIn, below};
 ghost use Rattle.roman_model.specs.System.{has};
 ghost use Rattle.roman_model.specs.Arena.{Arena, is_justified, mask as mask_of, back as predecessors};
 ghost use Rattle.roman_model.specs.Numbers.{Sizes};
-ghost use Rattle.roman_lanes.specs.Rows.{is_on, HasLanes, AreRows};
+ghost use Rattle.roman_lanes.specs.Rows.{is_on, HasLanes, AreRows, Keeps};
 ghost use Rattle.roman_lanes.specs.Flags.{has_flag};
 ghost use Rattle.roman_rules.specs.Bits.{HasBits};
 ghost use Rattle.roman_rules.specs.Numbered.{IsNumbered};
@@ -21,8 +21,9 @@ use std::sync::ledger::Ledger;
 ///
 /// Pairs, actions and seats are numbers below [`pairs`](Rules::pairs), [`actions`](Rules::actions) and
 /// [`seats`](Rules::seats); those that are passed are in range. Pairs lie in [`rows`](Rules::rows) of
-/// [`lanes`](Rules::lanes) neighbours each, and a word of a row has bit l for the pair at lane l. No
-/// call takes memory.
+/// [`lanes`](Rules::lanes) neighbours each, and a word of a row has bit l for the pair at lane l. Rows
+/// lie in [`bands`](Rules::bands) of [`band`](Rules::band) neighbours each; what is looked up for a
+/// band is the row that it begins with. No call takes memory.
 pub trait Rules {
     /// The system, as removal lists and masks see it.
     ghost arena: { Self → Arena ℕ };
@@ -33,6 +34,12 @@ pub trait Rules {
     /// How many pairs a row has.
     ghost lanes: { Self → ℕ };
 
+    /// How many rows a band has.
+    ghost band: { Self → ℕ };
+
+    /// How many seats stand before a band's own: they are in the same state at all pairs of a band.
+    ghost mid: { Self → ℕ };
+
     /// What was looked up is that of the row.
     ghost is_row: { Self → ℕ → Self.Row → Type 0 };
 
@@ -42,7 +49,9 @@ pub trait Rules {
     /// Tells a prover what all systems have in common. It does nothing.
     fn known(&self)
         ensures numbered { IsNumbered (arena self.now) }
-        ensures lanes { (0 < lanes self.now) × (lanes self.now ≤ 64) };
+        ensures lanes { (0 < lanes self.now) × (lanes self.now ≤ 64) }
+        ensures band { (0 < band self.now) × (band self.now ≤ 64) }
+        ensures bands { (bands : ℕ) × (bands * band self.now * lanes self.now ≡ length (arena self.now).nodes) };
 
     /// How many pairs there are.
     fn pairs(&self) -> u32
@@ -70,23 +79,48 @@ pub trait Rules {
     fn rows(&self) -> u32
         ensures { result * lanes self.now ≡ length (arena self.now).nodes };
 
+    /// How many rows a band has: from 1 to 64. Row x is in band `x / band`.
+    fn band(&self) -> u32
+        ensures value { result ≡ band self.now }
+        ensures few { (0 < result) × (result ≤ 64) };
+
+    /// How many bands there are.
+    fn bands(&self) -> u32
+        ensures { result * band self.now * lanes self.now ≡ length (arena self.now).nodes };
+
     /// Looks up what holds of all pairs of the row `x`, for the calls that take a row. It is good as
     /// long as the system doesn't change.
     fn row(&self, x: u32) -> Self::Row
         requires { x * lanes self.now < length (arena self.now).nodes }
         ensures { is_row self.now x result };
 
-    /// The actions that the target allows at the pairs of a row, which are the same at each: bit a is
-    /// set exactly where it allows a.
+    /// Looks up what holds of all pairs of the band `y`: its first row.
+    fn first_row(&self, y: u32) -> Self::Row
+        requires { y * band self.now * lanes self.now < length (arena self.now).nodes }
+        ensures { is_row self.now (y * band self.now) result };
+
+    /// The actions that the target allows at the pairs of a row, which are the same at each, and at
+    /// those of a band where the row is its first: bit a is set exactly where it allows a.
     fn row_actions(&self, row: &Self::Row) -> u32
-        ensures { (x lane : ℕ) → is_row self.now x row.now → lane < lanes self.now →
-            HasBits result ((arena self.now).allows (x * lanes self.now + lane)) };
+        ensures row { (x lane : ℕ) → is_row self.now x row.now → lane < lanes self.now →
+            HasBits result ((arena self.now).allows (x * lanes self.now + lane)) }
+        ensures band { (y i lane : ℕ) → is_row self.now (y * band self.now) row.now → i < band self.now → lane < lanes self.now →
+            HasBits result ((arena self.now).allows ((y * band self.now + i) * lanes self.now + lane)) };
 
     /// The pairs of a row that don't meet clause 2 of an ND-simulation. No bit is set past the lanes.
     fn unfine(&self, row: &Self::Row) -> u64
         requires row { (x : ℕ) × is_row self.now x row.now }
         ensures { (x : ℕ) → is_row self.now x row.now →
             HasLanes (lanes self.now) x (λ p. not ((arena self.now).fine p)) result };
+
+    /// Clears those of the pairs `left` of a band that meet clause 2 of an ND-simulation. There is a word
+    /// of `left` for each row of the band.
+    fn unfine_band(&self, row: &Self::Row, left: &mut [u64])
+        requires row { (y : ℕ) × is_row self.now (y * band self.now) row.now }
+        requires long { length left.old ≡ band self.now }
+        ensures long { length left.new ≡ length left.old }
+        ensures unfine { (y : ℕ) → is_row self.now (y * band self.now) row.now →
+            Keeps (lanes self.now) (y * band self.now) (band self.now) (λ p. not ((arena self.now).fine p)) left.old left.new };
 
     /// The mask of the pair at a lane of a row and the action `a`: the seats that have an outcome there,
     /// and none that is gone. The words tell the pairs that aren't gone, row by row.
@@ -99,17 +133,18 @@ pub trait Rules {
             AreRows (lanes self.now) (λ q. not (gone q)) words.now →
             HasBits result (has (mask_of (arena self.now) gone (x * lanes self.now + lane) a)) };
 
-    /// How many choices of a seat there are for the action `a` at all pairs of a row together: over the
-    /// pairs, the seats of the pair's mask, at most 32 seats at each of 64 pairs. The words tell the pairs
-    /// that aren't gone, row by row.
+    /// How many choices of a seat there are for the action `a` at all pairs of a band together: over the
+    /// pairs, the seats of the pair's mask, at most 32 seats at each of 4,096 pairs. The words tell the
+    /// pairs that aren't gone, row by row.
     fn choices(&self, row: &Self::Row, words: &[u64], a: u8) -> u32
-        requires row { (x : ℕ) × is_row self.now x row.now }
+        requires row { (y : ℕ) × is_row self.now (y * band self.now) row.now }
         requires action { a < (arena self.now).actions }
         requires room { length words.now * lanes self.now ≡ length (arena self.now).nodes }
-        ensures counted { (x : ℕ) (gone : ℕ → Bool) → is_row self.now x row.now →
+        ensures counted { (y : ℕ) (gone : ℕ → Bool) → is_row self.now (y * band self.now) row.now →
             AreRows (lanes self.now) (λ q. not (gone q)) words.now →
-            result ≡ sum_by (λ lane. length (mask_of (arena self.now) gone (x * lanes self.now + lane) a)) (below (lanes self.now)) }
-        ensures few { result ≤ 2048 };
+            result ≡ sum_by (λ i. sum_by (λ lane. length (mask_of (arena self.now) gone ((y * band self.now + i) * lanes self.now + lane) a))
+            (below (lanes self.now))) (below (band self.now)) }
+        ensures few { result ≤ 131072 };
 
     /// Those of the pairs `wanted` of a row at which the action `a` is allowed and no seat serves
     /// it. The words tell the pairs that aren't gone, row by row; no bit is set that `wanted`
@@ -124,26 +159,35 @@ pub trait Rules {
             is_on result lane ≡ (is_on wanted lane && is_justified (arena self.now) gone (x * lanes self.now + lane) (Reason.Act a)) }
         ensures within { (lane : ℕ) → is_on wanted lane ≡ false → is_on result lane ≡ false };
 
-    /// Marks each row with a pair that has one of the pairs `lost` of a row as an outcome; other rows
-    /// may be marked as well. The marks are flags, 64 to a word, one for each row, and those that are
-    /// set stay. The steps are at most as many as delegations lead to any one of the pairs that are
-    /// lost.
-    fn mark_before<L: Ledger>(
-        &self,
-        row: &Self::Row,
-        lost: u64,
-        marks: &mut [u64],
-        steps: &mut Steps<L>,
-    )
-        requires row { (x : ℕ) × is_row self.now x row.now }
-        requires room { length (arena self.now).nodes ≤ 64 * length marks.old * lanes self.now }
+    /// Clears those of the pairs `left` of a band at which the action `a` isn't allowed or some seat
+    /// serves it. There is a word of `left` for each row of the band. The words tell the pairs that
+    /// aren't gone, row by row.
+    fn unserved_band(&self, row: &Self::Row, words: &[u64], a: u8, left: &mut [u64])
+        requires row { (y : ℕ) × is_row self.now (y * band self.now) row.now }
+        requires action { a < (arena self.now).actions }
+        requires room { length words.now * lanes self.now ≡ length (arena self.now).nodes }
+        requires long { length left.old ≡ band self.now }
+        ensures long { length left.new ≡ length left.old }
+        ensures lost { (y : ℕ) (gone : ℕ → Bool) → is_row self.now (y * band self.now) row.now →
+            AreRows (lanes self.now) (λ q. not (gone q)) words.now →
+            Keeps (lanes self.now) (y * band self.now) (band self.now) (λ p. is_justified (arena self.now) gone p (Reason.Act a)) left.old left.new };
+
+    /// Goes back from a band: marks each band with a pair that has one of this band's as an outcome; other
+    /// bands may be marked as well. The marks are flags, 64 to a word, one for each band, and those that
+    /// are set stay.
+    ///
+    /// A step is counted for each delegation to a seat before the bands' own that leads to a pair of
+    /// the band: there are as many at each.
+    fn mark_before<L: Ledger>(&self, row: &Self::Row, marks: &mut [u64], steps: &mut Steps<L>)
+        requires row { (y : ℕ) × is_row self.now (y * band self.now) row.now }
+        requires room { length (arena self.now).nodes ≤ 64 * length marks.old * band self.now * lanes self.now }
         ensures long { length marks.new ≡ length marks.old }
-        ensures marked { (x lane p a k : ℕ) → is_row self.now x row.now → lane < lanes self.now → is_on lost lane ≡ true →
-            p < length (arena self.now).nodes → IsIn (x * lanes self.now + lane) ((arena self.now).outcomes p a k) →
-            has_flag marks.new (p / lanes self.now) ≡ true }
+        ensures marked { (y i lane p a k : ℕ) → is_row self.now (y * band self.now) row.now → i < band self.now → lane < lanes self.now →
+            p < length (arena self.now).nodes → IsIn ((y * band self.now + i) * lanes self.now + lane) ((arena self.now).outcomes p a k) →
+            has_flag marks.new (p / lanes self.now / band self.now) ≡ true }
         ensures still { (y : ℕ) → has_flag marks.old y ≡ true → has_flag marks.new y ≡ true }
-        ensures cost { (x lane : ℕ) → is_row self.now x row.now → lane < lanes self.now → is_on lost lane ≡ true →
-            steps.new ≤ steps.old + length (predecessors (arena self.now) (x * lanes self.now + lane)) };
+        ensures steps { (y i lane : ℕ) → is_row self.now (y * band self.now) row.now → i < band self.now → lane < lanes self.now →
+            steps.new ≡ steps.old + count_by (λ d. ltb d.seat (mid self.now)) (predecessors (arena self.now) ((y * band self.now + i) * lanes self.now + lane)) };
 
     /// Looks for the first outcome of the action `a` at the pair `p`, delegated to seat `k`, whose
     /// pair isn't alive. The action must be allowed there, the seat ready, and `alive` may be

@@ -4,6 +4,7 @@ ghost use Rattle.roman_model.specs.Numbers.{sizes_of, count, numbered};
 ghost use Rattle.roman_rules.specs.Bits.{HasBits};
 ghost use Rattle.roman_joint.specs.NamedSys.{system_of};
 ghost use Rattle.roman_joint.specs.Rows.{lanes_in, IsRow};
+ghost use Rattle.roman_joint.specs.Bands.{band_in};
 
 use super::Joint;
 use crate::row::Row;
@@ -44,11 +45,22 @@ impl Joint {
         }
     }
 
-    /// The actions that the target allows at the pairs of a row, which are the same at each: bit a is
-    /// set exactly where it allows a.
+    /// Looks up what holds of all pairs of the band `y`: its first row.
+    pub fn first_row(&self, y: u32) -> Row
+        requires { y * band_in (system_of self.now) * lanes_in (system_of self.now) < count (sizes_of (system_of self.now)) }
+        ensures { IsRow (system_of self.now) (y * band_in (system_of self.now)) result }
+    {
+        self.row(y * self.layout().band)
+    }
+
+    /// The actions that the target allows at the pairs of a row, which are the same at each, and at
+    /// those of a band where the row is its first: bit a is set exactly where it allows a.
     pub fn row_actions(&self, row: &Row) -> u32
-        ensures { (x lane : ℕ) → IsRow (system_of self.now) x row.now → lane < lanes_in (system_of self.now) →
+        ensures row { (x lane : ℕ) → IsRow (system_of self.now) x row.now → lane < lanes_in (system_of self.now) →
             HasBits result ((numbered (system_of self.now)).allows (x * lanes_in (system_of self.now) + lane)) }
+        ensures band { let s = system_of self.now in
+            (y i lane : ℕ) → IsRow s (y * band_in s) row.now → i < band_in s → lane < lanes_in s →
+            HasBits result ((numbered s).allows ((y * band_in s + i) * lanes_in s + lane)) }
     {
         self.known();
         row.allowed

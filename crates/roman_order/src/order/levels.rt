@@ -6,13 +6,11 @@ use super::Order;
 impl Order {
     /// Ends a level at the list's present end. There is room for one level more than for pairs, and the
     /// caller sees to it that there are no more.
-    #[tactic(auto, using(crate::proofs::Tables::few_entries))]
     pub fn end_level(&mut self)
         requires { length self.old.levels ≤ self.old.cap_pairs }
         ensures { self.new ≡ record self.old { levels = self.old.levels ++ length self.old.list ∷ [] } }
     {
-        let end = self.entries.len() as u32;
-        self.levels.push_reserved(end);
+        self.levels.push_reserved(self.count);
     }
 
     /// How long the list was when each of its levels ended, the first level first. It is empty where

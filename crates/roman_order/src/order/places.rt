@@ -1,21 +1,28 @@
 //! The places of pairs in the list.
-ghost use Rattle.std.specs.Prelude.{◌≡◌, ℕ, ◌-◌, ◌^◌, ◌<◌, length, All, slice_index};
-ghost use Rattle.roman_order.specs.Board.{pairs_of, place_in_list};
-ghost use Rattle.roman_order.specs.Sound.{entries_of, AreStamps};
+ghost use Rattle.std.specs.Prelude.{◌≡◌, ℕ, ◌+◌, ◌-◌, ◌*◌, ◌^◌, ◌<◌, ◌≤◌, ◌==◌, ◌&&◌, true, ◌++◌, List, length, map, slice_index, slice_get, Some};
+ghost use Rattle.std.specs.List.{AllByRecursion, IsDistinct, filter};
+ghost use Rattle.roman_model.specs.Lists.{below};
+ghost use Rattle.roman_model.specs.Arena.{Entry};
+ghost use Rattle.roman_model.specs.declared.reason.Reason.{Reason as ReasonOf};
+ghost use Rattle.roman_lanes.specs.Rows.{is_on};
+ghost use Rattle.roman_order.specs.Board.{pairs_of, as_entry, set_lanes, nodes_of, place_in_list};
+ghost use Rattle.roman_order.specs.Events.{IsEvent, entries_of};
+ghost use Rattle.roman_order.specs.Sound.{IsPlaced, AreStamps};
 
 use super::{Order, refill};
-use crate::removal::Removal;
+use crate::event::Event;
+use crate::flags::{lanes_in, lowest};
 
 impl Order {
     /// The place of the pair `p` in the list, from 0, or `None` where it isn't listed. It is looked up
     /// where [`place_all`](Order::place_all) was called since the list last changed, and else searched
-    /// for entry by entry.
+    /// for event by event.
     pub fn stamp(&self, p: u32) -> Option<u32>
         requires { p < pairs_of self.now }
         ensures { result ≡ place_in_list self.now.list p }
     {
         let Some(&stamp) = self.stamps.get(p as usize) else {
-            return place_in(&self.entries, p);
+            return place_in(&self.events, self.lanes, p);
         };
         if stamp == u32::MAX { None } else { Some(stamp) }
     }
@@ -31,28 +38,90 @@ impl Order {
                 (self.rows * self.lanes) as usize,
                 u32::MAX,
             );
-            write_stamps(&mut self.stamps, &self.entries);
+            write_stamps(&mut self.stamps, &self.events, self.lanes);
         }
     }
 }
 
-/// The place of the first entry of the pair `p`, which is looked for from the first entry on.
-fn place_in(entries: &[Removal], p: u32) -> Option<u32>
-    requires { length entries.now < 2 ^ 32 }
-    ensures { result ≡ place_in_list (entries_of entries.now) p }
+/// The place of the entry of the pair `p`, which is looked for from the first event on.
+fn place_in(events: &[Event], lanes: u32, p: u32) -> Option<u32>
+    requires lanes { (0 < lanes) × (lanes ≤ 64) }
+    requires each { AllByRecursion (IsEvent lanes) events.now }
+    requires few { length (entries_of lanes events.now) < 2 ^ 32 }
+    ensures { result ≡ place_in_list (entries_of lanes events.now) p }
 {
-    let place = entries.iter().position(|entry| entry.pair == p)?;
-    Some(place as u32)
+    let x = p / lanes;
+    let lane = p % lanes;
+    let mut place = 0;
+    for j in 0..events.len() {
+        let event = event_in(events, j);
+        if has_lane(event.row, event.lanes, x, lane) {
+            return Some(place + lanes_before(event.lanes, lane));
+        }
+        place += lanes_in(event.lanes);
+    }
+    None
+}
+
+/// The event at a place of a table.
+fn event_in(events: &[Event], j: usize) -> Event
+    requires { j < length events.now }
+    ensures { slice_get events.now j ≡ Some result }
+{
+    events[j]
+}
+
+/// Whether a row is the row `x`, and its word has that lane.
+fn has_lane(row: u32, word: u64, x: u32, lane: u32) -> bool
+    requires { lane < 64 }
+    ensures { result ≡ (row == x && is_on word lane) }
+{
+    row == x && (word >> lane) & 1 == 1
+}
+
+/// How many lanes of a word are below one.
+fn lanes_before(word: u64, lane: u32) -> u32
+    requires { lane < 64 }
+    ensures { result ≡ length (filter (is_on word) (below lane)) }
+{
+    (word & ((1 << lane) - 1)).count_ones()
 }
 
 /// Writes each entry's place as its pair's stamp, into a table that has none.
-fn write_stamps(stamps: &mut [u32], entries: &[Removal])
+fn write_stamps(stamps: &mut [u32], events: &[Event], lanes: u32)
     requires blank { (p : ℕ) → p < length stamps.old → slice_index stamps.old p ≡ 2 ^ 32 - 1 }
-    requires in_range { All (λ x. x.pair < length stamps.old) entries.now }
-    requires few { length entries.now < 2 ^ 32 }
-    ensures { AreStamps (entries_of entries.now) stamps.new }
+    requires placed { IsPlaced (length stamps.old) (entries_of lanes events.now) }
+    requires lanes { lanes ≤ 64 }
+    requires each { AllByRecursion (IsEvent lanes) events.now }
+    requires few { length stamps.old < 2 ^ 32 }
+    ensures { AreStamps (entries_of lanes events.now) stamps.new }
 {
-    for i in (0..entries.len()).rev() {
-        stamps[entries[i].pair as usize] = i as u32;
+    let mut place = 0;
+    for j in 0..events.len() {
+        let event = event_in(events, j);
+        place = write_event(stamps, event.row * lanes, event.lanes, place);
     }
+}
+
+/// Writes the places of an event's entries, from `place` on, and gives the next one.
+fn write_event(stamps: &mut [u32], first: u32, word: u64, place: u32) -> u32
+    requires within { (lane : ℕ) → is_on word lane ≡ true → first + lane < length stamps.old }
+    requires few { length stamps.old < 2 ^ 32 }
+    requires fits { place + length (set_lanes word) < 2 ^ 32 }
+    ensures stamped { (D R : List (Entry ℕ)) (reason : ReasonOf) →
+        IsDistinct (λ x y. x == y) (nodes_of (D ++ (map (λ lane. as_entry (first + lane, reason)) (set_lanes word) ++ R))) →
+        length D ≡ place → AreStamps D stamps.old →
+        AreStamps (D ++ map (λ lane. as_entry (first + lane, reason)) (set_lanes word)) stamps.new }
+    ensures long { length stamps.new ≡ length stamps.old }
+    ensures next { result ≡ place + length (set_lanes word) }
+{
+    let mut rest = word;
+    let mut next = place;
+    'rest: while rest != 0 {
+        let lane = lowest(rest);
+        stamps[(first + lane) as usize] = next;
+        rest &= !(1 << lane);
+        next += 1;
+    }
+    next
 }

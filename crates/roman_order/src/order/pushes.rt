@@ -1,12 +1,10 @@
 //! How entries are added.
-ghost use Rattle.std.specs.Prelude.{◌≡◌, ℕ, ◌+◌, ◌*◌, ◌^◌, ◌<◌, ◌≤◌, true, false, [], ◌∷◌, ◌++◌, length, map, vec_capacity};
+ghost use Rattle.std.specs.Prelude.{◌≡◌, ℕ, ◌+◌, ◌*◌, ◌<◌, ◌≤◌, true, false, [], ◌∷◌, ◌++◌, length, slice_index};
 ghost use Rattle.roman_lanes.specs.Rows.{is_on};
-ghost use Rattle.roman_order.specs.Board.{pairs_of, as_entry, set_lanes, entries_in, has_entry};
-ghost use Rattle.roman_order.specs.Sound.{entries_of};
+ghost use Rattle.roman_order.specs.Board.{pairs_of, as_entry, entries_in, entries_in_rows, has_entry};
 
 use super::Order;
-use crate::flags::lowest;
-use crate::removal::Removal;
+use crate::event::Event;
 use roman_model::Reason;
 
 impl Order {
@@ -28,10 +26,7 @@ impl Order {
         ensures { self.new ≡ record self.old { list = self.old.list ++ as_entry (x * self.old.lanes + lane, reason) ∷ [] } }
     {
         prove!(self.lanes <= 64);
-        self.words[x as usize] &= !(1 << lane);
-        let pair = x * self.lanes + lane;
-        self.stamps.clear();
-        self.entries.push_reserved(Removal { pair, reason });
+        self.push_lanes(x, 1 << lane, reason);
     }
 
     /// Adds an entry for each pair of the row `x` whose lane is a bit of `lost`, the lanes rising, all
@@ -42,26 +37,31 @@ impl Order {
         requires alive { (lane : ℕ) → is_on lost lane ≡ true → has_entry self.old.list (x * self.old.lanes + lane) ≡ false }
         ensures { self.new ≡ record self.old { list = self.old.list ++ entries_in self.old.lanes x lost reason } }
     {
+        if lost == 0 {
+            return;
+        }
         self.words[x as usize] &= !lost;
-        let first = x * self.lanes;
         self.stamps.clear();
-        write_lanes(&mut self.entries, first, lost, reason);
+        self.firsts.push_reserved(self.count);
+        self.events.push_reserved(Event {
+            row: x,
+            reason,
+            lanes: lost,
+        });
+        self.count += lost.count_ones();
     }
-}
 
-/// Adds an entry for each pair at the lanes `lost` from `first` on.
-fn write_lanes(entries: &mut Vec<Removal>, first: u32, lost: u64, reason: Reason)
-    requires room { length entries.old.items + length (set_lanes lost) ≤ vec_capacity entries.old }
-    requires few { (lane : ℕ) → is_on lost lane ≡ true → first + lane < 2 ^ 32 }
-    ensures pushed { entries_of entries.new.items
-        ≡ entries_of entries.old.items ++ map (λ lane. as_entry (first + lane, reason)) (set_lanes lost) }
-    ensures room { vec_capacity entries.new ≡ vec_capacity entries.old }
-{
-    let mut rest = lost;
-    'rest: while rest != 0 {
-        let lane = lowest(rest);
-        let pair = first + lane;
-        entries.push_reserved(Removal { pair, reason });
-        rest &= !(1 << lane);
+    /// Adds entries for pairs of neighbouring rows, from the row `x` on, row by row, all for one reason:
+    /// word i of `lost` has a bit for each lane of row `x + i`. None of the pairs is listed yet.
+    pub fn push_rows(&mut self, x: u32, lost: &[u64], reason: Reason)
+        requires rows { x + length lost.now ≤ self.old.rows }
+        requires within { (i lane : ℕ) → is_on (slice_index lost.now i) lane ≡ true → lane < self.old.lanes }
+        requires alive { (i lane : ℕ) → is_on (slice_index lost.now i) lane ≡ true → has_entry self.old.list ((x + i) * self.old.lanes + lane) ≡ false }
+        ensures { self.new ≡ record self.old { list = self.old.list ++ entries_in_rows self.old.lanes x (length lost.now) lost.now reason } }
+    {
+        prove!(lost.len() <= self.rows as usize);
+        for i in 0..lost.len() {
+            self.push_lanes(x + i as u32, lost[i], reason);
+        }
     }
 }

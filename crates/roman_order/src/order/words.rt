@@ -1,5 +1,5 @@
 //! The pairs that aren't listed, as words, and what was kept of them.
-ghost use Rattle.std.specs.Prelude.{◌≡◌, ◌≢◌, ℕ, ◌<◌, not, length, slice_index};
+ghost use Rattle.std.specs.Prelude.{◌≡◌, ◌≢◌, ℕ, ◌+◌, ◌<◌, ◌≤◌, ◌⊎◌, not, length, slice_index};
 ghost use Rattle.roman_lanes.specs.Rows.{HasLanes, AreRows};
 ghost use Rattle.roman_order.specs.Board.{has_entry};
 
@@ -40,5 +40,19 @@ impl Order {
         ensures rest { self.new ≡ record self.old { before = self.new.before } }
     {
         self.before[x as usize] = self.words[x as usize];
+    }
+
+    /// Keeps the words of so many rows from the row `x` on as they are; what was kept of others stays.
+    pub fn keep_rows(&mut self, x: u32, many: u32)
+        requires { x + many ≤ self.old.rows }
+        ensures kept { (y : ℕ) → x ≤ y → y < x + many → HasLanes self.old.lanes y (λ p. not (has_entry self.old.list p)) (slice_index self.new.before y) }
+        ensures others { (y : ℕ) → (y < x) ⊎ (x + many ≤ y) → slice_index self.new.before y ≡ slice_index self.old.before y }
+        ensures long { length self.new.before ≡ length self.old.before }
+        ensures rest { self.new ≡ record self.old { before = self.new.before } }
+    {
+        prove!(many <= self.rows);
+        for i in 0..many {
+            self.keep_row(x + i);
+        }
     }
 }

@@ -1,6 +1,8 @@
-//! The rows that are marked, judged against the words that were kept.
-ghost use Rattle.std.specs.Prelude.{◌≡◌, ℕ, ◌+◌, ◌*◌, ◌/◌, ◌<◌, nat_lt, true, false};
+//! The bands that are marked, judged against the words that were kept.
+ghost use Rattle.std.specs.Prelude.{◌≡◌, ℕ, ◌+◌, ◌*◌, ◌/◌, ◌<◌, ◌≤◌, ◌⊎◌, true, false, IsTrue};
 ghost use Rattle.std.specs.Prelude.{length};
+ghost use Rattle.roman_model.specs.Arena.{is_listed};
+ghost use Rattle.roman_lanes.specs.Rows.{is_on};
 ghost use Rattle.roman_order.specs.Board.{is_marked};
 ghost use Rattle.roman_relation.specs.Shaped.{IsShaped};
 ghost use Rattle.roman_relation.specs.Settled.{Begins};
@@ -8,89 +10,135 @@ ghost use Rattle.roman_relation.specs.Rounds.{InRound, IsJudged, IsPairJudged};
 
 use roman_model::Reason;
 use roman_order::Order;
-use roman_rules::Rules;
+use roman_rules::{Rules, are_clear, copy_rows};
 
-/// Takes all marks off, and judges the rows that had one.
+/// The greatest number of rows in a band.
+const BAND: usize = 64;
+
+/// Takes all marks off, and judges the bands that had one.
 pub(crate) fn judge_marked<J: Rules>(joint: &J, order: &mut Order)
     requires shaped { IsShaped (J.arena joint.now) (J.lanes joint.now) order.old }
+    requires round { (start : ℕ) × InRound (J.arena joint.now) (J.lanes joint.now) start order.old }
     ensures round { let A = J.arena joint.now in
         (start : ℕ) → InRound A (J.lanes joint.now) start order.old → InRound A (J.lanes joint.now) start order.new }
     ensures begins { Begins order.old.list order.new.list }
     ensures rest { order.new ≡ record order.old { list = order.new.list; marks = order.new.marks } }
     ensures unmarked { (y : ℕ) → is_marked order.new y ≡ false }
+    ensures only { let A = J.arena joint.now in
+        (p : ℕ) → IsTrue (is_listed A order.new.list p) →
+        IsTrue (is_listed A order.old.list p) ⊎ (is_marked order.old (p / J.lanes joint.now / J.band joint.now) ≡ true) }
     ensures done { let A = J.arena joint.now in
         (start p : ℕ) → InRound A (J.lanes joint.now) start order.old → p < length A.nodes →
-        is_marked order.old (p / J.lanes joint.now) ≡ true → IsPairJudged A start order.new p }
+        is_marked order.old (p / J.lanes joint.now / J.band joint.now) ≡ true → IsPairJudged A start order.new p }
 {
     joint.known();
-    let rows = joint.rows();
-    'rows: while let Some(x) = order.next_marked() {
-        judge_if(joint, order, x, x < rows);
+    let bands = joint.bands();
+    let mut words = [0; BAND];
+    let left = &mut words[..joint.band() as usize];
+    'bands: while let Some(y) = order.next_marked() {
+        judge_if(joint, order, y, y < bands, left);
     }
 }
 
-/// Judges the row `x`, if it is one.
-fn judge_if<J: Rules>(joint: &J, order: &mut Order, x: u32, is_row: bool)
+/// Judges the band `y`, if it is one.
+fn judge_if<J: Rules>(joint: &J, order: &mut Order, y: u32, is_band: bool, left: &mut [u64])
     requires shaped { IsShaped (J.arena joint.now) (J.lanes joint.now) order.old }
-    requires row { is_row ≡ nat_lt x order.old.rows }
+    requires round { (start : ℕ) × InRound (J.arena joint.now) (J.lanes joint.now) start order.old }
+    requires left { length left.old ≡ J.band joint.now }
+    requires band { is_band ≡ true → y * J.band joint.now + J.band joint.now ≤ order.old.rows }
     ensures round { let A = J.arena joint.now in
         (start : ℕ) → InRound A (J.lanes joint.now) start order.old → InRound A (J.lanes joint.now) start order.new }
     ensures begins { Begins order.old.list order.new.list }
     ensures rest { order.new ≡ record order.old { list = order.new.list } }
+    ensures long { length left.new ≡ length left.old }
+    ensures only { let A = J.arena joint.now in
+        (p : ℕ) → IsTrue (is_listed A order.new.list p) →
+        IsTrue (is_listed A order.old.list p) ⊎ (p / J.lanes joint.now / J.band joint.now ≡ y) }
     ensures done { let A = J.arena joint.now in
-        (start lane : ℕ) → InRound A (J.lanes joint.now) start order.old → lane < J.lanes joint.now → x < order.old.rows →
-        IsPairJudged A start order.new (x * J.lanes joint.now + lane) }
+        (start i lane : ℕ) → InRound A (J.lanes joint.now) start order.old → is_band ≡ true → i < J.band joint.now → lane < J.lanes joint.now →
+        IsPairJudged A start order.new ((y * J.band joint.now + i) * J.lanes joint.now + lane) }
 {
-    if is_row {
-        judge(joint, order, x);
+    if is_band {
+        judge(joint, order, y, left);
     }
 }
 
-/// Judges the row `x`: lists each of its pairs at which some action is a reason, with the least.
-fn judge<J: Rules>(joint: &J, order: &mut Order, x: u32)
+/// Judges the band `y`: lists each of its pairs at which some action is a reason, with the least.
+fn judge<J: Rules>(joint: &J, order: &mut Order, y: u32, left: &mut [u64])
     requires shaped { IsShaped (J.arena joint.now) (J.lanes joint.now) order.old }
-    requires row { x < order.old.rows }
+    requires round { (start : ℕ) × InRound (J.arena joint.now) (J.lanes joint.now) start order.old }
+    requires left { length left.old ≡ J.band joint.now }
+    requires band { y * J.band joint.now + J.band joint.now ≤ order.old.rows }
     ensures round { let A = J.arena joint.now in
         (start : ℕ) → InRound A (J.lanes joint.now) start order.old → InRound A (J.lanes joint.now) start order.new }
     ensures begins { Begins order.old.list order.new.list }
     ensures rest { order.new ≡ record order.old { list = order.new.list } }
+    ensures long { length left.new ≡ length left.old }
+    ensures only { let A = J.arena joint.now in
+        (p : ℕ) → IsTrue (is_listed A order.new.list p) →
+        IsTrue (is_listed A order.old.list p) ⊎ (p / J.lanes joint.now / J.band joint.now ≡ y) }
     ensures done { let A = J.arena joint.now in
-        (start lane : ℕ) → InRound A (J.lanes joint.now) start order.old → lane < J.lanes joint.now →
-        IsPairJudged A start order.new (x * J.lanes joint.now + lane) }
+        (start i lane : ℕ) → InRound A (J.lanes joint.now) start order.old → i < J.band joint.now → lane < J.lanes joint.now →
+        IsPairJudged A start order.new ((y * J.band joint.now + i) * J.lanes joint.now + lane) }
 {
     joint.known();
     order.known();
-    if order.words()[x as usize] == 0 {
+    let x = y * joint.band();
+    let words = order.words();
+    copy_rows(words, x, left);
+    if are_clear(left) {
         return;
     }
-    let row = joint.row(x);
+    let row = joint.first_row(y);
     let allowed = joint.row_actions(&row);
     for a in 0..joint.actions() {
-        judge_on(joint, order, &row, x, a, (allowed >> a) & 1 == 1);
+        judge_on(joint, order, &row, x, a, is_in(allowed, a), left);
     }
 }
 
-/// Judges the row `x` for the action `a`.
-fn judge_on<J: Rules>(joint: &J, order: &mut Order, row: &J::Row, x: u32, a: u8, is_allowed: bool)
+// Whether an action is in a set.
+fn is_in(actions: u32, a: u8) -> bool
+    requires { a < 32 }
+    ensures { result ≡ is_on actions a }
+{
+    (actions >> a) & 1 == 1
+}
+
+/// Judges the band whose first row is `x` for the action `a`, if it is allowed there.
+fn judge_on<J: Rules>(
+    joint: &J,
+    order: &mut Order,
+    row: &J::Row,
+    x: u32,
+    a: u8,
+    is_allowed: bool,
+    left: &mut [u64],
+)
     requires shaped { IsShaped (J.arena joint.now) (J.lanes joint.now) order.old }
-    requires inside { x < order.old.rows }
+    requires round { (start : ℕ) × InRound (J.arena joint.now) (J.lanes joint.now) start order.old }
+    requires first { (y : ℕ) × (x ≡ y * J.band joint.now) }
+    requires band { x + J.band joint.now ≤ order.old.rows }
     requires row { J.is_row joint.now x row.now }
     requires action { a < (J.arena joint.now).actions }
-    requires allowed { (lane : ℕ) → lane < J.lanes joint.now →
-        is_allowed ≡ (J.arena joint.now).allows (x * J.lanes joint.now + lane) a }
+    requires left { length left.old ≡ J.band joint.now }
     ensures round { let A = J.arena joint.now in
         (start : ℕ) → InRound A (J.lanes joint.now) start order.old → InRound A (J.lanes joint.now) start order.new }
     ensures begins { Begins order.old.list order.new.list }
     ensures rest { order.new ≡ record order.old { list = order.new.list } }
+    ensures long { length left.new ≡ length left.old }
+    ensures only { let A = J.arena joint.now in
+        (p : ℕ) → IsTrue (is_listed A order.new.list p) →
+        IsTrue (is_listed A order.old.list p) ⊎ ((x ≤ p / J.lanes joint.now) × (p / J.lanes joint.now < x + J.band joint.now)) }
     ensures judged { let A = J.arena joint.now in
-        (start lane : ℕ) → InRound A (J.lanes joint.now) start order.old → lane < J.lanes joint.now →
-        IsJudged A start order.new (x * J.lanes joint.now + lane) a }
+        (start i lane : ℕ) → InRound A (J.lanes joint.now) start order.old → is_allowed ≡ true → i < J.band joint.now → lane < J.lanes joint.now →
+        IsJudged A start order.new ((x + i) * J.lanes joint.now + lane) a }
 {
     joint.known();
     order.known();
     if !is_allowed {
         return;
     }
-    let lost = joint.unserved(row, order.before(), a, order.words()[x as usize]);
-    order.push_lanes(x, lost, Reason::Act(a));
+    copy_rows(order.words(), x, left);
+    joint.unserved_band(row, order.before(), a, left);
+    order.push_rows(x, left, Reason::Act(a));
 }

@@ -1,78 +1,87 @@
-//! The rows before what a round has listed.
-ghost use Rattle.std.specs.Prelude.{◌≡◌, ℕ, ◌+◌, ◌*◌, ◌/◌, ◌<◌, ◌≤◌, false};
-ghost use Rattle.std.specs.Prelude.{not, ◌&&◌, length, drop, IsTrue};
+//! The bands before what a round has listed.
+ghost use Rattle.std.specs.Prelude.{◌≡◌, ℕ, ◌+◌, ◌*◌, ◌/◌, ◌<◌, ◌≤◌, true, false, List, [], ◌++◌};
+ghost use Rattle.std.specs.Prelude.{length, take, drop, IsTrue, IsFalse};
 ghost use Rattle.roman_lanes.specs.Rows.{is_on};
-ghost use Rattle.roman_model.specs.Arena.{is_listed, fall, back as predecessors};
+ghost use Rattle.roman_model.specs.Arena.{Entry, is_listed, IsOrder, fall};
+ghost use Rattle.roman_order.specs.Events.{IsEvent, entries_at};
 ghost use Rattle.roman_relation.specs.Shaped.{IsShaped};
-ghost use Rattle.roman_relation.specs.Rounds.{IsMarking, on_at};
+ghost use Rattle.roman_relation.specs.Rounds.{IsMarking, AreGoneBack, moves_to_all, on_at};
 
 use roman_io::Steps;
-use roman_order::Order;
+use roman_order::{Event, Order};
 use roman_rules::Rules;
 use std::sync::ledger::Ledger;
 
-/// Marks the rows before the pairs of the entries from `start` on, and keeps the words of their rows.
+/// Marks the bands before the pairs of the entries from `start` on, and keeps the words of their bands.
+/// The first of them is found at once if `near` is how many events there were before.
 pub(crate) fn mark_losses<J: Rules, L: Ledger>(
     joint: &J,
     order: &mut Order,
     start: u32,
+    near: usize,
     steps: &mut Steps<L>,
 )
     requires shaped { IsShaped (J.arena joint.now) (J.lanes joint.now) order.old }
     requires start { start ≤ length order.old.list }
-    requires marking { IsMarking (J.arena joint.now) (J.lanes joint.now) start start order.old }
-    ensures marking { IsMarking (J.arena joint.now) (J.lanes joint.now) start (length order.new.list) order.new }
+    requires valid { IsOrder (J.arena joint.now) order.old.list }
+    requires marking { IsMarking (J.arena joint.now) (J.lanes joint.now) (J.band joint.now) start start order.old }
+    requires back { AreGoneBack (J.arena joint.now) (J.lanes joint.now) (J.band joint.now) start [] order.old }
+    ensures marking { IsMarking (J.arena joint.now) (J.lanes joint.now) (J.band joint.now) start (length order.new.list) order.new }
     ensures rest { order.new ≡ record order.old { marks = order.new.marks; before = order.new.before } }
     ensures cost { steps.new ≤ steps.old + fall (J.arena joint.now) (drop start order.new.list) }
+    ensures steps { steps.new ≡ steps.old + moves_to_all (J.arena joint.now) (J.lanes joint.now) (J.band joint.now) (J.mid joint.now) order.old.rows (drop start order.new.list) }
 {
     joint.known();
     order.known();
-    let lanes = joint.lanes();
-    let mut first = u32::MAX;
-    for i in start..order.len() {
-        let (p, _) = order.entry(i);
-        if first <= p && p - first < lanes {
-            continue;
-        }
-        first = mark_loss(joint, order, p, steps);
+    let end = order.len();
+    let mut guess = near;
+    let mut i = start;
+    'losses: while i < end {
+        let event = order.event_at(i, guess);
+        mark_event(joint, order, event, steps);
+        i += event.len();
+        guess = guess.wrapping_add(1);
     }
 }
 
-/// Marks the rows before the pair `p`, and before all others that its row has lost since its word was
-/// kept, and keeps the row's word. Gives the row's first pair, or a number past all pairs where the
-/// row's word was kept before.
-fn mark_loss<J: Rules, L: Ledger>(joint: &J, order: &mut Order, p: u32, steps: &mut Steps<L>) -> u32
+/// Marks the bands before that of an event, and keeps the words of the event's band. Nothing is done where none of the event's lanes was kept.
+fn mark_event<J: Rules, L: Ledger>(joint: &J, order: &mut Order, event: Event, steps: &mut Steps<L>)
     requires shaped { IsShaped (J.arena joint.now) (J.lanes joint.now) order.old }
-    requires pair { p < length (J.arena joint.now).nodes }
-    requires listed { IsTrue (is_listed (J.arena joint.now) order.old.list p) }
+    requires row { event.row < order.old.rows }
+    requires event { IsEvent (J.lanes joint.now) event }
+    requires listed { (lane : ℕ) → is_on event.lanes lane ≡ true →
+        IsTrue (is_listed (J.arena joint.now) order.old.list (event.row * J.lanes joint.now + lane)) }
     ensures marking { let A = J.arena joint.now in
-        (start end : ℕ) → IsMarking A (J.lanes joint.now) start end order.old →
-        IsMarking A (J.lanes joint.now) start end order.new }
-    ensures noted { on_at (J.lanes joint.now) order.new.before p ≡ false }
-    ensures row { let A = J.arena joint.now in
-        (q : ℕ) → q < length A.nodes → result ≤ q → q < result + J.lanes joint.now →
-        IsTrue (is_listed A order.new.list q) → on_at (J.lanes joint.now) order.new.before q ≡ false }
+        (start end : ℕ) → IsMarking A (J.lanes joint.now) (J.band joint.now) start end order.old →
+        IsMarking A (J.lanes joint.now) (J.band joint.now) start end order.new }
+    ensures noted { (lane : ℕ) → is_on event.lanes lane ≡ true →
+        on_at (J.lanes joint.now) order.new.before (event.row * J.lanes joint.now + lane) ≡ false }
     ensures rest { order.new ≡ record order.old { marks = order.new.marks; before = order.new.before } }
-    ensures cost { steps.new ≤ steps.old + length (predecessors (J.arena joint.now) p) }
+    ensures cost { steps.new ≤ steps.old + fall (J.arena joint.now) (entries_at (J.lanes joint.now) event) }
+    ensures back { let A = J.arena joint.now in let lanes = J.lanes joint.now in let band = J.band joint.now in
+        (start : ℕ) (L : List (Entry ℕ)) → AreGoneBack A lanes band start L order.old →
+        ((lane : ℕ) → is_on event.lanes lane ≡ true → IsFalse (is_listed A (take start order.old.list) (event.row * lanes + lane))) →
+        AreGoneBack A lanes band start (L ++ entries_at lanes event) order.new
+        × (steps.new + moves_to_all A lanes band (J.mid joint.now) order.old.rows L
+        ≡ steps.old + moves_to_all A lanes band (J.mid joint.now) order.old.rows (L ++ entries_at lanes event)) }
 {
     joint.known();
     order.known();
-    let lanes = joint.lanes();
-    let x = p / lanes;
-    let before = order.before()[x as usize];
-    if (before >> (p % lanes)) & 1 == 0 {
-        return u32::MAX;
+    let before = order.before()[event.row as usize];
+    if !meets(before, event.lanes) {
+        return;
     }
-    let row = joint.row(x);
-    let lost = without(before, order.words()[x as usize]);
-    joint.mark_before(&row, lost, order.marks_mut(), steps);
-    order.keep_row(x);
-    x * lanes
+    let band = joint.band();
+    let y = event.row / band;
+    let row = joint.first_row(y);
+    joint.mark_before(&row, order.marks_mut(), steps);
+    order.keep_rows(y * band, band);
 }
 
-// The lanes of a word that aren't those of another.
-fn without(word: u64, other: u64) -> u64
-    ensures { (lane : ℕ) → lane < 64 → is_on result lane ≡ (is_on word lane && not (is_on other lane)) }
+// Whether a word has some of the lanes of another.
+fn meets(word: u64, other: u64) -> bool
+    ensures none { result ≡ false → (lane : ℕ) → is_on other lane ≡ true → is_on word lane ≡ false }
+    ensures some { result ≡ true → (lane : ℕ) × (is_on word lane ≡ true) × (is_on other lane ≡ true) }
 {
-    word & !other
+    word & other != 0
 }

@@ -1,5 +1,5 @@
 //! The pairs that don't meet clause 2.
-ghost use Rattle.std.specs.Prelude.{ℕ, ◌+◌, ◌*◌, ◌<◌, ◌⊎◌};
+ghost use Rattle.std.specs.Prelude.{◌≡◌, ℕ, ◌+◌, ◌*◌, ◌<◌, ◌≤◌, ◌⊎◌};
 ghost use Rattle.std.specs.Prelude.{length, IsTrue, IsFalse};
 ghost use Rattle.roman_model.specs.Arena.{is_listed, IsOrder};
 ghost use Rattle.roman_relation.specs.Shaped.{IsShaped};
@@ -7,7 +7,10 @@ ghost use Rattle.roman_relation.specs.Settled.{SettlesOn};
 
 use roman_model::Reason;
 use roman_order::Order;
-use roman_rules::Rules;
+use roman_rules::{Rules, copy_rows};
+
+/// The greatest number of rows in a band.
+const BAND: usize = 64;
 
 /// Lists the pairs that aren't listed and don't meet clause 2.
 pub(crate) fn list_unfine<J: Rules>(joint: &J, order: &mut Order)
@@ -21,32 +24,34 @@ pub(crate) fn list_unfine<J: Rules>(joint: &J, order: &mut Order)
         IsTrue (is_listed A order.old.list p) ⊎ IsFalse (A.fine p) }
 {
     joint.known();
-    for x in 0..joint.rows() {
-        list_unfine_row(joint, order, x);
+    let mut words = [0; BAND];
+    let left = &mut words[..joint.band() as usize];
+    for y in 0..joint.bands() {
+        list_unfine_band(joint, order, y, left);
     }
 }
 
-/// Lists the pairs of the row `x` that aren't listed and don't meet clause 2.
-fn list_unfine_row<J: Rules>(joint: &J, order: &mut Order, x: u32)
+/// Lists the pairs of the band `y` that aren't listed and don't meet clause 2.
+fn list_unfine_band<J: Rules>(joint: &J, order: &mut Order, y: u32, left: &mut [u64])
     requires shaped { IsShaped (J.arena joint.now) (J.lanes joint.now) order.old }
-    requires row { x < order.old.rows }
+    requires band { y * J.band joint.now + J.band joint.now ≤ order.old.rows }
+    requires left { length left.old ≡ J.band joint.now }
     requires valid { IsOrder (J.arena joint.now) order.old.list }
     ensures goes_on { SettlesOn (J.arena joint.now) order.old order.new }
+    ensures long { length left.new ≡ length left.old }
     ensures fine { let A = J.arena joint.now in
-        (lane : ℕ) → lane < J.lanes joint.now →
-        IsFalse (is_listed A order.new.list (x * J.lanes joint.now + lane)) →
-        IsTrue (A.fine (x * J.lanes joint.now + lane)) }
+        (i lane : ℕ) → i < J.band joint.now → lane < J.lanes joint.now →
+        let p = (y * J.band joint.now + i) * J.lanes joint.now + lane in
+        IsFalse (is_listed A order.new.list p) → IsTrue (A.fine p) }
     ensures because { let A = J.arena joint.now in
         (p : ℕ) → IsTrue (is_listed A order.new.list p) →
         IsTrue (is_listed A order.old.list p) ⊎ IsFalse (A.fine p) }
 {
     joint.known();
     order.known();
-    let word = order.words()[x as usize];
-    if word == 0 {
-        return;
-    }
-    let row = joint.row(x);
-    let lost = joint.unfine(&row) & word;
-    order.push_lanes(x, lost, Reason::Final);
+    let x = y * joint.band();
+    copy_rows(order.words(), x, left);
+    let row = joint.first_row(y);
+    joint.unfine_band(&row, left);
+    order.push_rows(x, left, Reason::Final);
 }

@@ -20,24 +20,26 @@ loop-i-init g c =
     let begins = cert_begins c.args.pairs L c.bytes.result.now (c.bytes.ensures ∙ c.head_piece-head.ensures) in
     record {
       filling = fill_more _ _ _ _ _ c.bytes.result.now (rest_from L 0) _ (fill_whole _ _ _ _ c.new-page.ensures.empty begins) c.in_ok-push.ensures.gathers;
+      ahead = c.nothing-ahead.ensures c.args.order.now 0;
       cause = c.in_ok-push.ensures.cause.stays;
     }
 
 pub returns-in_err-push_entry-clause-text : goal.returns-in_err-push_entry-clause-text
 returns-in_err-push_entry-clause-text g c =
     let L = c.args.order.now.list in
-    let bytes = text_of_lines (entry_line (as_entry c.entry-pair.result) ∷ []) in
-    let next = cert_next L c.loop-i.i (as_entry c.entry-pair.result) bytes c.entry-pair.ensures refl in
+    let bytes = text_of_lines (entry_line (as_entry c.walk-pair.result) ∷ []) in
+    let next = cert_next L c.loop-i.i (as_entry c.walk-pair.result) bytes c.walk-pair.ensures.entry refl in
     let p = err_from_is_err_and c.from_residual-in_err-push_entry.result c.from_residual-in_err-push_entry.ensures.1 in
     rw p.1 (fill_failed _ _ _ _ bytes (rest_from L (c.loop-i.i + 1)) _ (fill_same _ _ _ _ _ _ next c.loop-i.invariant.filling) c.in_err-push_entry.ensures.gathers.0)
 
 pub loop-i-preserved : goal.loop-i-preserved
 loop-i-preserved g c =
     let L = c.args.order.now.list in
-    let bytes = text_of_lines (entry_line (as_entry c.entry-pair.result) ∷ []) in
-    let next = cert_next L c.loop-i.i (as_entry c.entry-pair.result) bytes c.entry-pair.ensures refl in
+    let bytes = text_of_lines (entry_line (as_entry c.walk-pair.result) ∷ []) in
+    let next = cert_next L c.loop-i.i (as_entry c.walk-pair.result) bytes c.walk-pair.ensures.entry refl in
     record {
       filling = fill_more _ _ _ _ _ bytes (rest_from L (c.loop-i.i + 1)) _ (fill_same _ _ _ _ _ _ next c.loop-i.invariant.filling) c.in_ok-push_entry.ensures.gathers;
+      ahead = c.walk-pair.ensures.ahead;
       cause = c.in_ok-push_entry.ensures.cause.stays ∙ c.loop-i.invariant.cause;
     }
 

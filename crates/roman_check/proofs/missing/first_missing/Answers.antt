@@ -4,8 +4,11 @@ use Rattle.std.proofs.lemmas.Bool.{cases_eq}
 use Rattle.roman_model.specs.Certificate.{could_be_listed}
 use Rattle.roman_lanes.specs.Rows.{is_on}
 use Rattle.roman_lanes.proofs.CallerLemmas.{on_zero}
-use Rattle.roman_check.proofs.ReasonLemmas.{least_found, none_found, before_row, before_lane, row_ends, row_among, IsLowest, lowest, lowest_within}
+use Rattle.roman_check.proofs.ReasonLemmas.{least_found, none_found, before_row, before_lane, row_ends, row_among, IsLowest, lowest, lowest_within, same_rows}
 use Rattle.roman_check.proofs.missing.first_missing.Goals as goal
+
+pub loop-x-init : goal.loop-x-init
+loop-x-init g c L rows y lane l m = c.rows_before-x.ensures.none L rows y lane l m
 
 pub missing_in-missing-requires-clause-row : goal.missing_in-missing-requires-clause-row
 missing_in-missing-requires-clause-row g c =
@@ -56,5 +59,7 @@ returns g c L rows =
     let A = g.J.Rules.arena c.args.joint.now in
     let lanes = g.J.Rules.lanes c.args.joint.now in
     let some : 0 < lanes = c.known.ensures.lanes.0 in
-    let all : c.loop-x.x * lanes ≡ length A.nodes = ap (λ m. m * lanes) (omega arith) ∙ c.rows-x-end.ensures in
+    let whole : c.rows-x-end.result ≡ length c.args.words.now = same_rows c.rows-x-end.result (length c.args.words.now) lanes some (c.rows-x-end.ensures ∙ sym c.requires) in
+    let end : c.loop-x.x ≤ c.rows-x-end.result = c.loop-x.auto.x-end (omega (arith, whole, c.rows_before-x.ensures.within)) in
+    let all : c.loop-x.x * lanes ≡ length A.nodes = ap (λ m. m * lanes) (omega (arith, end, c.loop-x-test.false)) ∙ c.rows-x-end.ensures in
     none_found A c.known.ensures.numbered (could_be_listed A L) (λ q l. before_row lanes c.loop-x.x (λ p. IsFalse (could_be_listed A L p)) some (λ y lane h m. c.loop-x.invariant L rows y lane h m) q (omega arith))

@@ -3,7 +3,7 @@ use Rattle.roman_joint.proofs.MarkLemmas.{put_mark}
 use Rattle.roman_joint.proofs.marks.mark.Goals as goal
 
 pub returns-clause-grows : goal.returns-clause-grows
-returns-clause-grows c = (put_mark c.args.marks.now c.args.x (c.args.x / 64) (c.args.x % 64) (omega (arith, c.if-place-marks.false)) refl refl).0
+returns-clause-grows c = (put_mark c.args.marks.now c.args.y (c.args.y / 64) (c.args.y % 64) (omega (arith, c.if-place-marks.false)) refl refl).0
 
 pub returns-clause-marked : goal.returns-clause-marked
-returns-clause-marked c l = (put_mark c.args.marks.now c.args.x (c.args.x / 64) (c.args.x % 64) (omega (arith, c.if-place-marks.false)) refl refl).1
+returns-clause-marked c l = (put_mark c.args.marks.now c.args.y (c.args.y / 64) (c.args.y % 64) (omega (arith, c.if-place-marks.false)) refl refl).1

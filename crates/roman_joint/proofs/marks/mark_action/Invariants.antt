@@ -1,15 +1,15 @@
-use Rattle.std.proofs.Common.{ℕ, ◌+◌, ◌<◌, ◌≤◌, length, take, get_or}
+use Rattle.std.proofs.Common.{◌≡◌, ℕ, ◌+◌, ◌<◌, length, take, get_or}
 use Rattle.std.specs.List.{flat_map}
 use Rattle.roman_model.specs.System.{Pair}
 use Rattle.roman_joint.specs.NamedSys.{system_of}
-use Rattle.roman_joint.specs.Backward.{from_env}
+use Rattle.roman_joint.specs.Marks.{front_env}
 use Rattle.roman_joint.specs.Marks.{Grows, MarksEnv, IsAt}
 use Rattle.roman_joint.proofs.marks.mark_action.Given as goal
 
--- the rows of the environment's states so far are marked
+-- the bands of the environment's states so far are marked
 abbrev pub invariant-loop-e : goal.invariant-loop-e
 invariant-loop-e g l = record {
   grows : Grows l.fn.marks l.marks;
   envs : (j : ℕ) → j < l.e-index → MarksEnv (system_of l.joint) l.row l.marks l.a (get_or l.envs j 0);
-  cost : (q : Pair) → IsAt (system_of l.joint) l.row q → l.steps ≤ l.fn.steps + length (flat_map (from_env (system_of l.joint) q l.a) (take l.e-index l.envs));
+  steps : (q : Pair) → IsAt (system_of l.joint) l.row q → l.steps ≡ l.fn.steps + length (flat_map (front_env (system_of l.joint) q l.a) (take l.e-index l.envs));
 }

@@ -1,7 +1,7 @@
 use Rattle.std.proofs.Common.{ℕ, get_or, sym, arith}
 use Rattle.std.proofs.lemmas.List.{take_all}
 use Rattle.roman_joint.specs.NamedSys.{system_of}
-use Rattle.roman_joint.specs.Backward.{from_target}
+use Rattle.roman_joint.specs.Marks.{front_target}
 use Rattle.roman_joint.specs.Marks.{MarksTurn}
 use Rattle.roman_joint.proofs.MarkLemmas.{grows_itself, grows_on, turn_on, more_below, each_in, count_more}
 use Rattle.roman_joint.proofs.marks.mark_env.Goals as goal
@@ -16,7 +16,7 @@ pub into-targets-requires-clause-action : goal.into-targets-requires-clause-acti
 into-targets-requires-clause-action g c = rw (c.target.ensures, c.known.ensures.target.1) c.requires.action
 
 pub loop-t-init : goal.loop-t-init
-loop-t-init g c = record { grows = grows_itself c.args.marks.now; turns = λ j l. absurd (omega arith); cost = λ q at. omega arith }
+loop-t-init g c = record { grows = grows_itself c.args.marks.now; turns = λ j l. absurd (omega arith); steps = λ q at. omega arith }
 
 pub loop-t-preserved : goal.loop-t-preserved
 loop-t-preserved g c =
@@ -24,13 +24,15 @@ loop-t-preserved g c =
     let row = c.args.row.now in
     let ts = c.into-targets.result.now in
     let i = c.loop-t.invariant in
+    let old = c.loop-t.marks in
+    let new = c.mark_turn.new.marks in
     let more = c.mark_turn.ensures.grows in
     record {
-      grows = grows_on c.args.marks.now c.loop-t.marks c.mark_turn.new.marks i.grows more;
-      turns = more_below c.loop-t.t-index (λ (j : ℕ). MarksTurn s row c.mark_turn.new.marks c.args.a c.args.e (get_or ts j 0))
-          (λ j l. turn_on s row c.loop-t.marks c.mark_turn.new.marks c.args.a c.args.e (get_or ts j 0) more (i.turns j l))
+      grows = grows_on c.args.marks.now old new i.grows more;
+      turns = more_below c.loop-t.t-index (λ (j : ℕ). MarksTurn s row new c.args.a c.args.e (get_or ts j 0))
+          (λ j l. turn_on s row old new c.args.a c.args.e (get_or ts j 0) more (i.turns j l))
           c.mark_turn.ensures.marks;
-      cost = λ q at. omega (arith, i.cost q at, c.mark_turn.ensures.cost q at, count_more (from_target s q c.args.a c.args.e) ts c.loop-t.t-index (omega arith));
+      steps = λ q at. omega (arith, i.steps q at, c.mark_turn.ensures.steps q at, count_more (front_target s q c.args.a c.args.e) ts c.loop-t.t-index (omega arith));
     }
 
 pub returns-clause-marks : goal.returns-clause-marks
@@ -39,7 +41,7 @@ returns-clause-marks g c = record {
       (λ j l. c.loop-t.invariant.turns j (omega (arith, c.loop-t-test.false))) t (rw (c.into-targets.ensures.prev, c.target.ensures) i);
 }
 
-pub returns-clause-cost : goal.returns-clause-cost
-returns-clause-cost g c q at =
+pub returns-clause-steps : goal.returns-clause-steps
+returns-clause-steps g c q at =
     let all = take_all c.loop-t.t-index c.into-targets.result.now c.loop-t-test.false in
-    rw (all, c.into-targets.ensures.prev, c.target.ensures, sym at.target) at (c.loop-t.invariant.cost q at)
+    rw (all, c.into-targets.ensures.prev, c.target.ensures, sym at.target) at (c.loop-t.invariant.steps q at)

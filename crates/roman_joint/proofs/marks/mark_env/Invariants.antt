@@ -1,15 +1,15 @@
-use Rattle.std.proofs.Common.{ℕ, ◌+◌, ◌<◌, ◌≤◌, length, take, get_or}
+use Rattle.std.proofs.Common.{◌≡◌, ℕ, ◌+◌, ◌<◌, length, take, get_or}
 use Rattle.std.specs.List.{flat_map}
 use Rattle.roman_model.specs.System.{Pair}
 use Rattle.roman_joint.specs.NamedSys.{system_of}
-use Rattle.roman_joint.specs.Backward.{from_target}
+use Rattle.roman_joint.specs.Marks.{front_target}
 use Rattle.roman_joint.specs.Marks.{Grows, MarksTurn, IsAt}
 use Rattle.roman_joint.proofs.marks.mark_env.Given as goal
 
--- the rows of the target's states so far are marked
+-- the bands of the target's states so far are marked
 abbrev pub invariant-loop-t : goal.invariant-loop-t
 invariant-loop-t g l = record {
   grows : Grows l.fn.marks l.marks;
   turns : (j : ℕ) → j < l.t-index → MarksTurn (system_of l.joint) l.row l.marks l.a l.e (get_or l.targets j 0);
-  cost : (q : Pair) → IsAt (system_of l.joint) l.row q → l.steps ≤ l.fn.steps + length (flat_map (from_target (system_of l.joint) q l.a l.e) (take l.t-index l.targets));
+  steps : (q : Pair) → IsAt (system_of l.joint) l.row q → l.steps ≡ l.fn.steps + length (flat_map (front_target (system_of l.joint) q l.a l.e) (take l.t-index l.targets));
 }

@@ -1,38 +1,46 @@
-use Rattle.std.proofs.Common.{◌≡◌, ℕ, ◌+◌, ◌*◌, inl, inr, length, slice_index, get_or, sym, ap, ◌∙◌, subst, arith}
+use Rattle.std.proofs.Common.{◌≡◌, ℕ, ◌+◌, ◌*◌, ◌/◌, inl, inr, length, slice_index, get_or, sym, ap, ◌∙◌, subst, arith}
 use Rattle.std.proofs.lemmas.Bool.{cases_eq}
 use Rattle.roman_joint.specs.NamedSys.{system_of}
 use Rattle.roman_joint.specs.Rows.{lanes_in}
 use Rattle.roman_joint.specs.Marks.{IsMarked}
+use Rattle.roman_joint.specs.Bands.{band_in}
 use Rattle.roman_joint.proofs.SplitLemmas.{joint_sizes, factor}
 use Rattle.roman_joint.proofs.GoodLemmas.{low_few, width_positive}
+use Rattle.roman_joint.proofs.BandLemmas.{mid_low, first_in}
 use Rattle.roman_joint.proofs.MarkLemmas.{each_in, grows_itself, grows_on, marked_on, count_seat}
 use Rattle.roman_joint.proofs.marks.mark_seat.Goals as goal
 
 pub bounds-row-k : goal.bounds-row-k
-bounds-row-k g c = (low_few c.args.joint.now c.args.k c.layout-rows.ensures.known c.requires.seat).0
+bounds-row-k g c = (low_few c.args.joint.now c.args.k c.layout-rows.ensures.known (mid_low (system_of c.args.joint.now) c.args.k c.requires.seat)).0
+
+pub bounds-rows-k : goal.bounds-rows-k
+bounds-rows-k g c = (low_few c.args.joint.now c.args.k c.layout-rows.ensures.known (mid_low (system_of c.args.joint.now) c.args.k c.requires.seat)).0
 
 pub prev_states-states-requires-clause-seat : goal.prev_states-states-requires-clause-seat
-prev_states-states-requires-clause-seat g c = (low_few c.args.joint.now c.args.k c.layout-rows.ensures.known c.requires.seat).1
+prev_states-states-requires-clause-seat g c = (low_few c.args.joint.now c.args.k c.layout-rows.ensures.known (mid_low (system_of c.args.joint.now) c.args.k c.requires.seat)).1
 
 pub prev_states-states-requires-clause-state : goal.prev_states-states-requires-clause-state
-prev_states-states-requires-clause-state g c = c.requires.row.1.state_range c.args.k c.requires.seat
+prev_states-states-requires-clause-state g c = c.requires.row.1.state_range c.args.k (mid_low (system_of c.args.joint.now) c.args.k c.requires.seat)
 
 pub loop-b-init : goal.loop-b-init
-loop-b-init g c = record { grows = grows_itself c.args.marks.now; moved = λ j x l. absurd (omega arith); cost = omega arith }
+loop-b-init g c = record { grows = grows_itself c.args.marks.now; moved = λ j x l. absurd (omega arith); steps = omega arith }
 
 pub loop-b-preserved : goal.loop-b-preserved
 loop-b-preserved g c =
     let u = slice_index c.layout-rows.result.now.strides c.args.k in
+    let v = c.layout-rows.result.now.band in
     let states = c.prev_states-states.result.now in
     let i = c.loop-b.invariant in
+    let old = c.loop-b.marks in
+    let new = c.mark_moved.new.marks in
     let more = c.mark_moved.ensures.grows in
     record {
-      grows = grows_on c.args.marks.now c.loop-b.marks c.mark_moved.new.marks i.grows more;
+      grows = grows_on c.args.marks.now old new i.grows more;
       moved = λ j x l. elim (cases_eq j c.loop-b.b-index) [
-        | inl e ↦ subst (λ (m : ℕ). x + c.times-taken.result ≡ c.args.base + get_or states m 0 * u → IsMarked c.mark_moved.new.marks x) (sym e) (c.mark_moved.ensures.marked x)
-        | inr other ↦ λ is. marked_on c.loop-b.marks c.mark_moved.new.marks x more (i.moved j x (omega arith) is)
+        | inl e ↦ subst (λ (m : ℕ). x + c.times-taken.result ≡ c.args.base + get_or states m 0 * u → IsMarked new (x / v)) (sym e) (c.mark_moved.ensures.marked x)
+        | inr other ↦ λ is. marked_on old new (x / v) more (i.moved j x (omega arith) is)
       ];
-      cost = omega (arith, i.cost, c.tick.ensures);
+      steps = omega (arith, i.steps, c.tick.ensures);
     }
 
 pub returns-clause-marks : goal.returns-clause-marks
@@ -42,15 +50,20 @@ returns-clause-marks g c =
     let r = c.layout-rows.result.now in
     let v = slice_index r.strides c.args.k in
     let own = slice_index c.args.row.now.states c.args.k in
+    let new = c.loop-b.marks in
     record {
       moved = λ u b x h i is.
-          let same : u ≡ v = factor u v (lanes_in s) (width_positive s (joint_sizes n c.layout-rows.ensures.known)) (h ∙ sym (c.layout-rows.ensures.rows.before c.args.k c.requires.seat)) in
-          each_in c.prev_states-states.result.now (λ (d : ℕ). x + c.times-taken.result ≡ c.args.base + d * v → IsMarked c.loop-b.marks x)
+          let same : u ≡ v = factor u v (lanes_in s) (width_positive s (joint_sizes n c.layout-rows.ensures.known)) (h ∙ sym (c.layout-rows.ensures.rows.before c.args.k (mid_low s c.args.k c.requires.seat))) in
+          subst (λ z. IsMarked new (x / z)) c.layout-rows.ensures.rows.band
+          (each_in c.prev_states-states.result.now (λ (d : ℕ). x + c.times-taken.result ≡ c.args.base + d * v → IsMarked new (x / r.band))
           (λ j l e. c.loop-b.invariant.moved j x (omega (arith, c.loop-b-test.false)) e) b (rw c.prev_states-states.ensures.prev i)
-          (ap (λ m. x + m) c.times-taken.ensures.value ∙ subst (λ (m : ℕ). x + own * m ≡ c.args.base + b * m) same is);
+          (ap (λ m. x + m) c.times-taken.ensures.value ∙ subst (λ (m : ℕ). x + own * m ≡ c.args.base + b * m) same is));
     }
 
-pub returns-clause-cost : goal.returns-clause-cost
-returns-clause-cost g c q t at =
+pub returns-clause-steps : goal.returns-clause-steps
+returns-clause-steps g c q t at =
     let s = system_of c.args.joint.now in
-    omega (arith, count_seat s q c.args.a c.args.e t c.args.k c.args.row.now at c.requires.seat, ap length c.prev_states-states.ensures.prev, c.loop-b.invariant.cost)
+    omega (arith, count_seat s q c.args.a c.args.e t c.args.k c.args.row.now at c.requires.seat, ap length c.prev_states-states.ensures.prev, c.loop-b.invariant.steps, c.loop-b-test.false, c.loop-b.auto.b-index-end)
+
+pub mark_moved-requires-clause-band : goal.mark_moved-requires-clause-band
+mark_moved-requires-clause-band g c = omega (arith, c.layout-rows.ensures.rows.band, first_in (system_of c.args.joint.now) (joint_sizes c.args.joint.now c.layout-rows.ensures.known))

@@ -1,11 +1,11 @@
-use Rattle.std.proofs.Common.{◌≡◌, ℕ, ◌+◌, ◌*◌, ◌<◌, ◌≤◌, get_or}
+use Rattle.std.proofs.Common.{◌≡◌, ℕ, ◌+◌, ◌*◌, ◌/◌, ◌<◌, get_or}
 use Rattle.roman_joint.specs.Marks.{Grows, IsMarked}
 use Rattle.roman_joint.proofs.marks.mark_seat.Given as goal
 
--- the rows of the states so far are marked, a step for each
+-- the bands of the states so far are marked, a step for each
 abbrev pub invariant-loop-b : goal.invariant-loop-b
 invariant-loop-b g l = record {
   grows : Grows l.fn.marks l.marks;
-  moved : (j x : ℕ) → j < l.b-index → x + l.taken ≡ l.base + get_or l.states j 0 * l.stride → IsMarked l.marks x;
-  cost : l.steps ≤ l.fn.steps + l.b-index;
+  moved : (j x : ℕ) → j < l.b-index → x + l.taken ≡ l.base + get_or l.states j 0 * l.stride → IsMarked l.marks (x / l.rows.band);
+  steps : l.steps ≡ l.fn.steps + l.b-index;
 }

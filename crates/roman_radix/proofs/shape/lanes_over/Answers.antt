@@ -1,7 +1,7 @@
 use Rattle.std.proofs.Common.{◌≡◌, ◌-◌, ◌*◌, ◌<◌, ◌≤◌, length, take, drop, get_or, sym, ap, ◌∙◌, arith}
-use Rattle.std.proofs.lemmas.List.{get_or-take}
+use Rattle.std.proofs.lemmas.List.{get_or-take, length-take-le}
 use Rattle.roman_model.specs.Lists.{product_of}
-use Rattle.roman_radix.proofs.Strides.{length_first, product_more}
+use Rattle.roman_radix.proofs.Strides.{product_more}
 use Rattle.roman_radix.proofs.RowLemmas.{low_is, too_many_from}
 use Rattle.roman_radix.proofs.shape.lanes_over.Goals as goal
 
@@ -10,7 +10,7 @@ returns-then-more-gt-MAX_LANES-clause-low c =
     let sizes = c.args.sizes.now in
     let ns = take c.args.components sizes in
     let k = c.loop-low.low in
-    let long : length ns ≡ c.args.components = length_first c.args.components sizes c.requires.padded c.requires.few in
+    let long : length ns ≡ c.args.components = length-take-le c.args.components sizes c.requires.many in
     let size : c.from.result ≡ get_or ns (k - 1) 0 = c.from.ensures ∙ sym (get_or-take c.args.components sizes (k - 1) 0 (omega arith)) in
     let more : c.loop-low.lanes * c.from.result ≡ product_of (drop (k - 1) ns) = product_more ns (k - 1) k c.loop-low.lanes c.from.result (omega arith) (omega arith) size c.loop-low.invariant.product in
     let many : 64 < product_of (drop (k - 1) ns) = omega (arith, more, c.if-more-gt-MAX_LANES.true) in
@@ -21,3 +21,16 @@ pub returns-then-more-gt-MAX_LANES-clause-lanes : goal.returns-then-more-gt-MAX_
 returns-then-more-gt-MAX_LANES-clause-lanes c =
     let ns = take c.args.components c.args.sizes.now in
     c.loop-low.invariant.product ∙ ap (λ k. product_of (drop k ns)) (returns-then-more-gt-MAX_LANES-clause-low c)
+
+pub loop-low-preserved : goal.loop-low-preserved
+loop-low-preserved c =
+    let sizes = c.args.sizes.now in
+    let ns = take c.args.components sizes in
+    let k = c.loop-low.low in
+    let long : length ns ≡ c.args.components = length-take-le c.args.components sizes c.requires.many in
+    let size : c.from.result ≡ get_or ns (k - 1) 0 = c.from.ensures ∙ sym (get_or-take c.args.components sizes (k - 1) 0 (omega (arith, c.loop-low.invariant.within))) in
+    record {
+      within = omega (arith, c.loop-low.invariant.within);
+      product = product_more ns (k - 1) k c.loop-low.lanes c.from.result (omega arith) (omega (arith, long, c.loop-low.invariant.within)) size c.loop-low.invariant.product;
+      few = omega (arith, c.if-more-gt-MAX_LANES.false);
+    }

@@ -11,17 +11,17 @@ loop-n-preserved g c =
     let levels = c.args.order.now.levels in
     let n = c.loop-n.n in
     let old = c.loop-n.depths.items in
-    let new = c.give_depth.new.depths in
+    let new = c.give_depth-near.new.depths in
     let end : slice_index c.levels-in-loop-n.result.now n ≡ slice_index levels n = ap (λ xs. slice_index xs n) c.levels-in-loop-n.ensures in
     let lent : c.deref_mut.result.now ≡ old = c.deref_mut.ensures.value in
-    let long : length new ≡ length old = omega (arith, c.give_depth.auto.depths, ap length lent) in
+    let long : length new ≡ length old = omega (arith, c.give_depth-near.auto.depths, ap length lent) in
     let back : take c.loop-n.depths.len (new ++ drop (length new) old) ≡ new = front_is c.loop-n.depths.len new (drop (length new) old) (omega (arith, long, c.loop-n.depths.ok.0)) in
     let few : n < 2 ^ 32 - 1 = omega (arith, c.loop-n-test.true, c.min-count.ensures, c.pairs-pairs.ensures, c.requires.few) in
     let within : n < length levels = omega (arith, c.loop-n-test.true, c.min-count.ensures, ap length c.levels.ensures) in
     let gives : GivesLevel L (start_of levels n) (slice_index levels n) n old new =
     subst (λ xs. GivesLevel L (start_of levels n) (slice_index levels n) n xs new) lent
     (subst (λ k. GivesLevel L (start_of levels n) k n c.deref_mut.result.now new) end
-    (subst (λ k. GivesLevel L k (slice_index c.levels-in-loop-n.result.now n) n c.deref_mut.result.now new) c.loop-n.invariant.start c.give_depth.ensures)) in
+    (subst (λ k. GivesLevel L k (slice_index c.levels-in-loop-n.result.now n) n c.deref_mut.result.now new) c.loop-n.invariant.start c.give_depth-near.ensures)) in
     record {
       start = end ∙ sym (start_next levels n);
       ranks = subst (λ xs. AreRanksBelow A (n + 1) xs) (sym back) (subst (λ m. AreRanksBelow A m new) (sym (add-one n))

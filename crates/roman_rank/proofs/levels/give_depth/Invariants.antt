@@ -1,5 +1,6 @@
 use Rattle.std.proofs.Common.{◌≤◌}
 use Rattle.std.specs.Prelude.{max}
+use Rattle.roman_order.specs.Walks.{IsAhead}
 use Rattle.roman_rank.specs.Ranking.{GivesLevel}
 use Rattle.roman_rank.proofs.levels.give_depth.Given as goal
 
@@ -8,4 +9,5 @@ abbrev pub invariant-loop-i : goal.invariant-loop-i
 invariant-loop-i l = record {
   gives : GivesLevel l.order.list l.start l.i l.n l.fn.depths l.depths;
   within : l.i ≤ max l.start l.end;
+  ahead : IsAhead l.order l.i l.ahead;
 }

@@ -1,27 +1,41 @@
-use Rattle.std.proofs.Common.{◌≡◌, ℕ, ◌+◌, ◌*◌, length, sum_by, sym, ap, ◌∙◌, arith}
+use Rattle.std.proofs.Common.{◌≡◌, ℕ, ◌+◌, ◌*◌, ◌<◌, length, sum_by, sym, ap, ◌∙◌, arith}
+use Rattle.std.proofs.lemmas.Nat.{mul-le}
 use Rattle.roman_model.specs.Lists.{below}
 use Rattle.roman_model.specs.Arena.{is_listed, mask}
 use Rattle.roman_rules.proofs.CallerLemmas.{sum_below_more}
+use Rattle.roman_relation.proofs.Bands.{band_ends, whole_bands}
 use Rattle.roman_relation.proofs.Choosing.{sum_rows}
 use Rattle.roman_relation.proofs.masks.choices.Goals as goal
 
-pub loop-x-preserved : goal.loop-x-preserved
-loop-x-preserved g c =
+pub band_choices-count-requires-clause-band : goal.band_choices-count-requires-clause-band
+band_choices-count-requires-clause-band g c =
     let A = g.J.Rules.arena c.args.joint.now in
     let n = g.J.Rules.lanes c.args.joint.now in
+    let w = g.J.Rules.band c.args.joint.now in
+    let m = c.bands-y-end.result in
+    let rows = whole_bands A n w m c.args.order.now c.requires c.known.ensures.lanes.0 c.bands-y-end.ensures in
+    omega (arith, band_ends w c.loop-y.y m c.loop-y-test.true, rows, c.known.ensures.band.0)
+
+pub loop-y-preserved : goal.loop-y-preserved
+loop-y-preserved g c =
+    let A = g.J.Rules.arena c.args.joint.now in
+    let n = g.J.Rules.lanes c.args.joint.now in
+    let w = g.J.Rules.band c.args.joint.now in
     let gone = is_listed A c.args.order.now.list in
-    let more = sum_below_more (λ x. sum_by (λ lane. sum_by (λ a. length (mask A gone (x * n + lane) a)) (below A.actions)) (below n)) c.loop-x.x in
+    let more = sum_below_more (λ y. sum_by (λ i. sum_by (λ lane. sum_by (λ a. length (mask A gone ((y * w + i) * n + lane) a)) (below A.actions)) (below n)) (below w)) c.loop-y.y in
     record {
-      counted = omega (arith, c.loop-x.invariant.counted, c.row_choices-count.ensures.counted, more);
-      bound = omega (arith, c.loop-x.invariant.bound, c.row_choices-count.ensures.bound);
+      counted = omega (arith, c.loop-y.invariant.counted, c.band_choices-count.ensures.counted, more);
+      bound = omega (arith, c.loop-y.invariant.bound, c.band_choices-count.ensures.bound);
     }
 
 pub returns : goal.returns
 returns g c =
     let A = g.J.Rules.arena c.args.joint.now in
     let n = g.J.Rules.lanes c.args.joint.now in
+    let w = g.J.Rules.band c.args.joint.now in
     let gone = is_listed A c.args.order.now.list in
     let f : ℕ → ℕ = λ p. sum_by (λ a. length (mask A gone p a)) (below A.actions) in
-    let end : c.loop-x.x ≡ c.rows-x-end.result = omega (arith, c.loop-x-test.false) in
-    let all : c.loop-x.x * n ≡ length A.nodes = ap (λ m. m * n) end ∙ c.rows-x-end.ensures in
-    c.loop-x.invariant.counted ∙ (sum_rows f n c.loop-x.x ∙ (ap (λ m. sum_by f (below m)) all ∙ ap (sum_by f) (sym c.known.ensures.numbered.nodes)))
+    let row : ℕ → ℕ = λ x. sum_by (λ lane. f (x * n + lane)) (below n) in
+    let end : c.loop-y.y ≡ c.bands-y-end.result = omega (arith, c.loop-y-test.false) in
+    let all : c.loop-y.y * w * n ≡ length A.nodes = ap (λ m. m * w * n) end ∙ c.bands-y-end.ensures in
+    c.loop-y.invariant.counted ∙ (sum_rows row w c.loop-y.y ∙ (sum_rows f n (c.loop-y.y * w) ∙ (ap (λ m. sum_by f (below m)) all ∙ ap (sum_by f) (sym c.known.ensures.numbered.nodes))))

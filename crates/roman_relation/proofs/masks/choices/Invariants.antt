@@ -3,12 +3,13 @@ use Rattle.roman_model.specs.Lists.{below}
 use Rattle.roman_model.specs.Arena.{is_listed, mask}
 use Rattle.roman_relation.proofs.masks.choices.Given as goal
 
--- the rows so far are counted
-abbrev pub invariant-loop-x : goal.invariant-loop-x
-invariant-loop-x g l =
+-- the bands so far are counted
+abbrev pub invariant-loop-y : goal.invariant-loop-y
+invariant-loop-y g l =
     let A = g.J.Rules.arena l.joint in
     let n = g.J.Rules.lanes l.joint in
+    let w = g.J.Rules.band l.joint in
     record {
-      counted : l.count ≡ sum_by (λ x. sum_by (λ lane. sum_by (λ a. length (mask A (is_listed A l.order.list) (x * n + lane) a)) (below A.actions)) (below n)) (below l.x);
-      bound : l.count ≤ 65536 * l.x;
+      counted : l.count ≡ sum_by (λ y. sum_by (λ i. sum_by (λ lane. sum_by (λ a. length (mask A (is_listed A l.order.list) ((y * w + i) * n + lane) a)) (below A.actions)) (below n)) (below w)) (below l.y);
+      bound : l.count ≤ 4194304 * l.y;
     }

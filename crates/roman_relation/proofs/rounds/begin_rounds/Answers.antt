@@ -1,24 +1,28 @@
-use Rattle.std.proofs.Common.{◌≡◌, ◌/◌, ◌<◌, IsFalse, refl, sym, ap, ◌∙◌, subst, arith}
+use Rattle.std.proofs.Common.{◌≡◌, ◌/◌, ◌<◌, ◌*◌, IsFalse, refl, sym, ap, ◌∙◌, subst, arith}
 use Rattle.std.proofs.lemmas.Bool.{both_ways, lt-ltb}
 use Rattle.std.proofs.lemmas.Nat.{mul-le, div_below}
 use Rattle.roman_model.specs.Arena.{IsOrder, is_listed}
 use Rattle.roman_order.specs.Board.{Board, pairs_of, is_marked}
 use Rattle.roman_relation.specs.Rounds.{AreUnlisted}
+use Rattle.roman_relation.proofs.Bands.{whole_bands}
 use Rattle.roman_relation.proofs.Going.{SameFrame, shaped_on, shaped_like}
-use Rattle.roman_relation.proofs.Lanes.{words_rows}
+use Rattle.roman_relation.proofs.Lanes.{shaped_row, words_rows}
 use Rattle.roman_relation.proofs.rounds.begin_rounds.Goals as goal
 
 pub mark_front-requires : goal.mark_front-requires
 mark_front-requires g c =
     let A = g.J.Rules.arena c.args.joint.now in
     let n = g.J.Rules.lanes c.args.joint.now in
+    let w = g.J.Rules.band c.args.joint.now in
     let shaped = shaped_on A n c.args.order.now c.list_unfine.new.order c.requires.shaped c.list_unfine.ensures.goes_on in
-    omega (arith, mul-le c.rows.result 1 c.rows.result n (omega arith) c.known.ensures.lanes.0, c.rows.ensures, shaped.pairs, ap (λ (d : Board). pairs_of d) c.keep_before.ensures.rest)
+    let bands = mul-le c.bands.result 1 c.bands.result w (omega arith) c.known.ensures.band.0 in
+    omega (arith, bands, mul-le (c.bands.result * w) 1 (c.bands.result * w) n (omega arith) c.known.ensures.lanes.0, c.bands.ensures, shaped.pairs, ap (λ (d : Board). pairs_of d) c.keep_before.ensures.rest)
 
 pub returns-clause-ready : goal.returns-clause-ready
 returns-clause-ready g c =
     let A = g.J.Rules.arena c.args.joint.now in
     let n = g.J.Rules.lanes c.args.joint.now in
+    let w = g.J.Rules.band c.args.joint.now in
     let mid = c.list_unfine.new.order in
     let kept = c.keep_before.new.self in
     let d = c.mark_front.new.self in
@@ -29,10 +33,13 @@ returns-clause-ready g c =
     let words = words_rows A c.known.ensures.numbered n mid kept.before shaped c.keep_before.ensures.kept in
     record {
       shaped = shaped_like A n mid d (subst (SameFrame mid) (sym c.mark_front.ensures.rest)
-          (subst (SameFrame mid) (sym c.keep_before.ensures.rest) (refl, refl, refl, refl))) shaped;
+          (subst (SameFrame mid) (sym c.keep_before.ensures.rest) (refl, refl, refl, refl, refl))) shaped;
       valid = subst (IsOrder A) (sym list) c.list_unfine.ensures.goes_on.valid;
       kept = subst (λ L. AreUnlisted A n L d.before) (sym list) (subst (AreUnlisted A n mid.list) (sym before) words);
       fine = λ p l off. c.list_unfine.ensures.fine p l (subst (λ L. IsFalse (is_listed A L p)) list off);
-      served = λ p a l unmarked off. absurd (both_ways (is_marked d (p / n)) unmarked
-          (c.mark_front.ensures.marked (p / n) ∙ lt-ltb (p / n) c.rows.result (div_below p n c.rows.result some (omega (arith, c.rows.ensures)))));
+      served = λ p a l unmarked off.
+          let rows = whole_bands A n w c.bands.result mid shaped some c.bands.ensures in
+          let row = shaped_row A n p mid shaped some l in
+          let band = div_below (p / n) w c.bands.result c.known.ensures.band.0 (omega (arith, row, rows)) in
+          absurd (both_ways (is_marked d (p / n / w)) unmarked (c.mark_front.ensures.marked (p / n / w) ∙ lt-ltb (p / n / w) c.bands.result band));
     }

@@ -28,10 +28,10 @@ rounds-init g c =
     let in_range : (p : ℕ) → has_entry d.list p ≡ true → p < length A.nodes = λ p t. omega
     (arith, c.known-2.ensures.in_range p t, c.begin_rounds.ensures.ready.shaped.pairs) in
     record {
-      ready = awaits_levels A (g.J.Rules.lanes c.args.joint.now) d e _ is.rest c.begin_rounds.ensures.ready;
+      ready = awaits_levels A (g.J.Rules.lanes c.args.joint.now) (g.J.Rules.band c.args.joint.now) d e _ is.rest c.begin_rounds.ensures.ready;
       begins = subst (Begins b.list) (sym list) begins;
       rest = rest_from b e (subst (SameFrame b) (sym is.rest)
-          (subst (SameFrame b) (sym goes.rest) (subst (SameFrame b) (sym c.forget_levels.ensures) (refl, refl, refl, refl))));
+          (subst (SameFrame b) (sym goes.rest) (subst (SameFrame b) (sym c.forget_levels.ensures) (refl, refl, refl, refl, refl))));
       fresh = λ t.
           let empty : b.list ≡ [] = nil_from_length b.list (omega (arith, eqb-true c.len-is_fresh.result 0 t, c.len-is_fresh.ensures.value)) in
           let lost = c.begin_rounds.ensures.lost (of_f ∙ empty) in
@@ -70,10 +70,10 @@ rounds-preserved g c =
     ) in
     let in_range : (p : ℕ) → has_entry d.list p ≡ true → p < length A.nodes = λ p t. omega (arith, c.known-in-rounds.ensures.in_range p t, c.play_round.ensures.ready.shaped.pairs) in
     record {
-      ready = awaits_levels A (g.J.Rules.lanes c.args.joint.now) d e _ is.rest c.play_round.ensures.ready;
+      ready = awaits_levels A (g.J.Rules.lanes c.args.joint.now) (g.J.Rules.band c.args.joint.now) d e _ is.rest c.play_round.ensures.ready;
       begins = subst (Begins b.list) (sym list) (begins_on b.list old.list d.list c.rounds.invariant.begins goes.begins);
       rest = rest_from b e (subst (SameFrame b) (sym is.rest)
-          (subst (SameFrame b) (sym goes.rest) (subst (SameFrame b) (sym c.rounds.invariant.rest) (refl, refl, refl, refl))));
+          (subst (SameFrame b) (sym goes.rest) (subst (SameFrame b) (sym c.rounds.invariant.rest) (refl, refl, refl, refl, refl))));
       fresh = λ t.
           let (n, long, lost, rises, are) = c.rounds.invariant.fresh t in
           let more = c.play_round.ensures.lost n lost in

@@ -10,7 +10,7 @@ abbrev pub invariant-rounds : goal.invariant-rounds
 invariant-rounds g l =
     let A = g.J.Rules.arena l.joint in
     record {
-      ready : AwaitsRound A (g.J.Rules.lanes l.joint) l.order;
+      ready : AwaitsRound A (g.J.Rules.lanes l.joint) (g.J.Rules.band l.joint) l.order;
       begins : Begins l.fn.order.list l.order.list;
       rest : l.order ≡ record l.fn.order { list = l.order.list; marks = l.order.marks; before = l.order.before; levels = l.order.levels };
       fresh : l.is_fresh ≡ true → (n : ℕ) × (length l.order.levels ≡ suc n) × HoldsLost A n l.order.list × RisesByDepth A l.order.list × AreLevels A l.order.levels l.order.list;

@@ -13,18 +13,18 @@ pub replay-requires-clause-candidates : goal.replay-requires-clause-candidates
 replay-requires-clause-candidates g c =
     let n = c.args.relation.now.joint in
     let old = c.args.relation.now.order in
-    subst (λ K. AreCandidates (arena_of n) K (candidates c.args.states old)) (sym c.requires.empty) c.requires.may
+    subst (λ K. AreCandidates (arena_of n) K (candidates c.args.states old)) (sym c.requires.replayable.empty) c.requires.replayable.may
 
 pub settle_on-requires : goal.settle_on-requires
 settle_on-requires g c =
-    replayed_begun c.args.relation.now.joint c.args.states c.args.relation.now.order c.replay.new.order c.requires c.replay.ensures.list c.replay.ensures.rest
+    replayed_begun c.args.relation.now.joint c.args.states c.args.relation.now.order c.replay.new.order c.requires.replayable c.replay.ensures.list c.replay.ensures.rest
 
 pub returns : goal.returns
 returns g c =
     let n = c.args.relation.now.joint in
     let those = candidates c.args.states c.args.relation.now.order in
-    let list : c.replay.new.order.list ≡ replay (arena_of n) those = c.replay.ensures.list ∙ ap (λ K. with_replay (arena_of n) K those) c.requires.empty in
-    let few = candidates_readings (arena_of n) [] those (joint_numbered n c.known.ensures) c.requires.may in
+    let list : c.replay.new.order.list ≡ replay (arena_of n) those = c.replay.ensures.list ∙ ap (λ K. with_replay (arena_of n) K those) c.requires.replayable.empty in
+    let few = candidates_readings (arena_of n) [] those (joint_numbered n c.known.ensures) c.requires.replayable.may in
     let same = ap (λ (m : NamedSys). readings (arena_of m)) c.settle_on.ensures.joint in
     record {
       joint = search rules;

@@ -1,14 +1,16 @@
-use Rattle.std.proofs.Common.{◌<◌, false, flat_map, length, ap, ◌∙◌, arith}
+use Rattle.std.proofs.Common.{◌<◌, false, flat_map, length, sym, ap, ◌∙◌, arith}
 use Rattle.std.proofs.lemmas.List.{length-map}
 use Rattle.roman_model.specs.Change.{Thaw}
 use Rattle.roman_model.specs.NumberedChange.{grown_numbers}
-use Rattle.roman_joint.specs.NamedSys.{system_of, seat_of}
+use Rattle.roman_joint.specs.NamedSys.{NamedSys, system_of, seat_of}
+use Rattle.roman_joint.specs.Rows.{lanes_in}
 use Rattle.roman_repair.proofs.Repairing.{relation_replays}
+use Rattle.roman_repair.proofs.Whole.{shaped_turned}
 use Rattle.roman_repair.proofs.Waiting.{IsReopened, relation_candidates, turned_candidates, replayable, reopened_repaired, grown_by_one}
 use Rattle.roman_repair.proofs.thawing.thaw.Goals as goal
 
-pub replay_and_settle_on-requires : goal.replay_and_settle_on-requires
-replay_and_settle_on-requires g c =
+pub replay_events_and_settle_on-requires-clause-replayable : goal.replay_events_and_settle_on-requires-clause-replayable
+replay_events_and_settle_on-requires-clause-replayable g c =
     let n = c.args.relation.now.joint in
     let old = c.args.relation.now.order in
     let place : c.args.k < length (system_of n).seats = omega (arith, c.requires.place, length-map n.seats (seat_of n.catalogue)) in
@@ -21,12 +23,19 @@ replay_and_settle_on-requires g c =
     (relation_candidates n old c.known.ensures c.requires.relation c.known-2.ensures.in_range))
     c.reopen.ensures.list c.reopen.ensures.shaped c.reopen.ensures.caps
 
+pub replay_events_and_settle_on-requires-clause-same_rows : goal.replay_events_and_settle_on-requires-clause-same_rows
+replay_events_and_settle_on-requires-clause-same_rows g c =
+    let n = c.args.relation.now.joint in
+    c.reopen.ensures.wide
+    ∙ (shaped_turned (system_of n) c.args.k false c.args.relation.now.order c.requires.relation.shaped).lanes
+    ∙ sym (ap (λ (m : NamedSys). lanes_in (system_of m)) c.reopen.ensures.joint ∙ ap lanes_in c.set_frozen.ensures.system)
+
 pub returns-clause-repaired : goal.returns-clause-repaired
 returns-clause-repaired g c =
     let n = c.args.relation.now.joint in
     let old = c.args.relation.now.order in
     let place : c.args.k < length (system_of n).seats = omega (arith, c.requires.place, length-map n.seats (seat_of n.catalogue)) in
-    let new = c.replay_and_settle_on in
+    let new = c.replay_events_and_settle_on in
     reopened_repaired (Thaw c.args.k) n c.reopen.new.relation.joint new.new.relation.joint 1 old c.reopen.new.relation.order new.new.relation.order new.result (record {
       replays = relation_replays (Thaw c.args.k) n old c.known.ensures c.requires.relation c.known-2.ensures.in_range place;
       system = ap system_of c.reopen.ensures.joint ∙ c.set_frozen.ensures.system;

@@ -1,10 +1,11 @@
-use Rattle.std.proofs.Common.{◌≡◌, ℕ, ◌*◌, ◌≤◌, Bool, not, sum_by}
+use Rattle.std.proofs.Common.{◌≡◌, ℕ, ◌+◌, ◌*◌, ◌≤◌, Bool, not, sum_by}
 use Rattle.roman_model.specs.Lists.{below}
 use Rattle.roman_model.specs.Numbers.{numbered}
 use Rattle.roman_lanes.specs.Rows.{AreRows}
 use Rattle.roman_rules.proofs.CallerLemmas.{served_by}
 use Rattle.roman_joint.specs.NamedSys.{system_of}
 use Rattle.roman_joint.specs.Rows.{lanes_in, IsRow}
+use Rattle.roman_joint.specs.Bands.{band_in}
 use Rattle.roman_joint.proofs.joint.Joint.choices.Given as goal
 
 -- the pairs that the seats so far serve are counted
@@ -12,6 +13,7 @@ abbrev pub invariant-loop-k : goal.invariant-loop-k
 invariant-loop-k l =
     let s = system_of l.self in
     record {
-      counted : (x : ℕ) (gone : ℕ → Bool) → IsRow s x l.row → AreRows (lanes_in s) (λ q. not (gone q)) l.words → l.count ≡ sum_by (served_by (numbered s) gone (lanes_in s) x l.a) (below l.k);
-      bound : l.count ≤ 64 * l.k;
+      counted : (y : ℕ) (gone : ℕ → Bool) → IsRow s (y * band_in s) l.row → AreRows (lanes_in s) (λ q. not (gone q)) l.words →
+          l.count ≡ sum_by (λ k. sum_by (λ i. served_by (numbered s) gone (lanes_in s) (y * band_in s + i) l.a k) (below (band_in s))) (below l.k);
+      bound : l.count ≤ 4096 * l.k;
     }

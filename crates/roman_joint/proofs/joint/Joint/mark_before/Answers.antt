@@ -1,45 +1,52 @@
-use Rattle.std.proofs.Common.{◌≡◌, ℕ, ◌+◌, ◌*◌, length, ap, ◌∙◌, arith}
-use Rattle.roman_model.specs.Numbers.{sizes_of, pair_at}
+use Rattle.std.proofs.Common.{◌≡◌, ℕ, ◌+◌, ◌*◌, ◌/◌, ◌<◌, length, slice_index, sym, ap, ◌∙◌, IsTrue, arith}
+use Rattle.std.specs.Int.{bit_at}
+use Rattle.roman_model.specs.Lists.{IsIn}
+use Rattle.roman_model.specs.Numbers.{sizes_of, count, pair_at, numbered}
+use Rattle.roman_lanes.specs.Flags.{has_flag}
 use Rattle.roman_joint.specs.NamedSys.{system_of}
-use Rattle.roman_joint.specs.Backward.{from_action}
-use Rattle.roman_joint.specs.Rows.{lanes_in}
-use Rattle.roman_joint.specs.Marks.{MarksAction}
+use Rattle.roman_joint.specs.Rows.{lanes_in, IsRow}
+use Rattle.roman_joint.specs.Bands.{band_in}
+use Rattle.roman_joint.specs.Marks.{MarksAction, front_action}
 use Rattle.roman_joint.proofs.SplitLemmas.{joint_sizes}
-use Rattle.roman_joint.proofs.GoodLemmas.{width_positive}
-use Rattle.roman_joint.proofs.MarkLemmas.{grows_itself, grows_on, action_on, more_below, marks_all, count_below, count_found, pair_there}
+use Rattle.roman_joint.proofs.BandLemmas.{in_band}
+use Rattle.roman_joint.proofs.MarkLemmas.{grows_itself, grows_on, action_on, more_below, marks_all, count_below, count_front, pair_there}
 use Rattle.roman_joint.proofs.joint.Joint.mark_before.Goals as goal
 
 pub loop-a-init : goal.loop-a-init
-loop-a-init g c = record { grows = grows_itself c.args.marks.now; actions = λ b l. absurd (omega arith); cost = λ q at. omega arith }
+loop-a-init g c = record { grows = grows_itself c.args.marks.now; actions = λ b l. absurd (omega arith); steps = λ q at. omega arith }
 
 pub loop-a-preserved : goal.loop-a-preserved
 loop-a-preserved g c =
     let s = system_of c.args.self.now in
     let row = c.args.row.now in
     let i = c.loop-a.invariant in
+    let old = c.loop-a.marks in
+    let new = c.mark_action.new.marks in
     let more = c.mark_action.ensures.grows in
     record {
-      grows = grows_on c.args.marks.now c.loop-a.marks c.mark_action.new.marks i.grows more;
-      actions = more_below c.loop-a.a (λ (b : ℕ). MarksAction s row c.mark_action.new.marks b)
-          (λ b l. action_on s row c.loop-a.marks c.mark_action.new.marks b more (i.actions b l))
+      grows = grows_on c.args.marks.now old new i.grows more;
+      actions = more_below c.loop-a.a (λ (b : ℕ). MarksAction s row new b)
+          (λ b l. action_on s row old new b more (i.actions b l))
           c.mark_action.ensures.marks;
-      cost = λ q at. omega (arith, i.cost q at, c.mark_action.ensures.cost q at, count_below (from_action s q) c.loop-a.a);
+      steps = λ q at. omega (arith, i.steps q at, c.mark_action.ensures.steps q at, count_below (front_action s q) c.loop-a.a);
     }
 
 pub returns-clause-marked : goal.returns-clause-marked
-returns-clause-marked g c x lane p a k ok l on below_p i =
+returns-clause-marked g c y i lane p a k ok in_rows in_lanes below_p led =
+    let n = c.args.self.now in
+    let s = system_of n in
+    marks_all s c.args.row.now y i lane p a k c.loop-a.marks c.known.ensures.system (joint_sizes n c.known.ensures) ok in_rows in_lanes
+    (rw c.loop-a.invariant.grows.long c.requires.room)
+    (λ b m. c.loop-a.invariant.actions b (omega (arith, m, c.loop-a-test.false, c.len-a-end.ensures.len, rw c.environment.ensures at (ap length c.actions.ensures.names ∙ c.actions.ensures.count))))
+    below_p led
+
+pub returns-clause-steps : goal.returns-clause-steps
+returns-clause-steps g c y i lane ok in_rows in_lanes =
     let n = c.args.self.now in
     let s = system_of n in
     let sizes = joint_sizes n c.known.ensures in
-    marks_all s c.args.row.now x lane p a k c.loop-a.marks c.known.ensures.system sizes ok l
-    (rw c.loop-a.invariant.grows.long c.requires.room)
-    (λ b m. c.loop-a.invariant.actions b (omega (arith, m, c.loop-a-test.false, c.len-a-end.ensures.len, rw c.environment.ensures at (ap length c.actions.ensures.names ∙ c.actions.ensures.count))))
-    below_p (width_positive s sizes) i
-
-pub returns-clause-cost : goal.returns-clause-cost
-returns-clause-cost g c x lane ok l on =
-    let n = c.args.self.now in
-    let s = system_of n in
-    let q = pair_at (sizes_of s) (x * lanes_in s + lane) in
-    let end : c.loop-a.a ≡ s.env.actions = omega (arith, c.len-a-end.ensures.len, rw c.environment.ensures at (ap length c.actions.ensures.names ∙ c.actions.ensures.count)) in
-    omega (arith, rw end at (c.loop-a.invariant.cost q (pair_there s c.args.row.now x lane ok l)), count_found s (x * lanes_in s + lane) c.known.ensures.system (ok.below lane l))
+    let p = (y * band_in s + i) * lanes_in s + lane in
+    let q = pair_at (sizes_of s) p in
+    let end : c.loop-a.a ≡ s.env.actions = omega (arith, c.loop-a-test.false, c.len-a-end.ensures.len, rw c.environment.ensures at (ap length c.actions.ensures.names ∙ c.actions.ensures.count)) in
+    let below_p : p < count (sizes_of s) = (in_band s y i c.args.row.now sizes ok in_rows).looked.below lane in_lanes in
+    omega (arith, rw end at (c.loop-a.invariant.steps q (pair_there s c.args.row.now y i lane sizes ok in_rows in_lanes)), count_front s p c.known.ensures.system below_p)

@@ -1,16 +1,15 @@
-use Rattle.std.proofs.Common.{ℕ, ◌+◌, ◌<◌, ◌≤◌, length}
+use Rattle.std.proofs.Common.{◌≡◌, ℕ, ◌+◌, ◌<◌, length}
 use Rattle.std.specs.List.{flat_map}
 use Rattle.roman_model.specs.Lists.{below}
 use Rattle.roman_model.specs.System.{Pair}
 use Rattle.roman_joint.specs.NamedSys.{system_of}
-use Rattle.roman_joint.specs.Backward.{from_action}
-use Rattle.roman_joint.specs.Marks.{Grows, MarksAction, IsAt}
+use Rattle.roman_joint.specs.Marks.{Grows, MarksAction, IsAt, front_action}
 use Rattle.roman_joint.proofs.joint.Joint.mark_before.Given as goal
 
--- the rows of the actions so far are marked
+-- the bands of the actions so far are marked
 abbrev pub invariant-loop-a : goal.invariant-loop-a
 invariant-loop-a g l = record {
   grows : Grows l.fn.marks l.marks;
   actions : (b : ℕ) → b < l.a → MarksAction (system_of l.self) l.row l.marks b;
-  cost : (q : Pair) → IsAt (system_of l.self) l.row q → l.steps ≤ l.fn.steps + length (flat_map (from_action (system_of l.self) q) (below l.a));
+  steps : (q : Pair) → IsAt (system_of l.self) l.row q → l.steps ≡ l.fn.steps + length (flat_map (front_action (system_of l.self) q) (below l.a));
 }

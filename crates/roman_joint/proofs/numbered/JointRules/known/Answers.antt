@@ -1,9 +1,15 @@
-use Rattle.roman_model.specs.Numbers.{sizes_of}
-use Rattle.roman_radix.proofs.CallerLemmas.{lanes_few}
+use Rattle.std.proofs.Common.{◌≡◌, ◌*◌, ◌/◌, sym, ap, ◌∙◌}
+use Rattle.roman_model.specs.Numbers.{sizes_of, count}
+use Rattle.roman_model.proofs.CallerLemmas.{length-below}
+use Rattle.roman_radix.specs.Rows.{row_sizes}
+use Rattle.roman_radix.proofs.CallerLemmas.{lanes_few, count_rows, rows_are, IsSizes-rows}
 use Rattle.roman_joint.specs.NamedSys.{system_of}
+use Rattle.roman_joint.specs.Rows.{lanes_in}
+use Rattle.roman_joint.specs.Bands.{band_in}
 use Rattle.roman_joint.proofs.ArenaFacts.{joint_numbered}
 use Rattle.roman_joint.proofs.SplitLemmas.{joint_sizes}
 use Rattle.roman_joint.proofs.GoodLemmas.{width_positive}
+use Rattle.roman_joint.proofs.BandLemmas.{first_in}
 use Rattle.roman_joint.proofs.numbered.JointRules.known.Goals as goal
 
 pub returns-clause-numbered : goal.returns-clause-numbered
@@ -13,3 +19,16 @@ pub returns-clause-lanes : goal.returns-clause-lanes
 returns-clause-lanes c =
     let s = system_of c.args.self.now in
     (width_positive s (joint_sizes c.args.self.now c.known.ensures), lanes_few (sizes_of s).seats)
+
+pub returns-clause-band : goal.returns-clause-band
+returns-clause-band c =
+    let s = system_of c.args.self.now in
+    (first_in s (joint_sizes c.args.self.now c.known.ensures), lanes_few (row_sizes (sizes_of s)).seats)
+
+pub returns-clause-bands : goal.returns-clause-bands
+returns-clause-bands c =
+    let s = system_of c.args.self.now in
+    let n = sizes_of s in
+    let m = row_sizes n in
+    let sizes = joint_sizes c.args.self.now c.known.ensures in
+    (count m / band_in s, ap (λ z. z * lanes_in s) (rows_are m (IsSizes-rows n sizes)) ∙ (count_rows n ∙ sym (length-below (count n))))

@@ -1,7 +1,7 @@
 use Rattle.std.proofs.Common.{vec_capacity, ap, ◌∙◌, arith, rules}
 use Rattle.std.proofs.lemmas.List.{length-replicate}
 use Rattle.roman_order.specs.Board.{Board}
-use Rattle.roman_order.proofs.Tables.{blank_sound}
+use Rattle.roman_order.proofs.Tables.{list_waits, blank_sound}
 use Rattle.roman_order.proofs.order.Order.reopen.Goals as goal
 
 pub overflow_mul-pairs : goal.overflow_mul-pairs
@@ -9,6 +9,6 @@ overflow_mul-pairs c = omega (arith, ap (λ (b : Board). b.cap_pairs) c.self.vie
 
 pub invariant_of-self : goal.invariant_of-self
 invariant_of-self c =
-    let entries = ap (λ v. vec_capacity v) c.swap.ensures.x_after in
+    let events = ap (λ v. vec_capacity v) c.swap.ensures.x_after in
     let waiting = ap (λ v. vec_capacity v) c.swap.ensures.y_after in
-    blank_sound _ (search (rules, length-replicate)) (ap (λ v. v.items) c.swap.ensures.x_after ∙ c.clear.ensures.items) c.clear-2.ensures.items c.refill.ensures.items
+    blank_sound _ (search (rules, length-replicate)) (rw c.swap.ensures.y_after (list_waits c.self.inside c.self.invariant)) (ap (λ v. v.items) c.swap.ensures.x_after ∙ c.clear.ensures.items) c.clear-2.ensures.items (search rules) c.clear-3.ensures.items c.refill.ensures.items

@@ -1,11 +1,13 @@
 use Rattle.std.proofs.Common.{◌≡◌, ◌<◌, ◌^◌, ◌∙◌, sym, length, get_or, arith}
 use Rattle.roman_order.specs.Sound.{removal_list}
 use Rattle.roman_order.proofs.Places.{place_in_list-from_greatest}
-use Rattle.roman_order.proofs.Tables.{few_listed, few_entries}
+use Rattle.roman_order.proofs.Tables.{few_listed, few}
 use Rattle.roman_order.proofs.order.Order.stamp.Goals as goal
 
-pub place_in-requires : goal.place_in-requires
-place_in-requires c = rw c.deref-in_default.ensures.value (few_entries c.self.inside c.self.invariant)
+pub place_in-requires-clause-few : goal.place_in-requires-clause-few
+place_in-requires-clause-few c =
+    let f = few c.self.inside c.self.invariant in
+    rw c.deref-in_default.ensures.value (omega (arith, f.count, f.count_fits))
 
 pub returns-then-stamp : goal.returns-then-stamp
 returns-then-stamp c =

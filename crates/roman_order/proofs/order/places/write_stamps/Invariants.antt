@@ -1,7 +1,12 @@
-use Rattle.std.proofs.Common.{◌≡◌, ℕ, ◌<◌, length, get_or}
-use Rattle.roman_order.proofs.Stamps.{stamp_from}
+use Rattle.std.proofs.Common.{◌≡◌, length, take}
+use Rattle.roman_order.specs.Events.{entries_of}
+use Rattle.roman_order.specs.Sound.{AreStamps}
 use Rattle.roman_order.proofs.order.places.write_stamps.Given as goal
 
--- the entries from place i on have their stamps
-abbrev pub invariant-loop-i : goal.invariant-loop-i
-invariant-loop-i l = (p : ℕ) → p < length l.stamps → get_or l.stamps p 0 ≡ stamp_from l.entries l.i p
+-- the entries of the events before place j have their stamps
+abbrev pub invariant-loop-j : goal.invariant-loop-j
+invariant-loop-j l = record {
+  place : l.place ≡ length (entries_of l.lanes (take l.j l.events));
+  long : length l.stamps ≡ length l.fn.stamps;
+  stamped : AreStamps (entries_of l.lanes (take l.j l.events)) l.stamps;
+}

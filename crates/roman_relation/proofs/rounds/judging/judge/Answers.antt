@@ -1,55 +1,119 @@
-use Rattle.std.proofs.Common.{◌+◌, ◌*◌, inl, inr, refl, sym, ap, ◌∙◌, subst, arith}
-use Rattle.std.proofs.lemmas.Bool.{cases_eq}
-use Rattle.roman_relation.proofs.Lanes.{all_listed}
+use Rattle.std.proofs.Common.{◌≡◌, ℕ, ◌+◌, ◌*◌, ◌/◌, ◌<◌, true, length, slice_index, inl, inr, refl, sym, ap, ◌∙◌, subst, arith}
+use Rattle.std.specs.Int.{bit_at}
+use Rattle.std.proofs.lemmas.Bool.{cases_eq, eq-eqb}
+use Rattle.std.proofs.lemmas.Nat.{mul-le}
+use Rattle.roman_model.proofs.CallerLemmas.{by_test, unallowed_unjustified}
+use Rattle.roman_model.specs.Arena.{is_listed}
+use Rattle.roman_lanes.specs.Rows.{is_on}
+use Rattle.roman_rules.specs.Bits.{bit_of}
 use Rattle.roman_order.specs.Board.{Board}
 use Rattle.roman_relation.specs.Rounds.{IsJudged}
 use Rattle.roman_relation.proofs.Beginnings.{begins_itself, begins_on}
+use Rattle.roman_relation.proofs.Bands.{band_at, band_begins}
 use Rattle.roman_relation.proofs.Going.{SameFrame, shaped_like}
+use Rattle.roman_relation.proofs.Lanes.{all_listed, shaped_pairs}
 use Rattle.roman_relation.proofs.Pushing.{judged_on}
-use Rattle.roman_relation.proofs.Playing.{done_all}
 use Rattle.roman_relation.proofs.rounds.judging.judge.Goals as goal
+
+pub overflow_mul-x : goal.overflow_mul-x
+overflow_mul-x g c =
+    let n = g.J.Rules.lanes c.args.joint.now in
+    let b = c.args.order.now in
+    let rows = mul-le b.rows 1 b.rows n (omega arith) c.known.ensures.lanes.0 in
+    omega (arith, rows, shaped_pairs (g.J.Rules.arena c.args.joint.now) n b c.requires.shaped, c.known.ensures.numbered.few_nodes, c.requires.band, ap (λ m. c.args.y * m) c.band.ensures.value)
+
+pub copy_rows-requires : goal.copy_rows-requires
+copy_rows-requires g c = omega (arith, c.requires.band, c.requires.left, c.words-words.ensures.long, ap (λ m. c.args.y * m) c.band.ensures.value)
+
+pub first_row-row-requires : goal.first_row-row-requires
+first_row-row-requires g c =
+    let A = g.J.Rules.arena c.args.joint.now in
+    let n = g.J.Rules.lanes c.args.joint.now in
+    let w = g.J.Rules.band c.args.joint.now in
+    let b = c.args.order.now in
+    omega (arith, band_begins n (c.args.y * w) b.rows (omega (arith, c.requires.band, c.known.ensures.band.0)) c.known.ensures.lanes.0, shaped_pairs A n b c.requires.shaped)
 
 pub loop-a-init : goal.loop-a-init
 loop-a-init g c = record {
   round = λ start round. round;
   begins = begins_itself c.args.order.now.list;
   rest = refl;
-  judged = λ start lane b round l m. absurd (omega arith);
+  long = c.copy_rows.ensures.long ∙ c.requires.left;
+  only = λ q t. inl t;
+  judged = λ start i lane b round h l m on. absurd (omega arith);
 }
 
 pub judge_on-requires-clause-shaped : goal.judge_on-requires-clause-shaped
 judge_on-requires-clause-shaped g c =
     shaped_like (g.J.Rules.arena c.args.joint.now) (g.J.Rules.lanes c.args.joint.now) c.args.order.now c.loop-a.order
-    (subst (SameFrame c.args.order.now) (sym c.loop-a.invariant.rest) (refl, refl, refl, refl)) c.requires.shaped
+    (subst (SameFrame c.args.order.now) (sym c.loop-a.invariant.rest) (refl, refl, refl, refl, refl)) c.requires.shaped
 
-pub judge_on-requires-clause-inside : goal.judge_on-requires-clause-inside
-judge_on-requires-clause-inside g c = omega (arith, c.requires.row, ap (λ (d : Board). d.rows) c.loop-a.invariant.rest)
+pub judge_on-requires-clause-round : goal.judge_on-requires-clause-round
+judge_on-requires-clause-round g c = let (start, round) = c.requires.round in (start, c.loop-a.invariant.round start round)
+
+pub judge_on-requires-clause-first : goal.judge_on-requires-clause-first
+judge_on-requires-clause-first g c = (c.args.y, ap (λ m. c.args.y * m) c.band.ensures.value)
+
+pub judge_on-requires-clause-band : goal.judge_on-requires-clause-band
+judge_on-requires-clause-band g c = omega (arith, c.requires.band, ap (λ m. c.args.y * m) c.band.ensures.value, ap (λ (d : Board). d.rows) c.loop-a.invariant.rest)
+
+pub judge_on-requires-clause-row : goal.judge_on-requires-clause-row
+judge_on-requires-clause-row g c = subst (λ m. g.J.Rules.is_row c.args.joint.now (c.args.y * m) c.first_row-row.result) (sym c.band.ensures.value) c.first_row-row.ensures
 
 pub loop-a-preserved : goal.loop-a-preserved
 loop-a-preserved g c =
     let A = g.J.Rules.arena c.args.joint.now in
     let n = g.J.Rules.lanes c.args.joint.now in
-    let x = c.args.x in
+    let x = c.args.y * c.band.result in
     let old = c.loop-a.order in
     let new = c.judge_on.new.order in
+    let allowed = c.row_actions-allowed.result in
+    let same : x ≡ c.args.y * g.J.Rules.band c.args.joint.now = ap (λ m. c.args.y * m) c.band.ensures.value in
     record {
       round = λ start round. c.judge_on.ensures.round start (c.loop-a.invariant.round start round);
       begins = begins_on c.args.order.now.list old.list new.list c.loop-a.invariant.begins c.judge_on.ensures.begins;
       rest = c.judge_on.ensures.rest ∙ ap (λ (d : Board). record d { list = new.list }) c.loop-a.invariant.rest;
-      judged = λ start lane b round l m. elim (cases_eq b c.loop-a.a) [
-        | inl e ↦ subst (λ d. IsJudged A start new (x * n + lane) d) (sym e) (c.judge_on.ensures.judged start lane (c.loop-a.invariant.round start round) l)
-        | inr ne ↦ judged_on A start (x * n + lane) b old new (c.loop-a.invariant.round start round).begun c.judge_on.ensures.begins (c.loop-a.invariant.judged start lane b round l (omega arith))
+      long = c.judge_on.ensures.long ∙ c.loop-a.invariant.long;
+      only = λ q t. elim (c.judge_on.ensures.only q t) [
+        | inl old ↦ c.loop-a.invariant.only q old
+        | inr (low, high) ↦ inr (band_at (g.J.Rules.band c.args.joint.now) c.args.y (q / n) (omega (arith, low, same)) (omega (arith, high, same)))
+      ];
+      judged = λ start i lane b round h l m on. elim (cases_eq b c.loop-a.a) [
+        | inl e ↦
+            let asked = c.is_in.ensures ∙ subst (λ d. is_on allowed d ≡ true) e on in
+            subst (λ d. IsJudged A start new ((x + i) * n + lane) d) (sym e) (c.judge_on.ensures.judged start i lane (c.loop-a.invariant.round start round) asked h l)
+        | inr ne ↦
+            judged_on A start ((x + i) * n + lane) b old new (c.loop-a.invariant.round start round).begun c.judge_on.ensures.begins
+            (c.loop-a.invariant.judged start i lane b round h l (omega arith) on)
       ];
     }
 
 pub returns-clause-done : goal.returns-clause-done
-returns-clause-done g c start lane round l =
+unfolding is_on
+returns-clause-done g c start i lane round h l a =
+    let A = g.J.Rules.arena c.args.joint.now in
     let n = g.J.Rules.lanes c.args.joint.now in
-    done_all (g.J.Rules.arena c.args.joint.now) c.known.ensures.numbered start (c.args.x * n + lane) c.loop-a.a c.loop-a.order (omega (arith, c.loop-a-test.false, c.actions-a-end.ensures))
-    (λ a m. c.loop-a.invariant.judged start lane a round l m)
+    let w = g.J.Rules.band c.args.joint.now in
+    let p : ℕ = (c.args.y * w + i) * n + lane in
+    let ok = c.known.ensures.numbered in
+    by_test (A.allows p a)
+    (λ t.
+    let within : a < A.actions = ok.allowed p a t in
+    let bit = (c.row_actions-allowed.ensures.band c.args.y i lane c.first_row-row.ensures h l).each a (omega (arith, within, ok.few_actions)) in
+    let allowed = eq-eqb (bit_at c.row_actions-allowed.result a) 1 (bit ∙ ap bit_of t) in
+    let below : a < c.loop-a.a = omega (arith, within, c.loop-a-test.false, c.actions-a-end.ensures) in
+    let judged = c.loop-a.invariant.judged start i lane a round h l below allowed in
+    subst (λ m. IsJudged A start c.loop-a.order ((c.args.y * m + i) * n + lane) a) c.band.ensures.value judged)
+    (λ refused off. unallowed_unjustified A _ p a refused)
 
--- a row of which all pairs are listed
-pub returns-then-words-x-eq0-clause-done : goal.returns-then-words-x-eq0-clause-done
-returns-then-words-x-eq0-clause-done g c start lane round l a off =
-    absurd (all_listed (g.J.Rules.arena c.args.joint.now) c.known.ensures.numbered (g.J.Rules.lanes c.args.joint.now) c.args.x lane c.args.order.now c.words.result.now c.requires.shaped
-    c.words.ensures.long c.requires.row c.words.ensures.alive c.if-words-x-eq0.true l off)
+-- a band of which all pairs are listed
+pub returns-then-are_clear-clause-done : goal.returns-then-are_clear-clause-done
+returns-then-are_clear-clause-done g c start i lane round h l a off =
+    let A = g.J.Rules.arena c.args.joint.now in
+    let n = g.J.Rules.lanes c.args.joint.now in
+    let w = g.J.Rules.band c.args.joint.now in
+    let b = c.args.order.now in
+    let words = c.words-words.result.now in
+    let inside : i < length c.copy_rows.new.to = omega (arith, h, c.copy_rows.ensures.long, c.requires.left) in
+    let empty : slice_index words (c.args.y * w + i) ≡ 0 = ap (λ m. slice_index words (c.args.y * m + i)) (sym c.band.ensures.value) ∙ (sym (c.copy_rows.ensures.each i (omega (arith, h, c.requires.left))) ∙ c.are_clear.ensures c.if-are_clear.true i inside) in
+    absurd (all_listed A c.known.ensures.numbered n (c.args.y * w + i) lane b words c.requires.shaped c.words-words.ensures.long (omega (arith, c.requires.band, h)) c.words-words.ensures.alive empty l off)

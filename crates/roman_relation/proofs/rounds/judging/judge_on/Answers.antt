@@ -1,33 +1,75 @@
-use Rattle.std.proofs.Common.{ℕ, ◌≤◌, ◌++◌, take, sym, ap, ◌∙◌, subst, arith, rules}
-use Rattle.roman_model.specs.Arena.{is_listed}
+use Rattle.std.proofs.Common.{◌≡◌, ℕ, ◌+◌, ◌*◌, ◌≤◌, ◌++◌, length, take, IsTrue, sym, ap, ◌∙◌, subst, arith, rules}
+use Rattle.roman_model.specs.Arena.{is_listed, is_justified}
 use Rattle.roman_model.specs.declared.reason.Reason.TheVariants.{Act}
-use Rattle.roman_order.specs.Board.{Board, entries_in}
+use Rattle.roman_lanes.specs.Rows.{Keeps}
+use Rattle.roman_order.specs.Board.{Board, entries_in_rows}
 use Rattle.roman_relation.specs.Settled.{Begins}
 use Rattle.roman_relation.specs.Rounds.{AreUnlisted, InRound}
 use Rattle.roman_relation.proofs.Going.{begins_append}
-use Rattle.roman_relation.proofs.Lanes.{words_row}
-use Rattle.roman_relation.proofs.Pushing.{lost_word, lost_round, lost_judged}
+use Rattle.roman_relation.proofs.Lanes.{words_rows}
+use Rattle.roman_relation.proofs.Pushing.{AreLost, are_lost, lost_free, rows_round, rows_judged, rows_only}
 use Rattle.roman_relation.proofs.rounds.judging.judge_on.Goals as goal
+
+pub unserved_band-requires-clause-row : goal.unserved_band-requires-clause-row
+unserved_band-requires-clause-row g c = let (y, first) = c.requires.first in (y, subst (λ z. g.J.Rules.is_row c.args.joint.now z c.args.row.now) first c.requires.row)
+
+pub push_rows-requires : goal.push_rows-requires
+push_rows-requires g c =
+    let A = g.J.Rules.arena c.args.joint.now in
+    let n = g.J.Rules.lanes c.args.joint.now in
+    let w = g.J.Rules.band c.args.joint.now in
+    let b = c.args.order.now in
+    let x = c.args.x in
+    let a = c.args.a in
+    let lost = c.unserved_band.new.left in
+    let words = c.words.result.now in
+    let (start, round) = c.requires.round in
+    let (y, first) = c.requires.first in
+    let gone = is_listed A (take start b.list) in
+    let row = subst (λ z. g.J.Rules.is_row c.args.joint.now z c.args.row.now) first c.requires.row in
+    let unlisted = subst (AreUnlisted A n (take start b.list)) (sym c.before-2.ensures.value) round.kept in
+    let keeps = subst (λ z. Keeps n z w (λ p. is_justified A gone p (Act a)) c.copy_rows.new.to lost) (sym first) (c.unserved_band.ensures.lost y gone row unlisted) in
+    let long : length lost ≡ w = c.unserved_band.ensures.long ∙ (c.copy_rows.ensures.long ∙ c.requires.left) in
+    let are : AreLost A gone b.list n x w (Act a) lost =
+    are_lost A gone b.list n x w (Act a) words c.copy_rows.new.to lost c.known.ensures.lanes.1
+    (words_rows A c.known.ensures.numbered n b words c.requires.shaped c.words.ensures.alive) (omega (arith, c.requires.band, c.words.ensures.long)) (c.copy_rows.ensures.long ∙ c.requires.left)
+    (λ i h. c.copy_rows.ensures.each i (omega (arith, c.requires.left))) keeps in
+    record {
+      rows = omega (arith, c.requires.band, long);
+      within = λ i lane on. omega (arith, are.within i lane on, c.requires.shaped.lanes);
+      alive = λ i lane on. lost_free A c.known.ensures.numbered gone b n x w (Act a) lost i lane c.requires.shaped.lanes long are on;
+    }
 
 pub returns : goal.returns
 returns g c =
     let A = g.J.Rules.arena c.args.joint.now in
     let n = g.J.Rules.lanes c.args.joint.now in
+    let w = g.J.Rules.band c.args.joint.now in
     let b = c.args.order.now in
     let x = c.args.x in
     let a = c.args.a in
-    let lost = c.unserved-lost.result in
-    let new = c.push_lanes.new.self in
+    let lost = c.unserved_band.new.left in
+    let words = c.words.result.now in
+    let new = c.push_rows.new.self in
+    let (y, first) = c.requires.first in
     let gone = λ (start : ℕ). is_listed A (take start b.list) in
-    let few : n ≤ 64 = omega (arith, c.requires.shaped.lanes, c.known-2.ensures.lanes.1) in
-    let row = words_row A c.known.ensures.numbered n x b c.words.result.now c.requires.shaped c.words.ensures.long c.requires.inside c.words.ensures.alive in
-    let is = λ (start : ℕ) (round : InRound A n start b). lost_word A (gone start) b.list n x (Act a) lost _ few row
-    (c.unserved-lost.ensures.lost x (gone start) c.requires.row (subst (AreUnlisted A n (take start b.list)) (sym c.before-2.ensures.value) round.kept))
-    c.unserved-lost.ensures.within in
-    let pushed = c.push_lanes.ensures ∙ ap (λ m. record b { list = b.list ++ entries_in m x lost (Act a) }) c.requires.shaped.lanes in
+    let row = subst (λ z. g.J.Rules.is_row c.args.joint.now z c.args.row.now) first c.requires.row in
+    let long : length lost ≡ w = c.unserved_band.ensures.long ∙ (c.copy_rows.ensures.long ∙ c.requires.left) in
+    let are = λ (start : ℕ) (round : InRound A n start b).
+    are_lost A (gone start) b.list n x w (Act a) words c.copy_rows.new.to lost c.known.ensures.lanes.1
+    (words_rows A c.known.ensures.numbered n b words c.requires.shaped c.words.ensures.alive) (omega (arith, c.requires.band, c.words.ensures.long)) (c.copy_rows.ensures.long ∙ c.requires.left)
+    (λ i h. c.copy_rows.ensures.each i (omega (arith, c.requires.left)))
+    (subst (λ z. Keeps n z w (λ p. is_justified A (gone start) p (Act a)) c.copy_rows.new.to lost) (sym first)
+    (c.unserved_band.ensures.lost y (gone start) row (subst (AreUnlisted A n (take start b.list)) (sym c.before-2.ensures.value) round.kept))) in
+    let pushed : new ≡ record b { list = b.list ++ entries_in_rows n x w lost (Act a) } =
+    c.push_rows.ensures ∙ (ap (λ m. record b { list = b.list ++ entries_in_rows m x (length lost) lost (Act a) }) c.requires.shaped.lanes
+    ∙ ap (λ m. record b { list = b.list ++ entries_in_rows n x m lost (Act a) }) long) in
     record {
-      round = λ start round. lost_round A c.known.ensures.numbered n start x a lost b new c.requires.action (is start round) pushed round;
-      begins = subst (λ (d : Board). Begins b.list d.list) (sym c.push_lanes.ensures) (begins_append b.list _);
+      round = λ start round. rows_round A c.known.ensures.numbered n start x w a lost b new c.requires.action (are start round) pushed round;
+      begins = subst (λ (d : Board). Begins b.list d.list) (sym pushed) (begins_append b.list _);
       rest = search rules;
-      judged = λ start lane round l. lost_judged A c.known.ensures.numbered n start x a lost lane b new (is start round) pushed round.begun l;
+      long = c.unserved_band.ensures.long ∙ c.copy_rows.ensures.long;
+      only = λ q t. let (start, round) = c.requires.round in
+          rows_only A c.known.ensures.numbered (gone start) b.list n x w (Act a) lost (are start round) w q (subst (λ (d : Board). IsTrue (is_listed A d.list q)) pushed t);
+      judged = λ start i lane round asked h l. rows_judged A c.known.ensures.numbered n start x w a lost i lane b new (are start round) pushed round.begun h l;
     }

@@ -1,65 +1,108 @@
-use Rattle.std.proofs.Common.{◌≡◌, ℕ, ◌+◌, take, drop, length, slice_get, Some, sym, ap, ◌∙◌, arith, take-append-drop}
+use Rattle.std.proofs.Common.{◌≡◌, ◌+◌, ℕ, ◌<◌, ◌≤◌, true, List, [], ◌++◌, length, take, drop, refl, sym, ap, ◌∙◌, subst, arith, take-append-drop, append-nil, append_assoc}
 use Rattle.std.proofs.lemmas.List.{take_all}
-use Rattle.roman_model.specs.Arena.{Entry, fall}
+use Rattle.roman_model.specs.Arena.{IsOrder, fall}
 use Rattle.roman_model.proofs.CallerLemmas.{fall_append}
-use Rattle.roman_order.specs.Board.{Board, as_entry}
-use Rattle.roman_relation.proofs.Marks.{noted_more, entry_listed, fall_more, entry_within}
+use Rattle.roman_lanes.specs.Rows.{is_on}
+use Rattle.roman_order.specs.Board.{Board, set_lanes}
+use Rattle.roman_order.specs.Events.{IsEvent, entries_at}
+use Rattle.roman_order.proofs.CallerLemmas.{length-entries_at}
+use Rattle.roman_relation.specs.Rounds.{IsMarking, moves_to_all}
+use Rattle.roman_relation.proofs.Backs.{all_back, event_new, none_moves, take_entries}
+use Rattle.roman_relation.proofs.Losses.{event_listed, noted_entries, fall_entries, entries_off}
 use Rattle.roman_relation.proofs.rounds.losses.mark_losses.Goals as goal
 
-pub entry-p-requires : goal.entry-p-requires
-entry-p-requires g c = omega (arith, c.loop-i-test.true, c.len-i-end.ensures.value, ap (λ (d : Board). length d.list) c.loop-i.invariant.rest)
-
-pub loop-i-preserved-then-p-first : goal.loop-i-preserved-then-p-first
-loop-i-preserved-then-p-first g c =
+pub losses-init : goal.losses-init
+losses-init g c =
     let A = g.J.Rules.arena c.args.joint.now in
     let n = g.J.Rules.lanes c.args.joint.now in
     let b = c.args.order.now in
-    let d = c.loop-i.order in
-    let p = c.entry-p.result.0 in
-    let listed = entry_listed A c.known.ensures.numbered d.list c.loop-i.i (as_entry c.entry-p.result) c.entry-p.ensures in
-    let pair = entry_within A c.known.ensures.numbered n c.loop-i.i b d (as_entry c.entry-p.result) c.requires.shaped c.known-2.ensures.in_range
-    (ap (λ (y : Board). y.list) c.loop-i.invariant.rest) c.entry-p.ensures in
+    let nothing = none_moves A n (g.J.Rules.band c.args.joint.now) (g.J.Rules.mid c.args.joint.now) b.rows in
     record {
-      marking = noted_more A c.known.ensures.numbered n c.args.start c.loop-i.i d (as_entry c.entry-p.result) c.entry-p.ensures (c.loop-i.invariant.row p pair c.if-first-p.true (omega (arith, c.if-p-first.true, c.lanes-lanes.ensures.value)) listed) c.loop-i.invariant.marking;
-      row = c.loop-i.invariant.row;
-      rest = c.loop-i.invariant.rest;
-      cost = omega (arith, c.loop-i.invariant.cost, fall_more A d.list c.loop-i.i (as_entry c.entry-p.result) c.entry-p.ensures);
+      marking = c.requires.marking;
+      within = omega (arith, c.requires.start, c.len-end.ensures.value);
+      rest = refl;
+      start = omega arith;
+      back = ([], sym (append-nil (take c.args.start b.list)), c.requires.back, omega (arith, nothing));
+      cost = omega arith;
     }
 
-pub mark_loss-first-requires-clause-pair : goal.mark_loss-first-requires-clause-pair
-mark_loss-first-requires-clause-pair g c =
-    entry_within (g.J.Rules.arena c.args.joint.now) c.known.ensures.numbered (g.J.Rules.lanes c.args.joint.now) c.loop-i.i c.args.order.now c.loop-i.order (as_entry c.entry-p.result)
-    c.requires.shaped c.known-2.ensures.in_range (ap (λ (y : Board). y.list) c.loop-i.invariant.rest) c.entry-p.ensures
+pub event_at-event-requires : goal.event_at-event-requires
+event_at-event-requires g c = omega (arith, c.losses-test.true, c.len-end.ensures.value, ap (λ (d : Board). length d.list) c.losses.invariant.rest)
 
-pub mark_loss-first-requires-clause-listed : goal.mark_loss-first-requires-clause-listed
-mark_loss-first-requires-clause-listed g c =
-    entry_listed (g.J.Rules.arena c.args.joint.now) c.known.ensures.numbered c.loop-i.order.list c.loop-i.i (as_entry c.entry-p.result) c.entry-p.ensures
+pub mark_event-requires-clause-event : goal.mark_event-requires-clause-event
+mark_event-requires-clause-event g c = subst (λ m. IsEvent m c.event_at-event.result) (ap (λ (y : Board). y.lanes) c.losses.invariant.rest ∙ c.requires.shaped.lanes) c.event_at-event.ensures.event
 
-pub loop-i-preserved : goal.loop-i-preserved
-loop-i-preserved g c =
+pub mark_event-requires-clause-listed : goal.mark_event-requires-clause-listed
+mark_event-requires-clause-listed g c lane on =
     let A = g.J.Rules.arena c.args.joint.now in
     let n = g.J.Rules.lanes c.args.joint.now in
-    let b = c.args.order.now in
-    let d = c.loop-i.order in
-    let new = c.mark_loss-first.new.order in
-    let x : Entry ℕ = as_entry c.entry-p.result in
-    let same : new.list ≡ d.list = ap (λ (y : Board). y.list) c.mark_loss-first.ensures.rest in
-    let entry : slice_get new.list c.loop-i.i ≡ Some x = ap (λ L. slice_get L c.loop-i.i) same ∙ c.entry-p.ensures in
-    let fell = fall_more A d.list c.loop-i.i x c.entry-p.ensures in
-    let front : fall A (take c.args.start new.list) ≡ fall A (take c.args.start d.list) = ap (λ L. fall A (take c.args.start L)) same in
-    let now : fall A (take (c.loop-i.i + 1) new.list) ≡ fall A (take (c.loop-i.i + 1) d.list) = ap (λ L. fall A (take (c.loop-i.i + 1) L)) same in
+    let d = c.losses.order in
+    let e = c.event_at-event.result in
+    let R = drop (c.losses.i + length (set_lanes e.lanes)) d.list in
+    let lanes : d.lanes ≡ n = ap (λ (y : Board). y.lanes) c.losses.invariant.rest ∙ c.requires.shaped.lanes in
+    let event = subst (λ m. IsEvent m e) lanes c.event_at-event.ensures.event in
+    event_listed A c.known.ensures.numbered n d.list R c.losses.i e lane c.known.ensures.lanes.1 event (c.event_at-event.ensures.entries ∙ ap (λ m. entries_at m e ++ R) lanes) on
+
+pub losses-preserved : goal.losses-preserved
+losses-preserved g c =
+    let A = g.J.Rules.arena c.args.joint.now in
+    let n = g.J.Rules.lanes c.args.joint.now in
+    let d = c.losses.order in
+    let i = c.losses.i in
+    let e = c.event_at-event.result in
+    let new = c.mark_event.new.order in
+    let R = drop (i + length (set_lanes e.lanes)) d.list in
+    let M = entries_at n e in
+    let same : new.list ≡ d.list = ap (λ (y : Board). y.list) c.mark_event.ensures.rest in
+    let lanes : d.lanes ≡ n = ap (λ (y : Board). y.lanes) c.losses.invariant.rest ∙ c.requires.shaped.lanes in
+    let entries : drop i new.list ≡ M ++ R = ap (drop i) same ∙ (c.event_at-event.ensures.entries ∙ ap (λ m. entries_at m e ++ R) lanes) in
+    let long : i + length M ≡ i + c.len-i.result = omega (arith, length-entries_at n e, c.len-i.ensures) in
+    let fell = fall_entries A new.list i M R entries in
+    let here = ap (λ L. fall A (take i L)) same in
+    let front = ap (λ L. fall A (take c.args.start L)) same in
+    let now = ap (λ j. fall A (take j new.list)) long in
+    let start = c.args.start in
+    let w = g.J.Rules.band c.args.joint.now in
+    let S = moves_to_all A n w (g.J.Rules.mid c.args.joint.now) in
+    let (P, parts, back, sum) = c.losses.invariant.back in
+    let list : d.list ≡ c.args.order.now.list = ap (λ (y : Board). y.list) c.losses.invariant.rest in
+    let rows : d.rows ≡ c.args.order.now.rows = ap (λ (y : Board). y.rows) c.losses.invariant.rest in
+    let event = subst (λ m. IsEvent m e) lanes c.event_at-event.ensures.event in
+    let here_d : drop i d.list ≡ M ++ R = c.event_at-event.ensures.entries ∙ ap (λ m. entries_at m e ++ R) lanes in
+    let fresh = λ (lane : ℕ) (on : is_on e.lanes lane ≡ true).
+    event_new A n d.list R start i e lane (subst (IsOrder A) (sym list) c.requires.valid) c.losses.invariant.start here_d (omega (arith, event.within lane on, c.known.ensures.lanes.1)) on in
+    let (after, moved) = c.mark_event.ensures.back start P back fresh in
+    let inside : i ≤ length new.list = omega (arith, c.event_at-event.ensures.within, ap length same) in
+    let taken : take (i + c.len-i.result) new.list ≡ take start new.list ++ (P ++ M) =
+    ap (λ j. take j new.list) (sym long) ∙ (take_entries new.list i M R inside entries
+    ∙ (ap (λ L. L ++ M) (ap (take i) same ∙ (parts ∙ ap (λ L. take start L ++ P) (sym same))) ∙ append_assoc (take start new.list) P M)) in
     record {
-      marking = noted_more A c.known.ensures.numbered n c.args.start c.loop-i.i new x entry c.mark_loss-first.ensures.noted (c.mark_loss-first.ensures.marking c.args.start c.loop-i.i c.loop-i.invariant.marking);
-      row = c.mark_loss-first.ensures.row;
-      rest = c.mark_loss-first.ensures.rest ∙ ap (λ (y : Board). record y { marks = new.marks; before = new.before }) c.loop-i.invariant.rest;
-      cost = omega (arith, c.loop-i.invariant.cost, c.mark_loss-first.ensures.cost, fell, front, now);
+      marking = subst (λ j. IsMarking A n (g.J.Rules.band c.args.joint.now) c.args.start j new) long
+          (noted_entries A c.known.ensures.numbered n (g.J.Rules.band c.args.joint.now) c.args.start i new M R entries (entries_off n new.before e c.mark_event.ensures.noted) (c.mark_event.ensures.marking c.args.start i c.losses.invariant.marking));
+      within = omega (arith, c.event_at-event.ensures.within, c.len-i.ensures, c.len-end.ensures.value, ap (λ (y : Board). length y.list) c.losses.invariant.rest);
+      rest = c.mark_event.ensures.rest ∙ ap (λ (y : Board). record y { marks = new.marks; before = new.before }) c.losses.invariant.rest;
+      start = omega (arith, c.losses.invariant.start);
+      back = (P ++ M, taken, after, omega (arith, moved, sum, ap (λ k. S k P) rows, ap (λ k. S k (P ++ M)) rows));
+      cost = omega (arith, c.losses.invariant.cost, c.mark_event.ensures.cost, fell, here, front, now);
     }
 
 pub returns-clause-cost : goal.returns-clause-cost
 returns-clause-cost g c =
     let A = g.J.Rules.arena c.args.joint.now in
-    let L = c.loop-i.order.list in
+    let L = c.losses.order.list in
     let start = c.args.start in
-    let all : take c.loop-i.i L ≡ L = take_all c.loop-i.i L (omega (arith, c.loop-i-test.false, c.len-i-end.ensures.value, ap (λ (d : Board). length d.list) c.loop-i.invariant.rest)) in
+    let all : take c.losses.i L ≡ L = take_all c.losses.i L (omega (arith, c.losses-test.false, c.len-end.ensures.value, ap (λ (d : Board). length d.list) c.losses.invariant.rest)) in
     let parts : fall A L ≡ fall A (take start L) + fall A (drop start L) = ap (fall A) (sym (take-append-drop start L)) ∙ fall_append A (take start L) (drop start L) in
-    omega (arith, c.loop-i.invariant.cost, ap (fall A) all, parts)
+    omega (arith, c.losses.invariant.cost, ap (fall A) all, parts)
+
+pub returns-clause-steps : goal.returns-clause-steps
+returns-clause-steps g c =
+    let A = g.J.Rules.arena c.args.joint.now in
+    let n = g.J.Rules.lanes c.args.joint.now in
+    let L = c.losses.order.list in
+    let start = c.args.start in
+    let (P, parts, back, sum) = c.losses.invariant.back in
+    let list : L ≡ c.args.order.now.list = ap (λ (y : Board). y.list) c.losses.invariant.rest in
+    let end : c.losses.i ≡ length L = omega (arith, c.losses.invariant.within, c.losses-test.false, c.len-end.ensures.value, ap length list) in
+    let added = all_back L P start (omega (arith, c.requires.start, ap length list)) (ap (λ j. take j L) (sym end) ∙ parts) in
+    sum ∙ ap (λ N. c.args.steps.now + moves_to_all A n (g.J.Rules.band c.args.joint.now) (g.J.Rules.mid c.args.joint.now) c.args.order.now.rows N) added

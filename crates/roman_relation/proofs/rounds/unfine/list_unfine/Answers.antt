@@ -1,53 +1,60 @@
-use Rattle.std.proofs.Common.{◌≡◌, ◌+◌, ◌-◌, ◌*◌, ◌<◌, length, IsTrue, IsFalse, inl, inr, sym, ap, ◌∙◌, subst, arith}
+use Rattle.std.proofs.Common.{◌≡◌, ◌+◌, ◌-◌, ◌*◌, ◌/◌, ◌%◌, ◌<◌, length, IsTrue, IsFalse, inl, inr, sym, ap, ◌∙◌, subst, arith, rules}
 use Rattle.std.proofs.lemmas.Bool.{cases_lt}
+use Rattle.std.proofs.lemmas.Nat.{mod_below, div_below, div-add-mod'}
 use Rattle.roman_model.specs.Arena.{is_listed}
 use Rattle.roman_order.specs.Board.{Board}
+use Rattle.roman_relation.proofs.Bands.{band_ends, whole_bands, pair_past}
 use Rattle.roman_relation.proofs.Beginnings.{begins_unlisted}
 use Rattle.roman_relation.proofs.Going.{goes_on_itself, goes_on_on, shaped_on}
-use Rattle.roman_relation.proofs.Lanes.{shaped_rows}
 use Rattle.roman_relation.proofs.rounds.unfine.list_unfine.Goals as goal
 
-pub loop-x-init : goal.loop-x-init
-loop-x-init g c = record {
+pub loop-y-init : goal.loop-y-init
+loop-y-init g c = record {
   goes_on = goes_on_itself (g.J.Rules.arena c.args.joint.now) c.args.order.now c.requires.valid;
+  long = search rules;
   fine = λ p l off. absurd (omega arith);
   because = λ p t. inl t;
 }
 
-pub list_unfine_row-requires : goal.list_unfine_row-requires
-list_unfine_row-requires g c =
-    let A = g.J.Rules.arena c.args.joint.now in
-    let n = g.J.Rules.lanes c.args.joint.now in
-    let b = c.args.order.now in
-    let some : 0 < n = c.known.ensures.lanes.0 in
-    let rows = shaped_rows A n c.rows-x-end.result b c.requires.shaped some c.rows-x-end.ensures in
-    record {
-      shaped = shaped_on A n b c.loop-x.order c.requires.shaped c.loop-x.invariant.goes_on;
-      row = omega (arith, rows, c.loop-x-test.true, ap (λ (d : Board). d.rows) c.loop-x.invariant.goes_on.rest);
-      valid = c.loop-x.invariant.goes_on.valid;
-    }
+pub list_unfine_band-requires-clause-shaped : goal.list_unfine_band-requires-clause-shaped
+list_unfine_band-requires-clause-shaped g c =
+    shaped_on (g.J.Rules.arena c.args.joint.now) (g.J.Rules.lanes c.args.joint.now) c.args.order.now c.loop-y.order c.requires.shaped c.loop-y.invariant.goes_on
 
-pub loop-x-preserved : goal.loop-x-preserved
-loop-x-preserved g c =
+pub list_unfine_band-requires-clause-band : goal.list_unfine_band-requires-clause-band
+list_unfine_band-requires-clause-band g c =
     let A = g.J.Rules.arena c.args.joint.now in
     let n = g.J.Rules.lanes c.args.joint.now in
-    let x = c.loop-x.x in
-    let next : (x + 1) * n ≡ x * n + n = omega arith in
+    let w = g.J.Rules.band c.args.joint.now in
+    let m = c.bands-y-end.result in
+    let rows = whole_bands A n w m c.args.order.now c.requires.shaped c.known.ensures.lanes.0 c.bands-y-end.ensures in
+    omega (arith, band_ends w c.loop-y.y m c.loop-y-test.true, rows, ap (λ (d : Board). d.rows) c.loop-y.invariant.goes_on.rest)
+
+pub list_unfine_band-requires-clause-valid : goal.list_unfine_band-requires-clause-valid
+list_unfine_band-requires-clause-valid g c = c.loop-y.invariant.goes_on.valid
+
+pub loop-y-preserved : goal.loop-y-preserved
+loop-y-preserved g c =
+    let A = g.J.Rules.arena c.args.joint.now in
+    let n = g.J.Rules.lanes c.args.joint.now in
+    let w = g.J.Rules.band c.args.joint.now in
+    let y = c.loop-y.y in
+    let new = c.list_unfine_band.new.order in
     record {
-      goes_on = goes_on_on A c.args.order.now c.loop-x.order c.list_unfine_row.new.order c.loop-x.invariant.goes_on c.list_unfine_row.ensures.goes_on;
-      fine = λ p l off. elim (cases_lt p (x * n)) [
-        | inl h ↦ c.loop-x.invariant.fine p h (begins_unlisted A c.loop-x.order.list c.list_unfine_row.new.order.list p c.list_unfine_row.ensures.goes_on.begins off)
+      goes_on = goes_on_on A c.args.order.now c.loop-y.order new c.loop-y.invariant.goes_on c.list_unfine_band.ensures.goes_on;
+      long = c.list_unfine_band.ensures.long ∙ c.loop-y.invariant.long;
+      fine = λ p l off. elim (cases_lt p (y * w * n)) [
+        | inl h ↦ c.loop-y.invariant.fine p h (begins_unlisted A c.loop-y.order.list new.list p c.list_unfine_band.ensures.goes_on.begins off)
         | inr h ↦
-            let lane : p - x * n < n = omega (arith, next) in
-            let place : x * n + (p - x * n) ≡ p = omega arith in
-            subst (λ q. IsTrue (A.fine q)) place (c.list_unfine_row.ensures.fine (p - x * n) lane (subst (λ q. IsFalse (is_listed A c.list_unfine_row.new.order.list q)) (sym place) off))
+            let (i, lane, i_in, lane_in, place) = pair_past n w y p c.known.ensures.lanes.0 h l in
+            subst (λ q. IsTrue (A.fine q)) place (c.list_unfine_band.ensures.fine i lane i_in lane_in (subst (λ q. IsFalse (is_listed A new.list q)) (sym place) off))
       ];
-      because = λ p t. elim (c.list_unfine_row.ensures.because p t) [ inl old ↦ c.loop-x.invariant.because p old | inr fails ↦ inr fails ];
+      because = λ p t. elim (c.list_unfine_band.ensures.because p t) [ inl old ↦ c.loop-y.invariant.because p old | inr fails ↦ inr fails ];
     }
 
 pub returns-clause-fine : goal.returns-clause-fine
 returns-clause-fine g c p l off =
     let n = g.J.Rules.lanes c.args.joint.now in
-    let end : c.loop-x.x ≡ c.rows-x-end.result = omega arith in
-    let all : c.loop-x.x * n ≡ length (g.J.Rules.arena c.args.joint.now).nodes = ap (λ m. m * n) end ∙ c.rows-x-end.ensures in
-    c.loop-x.invariant.fine p (omega (arith, all)) off
+    let w = g.J.Rules.band c.args.joint.now in
+    let end : c.loop-y.y ≡ c.bands-y-end.result = omega (arith, c.loop-y-test.false) in
+    let all : c.loop-y.y * w * n ≡ length (g.J.Rules.arena c.args.joint.now).nodes = ap (λ m. m * w * n) end ∙ c.bands-y-end.ensures in
+    c.loop-y.invariant.fine p (omega (arith, all)) off

@@ -1,0 +1,412 @@
+-- Rows of a band.
+use Rattle.std.proofs.Common.{◌≡◌, ℕ, suc, ◌+◌, ◌-◌, ◌*◌, ◌/◌, ◌%◌, ◌<◌, ◌≤◌, ◌^◌, Bool, true, false, not, ◌&&◌, List, [], length, slice_get, slice_index, IsFalse, inl, inr, refl, sym, ap, ap₂, ◌∙◌, subst, arith}
+use Rattle.std.specs.List.{list_any}
+use Rattle.std.proofs.Math.ListN.{set}
+use Rattle.std.proofs.lemmas.Bool.{cases_eq, cases_lt}
+use Rattle.std.proofs.lemmas.Nat.{mul-add-lt, mul-le, mod_below}
+use Rattle.std.proofs.lemmas.List.{length-map, get_or-set_same, get_or-set_other, get_or_past}
+use Rattle.roman_model.specs.Lists.{IsIn, is_empty, product_of, all_below}
+use Rattle.roman_model.proofs.CallerLemmas.{any_same, from_seat_next, move_in_range, seat_in, part_at}
+use Rattle.roman_model.specs.System.{Sys, Seat, IsSys}
+use Rattle.roman_model.specs.SystemArena.{seat_next}
+use Rattle.roman_model.specs.Arena.{is_beaten}
+use Rattle.roman_model.specs.Numbers.{sizes_of, count, pair_at, numbered}
+use Rattle.roman_radix.specs.Radix.{IsSizes, stride_of}
+use Rattle.roman_radix.specs.Rows.{low_of, row_sizes, env_rows_of}
+use Rattle.roman_radix.proofs.CallerLemmas.{exact, lanes_few, AreSizes-index, low_of-le, lanes_positive, row_div, row_mod, row_below, env_rows_are, count_rows, length_rows, row_size, row_stride_of, IsSizes-rows, rows_are}
+use Rattle.roman_lanes.specs.Rows.{is_on, HasLanes, AreRows, Keeps}
+use Rattle.roman_joint.specs.Rows.{lanes_in, low_in, lane_state_of, AreRowsOf, IsRow, IsTurn}
+use Rattle.roman_joint.specs.Bands.{mid_in, band_in, turn_at, AllAlive, KeepsWhere}
+use Rattle.roman_joint.specs.declared.layout.Rows.{Rows}
+use Rattle.roman_joint.specs.declared.row.Row.{Row}
+use Rattle.roman_joint.specs.declared.turn.Turn.{Turn}
+use Rattle.roman_joint.proofs.Rows.{size_of_seat}
+use Rattle.std.proofs.Math.Bool.{and_assoc}
+use Rattle.roman_lanes.proofs.CallerLemmas.{on_zero}
+use Rattle.roman_joint.proofs.AllowedLemmas.{cut_off, and_nothing}
+use Rattle.roman_joint.proofs.WordLemmas.{not_not, all_pass}
+use Rattle.roman_joint.proofs.SplitLemmas.{factor, positive_of, quotient, stride_rows, row_number, row_made}
+use Rattle.roman_joint.proofs.LeadLemmas.{lanes_parts, stride_positive, lane_state, lane_part, leads_before, leads_served, any_turned}
+use Rattle.roman_joint.proofs.GoodLemmas.{Known, rows_before, full_on, serves_before, beaten_before}
+
+-- the i-th row of a band, from the first
+abbrev pub row_in : Sys → ℕ → Row → Row
+row_in s x first = record {
+  part = x % env_rows_of (sizes_of s);
+  allowed = first.allowed;
+  leading = first.leading;
+  target = first.target;
+  env = first.env;
+  states = (pair_at (row_sizes (sizes_of s)) x).bs;
+}
+
+pub record InBand (s : Sys) (y i : ℕ) (first : Row) : Type 0 where
+  pub inside : y * band_in s + i < count (row_sizes (sizes_of s))
+  pub looked : IsRow s (y * band_in s + i) (row_in s (y * band_in s + i) first)
+  pub part : (y * band_in s + i) % env_rows_of (sizes_of s) ≡ first.part + i
+  pub before : (k : ℕ) → k < mid_in s → slice_index (pair_at (row_sizes (sizes_of s)) (y * band_in s + i)).bs k ≡ slice_index first.states k
+  pub within : (k : ℕ) → mid_in s ≤ k → k < low_in s → slice_index (pair_at (row_sizes (sizes_of s)) (y * band_in s + i)).bs k ≡ lane_state_of (row_sizes (sizes_of s)) k i
+
+pub in_band : (s : Sys) (y i : ℕ) (first : Row) → IsSizes (sizes_of s) → IsRow s (y * band_in s) first → i < band_in s → InBand s y i first
+in_band s y i first sizes ok l =
+    let n = sizes_of s in
+    let m = row_sizes n in
+    let w = lanes_in s in
+    let v = band_in s in
+    let g = env_rows_of m in
+    let x = y * v in
+    let msizes = IsSizes-rows n sizes in
+    let pos : 0 < w = lanes_positive n.seats sizes.seats in
+    let vpos : 0 < v = lanes_positive m.seats msizes.seats in
+    let whole : g * v ≡ env_rows_of n = env_rows_are m in
+    let rows : count m * w ≡ count n = count_rows n in
+    let in_rows : x < count m = row_number x (count m) w (count n) pos rows (omega (arith, ok.below 0 pos)) in
+    let bands : count m / v * v ≡ count m = rows_are m msizes in
+    let top : y < count m / v = row_below y v 0 (count m / v) (omega (arith, bands, in_rows)) in
+    let inside : x + i < count m = omega (arith, mul-add-lt y v i (count m / v) top l, bands) in
+    let first_at : x ≡ x + 0 = omega arith in
+    let front : (j p : ℕ) → j < v → p ≡ (x + j) * w + 0 → p / product_of n.seats ≡ y / g = λ j p less is.
+    ap₂ (λ a b. a / b) is (sym (env_rows_are n)) ∙ (row_div (x + j) w 0 (env_rows_of n) pos
+    ∙ (ap (λ b. (x + j) / b) (sym whole) ∙ row_div y v j g less)) in
+    let same : (x + i) * w / product_of n.seats ≡ (x * w + 0) / product_of n.seats = front i ((x + i) * w) l (omega arith) ∙ sym (front 0 (x * w + 0) vpos (omega arith)) in
+    let part_here : (x + i) % env_rows_of n ≡ y % g * v + i = ap (λ b. (x + i) % b) (sym whole) ∙ row_mod y v i g l in
+    let part_first : x % env_rows_of n ≡ y % g * v + 0 = ap₂ (λ a b. a % b) first_at (sym whole) ∙ row_mod y v 0 g vpos in
+    let long : length m.seats ≡ low_of n.seats = length_rows n in
+    let state : (k : ℕ) → k < low_of n.seats → slice_index (pair_at m (x + i)).bs k ≡ (x + i) / stride_of m k % slice_index n.seats k = λ k less.
+    part_at m (x + i) k inside (omega (arith, less, long)) ∙ ap (λ b. (x + i) / stride_of m k % b) (row_size n k less) in
+    record {
+      inside = inside;
+      looked = row_made s (x + i) (row_in s (x + i) first) sizes (omega (arith, mul-add-lt (x + i) w 0 (count m) inside pos, rows)) (count m) rows refl
+          (sym (ap (λ b. b / n.env) same ∙ ok.targets 0 pos))
+          (sym (ap (λ b. b % n.env) same ∙ ok.envs 0 pos))
+          (λ k less. state k less ∙ ap (λ b. (x + i) / b % slice_index n.seats k) (sym (quotient (stride_of n k) (stride_of m k) w pos (row_stride_of n k less))))
+          ok.allowed ok.leading;
+      part = omega (arith, part_here, part_first, ok.part);
+      before = λ k less.
+          let low : k < low_of n.seats = omega (arith, less, low_of-le m.seats, long) in
+          let q = stride_of m k / v in
+          let is : q * v ≡ stride_of m k = stride_rows m k msizes less in
+          let here : (x + i) / stride_of m k ≡ y / q = ap (λ b. (x + i) / b) (sym is) ∙ row_div y v i q l in
+          let there : (x * w + 0) / stride_of n k ≡ y / q = ap (λ b. (x * w + 0) / b) (sym (row_stride_of n k low)) ∙ (row_div x w 0 (stride_of m k) pos
+          ∙ (ap₂ (λ a b. a / b) first_at (sym is) ∙ row_div y v 0 q vpos)) in
+          state k low ∙ (ap (λ b. b % slice_index n.seats k) (here ∙ sym there)
+          ∙ (sym (part_at n (x * w + 0) k (ok.below 0 pos) (omega (arith, low, low_of-le n.seats))) ∙ ok.states k 0 low pos));
+      within = λ k past less. lane_part m y i k msizes inside past (omega (arith, less, long));
+    }
+
+-- a seat before a band's own stands before the lanes
+pub mid_low : (s : Sys) (k : ℕ) → k < mid_in s → k < low_in s
+mid_low s k l = omega (arith, l, low_of-le (row_sizes (sizes_of s)).seats, length_rows (sizes_of s))
+
+pub first_in : (s : Sys) → IsSizes (sizes_of s) → 0 < band_in s
+first_in s h = lanes_positive (row_sizes (sizes_of s)).seats (IsSizes-rows (sizes_of s) h).seats
+
+-- where the rows to which a row of a band goes begin
+pub record BandBefore (s : Sys) (r : Rows) (turn : Turn) (k part i long : ℕ) (states : List ℕ) : Type 0 where
+  pub taken : part * slice_index r.strides k ≤ turn.base
+  pub few : long < 2 ^ 32
+  pub inside : turn.base < long
+  pub there : (e b : ℕ) → IsIn e turn.envs.now → IsIn b states → turn.base - part * slice_index r.strides k + i + e * r.env_rows + b * slice_index r.strides k < long
+
+module _ (s : Sys) (r : Rows) (y a : ℕ) (first : Row) (turn : Turn) (h : Known s (y * band_in s) first) (laid : AreRowsOf (sizes_of s) r) (ok : IsTurn s first a turn) where
+  here : (i : ℕ) → i < band_in s → InBand s y i first
+  here i l = in_band s y i first h.sizes h.looked l
+
+  pub known_at : (i : ℕ) → i < band_in s → Known s (y * band_in s + i) (row_in s (y * band_in s + i) first)
+  known_at i l = record { nodes = h.nodes; sys = h.sys; sizes = h.sizes; looked = (here i l).looked }
+
+  pub turned : (i : ℕ) → i < band_in s → IsTurn s (row_in s (y * band_in s + i) first) a (turn_at turn i)
+  turned i l = record { to = ok.to; target = ok.target; base = omega (arith, ok.base, (here i l).part); worlds = ok.worlds; some = ok.some }
+
+  pub before_at : (i k part long : ℕ) (states : List ℕ) → i < band_in s → k < mid_in s → long * lanes_in s ≡ count (sizes_of s) →
+      states ≡ seat_next (slice_get s.seats k) (slice_index first.states k) first.env a → part ≡ slice_index first.states k → BandBefore s r turn k part i long states
+  before_at i k part long states l before room is_states is_part =
+      let u = slice_index r.strides k in
+      let start = rows_before s r (y * band_in s) a k part long first turn states h laid ok (mid_low s k before) room is_states is_part in
+      let same = (here i l).before k before in
+      let all = rows_before s r (y * band_in s + i) a k part long (row_in s (y * band_in s + i) first) (turn_at turn i) states (known_at i l) laid (turned i l) (mid_low s k before) room
+      (is_states ∙ ap (λ b. seat_next (slice_get s.seats k) b first.env a) (sym same)) (is_part ∙ sym same) in
+      record {
+        taken = start.taken;
+        few = start.turn_rows.few;
+        inside = start.turn_rows.inside;
+        there = λ e b m j. omega (arith, start.taken, all.there e b m j);
+      }
+
+  pub serves_band : (i k part base word : ℕ) (states words : List ℕ) (gone : ℕ → Bool) → i < band_in s → k < mid_in s → length words * lanes_in s ≡ count (sizes_of s) →
+      states ≡ seat_next (slice_get s.seats k) (slice_index first.states k) first.env a → part ≡ slice_index first.states k → IsFalse (is_empty states) → AreRows (lanes_in s) (λ q. not (gone q)) words →
+      base ≡ turn.base - part * slice_index r.strides k + i →
+      ((lane : ℕ) → is_on word lane ≡ (is_on r.full lane && not (list_any (λ e. list_any (λ b. not (is_on (slice_index words (base + e * r.env_rows + b * slice_index r.strides k)) lane)) states) turn.envs.now))) →
+      HasLanes (lanes_in s) (y * band_in s + i) (λ p. not (is_beaten (numbered s) gone p a k)) word
+  serves_band i k part base word states words gone l before room is_states is_part some rows is_base told =
+      let u = slice_index r.strides k in
+      let start = rows_before s r (y * band_in s) a k part (length words) first turn states h laid ok (mid_low s k before) room is_states is_part in
+      let same = (here i l).before k before in
+      let begins : base ≡ turn.base + i - part * u = omega (arith, is_base, start.taken) in
+      serves_before s r (y * band_in s + i) a k part word (row_in s (y * band_in s + i) first) (turn_at turn i) states words gone (known_at i l) laid (turned i l) (mid_low s k before) room
+      (is_states ∙ ap (λ b. seat_next (slice_get s.seats k) b first.env a) (sym same)) (is_part ∙ sym same) some rows
+      (λ lane. told lane ∙ ap (λ m. is_on r.full lane && not (list_any (λ e. list_any (λ b. not (is_on (slice_index words (m + e * r.env_rows + b * u)) lane)) states) turn.envs.now)) begins)
+
+  pub beaten_band : (i k : ℕ) (states : List ℕ) (gone : ℕ → Bool) → i < band_in s → k < mid_in s →
+      states ≡ seat_next (slice_get s.seats k) (slice_index first.states k) first.env a → states ≡ [] → HasLanes (lanes_in s) (y * band_in s + i) (λ p. not (is_beaten (numbered s) gone p a k)) 0
+  beaten_band i k states gone l before is_states none =
+      beaten_before s r (y * band_in s + i) a k (row_in s (y * band_in s + i) first) (turn_at turn i) states gone (known_at i l) laid (turned i l) (mid_low s k before)
+      (is_states ∙ ap (λ b. seat_next (slice_get s.seats k) b first.env a) (sym ((here i l).before k before))) none
+
+-- one row more is judged
+pub keeps_more : (s : Sys) (x i good word : ℕ) (test : ℕ → Bool) (old now : List ℕ) → i < length now → Keeps (lanes_in s) x i test old now →
+    ((lane : ℕ) → lane < lanes_in s → is_on good lane ≡ not (test ((x + i) * lanes_in s + lane))) →
+    ((lane : ℕ) → is_on word lane ≡ (is_on (slice_index now i) lane && not (is_on good lane))) → Keeps (lanes_in s) x (i + 1) test old (set now i word)
+keeps_more s x i good word test old now room before served told = record {
+  each = λ j lane l m. elim (cases_eq j i) [
+    | inl e ↦ subst (λ z. is_on (slice_index (set now i word) z) lane ≡ (is_on (slice_index old z) lane && test ((x + z) * lanes_in s + lane))) (sym e)
+        (ap (λ z. is_on z lane) (get_or-set_same now i word 0 room) ∙ (told lane
+        ∙ ap₂ (λ p q. p && q) (ap (λ z. is_on z lane) (before.others i (omega arith))) (ap not (served lane m) ∙ sym (not_not (test ((x + i) * lanes_in s + lane))))))
+    | inr other ↦ ap (λ z. is_on z lane) (get_or-set_other now i j word 0 other) ∙ before.each j lane (omega (arith, l, other)) m
+  ];
+  others = λ j l. get_or-set_other now i j word 0 (omega (arith, l)) ∙ before.others j (omega (arith, l));
+  none = λ j lane off. elim (cases_eq j i) [
+    | inl e ↦ subst (λ z. is_on (slice_index (set now i word) z) lane ≡ false) (sym e)
+        (ap (λ z. is_on z lane) (get_or-set_same now i word 0 room) ∙ (told lane ∙ ap (λ b. b && not (is_on good lane)) (before.none i lane (subst (λ z. is_on (slice_index old z) lane ≡ false) e off))))
+    | inr other ↦ ap (λ z. is_on z lane) (get_or-set_other now i j word 0 other) ∙ before.none j lane off
+  ];
+}
+
+-- a seat that serves nothing
+pub keeps_all : (s : Sys) (x many : ℕ) (test : ℕ → Bool) (now : List ℕ) → ((i : ℕ) → i < many → HasLanes (lanes_in s) (x + i) (λ p. not (test p)) 0) → Keeps (lanes_in s) x many test now now
+keeps_all s x many test now nothing = record {
+  each = λ i lane l m.
+      let on : test ((x + i) * lanes_in s + lane) ≡ true = not_not (test ((x + i) * lanes_in s + lane)) ∙ ap not (sym ((nothing i l).each lane m) ∙ on_zero lane) in
+      sym (ap (λ b. is_on (slice_index now i) lane && b) on ∙ sym (all_pass (is_on (slice_index now i) lane)));
+  others = λ i l. refl;
+  none = λ i lane off. off;
+}
+
+-- a row of a band, for one of the band's own seats
+pub record OwnRow (s : Sys) (r : Rows) (k i part : ℕ) : Type 0 where
+  pub is : part ≡ lane_state_of (row_sizes (sizes_of s)) k i
+  pub taken : part * slice_index r.strides k ≤ i
+  pub state : part < slice_index (sizes_of s).seats k
+  pub there : (b : ℕ) → b < slice_index (sizes_of s).seats k → i - part * slice_index r.strides k + b * slice_index r.strides k < band_in s
+
+-- what is known of one of a band's own seats
+pub record OwnSeat (s : Sys) (r : Rows) (k : ℕ) : Type 0 where
+  pub stride : slice_index r.strides k ≡ stride_of (row_sizes (sizes_of s)) k
+  pub size : slice_index r.sizes k ≡ slice_index (row_sizes (sizes_of s)).seats k
+  pub same : slice_index (row_sizes (sizes_of s)).seats k ≡ slice_index (sizes_of s).seats k
+  pub stride_some : 0 < slice_index r.strides k
+  pub size_some : 0 < slice_index r.sizes k
+
+pub own_seat : (s : Sys) (r : Rows) (k : ℕ) → IsSizes (sizes_of s) → AreRowsOf (sizes_of s) r → k < low_in s → OwnSeat s r k
+own_seat s r k sizes laid low =
+    let n = sizes_of s in
+    let m = row_sizes n in
+    let msizes = IsSizes-rows n sizes in
+    let seat : k < length n.seats = omega (arith, low, low_of-le n.seats) in
+    let stride : slice_index r.strides k ≡ stride_of m k =
+    factor (slice_index r.strides k) (stride_of m k) (lanes_in s) (lanes_positive n.seats sizes.seats) (laid.before k low ∙ sym (row_stride_of n k low)) in
+    let same : slice_index m.seats k ≡ slice_index n.seats k = row_size n k low in
+    let size : slice_index r.sizes k ≡ slice_index m.seats k = laid.sizes k seat ∙ sym same in
+    record {
+      stride = stride;
+      size = size;
+      same = same;
+      stride_some = subst (λ u. 0 < u) (sym stride) (stride_positive m k msizes);
+      size_some = subst (λ u. 0 < u) (sym (laid.sizes k seat)) (AreSizes-index n.seats k sizes.seats seat).0;
+    }
+
+pub own_row : (s : Sys) (r : Rows) (k i part : ℕ) → IsSizes (sizes_of s) → AreRowsOf (sizes_of s) r → mid_in s ≤ k → k < low_in s → i < band_in s → part ≡ i / slice_index r.strides k % slice_index r.sizes k → OwnRow s r k i part
+own_row s r k i part sizes laid within low l is_part =
+    let n = sizes_of s in
+    let m = row_sizes n in
+    let msizes = IsSizes-rows n sizes in
+    let own = own_seat s r k sizes laid low in
+    let is : part ≡ lane_state_of m k i = is_part ∙ ap₂ (λ u z. i / u % z) own.stride own.size in
+    let at = lane_state m k i msizes within (omega (arith, low, length_rows n)) l in
+    let moved : part * slice_index r.strides k ≡ lane_state_of m k i * stride_of m k = ap₂ (λ u z. u * z) is own.stride in
+    let taken : part * slice_index r.strides k ≤ i = omega (arith, moved, at.taken) in
+    let below : i / slice_index r.strides k % slice_index r.sizes k < slice_index r.sizes k = mod_below (i / slice_index r.strides k) (slice_index r.sizes k) own.size_some in
+    record {
+      is = is;
+      taken = taken;
+      state = omega (arith, is_part, below, own.size, own.same);
+      there = λ b less.
+          let to = at.moves b (omega (arith, less, own.same)) in
+          let step : b * slice_index r.strides k ≡ b * stride_of m k = ap (λ u. b * u) own.stride in
+          omega (arith, to, step, moved, taken);
+    }
+
+-- a band is so many blocks of all states of one of its own seats
+pub record OwnBlocks (s : Sys) (r : Rows) (k : ℕ) : Type 0 where
+  pub some : 0 < slice_index r.sizes k * slice_index r.strides k
+  pub few : slice_index r.sizes k * slice_index r.strides k ≤ 64
+  pub whole : band_in s / (slice_index r.sizes k * slice_index r.strides k) * (slice_index r.sizes k * slice_index r.strides k) ≡ band_in s
+
+pub own_blocks : (s : Sys) (r : Rows) (k : ℕ) → IsSizes (sizes_of s) → AreRowsOf (sizes_of s) r → mid_in s ≤ k → k < low_in s → OwnBlocks s r k
+own_blocks s r k sizes laid within low =
+    let n = sizes_of s in
+    let m = row_sizes n in
+    let own = own_seat s r k sizes laid low in
+    let step = slice_index r.sizes k * slice_index r.strides k in
+    let (many, e) = lanes_parts m k within (omega (arith, low, length_rows n)) in
+    let same : step ≡ slice_index m.seats k * stride_of m k = ap₂ (λ z u. z * u) own.size own.stride in
+    let times : many * step ≡ many * (slice_index m.seats k * stride_of m k) = ap (λ z. many * z) same in
+    let is : band_in s ≡ many * step = e ∙ (omega arith ∙ sym times) in
+    let pos : 1 * 1 ≤ slice_index r.sizes k * slice_index r.strides k = mul-le 1 1 (slice_index r.sizes k) (slice_index r.strides k) own.size_some own.stride_some in
+    let all : 0 < many = positive_of many step (band_in s) (sym is) (first_in s sizes) in
+    let most : 1 * step ≤ many * step = mul-le 1 step many step all (omega arith) in
+    record { some = omega (arith, pos); few = omega (arith, most, is, lanes_few m.seats); whole = exact (band_in s) many step (omega (arith, pos)) is }
+
+pub state_few : (s : Sys) (k i : ℕ) → IsSizes (sizes_of s) → k < low_in s → lane_state_of (row_sizes (sizes_of s)) k i < slice_index (row_sizes (sizes_of s)).seats k
+state_few s k i sizes low =
+    let m = row_sizes (sizes_of s) in
+    mod_below (i / stride_of m k) (slice_index m.seats k) (AreSizes-index m.seats k (IsSizes-rows (sizes_of s) sizes).seats (omega (arith, low, length_rows (sizes_of s)))).0
+
+-- the states to which a seat goes are its own
+pub next_few : (s : Sys) (k b e a c : ℕ) → IsSys s → IsIn c (seat_next (slice_get s.seats k) b e a) → c < slice_index (sizes_of s).seats k
+next_few s k b e a c sys i =
+    let (y, seated, ready, moves) = from_seat_next (slice_get s.seats k) b e a c i in
+    subst (λ m. c < m) (sym (size_of_seat s.seats k y seated)) (move_in_range s.env y.beh b e a c (sys.seats y (seat_in s.seats k y seated)) moves).3
+
+module _ (s : Sys) (r : Rows) (y a : ℕ) (first : Row) (turn : Turn) (h : Known s (y * band_in s) first) (laid : AreRowsOf (sizes_of s) r) (ok : IsTurn s first a turn) where
+  -- one of a band's own seats
+  pub beaten_own : (i k part : ℕ) (states : List ℕ) (gone : ℕ → Bool) → i < band_in s → mid_in s ≤ k → k < low_in s → OwnRow s r k i part →
+      states ≡ seat_next (slice_get s.seats k) part first.env a → states ≡ [] → HasLanes (lanes_in s) (y * band_in s + i) (λ p. not (is_beaten (numbered s) gone p a k)) 0
+  beaten_own i k part states gone l within low own is_states none =
+      beaten_before s r (y * band_in s + i) a k (row_in s (y * band_in s + i) first) (turn_at turn i) states gone (known_at s r y a first turn h laid ok i l) laid (turned s r y a first turn h laid ok i l) low
+      (is_states ∙ ap (λ b. seat_next (slice_get s.seats k) b first.env a) (own.is ∙ sym ((in_band s y i first h.sizes h.looked l).within k within low))) none
+
+  pub own_served : (i k part lane : ℕ) (states alive : List ℕ) (gone : ℕ → Bool) → i < band_in s → mid_in s ≤ k → k < low_in s → OwnRow s r k i part →
+      states ≡ seat_next (slice_get s.seats k) part first.env a → IsFalse (is_empty states) → AllAlive s gone turn alive → lane < lanes_in s →
+      (is_on r.full lane && not (list_any (λ b. not (is_on (slice_index alive (i - part * slice_index r.strides k + b * slice_index r.strides k)) lane)) states)) ≡ not (is_beaten (numbered s) gone ((y * band_in s + i) * lanes_in s + lane) a k)
+  unfolding turned
+  own_served i k part lane states alive gone l within low own is_states some living m =
+      let n = sizes_of s in
+      let w = lanes_in s in
+      let u = slice_index r.strides k in
+      let R = env_rows_of n in
+      let x = y * band_in s + i in
+      let row = row_in s x first in
+      let there = turned s r y a first turn h laid ok i l in
+      let is : part ≡ slice_index row.states k = own.is ∙ sym ((in_band s y i first h.sizes h.looked l).within k within low) in
+      let base = turn.base + i - part * u in
+      let to = λ (lane e b : ℕ). (base + e * R + b * u) * w + lane in
+      let leads = λ (lane : ℕ) (m : lane < w).
+      leads_before s row x lane a k ok.to base u turn.envs.now states h.sys (known_at s r y a first turn h laid ok i l).looked m low (laid.before k low) ok.target ok.worlds
+      (is_states ∙ ap (λ b. seat_next (slice_get s.seats k) b first.env a) is) (ap₂ (λ m d. m - d * u) there.base is) in
+      let one : (lane : ℕ) → lane < w → (b : ℕ) → IsIn b states → not (is_on (slice_index alive (i - part * u + b * u)) lane) ≡ list_any (λ e. gone (to lane e b)) turn.envs.now = λ lane m b j.
+      let inside : i - part * u + b * u < band_in s = own.there b (next_few s k part first.env a b h.sys (subst (λ bs. IsIn b bs) is_states j)) in
+      let dead : is_on (slice_index alive (i - part * u + b * u)) lane ≡ not (list_any (λ e. gone ((turn.base + (i - part * u + b * u) + e * R) * w + lane)) turn.envs.now) =
+      (living.each (i - part * u + b * u) inside).each lane m in
+      ap not dead ∙ (sym (not_not (list_any (λ e. gone ((turn.base + (i - part * u + b * u) + e * R) * w + lane)) turn.envs.now))
+      ∙ any_same (λ e. gone ((turn.base + (i - part * u + b * u) + e * R) * w + lane)) (λ e. gone (to lane e b)) turn.envs.now
+      (λ e v. let place : turn.base + (i - part * u + b * u) + e * R ≡ base + e * R + b * u = omega (arith, own.taken) in ap (λ z. gone (z * w + lane)) place)) in
+      ap (λ b. b && not (list_any (λ b. not (is_on (slice_index alive (i - part * u + b * u)) lane)) states)) (full_on n r lane laid m)
+      ∙ (ap not (any_same (λ b. not (is_on (slice_index alive (i - part * u + b * u)) lane)) (λ b. list_any (λ e. gone (to lane e b)) turn.envs.now) states (λ b j. one lane m b j)
+      ∙ any_turned (λ b e. gone (to lane e b)) states turn.envs.now)
+      ∙ leads_served (numbered s) gone (x * w + lane) a k turn.envs.now states (to lane) (λ e b. gone (to lane e b)) (leads lane m) ok.some some (λ e b v j. refl))
+
+-- what is left stays left
+pub keeps_then : (s : Sys) (x many : ℕ) (p q : ℕ → Bool) (old now new : List ℕ) → Keeps (lanes_in s) x many p old now → Keeps (lanes_in s) x many q now new → Keeps (lanes_in s) x many (λ i. p i && q i) old new
+keeps_then s x many p q old now new first then = record {
+  each = λ i lane l m.
+      let at = (x + i) * lanes_in s + lane in
+      then.each i lane l m ∙ (ap (λ b. b && q at) (first.each i lane l m) ∙ and_assoc (is_on (slice_index old i) lane) (p at) (q at));
+  others = λ i l. then.others i l ∙ first.others i l;
+  none = λ i lane off. then.none i lane (first.none i lane off);
+}
+
+-- another test that says the same of the pairs
+pub keeps_same : (s : Sys) (x many : ℕ) (p q : ℕ → Bool) (old new : List ℕ) → ((i lane : ℕ) → i < many → lane < lanes_in s → p ((x + i) * lanes_in s + lane) ≡ q ((x + i) * lanes_in s + lane)) → Keeps (lanes_in s) x many p old new → Keeps (lanes_in s) x many q old new
+keeps_same s x many p q old new same h = record {
+  each = λ i lane l m. h.each i lane l m ∙ ap (λ b. is_on (slice_index old i) lane && b) (same i lane l m);
+  others = h.others;
+  none = h.none;
+}
+
+-- where nothing is left further tests change nothing
+pub keeps_cut : (s : Sys) (x many k n : ℕ) (p : ℕ → ℕ → Bool) (old now : List ℕ) → k ≤ n → ((i : ℕ) → i < many → slice_index now i ≡ 0) → Keeps (lanes_in s) x many (λ q. all_below (p q) k) old now → Keeps (lanes_in s) x many (λ q. all_below (p q) n) old now
+keeps_cut s x many k n p old now l clear h = record {
+  each = λ i lane m v.
+      let at = (x + i) * lanes_in s + lane in
+      let off : is_on (slice_index now i) lane ≡ false = ap (λ z. is_on z lane) (clear i m) ∙ on_zero lane in
+      off ∙ sym (cut_off (p at) k n (is_on (slice_index old i) lane) l (sym (h.each i lane m v) ∙ off));
+  others = h.others;
+  none = h.none;
+}
+
+-- a band of one row
+pub keeps_one : (s : Sys) (x word : ℕ) (test : ℕ → Bool) (old : List ℕ) → length old ≡ 1 →
+    ((lane : ℕ) → lane < lanes_in s → is_on word lane ≡ (is_on (slice_index old 0) lane && test (x * lanes_in s + lane))) →
+    ((lane : ℕ) → is_on (slice_index old 0) lane ≡ false → is_on word lane ≡ false) → Keeps (lanes_in s) x 1 test old (set old 0 word)
+keeps_one s x word test old one told off = record {
+  each = λ i lane l m.
+      let first : 0 ≡ i = omega (arith, l) in
+      let same : x ≡ x + 0 = omega arith in
+      subst (λ j. is_on (slice_index (set old 0 word) j) lane ≡ (is_on (slice_index old j) lane && test ((x + j) * lanes_in s + lane))) first
+      (ap (λ z. is_on z lane) (get_or-set_same old 0 word 0 (omega (arith, one))) ∙ (told lane m ∙ ap (λ z. is_on (slice_index old 0) lane && test (z * lanes_in s + lane)) same));
+  others = λ i l. get_or-set_other old 0 i word 0 (omega (arith, l));
+  none = λ i lane o. elim (cases_eq i 0) [
+    | inl e ↦ subst (λ j. is_on (slice_index (set old 0 word) j) lane ≡ false) (sym e)
+        (ap (λ z. is_on z lane) (get_or-set_same old 0 word 0 (omega (arith, one))) ∙ off lane (subst (λ j. is_on (slice_index old j) lane ≡ false) e o))
+    | inr other ↦ ap (λ z. is_on z lane) (get_or-set_other old 0 i word 0 other) ∙ o
+  ];
+}
+
+-- a word of nothing for each row
+pub keeps_nothing : (s : Sys) (x many : ℕ) (p : ℕ → Bool) (old now : List ℕ) → length old ≤ many → length now ≡ length old → ((i : ℕ) → i < length old → slice_index now i ≡ 0) →
+    ((i lane : ℕ) → i < many → lane < lanes_in s → false ≡ p ((x + i) * lanes_in s + lane)) → Keeps (lanes_in s) x many p old now
+keeps_nothing s x many p old now few long clear off = record {
+  each = λ i lane l m. ap (λ z. is_on z lane) (all i) ∙ (on_zero lane ∙ and_nothing (is_on (slice_index old i) lane) (p ((x + i) * lanes_in s + lane)) (off i lane l m));
+  others = λ i l. all i ∙ sym (get_or_past old i 0 (omega arith));
+  none = λ i lane o. ap (λ z. is_on z lane) (all i) ∙ on_zero lane;
+}
+  where
+    all : (i : ℕ) → slice_index now i ≡ 0
+    all i = elim (cases_lt i (length old)) [
+      | inl less ↦ clear i less
+      | inr past ↦ get_or_past now i 0 (omega (arith, long, past))
+    ]
+
+-- one seat more is judged
+pub keeps_seat : (s : Sys) (x many k : ℕ) (p : ℕ → ℕ → Bool) (old now new : List ℕ) → Keeps (lanes_in s) x many (λ q. all_below (p q) k) old now → Keeps (lanes_in s) x many (λ q. p q k) now new → Keeps (lanes_in s) x many (λ q. all_below (p q) (k + 1)) old new
+keeps_seat s x many k p old now new before here =
+    let next : suc k ≡ k + 1 = omega arith in
+    subst (λ m. Keeps (lanes_in s) x many (λ q. all_below (p q) m) old new) next (keeps_then s x many (λ q. all_below (p q) k) (λ q. p q k) old now new before here)
+
+-- a band's own seats and those before them are some of the seats
+pub mid_few : (s : Sys) → mid_in s ≤ length s.seats
+mid_few s =
+    let n = sizes_of s in
+    omega (arith, low_of-le (row_sizes n).seats, length_rows n, low_of-le n.seats, length-map s.seats (λ (y : Seat). y.beh.states))
+
+-- all rows are judged at once
+pub keeps_clear : (s : Sys) (x many : ℕ) (test : ℕ → Bool) (old new good : List ℕ) → length old ≡ many → length new ≡ length old → ((i : ℕ) → i < many → HasLanes (lanes_in s) (x + i) (λ p. not (test p)) (slice_index good i)) →
+    ((i lane : ℕ) → i < length old → is_on (slice_index new i) lane ≡ (is_on (slice_index old i) lane && not (is_on (slice_index good i) lane))) → Keeps (lanes_in s) x many test old new
+keeps_clear s x many test old new good few long served told = record {
+  each = λ i lane l m. told i lane (omega (arith, l, few)) ∙ ap (λ b. is_on (slice_index old i) lane && b) (ap not ((served i l).each lane m) ∙ sym (not_not (test ((x + i) * lanes_in s + lane))));
+  others = λ i l. get_or_past new i 0 (omega (arith, l, few, long)) ∙ sym (get_or_past old i 0 (omega (arith, l, few)));
+  none = λ i lane off. elim (cases_lt i (length old)) [
+    | inl less ↦ told i lane less ∙ ap (λ b. b && not (is_on (slice_index good i) lane)) off
+    | inr past ↦ ap (λ z. is_on z lane) (get_or_past new i 0 (omega (arith, past, long))) ∙ on_zero lane
+  ];
+}
+
+-- the rows of one state more
+pub where_more : (s : Sys) (x b : ℕ) (digit : ℕ → ℕ) (test : ℕ → Bool) (old now new : List ℕ) → KeepsWhere s x (λ i. digit i < b) test old now → KeepsWhere s x (λ i. digit i ≡ b) test now new → KeepsWhere s x (λ i. digit i < b + 1) test old new
+where_more s x b digit test old now new before here = record {
+  each = λ i lane l m less. elim (cases_lt (digit i) b) [
+    | inl low ↦ ap (λ z. is_on z lane) (here.others i (λ e. let none : ⊥ = omega (arith, low, e) in none)) ∙ before.each i lane l m low
+    | inr past ↦ here.each i lane l m (omega (arith, less, past)) ∙ ap (λ z. is_on z lane && test ((x + i) * lanes_in s + lane)) (before.others i (λ low. let none : ⊥ = omega (arith, low, past) in none))
+  ];
+  others = λ i other. here.others i (λ e. other (omega (arith, e))) ∙ before.others i (λ low. other (omega (arith, low)));
+  none = λ i lane off. here.none i lane (before.none i lane off);
+}
+
+-- the rows of all states
+pub where_all : (s : Sys) (x : ℕ) (meant : ℕ → Type 0) (test : ℕ → Bool) (old new : List ℕ) → length old ≡ band_in s → length new ≡ length old → ((i : ℕ) → i < band_in s → meant i) → KeepsWhere s x meant test old new → Keeps (lanes_in s) x (band_in s) test old new
+where_all s x meant test old new few long all h = record {
+  each = λ i lane l m. h.each i lane l m (all i l);
+  others = λ i l. get_or_past new i 0 (omega (arith, l, few, long)) ∙ sym (get_or_past old i 0 (omega (arith, l, few)));
+  none = h.none;
+}

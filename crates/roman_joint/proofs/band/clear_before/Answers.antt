@@ -1,0 +1,102 @@
+use Rattle.std.proofs.Common.{ℕ, ◌+◌, ◌-◌, ◌*◌, ◌<◌, not, ◌&&◌, get_or, length, slice_index, IsFalse, refl, sym, ap, ◌∙◌, arith}
+use Rattle.std.specs.List.{list_any}
+use Rattle.roman_lanes.specs.Rows.{is_on}
+use Rattle.roman_model.specs.Arena.{is_beaten}
+use Rattle.roman_model.specs.Numbers.{numbered}
+use Rattle.roman_model.specs.Lists.{is_empty}
+use Rattle.roman_model.proofs.CallerLemmas.{not_empty_in, empty_is}
+use Rattle.roman_joint.specs.NamedSys.{system_of}
+use Rattle.roman_joint.specs.Bands.{band_in}
+use Rattle.roman_joint.proofs.Finds.{in_at}
+use Rattle.roman_joint.proofs.SeatLemmas.{len_empty}
+use Rattle.roman_joint.proofs.SplitLemmas.{joint_sizes}
+use Rattle.roman_joint.proofs.GoodLemmas.{low_few, known}
+use Rattle.roman_joint.proofs.BandLemmas.{mid_low, first_in, BandBefore, before_at, serves_band, beaten_band, keeps_clear, keeps_all}
+use Rattle.roman_joint.proofs.band.clear_before.Goals as goal
+use Rattle.roman_joint.proofs.band.clear_before.Goals.{After-from}
+
+pub bounds-row-k : goal.bounds-row-k
+bounds-row-k c = (low_few c.args.joint.now c.args.k c.layout-rows.ensures.known (mid_low (system_of c.args.joint.now) c.args.k c.requires.seat)).0
+
+pub next_states-states-requires-clause-seat : goal.next_states-states-requires-clause-seat
+next_states-states-requires-clause-seat c = (low_few c.args.joint.now c.args.k c.layout-rows.ensures.known (mid_low (system_of c.args.joint.now) c.args.k c.requires.seat)).1
+
+pub next_states-states-requires-clause-state : goal.next_states-states-requires-clause-state
+next_states-states-requires-clause-state c = c.requires.row.1.state_range c.args.k (mid_low (system_of c.args.joint.now) c.args.k c.requires.seat)
+
+pub next_states-states-requires-clause-env : goal.next_states-states-requires-clause-env
+next_states-states-requires-clause-env c = c.requires.row.1.env_range
+
+pub bounds-rows-k : goal.bounds-rows-k
+bounds-rows-k c = (low_few c.args.joint.now c.args.k c.layout-rows.ensures.known (mid_low (system_of c.args.joint.now) c.args.k c.requires.seat)).0
+
+-- the rows to which the seat goes from a row of the band
+rows_to : (c : After-from) (i : ℕ) → i < band_in (system_of c.args.joint.now) →
+    BandBefore (system_of c.args.joint.now) c.layout-rows.result.now c.args.turn.now c.args.k c.from.result i (length c.args.words.now) c.next_states-states.result.now
+rows_to c i l =
+    let n = c.args.joint.now in
+    let (y, ok) = c.requires.row in
+    before_at (system_of n) c.layout-rows.result.now y c.args.a c.args.row.now c.args.turn.now (known n (y * band_in (system_of n)) c.args.row.now c.layout-rows.ensures.known ok) c.layout-rows.ensures.rows c.requires.turn
+    i c.args.k c.from.result (length c.args.words.now) c.next_states-states.result.now l c.requires.seat c.requires.room c.next_states-states.ensures.next c.from.ensures
+
+-- a band has a row
+some_row : (c : After-from) → 0 < band_in (system_of c.args.joint.now)
+some_row c = first_in (system_of c.args.joint.now) (joint_sizes c.args.joint.now c.layout-rows.ensures.known)
+
+pub overflow_mul-base : goal.overflow_mul-base
+overflow_mul-base c = let at = (goal.at.overflow_mul-base c).After-from in let to = rows_to at 0 (some_row at) in omega (arith, to.taken, to.inside, to.few)
+
+pub overflow_sub-base : goal.overflow_sub-base
+overflow_sub-base c = let at = (goal.at.overflow_sub-base c).After-from in (rows_to at 0 (some_row at)).taken
+
+pub all_alive_each-requires-clause-envs : goal.all_alive_each-requires-clause-envs
+all_alive_each-requires-clause-envs c i d l =
+    let at = (goal.at.all_alive_each-requires-clause-envs c).After-from in
+    let to = rows_to at 0 (some_row at) in
+    let states = c.next_states-states.result.now in
+    let (b, j) = not_empty_in states (sym (len_empty states) ∙ (sym c.is_empty.ensures ∙ c.if-is_empty.false)) in
+    omega (arith, to.there (get_or c.args.turn.now.envs.now i d) b (in_at c.args.turn.now.envs.now i d l) j, to.few)
+
+pub all_alive_each-requires-clause-within : goal.all_alive_each-requires-clause-within
+all_alive_each-requires-clause-within c i d l j e m =
+    let at = (goal.at.all_alive_each-requires-clause-within c).After-from in
+    let states = c.next_states-states.result.now in
+    let some = some_row at in
+    let last = band_in (system_of c.args.joint.now) - 1 in
+    omega (arith, c.requires.long, some, (rows_to at last (omega (arith, some))).there (get_or c.args.turn.now.envs.now i d) (get_or states j e) (in_at c.args.turn.now.envs.now i d l) (in_at states j e m))
+
+pub all_alive_each-requires-clause-fits : goal.all_alive_each-requires-clause-fits
+all_alive_each-requires-clause-fits c i d l j e m =
+    let at = (goal.at.all_alive_each-requires-clause-fits c).After-from in
+    let states = c.next_states-states.result.now in
+    let to = rows_to at 0 (some_row at) in
+    omega (arith, to.there (get_or c.args.turn.now.envs.now i d) (get_or states j e) (in_at c.args.turn.now.envs.now i d l) (in_at states j e m), to.few)
+
+pub returns-then-is_empty-clause-left : goal.returns-then-is_empty-clause-left
+returns-then-is_empty-clause-left c y gone ok rows =
+    let n = c.args.joint.now in
+    let s = system_of n in
+    let states = c.next_states-states.result.now in
+    let h = known n (y * band_in s) c.args.row.now c.layout-rows.ensures.known ok in
+    keeps_all s (y * band_in s) (band_in s) (λ p. is_beaten (numbered s) gone p c.args.a c.args.k) c.args.left.now
+    (λ i l. beaten_band s c.layout-rows.result.now y c.args.a c.args.row.now c.args.turn.now h c.layout-rows.ensures.rows c.requires.turn i c.args.k states gone l c.requires.seat c.next_states-states.ensures.next
+    (empty_is states (sym (len_empty states) ∙ (sym c.is_empty.ensures ∙ c.if-is_empty.true))))
+
+pub returns-clause-left : goal.returns-clause-left
+returns-clause-left c y gone ok rows =
+    let n = c.args.joint.now in
+    let s = system_of n in
+    let r = c.layout-rows.result.now in
+    let u = slice_index r.strides c.args.k in
+    let states = c.next_states-states.result.now in
+    let h = known n (y * band_in s) c.args.row.now c.layout-rows.ensures.known ok in
+    let some : IsFalse (is_empty states) = sym (len_empty states) ∙ (sym c.is_empty.ensures ∙ c.if-is_empty.false) in
+    keeps_clear s (y * band_in s) (band_in s) (λ p. is_beaten (numbered s) gone p c.args.a c.args.k) c.args.left.now c.clear_good.new.left c.all_alive_each.new.all c.requires.long c.clear_good.ensures.long
+    (λ i l. serves_band s r y c.args.a c.args.row.now c.args.turn.now h c.layout-rows.ensures.rows c.requires.turn i c.args.k c.from.result (c.args.turn.now.base - c.from.result * u + i) (slice_index c.all_alive_each.new.all i)
+    states c.args.words.now gone l c.requires.seat c.requires.room c.next_states-states.ensures.next c.from.ensures some rows refl
+    (λ lane.
+    let many : i < length c.args.left.now = omega (arith, l, c.requires.long) in
+    c.all_alive_each.ensures.each i lane many
+    ∙ ap (λ z. is_on z lane && not (list_any (λ e. list_any (λ b. not (is_on (slice_index c.args.words.now (c.args.turn.now.base - c.from.result * u + i + e * r.env_rows + b * u)) lane)) states) c.args.turn.now.envs.now))
+    (c.set_first.ensures.each i many)))
+    c.clear_good.ensures.each

@@ -1,0 +1,25 @@
+use Rattle.std.proofs.Common.{◌≡◌, ℕ, ◌*◌, Bool, not, length}
+use Rattle.roman_model.specs.Lists.{all_below}
+use Rattle.roman_model.specs.Arena.{is_beaten}
+use Rattle.roman_model.specs.Numbers.{numbered}
+use Rattle.roman_lanes.specs.Rows.{AreRows, Keeps}
+use Rattle.roman_joint.specs.NamedSys.{system_of}
+use Rattle.roman_joint.specs.Rows.{lanes_in, IsRow}
+use Rattle.roman_joint.specs.Bands.{band_in}
+use Rattle.roman_joint.proofs.band.clear_served.Given as goal
+
+-- those that no seat so far serves
+abbrev pub invariant-loop-k : goal.invariant-loop-k
+invariant-loop-k l = record {
+  wide : length l.alive ≡ 64;
+  long : length l.left ≡ length l.fn.left;
+  left : (y : ℕ) (gone : ℕ → Bool) → IsRow (system_of l.joint) (y * band_in (system_of l.joint)) l.row → AreRows (lanes_in (system_of l.joint)) (λ q. not (gone q)) l.words →
+      Keeps (lanes_in (system_of l.joint)) (y * band_in (system_of l.joint)) (band_in (system_of l.joint)) (λ p. all_below (is_beaten (numbered (system_of l.joint)) gone p l.a) l.k) l.fn.left l.left;
+}
+
+abbrev pub invariant-loop-seat : goal.invariant-loop-seat
+invariant-loop-seat l = record {
+  long : length l.left ≡ length l.fn.left;
+  left : (y : ℕ) (gone : ℕ → Bool) → IsRow (system_of l.joint) (y * band_in (system_of l.joint)) l.row → AreRows (lanes_in (system_of l.joint)) (λ q. not (gone q)) l.words →
+      Keeps (lanes_in (system_of l.joint)) (y * band_in (system_of l.joint)) (band_in (system_of l.joint)) (λ p. all_below (is_beaten (numbered (system_of l.joint)) gone p l.a) l.seat) l.fn.left l.left;
+}

@@ -1,0 +1,19 @@
+use Rattle.std.proofs.Common.{◌≡◌, ℕ, ◌+◌, ◌*◌, ◌≤◌, Bool, not, sum_by}
+use Rattle.roman_model.specs.Lists.{below}
+use Rattle.roman_model.specs.Numbers.{numbered}
+use Rattle.roman_lanes.specs.Rows.{AreRows}
+use Rattle.roman_rules.proofs.CallerLemmas.{served_by}
+use Rattle.roman_joint.specs.NamedSys.{system_of}
+use Rattle.roman_joint.specs.Rows.{lanes_in, IsRow}
+use Rattle.roman_joint.specs.Bands.{band_in, AllAlive}
+use Rattle.roman_joint.proofs.band.served_by.Given as goal
+
+-- the pairs of the rows so far at which the seat serves are counted
+abbrev pub invariant-loop-i : goal.invariant-loop-i
+invariant-loop-i l =
+    let s = system_of l.joint in
+    record {
+      counted : (y : ℕ) (gone : ℕ → Bool) → IsRow s (y * band_in s) l.row → AreRows (lanes_in s) (λ q. not (gone q)) l.words → AllAlive s gone l.turn l.alive →
+          l.count ≡ sum_by (λ i. served_by (numbered s) gone (lanes_in s) (y * band_in s + i) l.a l.k) (below l.i);
+      bound : l.count ≤ 64 * l.i;
+    }

@@ -1,0 +1,38 @@
+use Rattle.std.proofs.Common.{◌≡◌, ℕ, ◌+◌, ◌*◌, true, false, ◌&&◌, add-one, length, slice_get, slice_index, sym, ap, ap₂, ◌∙◌, arith}
+use Rattle.std.proofs.lemmas.List.{length-map}
+use Rattle.roman_model.specs.Lists.{all_below}
+use Rattle.roman_model.specs.Numbers.{sizes_of, pair_at}
+use Rattle.roman_lanes.specs.Rows.{is_on}
+use Rattle.roman_lanes.proofs.CallerLemmas.{on_zero, on_and}
+use Rattle.roman_joint.specs.NamedSys.{system_of, seat_of}
+use Rattle.roman_joint.specs.Rows.{lanes_in, may_rest}
+use Rattle.roman_joint.specs.Bands.{band_in}
+use Rattle.roman_joint.proofs.GoodLemmas.{full_on}
+use Rattle.roman_joint.proofs.AllowedLemmas.{cut_off}
+use Rattle.roman_joint.proofs.fine.all_rest_in.Goals as goal
+
+pub loop-k-init : goal.loop-k-init
+loop-k-init c y lane ok l = full_on (sizes_of (system_of c.args.joint.now)) c.layout.result.now lane c.layout.ensures.rows l
+
+pub loop-k-preserved : goal.loop-k-preserved
+loop-k-preserved c y lane ok l =
+    let s = system_of c.args.joint.now in
+    let p = λ (k : ℕ). may_rest (slice_get s.seats k) (slice_index (pair_at (sizes_of s) ((y * band_in s + c.args.i) * lanes_in s + lane)).bs k) in
+    on_and c.loop-k.rests c.rests_in-rests.result lane
+    ∙ (ap₂ (λ a b. a && b) (c.loop-k.invariant y lane ok l) (c.rests_in-rests.ensures y lane ok l) ∙ ap (all_below p) (sym (add-one c.loop-k.k)))
+
+pub returns-then-rests-eq0 : goal.returns-then-rests-eq0
+returns-then-rests-eq0 c y lane ok l =
+    let n = c.args.joint.now in
+    let s = system_of n in
+    let p = λ (k : ℕ). may_rest (slice_get s.seats k) (slice_index (pair_at (sizes_of s) ((y * band_in s + c.args.i) * lanes_in s + lane)).bs k) in
+    on_zero lane
+    ∙ sym (cut_off p c.loop-k.k (length s.seats) true (omega (arith, length-map n.seats (seat_of n.catalogue))) (sym (c.loop-k.invariant y lane ok l) ∙ (ap (λ w. is_on w lane) c.if-rests-eq0.true ∙ on_zero lane)))
+
+pub returns : goal.returns
+returns c y lane ok l =
+    let n = c.args.joint.now in
+    let s = system_of n in
+    let p = λ (k : ℕ). may_rest (slice_get s.seats k) (slice_index (pair_at (sizes_of s) ((y * band_in s + c.args.i) * lanes_in s + lane)).bs k) in
+    let end : c.loop-k.k ≡ length s.seats = omega (arith, length-map n.seats (seat_of n.catalogue)) in
+    c.loop-k.invariant y lane ok l ∙ ap (all_below p) end

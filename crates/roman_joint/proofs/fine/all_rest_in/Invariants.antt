@@ -1,0 +1,15 @@
+use Rattle.std.proofs.Common.{◌≡◌, ℕ, ◌+◌, ◌*◌, ◌<◌, slice_get, slice_index}
+use Rattle.roman_model.specs.Lists.{all_below}
+use Rattle.roman_model.specs.Numbers.{sizes_of, pair_at}
+use Rattle.roman_lanes.specs.Rows.{is_on}
+use Rattle.roman_joint.specs.NamedSys.{system_of}
+use Rattle.roman_joint.specs.Rows.{lanes_in, IsRow, may_rest}
+use Rattle.roman_joint.specs.Bands.{band_in}
+use Rattle.roman_joint.proofs.fine.all_rest_in.Given as goal
+
+-- those at which the seats so far may rest
+abbrev pub invariant-loop-k : goal.invariant-loop-k
+invariant-loop-k l =
+    let s = system_of l.joint in
+    (y lane : ℕ) → IsRow s (y * band_in s) l.row → lane < lanes_in s →
+    is_on l.rests lane ≡ all_below (λ k. may_rest (slice_get s.seats k) (slice_index (pair_at (sizes_of s) ((y * band_in s + l.i) * lanes_in s + lane)).bs k)) l.k

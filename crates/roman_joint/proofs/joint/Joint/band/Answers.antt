@@ -1,0 +1,13 @@
+use Rattle.std.proofs.Common.{arith}
+use Rattle.roman_model.specs.Numbers.{sizes_of}
+use Rattle.roman_radix.specs.Rows.{row_sizes}
+use Rattle.roman_radix.proofs.CallerLemmas.{lanes_few}
+use Rattle.roman_joint.specs.NamedSys.{system_of}
+use Rattle.roman_joint.proofs.SplitLemmas.{joint_sizes}
+use Rattle.roman_joint.proofs.BandLemmas.{first_in}
+use Rattle.roman_joint.proofs.joint.Joint.band.Goals as goal
+
+pub returns-clause-few : goal.returns-clause-few
+returns-clause-few c =
+    let s = system_of c.args.self.now in
+    (omega (arith, c.layout.ensures.rows.band, first_in s (joint_sizes c.args.self.now c.layout.ensures.known)), omega (arith, c.layout.ensures.rows.band, lanes_few (row_sizes (sizes_of s)).seats))

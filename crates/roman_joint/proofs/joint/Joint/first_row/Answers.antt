@@ -1,0 +1,25 @@
+use Rattle.std.proofs.Common.{◌≡◌, ℕ, zero, suc, ◌*◌, ◌<◌, ap, subst, arith}
+use Rattle.roman_joint.specs.NamedSys.{system_of}
+use Rattle.roman_joint.specs.Bands.{band_in}
+use Rattle.roman_joint.specs.Rows.{lanes_in}
+use Rattle.roman_joint.proofs.SplitLemmas.{joint_sizes}
+use Rattle.roman_joint.proofs.GoodLemmas.{width_positive}
+use Rattle.roman_joint.proofs.joint.Joint.first_row.Goals as goal
+
+few : (x w c : ℕ) → 0 < w → x * w < c → x < c
+few x zero c pos l = absurd (omega (arith, pos))
+few x (suc w) c pos l = omega arith
+
+pub overflow_mul-y : goal.overflow_mul-y
+overflow_mul-y c =
+    let n = c.args.self.now in
+    let s = system_of n in
+    let sizes = joint_sizes n c.layout.ensures.known in
+    let same = ap (λ m. c.args.y * m) c.layout.ensures.rows.band in
+    omega (arith, same, few (c.args.y * band_in s) (lanes_in s) _ (width_positive s sizes) c.requires, sizes.counted)
+
+pub row-requires : goal.row-requires
+row-requires c = rw c.layout.ensures.rows.band c.requires
+
+pub returns : goal.returns
+returns c = rw c.layout.ensures.rows.band at c.row.ensures

@@ -1,0 +1,16 @@
+use Rattle.std.proofs.Common.{◌≡◌, ℕ, ◌+◌, ◌*◌, ◌<◌, ◌≤◌, length, not}
+use Rattle.roman_model.specs.Numbers.{numbered}
+use Rattle.roman_lanes.specs.Rows.{Keeps}
+use Rattle.roman_joint.specs.NamedSys.{system_of}
+use Rattle.roman_joint.specs.Rows.{lanes_in, IsRow}
+use Rattle.roman_joint.specs.Bands.{band_in}
+use Rattle.roman_joint.proofs.joint.Joint.unfine_band.Given as goal
+
+-- the rows so far have lost those that meet clause 2
+abbrev pub invariant-loop-i : goal.invariant-loop-i
+invariant-loop-i l =
+    let s = system_of l.self in
+    record {
+      long : length l.left ≡ length l.fn.left;
+      unfine : (y : ℕ) → IsRow s (y * band_in s) l.row → Keeps (lanes_in s) (y * band_in s) l.i (λ p. not ((numbered s).fine p)) l.fn.left l.left;
+    }

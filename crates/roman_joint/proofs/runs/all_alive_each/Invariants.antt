@@ -1,0 +1,13 @@
+use Rattle.std.proofs.Common.{◌≡◌, ℕ, ◌+◌, ◌*◌, ◌<◌, not, ◌&&◌, length, take, slice_index}
+use Rattle.std.specs.List.{list_any}
+use Rattle.roman_lanes.specs.Rows.{is_on}
+use Rattle.roman_joint.proofs.runs.all_alive_each.Given as goal
+
+-- those of the environment's states so far
+abbrev pub invariant-loop-env : goal.invariant-loop-env
+invariant-loop-env l = record {
+  long : length l.all ≡ length l.fn.all;
+  each : (i lane : ℕ) → i < l.many → is_on (slice_index l.all i) lane
+      ≡ (is_on (slice_index l.fn.all i) lane
+      && not (list_any (λ e. list_any (λ b. not (is_on (slice_index l.words (l.base + i + e * l.env_stride + b * l.stride)) lane)) l.states) (take l.env-index l.envs)));
+}

@@ -1,0 +1,55 @@
+use Rattle.std.proofs.Common.{◌≡◌, ◌+◌, ◌-◌, ◌*◌, ◌/◌, ◌%◌, ◌<◌, not, ◌&&◌, slice_index, inl, inr, sym, ap, ap₂, ◌∙◌, arith}
+use Rattle.std.specs.List.{list_any}
+use Rattle.std.proofs.lemmas.Bool.{cases_lt}
+use Rattle.std.proofs.lemmas.Nat.{mod_below}
+use Rattle.roman_lanes.specs.Rows.{is_on}
+use Rattle.roman_joint.proofs.RunLemmas.{state_at, place_of, in_block}
+use Rattle.roman_joint.proofs.runs.clear_state.Goals as goal
+
+pub overflow_mul-step : goal.overflow_mul-step
+overflow_mul-step c = let same : c.from.result * c.args.stride ≡ c.args.size * c.args.stride = ap (λ z. z * c.args.stride) c.from.ensures in omega (arith, same, c.requires.step)
+
+pub overflow_mul-own : goal.overflow_mul-own
+overflow_mul-own c =
+    let same : c.from-2.result * c.args.stride ≡ c.args.b * c.args.stride = ap (λ z. z * c.args.stride) c.from-2.ensures in
+    omega (arith, same, c.requires.step, (in_block 0 1 c.args.size c.args.stride c.args.b (omega arith) c.requires.state).0)
+
+pub loop-block-preserved : goal.loop-block-preserved
+loop-block-preserved c =
+    let block = c.loop-block.block in
+    let b = c.args.b in
+    let size = c.args.size in
+    let stride = c.args.stride in
+    let now = c.loop-block.left in
+    let before = c.loop-block.invariant in
+    let step : block * (c.from.result * stride) ≡ block * (size * stride) = ap (λ z. block * (z * stride)) c.from.ensures in
+    let own : c.from-2.result * stride ≡ b * stride = ap (λ z. z * stride) c.from-2.ensures in
+    let to = block * (c.from.result * stride) + c.from-2.result * stride in
+    let room = (in_block block (block + 1) size stride b (omega arith) c.requires.state).0 in
+    let next : (block + 1) * (size * stride) ≡ block * (size * stride) + size * stride = omega arith in
+    record {
+      long = c.clear_run.ensures.long ∙ before.long;
+      each = λ i lane l is. elim (cases_lt i (block * (size * stride))) [
+        | inl low ↦ ap (λ z. is_on z lane) (c.clear_run.ensures.below i (omega (arith, low, step))) ∙ before.each i lane low is
+        | inr past ↦
+            let place = place_of i block b size stride c.requires.stride (omega (arith, c.requires.state)) is past l in
+            let m : i % stride < stride = mod_below i stride c.requires.stride in
+            let at : to + i % stride ≡ i = omega (arith, place, step, own) in
+            let base : block * (c.from.result * stride) + i % stride ≡ i - b * stride = omega (arith, place, step) in
+            ap (λ z. is_on (slice_index c.clear_run.new.left z) lane) (sym at)
+            ∙ (c.clear_run.ensures.each (i % stride) lane m
+            ∙ ap₂ (λ p q. p && not (is_on c.args.full lane && not q)) (ap (λ z. is_on (slice_index now z) lane) at ∙ ap (λ z. is_on z lane) (before.above i past))
+            (ap (λ z. list_any (λ d. not (is_on (slice_index c.args.alive.now (z + d * stride)) lane)) c.args.states.now) base))
+      ];
+      others = λ i other. elim (cases_lt i to) [
+        | inl low ↦ c.clear_run.ensures.below i low ∙ before.others i other
+        | inr past ↦ elim (cases_lt i (to + stride)) [
+          | inl inside ↦
+              let place : i ≡ block * (size * stride) + b * stride + (i - to) = omega (arith, past, step, own) in
+              absurd (other (ap (λ z. z / stride % size) place ∙ state_at block b size stride (i - to) c.requires.state (omega (arith, past, inside))))
+          | inr high ↦ c.clear_run.ensures.above i high ∙ before.others i other
+        ]
+      ];
+      above = λ i l. c.clear_run.ensures.above i (omega (arith, l, next, room, step, own)) ∙ before.above i (omega (arith, l, next));
+      none = λ i lane off. c.clear_run.ensures.none i lane (before.none i lane off);
+    }

@@ -1,0 +1,12 @@
+use Rattle.std.proofs.Common.{◌≡◌, ℕ, ◌+◌, ◌*◌, ◌<◌, not, ◌&&◌, length, take, slice_index}
+use Rattle.std.specs.List.{list_any}
+use Rattle.roman_lanes.specs.Rows.{is_on}
+use Rattle.roman_joint.proofs.runs.rows_alive_each.Given as goal
+
+-- those of the states so far
+abbrev pub invariant-loop-state : goal.invariant-loop-state
+invariant-loop-state l = record {
+  long : length l.all ≡ length l.fn.all;
+  each : (i lane : ℕ) → i < l.many → is_on (slice_index l.all i) lane
+      ≡ (is_on (slice_index l.fn.all i) lane && not (list_any (λ b. not (is_on (slice_index l.words (l.base + i + b * l.stride)) lane)) (take l.state-index l.states)));
+}

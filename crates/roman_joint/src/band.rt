@@ -1,0 +1,357 @@
+//! Which pairs of a band of rows no service serves.
+ghost use Rattle.std.specs.Prelude.{◌≡◌, ℕ, ◌+◌, ◌*◌, ◌<◌, ◌≤◌, Bool, not, count_by, sum_by, length, slice_index};
+ghost use Rattle.roman_model.specs.Lists.{all_below, below};
+ghost use Rattle.roman_model.specs.Arena.{is_beaten, is_justified, mask as mask_of};
+ghost use Rattle.roman_model.specs.Numbers.{sizes_of, count, numbered};
+ghost use Rattle.roman_model.specs.declared.reason.Reason.TheVariants.{Act};
+ghost use Rattle.roman_radix.specs.Rows.{row_sizes};
+ghost use Rattle.roman_lanes.specs.Rows.{AreRows, Keeps};
+ghost use Rattle.roman_joint.specs.NamedSys.{system_of};
+ghost use Rattle.roman_joint.specs.Rows.{lanes_in, low_in, lane_state_of, IsRow, IsTurn};
+ghost use Rattle.roman_joint.specs.Bands.{mid_in, band_in, AllAlive, KeepsWhere};
+ghost use Rattle.roman_joint.specs.declared.row.Row.{Row};
+ghost use Rattle.roman_joint.specs.declared.turn.Turn.{Turn};
+
+use crate::joint::Joint;
+use crate::row::Row;
+use crate::runs::{
+    all_alive_each, clear, clear_good, clear_state, is_clear, rows_alive_each, set_first,
+};
+use crate::states::next_states;
+use crate::turn::{Turn, turn_of};
+use crate::words::{less, moves_alive};
+
+/// The greatest number of rows in a band.
+const BAND: usize = 64;
+
+/// Clears the pairs of a band at which a seat before the band's own serves the action. What `all`
+/// holds before and after doesn't matter.
+pub(crate) fn clear_before(
+    joint: &Joint,
+    words: &[u64],
+    row: &Row,
+    turn: &Turn<'_>,
+    a: u8,
+    k: u8,
+    all: &mut [u64],
+    left: &mut [u64],
+)
+    requires row { (y : ℕ) × IsRow (system_of joint.now) (y * band_in (system_of joint.now)) row.now }
+    requires turn { IsTurn (system_of joint.now) row.now a turn.now }
+    requires action { a < (system_of joint.now).env.actions }
+    requires room { length words.now * lanes_in (system_of joint.now) ≡ count (sizes_of (system_of joint.now)) }
+    requires seat { k < mid_in (system_of joint.now) }
+    requires all { band_in (system_of joint.now) ≤ length all.old }
+    requires long { length left.old ≡ band_in (system_of joint.now) }
+    ensures all { length all.new ≡ length all.old }
+    ensures long { length left.new ≡ length left.old }
+    ensures left { let s = system_of joint.now in
+        (y : ℕ) (gone : ℕ → Bool) → IsRow s (y * band_in s) row.now →
+        AreRows (lanes_in s) (λ q. not (gone q)) words.now →
+        Keeps (lanes_in s) (y * band_in s) (band_in s) (λ p. is_beaten (numbered s) gone p a k) left.old left.new }
+{
+    let rows = joint.layout();
+    let b = row.states[k as usize];
+    let states = next_states(joint, k, b, row.env, a);
+    if states.is_empty() {
+        return;
+    }
+    let stride = rows.strides[k as usize];
+    let base = turn.base - u32::from(b) * stride;
+    let many = left.len();
+    set_first(all, many, rows.full);
+    all_alive_each(
+        all,
+        many,
+        words,
+        base,
+        turn.envs,
+        rows.env_rows,
+        states,
+        stride,
+    );
+    clear_good(left, all);
+}
+
+/// For each row of a band the lanes at which the pairs of its turn aren't gone, whichever state of the
+/// environment comes.
+fn alive_each(joint: &Joint, words: &[u64], turn: &Turn<'_>, alive: &mut [u64])
+    requires turn { (y : ℕ) × (row : Row) × (a : ℕ) × IsRow (system_of joint.now) (y * band_in (system_of joint.now)) row × IsTurn (system_of joint.now) row a turn.now }
+    requires room { length words.now * lanes_in (system_of joint.now) ≡ count (sizes_of (system_of joint.now)) }
+    requires long { band_in (system_of joint.now) ≤ length alive.old }
+    ensures long { length alive.new ≡ length alive.old }
+    ensures alive { (gone : ℕ → Bool) → AreRows (lanes_in (system_of joint.now)) (λ q. not (gone q)) words.now →
+        AllAlive (system_of joint.now) gone turn.now alive.new }
+{
+    let rows = joint.layout();
+    let many = rows.band as usize;
+    set_first(alive, many, rows.full);
+    rows_alive_each(alive, many, words, turn.base, turn.envs, rows.env_rows);
+}
+
+/// Clears the pairs of those rows of a band in which one of the band's own seats is in a state, where
+/// it serves the action there, by the lanes that each row's turn leaves alive.
+fn clear_own_state(joint: &Joint, row: &Row, alive: &[u64], a: u8, k: u8, b: u8, left: &mut [u64])
+    requires row { (y : ℕ) × IsRow (system_of joint.now) (y * band_in (system_of joint.now)) row.now }
+    requires action { a < (system_of joint.now).env.actions }
+    requires within { mid_in (system_of joint.now) ≤ k }
+    requires seat { k < low_in (system_of joint.now) }
+    requires state { b < slice_index (sizes_of (system_of joint.now)).seats k }
+    requires alive { band_in (system_of joint.now) ≤ length alive.now }
+    requires long { length left.old ≡ band_in (system_of joint.now) }
+    ensures long { length left.new ≡ length left.old }
+    ensures left { let s = system_of joint.now in
+        (y : ℕ) (gone : ℕ → Bool) (turn : Turn) → IsRow s (y * band_in s) row.now →
+        IsTurn s row.now a turn → AllAlive s gone turn alive.now →
+        KeepsWhere s (y * band_in s) (λ i. lane_state_of (row_sizes (sizes_of s)) k i ≡ b) (λ p. is_beaten (numbered s) gone p a k) left.old left.new }
+{
+    let rows = joint.layout();
+    let states = next_states(joint, k, b, row.env, a);
+    if states.is_empty() {
+        return;
+    }
+    let size = rows.sizes[k as usize];
+    let stride = rows.strides[k as usize];
+    let blocks = rows.band / (u32::from(size) * stride);
+    clear_state(left, alive, states, b, size, stride, blocks, rows.full);
+}
+
+/// Clears the pairs of a band at which one of the band's own seats serves the action, by the lanes
+/// that each row's turn leaves alive.
+fn clear_own(joint: &Joint, row: &Row, alive: &[u64], a: u8, k: u8, left: &mut [u64])
+    requires row { (y : ℕ) × IsRow (system_of joint.now) (y * band_in (system_of joint.now)) row.now }
+    requires action { a < (system_of joint.now).env.actions }
+    requires within { mid_in (system_of joint.now) ≤ k }
+    requires seat { k < low_in (system_of joint.now) }
+    requires alive { band_in (system_of joint.now) ≤ length alive.now }
+    requires long { length left.old ≡ band_in (system_of joint.now) }
+    ensures long { length left.new ≡ length left.old }
+    ensures left { let s = system_of joint.now in
+        (y : ℕ) (gone : ℕ → Bool) (turn : Turn) → IsRow s (y * band_in s) row.now →
+        IsTurn s row.now a turn → AllAlive s gone turn alive.now →
+        Keeps (lanes_in s) (y * band_in s) (band_in s) (λ p. is_beaten (numbered s) gone p a k) left.old left.new }
+{
+    let rows = joint.layout();
+    for b in 0..rows.sizes[k as usize] {
+        clear_own_state(joint, row, alive, a, k, b, left);
+    }
+}
+
+/// Clears the pairs of a band at which a seat within the lanes serves the action, by the lanes that
+/// each row's turn leaves alive.
+fn clear_within(joint: &Joint, row: &Row, alive: &[u64], a: u8, k: u8, left: &mut [u64])
+    requires row { (y : ℕ) × IsRow (system_of joint.now) (y * band_in (system_of joint.now)) row.now }
+    requires action { a < (system_of joint.now).env.actions }
+    requires within { low_in (system_of joint.now) ≤ k }
+    requires seat { k < length joint.now.seats }
+    requires alive { band_in (system_of joint.now) ≤ length alive.now }
+    requires long { length left.old ≡ band_in (system_of joint.now) }
+    ensures long { length left.new ≡ length left.old }
+    ensures left { let s = system_of joint.now in
+        (y : ℕ) (gone : ℕ → Bool) (turn : Turn) → IsRow s (y * band_in s) row.now →
+        IsTurn s row.now a turn → AllAlive s gone turn alive.now →
+        Keeps (lanes_in s) (y * band_in s) (band_in s) (λ p. is_beaten (numbered s) gone p a k) left.old left.new }
+{
+    let rows = joint.layout();
+    if joint.seat(k).frozen {
+        return;
+    }
+    let (some, moves) = joint.lane_moves(k, row.env, a);
+    for i in 0..rows.band {
+        let good = moves_alive(alive[i as usize], moves, some);
+        left[i as usize] = less(left[i as usize], good);
+    }
+}
+
+/// Clears the pairs of a band at which a seat that isn't before the band's own serves the action, by
+/// the lanes that each row's turn leaves alive.
+fn clear_behind(joint: &Joint, row: &Row, alive: &[u64], a: u8, k: u8, left: &mut [u64])
+    requires row { (y : ℕ) × IsRow (system_of joint.now) (y * band_in (system_of joint.now)) row.now }
+    requires action { a < (system_of joint.now).env.actions }
+    requires within { mid_in (system_of joint.now) ≤ k }
+    requires seat { k < length joint.now.seats }
+    requires alive { band_in (system_of joint.now) ≤ length alive.now }
+    requires long { length left.old ≡ band_in (system_of joint.now) }
+    ensures long { length left.new ≡ length left.old }
+    ensures left { let s = system_of joint.now in
+        (y : ℕ) (gone : ℕ → Bool) (turn : Turn) → IsRow s (y * band_in s) row.now →
+        IsTurn s row.now a turn → AllAlive s gone turn alive.now →
+        Keeps (lanes_in s) (y * band_in s) (band_in s) (λ p. is_beaten (numbered s) gone p a k) left.old left.new }
+{
+    if k < joint.layout().low {
+        clear_own(joint, row, alive, a, k, left);
+    } else {
+        clear_within(joint, row, alive, a, k, left);
+    }
+}
+
+/// Clears the pairs of a band at which some seat serves the action.
+fn clear_served(joint: &Joint, words: &[u64], row: &Row, turn: &Turn<'_>, a: u8, left: &mut [u64])
+    requires row { (y : ℕ) × IsRow (system_of joint.now) (y * band_in (system_of joint.now)) row.now }
+    requires turn { IsTurn (system_of joint.now) row.now a turn.now }
+    requires action { a < (system_of joint.now).env.actions }
+    requires room { length words.now * lanes_in (system_of joint.now) ≡ count (sizes_of (system_of joint.now)) }
+    requires long { length left.old ≡ band_in (system_of joint.now) }
+    ensures long { length left.new ≡ length left.old }
+    ensures left { let s = system_of joint.now in
+        (y : ℕ) (gone : ℕ → Bool) → IsRow s (y * band_in s) row.now →
+        AreRows (lanes_in s) (λ q. not (gone q)) words.now →
+        Keeps (lanes_in s) (y * band_in s) (band_in s) (λ p. all_below (is_beaten (numbered s) gone p a) (length s.seats)) left.old left.new }
+{
+    let rows = joint.layout();
+    let mut alive = [0; BAND];
+    for k in 0..rows.mid {
+        if is_clear(left) {
+            return;
+        }
+        clear_before(joint, words, row, turn, a, k, &mut alive, left);
+    }
+    alive_each(joint, words, turn, &mut alive);
+    for seat in rows.mid..joint.seats() {
+        if is_clear(left) {
+            return;
+        }
+        clear_behind(joint, row, &alive, a, seat, left);
+    }
+}
+
+/// Clears the pairs of a band at which a seat serves the action, by the lanes that each row's turn leaves
+/// alive. What `all` holds before and after doesn't matter.
+fn clear_seat(
+    joint: &Joint,
+    words: &[u64],
+    row: &Row,
+    turn: &Turn<'_>,
+    alive: &[u64],
+    a: u8,
+    k: u8,
+    all: &mut [u64],
+    left: &mut [u64],
+)
+    requires row { (y : ℕ) × IsRow (system_of joint.now) (y * band_in (system_of joint.now)) row.now }
+    requires turn { IsTurn (system_of joint.now) row.now a turn.now }
+    requires action { a < (system_of joint.now).env.actions }
+    requires room { length words.now * lanes_in (system_of joint.now) ≡ count (sizes_of (system_of joint.now)) }
+    requires seat { k < length joint.now.seats }
+    requires alive { band_in (system_of joint.now) ≤ length alive.now }
+    requires all { band_in (system_of joint.now) ≤ length all.old }
+    requires long { length left.old ≡ band_in (system_of joint.now) }
+    ensures long { length left.new ≡ length left.old }
+    ensures left { let s = system_of joint.now in
+        (y : ℕ) (gone : ℕ → Bool) → IsRow s (y * band_in s) row.now →
+        AreRows (lanes_in s) (λ q. not (gone q)) words.now → AllAlive s gone turn.now alive.now →
+        Keeps (lanes_in s) (y * band_in s) (band_in s) (λ p. is_beaten (numbered s) gone p a k) left.old left.new }
+{
+    if k < joint.layout().mid {
+        clear_before(joint, words, row, turn, a, k, all, left);
+    } else {
+        clear_behind(joint, row, alive, a, k, left);
+    }
+}
+
+/// At how many pairs of a band a seat serves the action, by the lanes that each row's turn leaves alive.
+fn served_by(
+    joint: &Joint,
+    words: &[u64],
+    row: &Row,
+    turn: &Turn<'_>,
+    alive: &[u64],
+    a: u8,
+    k: u8,
+) -> u32
+    requires row { (y : ℕ) × IsRow (system_of joint.now) (y * band_in (system_of joint.now)) row.now }
+    requires turn { IsTurn (system_of joint.now) row.now a turn.now }
+    requires action { a < (system_of joint.now).env.actions }
+    requires room { length words.now * lanes_in (system_of joint.now) ≡ count (sizes_of (system_of joint.now)) }
+    requires seat { k < length joint.now.seats }
+    requires alive { band_in (system_of joint.now) ≤ length alive.now }
+    ensures counted { let s = system_of joint.now in
+        (y : ℕ) (gone : ℕ → Bool) → IsRow s (y * band_in s) row.now →
+        AreRows (lanes_in s) (λ q. not (gone q)) words.now → AllAlive s gone turn.now alive.now →
+        result ≡ sum_by (λ i. count_by (λ lane. not (is_beaten (numbered s) gone ((y * band_in s + i) * lanes_in s + lane) a k)) (below (lanes_in s))) (below (band_in s)) }
+    ensures few { result ≤ 4096 }
+{
+    let rows = joint.layout();
+    let many = joint.band() as usize;
+    let mut all = [0; BAND];
+    let mut room = [0; BAND];
+    let left = &mut room[..many];
+    set_first(left, many, rows.full);
+    clear_seat(joint, words, row, turn, alive, a, k, &mut all, left);
+    let mut count = 0;
+    for i in 0..many {
+        count += less(rows.full, left[i]).count_ones();
+    }
+    count
+}
+
+impl Joint {
+    /// Clears those of the pairs `left` of a band of rows at which the action `a` isn't allowed or some
+    /// service serves it. The row is the band's first; there is a word of `left` for each row of the
+    /// band. The words tell the pairs that aren't gone, row by row.
+    pub fn unserved_band(&self, row: &Row, words: &[u64], a: u8, left: &mut [u64])
+        requires row { (y : ℕ) × IsRow (system_of self.now) (y * band_in (system_of self.now)) row.now }
+        requires action { a < (system_of self.now).env.actions }
+        requires room { length words.now * lanes_in (system_of self.now) ≡ count (sizes_of (system_of self.now)) }
+        requires long { length left.old ≡ band_in (system_of self.now) }
+        ensures long { length left.new ≡ length left.old }
+        ensures lost { let s = system_of self.now in
+            (y : ℕ) (gone : ℕ → Bool) → IsRow s (y * band_in s) row.now →
+            AreRows (lanes_in s) (λ q. not (gone q)) words.now →
+            Keeps (lanes_in s) (y * band_in s) (band_in s) (λ p. is_justified (numbered s) gone p (Act a)) left.old left.new }
+    {
+        self.known();
+        if left.len() == 1 {
+            left[0] = self.unserved(row, words, a, left[0]);
+            return;
+        }
+        let Some(turn) = turn_of(self, row, a) else {
+            clear(left);
+            return;
+        };
+        clear_served(self, words, row, &turn, a, left);
+    }
+
+    /// How many choices of a service there are for the action `a` at all pairs of a band together, at
+    /// most 131,072: over the pairs, the services that serve it. The row is the band's first. The words
+    /// tell the pairs that aren't gone, row by row.
+    pub fn choices(&self, row: &Row, words: &[u64], a: u8) -> u32
+        requires row { (y : ℕ) × IsRow (system_of self.now) (y * band_in (system_of self.now)) row.now }
+        requires action { a < (system_of self.now).env.actions }
+        requires room { length words.now * lanes_in (system_of self.now) ≡ count (sizes_of (system_of self.now)) }
+        ensures counted { let s = system_of self.now in
+            (y : ℕ) (gone : ℕ → Bool) → IsRow s (y * band_in s) row.now →
+            AreRows (lanes_in s) (λ q. not (gone q)) words.now →
+            result ≡ sum_by (λ i. sum_by (λ lane. length (mask_of (numbered s) gone ((y * band_in s + i) * lanes_in s + lane) a))
+            (below (lanes_in s))) (below (band_in s)) }
+        ensures few { result ≤ 131072 }
+    {
+        self.known();
+        let Some(turn) = turn_of(self, row, a) else {
+            return 0;
+        };
+        let mut alive = [0; BAND];
+        alive_each(self, words, &turn, &mut alive);
+        let mut count = 0;
+        for k in 0..self.seats() {
+            count += served_by(self, words, row, &turn, &alive, a, k);
+        }
+        count
+    }
+
+    /// How many rows a band has, from 1 to 64: row x is row `x % band` of band `x / band`.
+    pub fn band(&self) -> u32
+        ensures value { result ≡ band_in (system_of self.now) }
+        ensures few { (0 < result) × (result ≤ 64) }
+    {
+        self.layout().band
+    }
+
+    /// How many bands there are.
+    pub fn bands(&self) -> u32
+        ensures { result * band_in (system_of self.now) * lanes_in (system_of self.now) ≡ count (sizes_of (system_of self.now)) }
+    {
+        let rows = self.layout();
+        rows.rows / rows.band
+    }
+}

@@ -1,0 +1,170 @@
+//! Runs of words: those of neighbouring rows, which are combined word by word.
+ghost use Rattle.std.specs.Prelude.{◌≡◌, ◌≢◌, ◌↔◌, IsTrue, ℕ, ◌+◌, ◌-◌, ◌*◌, ◌/◌, ◌%◌, ◌^◌, ◌<◌, ◌≤◌, not, ◌&&◌, false, All, length, slice_index, bit_and};
+ghost use Rattle.std.specs.List.{list_any};
+ghost use Rattle.roman_lanes.specs.Rows.{is_on};
+
+use crate::words::{less, rows_alive};
+
+/// Whether no word has a lane that is on.
+pub(crate) fn is_clear(words: &[u64]) -> bool
+    ensures { IsTrue result ↔ ((i : ℕ) → i < length words.now → slice_index words.now i ≡ 0) }
+{
+    let mut all = 0;
+    for i in 0..words.len() {
+        all |= words[i];
+    }
+    all == 0
+}
+
+/// Turns off all lanes of all words.
+pub(crate) fn clear(words: &mut [u64])
+    ensures long { length words.new ≡ length words.old }
+    ensures off { (i : ℕ) → i < length words.old → slice_index words.new i ≡ 0 }
+{
+    words.fill(0);
+}
+
+/// Sets the first words to one.
+pub(crate) fn set_first(to: &mut [u64], many: usize, word: u64)
+    requires { many ≤ length to.old }
+    ensures long { length to.new ≡ length to.old }
+    ensures each { (i : ℕ) → i < many → slice_index to.new i ≡ word }
+{
+    for i in 0..many {
+        to[i] = word;
+    }
+}
+
+/// Turns off in the first words the lanes that aren't on in those of `with` from a place on.
+pub(crate) fn and_from(to: &mut [u64], many: usize, with: &[u64], from: usize)
+    requires to { many ≤ length to.old }
+    requires with { from + many ≤ length with.now }
+    ensures long { length to.new ≡ length to.old }
+    ensures each { (i : ℕ) → i < many → slice_index to.new i ≡ bit_and (slice_index to.old i) (slice_index with.now (from + i)) }
+{
+    for i in 0..many {
+        to[i] &= with[from + i];
+    }
+}
+
+/// Turns off in the words of `left` the lanes that are on in those of `good`.
+pub(crate) fn clear_good(left: &mut [u64], good: &[u64])
+    requires { length left.old ≤ length good.now }
+    ensures long { length left.new ≡ length left.old }
+    ensures each { (i lane : ℕ) → i < length left.old → is_on (slice_index left.new i) lane ≡ (is_on (slice_index left.old i) lane && not (is_on (slice_index good.now i) lane)) }
+{
+    for i in 0..left.len() {
+        left[i] = less(left[i], good[i]);
+    }
+}
+
+/// Leaves of the lanes of the first words those that are on in all of the rows `base + b * stride`,
+/// for each state b, where the words are those of neighbouring rows.
+pub(crate) fn rows_alive_each(
+    all: &mut [u64],
+    many: usize,
+    words: &[u64],
+    base: u32,
+    states: &[u8],
+    stride: u32,
+)
+    requires all { many ≤ length all.old }
+    requires fits { All (λ b. base + b * stride < 2 ^ 32) states.now }
+    requires within { All (λ b. base + b * stride + many ≤ length words.now) states.now }
+    ensures long { length all.new ≡ length all.old }
+    ensures each { (i lane : ℕ) → i < many → is_on (slice_index all.new i) lane
+        ≡ (is_on (slice_index all.old i) lane && not (list_any (λ b. not (is_on (slice_index words.now (base + i + b * stride)) lane)) states.now)) }
+{
+    for state in states {
+        let from = (base + u32::from(*state) * stride) as usize;
+        and_from(all, many, words, from);
+    }
+}
+
+/// Leaves of the lanes of the first words those that are on in all of the rows
+/// `base + e * env_stride + b * stride`, where the words are those of neighbouring rows.
+pub(crate) fn all_alive_each(
+    all: &mut [u64],
+    many: usize,
+    words: &[u64],
+    base: u32,
+    envs: &[u8],
+    env_stride: u32,
+    states: &[u8],
+    stride: u32,
+)
+    requires all { many ≤ length all.old }
+    requires envs { All (λ e. base + e * env_stride < 2 ^ 32) envs.now }
+    requires fits { All (λ e. All (λ b. base + e * env_stride + b * stride < 2 ^ 32) states.now) envs.now }
+    requires within { All (λ e. All (λ b. base + e * env_stride + b * stride + many ≤ length words.now) states.now) envs.now }
+    ensures long { length all.new ≡ length all.old }
+    ensures each { (i lane : ℕ) → i < many → is_on (slice_index all.new i) lane
+        ≡ (is_on (slice_index all.old i) lane && not (list_any (λ e. list_any (λ b. not (is_on (slice_index words.now (base + i + e * env_stride + b * stride)) lane)) states.now) envs.now)) }
+{
+    for env in envs {
+        let from = base + u32::from(*env) * env_stride;
+        rows_alive_each(all, many, words, from, states, stride);
+    }
+}
+
+/// Turns off in a run of words of `left` the lanes of `full` that are on in all of the words
+/// `from + b * stride` on of `alive`, for each state b.
+fn clear_run(
+    left: &mut [u64],
+    to: u32,
+    alive: &[u64],
+    from: u32,
+    states: &[u8],
+    stride: u32,
+    full: u64,
+)
+    requires to { to + stride ≤ length left.old }
+    requires few { (to + stride < 2 ^ 32) × (from + stride < 2 ^ 32) }
+    requires fits { All (λ b. from + stride + b * stride < 2 ^ 32) states.now }
+    requires within { All (λ b. from + stride + b * stride ≤ length alive.now) states.now }
+    ensures long { length left.new ≡ length left.old }
+    ensures each { (j lane : ℕ) → j < stride → is_on (slice_index left.new (to + j)) lane
+        ≡ (is_on (slice_index left.old (to + j)) lane && not (is_on full lane && not (list_any (λ b. not (is_on (slice_index alive.now (from + j + b * stride)) lane)) states.now))) }
+    ensures below { (i : ℕ) → i < to → slice_index left.new i ≡ slice_index left.old i }
+    ensures above { (i : ℕ) → to + stride ≤ i → slice_index left.new i ≡ slice_index left.old i }
+    ensures none { (i lane : ℕ) → is_on (slice_index left.old i) lane ≡ false → is_on (slice_index left.new i) lane ≡ false }
+{
+    for j in 0..stride {
+        let good = rows_alive(alive, from + j, states, stride, full);
+        left[(to + j) as usize] = less(left[(to + j) as usize], good);
+    }
+}
+
+/// Turns off in the words of `left` in which a component is in state b the lanes of `full` that are on
+/// in all of the words of `alive` at which it is in one of the other states instead. One more state
+/// adds `stride` to a word's place; the words are that many blocks of all states.
+pub(crate) fn clear_state(
+    left: &mut [u64],
+    alive: &[u64],
+    states: &[u8],
+    b: u8,
+    size: u8,
+    stride: u32,
+    blocks: u32,
+    full: u64,
+)
+    requires blocks { length left.old ≡ blocks * (size * stride) }
+    requires few { length left.old ≤ 64 }
+    requires alive { length left.old ≤ length alive.now }
+    requires step { size * stride ≤ 64 }
+    requires state { b < size }
+    requires states { All (λ c. c < size) states.now }
+    requires stride { 0 < stride }
+    ensures long { length left.new ≡ length left.old }
+    ensures each { (i lane : ℕ) → i < length left.old → i / stride % size ≡ b → is_on (slice_index left.new i) lane
+        ≡ (is_on (slice_index left.old i) lane && not (is_on full lane && not (list_any (λ c. not (is_on (slice_index alive.now (i - b * stride + c * stride)) lane)) states.now))) }
+    ensures others { (i : ℕ) → i / stride % size ≢ b → slice_index left.new i ≡ slice_index left.old i }
+    ensures none { (i lane : ℕ) → is_on (slice_index left.old i) lane ≡ false → is_on (slice_index left.new i) lane ≡ false }
+{
+    let step = u32::from(size) * stride;
+    let own = u32::from(b) * stride;
+    for block in 0..blocks {
+        let from = block * step;
+        clear_run(left, from + own, alive, from, states, stride, full);
+    }
+}

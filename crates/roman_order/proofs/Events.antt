@@ -1,0 +1,94 @@
+-- Lists of events.
+use Rattle.std.proofs.Common.{◌≡◌, ℕ, suc, ◌+◌, ◌*◌, ◌^◌, ◌<◌, ◌≤◌, true, List, [], ◌∷◌, ◌++◌, map, length, refl, sym, ap, ◌∙◌, arith, eqb, append-nil, length-append}
+use Rattle.std.proofs.lemmas.List.Folds.{list_any-append}
+use Rattle.std.specs.List.{AllByRecursion}
+use Rattle.std.proofs.lemmas.Bool.{or_right, or_left, eq-eqb}
+use Rattle.std.proofs.lemmas.List.{length-map}
+use Rattle.std.proofs.lemmas.Grind.{flat_map-append}
+use Rattle.roman_model.specs.Arena.{Entry}
+use Rattle.roman_lanes.specs.Rows.{is_on}
+use Rattle.roman_order.specs.Board.{as_entry, set_lanes, has_entry}
+use Rattle.roman_order.specs.Events.{IsEvent, entries_at, entries_of}
+use Rattle.roman_order.specs.Sound.{firsts_of, AreCounted, CanWait}
+use Rattle.roman_order.specs.declared.event.Event.{Event}
+
+-- ---- one event more
+
+pub all_push : {X : Type 0} (P : X → Type 0) (xs : List X) (x : X) → AllByRecursion P xs → P x → AllByRecursion P (xs ++ x ∷ [])
+all_push P [] x all here = (here, tt)
+all_push P (y ∷ ys) x all here = (all.0, all_push P ys x all.1 here)
+
+pub length-entries_at : (lanes : ℕ) (e : Event) → length (entries_at lanes e) ≡ length (set_lanes e.lanes)
+length-entries_at lanes e = length-map (set_lanes e.lanes) (λ lane. as_entry (e.row * lanes + lane, e.reason))
+
+pub entries_of-push : (lanes : ℕ) (es : List Event) (e : Event) → entries_of lanes (es ++ e ∷ []) ≡ entries_of lanes es ++ entries_at lanes e
+entries_of-push lanes es e = flat_map-append (entries_at lanes) es (e ∷ []) ∙ ap (λ L. entries_of lanes es ++ L) (append-nil (entries_at lanes e))
+
+-- there are at most as many as entries
+pub few_events : (lanes : ℕ) (es : List Event) → AllByRecursion (IsEvent lanes) es → length es ≤ length (entries_of lanes es)
+few_events lanes [] some = omega arith
+few_events lanes (e ∷ es) some = omega (arith, some.0.some, length-append (entries_at lanes e) (entries_of lanes es), length-entries_at lanes e, few_events lanes es some.1)
+
+pub length-firsts_of : (n : ℕ) (es : List Event) → length (firsts_of n es) ≡ length es
+length-firsts_of n [] = refl
+length-firsts_of n (e ∷ es) = ap suc (length-firsts_of (n + length (set_lanes e.lanes)) es)
+
+firsts_of-push : (lanes n : ℕ) (es : List Event) (e : Event) → firsts_of n (es ++ e ∷ []) ≡ firsts_of n es ++ (n + length (entries_of lanes es)) ∷ []
+firsts_of-push lanes n [] e = let same : n ≡ n + 0 = omega arith in ap (λ m. m ∷ []) same
+firsts_of-push lanes n (x ∷ es) e =
+    let next : ℕ = n + length (set_lanes x.lanes) in
+    let same : next + length (entries_of lanes es) ≡ n + length (entries_at lanes x ++ entries_of lanes es) =
+    omega (arith, length-append (entries_at lanes x) (entries_of lanes es), length-entries_at lanes x) in
+    ap (λ ms. n ∷ ms) (firsts_of-push lanes next es e ∙ ap (λ m. firsts_of next es ++ m ∷ []) same)
+
+pub AreCounted-push : (lanes count : ℕ) (firsts : List ℕ) (es : List Event) (e : Event) → AreCounted lanes count firsts es → IsEvent lanes e →
+    AreCounted lanes (count + length (set_lanes e.lanes)) (firsts ++ count ∷ []) (es ++ e ∷ [])
+AreCounted-push lanes count firsts es e are some = record {
+  each = all_push (IsEvent lanes) es e are.each some;
+  count = omega (arith, are.count, ap length (entries_of-push lanes es e), length-append (entries_of lanes es) (entries_at lanes e), length-entries_at lanes e);
+  firsts = ap (λ ms. ms ++ count ∷ []) are.firsts ∙ (ap (λ m. firsts_of 0 es ++ m ∷ []) are.count ∙ (let zero_more : length (entries_of lanes es) ≡ 0 + length (entries_of lanes es) = omega arith in ap (λ m. firsts_of 0 es ++ m ∷ []) zero_more ∙ sym (firsts_of-push lanes 0 es e)));
+}
+
+pub AreCounted-nil : (lanes : ℕ) → AreCounted lanes 0 [] []
+AreCounted-nil lanes = record { each = tt; count = refl; firsts = refl }
+
+-- ---- the first event that waits
+
+pub CanWait-nil : (lanes : ℕ) → CanWait lanes []
+CanWait-nil lanes = record { each = tt; in_range = λ p h. cc }
+
+-- an event without its first lane
+abbrev pub later : Event → ℕ → Event
+later e left = record { row = e.row; reason = e.reason; lanes = left }
+
+pub first_waiting : (lanes : ℕ) (e : Event) (rest : List Event) (lane left : ℕ) → set_lanes e.lanes ≡ lane ∷ set_lanes left →
+    entries_of lanes (e ∷ rest) ≡ as_entry (e.row * lanes + lane, e.reason) ∷ entries_of lanes (later e left ∷ rest)
+first_waiting lanes e rest lane left first = ap (λ ls. map (λ lane. as_entry (e.row * lanes + lane, e.reason)) ls ++ entries_of lanes rest) first
+
+-- where no lane is left the event is done
+pub done_waiting : (lanes : ℕ) (e : Event) (rest : List Event) (left : ℕ) → set_lanes left ≡ [] → entries_of lanes (later e left ∷ rest) ≡ entries_of lanes rest
+done_waiting lanes e rest left none = ap (λ ls. map (λ lane. as_entry (e.row * lanes + lane, e.reason)) ls ++ entries_of lanes rest) none
+
+-- the pair of the first lane is a number of 32 bits
+pub first_pair : (lanes : ℕ) (e : Event) (rest : List Event) (lane left : ℕ) → CanWait lanes (e ∷ rest) → set_lanes e.lanes ≡ lane ∷ set_lanes left → e.row * lanes + lane < 2 ^ 32
+first_pair lanes e rest lane left can first =
+    let p : ℕ = e.row * lanes + lane in
+    let listed = or_left (eqb p p) (has_entry (entries_of lanes (later e left ∷ rest)) p) (eq-eqb p p refl) in
+    can.in_range p (ap (λ L. has_entry L p) (first_waiting lanes e rest lane left first) ∙ listed)
+
+-- an event without some of its lanes
+pub fewer : (lanes : ℕ) (e : Event) (left : ℕ) → IsEvent lanes e → 0 < length (set_lanes left) → ((lane : ℕ) → is_on left lane ≡ true → is_on e.lanes lane ≡ true) → IsEvent lanes (later e left)
+fewer lanes e left is some on = record { some = some; within = λ lane t. is.within lane (on lane t) }
+
+-- what is left can wait
+pub left_waiting : (lanes : ℕ) (e : Event) (rest : List Event) (lane left : ℕ) → CanWait lanes (e ∷ rest) → set_lanes e.lanes ≡ lane ∷ set_lanes left → IsEvent lanes (later e left) → CanWait lanes (later e left ∷ rest)
+left_waiting lanes e rest lane left can first some = record {
+  each = (some, can.each.1);
+  in_range = λ p h. can.in_range p (ap (λ L. has_entry L p) (first_waiting lanes e rest lane left first) ∙ or_right (eqb p (e.row * lanes + lane)) _ h);
+}
+
+pub rest_waiting : (lanes : ℕ) (e : Event) (rest : List Event) → CanWait lanes (e ∷ rest) → CanWait lanes rest
+rest_waiting lanes e rest can = record {
+  each = can.each.1;
+  in_range = λ p h. can.in_range p (list_any-append (λ (x : Entry ℕ). eqb p x.node) (entries_at lanes e) (entries_of lanes rest) ∙ or_right (has_entry (entries_at lanes e) p) _ h);
+}

@@ -1,0 +1,46 @@
+use Rattle.std.proofs.Common.{◌≡◌, ◌+◌, ◌++◌, map, length, sym, ap, ◌∙◌, subst, arith, append-nil, length-append}
+use Rattle.std.proofs.lemmas.Nat.{and_le_l}
+use Rattle.roman_order.specs.Board.{as_entry, set_lanes}
+use Rattle.roman_order.specs.Sound.{AreStamps}
+use Rattle.roman_order.proofs.Lanes.{without_lane, without_lane-on, without_first, without_first-less, set_lanes-first, set_lanes-zero}
+use Rattle.roman_order.proofs.Stamps.{stamped_more}
+use Rattle.roman_order.proofs.order.places.write_event.Goals as goal
+
+pub overflow_add-next : goal.overflow_add-next
+overflow_add-next c =
+    let rest = c.rest.rest in
+    let lane = c.lowest-lane.result in
+    let first = set_lanes-first rest (without_lane rest lane) lane (without_first rest lane c.lowest-lane.ensures.within c.lowest-lane.ensures.on c.lowest-lane.ensures.first) in
+    let is = c.rest.invariant.stamped in
+    omega (arith, c.requires.fits, is.count, ap length is.parts, length-append is.lo (set_lanes rest), ap length first)
+
+pub rest-smaller : goal.rest-smaller
+rest-smaller c =
+    let rest = c.rest.rest in
+    let lane = c.lowest-lane.result in
+    without_first-less rest _ lane (without_first rest lane c.lowest-lane.ensures.within c.lowest-lane.ensures.on c.lowest-lane.ensures.first) (and_le_l rest _)
+
+pub rest-preserved : goal.rest-preserved
+rest-preserved c =
+    let rest = c.rest.rest in
+    let lane = c.lowest-lane.result in
+    let left = without_lane rest lane in
+    let first = set_lanes-first rest left lane (without_first rest lane c.lowest-lane.ensures.within c.lowest-lane.ensures.on c.lowest-lane.ensures.first) in
+    let is = c.rest.invariant.stamped in
+    let here = c.requires.within lane (c.rest.invariant.fewer lane c.lowest-lane.ensures.on) in
+    record {
+      stamped = stamped_more c.args.first c.args.word rest left lane c.args.place c.rest.next c.args.stamps.now c.rest.stamps is first (omega (arith, here, is.long));
+      fewer = λ l t. c.rest.invariant.fewer l (without_lane-on rest lane l t);
+    }
+
+pub returns-clause-stamped : goal.returns-clause-stamped
+returns-clause-stamped c D R reason apart e are =
+    let is = c.rest.invariant.stamped in
+    let whole : is.lo ≡ set_lanes c.args.word = sym (append-nil is.lo) ∙ (ap (λ ls. is.lo ++ ls) (sym (ap set_lanes c.rest-test.false ∙ set_lanes-zero)) ∙ is.parts) in
+    subst (λ ls. AreStamps (D ++ map (λ lane. as_entry (c.args.first + lane, reason)) ls) c.rest.stamps) whole (is.stamped D R reason apart e are)
+
+pub returns-clause-next : goal.returns-clause-next
+returns-clause-next c =
+    let is = c.rest.invariant.stamped in
+    let whole : is.lo ≡ set_lanes c.args.word = sym (append-nil is.lo) ∙ (ap (λ ls. is.lo ++ ls) (sym (ap set_lanes c.rest-test.false ∙ set_lanes-zero)) ∙ is.parts) in
+    omega (arith, is.count, ap length whole)

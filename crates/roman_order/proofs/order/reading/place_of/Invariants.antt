@@ -1,0 +1,14 @@
+use Rattle.std.proofs.Common.{◌-◌, ◌<◌, ◌≤◌, length, get_or}
+use Rattle.roman_order.proofs.order.reading.place_of.Given as goal
+
+-- the event lies from low on and before high
+abbrev pub invariant-search : goal.invariant-search
+invariant-search l = record {
+  within : l.low < l.high;
+  bound : l.high ≤ length l.firsts;
+  from : get_or l.firsts l.low 0 ≤ l.i;
+  to : l.high < length l.firsts → l.i < get_or l.firsts l.high 0;
+}
+
+abbrev pub decreases-search : goal.decreases-search
+decreases-search l = l.high - l.low

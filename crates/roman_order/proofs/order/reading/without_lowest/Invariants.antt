@@ -1,0 +1,15 @@
+use Rattle.std.proofs.Common.{◌-◌, ◌≡◌, ℕ, ◌≤◌, true, drop}
+use Rattle.roman_lanes.specs.Rows.{is_on}
+use Rattle.roman_order.specs.Board.{set_lanes}
+use Rattle.roman_order.proofs.order.reading.without_lowest.Given as goal
+
+-- as many lanes as were taken are gone
+abbrev pub invariant-taken : goal.invariant-taken
+invariant-taken l = record {
+  rest : set_lanes l.rest ≡ drop l.taken (set_lanes l.word);
+  fewer : (lane : ℕ) → is_on l.rest lane ≡ true → is_on l.word lane ≡ true;
+  within : l.taken ≤ l.n;
+}
+
+abbrev pub decreases-taken : goal.decreases-taken
+decreases-taken l = l.n - l.taken

@@ -1,0 +1,19 @@
+-- The entries of events.
+use Rattle.std.specs.Prelude.{◌≡◌, ℕ, ◌<◌, true, List, length, flat_map}
+use Rattle.roman_model.specs.Arena.{Entry}
+use Rattle.roman_lanes.specs.Rows.{is_on}
+use Rattle.roman_order.specs.Board.{set_lanes, entries_in}
+use Rattle.roman_order.specs.declared.event.Event.{Event}
+
+-- an event has entries, each at a lane of its row
+pub record IsEvent (lanes : ℕ) (e : Event) : Type 0 where
+  pub some : 0 < length (set_lanes e.lanes)
+  pub within : (lane : ℕ) → is_on e.lanes lane ≡ true → lane < lanes
+
+-- the entries of an event, where a row has so many lanes
+abbrev pub entries_at : ℕ → Event → List (Entry ℕ)
+entries_at lanes e = entries_in lanes e.row e.lanes e.reason
+
+-- the entries of events, in order
+abbrev pub entries_of : ℕ → List Event → List (Entry ℕ)
+entries_of lanes es = flat_map (entries_at lanes) es

@@ -1,0 +1,94 @@
+//! How the list is read.
+ghost use Rattle.std.specs.Prelude.{◌≡◌, ℕ, ◌+◌, ◌<◌, ◌≤◌, true, ◌++◌, length, drop, slice_get, slice_index, Some};
+ghost use Rattle.std.specs.List.{AllByRecursion};
+ghost use Rattle.roman_lanes.specs.Rows.{is_on};
+ghost use Rattle.roman_order.specs.Board.{as_entry, set_lanes};
+ghost use Rattle.roman_order.specs.Events.{IsEvent, entries_at, entries_of};
+
+use super::Order;
+use crate::event::Event;
+use crate::flags::lowest;
+use roman_model::Reason;
+
+impl Order {
+    /// The list as events: the entries of each in turn are those of the list.
+    pub fn events(&self) -> &[Event]
+        ensures list { entries_of self.now.lanes result.now ≡ self.now.list }
+        ensures each { AllByRecursion (IsEvent self.now.lanes) result.now }
+    {
+        &self.events
+    }
+
+    /// The entries from place `i` of the list on, as far as they stand together: all of an event's, or its
+    /// last ones. The event is found at once if it is the one at place `near` of all, whatever `near` is.
+    pub fn event_at(&self, i: u32, near: usize) -> Event
+        requires { i < length self.now.list }
+        ensures entries { drop i self.now.list
+            ≡ entries_at self.now.lanes result ++ drop (i + length (set_lanes result.lanes)) self.now.list }
+        ensures event { IsEvent self.now.lanes result }
+        ensures within { i + length (set_lanes result.lanes) ≤ length self.now.list }
+        ensures row { result.row < self.now.rows }
+    {
+        let place = place_of(&self.firsts, i, near);
+        let event = self.events[place];
+        let lanes = without_lowest(event.lanes, i - self.firsts[place]);
+        Event {
+            row: event.row,
+            reason: event.reason,
+            lanes,
+        }
+    }
+
+    /// The entry at place `i` of the list, from 0: the pair, and why it was removed. Its event is searched
+    /// for, in as many steps as the number of events has digits.
+    pub fn entry(&self, i: u32) -> (u32, Reason)
+        requires { i < length self.now.list }
+        ensures { slice_get self.now.list i ≡ Some (as_entry result) }
+    {
+        self.known();
+        let event = self.event_at(i, usize::MAX);
+        (event.row * self.lanes + lowest(event.lanes), event.reason)
+    }
+}
+
+/// The place of the last event that begins at the entry at place `i` or before.
+fn place_of(firsts: &[u32], i: u32, near: usize) -> usize
+    requires some { 0 < length firsts.now }
+    requires start { slice_index firsts.now 0 ≤ i }
+    ensures within { result < length firsts.now }
+    ensures from { slice_index firsts.now result ≤ i }
+    ensures to { result + 1 < length firsts.now → i < slice_index firsts.now (result + 1) }
+{
+    if near < firsts.len() && firsts[near] <= i {
+        if near + 1 == firsts.len() || i < firsts[near + 1] {
+            return near;
+        }
+    }
+    let mut low = 0;
+    let mut high = firsts.len();
+    'search: while low + 1 < high {
+        let middle = low + (high - low) / 2;
+        if firsts[middle] <= i {
+            low = middle;
+        } else {
+            high = middle;
+        }
+    }
+    low
+}
+
+/// A word without its `n` lowest lanes.
+fn without_lowest(word: u64, n: u32) -> u64
+    requires { n ≤ length (set_lanes word) }
+    ensures rest { set_lanes result ≡ drop n (set_lanes word) }
+    ensures fewer { (lane : ℕ) → is_on result lane ≡ true → is_on word lane ≡ true }
+{
+    let mut rest = word;
+    let mut taken = 0;
+    'taken: while taken < n {
+        let lane = lowest(rest);
+        rest &= !(1 << lane);
+        taken += 1;
+    }
+    rest
+}

@@ -1,0 +1,44 @@
+//! Walks through the list, entry by entry.
+ghost use Rattle.std.specs.Prelude.{◌≡◌, ◌+◌, ◌<◌, length, slice_get, Some};
+ghost use Rattle.roman_order.specs.Board.{as_entry, set_lanes};
+ghost use Rattle.roman_order.specs.Walks.{IsAhead};
+
+use super::Order;
+use crate::ahead::Ahead;
+use crate::event::Event;
+use crate::flags::lowest;
+use roman_model::Reason;
+
+impl Order {
+    /// The entry at place `i` of a walk through the list, the places rising by one: the pair, and why it
+    /// was removed. What is read ahead spares a search for the entries that follow.
+    pub fn walk(&self, i: u32, ahead: &mut Ahead) -> (u32, Reason)
+        requires place { i < length self.now.list }
+        requires ahead { IsAhead self.now i ahead.old }
+        ensures entry { slice_get self.now.list i ≡ Some (as_entry result) }
+        ensures ahead { IsAhead self.now (i + 1) ahead.new }
+    {
+        self.known();
+        self.read_ahead(i, ahead);
+        let event = ahead.event;
+        let lane = lowest(event.lanes);
+        ahead.event.lanes = event.lanes & !(1 << lane);
+        (event.row * self.lanes + lane, event.reason)
+    }
+
+    /// Reads the entries from place `i` of the list on ahead, where none are.
+    fn read_ahead(&self, i: u32, ahead: &mut Ahead)
+        requires place { i < length self.now.list }
+        requires ahead { IsAhead self.now i ahead.old }
+        ensures ahead { IsAhead self.now i ahead.new }
+        ensures some { 0 < length (set_lanes ahead.new.event.lanes) }
+    {
+        if ahead.event.len() == 0 {
+            let event: Event = self.event_at(i, ahead.next);
+            *ahead = Ahead {
+                event,
+                next: ahead.next.wrapping_add(1),
+            };
+        }
+    }
+}

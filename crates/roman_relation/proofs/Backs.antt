@@ -1,0 +1,163 @@
+-- Bands that were gone back from.
+use Rattle.std.proofs.Common.{◌≡◌, ℕ, zero, suc, ◌+◌, ◌*◌, ◌/◌, ◌<◌, ◌≤◌, Bool, true, false, cond, ◌||◌, ◌==◌, List, [], ◌∷◌, ◌++◌, length, take, drop, slice_index, IsTrue, IsFalse, inl, inr, refl, sym, ap, ap₂, ◌∙◌, subst, arith, take-append-drop, append_assoc, sum_by}
+use Rattle.std.proofs.Math.Bool.{or-false}
+use Rattle.std.proofs.Math.Seq.{take-append_seam, take-append-add, take-length, drop-append_seam}
+use Rattle.std.proofs.lemmas.Bool.{cases_eq, both_ways, or_left, or_right, or_parts, false_from_ne_true, not_from_true, eq-eqb, ne_eqb}
+use Rattle.std.proofs.lemmas.List.{length-take-le, take-take}
+use Rattle.std.proofs.lemmas.List.Folds.{list_any-append}
+use Rattle.std.proofs.lemmas.List.Sums.{sum_by_push}
+use Rattle.roman_model.specs.Lists.{IsIn, below}
+use Rattle.roman_model.specs.Arena.{Arena, Entry, is_listed, IsOrder}
+use Rattle.roman_model.proofs.CallerLemmas.{by_test, sum_by_same, from_below, any_from, none_from, from_map, in_map, split_at, listed_append, order_middle}
+use Rattle.roman_lanes.specs.Rows.{is_on}
+use Rattle.roman_rules.specs.Numbered.{IsNumbered}
+use Rattle.roman_order.specs.Board.{Board, as_entry, set_lanes}
+use Rattle.roman_order.specs.Events.{IsEvent, entries_at}
+use Rattle.roman_order.specs.declared.event.Event.{Event}
+use Rattle.roman_order.proofs.CallerLemmas.{in_lanes}
+use Rattle.roman_relation.specs.Rounds.{AreGoneBack, has_band, moves_to, moves_to_all, on_at}
+use Rattle.roman_relation.proofs.Beginnings.{take_listed}
+use Rattle.roman_relation.proofs.Lanes.{lane_place}
+use Rattle.roman_relation.proofs.Losses.{lane_in}
+use Rattle.roman_relation.proofs.Marks.{IsNoted, noted_own, noted_other}
+
+-- ---- sums
+
+-- one number more passes
+sum_one_more : (f : ℕ → ℕ) (t u : ℕ → Bool) (n y : ℕ) → y < n → t y ≡ false → u y ≡ true → ((z : ℕ) → (z ≡ y → ⊥) → u z ≡ t z) →
+    sum_by (λ z. cond (u z) (f z) 0) (below n) ≡ sum_by (λ z. cond (t z) (f z) 0) (below n) + f y
+sum_one_more f t u zero y l off on same = absurd (omega arith)
+sum_one_more f t u (suc n) y l off on same =
+    let one = sum_by_push (λ z. cond (t z) (f z) 0) (below n) n in
+    let two = sum_by_push (λ z. cond (u z) (f z) 0) (below n) n in
+    elim (cases_eq n y) [
+      | inl e ↦
+          let early = sum_by_same (λ z. cond (u z) (f z) 0) (λ z. cond (t z) (f z) 0) (below n) (λ z i. ap (λ b. cond b (f z) 0) (same z (λ s. let m = from_below n z i in omega arith))) in
+          omega (arith, one, two, early, ap (λ b. cond b (f n) 0) (ap u e ∙ on), ap (λ b. cond b (f n) 0) (ap t e ∙ off), ap f e)
+      | inr ne ↦ omega (arith, one, two, ap (λ b. cond b (f n) 0) (same n ne), sum_one_more f t u n y (omega arith) off on same)
+    ]
+
+-- ---- the band of an event
+
+-- an event has a lane
+pub event_lane : (n : ℕ) (e : Event) → IsEvent n e → (lane : ℕ) × (lane < 64) × (is_on e.lanes lane ≡ true)
+event_lane n e is = first (set_lanes e.lanes) is.some (λ lane i. in_lanes e.lanes lane i)
+  where
+    first : (ls : List ℕ) → 0 < length ls → ((lane : ℕ) → IsIn lane ls → (lane < 64) × (is_on e.lanes lane ≡ true)) → (lane : ℕ) × (lane < 64) × (is_on e.lanes lane ≡ true)
+    first [] some each = absurd (omega arith)
+    first (lane ∷ ls) some each = let (low, on) = each lane (inl refl) in (lane, low, on)
+
+own_band : (n w : ℕ) (e : Event) → IsEvent n e → has_band n w (entries_at n e) (e.row / w) ≡ true
+own_band n w e is =
+    let (lane, low, on) = event_lane n e is in
+    let y : ℕ = e.row / w in
+    let f = λ (l : ℕ). as_entry (e.row * n + l, e.reason) in
+    let here : y ≡ (e.row * n + lane) / n / w = ap (λ x. x / w) (sym (lane_place n e.row lane (is.within lane on)).0) in
+    any_from (λ (x : Entry ℕ). y == x.node / n / w) (f lane) (entries_at n e) (in_map f lane (set_lanes e.lanes) (lane_in e.lanes lane low on)) (eq-eqb y ((e.row * n + lane) / n / w) here)
+
+other_band : (n w z : ℕ) (e : Event) → IsEvent n e → (z ≡ e.row / w → ⊥) → has_band n w (entries_at n e) z ≡ false
+other_band n w z e is ne = none_from (λ (x : Entry ℕ). z == x.node / n / w) (entries_at n e)
+    (λ x i.
+    let (lane, j, same) = from_map (λ l. as_entry (e.row * n + l, e.reason)) x (set_lanes e.lanes) i in
+    let (low, on) = in_lanes e.lanes lane j in
+    let band : x.node / n / w ≡ e.row / w = ap (λ (v : Entry ℕ). v.node / n / w) same ∙ ap (λ r. r / w) (lane_place n e.row lane (is.within lane on)).0 in
+    ne_eqb z (x.node / n / w) (λ s. ne (s ∙ band)))
+
+band_more : (n w z : ℕ) (M N : List (Entry ℕ)) → has_band n w (M ++ N) z ≡ (has_band n w M z || has_band n w N z)
+band_more n w z M N = list_any-append (λ (x : Entry ℕ). z == x.node / n / w) M N
+
+own_more : (n w : ℕ) (M : List (Entry ℕ)) (e : Event) → IsEvent n e → has_band n w (M ++ entries_at n e) (e.row / w) ≡ true
+own_more n w M e is = band_more n w (e.row / w) M (entries_at n e) ∙ or_right (has_band n w M (e.row / w)) (has_band n w (entries_at n e) (e.row / w)) (own_band n w e is)
+
+other_more : (n w z : ℕ) (M : List (Entry ℕ)) (e : Event) → IsEvent n e → (z ≡ e.row / w → ⊥) → has_band n w (M ++ entries_at n e) z ≡ has_band n w M z
+other_more n w z M e is ne = band_more n w z M (entries_at n e) ∙ (ap (λ b. has_band n w M z || b) (other_band n w z e is ne) ∙ or-false (has_band n w M z))
+
+-- ---- one event further
+
+-- where the words that were kept have one of the event's lanes, its band wasn't gone back from; and where they have none, it was
+pub band_is_new : (A : Arena ℕ) (n w start row lane : ℕ) (M : List (Entry ℕ)) (b : Board) → AreGoneBack A n w start M b → lane < n → row * n + lane < length A.nodes →
+    on_at n b.before (row * n + lane) ≡ true → IsTrue (is_listed A b.list (row * n + lane)) → has_band n w M (row / w) ≡ false
+band_is_new A n w start row lane M b back l inside on listed =
+    let p : ℕ = row * n + lane in
+    let band : p / n / w ≡ row / w = ap (λ x. x / w) (lane_place n row lane l).0 in
+    false_from_ne_true (has_band n w M (row / w)) (λ t. both_ways (on_at n b.before p) (back.gone p inside (ap (has_band n w M) band ∙ t) listed) on)
+
+pub band_is_old : (A : Arena ℕ) (n w start row lane : ℕ) (M : List (Entry ℕ)) (b : Board) → AreGoneBack A n w start M b → lane < n → row * n + lane < length A.nodes →
+    on_at n b.before (row * n + lane) ≡ false → IsFalse (is_listed A (take start b.list) (row * n + lane)) → has_band n w M (row / w) ≡ true
+band_is_old A n w start row lane M b back l inside off fresh =
+    let p : ℕ = row * n + lane in
+    let band : p / n / w ≡ row / w = ap (λ x. x / w) (lane_place n row lane l).0 in
+    by_test (has_band n w M (row / w)) (λ t. t) (λ f. absurd (both_ways (on_at n b.before p) off (back.fresh p inside (ap (has_band n w M) band ∙ f) fresh)))
+
+-- an event of a band that was gone back from
+pub back_again : (A : Arena ℕ) (n w mid start : ℕ) (M : List (Entry ℕ)) (e : Event) (b : Board) → IsEvent n e → has_band n w M (e.row / w) ≡ true → AreGoneBack A n w start M b →
+    AreGoneBack A n w start (M ++ entries_at n e) b × (moves_to_all A n w mid b.rows (M ++ entries_at n e) ≡ moves_to_all A n w mid b.rows M)
+back_again A n w mid start M e b is old back = (
+  record { fresh = λ p l off new. back.fresh p l (sym (same (p / n / w)) ∙ off) new; gone = λ p l on listed. back.gone p l (sym (same (p / n / w)) ∙ on) listed },
+  sum_by_same (λ z. cond (has_band n w (M ++ entries_at n e) z) (moves_to A n w mid z) 0) (λ z. cond (has_band n w M z) (moves_to A n w mid z) 0) (below b.rows)
+      (λ z i. ap (λ t. cond t (moves_to A n w mid z) 0) (same z)),
+)
+  where
+    same : (z : ℕ) → has_band n w (M ++ entries_at n e) z ≡ has_band n w M z
+    same z = elim (cases_eq z (e.row / w)) [
+      | inl h ↦ ap (has_band n w (M ++ entries_at n e)) h ∙ (own_more n w M e is ∙ sym (ap (has_band n w M) h ∙ old))
+      | inr ne ↦ other_more n w z M e is ne
+    ]
+
+-- an event of another, which is noted
+pub back_now : (A : Arena ℕ) (n w mid start : ℕ) (M : List (Entry ℕ)) (e : Event) (b c : Board) → IsEvent n e → has_band n w M (e.row / w) ≡ false → e.row / w < b.rows → c.rows ≡ b.rows →
+    IsNoted A n w (e.row / w) b c → AreGoneBack A n w start M b →
+    AreGoneBack A n w start (M ++ entries_at n e) c × (moves_to_all A n w mid c.rows (M ++ entries_at n e) ≡ moves_to_all A n w mid b.rows M + moves_to A n w mid (e.row / w))
+back_now A n w mid start M e b c is new inside rows noted back = (
+  record {
+    fresh = λ p l off listed. elim (cases_eq (p / n / w) (e.row / w)) [
+      | inl h ↦ absurd (both_ways (has_band n w (M ++ entries_at n e) (p / n / w)) off (ap (has_band n w (M ++ entries_at n e)) h ∙ own_more n w M e is))
+      | inr ne ↦ noted_other A n w (e.row / w) b c p noted ne ∙ back.fresh p l (sym (other_more n w (p / n / w) M e is ne) ∙ off) (subst (λ L. IsFalse (is_listed A (take start L) p)) noted.same listed)
+    ];
+    gone = λ p l on listed. elim (cases_eq (p / n / w) (e.row / w)) [
+      | inl h ↦ noted_own A n w (e.row / w) b c p noted h ∙ not_from_true (is_listed A b.list p) (subst (λ L. IsTrue (is_listed A L p)) noted.same listed)
+      | inr ne ↦ noted_other A n w (e.row / w) b c p noted ne ∙ back.gone p l (sym (other_more n w (p / n / w) M e is ne) ∙ on) (subst (λ L. IsTrue (is_listed A L p)) noted.same listed)
+    ];
+  },
+  ap (λ k. moves_to_all A n w mid k (M ++ entries_at n e)) rows
+      ∙ sum_one_more (moves_to A n w mid) (has_band n w M) (has_band n w (M ++ entries_at n e)) b.rows (e.row / w) inside new (own_more n w M e is) (λ z ne. other_more n w z M e is ne),
+)
+
+-- ---- the entries of the round
+
+-- those up to the end of an event
+pub take_entries : (L : List (Entry ℕ)) (i : ℕ) (E R : List (Entry ℕ)) → i ≤ length L → drop i L ≡ E ++ R → take (i + length E) L ≡ take i L ++ E
+take_entries L i E R within rest =
+    let parts : take i L ++ (E ++ R) ≡ L = ap (λ M. take i L ++ M) (sym rest) ∙ take-append-drop i L in
+    let long : length (take i L) + length E ≡ i + length E = omega (arith, length-take-le i L within) in
+    ap (take (i + length E)) (sym parts) ∙ (ap (λ k. take k (take i L ++ (E ++ R))) (sym long) ∙ (take-append-add (take i L) (E ++ R) (length E) ∙ ap (λ M. take i L ++ M) (take-append_seam E R)))
+
+-- what was listed before them isn't theirs
+pub event_new : (A : Arena ℕ) (n : ℕ) (L R : List (Entry ℕ)) (start i : ℕ) (e : Event) (lane : ℕ) → IsOrder A L → start ≤ i → drop i L ≡ entries_at n e ++ R → lane < 64 → is_on e.lanes lane ≡ true →
+    IsFalse (is_listed A (take start L) (e.row * n + lane))
+event_new A n L R start i e lane order first rest low on =
+    let f = λ (l : ℕ). as_entry (e.row * n + l, e.reason) in
+    let p : ℕ = e.row * n + lane in
+    let (B, C, same) = split_at (f lane) (entries_at n e) (in_map f lane (set_lanes e.lanes) (lane_in e.lanes lane low on)) in
+    let T : List (Entry ℕ) = take i L in
+    let tail : (B ++ f lane ∷ C) ++ R ≡ B ++ f lane ∷ (C ++ R) = append_assoc B (f lane ∷ C) R in
+    let whole : L ≡ (T ++ B) ++ f lane ∷ (C ++ R) =
+    sym (take-append-drop i L) ∙ (ap (λ M. T ++ M) (rest ∙ (ap (λ M. M ++ R) same ∙ tail)) ∙ sym (append_assoc T B (f lane ∷ (C ++ R)))) in
+    let before = (order_middle A (T ++ B) (C ++ R) (f lane) (subst (IsOrder A) whole order)).0 in
+    let off = (or_parts (is_listed A T p) (is_listed A B p) (sym (listed_append A T B p) ∙ before)).0 in
+    false_from_ne_true (is_listed A (take start L) p) (λ t. both_ways (is_listed A T p) off (take_listed A start T p (subst (λ M. IsTrue (is_listed A M p)) (sym (take-take start i L first)) t)))
+
+-- at the beginning none was gone back from
+pub none_back : (A : Arena ℕ) (n w start : ℕ) (b : Board) → ((p : ℕ) → p < length A.nodes → IsFalse (is_listed A (take start b.list) p) → on_at n b.before p ≡ true) → AreGoneBack A n w start [] b
+none_back A n w start b kept = record { fresh = λ p l off new. kept p l new; gone = λ p l on listed. cc }
+
+-- at the end those of all entries of the round were
+pub all_back : (L M : List (Entry ℕ)) (start : ℕ) → start ≤ length L → take (length L) L ≡ take start L ++ M → M ≡ drop start L
+all_back L M start within parts =
+    let long : length (take start L) ≡ start = length-take-le start L within in
+    sym (drop-append_seam (take start L) M) ∙ (ap (λ k. drop k (take start L ++ M)) long ∙ ap (drop start) (sym parts ∙ take-length L))
+
+-- to no band nothing moves
+pub none_moves : (A : Arena ℕ) (n w mid bands : ℕ) → moves_to_all A n w mid bands [] ≡ 0
+none_moves A n w mid zero = refl
+none_moves A n w mid (suc bands) = sum_by_push (λ y. cond (has_band n w [] y) (moves_to A n w mid y) 0) (below bands) bands ∙ ap (λ k. k + 0) (none_moves A n w mid bands)

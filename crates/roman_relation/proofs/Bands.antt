@@ -1,0 +1,82 @@
+-- Rows as parts of bands.
+use Rattle.std.proofs.Common.{◌≡◌, ℕ, suc, ◌+◌, ◌*◌, ◌/◌, ◌%◌, ◌<◌, ◌≤◌, ◌-◌, ◌⊎◌, length, inl, inr, sym, ap, ◌∙◌, arith}
+use Rattle.std.proofs.lemmas.Bool.{cases_lt}
+use Rattle.std.proofs.lemmas.Nat.{mul-le, mul-add-lt, div_below, div-add-mod', mod_below}
+use Rattle.std.proofs.Math.Nat.{div-le_self}
+use Rattle.roman_model.specs.Arena.{Arena}
+use Rattle.roman_order.specs.Board.{Board}
+use Rattle.roman_relation.specs.Shaped.{IsShaped}
+use Rattle.roman_relation.proofs.Lanes.{lane_place, shaped_pairs, shaped_rows}
+
+-- a pair by its band, its row there and its lane
+pub pair_in : (lanes band p : ℕ) → (p / lanes / band * band + p / lanes % band) * lanes + p % lanes ≡ p
+pair_in lanes band p = ap (λ x. x * lanes + p % lanes) (div-add-mod' (p / lanes) band) ∙ div-add-mod' p lanes
+
+-- the rows of a band
+pub in_band : (band y row : ℕ) → 0 < band → row / band ≡ y → (y * band ≤ row) × (row < y * band + band)
+in_band band y row some e =
+    let place : y * band + row % band ≡ row = ap (λ q. q * band + row % band) (sym e) ∙ div-add-mod' row band in
+    let l = mod_below row band some in
+    (omega arith, omega arith)
+
+-- what lies between is of the band
+pub band_at : (band y row : ℕ) → y * band ≤ row → row < y * band + band → row / band ≡ y
+band_at band y row low high =
+    let place : y * band + (row - y * band) ≡ row = omega arith in
+    ap (λ x. x / band) (sym place) ∙ (lane_place band y (row - y * band) (omega arith)).0
+
+pub outside_band : (band y row : ℕ) → 0 < band → (row / band ≡ y → ⊥) → (row < y * band) ⊎ (y * band + band ≤ row)
+outside_band band y row some ne = elim (cases_lt row (y * band)) [
+  | inl l ↦ inl l
+  | inr h ↦ elim (cases_lt row (y * band + band)) [
+    | inl l ↦ absurd (ne (band_at band y row h l))
+    | inr m ↦ inr m
+  ]
+]
+
+-- a band that begins below so many bands ends there
+pub band_ends : (band y bands : ℕ) → y < bands → y * band + band ≤ bands * band
+band_ends band y bands l =
+    let next : suc y * band ≡ y * band + band = omega arith in
+    let h = mul-le (suc y) band bands band (omega arith) (omega arith) in
+    omega arith
+
+-- the order has whole bands
+pub whole_bands : (A : Arena ℕ) (lanes band bands : ℕ) (b : Board) → IsShaped A lanes b → 0 < lanes → bands * band * lanes ≡ length A.nodes → bands * band ≡ b.rows
+whole_bands A lanes band bands b shaped some e = shaped_rows A lanes (bands * band) b shaped some e
+
+-- a row's band ends within the order
+pub row_band : (A : Arena ℕ) (lanes band bands row : ℕ) (b : Board) → IsShaped A lanes b → 0 < lanes → 0 < band → bands * band * lanes ≡ length A.nodes → row < b.rows → row / band * band + band ≤ b.rows
+row_band A lanes band bands row b shaped some many e l =
+    let rows = whole_bands A lanes band bands b shaped some e in
+    let h = band_ends band (row / band) bands (div_below row band bands many (omega arith)) in
+    omega arith
+
+-- the first pair of a row that there is
+pub band_begins : (lanes x rows : ℕ) → x < rows → 0 < lanes → x * lanes < rows * lanes
+band_begins lanes x rows l some =
+    let h = mul-le (suc x) lanes rows lanes (omega arith) (omega arith) in
+    let next : suc x * lanes ≡ x * lanes + lanes = omega arith in
+    omega arith
+
+-- a pair between the first of a band and the first of the next
+pub pair_past : (lanes band y p : ℕ) → 0 < lanes → y * band * lanes ≤ p → p < (y + 1) * band * lanes →
+    (i : ℕ) × (lane : ℕ) × (i < band) × (lane < lanes) × ((y * band + i) * lanes + lane ≡ p)
+pair_past lanes band y p some h l =
+    let d : ℕ = p - y * band * lanes in
+    let below : d < band * lanes = omega arith in
+    let place = div-add-mod' d lanes in (
+      d / lanes,
+      d % lanes,
+      div_below d lanes band some below,
+      mod_below d lanes some,
+      omega (arith, place),
+    )
+
+-- a band's number is at most that of any of its rows
+pub row_of_band : (band row rows : ℕ) → row < rows → row / band < rows
+row_of_band band row rows l = let h = div-le_self row band in omega arith
+
+-- the pairs of the order's rows are those of the arena
+pub pair_inside : (A : Arena ℕ) (lanes row lane : ℕ) (b : Board) → IsShaped A lanes b → row < b.rows → lane < lanes → row * lanes + lane < length A.nodes
+pair_inside A lanes row lane b shaped l h = let m = mul-add-lt row lanes lane b.rows l h in omega (arith, m, shaped_pairs A lanes b shaped)

@@ -1,0 +1,108 @@
+use Rattle.std.proofs.Common.{◌≡◌, ℕ, ◌-◌, ◌*◌, ◌<◌, ◌++◌, true, length, inl, inr, sym, ap, ◌∙◌, subst, arith, rules, length-append}
+use Rattle.roman_model.specs.Arena.{is_listed}
+use Rattle.roman_lanes.specs.Rows.{is_on}
+use Rattle.roman_order.specs.Board.{Board, set_lanes, entries_in}
+use Rattle.roman_relation.proofs.CallerLemmas.{words_rows}
+use Rattle.roman_repair.specs.Replays.{AreCandidates, with_replay}
+use Rattle.roman_repair.proofs.Fronts.{first_lane, in_row, lane_alive, front_kept, front_dropped, known_on, shorter, either_front, one_less, entries_more, on_not_off}
+use Rattle.roman_repair.proofs.events.keep_front.Goals as goal
+
+pub push_lanes-requires-clause-row : goal.push_lanes-requires-clause-row
+push_lanes-requires-clause-row g c =
+    let pairs : c.args.order.now.rows * g.J.Rules.lanes c.args.joint.now ≡ length (g.J.Rules.arena c.args.joint.now).nodes =
+    ap (λ m. c.args.order.now.rows * m) (sym c.requires.shaped.lanes) ∙ c.requires.shaped.pairs in
+    (in_row _ c.known.ensures.numbered c.args.order.now.list c.args.order.now.rows _ c.args.x c.args.lanes c.args.reason c.requires.candidates c.requires.some c.ranges.lanes.fits pairs).row
+
+pub push_lanes-requires-clause-alive : goal.push_lanes-requires-clause-alive
+push_lanes-requires-clause-alive g c lane on =
+    let here = c.split_lanes-front.ensures.front lane on in
+    let few = c.known.ensures.lanes.1 in
+    let l : lane < 64 = omega (arith, c.requires.within lane here, few) in
+    lane_alive _ c.args.order.now.list _ c.args.order.now.lanes c.args.x c.args.lanes lane c.args.reason c.requires.candidates c.requires.shaped.lanes l here
+
+pub returns-then-front-ne0 : goal.returns-then-front-ne0
+returns-then-front-ne0 g c =
+    let A = g.J.Rules.arena c.args.joint.now in
+    let n = g.J.Rules.lanes c.args.joint.now in
+    let L = c.args.order.now.list in
+    let front = c.split_lanes-front.result.0 in
+    let rest = c.split_lanes-front.result.1 in
+    let parts = c.split_lanes-front.ensures.parts in
+    let new : c.push_lanes.new.self.list ≡ L ++ entries_in n c.args.x front c.args.reason =
+    ap (λ (b : Board). b.list) c.push_lanes.ensures ∙ ap (λ m. L ++ entries_in m c.args.x front c.args.reason) c.requires.shaped.lanes in
+    let few = c.known.ensures.lanes.1 in
+    let after = front_kept A L n c.args.x c.args.lanes front rest c.args.reason c.requires.candidates parts
+    (λ lane l on. c.known_at.ensures A n (is_listed A L) c.requires.known lane (c.requires.within lane (c.split_lanes-front.ensures.front lane on))
+    (on_not_off c.known_at.result lane c.known_at.type_inv l (c.split_lanes-front.ensures.apart lane on))) in
+    record {
+      list = ap (λ K. with_replay A K (entries_in n c.args.x rest c.args.reason)) new ∙ after.list;
+      candidates = subst (λ K. AreCandidates A K (entries_in n c.args.x rest c.args.reason)) (sym new) after.candidates;
+      within = λ lane on. c.requires.within lane (c.split_lanes-front.ensures.back lane on);
+      fewer = shorter c.args.lanes front rest parts (c.split_lanes-front.ensures.any c.if-front-ne0.true);
+      known = known_on A n c.args.asked.now L c.push_lanes.new.self.list (entries_in n c.args.x front c.args.reason) new c.requires.known;
+      rest = search rules;
+      cost = omega (arith, entries_more A n c.args.x c.args.lanes front rest c.args.reason parts);
+    }
+
+pub ask-held-requires-clause-row : goal.ask-held-requires-clause-row
+ask-held-requires-clause-row g c =
+    let pairs : c.args.order.now.rows * g.J.Rules.lanes c.args.joint.now ≡ length (g.J.Rules.arena c.args.joint.now).nodes =
+    ap (λ m. c.args.order.now.rows * m) (sym c.requires.shaped.lanes) ∙ c.requires.shaped.pairs in
+    (in_row _ c.known.ensures.numbered c.args.order.now.list c.args.order.now.rows _ c.args.x c.args.lanes c.args.reason c.requires.candidates c.requires.some c.ranges.lanes.fits pairs).node
+
+pub ask-held-requires-clause-reason : goal.ask-held-requires-clause-reason
+ask-held-requires-clause-reason g c =
+    let pairs : c.args.order.now.rows * g.J.Rules.lanes c.args.joint.now ≡ length (g.J.Rules.arena c.args.joint.now).nodes =
+    ap (λ m. c.args.order.now.rows * m) (sym c.requires.shaped.lanes) ∙ c.requires.shaped.pairs in
+    (in_row _ c.known.ensures.numbered c.args.order.now.list c.args.order.now.rows _ c.args.x c.args.lanes c.args.reason c.requires.candidates c.requires.some c.ranges.lanes.fits pairs).action
+
+pub push_lanes-requires-2-clause-row : goal.push_lanes-requires-2-clause-row
+push_lanes-requires-2-clause-row g c =
+    let pairs : c.args.order.now.rows * g.J.Rules.lanes c.args.joint.now ≡ length (g.J.Rules.arena c.args.joint.now).nodes =
+    ap (λ m. c.args.order.now.rows * m) (sym c.requires.shaped.lanes) ∙ c.requires.shaped.pairs in
+    (in_row _ c.known.ensures.numbered c.args.order.now.list c.args.order.now.rows _ c.args.x c.args.lanes c.args.reason c.requires.candidates c.requires.some c.ranges.lanes.fits pairs).row
+
+pub push_lanes-requires-2-clause-alive : goal.push_lanes-requires-2-clause-alive
+push_lanes-requires-2-clause-alive g c lane on =
+    let here = c.split_lanes-from_held.ensures.back lane (c.split_lanes-front-2.ensures.front lane on) in
+    let few = c.known.ensures.lanes.1 in
+    let l : lane < 64 = omega (arith, c.requires.within lane here, few) in
+    lane_alive _ c.args.order.now.list _ c.args.order.now.lanes c.args.x c.args.lanes lane c.args.reason c.requires.candidates c.requires.shaped.lanes l here
+
+pub returns : goal.returns
+returns g c =
+    let A = g.J.Rules.arena c.args.joint.now in
+    let n = g.J.Rules.lanes c.args.joint.now in
+    let L = c.args.order.now.list in
+    let held = c.ask-held.result in
+    let off = c.split_lanes-from_held.result.0 in
+    let from = c.split_lanes-from_held.result.1 in
+    let front = c.split_lanes-front-2.result.0 in
+    let rest = c.split_lanes-front-2.result.1 in
+    let parts = c.split_lanes-from_held.ensures.parts in
+    let more = c.split_lanes-front-2.ensures.parts in
+    let of_from = c.split_lanes-from_held.ensures.back in
+    let of_front = λ (lane : ℕ) (on : is_on front lane ≡ true). of_from lane (c.split_lanes-front-2.ensures.front lane on) in
+    let rows = words_rows A c.known.ensures.numbered n c.args.order.now c.words.result.now c.requires.shaped c.words.ensures.alive in
+    let new : c.push_lanes-2.new.self.list ≡ L ++ entries_in n c.args.x front c.args.reason =
+    ap (λ (b : Board). b.list) c.push_lanes-2.ensures ∙ ap (λ m. L ++ entries_in m c.args.x front c.args.reason) c.requires.shaped.lanes in
+    let after = front_dropped A L n c.args.x c.args.lanes off from front rest c.args.reason c.requires.candidates parts more
+    (λ lane l on. sym (c.ask-held.ensures.holds (is_listed A L) rows lane (c.requires.within lane (c.split_lanes-from_held.ensures.front lane on))) ∙ c.split_lanes-from_held.ensures.apart lane on)
+    (λ lane l on. sym (c.ask-held.ensures.holds (is_listed A L) rows lane (c.requires.within lane (of_front lane on))) ∙ on_not_off held lane c.ask-held.type_inv l (c.split_lanes-front-2.ensures.apart lane on)) in
+    let some = either_front c.args.lanes held off from front _ c.ask-held.type_inv (first_lane c.args.lanes c.requires.some c.ranges.lanes.fits) parts
+    c.split_lanes-from_held.ensures.some c.split_lanes-front-2.ensures.some of_from in
+    let reading : ℕ = c.ask-held.new.steps - c.args.steps.now in
+    let paid = one_less A n c.args.x c.args.lanes off from front rest reading c.args.reason parts more some
+    (λ lane l on. omega (arith, c.ask-held.ensures.cost lane (c.requires.within lane on))) c.split_lanes-from_held.ensures.front of_front in
+    record {
+      list = ap (λ K. with_replay A K (entries_in n c.args.x rest c.args.reason)) new ∙ after.list;
+      candidates = subst (λ K. AreCandidates A K (entries_in n c.args.x rest c.args.reason)) (sym new) after.candidates;
+      within = λ lane on. c.requires.within lane (of_from lane (c.split_lanes-front-2.ensures.back lane on));
+      fewer = elim some [
+        | inl s ↦ omega (arith, shorter c.args.lanes off from parts s, ap length more, length-append (set_lanes front) (set_lanes rest))
+        | inr s ↦ omega (arith, shorter from front rest more s, ap length parts, length-append (set_lanes off) (set_lanes from))
+      ];
+      known = known_on A n c.ask-held.new.self L c.push_lanes-2.new.self.list (entries_in n c.args.x front c.args.reason) new (c.ask-held.ensures.known (is_listed A L) rows);
+      rest = search rules;
+      cost = omega (arith, paid);
+    }

@@ -1,0 +1,13 @@
+use Rattle.std.proofs.Common.{◌≡◌, ◌+◌, ◌*◌, [], map, sym, ap, ◌∙◌, append-nil}
+use Rattle.roman_order.specs.Board.{as_entry, entries_in}
+use Rattle.roman_order.proofs.CallerLemmas.{set_lanes-zero}
+use Rattle.roman_repair.specs.Replays.{with_replay}
+use Rattle.roman_repair.proofs.events.keep_lanes.Goals as goal
+
+pub returns-clause-list : goal.returns-clause-list
+returns-clause-list g c =
+    let n = g.J.Rules.lanes c.args.joint.now in
+    let L = c.left.order.list in
+    let none : entries_in n c.args.x c.left.left c.args.reason ≡ [] =
+    ap (λ w. entries_in n c.args.x w c.args.reason) c.left-test.false ∙ ap (map (λ lane. as_entry (c.args.x * n + lane, c.args.reason))) set_lanes-zero in
+    sym (append-nil L) ∙ ap (with_replay (g.J.Rules.arena c.args.joint.now) L) (sym none) ∙ c.left.invariant.list

@@ -1,0 +1,25 @@
+use Rattle.std.proofs.Common.{◌≡◌, ℕ, ◌+◌, ◌<◌, ◌≤◌, true, length}
+use Rattle.roman_lanes.specs.Rows.{is_on}
+use Rattle.roman_model.specs.Arena.{is_listed}
+use Rattle.roman_rules.specs.Asked.{HoldsWhereKept}
+use Rattle.roman_order.specs.Board.{set_lanes, entries_in}
+use Rattle.roman_repair.specs.Replays.{AreCandidates, with_replay, readings_of_entries}
+use Rattle.roman_repair.proofs.events.keep_lanes.Given as goal
+
+-- the entries for the lanes that are left are to be replayed
+abbrev pub invariant-left : goal.invariant-left
+invariant-left g l =
+    let A = g.J.Rules.arena l.joint in
+    let n = g.J.Rules.lanes l.joint in
+    record {
+      list : with_replay A l.order.list (entries_in n l.x l.left l.reason) ≡ with_replay A l.fn.order.list (entries_in n l.x l.lanes l.reason);
+      candidates : AreCandidates A l.order.list (entries_in n l.x l.left l.reason);
+      within : (lane : ℕ) → is_on l.left lane ≡ true → lane < n;
+      known : HoldsWhereKept A n (is_listed A l.order.list) l.asked;
+      rest : l.order ≡ record l.fn.order { list = l.order.list };
+      cost : l.steps + readings_of_entries A (entries_in n l.x l.left l.reason) ≤ l.fn.steps + readings_of_entries A (entries_in n l.x l.lanes l.reason);
+    }
+
+-- each turn takes a lane
+abbrev pub decreases-left : goal.decreases-left
+decreases-left g l = length (set_lanes l.left)

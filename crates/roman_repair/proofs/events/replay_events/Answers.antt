@@ -1,0 +1,31 @@
+use Rattle.std.proofs.Common.{◌≡◌, ◌++◌, ap, ◌∙◌, arith}
+use Rattle.roman_order.specs.Board.{Board, entries_in}
+use Rattle.roman_repair.proofs.Keeping.{candidates_left}
+use Rattle.roman_repair.proofs.Fronts.{part_first, part_turn, part_cost}
+use Rattle.roman_repair.proofs.events.replay_events.Goals as goal
+
+pub keep_lanes-requires-clause-candidates : goal.keep_lanes-requires-clause-candidates
+keep_lanes-requires-clause-candidates g c =
+    let A = g.J.Rules.arena c.args.joint.now in
+    let e = c.in-Some.event in
+    let next = c.next_waiting_event.new.self in
+    let wide = ap (λ (b : Board). b.waiting_lanes) c.replay.invariant.replaying.rest ∙ c.requires.same_rows in
+    let part = entries_in (g.J.Rules.lanes c.args.joint.now) e.row e.lanes e.reason in
+    let first : c.replay.order.waiting ≡ part ++ next.waiting = c.in-Some.ensures.first ∙ ap (λ m. entries_in m e.row e.lanes e.reason ++ next.waiting) wide in
+    candidates_left A next.list part next.waiting (part_first A c.args.order.now c.replay.order next c.args.order.now.waiting part c.replay.invariant.replaying first c.next_waiting_event.ensures.rest).candidates
+
+pub replay-preserved : goal.replay-preserved
+replay-preserved g c =
+    let A = g.J.Rules.arena c.args.joint.now in
+    let e = c.in-Some.event in
+    let next = c.next_waiting_event.new.self in
+    let new = c.keep_lanes.new.order in
+    let wide = ap (λ (b : Board). b.waiting_lanes) c.replay.invariant.replaying.rest ∙ c.requires.same_rows in
+    let part = entries_in (g.J.Rules.lanes c.args.joint.now) e.row e.lanes e.reason in
+    let first : c.replay.order.waiting ≡ part ++ next.waiting = c.in-Some.ensures.first ∙ ap (λ m. entries_in m e.row e.lanes e.reason ++ next.waiting) wide in
+    record {
+      replaying = part_turn A c.args.order.now c.replay.order next new c.args.order.now.waiting part c.replay.invariant.replaying first c.next_waiting_event.ensures.rest
+          c.keep_lanes.ensures.list c.keep_lanes.ensures.rest;
+      known = c.keep_lanes.ensures.known;
+      cost = omega (arith, part_cost A c.replay.order next new part first c.keep_lanes.ensures.rest, c.keep_lanes.ensures.cost, c.replay.invariant.cost);
+    }

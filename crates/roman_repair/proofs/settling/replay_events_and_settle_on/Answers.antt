@@ -1,0 +1,41 @@
+use Rattle.std.proofs.Common.{◌≡◌, [], length, sym, ap, ◌∙◌, subst, arith, rules}
+use Rattle.roman_model.specs.Arena.{replay, readings}
+use Rattle.roman_joint.specs.NamedSys.{NamedSys}
+use Rattle.roman_joint.proofs.CallerLemmas.{joint_numbered}
+use Rattle.roman_relation.specs.Settled.{Begins}
+use Rattle.roman_relation.specs.Greatest.{arena_of}
+use Rattle.roman_repair.specs.Replays.{AreCandidates, candidates, with_replay, readings_of_entries}
+use Rattle.roman_repair.proofs.Keeping.{candidates_readings}
+use Rattle.roman_repair.proofs.Repairing.{replayed_begun}
+use Rattle.roman_repair.proofs.Waiting.{grown_by_one}
+use Rattle.roman_repair.proofs.settling.replay_events_and_settle_on.Goals as goal
+
+pub replay_events-requires-clause-candidates : goal.replay_events-requires-clause-candidates
+replay_events-requires-clause-candidates g c =
+    let A = arena_of c.args.relation.now.joint in
+    let old = c.args.relation.now.order in
+    subst (λ K. AreCandidates A K old.waiting) (sym c.requires.replayable.empty) (subst (AreCandidates A []) (grown_by_one old.waiting) c.requires.replayable.may)
+
+pub settle_on-requires : goal.settle_on-requires
+settle_on-requires g c =
+    let n = c.args.relation.now.joint in
+    let old = c.args.relation.now.order in
+    replayed_begun n 1 old c.replay_events.new.order c.requires.replayable (c.replay_events.ensures.list ∙ ap (with_replay (arena_of n) old.list) (sym (grown_by_one old.waiting))) c.replay_events.ensures.rest
+
+pub returns : goal.returns
+returns g c =
+    let n = c.args.relation.now.joint in
+    let old = c.args.relation.now.order in
+    let those = candidates 1 old in
+    let list : c.replay_events.new.order.list ≡ replay (arena_of n) those =
+    c.replay_events.ensures.list ∙ ap (with_replay (arena_of n) old.list) (sym (grown_by_one old.waiting)) ∙ ap (λ K. with_replay (arena_of n) K those) c.requires.replayable.empty in
+    let few = candidates_readings (arena_of n) [] those (joint_numbered n c.known.ensures) c.requires.replayable.may in
+    let same = ap (λ (m : NamedSys). readings (arena_of m)) c.settle_on.ensures.joint in
+    record {
+      joint = search rules;
+      relation = c.settle_on.ensures.relation;
+      begins = subst (λ L. Begins L c.settle_on.new.relation.order.list) list c.settle_on.ensures.begins;
+      kept = c.settle_on.ensures.kept ∙ ap length list;
+      added = c.settle_on.ensures.added;
+      cost = omega (arith, few, same, ap (readings_of_entries (arena_of n)) (grown_by_one old.waiting), c.replay_events.ensures.cost, c.settle_on.ensures.cost);
+    }

@@ -1,0 +1,108 @@
+//! The replay of events: the entries of a row that wait together are kept where those kept before
+//! justify them.
+ghost use Rattle.std.specs.Prelude.{◌≡◌, ◌≢◌, ℕ, ◌+◌, ◌<◌, ◌≤◌, true, [], length};
+ghost use Rattle.roman_lanes.specs.Rows.{is_on};
+ghost use Rattle.roman_model.specs.Arena.{is_listed};
+ghost use Rattle.roman_rules.specs.Asked.{HoldsWhereKept};
+ghost use Rattle.roman_order.specs.Board.{set_lanes, entries_in};
+ghost use Rattle.roman_relation.specs.Shaped.{IsShaped};
+ghost use Rattle.roman_repair.specs.Replays.{AreCandidates, with_replay, readings_of_entries};
+
+use crate::lanes::split_lanes;
+use roman_io::Steps;
+use roman_model::Reason;
+use roman_order::Order;
+use roman_rules::{Asked, Rules};
+use std::sync::ledger::Ledger;
+
+/// Judges the first of the entries for some lanes of the row `x`: lists those up to the first one of
+/// which it isn't known that it is justified. Where that is the first of all the row is asked, and
+/// those up to the first one that is justified are dropped. Gives the lanes that are left.
+fn keep_front<J: Rules, L: Ledger>(
+    joint: &J,
+    order: &mut Order,
+    asked: &mut Asked,
+    x: u32,
+    lanes: u64,
+    reason: Reason,
+    steps: &mut Steps<L>,
+) -> u64
+    requires shaped { IsShaped (J.arena joint.now) (J.lanes joint.now) order.old }
+    requires some { lanes ≢ 0 }
+    requires within { (lane : ℕ) → is_on lanes lane ≡ true → lane < J.lanes joint.now }
+    requires candidates { AreCandidates (J.arena joint.now) order.old.list (entries_in (J.lanes joint.now) x lanes reason) }
+    requires known { HoldsWhereKept (J.arena joint.now) (J.lanes joint.now) (is_listed (J.arena joint.now) order.old.list) asked.old }
+    ensures list { let A = J.arena joint.now in let n = J.lanes joint.now in
+        with_replay A order.new.list (entries_in n x result reason) ≡ with_replay A order.old.list (entries_in n x lanes reason) }
+    ensures candidates { AreCandidates (J.arena joint.now) order.new.list (entries_in (J.lanes joint.now) x result reason) }
+    ensures within { (lane : ℕ) → is_on result lane ≡ true → lane < J.lanes joint.now }
+    ensures fewer { length (set_lanes result) < length (set_lanes lanes) }
+    ensures known { HoldsWhereKept (J.arena joint.now) (J.lanes joint.now) (is_listed (J.arena joint.now) order.new.list) asked.new }
+    ensures rest { order.new ≡ record order.old { list = order.new.list } }
+    ensures cost { let A = J.arena joint.now in let n = J.lanes joint.now in
+        steps.new + readings_of_entries A (entries_in n x result reason) ≤ steps.old + readings_of_entries A (entries_in n x lanes reason) }
+{
+    joint.known();
+    order.known();
+    let (front, rest) = split_lanes(lanes, !asked.known_at(x, reason));
+    if front != 0 {
+        order.push_lanes(x, front, reason);
+        return rest;
+    }
+    let held = asked.ask(joint, order.words(), x, reason, steps);
+    let (_, from_held) = split_lanes(lanes, held);
+    let (front, rest) = split_lanes(from_held, !held);
+    order.push_lanes(x, front, reason);
+    rest
+}
+
+/// Replays the entries for some lanes of the row `x`, the lanes rising, after those of the list. The
+/// row is asked at most once for each of them, and once for all where it isn't asked about any of
+/// them in vain: what is known of it goes on to hold.
+pub(crate) fn keep_lanes<J: Rules, L: Ledger>(
+    joint: &J,
+    order: &mut Order,
+    asked: &mut Asked,
+    x: u32,
+    lanes: u64,
+    reason: Reason,
+    steps: &mut Steps<L>,
+)
+    requires shaped { IsShaped (J.arena joint.now) (J.lanes joint.now) order.old }
+    requires within { (lane : ℕ) → is_on lanes lane ≡ true → lane < J.lanes joint.now }
+    requires candidates { AreCandidates (J.arena joint.now) order.old.list (entries_in (J.lanes joint.now) x lanes reason) }
+    requires known { HoldsWhereKept (J.arena joint.now) (J.lanes joint.now) (is_listed (J.arena joint.now) order.old.list) asked.old }
+    ensures list { order.new.list ≡ with_replay (J.arena joint.now) order.old.list (entries_in (J.lanes joint.now) x lanes reason) }
+    ensures known { HoldsWhereKept (J.arena joint.now) (J.lanes joint.now) (is_listed (J.arena joint.now) order.new.list) asked.new }
+    ensures rest { order.new ≡ record order.old { list = order.new.list } }
+    ensures cost { steps.new ≤ steps.old + readings_of_entries (J.arena joint.now) (entries_in (J.lanes joint.now) x lanes reason) }
+{
+    let mut left = lanes;
+    'left: while left != 0 {
+        left = keep_front(joint, order, asked, x, left, reason, steps);
+    }
+}
+
+/// Replays the entries that wait, after those of the list. The rows are as they were when the entries
+/// were listed, so that each event is one row's.
+pub(crate) fn replay_events<J: Rules, L: Ledger>(joint: &J, order: &mut Order, steps: &mut Steps<L>)
+    requires shaped { IsShaped (J.arena joint.now) (J.lanes joint.now) order.old }
+    requires same_rows { order.old.waiting_lanes ≡ J.lanes joint.now }
+    requires candidates { AreCandidates (J.arena joint.now) order.old.list order.old.waiting }
+    ensures list { order.new.list ≡ with_replay (J.arena joint.now) order.old.list order.old.waiting }
+    ensures rest { order.new ≡ record order.old { list = order.new.list; waiting = [] } }
+    ensures cost { steps.new ≤ steps.old + readings_of_entries (J.arena joint.now) order.old.waiting }
+{
+    let mut asked = Asked::nothing();
+    'replay: while let Some(event) = order.next_waiting_event() {
+        keep_lanes(
+            joint,
+            order,
+            &mut asked,
+            event.row,
+            event.lanes,
+            event.reason,
+            steps,
+        );
+    }
+}

@@ -1,0 +1,33 @@
+//! Words of lanes, cut in two or made.
+ghost use Rattle.std.specs.Prelude.{◌≡◌, ◌≢◌, ℕ, ◌+◌, ◌-◌, ◌<◌, ◌≤◌, ◌++◌, true, false, length, map};
+ghost use Rattle.roman_model.specs.Lists.{below};
+ghost use Rattle.roman_lanes.specs.Rows.{is_on};
+ghost use Rattle.roman_order.specs.Board.{set_lanes};
+
+/// The lanes of a word below the first of them that another word has too, and its other lanes: all of
+/// them and none, where the words have no lane in common.
+pub(crate) fn split_lanes(word: u64, end: u64) -> (u64, u64)
+    ensures parts { set_lanes word ≡ set_lanes result.0 ++ set_lanes result.1 }
+    ensures apart { (lane : ℕ) → is_on result.0 lane ≡ true → is_on end lane ≡ false }
+    ensures front { (lane : ℕ) → is_on result.0 lane ≡ true → is_on word lane ≡ true }
+    ensures back { (lane : ℕ) → is_on result.1 lane ≡ true → is_on word lane ≡ true }
+    ensures any { result.0 ≢ 0 → 0 < length (set_lanes result.0) }
+    ensures some { (lane : ℕ) → lane < 64 → is_on word lane ≡ true → ((bit : ℕ) → bit < lane → is_on word bit ≡ false) →
+        is_on end lane ≡ false → 0 < length (set_lanes result.0) }
+{
+    let both = word & end;
+    if both == 0 {
+        return (word, 0);
+    }
+    let front = word & ((1 << both.trailing_zeros()) - 1);
+    (front, word & !front)
+}
+
+/// The word of the lanes from `begin` on that are below `end`.
+pub(crate) fn lanes_between(begin: u32, end: u32) -> u64
+    requires { (begin < end) × (end ≤ 64) }
+    ensures lanes { set_lanes result ≡ map (λ i. begin + i) (below (end - begin)) }
+    ensures within { (lane : ℕ) → is_on result lane ≡ true → lane < end }
+{
+    (u64::MAX >> (64 - end)) & !((1 << begin) - 1)
+}

@@ -1,0 +1,23 @@
+//! The words of the rows of a band.
+ghost use Rattle.std.specs.Prelude.{◌≡◌, ℕ, ◌+◌, ◌<◌, ◌≤◌, true, length, slice_index};
+
+use roman_lanes::first_set;
+
+/// Copies the words of the rows from the row `x` on, as many as there are places.
+pub fn copy_rows(words: &[u64], x: u32, to: &mut [u64])
+    requires { x + length to.old ≤ length words.now }
+    ensures long { length to.new ≡ length to.old }
+    ensures each { (i : ℕ) → i < length to.old → slice_index to.new i ≡ slice_index words.now (x + i) }
+{
+    let from = x as usize;
+    for i in 0..to.len() {
+        to[i] = words[from + i];
+    }
+}
+
+/// Whether no word has a bit.
+pub fn are_clear(words: &[u64]) -> bool
+    ensures { result ≡ true → (i : ℕ) → i < length words.now → slice_index words.now i ≡ 0 }
+{
+    first_set(words, 0).is_none()
+}
