@@ -2,7 +2,12 @@
 
 -- Steps lead from well-formed situations to well-formed ones.
 pub use Rattle.roman_hearing.proofs.KnownLemmas.{steps_known}
--- Requests and reports are answered by the greatest ND-simulation.
-pub use Rattle.roman_hearing.proofs.WordLemmas.{answers_great, open_great, reports_great}
+-- Steps leave all parts but the services.
+pub use Rattle.roman_hearing.proofs.KeepLemmas.{line_keeps}
+-- Each step is a turn, and reports are right by the greatest ND-simulation.
+pub use Rattle.roman_hearing.proofs.TurnLemmas.{steps_turns}
+pub use Rattle.roman_hearing.proofs.WordLemmas.{open_great, reports_great}
+-- Which lines are answered.
+pub use Rattle.roman_hearing.proofs.HearingLines.{answered_heard}
 -- How a session that is heard from a source ends.
 pub use Rattle.roman_hearing.proofs.HearingEnds.{short_out}

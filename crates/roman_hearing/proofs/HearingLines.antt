@@ -1,5 +1,5 @@
 -- What is told of lines that follow one another, up to the first that ends the session.
-use Rattle.std.proofs.Common.{◌≡◌, ℕ, false, List, [], ◌∷◌, ◌++◌, length, nat_lt, IsTrue, IsFalse, refl, sym, ap, ◌∙◌, subst, append_assoc, append-nil}
+use Rattle.std.proofs.Common.{◌≡◌, ℕ, false, List, [], ◌∷◌, ◌++◌, length, take, drop, nat_lt, nat_le, IsTrue, IsFalse, refl, sym, ap, ◌∙◌, subst, append_assoc, append-nil, take-append-drop, if◌then◌else◌}
 use Rattle.std.proofs.lemmas.Bool.{cond-true, cond-false, or_parts, or_from, or_left, or_right}
 use Rattle.std.proofs.lemmas.List.Folds.{list_any-append}
 use Rattle.roman_model.specs.Lines.{lines, ended_lines}
@@ -10,7 +10,8 @@ use Rattle.roman_text.proofs.CallerLemmas.{ended_lines-append, lines_rest, lines
 use Rattle.roman_session.specs.Situations.{Situation}
 use Rattle.roman_session.specs.Steps.{is_quit, Step}
 use Rattle.roman_hearing.specs.Told.{until_quit, Answers, Told}
-use Rattle.roman_hearing.specs.Hearing.{ends_session, has_quit}
+use Rattle.roman_model.specs.declared.limits.TheConstants.{MAX_SESSION_BYTES}
+use Rattle.roman_hearing.specs.Hearing.{ends_session, has_quit, is_heard_out, heard_lines}
 
 -- ---- lines of bytes that go on
 
@@ -53,6 +54,25 @@ stops (line ∷ ls) ms h = by_test (is_quit (shape_of line))
     (λ other. cond-false (is_quit (shape_of line)) (line ∷ []) (line ∷ until_quit (ls ++ ms)) other
     ∙ ap (λ (rest : List (List ℕ)). line ∷ rest) (stops ls ms (rw other at h))
     ∙ sym (cond-false (is_quit (shape_of line)) (line ∷ []) (line ∷ until_quit ls) other))
+
+-- the lines that are heard are answered up to the first `quit`, wherever that is
+pub answered_heard : (session : List ℕ) →
+    until_quit (heard_lines session) ≡ until_quit (if nat_le (length session) MAX_SESSION_BYTES then lines session else ended_lines (take MAX_SESSION_BYTES session))
+answered_heard session =
+    let few = nat_le (length session) MAX_SESSION_BYTES in
+    let all = lines session in
+    let first = ended_lines (take MAX_SESSION_BYTES session) in
+    by_test few
+    (λ short. ap until_quit (cond-true (is_heard_out session) all first (or_left few (has_quit first) short) ∙ sym (cond-true few all first short)))
+    (λ long. by_test (has_quit first)
+    (λ quit.
+    let (others, rest) = lines_more session in
+    let (more, ended) = ended_more (take MAX_SESSION_BYTES session) (drop MAX_SESSION_BYTES session) in
+    let whole : all ≡ first ++ (more ++ others) =
+    rest ∙ ap (λ (ls : List (List ℕ)). ls ++ others) (ap ended_lines (sym (take-append-drop MAX_SESSION_BYTES session)) ∙ ended) ∙ append_assoc first more others in
+    ap until_quit (cond-true (is_heard_out session) all first (or_right few (has_quit first) quit) ∙ whole)
+    ∙ stops first (more ++ others) quit ∙ ap until_quit (sym (cond-false few all first long)))
+    (λ quitless. ap until_quit (cond-false (is_heard_out session) all first (or_from few (has_quit first) long quitless) ∙ sym (cond-false few all first long))))
 
 -- a last line is answered, whatever it is
 until_last : (line : List ℕ) → until_quit (line ∷ []) ≡ line ∷ []

@@ -7,7 +7,7 @@ use Rattle.roman_hearing.specs.Hearing.{has_quit}
 use Rattle.roman_hearing.specs.Known.{AreBehaviours}
 use Rattle.roman_hearing.proofs.HearingGoing.{IsGoing, can_go_on, step_there}
 use Rattle.roman_hearing.proofs.HearingLines.{told_stops, told_then}
-use Rattle.roman_hearing.proofs.KeepLemmas.{behaviours_stay}
+use Rattle.roman_hearing.proofs.KeepLemmas.{answers_keep, behaviours_stay}
 
 -- lines have their answers
 answers_there : (s : Situation) (ls : List (List ℕ)) → IsGoing s → (text : List ℕ) × (new : Situation) × Answers s ls text new
@@ -23,6 +23,6 @@ pub told_more : (old mid : Situation) (ls ms : List (List ℕ)) (text : List ℕ
 told_more old mid ls ms text behaviours known told = by_test (has_quit ls)
     (λ quit. ([], mid, subst (λ (text : List ℕ). Told old (ls ++ ms) text mid) (sym (append-nil text)) (told_stops old mid ls ms text quit told)))
     (λ quitless.
-    let is = can_go_on mid known (behaviours_stay old mid (until_quit ls) text told behaviours) in
+    let is = can_go_on mid known (behaviours_stay old mid (answers_keep old mid (until_quit ls) text told) behaviours) in
     let (more, last, answers) = answers_there mid (until_quit ms) is in
     (more, last, told_then old mid last ls ms text more quitless told answers))

@@ -1,54 +1,48 @@
--- What no step of a session changes: the environment, the catalogue and the target.
-use Rattle.std.proofs.Common.{◌≡◌, ℕ, List, [], ◌∷◌, Result, Ok, Err, inl, inr, refl, ap, ◌∙◌}
+-- What no step of a session changes: all parts but the services.
+use Rattle.std.proofs.Common.{◌≡◌, ℕ, List, [], ◌∷◌, Result, Ok, Err, inl, inr, refl, sym, ap, ◌∙◌, subst}
 use Rattle.roman_text.specs.Shapes.{LineShape, nothing, ask, hand, saw, abort, freeze, thaw, die, join, jump, jump_env, report, explain, quit, shape_of}
 use Rattle.roman_text.specs.declared.errors.LineError.{LineError}
 use Rattle.roman_text.specs.declared.replies.Reply.{Reply}
+use Rattle.roman_joint.specs.NamedSys.{NamedSys}
 use Rattle.roman_session.specs.Situations.{Situation}
 use Rattle.roman_session.specs.Rulings.{asked, handed, seen, aborted, jumped, env_jumped, frozen, thawed, died, join_of, unexplained}
 use Rattle.roman_session.specs.Steps.{Asks, Hands, Sees, Aborts, Jumps, EnvJumps, Freezes, Thaws, Dies, Joins, Explains, Does, StepOn, StepBy, Step}
 use Rattle.roman_hearing.specs.Told.{Answers}
 use Rattle.roman_hearing.specs.Known.{AreBehaviours}
 
--- the environment, the catalogue and the target stay
-pub record Keeps (old new : Situation) : Type 0 where
-  pub environment : new.parts.environment ≡ old.parts.environment
-  pub catalogue : new.parts.catalogue ≡ old.parts.catalogue
-  pub target : new.parts.target ≡ old.parts.target
+-- all parts but the services stay
+abbrev pub Keeps : Situation → Situation → Type 0
+Keeps old new = new.parts ≡ record old.parts { seats = new.parts.seats }
 
 -- they are those of the situation that the new one is
-keeps_by : (old new other : Situation) → new ≡ other → other.parts.environment ≡ old.parts.environment → other.parts.catalogue ≡ old.parts.catalogue →
-    other.parts.target ≡ old.parts.target → Keeps old new
-keeps_by old new other same environment catalogue target = record {
-  environment = ap (λ (s : Situation). s.parts.environment) same ∙ environment;
-  catalogue = ap (λ (s : Situation). s.parts.catalogue) same ∙ catalogue;
-  target = ap (λ (s : Situation). s.parts.target) same ∙ target;
-}
+keeps_by : (old new other : Situation) → new ≡ other → Keeps old other → Keeps old new
+keeps_by old new other same keeps = subst (Keeps old) (sym same) keeps
 
 does_keeps : {X : Type 0} (Act : Situation → X → List ℕ → Situation → Type 0) (old new : Situation) (r : Result X Reply) (text : List ℕ) →
     ((x : X) → Act old x text new → Keeps old new) → Does Act old r text new → Keeps old new
-does_keeps Act old new (Err refusal) text act step = keeps_by old new old step.1 refl refl refl
+does_keeps Act old new (Err refusal) text act step = keeps_by old new old step.1 refl
 does_keeps Act old new (Ok x) text act step = act x step
 
 step_keeps : (old new : Situation) (shape : LineShape) (text : List ℕ) → StepOn old shape text new → Keeps old new
-step_keeps old new nothing text step = keeps_by old new old step.1 refl refl refl
-step_keeps old new (ask action) text step = does_keeps Asks old new (asked old action) text (λ a asks. keeps_by old new _ asks.1 refl refl refl) step
-step_keeps old new (hand service) text step = does_keeps Hands old new (handed old service) text (λ x hands. keeps_by old new _ hands.1 refl refl refl) step
+step_keeps old new nothing text step = keeps_by old new old step.1 refl
+step_keeps old new (ask action) text step = does_keeps Asks old new (asked old action) text (λ a asks. keeps_by old new _ asks.1 refl) step
+step_keeps old new (hand service) text step = does_keeps Hands old new (handed old service) text (λ x hands. keeps_by old new _ hands.1 refl) step
 step_keeps old new (saw state env) text step = does_keeps Sees old new (seen old state env) text
-    (λ x sees. elim sees [ inl moves ↦ keeps_by old new _ moves.becomes refl refl refl | inr (never, says, stays) ↦ keeps_by old new old stays refl refl refl ]) step
-step_keeps old new abort text step = does_keeps Aborts old new (aborted old) text (λ x aborts. keeps_by old new _ aborts.1 refl refl refl) step
-step_keeps old new (freeze service) text step = does_keeps Freezes old new (frozen old service) text (λ k changes. keeps_by old new _ changes.becomes refl refl refl) step
-step_keeps old new (thaw service) text step = does_keeps Thaws old new (thawed old service) text (λ k changes. keeps_by old new _ changes.becomes refl refl refl) step
-step_keeps old new (die service) text step = does_keeps Dies old new (died old service) text (λ k changes. keeps_by old new _ changes.becomes refl refl refl) step
+    (λ x sees. elim sees [ inl moves ↦ keeps_by old new _ moves.becomes refl | inr (never, says, stays) ↦ keeps_by old new old stays refl ]) step
+step_keeps old new abort text step = does_keeps Aborts old new (aborted old) text (λ x aborts. keeps_by old new _ aborts.1 refl) step
+step_keeps old new (freeze service) text step = does_keeps Freezes old new (frozen old service) text (λ k changes. keeps_by old new _ changes.becomes refl) step
+step_keeps old new (thaw service) text step = does_keeps Thaws old new (thawed old service) text (λ k changes. keeps_by old new _ changes.becomes refl) step
+step_keeps old new (die service) text step = does_keeps Dies old new (died old service) text (λ k changes. keeps_by old new _ changes.becomes refl) step
 step_keeps old new (join service behaviour state loose) text step =
-    does_keeps Joins old new (join_of old service behaviour state loose) text (λ x changes. keeps_by old new _ changes.becomes refl refl refl) step
-step_keeps old new (jump service state) text step = does_keeps Jumps old new (jumped old service state) text (λ x jumps. keeps_by old new _ jumps.1 refl refl refl) step
-step_keeps old new (jump_env env) text step = does_keeps EnvJumps old new (env_jumped old env) text (λ e jumps. keeps_by old new _ jumps.1 refl refl refl) step
-step_keeps old new report text step = keeps_by old new old step.1 refl refl refl
-step_keeps old new explain text step = does_keeps Explains old new (unexplained old) text (λ x explains. keeps_by old new old explains.1 refl refl refl) step
-step_keeps old new quit text step = keeps_by old new old step.1 refl refl refl
+    does_keeps Joins old new (join_of old service behaviour state loose) text (λ x changes. keeps_by old new _ changes.becomes refl) step
+step_keeps old new (jump service state) text step = does_keeps Jumps old new (jumped old service state) text (λ x jumps. keeps_by old new _ jumps.1 refl) step
+step_keeps old new (jump_env env) text step = does_keeps EnvJumps old new (env_jumped old env) text (λ e jumps. keeps_by old new _ jumps.1 refl) step
+step_keeps old new report text step = keeps_by old new old step.1 refl
+step_keeps old new explain text step = does_keeps Explains old new (unexplained old) text (λ x explains. keeps_by old new old explains.1 refl) step
+step_keeps old new quit text step = keeps_by old new old step.1 refl
 
 by_shape_keeps : (old new : Situation) (shape : Result LineShape LineError) (text : List ℕ) → StepBy old shape text new → Keeps old new
-by_shape_keeps old new (Err why) text step = keeps_by old new old step.1 refl refl refl
+by_shape_keeps old new (Err why) text step = keeps_by old new old step.1 refl
 by_shape_keeps old new (Ok shape) text step = step_keeps old new shape text step
 
 -- no line changes them
@@ -58,14 +52,10 @@ line_keeps old new line text step = by_shape_keeps old new (shape_of line) text 
 
 -- nor do lines that are answered one after another
 pub answers_keep : (old new : Situation) (ls : List (List ℕ)) (text : List ℕ) → Answers old ls text new → Keeps old new
-answers_keep old new [] text (none, same) = keeps_by old new old same refl refl refl
+answers_keep old new [] text (none, same) = keeps_by old new old same refl
 answers_keep old new (line ∷ ls) text (said, more, mid, split, step, answers) =
-    let first = line_keeps old mid line said step in
-    let rest = answers_keep mid new ls more answers in
-    record { environment = rest.environment ∙ first.environment; catalogue = rest.catalogue ∙ first.catalogue; target = rest.target ∙ first.target }
+    answers_keep mid new ls more answers ∙ ap (λ (n : NamedSys). record n { seats = new.parts.seats }) (line_keeps old mid line said step)
 
 -- so the behaviours stay over the environment
-pub behaviours_stay : (old new : Situation) (ls : List (List ℕ)) (text : List ℕ) → Answers old ls text new → AreBehaviours old.parts → AreBehaviours new.parts
-behaviours_stay old new ls text answers behaviours =
-    let keeps = answers_keep old new ls text answers in
-    rw (keeps.environment, keeps.catalogue) behaviours
+pub behaviours_stay : (old new : Situation) → Keeps old new → AreBehaviours old.parts → AreBehaviours new.parts
+behaviours_stay old new keeps behaviours = subst AreBehaviours (sym keeps) behaviours

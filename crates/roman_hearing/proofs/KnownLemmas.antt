@@ -1,5 +1,5 @@
 -- Steps lead from well-formed situations to well-formed ones.
-use Rattle.std.proofs.Common.{◌≡◌, ℕ, ◌<◌, Bool, true, false, List, [], ◌∷◌, ◌++◌, length, Result, Ok, Err, inl, inr, slice_set, nat_lt, nat_le, refl, sym, subst, arith, ltb-true, leb-true, append-nil}
+use Rattle.std.proofs.Common.{◌≡◌, ℕ, ◌<◌, Bool, true, false, List, ◌++◌, length, Result, Ok, Err, inl, inr, slice_set, nat_lt, nat_le, refl, sym, subst, arith, ltb-true, leb-true}
 use Rattle.std.proofs.lemmas.Option.{get_or_from_slice_get}
 use Rattle.roman_model.specs.System.{Sys, IsPair}
 use Rattle.roman_model.specs.CompleteLists.{IsComplete}
@@ -11,7 +11,6 @@ use Rattle.roman_text.specs.Shapes.{LineShape, nothing, ask, hand, saw, abort, f
 use Rattle.roman_text.specs.declared.errors.LineError.{LineError}
 use Rattle.roman_text.specs.declared.replies.Reply.{Reply}
 use Rattle.roman_text.specs.declared.replies.Reply.TheVariants as reply
-use Rattle.roman_parts.specs.Named.{NamedEnv}
 use Rattle.roman_joint.specs.NamedSys.{IsNamedSys, seat_of}
 use Rattle.roman_joint.specs.NamedSys as joint
 use Rattle.roman_joint.proofs.CallerLemmas.{frozen_system, frozen_known, gone_system, gone_known, joined_system, joined_known}
@@ -25,7 +24,7 @@ use Rattle.roman_generator.specs.declared.sight.Sight.{Sight}
 use Rattle.roman_session.specs.declared.phase.Phase.TheVariants.{Idle}
 use Rattle.roman_session.proofs.CallerLemmas.{checked, asked_is, handed_is, jumped_is, env_jumped_is, frozen_is, thawed_is, died_is, joining_idle, cells_with, jumped_pair, moved_pair}
 use Rattle.roman_hearing.specs.Known.{AreBehaviours, AreNamed, StepsStayKnown}
-use Rattle.roman_hearing.proofs.KeepLemmas.{line_keeps, behaviours_stay}
+use Rattle.roman_hearing.proofs.KeepLemmas.{line_keeps}
 use Rattle.roman_hearing.proofs.WithinLemmas.{named_within, seat_within, state_within, joining_new, joining_beh}
 
 -- events that change little
@@ -167,8 +166,5 @@ line_known old new line text is are step = by_known old new (shape_of line) text
 pub steps_known : StepsStayKnown
 steps_known old new line text known step = record {
   situation = line_known old new line text known.situation known.named step;
-  named = record {
-    behaviours = behaviours_stay old new (line ∷ []) text (text, [], new, sym (append-nil text), step, (refl, refl)) known.named.behaviours;
-    environment = subst (λ (environment : NamedEnv). length environment.states ≡ environment.env.states) (sym (line_keeps old new line text step).environment) known.named.environment;
-  };
+  named = subst AreNamed (sym (line_keeps old new line text step)) (record { behaviours = known.named.behaviours; environment = known.named.environment });
 }

@@ -6,7 +6,10 @@ pub mod WithinLemmas
 pub mod KeepLemmas
 pub mod KnownLemmas
 pub mod SeveralLemmas
+pub mod EventLemmas
+pub mod RefutationLemmas
 pub mod WordLemmas
+pub mod TurnLemmas
 pub mod HearingGoing
 pub mod HearingSteps
 pub mod HearingEnds

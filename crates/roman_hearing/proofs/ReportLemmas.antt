@@ -1,13 +1,15 @@
 -- The report of a session is that of the library that begins where the session stands.
-use Rattle.std.proofs.Common.{◌≡◌, ℕ, ◌<◌, List, [], ◌∷◌, map, refl, ap, sym, ◌∙◌}
+use Rattle.std.proofs.Common.{◌≡◌, ℕ, ◌<◌, List, [], ◌∷◌, map, refl, ap, sym, ◌∙◌, subst}
 use Rattle.std.specs.List.{AllZip}
 use Rattle.roman_parts.specs.Named.{NamedBeh}
-use Rattle.roman_joint.specs.NamedSys.{NamedSys, seat_of}
+use Rattle.roman_joint.specs.NamedSys.{NamedSys, seat_of, system_of}
 use Rattle.roman_joint.specs.declared.seat.Seat.{Seat}
-use Rattle.roman_session.specs.Situations.{Situation}
+use Rattle.roman_model.specs.System.{Beh, Env, IsBeh, IsSys, IsPair}
+use Rattle.roman_session.specs.Situations.{Situation, IsSituation}
 use Rattle.roman_session.specs.Reports.{lines_text, report_text}
-use Rattle.roman_start.specs.Starts.{seat_of_service, parts_of}
+use Rattle.roman_start.specs.Starts.{seat_of_service, parts_of, start_pair_of}
 use Rattle.roman_hearing.specs.Afresh.{services_in, afresh}
+use Rattle.roman_hearing.specs.Known.{shown}
 use Rattle.roman_hearing.specs.Laws.{ReportsAreAfresh}
 
 -- the services that are present take the same seats again
@@ -46,4 +48,31 @@ reports_afresh s is =
     let bs = states_again s.parts.catalogue s.parts.seats s.here.bs is.here.bs in
     start_unsaid s
     ∙ ap (λ (seats : List Seat). report_text (begun s seats) s.here) (sym seats)
-    ∙ ap (λ (bs : List ℕ). report_text (parts_of (afresh s)) (record { t = s.here.t; e = s.here.e; bs = bs })) (sym bs)
+    ∙ ap (λ (bs : List ℕ). report_text (parts_of (afresh (shown s))) (record { t = s.here.t; e = s.here.e; bs = bs })) (sym bs)
+
+-- Where a library begins is no part of its steps
+
+beh_begun : (env : Env) (beh : Beh) (e b : ℕ) → IsBeh env beh → b < beh.states → IsBeh (record env { start = e }) (record beh { start = b })
+beh_begun env beh e b is within = record { states = is.states; start = within; finals = is.finals; steps = is.steps; guards = is.guards }
+
+begun_known : (s : Situation) → IsSituation s → IsSys (system_of (begun s s.parts.seats))
+begun_known s is =
+    let sys = is.parts.system in
+    record {
+      env = record { states = sys.env.states; actions = sys.env.actions; start = is.here.e; triples = sys.env.triples };
+      target = beh_begun s.parts.environment.env s.parts.target.beh s.here.e s.here.t sys.target is.here.t;
+      single = sys.single;
+      seats = λ x i. let beh = sys.seats x i in record { states = beh.states; start = beh.start; finals = beh.finals; steps = beh.steps; guards = beh.guards };
+      few = sys.few;
+    }
+
+-- the library that begins where the session stands has a system, and begins at a pair of it
+pub afresh_known : (s : Situation) → IsSituation s → IsSys (system_of (parts_of (afresh (shown s)))) × IsPair (system_of (parts_of (afresh (shown s)))) (start_pair_of (afresh (shown s)))
+afresh_known s is =
+    let seats = seats_again s.parts.catalogue s.parts.seats s.here.bs is.here.bs in
+    let bs = states_again s.parts.catalogue s.parts.seats s.here.bs is.here.bs in
+    let pair : IsPair (system_of (begun s s.parts.seats)) s.here = record { t = is.here.t; e = is.here.e; bs = is.here.bs } in (
+      subst (λ (seats : List Seat). IsSys (system_of (begun s seats))) (sym seats) (begun_known s is),
+      subst (λ (bs : List ℕ). IsPair (system_of (parts_of (afresh (shown s)))) (record { t = s.here.t; e = s.here.e; bs = bs })) (sym bs)
+          (subst (λ (seats : List Seat). IsPair (system_of (begun s seats)) s.here) (sym seats) pair),
+    )

@@ -11,7 +11,7 @@ use Rattle.roman_model.specs.Combined.{combined, combined_env, combined_beh, com
 use Rattle.roman_model.specs.declared.limits.TheConstants.{MAX_STATES}
 use Rattle.roman_model.specs.declared.request.Request.{Request}
 use Rattle.roman_model.proofs.CallerLemmas.{from_map, combined_is_all, there_is}
-use Rattle.roman_parts.specs.Named.{NamedEnv, NamedBeh, NamedTarget}
+use Rattle.roman_parts.specs.Named.{NamedEnv, NamedBeh}
 use Rattle.roman_joint.specs.NamedSys.{NamedSys, beh_at, seat_of}
 use Rattle.roman_joint.specs.declared.seat.Seat.{Seat}
 use Rattle.roman_joint.proofs.CallerLemmas.{beh_read}
@@ -111,6 +111,7 @@ module _ (said : PlainTargets) (library : PlainLibrary) (s : Situation) (combine
 
   means_all : MeansAll said s
   means_all = record {
+    known = several_are;
     system = system_is;
     great =
         subst (λ (sys : Sys). (p : Pair) → IsPair sys p → Great sys p ↔ GreatAll (several_in said s) (couple_all (several_in said s) p)) (sym system_is)
@@ -128,10 +129,6 @@ several_served texts document library said start now lines text accepted names b
     let library_is = libraries_known texts document library accepted in
     let named : AreNamed start.parts = subst AreNamed (sym begins.parts) (record { behaviours = library_is.known.catalogue.known; environment = library_is.states }) in
     let known = answers_known start now (until_quit lines) text (record { situation = is; named = named }) told in
-    let keeps = answers_keep start now (until_quit lines) text told in
-    let environment = keeps.environment ∙ ap (λ (n : NamedSys). n.environment) begins.parts in
-    let catalogue = keeps.catalogue ∙ ap (λ (n : NamedSys). n.catalogue) begins.parts in
-    let target = keeps.target ∙ ap (λ (n : NamedSys). n.target) begins.parts in
+    let keeps = answers_keep start now (until_quit lines) text told ∙ ap (λ (n : NamedSys). record n { seats = now.parts.seats }) begins.parts in
     means_all said library now (targets_combined texts document library said accepted names) known.situation
-    (ap₂ (λ (env : NamedEnv) (behs : List NamedBeh). record { environment = env; catalogue = behs; target = now.parts.target }) environment catalogue
-    ∙ ap (λ (t : NamedTarget). record { environment = library.environment; catalogue = library.catalogue; target = t }) target)
+    (ap (λ (n : NamedSys). record { environment = n.environment; catalogue = n.catalogue; target = n.target }) keeps)

@@ -4,6 +4,7 @@ use Rattle.roman_joint.specs.NamedSys.{NamedSys}
 use Rattle.roman_parts.specs.Named.{IsBehaviour}
 use Rattle.roman_session.specs.Situations.{Situation, IsSituation}
 use Rattle.roman_session.specs.Steps.{Step}
+use Rattle.roman_hearing.specs.States.{State}
 
 -- the behaviours that services may have are over the environment, as those of every library are
 abbrev pub AreBehaviours : NamedSys → Type 0
@@ -13,6 +14,10 @@ AreBehaviours parts = All (IsBehaviour parts.environment) parts.catalogue
 pub record AreNamed (parts : NamedSys) : Type 0 where
   pub behaviours : AreBehaviours parts
   pub environment : length parts.environment.states ≡ parts.environment.env.states
+
+-- what a situation shows: all but its removal list
+abbrev pub shown : Situation → State
+shown s = record { parts = s.parts; here = s.here; phase = s.phase }
 
 -- the situation is well formed, and its behaviours and its environment's names are as in every library
 pub record IsKnownSituation (s : Situation) : Type 0 where

@@ -4,13 +4,17 @@ use Rattle.roman_model.specs.Lists.{IsIn}
 use Rattle.roman_model.specs.System.{Sys, Pair}
 use Rattle.roman_model.specs.SystemArena.{outcomes, is_allowed}
 use Rattle.roman_model.specs.Offers.{is_related, offers}
+use Rattle.roman_text.specs.Shapes.{shape_of}
 use Rattle.roman_session.specs.Situations.{Situation, present_system, IsSituation}
 use Rattle.roman_session.specs.Rulings.{asked, seen}
 use Rattle.roman_generator.specs.declared.sight.Sight.{Sight}
-use Rattle.roman_session.specs.Steps.{Moves}
+use Rattle.roman_session.specs.Steps.{Moves, Step}
 use Rattle.roman_session.specs.Reports.{report_text}
 use Rattle.roman_start.specs.Starts.{parts_of, start_pair_of}
 use Rattle.roman_hearing.specs.Afresh.{afresh}
+use Rattle.roman_hearing.specs.Known.{shown, IsKnownSituation}
+use Rattle.roman_hearing.specs.States.{IsOpenGreat}
+use Rattle.roman_hearing.specs.Turns.{TurnsInto, KeepsWord}
 
 -- for a request that isn't refused some seat is offered
 abbrev pub RequestsAreOffered : Type 0
@@ -28,4 +32,14 @@ NotOfferedFails = (s : Sys) (p : Pair) (a k : ℕ) → k < length s.seats → Is
 
 -- the report is that of the library that begins where the session stands
 abbrev pub ReportsAreAfresh : Type 0
-ReportsAreAfresh = (s : Situation) → IsSituation s → report_text s.parts s.here ≡ report_text (parts_of (afresh s)) (start_pair_of (afresh s))
+ReportsAreAfresh =
+    (s : Situation) → IsSituation s → report_text s.parts s.here ≡ report_text (parts_of (afresh (shown s))) (start_pair_of (afresh (shown s)))
+
+-- each step from a well-formed situation is a turn: it leads from what is seen of the one to what is seen of the other, and keeps its word
+abbrev pub StepsAreTurns : Type 0
+StepsAreTurns = (old new : Situation) (line text : List ℕ) → IsKnownSituation old → Step old line text new →
+    TurnsInto (shown old) (shape_of line) (shown new) × KeepsWord (shown old) (shape_of line) text
+
+-- in a well-formed situation the open request can be served, and its delegate serves it
+abbrev pub OpenIsGreat : Type 0
+OpenIsGreat = (s : Situation) → IsSituation s → IsOpenGreat (shown s) s.phase

@@ -1,8 +1,12 @@
 pub mod Told
 pub mod Known
-pub mod Afresh
-pub mod Laws
+pub mod States
+pub mod Refutations
 pub mod Words
+pub mod Afresh
+pub mod Turns
+pub mod Events
+pub mod Laws
 pub mod Several
 pub mod Hearing
 pub mod HearingBytes

@@ -4,7 +4,7 @@ use Rattle.roman_io.specs.Shelf.{Texts}
 use Rattle.roman_model.specs.System.{Pair, IsPair}
 use Rattle.roman_model.specs.Composition.{Great}
 use Rattle.roman_model.specs.Several.{Several, GreatAll}
-use Rattle.roman_model.specs.Combined.{combined, couple_all}
+use Rattle.roman_model.specs.Combined.{combined, couple_all, IsSeveral}
 use Rattle.roman_joint.specs.NamedSys.{seat_of}
 use Rattle.roman_multi.specs.Combining.{machines}
 use Rattle.roman_library.specs.Documents.{library_of}
@@ -18,8 +18,10 @@ use Rattle.roman_hearing.specs.Told.{Told}
 abbrev pub several_in : PlainTargets → Situation → Several
 several_in said s = record { env = said.environment.env; targets = machines said.targets; seats = map (seat_of said.catalogue) s.parts.seats }
 
--- the present system is the one that stands for all of them, and a pair of it is related exactly where some simulation of them all holds it
+-- the targets and services are in range, the present system is the one that stands for all of them, and a pair of it is related exactly where
+-- some simulation of them all holds it
 pub record MeansAll (said : PlainTargets) (s : Situation) : Type 0 where
+  pub known : IsSeveral (several_in said s)
   pub system : present_system s ≡ combined (several_in said s)
   pub great : (p : Pair) → IsPair (present_system s) p → Great (present_system s) p ↔ GreatAll (several_in said s) (couple_all (several_in said s) p)
 

@@ -1,121 +1,106 @@
--- The word that a session keeps with each answer, said by the greatest ND-simulation.
-use Rattle.std.specs.Prelude.{◌⊎◌, ◌≡◌, ℕ, ◌<◌, Bool, List, [], ◌∷◌, ◌++◌, map, length, codes, Ok, IsTrue, ◌↔◌}
+-- What a session's answers say, by the greatest ND-simulation, by steps and by names.
+use Rattle.std.specs.Prelude.{◌≡◌, ℕ, ◌+◌, ◌<◌, Bool, List, [], ◌∷◌, ◌++◌, map, length, codes, Option, Some, IsTrue, IsFalse, ◌↔◌, slice_get}
 use Rattle.std.specs.List.{flat_map}
 use Rattle.roman_model.specs.Lists.{IsIn, IsSublist, HasNoRepeats, below}
-use Rattle.roman_model.specs.System.{Pair, IsPair, Allows, is_final}
-use Rattle.roman_model.specs.SystemArena.{pairs}
-use Rattle.roman_model.specs.Composition.{couple, Serves, GreatCouple, Great}
-use Rattle.roman_model.specs.Explanation.{name_at}
-use Rattle.roman_text.specs.Shapes.{LineShape, ask, hand, report, shape_of}
-use Rattle.roman_text.specs.declared.report.ReportLine.{ReportLine}
+use Rattle.roman_model.specs.Lines.{text_of_lines}
+use Rattle.roman_model.specs.System.{Seat, Sys, Pair, IsPair, is_final}
+use Rattle.roman_model.specs.Arena.{Entry}
+use Rattle.roman_model.specs.Composition.{Great}
+use Rattle.roman_model.specs.Explanation.{Names, name_at, lost_line, answer_line}
+use Rattle.roman_model.specs.Numbers.{sizes_of, count}
+use Rattle.roman_model.specs.declared.reason.Reason.{Reason}
+use Rattle.roman_model.specs.declared.reason.Reason.TheVariants.{Final, Act}
+use Rattle.roman_text.specs.Replies.{reply_text}
+use Rattle.roman_text.specs.declared.replies.Reply.{Reply}
+use Rattle.roman_text.specs.declared.replies.Reply.TheVariants as reply
 use Rattle.roman_text.specs.declared.report.ReportLine.TheVariants as line
-use Rattle.roman_session.specs.Situations.{Situation, present_system, IsSituation}
-use Rattle.roman_session.specs.Steps.{Step, service_at}
-use Rattle.roman_session.specs.Rulings.{named, service_named}
-use Rattle.roman_session.specs.Reports.{lines_text, report_text, service_lines}
-use Rattle.roman_start.specs.Starts.{parts_of, start_pair_of}
-use Rattle.roman_session.specs.declared.phase.Phase.{Phase}
-use Rattle.roman_session.specs.declared.phase.Phase.TheVariants.{Idle, Offered, Delegated}
-use Rattle.roman_hearing.specs.Afresh.{afresh}
+use Rattle.roman_joint.specs.NamedSys.{system_of}
+use Rattle.roman_joint.specs.Names.{seat_name, names_in}
+use Rattle.roman_session.specs.Reports.{lines_text, service_lines}
+use Rattle.roman_hearing.specs.States.{State, IsGreat, MayAsk, ServesHere}
+use Rattle.roman_hearing.specs.Refutations.{AreLost, WinsBy}
 
--- the current pair is related
-abbrev pub IsGreat : Situation → Type 0
-IsGreat s = Great (present_system s) s.here
+-- the text is that reply
+abbrev pub Replies : Reply → List ℕ → Type 0
+Replies said text = text ≡ reply_text said
 
--- the target may ask for the action
-abbrev pub MayAsk : Situation → ℕ → Type 0
-MayAsk s a = Allows (present_system s) s.here.t s.here.e a
+-- so many pairs of the system are as said
+pub record Counts (s : Sys) (IsAsSaid : Pair → Type 0) (n : ℕ) : Type 0 where
+  pub pairs : List Pair
+  pub once : HasNoRepeats pairs
+  pub each : (p : Pair) → IsIn p pairs ↔ (IsPair s p × IsAsSaid p)
+  pub count : length pairs ≡ n
 
--- the service at place k serves the action: it may answer each of the target's steps, and whatever it does leads to related pairs
-abbrev pub ServesHere : Situation → ℕ → ℕ → Type 0
-ServesHere s a k = Serves (present_system s) (GreatCouple (present_system s)) (couple s.here) a k
-
--- ---- requests
+-- ---- offers
 
 -- exactly the services that serve the action, in their order
-pub record AreServing (s : Situation) (a : ℕ) (ks : List ℕ) : Type 0 where
-  pub order : IsSublist ks (below (length (present_system s).seats))
-  pub exact : (k : ℕ) → IsIn k ks ↔ ((k < length (present_system s).seats) × ServesHere s a k)
+pub record AreServing (s : State) (a : ℕ) (ks : List ℕ) : Type 0 where
+  pub order : IsSublist ks (below (length (system_of s.parts).seats))
+  pub exact : (k : ℕ) → IsIn k ks ↔ ((k < length (system_of s.parts).seats) × ServesHere s a k)
 
 -- the text offers exactly these services
-pub record OffersServing (s : Situation) (a : ℕ) (text : List ℕ) : Type 0 where
+pub record OffersServing (s : State) (a : ℕ) (text : List ℕ) : Type 0 where
   pub services : List ℕ
   pub serving : AreServing s a services
-  pub says : text ≡ codes "offer" ++ flat_map (λ k. codes " " ++ service_at s k) services ++ codes "\n"
+  pub says : text ≡ codes "offer" ++ flat_map (λ k. codes " " ++ name_at (map seat_name s.parts.seats) k) services ++ codes "\n"
 
--- a request while none is open has one of three answers: `no composition` exactly where the pair isn't related; where it is,
--- `not allowed`, or the services that serve it
-pub record AnswersRequest (s : Situation) (a : ℕ) (text : List ℕ) : Type 0 where
-  pub refused : (text ≡ codes "no composition\n") ↔ (IsGreat s → ⊥)
-  pub decided : (IsGreat s → ⊥) ⊎ (IsGreat s × ((MayAsk s a → ⊥) ⊎ MayAsk s a))
-  pub forbidden : IsGreat s → (MayAsk s a → ⊥) → text ≡ codes "not allowed\n"
-  pub offers : IsGreat s → MayAsk s a → OffersServing s a text
+-- ---- changes
 
--- a request for an action of the document: while another is open it is refused as busy, and the pair is related
-pub record AnswersAsk (s : Situation) (action text : List ℕ) : Type 0 where
-  pub idle : (a : ℕ) → s.phase ≡ Idle → named s.parts.environment.actions action ≡ Ok a → AnswersRequest s a text
-  pub busy : (a : ℕ) → (s.phase ≡ Idle → ⊥) → named s.parts.environment.actions action ≡ Ok a → (text ≡ codes "error busy\n") × IsGreat s
-
--- a request is open only where it can be served, and is delegated only to a service that serves it
-abbrev pub IsOpenGreat : Situation → Phase → Type 0
-IsOpenGreat s Idle = Unit {0}
-IsOpenGreat s (Offered a) = IsGreat s × MayAsk s a
-IsOpenGreat s (Delegated a k) = IsGreat s × MayAsk s a × ServesHere s a k
-
--- a delegation of an open request is refused as not offered exactly where the service is present and doesn't serve it
-abbrev pub AnswersUse : Situation → ℕ → List ℕ → List ℕ → Type 0
-AnswersUse s a service text = (text ≡ codes "not offered\n") ↔ ((k : ℕ) × (service_named s service ≡ Ok k) × (ServesHere s a k → ⊥))
+-- kept and added entries are together as many as there are pairs that aren't related
+pub record CountsLost (s : State) (text : List ℕ) : Type 0 where
+  pub kept : ℕ
+  pub added : ℕ
+  pub lost : Counts (system_of s.parts) (λ p. Great (system_of s.parts) p → ⊥) (kept + added)
+  pub says : Replies (reply.Kept kept added) text
 
 -- ---- reports
 
--- the lines of a report that offer those services for an action
-abbrev pub offered_lines : Situation → ℕ → List ℕ → List ReportLine
-offered_lines s a ks = line.Offer (name_at s.parts.environment.actions a) ∷ (map (λ k. line.Serves (service_at s k)) ks ++ line.Stop ∷ [])
-
 -- the report tells how many pairs are related, whether the current one is, and there, for each action that the target may ask
 -- for, the services that serve it
-pub record ReportsGreat (s : Situation) (text : List ℕ) : Type 0 where
-  pub related : List Pair
-  pub once : HasNoRepeats related
-  pub each : (p : Pair) → IsIn p related ↔ (IsPair (present_system s) p × Great (present_system s) p)
+pub record ReportsGreat (s : State) (text : List ℕ) : Type 0 where
+  pub related : ℕ
+  pub counted : Counts (system_of s.parts) (Great (system_of s.parts)) related
   pub composes : Bool
-  pub answer : IsTrue composes ↔ IsGreat s
+  pub great : IsTrue composes ↔ IsGreat s
   pub actions : List ℕ
-  pub order : IsSublist actions (below (present_system s).env.actions)
+  pub order : IsSublist actions (below s.parts.environment.env.actions)
   pub allowed : (a : ℕ) → IsIn a actions ↔ (IsGreat s × MayAsk s a)
   pub services : ℕ → List ℕ
   pub serving : (a : ℕ) → IsIn a actions → AreServing s a (services a)
   pub says : text ≡ lines_text (
-      line.Pairs (length (pairs (present_system s)))
-      ∷ line.Related (length related)
+      line.Pairs (count (sizes_of (system_of s.parts)))
+      ∷ line.Related related
       ∷ line.Environment (name_at s.parts.environment.states s.here.e)
       ∷ line.Target (name_at s.parts.target.states s.here.t) (is_final s.parts.target.beh s.here.t)
       ∷ (service_lines s.parts.catalogue s.parts.seats s.here.bs
       ++ line.Answer composes
-      ∷ (flat_map (λ a. offered_lines s a (services a)) actions ++ line.End ∷ [])))
+      ∷ (flat_map (λ a.
+      line.Offer (name_at s.parts.environment.actions a)
+      ∷ (map (λ k. line.Serves (name_at (map seat_name s.parts.seats) k)) (services a) ++ line.Stop ∷ [])) actions
+      ++ line.End ∷ [])))
 
--- the answer to `report` is that of a synthesis afresh, and right
-pub record AnswersReport (s : Situation) (text : List ℕ) : Type 0 where
-  pub afresh : text ≡ report_text (parts_of (afresh s)) (start_pair_of (afresh s))
-  pub great : ReportsGreat s text
+-- ---- explanations
 
--- ---- the word
+-- the service at place k isn't frozen
+abbrev pub IsReady : State → ℕ → Type 0
+IsReady s k = (seat : Seat) × (slice_get (system_of s.parts).seats k ≡ Some seat) × IsFalse seat.frozen
 
--- what an answer to a line of that shape keeps
-abbrev pub KeepsOn : Situation → LineShape → List ℕ → Type 0
-KeepsOn s (ask action) text = AnswersAsk s action text
-KeepsOn s (hand service) text = (a : ℕ) → s.phase ≡ Offered a → AnswersUse s a service text
-KeepsOn s report text = AnswersReport s text
-KeepsOn s _ text = Unit {0}
+-- a line for the answer of each of those services, where the reason is a request
+abbrev pub lines_of_answers : Names → (ℕ → Option Pair) → List ℕ → Reason → List (List ℕ)
+lines_of_answers names answers ks Final = []
+lines_of_answers names answers ks (Act a) = map (λ k. answer_line names k (answers k)) ks
 
--- what an answer to a line keeps
-abbrev pub KeepsWord : Situation → List ℕ → List ℕ → Type 0
-KeepsWord s line text = (shape : LineShape) → shape_of line ≡ Ok shape → KeepsOn s shape text
-
--- each step from a well-formed situation keeps its word
-abbrev pub AnswersAreGreat : Type 0
-AnswersAreGreat = (old new : Situation) (line text : List ℕ) → IsSituation old → Step old line text new → KeepsWord old line text
-
--- in a well-formed situation the open request can be served, and its delegate serves it
-abbrev pub OpenIsGreat : Type 0
-OpenIsGreat = (s : Situation) → IsSituation s → IsOpenGreat s s.phase
+-- the text tells a removal list that ends with the current pair, with the answers of the services that are ready, and the opponent
+-- who plays by it wins
+pub record Refutes (s : State) (text : List ℕ) : Type 0 where
+  pub entries : List (Entry Pair)
+  pub answers : Entry Pair → ℕ → Option Pair
+  pub lost : AreLost (system_of s.parts) answers [] entries
+  pub last : (front : List (Entry Pair)) × (x : Entry Pair) × (entries ≡ front ++ x ∷ []) × (x.node ≡ s.here)
+  pub wins : WinsBy (system_of s.parts) answers entries (length entries) s.here
+  pub ready : List ℕ
+  pub order : IsSublist ready (below (length (system_of s.parts).seats))
+  pub exact : (k : ℕ) → IsIn k ready ↔ IsReady s k
+  pub says : text ≡ text_of_lines (
+      flat_map (λ x. lost_line (names_in s.parts) x ∷ lines_of_answers (names_in s.parts) (answers x) ready x.reason) entries
+      ++ codes "end" ∷ [])

@@ -1,8 +1,10 @@
-//! Laws over the definitions of sessions, each the contract of a function with no body.
+//! Laws over the definitions of sessions, each the contract of a function that does nothing.
+ghost use Rattle.roman_hearing.specs.Events.{LinesAreRead};
 ghost use Rattle.roman_hearing.specs.Known.{StepsStayKnown};
-ghost use Rattle.roman_hearing.specs.Laws.{RequestsAreOffered, OutcomesAreRelated, NotOfferedFails, ReportsAreAfresh};
+ghost use Rattle.roman_hearing.specs.Laws.{RequestsAreOffered, OutcomesAreRelated, NotOfferedFails, ReportsAreAfresh, StepsAreTurns, OpenIsGreat};
 ghost use Rattle.roman_hearing.specs.Several.{SeveralAreServed};
-ghost use Rattle.roman_hearing.specs.Words.{AnswersAreGreat, OpenIsGreat};
+
+use roman_text::spell_events;
 
 /// For a request that isn't refused at least one service is offered.
 pub fn requests_are_offered()
@@ -29,9 +31,17 @@ pub fn steps_stay_known()
     ensures known { StepsStayKnown }
 {}
 
-/// Requests, delegations and reports are answered by the greatest ND-simulation.
-pub fn answers_are_great()
-    ensures great { AnswersAreGreat }
+/// Each line is the event that its words spell, or none; where its shape is an error it is neither.
+pub fn lines_are_read()
+    ensures read { LinesAreRead }
+{
+    spell_events();
+}
+
+/// Each step is a turn: it leads where its event leads, and its text keeps the event's word. Both are
+/// said by the greatest ND-simulation, by steps and by names, without the removal list.
+pub fn steps_are_turns()
+    ensures turns { StepsAreTurns }
 {}
 
 /// A request is open only where it can be served, and is delegated only to a service that serves it.

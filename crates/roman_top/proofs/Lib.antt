@@ -12,6 +12,14 @@ pub mod ResilienceLemmas
 pub mod OutlookLemmas
 pub mod StageLemmas
 pub mod TalkLemmas
-pub mod MakeLemmas
 pub mod StartsKnown
+pub mod MakeLemmas
+pub mod ServingLemmas
+pub mod LossLemmas
+pub mod AdvisedLemmas
+pub mod CertifiedLemmas
+pub mod CheckedLemmas
+pub mod TurnLemmas
+pub mod MadeLemmas
+pub mod JobLemmas
 pub mod HeadlineLemmas

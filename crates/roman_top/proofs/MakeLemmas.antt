@@ -1,21 +1,23 @@
 -- Made systems, as part of a run.
-use Rattle.std.proofs.Common.{◌≡◌, ℕ, ◌<◌, ◌≤◌, ◌++◌, Bool, IsTrue, List, Option, Result, nat_le, refl, subst, arith}
+use Rattle.std.proofs.Common.{◌≡◌, ℕ, ◌<◌, ◌≤◌, ◌++◌, Bool, IsTrue, IsFalse, List, length, Option, Result, nat_le, refl, sym, subst, arith, ltb-true}
 use Rattle.std.proofs.lemmas.Bool.{leb-true}
 use Rattle.roman_io.specs.Sink.{Puts}
 use Rattle.roman_model.specs.Lists.{all_below}
-use Rattle.roman_model.proofs.CallerLemmas.{all_below_at}
-use Rattle.roman_library.specs.Library.{PlainLibrary}
+use Rattle.roman_model.proofs.CallerLemmas.{all_below_at, by_test}
+use Rattle.roman_library.specs.Library.{PlainLibrary, IsLibrary}
 use Rattle.roman_make.specs.Made.{made, floor, worker, shift}
 use Rattle.roman_joint.specs.NamedSys.{cells}
 use Rattle.roman_session.specs.Situations.{Situation}
 use Rattle.roman_session.specs.Starts.{IsStart}
+use Rattle.roman_hearing.specs.Known.{IsKnownSituation}
 use Rattle.roman_top.specs.Made.{made_line, stages, Passes}
-use Rattle.roman_top.specs.Opening.{library_system}
+use Rattle.roman_top.specs.Opening.{library_system, is_past_limit}
 use Rattle.roman_top.specs.Run.{Makes}
 use Rattle.roman_top.specs.Endings.{Finishes, Writes}
 use Rattle.roman_top.specs.declared.status.Status.{Status}
 use Rattle.roman_top.specs.declared.status.Status.TheVariants as status
 use Rattle.roman_top.proofs.EndingLemmas.{writes_put}
+use Rattle.roman_top.proofs.StartsKnown.{start_known}
 
 -- ---- the limit
 
@@ -43,11 +45,23 @@ not_past_limit library n is few past =
     let small = few_cells n few in
     omega arith
 
+-- so a session of one begins well formed
+named_made : (n : ℕ) → (length (made n).environment.states ≡ (made n).environment.env.states) × (length (made n).environment.actions ≡ (made n).environment.env.actions)
+unfolding made floor
+named_made n = (refl, refl)
+
+pub made_start : (library : PlainLibrary) (n : ℕ) (s : Situation) → library ≡ made n → n ≤ 10 → IsLibrary library → IsStart library s → IsKnownSituation s
+made_start library n s is few known start =
+    let (states, actions) = subst (λ (l : PlainLibrary). (length l.environment.states ≡ l.environment.env.states) × (length l.environment.actions ≡ l.environment.env.actions)) (sym is) (named_made n) in
+    let within : IsFalse (is_past_limit library) = by_test (is_past_limit library)
+    (λ past. absurd (not_past_limit library n is few (ltb-true library.limit (cells (library_system library)) past))) (λ within. within) in
+    start_known library s (record { known = known; states = states; actions = actions }) within start
+
 -- ---- the summary
 
 -- the summary of a session that went from stage to stage was put
-pub summarised : {T E : Type 0} (n : ℕ) (start : Situation) (lines : List ℕ) (old new : Option (List ℕ)) (result : Status) (r : Result T E) → IsStart (made n) start → Passes start stages lines →
+pub summarised : {T E : Type 0} (n : ℕ) (start : Situation) (lines : List ℕ) (old new : Option (List ℕ)) (result : Status) (r : Result T E) → IsStart (made n) start → IsKnownSituation start → Passes start stages lines →
     Puts old new (made_line n ++ lines) r → Finishes r status.Done result → Writes (Makes n) old new result
-summarised n start lines old new result r begins passes puts finishes =
+summarised n start lines old new result r begins known passes puts finishes =
     writes_put (Makes n) old new (made_line n ++ lines) status.Done result r puts finishes
-    (record { start = start; begins = begins; rest = lines; passes = passes; whole = refl }, refl) (λ w. w)
+    (record { start = start; begins = begins; known = known; rest = lines; passes = passes; whole = refl }, refl) (λ w. w)

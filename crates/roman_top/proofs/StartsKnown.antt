@@ -62,7 +62,8 @@ library_parts library is within = record {
   target = (is.target.env_states, is.target.actions);
 }
 
-start_known : (library : PlainLibrary) (s : Situation) → IsKnownLibrary library → IsFalse (is_past_limit library) → IsStart library s → IsKnownSituation s
+-- a library within its limit starts a well-formed situation
+pub start_known : (library : PlainLibrary) (s : Situation) → IsKnownLibrary library → IsFalse (is_past_limit library) → IsStart library s → IsKnownSituation s
 start_known library s is within start = record {
   situation = record {
     parts = subst IsNamedSys (sym start.parts) (library_parts library is.known within);

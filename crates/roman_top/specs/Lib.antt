@@ -19,3 +19,11 @@ pub mod Stages
 pub mod Verdicts
 pub mod Workers
 pub mod World
+pub mod HeadlineResilience
+pub mod HeadlineShortest
+pub mod HeadlineAdvise
+pub mod HeadlineCertify
+pub mod HeadlineCheck
+pub mod HeadlineJobs
+pub mod HeadlineTurns
+pub mod HeadlineMake

@@ -6,6 +6,7 @@ use Rattle.roman_make.specs.Made.{made}
 use Rattle.roman_make.specs.Script.{script_lines}
 use Rattle.roman_session.specs.Situations.{Situation, present_system}
 use Rattle.roman_session.specs.Starts.{IsStart}
+use Rattle.roman_hearing.specs.Known.{IsKnownSituation}
 use Rattle.roman_hearing.specs.Told.{Answers}
 
 -- `WORD pairs P related R composition`, or `none` in place of `composition`
@@ -38,10 +39,11 @@ Passes s (stage ∷ more) out =
 abbrev pub made_line : ℕ → List ℕ
 made_line n = codes "made " ++ decimal n ++ codes "\n"
 
--- the summary of the system of n
+-- the summary of the system of n, from a well-formed start on
 pub record Summarises (n : ℕ) (out : List ℕ) : Type 0 where
   pub start : Situation
   pub begins : IsStart (made n) start
+  pub known : IsKnownSituation start
   pub rest : List ℕ
   pub passes : Passes start stages rest
   pub whole : out ≡ made_line n ++ rest

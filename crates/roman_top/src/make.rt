@@ -1,6 +1,7 @@
 //! `make N`.
 ghost use Rattle.roman_make.specs.Made.{made};
 ghost use Rattle.roman_session.specs.Starts.{IsStart};
+ghost use Rattle.roman_hearing.specs.Known.{IsKnownSituation};
 ghost use Rattle.roman_top.specs.Run.{Makes};
 ghost use Rattle.roman_top.specs.Causes.{SinkCause};
 ghost use Rattle.roman_top.specs.Endings.{IsSpoken, Writes};
@@ -45,7 +46,8 @@ fn summarise_session<O: Sink, L: Ledger>(
     out: &mut O,
     steps: &mut Steps<L>,
 ) -> Status
-    requires { IsStart (made n) session }
+    requires start { IsStart (made n) session }
+    requires known { IsKnownSituation session }
     ensures writes { Writes (Makes n) (O.written out.old) (O.written out.new) result }
     ensures spoken { IsSpoken (O.written out.old) (O.written out.new) result }
     ensures out { SinkCause (O.faults out.old) (O.faults out.new) result }

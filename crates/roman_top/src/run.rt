@@ -19,7 +19,9 @@ use crate::shortest::shortest;
 use crate::status::{Status, finish};
 use crate::synth::synthesise;
 use crate::talking::{talk_input, talk_shelf};
+use roman_hearing::lines_are_read;
 use roman_io::{Failed, Shelf, Sink, Source, Steps, Words};
+use roman_model::greatest_is_complete;
 use std::alloc::Global;
 use std::sync::ledger::Ledger;
 
@@ -62,9 +64,9 @@ pub fn serve<F: Shelf, I: Source, O: Sink, L: Ledger>(
         (world (F.texts shelf.old) (F.faults shelf.old) (I.rest input.old) (I.faults input.old) (O.written out.old) (O.faults out.old))
         (world (F.texts shelf.new) (F.faults shelf.new) (I.rest input.new) (I.faults input.new) (O.written out.new) (O.faults out.new)) result }
 
-    // On its face, where neither a fault nor running out of memory ended the run: each answer of a
-    // session is a step that keeps its word, and the report of `synth` is right by the greatest
-    // ND-simulation.
+    // On its face, where neither a fault nor running out of memory ended the run: a session is a list of
+    // turns, each of which leads where its event does and keeps the event's word, and the report of
+    // `synth` and the texts of the other commands are right by the greatest ND-simulation.
     ensures headline { HasHeadline (command_of words.now)
         (world (F.texts shelf.old) (F.faults shelf.old) (I.rest input.old) (I.faults input.old) (O.written out.old) (O.faults out.old))
         (world (F.texts shelf.new) (F.faults shelf.new) (I.rest input.new) (I.faults input.new) (O.written out.new) (O.faults out.new)) result }
@@ -81,6 +83,8 @@ pub fn serve<F: Shelf, I: Source, O: Sink, L: Ledger>(
         (world (F.texts shelf.old) (F.faults shelf.old) (I.rest input.old) (I.faults input.old) (O.written out.old) (O.faults out.old))
         (world (F.texts shelf.new) (F.faults shelf.new) (I.rest input.new) (I.faults input.new) (O.written out.new) (O.faults out.new)) result }
 {
+    lines_are_read();
+    greatest_is_complete();
     match command_of(words) {
         Some(command) => obey(alloc, command, shelf, input, out, steps),
         None => finish(put_usage(out), Status::Usage),

@@ -1,0 +1,89 @@
+-- Each line is what its shape says.
+use Rattle.std.proofs.Common.{◌≡◌, ℕ, ◌≤◌, Bool, true, false, List, [], ◌∷◌, length, cond, codes, Result, Ok, Err, IsTrue, IsFalse, inl, inr, nat_lt, refl, sym, ◌∙◌, subst, ltb-true, ltb-false}
+use Rattle.std.specs.Str.{bytes_eq}
+use Rattle.std.specs.Str.Lines.{strip_carriage_return}
+use Rattle.std.proofs.lemmas.Bool.{false≢true, both_ways, cond-true, cond-false}
+use Rattle.roman_model.proofs.CallerLemmas.{by_test}
+use Rattle.roman_text.specs.Shapes.{LineShape, nothing, ask, hand, saw, abort, freeze, thaw, die, join, jump, jump_env, report, explain, quit, words_of, is_comment, by_words, shape_of_words, shape_of, spelling}
+use Rattle.roman_text.specs.declared.errors.LineError.{LineError}
+use Rattle.roman_text.specs.declared.errors.LineError.TheVariants.{Form, TooLong}
+use Rattle.roman_hearing.specs.Events.{Reads, LinesAreRead}
+
+-- words that aren't a comment aren't read as no event
+
+abbrev gives_nothing : Result LineShape LineError → Bool
+gives_nothing (Ok nothing) = true
+gives_nothing _ = false
+
+other_first : (b : Bool) (event : LineShape) (other : Result LineShape LineError) → IsFalse (gives_nothing (Ok event)) → IsFalse (gives_nothing other) → IsFalse (gives_nothing (cond b (Ok event) other))
+other_first true event other first rest = first
+other_first false event other first rest = rest
+
+words_give : (word : List ℕ) (more : List (List ℕ)) → IsFalse (gives_nothing (by_words word more))
+words_give word [] =
+    other_first (bytes_eq word (codes "abort")) abort _ refl
+    (other_first (bytes_eq word (codes "report")) report _ refl
+    (other_first (bytes_eq word (codes "explain")) explain _ refl
+    (other_first (bytes_eq word (codes "quit")) quit (Err Form) refl refl)))
+words_give word (a ∷ []) =
+    other_first (bytes_eq word (codes "do")) (ask a) _ refl
+    (other_first (bytes_eq word (codes "use")) (hand a) _ refl
+    (other_first (bytes_eq word (codes "freeze")) (freeze a) _ refl
+    (other_first (bytes_eq word (codes "thaw")) (thaw a) _ refl
+    (other_first (bytes_eq word (codes "die")) (die a) _ refl
+    (other_first (bytes_eq word (codes "jumpenv")) (jump_env a) (Err Form) refl refl)))))
+words_give word (a ∷ b ∷ []) =
+    other_first (bytes_eq word (codes "saw")) (saw a b) _ refl (other_first (bytes_eq word (codes "jump")) (jump a b) (Err Form) refl refl)
+words_give word (a ∷ b ∷ c ∷ []) = other_first (bytes_eq word (codes "join")) (join a b c false) (Err Form) refl refl
+words_give word (a ∷ b ∷ c ∷ d ∷ []) = other_first _ (join a b c true) (Err Form) refl refl
+words_give word (a ∷ b ∷ c ∷ d ∷ e ∷ more) = refl
+
+module _ (read : (event : LineShape) → shape_of_words (spelling event) ≡ Ok event) (only : (words : List (List ℕ)) (event : LineShape) → shape_of_words words ≡ Ok event → (event ≡ nothing → ⊥) → words ≡ spelling event)
+    (line : List ℕ) where
+  -- a shape that isn't that of a comment
+  shape_reads : (word : List ℕ) (more : List (List ℕ)) (r : Result LineShape LineError) → length line ≤ 256 → words_of (strip_carriage_return line) ≡ word ∷ more → IsFalse (is_comment word) →
+      shape_of_words (word ∷ more) ≡ r → IsFalse (gives_nothing r) → Reads line r
+  shape_reads word more (Err why) few words plain is some = inr (
+    λ (first, others, same, hash). both_ways (is_comment word) plain (subst (λ (w : List ℕ). IsTrue (is_comment w)) (let e : first ≡ word = same_word (sym same ∙ words) in e) hash),
+    λ event spelled.
+        let gives : shape_of_words (word ∷ more) ≡ Ok event = subst (λ (ws : List (List ℕ)). shape_of_words ws ≡ Ok event) (sym spelled ∙ words) (read event) in
+        ok_err event why (sym gives ∙ is),
+  )
+    where
+      same_word : {x y : List ℕ} {xs ys : List (List ℕ)} → x ∷ xs ≡ y ∷ ys → x ≡ y
+      same_word h = cc
+
+      ok_err : (event : LineShape) (why : LineError) → ◌≡◌ {A = Result LineShape LineError} (Ok event) (Err why) → ⊥
+      ok_err event why h = cc
+  shape_reads word more (Ok nothing) few words plain is some = absurd (false≢true (sym some))
+  shape_reads word more (Ok (ask a)) few words plain is some = (few, words ∙ only (word ∷ more) (ask a) is (λ h. absurd (let e : ⊥ = cc in e)))
+  shape_reads word more (Ok (hand a)) few words plain is some = (few, words ∙ only (word ∷ more) (hand a) is (λ h. absurd (let e : ⊥ = cc in e)))
+  shape_reads word more (Ok (saw a b)) few words plain is some = (few, words ∙ only (word ∷ more) (saw a b) is (λ h. absurd (let e : ⊥ = cc in e)))
+  shape_reads word more (Ok abort) few words plain is some = (few, words ∙ only (word ∷ more) abort is (λ h. absurd (let e : ⊥ = cc in e)))
+  shape_reads word more (Ok (freeze a)) few words plain is some = (few, words ∙ only (word ∷ more) (freeze a) is (λ h. absurd (let e : ⊥ = cc in e)))
+  shape_reads word more (Ok (thaw a)) few words plain is some = (few, words ∙ only (word ∷ more) (thaw a) is (λ h. absurd (let e : ⊥ = cc in e)))
+  shape_reads word more (Ok (die a)) few words plain is some = (few, words ∙ only (word ∷ more) (die a) is (λ h. absurd (let e : ⊥ = cc in e)))
+  shape_reads word more (Ok (join a b c l)) few words plain is some = (few, words ∙ only (word ∷ more) (join a b c l) is (λ h. absurd (let e : ⊥ = cc in e)))
+  shape_reads word more (Ok (jump a b)) few words plain is some = (few, words ∙ only (word ∷ more) (jump a b) is (λ h. absurd (let e : ⊥ = cc in e)))
+  shape_reads word more (Ok (jump_env a)) few words plain is some = (few, words ∙ only (word ∷ more) (jump_env a) is (λ h. absurd (let e : ⊥ = cc in e)))
+  shape_reads word more (Ok report) few words plain is some = (few, words ∙ only (word ∷ more) report is (λ h. absurd (let e : ⊥ = cc in e)))
+  shape_reads word more (Ok explain) few words plain is some = (few, words ∙ only (word ∷ more) explain is (λ h. absurd (let e : ⊥ = cc in e)))
+  shape_reads word more (Ok quit) few words plain is some = (few, words ∙ only (word ∷ more) quit is (λ h. absurd (let e : ⊥ = cc in e)))
+
+  words_read : (words : List (List ℕ)) → length line ≤ 256 → words_of (strip_carriage_return line) ≡ words → Reads line (shape_of_words words)
+  words_read [] few is = (few, inl is)
+  words_read (word ∷ more) few is = by_test (is_comment word)
+      (λ hash. subst (Reads line) (sym (cond-true (is_comment word) (Ok nothing) (by_words word more) hash)) (few, inr (word, more, is, hash)))
+      (λ plain. shape_reads word more (shape_of_words (word ∷ more)) few is plain refl
+      (subst (λ (r : Result LineShape LineError). IsFalse (gives_nothing r)) (sym (cond-false (is_comment word) (Ok nothing) (by_words word more) plain)) (words_give word more)))
+
+  line_reads : Reads line (shape_of line)
+  unfolding shape_of
+  line_reads =
+      let words = words_of (strip_carriage_return line) in
+      by_test (nat_lt 256 (length line))
+      (λ long. subst (Reads line) (sym (cond-true (nat_lt 256 (length line)) (Err TooLong) (shape_of_words words) long)) (inl (ltb-true 256 (length line) long)))
+      (λ short. subst (Reads line) (sym (cond-false (nat_lt 256 (length line)) (Err TooLong) (shape_of_words words) short)) (words_read words (ltb-false 256 (length line) short) refl))
+
+pub lines_read : ((event : LineShape) → shape_of_words (spelling event) ≡ Ok event) → ((words : List (List ℕ)) (event : LineShape) → shape_of_words words ≡ Ok event → (event ≡ nothing → ⊥) → words ≡ spelling event) → LinesAreRead
+lines_read read only line = line_reads read only line

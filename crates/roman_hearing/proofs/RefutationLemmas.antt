@@ -1,0 +1,212 @@
+-- What is told of a pair that isn't related is a removal list in the words of steps, and the opponent who plays by it wins.
+use Rattle.std.proofs.Common.{◌≡◌, ℕ, zero, suc, ◌+◌, ◌<◌, ◌==◌, Bool, true, false, not, ◌&&◌, ◌||◌, List, [], ◌∷◌, ◌++◌, length, codes, Option, None, Some, IsTrue, IsFalse, inl, inr, filter, find, slice_get, refl, sym, ap, ◌∙◌, subst, arith, append_assoc, eqb-true, eq-eqb}
+use Rattle.std.specs.List.{list_any}
+use Rattle.std.specs.Option.{option_to_list}
+use Rattle.std.proofs.lemmas.Bool.{false≢true, both_ways, and_parts, and_from, or_cases, or_parts, not-true, cond-true, cond-false}
+use Rattle.std.proofs.lemmas.Option.{none-some, slice_get_within}
+use Rattle.roman_model.specs.Lists.{IsIn, below, is_empty}
+use Rattle.roman_model.specs.Lines.{text_of_lines}
+use Rattle.roman_model.specs.System.{Seat, Sys, Pair, IsSys, is_final, all_final}
+use Rattle.roman_model.specs.SystemArena.{arena, outcomes, is_ready, same_numbers}
+use Rattle.roman_model.specs.Arena.{Entry, is_listed, is_beaten, is_justified, IsOrder}
+use Rattle.roman_model.specs.Composition.{Great}
+use Rattle.roman_model.specs.Explanation.{Names, entries_before, answer, ready_seats, answers, rests_on, explanation, lost_line, answer_lines, entry_lines, explain_text}
+use Rattle.roman_model.specs.declared.reason.Reason.{Reason}
+use Rattle.roman_model.specs.declared.reason.Reason.TheVariants.{Final, Act}
+use Rattle.roman_model.proofs.CallerLemmas.{IsSame, by_test, empty_is, filter_in, in_filter, filter_sublist, find_some, find_found, in_append_right, in_append_left, from_push, in_below, in_flat_map, flat_map_same, justified_is, listed_in, in_listed, order_middle, before_is, explanation_is_order, explanation_is_least, from_allowed, from_outcome, outcome_in, same_numbers_is, same_numbers_itself}
+use Rattle.roman_joint.specs.Names.{names_in}
+use Rattle.roman_session.specs.Situations.{Situation, present_system, IsSituation}
+use Rattle.roman_hearing.specs.Known.{shown}
+use Rattle.roman_hearing.specs.Refutations.{MayAnswer, IsLost, AreLost, WinsBy}
+use Rattle.roman_hearing.specs.Words.{IsReady, lines_of_answers, Refutes}
+
+-- the pairs of an arena are the same where their numbers are
+pub pairs_same : (s : Sys) → IsSame (arena s)
+pairs_same s = record {
+  is = λ p q h.
+      let (front, states) = and_parts (p.t == q.t && p.e == q.e) (same_numbers p.bs q.bs) h in
+      let (t, e) = and_parts (p.t == q.t) (p.e == q.e) front in
+      same_parts p q (eqb-true p.t q.t t) (eqb-true p.e q.e e) (same_numbers_is p.bs q.bs states);
+  itself = λ p. and_from (p.t == p.t && p.e == p.e) (same_numbers p.bs p.bs) (and_from (p.t == p.t) (p.e == p.e) (eq-eqb p.t p.t refl) (eq-eqb p.e p.e refl)) (same_numbers_itself p.bs);
+}
+  where
+    same_parts : (p q : Pair) → p.t ≡ q.t → p.e ≡ q.e → p.bs ≡ q.bs → p ≡ q
+    same_parts p q t e bs =
+        ap (λ (t : ℕ). record { t = t; e = p.e; bs = p.bs }) t
+        ∙ ap (λ (e : ℕ). record { t = q.t; e = e; bs = p.bs }) e
+        ∙ ap (λ (bs : List ℕ). record { t = q.t; e = q.e; bs = bs }) bs
+
+-- Losing more
+
+-- what is lost where some pairs are gone is lost where more are
+lost_more : (s : Sys) (Gone More : Pair → Type 0) (answers : ℕ → Option Pair) (p : Pair) (r : Reason) → ((q : Pair) → Gone q → More q) → IsLost s Gone answers p r → IsLost s More answers p r
+lost_more s Gone More answers p Final more lost = lost
+lost_more s Gone More answers p (Act a) more lost = (lost.0, λ k l. more_answer k (answers k) (lost.1 k l))
+  where
+    more_answer : (k : ℕ) (o : Option Pair) → MayAnswer s Gone p a k o → MayAnswer s More p a k o
+    more_answer k None never = never
+    more_answer k (Some q) (goes, gone) = (goes, more q gone)
+
+module _ (s : Sys) (answers : Entry Pair → ℕ → Option Pair) (all : List (Entry Pair)) where
+  wins_more : (n : ℕ) (p : Pair) → WinsBy s answers all n p → WinsBy s answers all (suc n) p
+  wins_more zero p none = absurd none
+  wins_more (suc n) p (x, i, same, lost) =
+      (x, i, same, lost_more s (WinsBy s answers all n) (WinsBy s answers all (suc n)) (answers x) p x.reason (wins_more n) lost)
+
+  wins_later : (m n : ℕ) (p : Pair) → WinsBy s answers all n p → WinsBy s answers all (m + n) p
+  wins_later zero n p wins = subst (λ (k : ℕ). WinsBy s answers all k p) (let e : n ≡ 0 + n = omega arith in e) wins
+  wins_later (suc m) n p wins = subst (λ (k : ℕ). WinsBy s answers all k p) (let e : suc (m + n) ≡ suc m + n = omega arith in e) (wins_more (m + n) p (wins_later m n p wins))
+
+  -- who wins from the pairs before wins from the others, by as many entries more as there are
+  wins_from : (n : ℕ) (before : List Pair) (rest : List (Entry Pair)) → ((q : Pair) → IsIn q before → WinsBy s answers all n q) → ((x : Entry Pair) → IsIn x rest → IsIn x all) →
+      AreLost s answers before rest → (x : Entry Pair) → IsIn x rest → WinsBy s answers all (length rest + n) x.node
+  wins_from n before [] wins within lost x none = absurd none
+  wins_from n before (y ∷ rest) wins within lost x i =
+      let here : WinsBy s answers all (suc n) y.node =
+      (y, within y (inl refl), refl, lost_more s (λ q. IsIn q before) (WinsBy s answers all n) (answers y) y.node y.reason wins lost.1) in
+      let sum : length rest + suc n ≡ length (y ∷ rest) + n = omega arith in
+      subst (λ (k : ℕ). WinsBy s answers all k x.node) sum (elim i [
+        | inl e ↦ wins_later (length rest) (suc n) x.node (subst (λ (x : Entry Pair). WinsBy s answers all (suc n) x.node) (sym e) here)
+        | inr j ↦ wins_from (suc n) (y.node ∷ before) rest
+            (λ q k. elim k [ inl e ↦ subst (WinsBy s answers all (suc n)) (sym e) here | inr l ↦ wins_more n q (wins q l) ])
+            (λ x i. within x (inr i)) lost.2 x j
+      ])
+
+-- The explanation
+
+module _ (s : Sys) (ok : IsSys s) (L : List (Entry Pair)) (p : Pair) (order : IsOrder (arena s) L) (listed : IsTrue (is_listed (arena s) L p)) where
+  abbrev is_shown : Entry Pair → Bool
+  is_shown x = rests_on (arena s) L (length L) p x.node
+
+  -- the defeating answer of seat k to the entry's request
+  abbrev answer_by : Reason → Pair → ℕ → Option Pair
+  answer_by Final q k = None
+  answer_by (Act a) q k = answer (arena s) L q a k
+
+  abbrev answer_to : Entry Pair → ℕ → Option Pair
+  answer_to x k = answer_by x.reason x.node k
+
+  -- an answer to an entry that is told is that of one told before
+  answer_shown : (done : List (Entry Pair)) (x : Entry Pair) (rest : List (Entry Pair)) (a k : ℕ) (q : Pair) → L ≡ done ++ x ∷ rest → IsTrue (is_shown x) → x.reason ≡ Act a → k < length s.seats →
+      IsTrue (is_listed (arena s) done q) → IsIn q (outcomes s x.node a k) → answer (arena s) L x.node a k ≡ Some q → (y : Entry Pair) × IsIn y done × IsTrue (is_shown y) × (q ≡ y.node)
+  answer_shown done x rest a k q whole told act l there out is =
+      let there_in = subst (λ (M : List (Entry Pair)). IsIn x M) (sym whole) (in_append_right x done (x ∷ rest) (inl refl)) in
+      let step = (from_outcome s x.node a k q out).1 in
+      let ready : IsTrue (is_ready (slice_get s.seats k)) = ap is_ready step.seated ∙ ap not step.ready in
+      let answered : IsIn q (answers (arena s) L x.node (Act a)) =
+      in_flat_map (λ j. option_to_list (answer (arena s) L x.node a j)) k q (ready_seats (arena s))
+      (in_filter (arena s).ready k (below (arena s).seats) (in_below (arena s).seats k l) ready) (subst (λ (o : Option Pair). IsIn q (option_to_list o)) (sym is) (inl refl)) in
+      let closed = (explanation_is_least s L p listed).closed in
+      let shown_too = closed.answered x there_in (in_listed (arena s) (pairs_same s) (explanation (arena s) L p) x (in_filter is_shown x L there_in told)) q
+      (subst (λ (r : Reason). IsIn q (answers (arena s) L x.node r)) (sym act) answered) in
+      let (z, i, same) = listed_in (arena s) (pairs_same s) (explanation (arena s) L p) q shown_too in
+      let (y, j, here) = listed_in (arena s) (pairs_same s) done q there in
+      (y, j, subst (λ (q : Pair). IsTrue (rests_on (arena s) L (length L) p q)) (sym same ∙ here) (filter_in is_shown z L i).1, here)
+
+  -- the answers of an entry that is told are those that its text tells
+  answers_lose : (done : List (Entry Pair)) (x : Entry Pair) (rest : List (Entry Pair)) (before : List Pair) (a k : ℕ) → L ≡ done ++ x ∷ rest → IsTrue (is_shown x) → x.reason ≡ Act a → k < length s.seats →
+      ((y : Entry Pair) → IsIn y done → IsTrue (is_shown y) → IsIn y.node before) → IsTrue (is_beaten (arena s) (is_listed (arena s) done) x.node a k) →
+      (o : Option Pair) → answer (arena s) L x.node a k ≡ o → find (is_listed (arena s) done) (outcomes s x.node a k) ≡ o → MayAnswer s (λ q. IsIn q before) x.node a k o
+  answers_lose done x rest before a k whole told act l holds beaten None is found = λ q (target, system).
+      let out = outcome_in s x.node a k q.t q.e q.bs ok target system in
+      elim (or_cases (is_empty (outcomes s x.node a k)) (list_any (is_listed (arena s) done) (outcomes s x.node a k)) beaten) [
+        | inl empty ↦ subst (λ (qs : List Pair). IsIn q qs) (empty_is (outcomes s x.node a k) empty) out
+        | inr some ↦ let (v, first) = find_found (is_listed (arena s) done) (outcomes s x.node a k) some in none-some v (sym found ∙ first)
+      ]
+  answers_lose done x rest before a k whole told act l holds beaten (Some q) is found =
+      let (out, there) = find_some (is_listed (arena s) done) (outcomes s x.node a k) q found in
+      let (y, j, shown_too, same) = answer_shown done x rest a k q whole told act l there out is in
+      (from_outcome s x.node a k q out, subst (λ (q : Pair). IsIn q before) (sym same) (holds y j shown_too))
+
+  lost_by : (done : List (Entry Pair)) (x : Entry Pair) (rest : List (Entry Pair)) (before : List Pair) (r : Reason) → L ≡ done ++ x ∷ rest → IsFalse (is_listed (arena s) done x.node) → IsTrue (is_shown x) → x.reason ≡ r →
+      ((y : Entry Pair) → IsIn y done → IsTrue (is_shown y) → IsIn y.node before) → IsTrue (is_justified (arena s) (is_listed (arena s) done) x.node r) →
+      IsLost s (λ q. IsIn q before) (answer_by r x.node) x.node r
+  lost_by done x rest before Final whole new told act holds justified =
+      let (target, system) = or_parts (not (is_final s.target x.node.t)) (all_final s.seats x.node.bs) (not-true (not (is_final s.target x.node.t) || all_final s.seats x.node.bs) justified) in
+      (not_false (is_final s.target x.node.t) target, system)
+    where
+      not_false : (b : Bool) → IsFalse (not b) → IsTrue b
+      not_false true h = refl
+      not_false false h = absurd (false≢true (sym h))
+  lost_by done x rest before (Act a) whole new told act holds justified =
+      let (allowed, each) = justified_is (arena s) (is_listed (arena s) done) x.node a justified in
+      let before_is : entries_before (arena s) L x.node ≡ done = ap (λ (M : List (Entry Pair)). entries_before (arena s) M x.node) whole ∙ before_is (arena s) done x rest ((pairs_same s).itself x.node) new in (
+        from_allowed s x.node a allowed,
+        λ k l.
+            answers_lose done x rest before a k whole told act l holds (each k l) (answer (arena s) L x.node a k) refl
+            (ap (λ (M : List (Entry Pair)). find (is_listed (arena s) M) (outcomes s x.node a k)) (sym before_is)),
+      )
+
+  told_lost : (done rest : List (Entry Pair)) (before : List Pair) → L ≡ done ++ rest → ((y : Entry Pair) → IsIn y done → IsTrue (is_shown y) → IsIn y.node before) →
+      ((q : Pair) → IsIn q before → IsTrue (is_listed (arena s) done q)) → AreLost s answer_to before (filter is_shown rest)
+  told_lost done [] before whole holds only = tt
+  told_lost done (x ∷ rest) before whole holds only =
+      let (new, justified) = order_middle (arena s) done rest x (subst (IsOrder (arena s)) whole order) in
+      let more : L ≡ (done ++ x ∷ []) ++ rest = whole ∙ sym (append_assoc done (x ∷ []) rest) in
+      let further : (q : Pair) → IsTrue (is_listed (arena s) done q) → IsTrue (is_listed (arena s) (done ++ x ∷ []) q) =
+      λ q there. let (y, i, same) = listed_in (arena s) (pairs_same s) done q there in
+      subst (λ (q : Pair). IsTrue (is_listed (arena s) (done ++ x ∷ []) q)) (sym same) (in_listed (arena s) (pairs_same s) (done ++ x ∷ []) y (in_append_left y done (x ∷ []) i)) in
+      by_test (is_shown x)
+      (λ told. subst (AreLost s answer_to before) (sym (cond-true (is_shown x) (x ∷ filter is_shown rest) (filter is_shown rest) told)) (
+        λ i. both_ways (is_listed (arena s) done x.node) new (only x.node i),
+        lost_by done x rest before x.reason whole new told refl holds justified,
+        told_lost (done ++ x ∷ []) rest (x.node ∷ before) more
+            (λ y i told. elim (from_push y x done i) [ inl j ↦ inr (holds y j told) | inr e ↦ inl (ap (λ (y : Entry Pair). y.node) e) ])
+            (λ q i. elim i [
+              | inl e ↦ subst (λ (q : Pair). IsTrue (is_listed (arena s) (done ++ x ∷ []) q)) (sym e)
+                  (in_listed (arena s) (pairs_same s) (done ++ x ∷ []) x (in_append_right x done (x ∷ []) (inl refl)))
+              | inr j ↦ further q (only q j)
+            ]),
+      ))
+      (λ hidden. subst (AreLost s answer_to before) (sym (cond-false (is_shown x) (x ∷ filter is_shown rest) (filter is_shown rest) hidden))
+      (told_lost (done ++ x ∷ []) rest before more
+      (λ y i told. elim (from_push y x done i) [
+        | inl j ↦ holds y j told
+        | inr e ↦ absurd (both_ways (is_shown x) hidden (subst (λ (y : Entry Pair). IsTrue (is_shown y)) e told))
+      ])
+      (λ q i. further q (only q i))))
+
+  -- the lines of an entry
+  lines_are : (names : Names) (x : Entry Pair) → entry_lines s names L x ≡ lost_line names x ∷ lines_of_answers names (answer_to x) (ready_seats (arena s)) x.reason
+  lines_are names x = ap (λ (ls : List (List ℕ)). lost_line names x ∷ ls) (by_reason x.reason)
+    where
+      by_reason : (r : Reason) → answer_lines s names L x.node r ≡ lines_of_answers names (answer_by r x.node) (ready_seats (arena s)) r
+      by_reason Final = refl
+      by_reason (Act a) = refl
+
+-- the seats that are ready
+ready_exact : (s : Situation) (k : ℕ) → IsIn k (ready_seats (arena (present_system s))) → IsReady (shown s) k
+ready_exact s k i = by_seat (slice_get (present_system s).seats k) refl (filter_in (arena (present_system s)).ready k (below (length (present_system s).seats)) i).1
+  where
+    by_seat : (o : Option Seat) → slice_get (present_system s).seats k ≡ o → IsTrue (is_ready o) → IsReady (shown s) k
+    by_seat None e ready = absurd (false≢true ready)
+    by_seat (Some seat) e ready = (seat, e, not-true seat.frozen ready)
+
+ready_from : (s : Situation) (k : ℕ) → IsReady (shown s) k → IsIn k (ready_seats (arena (present_system s)))
+ready_from s k (seat, there, ready) =
+    in_filter (arena (present_system s)).ready k (below (length (present_system s).seats))
+    (in_below (length (present_system s).seats) k (slice_get_within (present_system s).seats k seat there)) (ap is_ready there ∙ ap not ready)
+
+pub refutes : (s : Situation) (text : List ℕ) → IsSituation s → (Great (present_system s) s.here → ⊥) → text ≡ explain_text (present_system s) (names_in s.parts) s.list s.here → Refutes (shown s) text
+refutes s text is lost says =
+    let sys = present_system s in
+    let listed = (is.list.exact s.here is.here).1 lost in
+    let explained = explanation_is_order sys s.list s.here is.parts.system is.list.order listed in
+    let told = explanation (arena sys) s.list s.here in
+    let removed = told_lost sys is.parts.system s.list s.here is.list.order listed [] s.list [] refl (λ y none. absurd none) (λ q none. absurd none) in
+    let (front, x, whole, here) = explained.last in
+    record {
+      entries = told;
+      answers = answer_to sys is.parts.system s.list s.here is.list.order listed;
+      lost = removed;
+      last = explained.last;
+      wins = subst (λ (k : ℕ). WinsBy sys (answer_to sys is.parts.system s.list s.here is.list.order listed) told k s.here) (let e : length told + 0 ≡ length told = omega arith in e)
+          (subst (WinsBy sys (answer_to sys is.parts.system s.list s.here is.list.order listed) told (length told + 0)) here
+          (wins_from sys (answer_to sys is.parts.system s.list s.here is.list.order listed) told 0 [] told (λ q none. absurd none) (λ x i. i) removed x
+          (subst (λ (M : List (Entry Pair)). IsIn x M) (sym whole) (in_append_right x front (x ∷ []) (inl refl)))));
+      ready = ready_seats (arena sys);
+      order = filter_sublist (arena sys).ready (below (length sys.seats));
+      exact = λ k. (ready_exact s k, ready_from s k);
+      says = says ∙ ap (λ (ls : List (List ℕ)). text_of_lines (ls ++ codes "end" ∷ []))
+          (flat_map_same (entry_lines sys (names_in s.parts) s.list) _ told (lines_are sys is.parts.system s.list s.here is.list.order listed (names_in s.parts)));
+    }

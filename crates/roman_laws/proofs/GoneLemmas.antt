@@ -1,0 +1,119 @@
+-- Seats that go one after the other.
+use Rattle.std.proofs.Common.{◌≡◌, ℕ, zero, suc, ◌==◌, Bool, true, false, cond, not, ◌||◌, List, [], ◌∷◌, ◌++◌, Some, IsTrue, IsFalse, slice_get, slice_index, remove, refl, sym, ap, ap₂, ◌∙◌, subst, inl, inr, arith}
+use Rattle.std.proofs.lemmas.Bool.{false≢true, both_ways, eq-eqb, eqb-true, or_right, or_cases}
+use Rattle.std.proofs.lemmas.Option.{none-some}
+use Rattle.roman_model.specs.Lists.{IsIn}
+use Rattle.roman_model.specs.System.{Sys, Pair, has, IsSys, IsPair, is_final}
+use Rattle.roman_model.specs.Composition.{Great}
+use Rattle.roman_model.specs.Without.{leave_out, system_without, pair_without}
+use Rattle.roman_model.specs.declared.way.Way.TheVariants as way
+use Rattle.roman_model.proofs.CallerLemmas.{by_test, same_test, in_append_left, in_append_right, from_append, number_listed, listed_number, left}
+use Rattle.roman_laws.specs.Losing.{GreatWithout, ArePart, MayGoAt}
+use Rattle.roman_laws.proofs.ReducedLemmas.{IsSys-reduced, IsPair-reduced}
+use Rattle.roman_laws.proofs.LosingLemmas.{great_with_gone}
+
+suc_same : (i k : ℕ) → (suc i == suc k) ≡ (i == k)
+suc_same i k = same_test (suc i == suc k) (i == k)
+    (λ t. let e : suc i ≡ suc k = eqb-true (suc i) (suc k) t in eq-eqb i k (omega arith))
+    (λ t. let e : i ≡ k = eqb-true i k t in eq-eqb (suc i) (suc k) (omega arith))
+
+zero_other : (i : ℕ) → (0 == suc i) ≡ false
+zero_other i = same_test (0 == suc i) false (λ t. let e : 0 ≡ suc i = eqb-true 0 (suc i) t in absurd (omega arith)) (λ f. absurd (false≢true f))
+
+other_zero : (k : ℕ) → (suc k == 0) ≡ false
+other_zero k = same_test (suc k == 0) false (λ t. let e : suc k ≡ 0 = eqb-true (suc k) 0 t in absurd (omega arith)) (λ f. absurd (false≢true f))
+
+leave_out_same : {X : Type 0} (at bt : ℕ → Bool) (xs : List X) → ((i : ℕ) → at i ≡ bt i) → leave_out at xs ≡ leave_out bt xs
+leave_out_same at bt [] same = refl
+leave_out_same at bt (x ∷ xs) same = ap₂ (λ b ys. cond b ys (x ∷ ys)) (same 0) (leave_out_same (λ i. at (suc i)) (λ i. bt (suc i)) xs (λ i. same (suc i)))
+
+-- the place that j has where the places that pass are left out
+abbrev pub place_left : (ℕ → Bool) → ℕ → ℕ
+place_left at zero = zero
+place_left at (suc j) = cond (at 0) (place_left (λ i. at (suc i)) j) (suc (place_left (λ i. at (suc i)) j))
+
+remove_none : {X : Type 0} (n : ℕ) → let none : List X = [] in remove none n ≡ none
+remove_none zero = refl
+remove_none (suc n) = refl
+
+-- to leave out one place more is to remove it from what is left
+leave_one_more : {X : Type 0} (at bt : ℕ → Bool) (j : ℕ) (xs : List X) → IsFalse (at j) → ((i : ℕ) → bt i ≡ ((j == i) || at i)) → leave_out bt xs ≡ remove (leave_out at xs) (place_left at j)
+leave_one_more at bt j [] f more = sym (remove_none (place_left at j))
+leave_one_more at bt zero (x ∷ xs) f more =
+    ap₂ (λ b ys. cond b ys (x ∷ ys)) (more 0) (leave_out_same (λ i. bt (suc i)) (λ i. at (suc i)) xs (λ i. more (suc i) ∙ ap (λ b. b || at (suc i)) (zero_other i)))
+    ∙ sym (ap (λ b. remove (cond b (leave_out (λ i. at (suc i)) xs) (x ∷ leave_out (λ i. at (suc i)) xs)) 0) f)
+leave_one_more {X} at bt (suc j) (x ∷ xs) f more =
+    ap₂ (λ b ys. cond b ys (x ∷ ys)) (more 0 ∙ ap (λ b. b || at 0) (other_zero j))
+    (leave_one_more (λ i. at (suc i)) (λ i. bt (suc i)) j xs f (λ i. more (suc i) ∙ ap (λ b. b || at (suc i)) (suc_same j i)))
+    ∙ by_first (at 0)
+  where
+    rest : List X
+    rest = leave_out (λ i. at (suc i)) xs
+
+    by_first : (b : Bool) → cond b (remove rest (place_left (λ i. at (suc i)) j)) (x ∷ remove rest (place_left (λ i. at (suc i)) j))
+        ≡ remove (cond b rest (x ∷ rest)) (cond b (place_left (λ i. at (suc i)) j) (suc (place_left (λ i. at (suc i)) j)))
+    by_first true = refl
+    by_first false = refl
+
+-- who stays has that place
+get_left : {X : Type 0} (at : ℕ → Bool) (j : ℕ) (xs : List X) (x : X) → IsFalse (at j) → slice_get xs j ≡ Some x → slice_get (leave_out at xs) (place_left at j) ≡ Some x
+get_left at j [] x f e = absurd (none-some x e)
+get_left at zero (y ∷ xs) x f e = ap (λ b. slice_get (cond b (leave_out (λ i. at (suc i)) xs) (y ∷ leave_out (λ i. at (suc i)) xs)) 0) f ∙ e
+get_left {X} at (suc j) (y ∷ xs) x f e = by_first (at 0) ∙ get_left (λ i. at (suc i)) j xs x f e
+  where
+    rest : List X
+    rest = leave_out (λ i. at (suc i)) xs
+
+    by_first : (b : Bool) → slice_get (cond b rest (y ∷ rest)) (cond b (place_left (λ i. at (suc i)) j) (suc (place_left (λ i. at (suc i)) j))) ≡ slice_get rest (place_left (λ i. at (suc i)) j)
+    by_first true = refl
+    by_first false = refl
+
+index_none : (n m : ℕ) → slice_index [] n ≡ slice_index [] m
+index_none n m = refl
+
+index_left : (at : ℕ → Bool) (j : ℕ) (bs : List ℕ) → IsFalse (at j) → slice_index (leave_out at bs) (place_left at j) ≡ slice_index bs j
+index_left at j [] f = index_none (place_left at j) j
+index_left at zero (b ∷ bs) f = ap (λ c. slice_index (cond c (leave_out (λ i. at (suc i)) bs) (b ∷ leave_out (λ i. at (suc i)) bs)) 0) f
+index_left at (suc j) (b ∷ bs) f = by_first (at 0) ∙ index_left (λ i. at (suc i)) j bs f
+  where
+    rest : List ℕ
+    rest = leave_out (λ i. at (suc i)) bs
+
+    by_first : (c : Bool) → slice_index (cond c rest (b ∷ rest)) (cond c (place_left (λ i. at (suc i)) j) (suc (place_left (λ i. at (suc i)) j))) ≡ slice_index rest (place_left (λ i. at (suc i)) j)
+    by_first true = refl
+    by_first false = refl
+
+-- the same places, listed otherwise
+same_without : (s : Sys) (p : Pair) (K J : List ℕ) → ((i : ℕ) → has K i ≡ has J i) → GreatWithout way.Die s p K → GreatWithout way.Die s p J
+same_without s p K J same great =
+    subst (λ bs. Great (system_without way.Die J s) (record { t = p.t; e = p.e; bs = bs })) (leave_out_same (has K) (has J) p.bs same)
+    (subst (λ seats. Great (record { env = s.env; target = s.target; seats = seats }) (pair_without way.Die K p)) (leave_out_same (has K) (has J) s.seats same) great)
+
+-- one seat that may go comes back
+one_back : (s : Sys) (p : Pair) (K : List ℕ) (j : ℕ) → IsSys s → IsPair s p → IsFalse (has K j) → MayGoAt s p j → GreatWithout way.Die s p (j ∷ K) → GreatWithout way.Die s p K
+one_back s p K j ok pair f (seat, seated, goes) great =
+    great_with_gone (system_without way.Die K s) (place_left (has K) j) seat (pair_without way.Die K p) (IsSys-reduced way.Die K s ok) (IsPair-reduced way.Die K s p pair)
+    (get_left (has K) j s.seats seat f seated)
+    (subst (λ b. IsTrue (not seat.rests || is_final seat.beh b)) (sym (index_left (has K) j p.bs f)) goes)
+    (subst (λ bs. Great (left (system_without way.Die K s) (place_left (has K) j)) (record { t = p.t; e = p.e; bs = bs })) (leave_one_more (has K) (has (j ∷ K)) j p.bs f (λ i. refl))
+    (subst (λ seats. Great (record { env = s.env; target = s.target; seats = seats }) (pair_without way.Die (j ∷ K) p)) (leave_one_more (has K) (has (j ∷ K)) j s.seats f (λ i. refl)) great))
+
+pub more_back : (s : Sys) (p : Pair) (js K : List ℕ) → IsSys s → IsPair s p → ((k : ℕ) → IsIn k js → (IsIn k K → ⊥) → MayGoAt s p k) → GreatWithout way.Die s p (js ++ K) → GreatWithout way.Die s p K
+more_back s p [] K ok pair may great = great
+more_back s p (j ∷ js) K ok pair may great =
+    more_back s p js K ok pair (λ k i. may k (inr i))
+    (by_test (has (js ++ K) j)
+    (λ t. same_without s p (j ∷ (js ++ K)) (js ++ K) (λ i. same_test (has (j ∷ (js ++ K)) i) (has (js ++ K) i)
+    (λ u. elim (or_cases (j == i) (has (js ++ K) i) u) [ inl here ↦ subst (λ n. IsTrue (has (js ++ K) n)) (eqb-true j i here) t | inr there ↦ there ])
+    (λ u. or_right (j == i) (has (js ++ K) i) u)) great)
+    (λ f. one_back s p (js ++ K) j ok pair f
+    (may j (inl refl) (λ i. both_ways (has (js ++ K) j) f (listed_number (js ++ K) j (in_append_right j js K i)))) great))
+
+pub more_gone : (s : Sys) (p : Pair) (K J : List ℕ) → IsSys s → IsPair s p → ArePart K J → ((k : ℕ) → IsIn k J → (IsIn k K → ⊥) → MayGoAt s p k) →
+    GreatWithout way.Die s p J → GreatWithout way.Die s p K
+more_gone s p K J ok pair more may great = more_back s p J K ok pair may (same_without s p J (J ++ K) both great)
+  where
+    both : (i : ℕ) → has J i ≡ has (J ++ K) i
+    both i = same_test (has J i) (has (J ++ K) i)
+        (λ t. listed_number (J ++ K) i (in_append_left i J K (number_listed J i t)))
+        (λ t. listed_number J i (elim (from_append i J K (number_listed (J ++ K) i t)) [ inl left ↦ left | inr right ↦ more i right ]))

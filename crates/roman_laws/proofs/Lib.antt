@@ -1,0 +1,12 @@
+pub mod SimulationLemmas
+pub mod ControllerLemmas
+pub mod ReducedLemmas
+pub mod LosingLemmas
+pub mod GoneLemmas
+pub mod LosingLaws
+pub mod LosingExamples
+pub mod PlaceLemmas
+pub mod CombinedSteps
+pub mod RequestLemmas
+pub mod NewLists
+pub mod RepairLemmas

@@ -1,0 +1,205 @@
+-- What is related with more seats frozen is related with fewer, and what is related without a seat that may go is related with it.
+use Rattle.std.proofs.Common.{◌≡◌, ℕ, zero, suc, ◌<◌, Bool, true, not, ◌&&◌, ◌||◌, List, [], ◌∷◌, length, Some, IsTrue, IsFalse, slice_get, slice_index, slice_set, remove, refl, sym, ap, ap₂, ◌∙◌, subst}
+use Rattle.std.specs.List.{AllZip}
+use Rattle.std.proofs.lemmas.Bool.{or_parts, or_from}
+use Rattle.std.proofs.lemmas.List.{length-set}
+use Rattle.std.proofs.lemmas.Option.{none-some, same_Some, slice_get_within}
+use Rattle.roman_model.specs.Lists.{IsIn}
+use Rattle.roman_model.specs.System.{Beh, Seat, Sys, Pair, has, has_move, IsSys, IsPair, SStep, is_final, all_final}
+use Rattle.roman_model.specs.Composition.{Couple, Meets, GreatCouple, Great}
+use Rattle.roman_model.specs.Change.{set_frozen, without, may_go}
+use Rattle.roman_model.specs.Without.{freeze_at}
+use Rattle.roman_model.specs.declared.way.Way.TheVariants as way
+use Rattle.roman_model.proofs.CallerLemmas.{by_test, number_listed, listed_number, left}
+use Rattle.roman_laws.specs.Losing.{GreatWithout, ArePart}
+use Rattle.roman_laws.proofs.SimulationLemmas.{closed_great, great_meets}
+use Rattle.roman_laws.proofs.PlaceLemmas.{place_before, get_removed, index_removed, set_removed, index_other_set, final_with}
+
+-- Seats that are the same but for some that are frozen besides.
+
+abbrev pub AreFrozenMore : List Seat → List Seat → Type 0
+AreFrozenMore [] [] = Unit {0}
+AreFrozenMore [] (y ∷ ys) = ⊥
+AreFrozenMore (x ∷ xs) [] = ⊥
+AreFrozenMore (x ∷ xs) (y ∷ ys) = (x.beh ≡ y.beh) × (x.rests ≡ y.rests) × (IsFalse y.frozen → IsFalse x.frozen) × AreFrozenMore xs ys
+
+-- the system with those seats
+abbrev pub with_seats : Sys → List Seat → Sys
+with_seats s seats = record { env = s.env; target = s.target; seats = seats }
+
+get_frozen_more : (xs ys : List Seat) → AreFrozenMore xs ys → (k : ℕ) (y : Seat) → slice_get ys k ≡ Some y →
+    (x : Seat) × (slice_get xs k ≡ Some x) × (x.beh ≡ y.beh) × (IsFalse y.frozen → IsFalse x.frozen)
+get_frozen_more [] [] more k y e = absurd (none-some y e)
+get_frozen_more [] (z ∷ ys) more k y e = absurd more
+get_frozen_more (x ∷ xs) [] more k y e = absurd more
+get_frozen_more (x ∷ xs) (z ∷ ys) more zero y e =
+    (x, refl, subst (λ (w : Seat). x.beh ≡ w.beh) (same_Some z y e) more.0, subst (λ (w : Seat). IsFalse w.frozen → IsFalse x.frozen) (same_Some z y e) more.2)
+get_frozen_more (x ∷ xs) (z ∷ ys) more (suc k) y e = get_frozen_more xs ys more.3 k y e
+
+final_frozen_more : (xs ys : List Seat) (bs : List ℕ) → AreFrozenMore xs ys → all_final xs bs ≡ all_final ys bs
+final_frozen_more [] [] bs more = refl
+final_frozen_more [] (y ∷ ys) bs more = absurd more
+final_frozen_more (x ∷ xs) [] bs more = absurd more
+final_frozen_more (x ∷ xs) (y ∷ ys) [] more = refl
+final_frozen_more (x ∷ xs) (y ∷ ys) (b ∷ bs) more =
+    ap₂ (λ c d. c && d) (ap₂ (λ (r : Bool) (beh : Beh). not r || is_final beh b) more.1 more.0) (final_frozen_more xs ys bs more.3)
+
+-- a step of a seat that is ready among the frozen is one among the others
+step_thawed : (s : Sys) (xs ys : List Seat) → AreFrozenMore xs ys → (bs : List ℕ) (e a k : ℕ) (bs' : List ℕ) (e' : ℕ) →
+    SStep (with_seats s ys) bs e a k bs' e' → SStep (with_seats s xs) bs e a k bs' e'
+step_thawed s xs ys more bs e a k bs' e' r =
+    let (x, at, same, ready) = get_frozen_more xs ys more k r.seat r.seated in
+    record {
+      seat = x;
+      seated = at;
+      ready = ready r.ready;
+      world = r.world;
+      to = r.to;
+      moves = subst (λ (beh : Beh). IsTrue (has_move beh (slice_index bs k) e a r.to)) (sym same) r.moves;
+      is = r.is;
+    }
+
+-- and back, where that seat is ready
+step_frozen : (s : Sys) (xs ys : List Seat) → AreFrozenMore xs ys → (bs : List ℕ) (e a k : ℕ) (bs' : List ℕ) (e' : ℕ) (y : Seat) → slice_get ys k ≡ Some y → IsFalse y.frozen →
+    SStep (with_seats s xs) bs e a k bs' e' → SStep (with_seats s ys) bs e a k bs' e'
+step_frozen s xs ys more bs e a k bs' e' y seated ready r =
+    let (x, at, same, thawed) = get_frozen_more xs ys more k y seated in
+    let one : r.seat ≡ x = same_Some r.seat x (sym r.seated ∙ at) in
+    record {
+      seat = y;
+      seated = seated;
+      ready = ready;
+      world = r.world;
+      to = r.to;
+      moves = subst (λ (beh : Beh). IsTrue (has_move beh (slice_index bs k) e a r.to)) (ap (λ (z : Seat). z.beh) one ∙ same) r.moves;
+      is = r.is;
+    }
+
+pub meets_thawed : (s : Sys) (xs ys : List Seat) → AreFrozenMore xs ys → (Related : Couple → Type 0) (c : Couple) → Meets (with_seats s ys) Related c → Meets (with_seats s xs) Related c
+meets_thawed s xs ys more Related c meets = record {
+  shared = meets.shared;
+  final = λ t. subst (λ (b : Bool). IsTrue b) (sym (final_frozen_more xs ys c.bs more)) (meets.final t);
+  served = λ a allows.
+      let (k, serves) = meets.served a allows in (
+        k,
+        λ t' e' step.
+            let (some, all) = serves t' e' step in (
+              (some.0, step_thawed s xs ys more c.bs c.e2 a k some.0 e' some.1),
+              λ bs' r. all bs' (step_frozen s xs ys more c.bs c.e2 a k bs' e' some.1.seat some.1.seated some.1.ready r),
+            ),
+      );
+}
+
+-- an ND-simulation stays one where seats thaw
+pub great_thawed : (s : Sys) (xs ys : List Seat) → AreFrozenMore xs ys → (p : Pair) → Great (with_seats s ys) p → Great (with_seats s xs) p
+great_thawed s xs ys more p (R, sim, i) = (R, λ c j. meets_thawed s xs ys more (λ d. IsIn d R) c (sim c j), i)
+
+frozen_itself : (xs : List Seat) → AreFrozenMore xs xs
+frozen_itself [] = tt
+frozen_itself (x ∷ xs) = (refl, refl, λ f. f, frozen_itself xs)
+
+pub set_frozen_more : (xs : List Seat) (k : ℕ) → AreFrozenMore xs (set_frozen xs k true)
+set_frozen_more [] k = tt
+set_frozen_more (x ∷ xs) zero = (refl, refl, λ f. absurd (let e : ⊥ = cc in e), frozen_itself xs)
+set_frozen_more (x ∷ xs) (suc k) = (refl, refl, λ f. f, set_frozen_more xs k)
+
+freeze_at_more : (at bt : ℕ → Bool) (xs : List Seat) → ((i : ℕ) → IsTrue (at i) → IsTrue (bt i)) → AreFrozenMore (freeze_at at xs) (freeze_at bt xs)
+freeze_at_more at bt [] more = tt
+freeze_at_more at bt (x ∷ xs) more = (
+  refl,
+  refl,
+  λ f.
+      let (own, other) = or_parts x.frozen (bt 0) f in
+      or_from x.frozen (at 0) own (by_test (at 0) (λ t. absurd (let e : ⊥ = clash (more 0 t) other in e)) (λ g. g)),
+  freeze_at_more (λ i. at (suc i)) (λ i. bt (suc i)) xs (λ i t. more (suc i) t),
+)
+  where
+    clash : IsTrue (bt 0) → IsFalse (bt 0) → ⊥
+    clash t f = cc
+
+pub freeze_at_besides : (at : ℕ → Bool) (xs : List Seat) → AreFrozenMore xs (freeze_at at xs)
+freeze_at_besides at [] = tt
+freeze_at_besides at (x ∷ xs) = (refl, refl, λ f. (or_parts x.frozen (at 0) f).0, freeze_at_besides (λ i. at (suc i)) xs)
+
+has_more : (K J : List ℕ) → ((k : ℕ) → IsIn k K → IsIn k J) → (i : ℕ) → IsTrue (has K i) → IsTrue (has J i)
+has_more K J more i t = listed_number J i (more i (number_listed K i t))
+
+pub frozen_more : (s : Sys) (p : Pair) (K J : List ℕ) → ArePart K J → GreatWithout way.Freeze s p J → GreatWithout way.Freeze s p K
+frozen_more s p K J more great = great_thawed s (freeze_at (has K) s.seats) (freeze_at (has J) s.seats) (freeze_at_more (has K) (has J) s.seats (has_more K J more)) p great
+
+-- The loss of a seat that may go.
+
+-- the couple without the state of seat k
+abbrev pub couple_without : ℕ → Couple → Couple
+couple_without k c = record { t = c.t; e = c.e; bs = remove c.bs k; e2 = c.e2 }
+
+-- without seat k the couple is related, and the seat is in state b
+pub record StandsBy (s : Sys) (k b : ℕ) (c : Couple) : Type 0 where
+  pub great : GreatCouple (left s k) (couple_without k c)
+  pub state : slice_index c.bs k ≡ b
+  pub within : k < length c.bs
+
+-- a step of another seat is one where seat k stands by
+step_with : (s : Sys) (k : ℕ) (bs : List ℕ) (e a j : ℕ) (bs' : List ℕ) (e' : ℕ) → SStep (left s k) (remove bs k) e a j bs' e' →
+    (cs : List ℕ) × SStep s bs e a (place_before k j) cs e'
+step_with s k bs e a j bs' e' r = (
+  slice_set bs (place_before k j) r.to,
+  record {
+    seat = r.seat;
+    seated = sym (get_removed s.seats k j) ∙ r.seated;
+    ready = r.ready;
+    world = r.world;
+    to = r.to;
+    moves = subst (λ b. IsTrue (has_move r.seat.beh b e a r.to)) (index_removed bs k j) r.moves;
+    is = refl;
+  },
+)
+
+-- and one of those is a step without seat k
+step_without : (s : Sys) (k : ℕ) (bs : List ℕ) (e a j : ℕ) (bs' : List ℕ) (e' : ℕ) → SStep s bs e a (place_before k j) bs' e' →
+    SStep (left s k) (remove bs k) e a j (remove bs' k) e'
+step_without s k bs e a j bs' e' r = record {
+  seat = r.seat;
+  seated = get_removed s.seats k j ∙ r.seated;
+  ready = r.ready;
+  world = r.world;
+  to = r.to;
+  moves = subst (λ b. IsTrue (has_move r.seat.beh b e a r.to)) (sym (index_removed bs k j)) r.moves;
+  is = ap (λ cs. remove cs k) r.is ∙ sym (set_removed bs k j r.to);
+}
+
+stands_by_meets : (s : Sys) (k : ℕ) (seat : Seat) (b : ℕ) → slice_get s.seats k ≡ Some seat → IsTrue (not seat.rests || is_final seat.beh b) →
+    (c : Couple) → StandsBy s k b c → Meets s (StandsBy s k b) c
+stands_by_meets s k seat b seated goes c stands =
+    let meets : Meets (left s k) (GreatCouple (left s k)) (couple_without k c) = great_meets (left s k) (couple_without k c) stands.great in
+    record {
+      shared = meets.shared;
+      final = λ t.
+          final_with s.seats c.bs k seat seated stands.within
+          (subst (λ n. IsTrue (not seat.rests || is_final seat.beh n)) (sym stands.state) goes) (meets.final t);
+      served = λ a allows.
+          let (j, serves) = meets.served a allows in (
+            place_before k j,
+            λ t' e' step.
+                let (some, all) = serves t' e' step in (
+                  step_with s k c.bs c.e2 a j some.0 e' some.1,
+                  λ bs' r. record {
+                    great = all (remove bs' k) (step_without s k c.bs c.e2 a j bs' e' r);
+                    state = ap (λ bs. slice_index bs k) r.is ∙ index_other_set c.bs k j r.to ∙ stands.state;
+                    within = subst (λ bs. k < length bs) (sym r.is) (subst (λ n. k < n) (sym (length-set c.bs (place_before k j) r.to)) stands.within);
+                  },
+                ),
+          );
+    }
+
+states_length : (seats : List Seat) (bs : List ℕ) → AllZip (λ seat b. b < seat.beh.states) seats bs → length bs ≡ length seats
+states_length [] [] h = refl
+states_length [] (b ∷ bs) h = absurd h
+states_length (seat ∷ seats) [] h = absurd h
+states_length (seat ∷ seats) (b ∷ bs) h = ap suc (states_length seats bs h.1)
+
+pub great_with_gone : (s : Sys) (k : ℕ) (seat : Seat) (p : Pair) → IsSys s → IsPair s p → slice_get s.seats k ≡ Some seat → IsTrue (may_go k seat p) → Great (left s k) (without k p) → Great s p
+great_with_gone s k seat p ok pair seated goes great =
+    let within : k < length s.seats = slice_get_within s.seats k seat seated in
+    closed_great s (StandsBy s k (slice_index p.bs k)) ok (stands_by_meets s k seat (slice_index p.bs k) seated goes) p pair
+    (record { great = great; state = refl; within = subst (λ n. k < n) (sym (states_length s.seats p.bs pair.bs)) within })

@@ -1,0 +1,37 @@
+-- The renamed list of a change has distinct pairs, so its replay keeps the most.
+use Rattle.std.proofs.Common.{◌≤◌, List, [], ◌∷◌, length, map, inl, inr, sym, subst, arith}
+use Rattle.roman_model.specs.Lists.{IsSublist}
+use Rattle.roman_model.specs.SystemArena.{arena}
+use Rattle.roman_model.specs.Arena.{replay}
+use Rattle.roman_model.specs.Numbers.{entry_at}
+use Rattle.roman_model.specs.Change.{after, rename}
+use Rattle.roman_model.specs.Laws.{ReplayKeeps}
+use Rattle.roman_model.proofs.CallerLemmas.{replay_sublist}
+use Rattle.roman_laws.specs.Repairs.{RepairsKeepTheMost, ReplaysKeepTheMost}
+use Rattle.roman_laws.proofs.NewLists.{renamed_new}
+
+-- a list with some elements left out is no longer
+sublist_no_longer : {X : Type 0} (xs ys : List X) → IsSublist xs ys → length xs ≤ length ys
+sublist_no_longer [] ys sub = omega arith
+sublist_no_longer (x ∷ xs) [] sub = absurd sub
+sublist_no_longer (x ∷ xs) (y ∷ ys) (inl (e, sub)) = let l : length xs ≤ length ys = sublist_no_longer xs ys sub in omega arith
+sublist_no_longer (x ∷ xs) (y ∷ ys) (inr sub) = let l : length (x ∷ xs) ≤ length ys = sublist_no_longer (x ∷ xs) ys sub in omega arith
+
+pub repairs_most : ReplayKeeps → RepairsKeepTheMost
+repairs_most keeps change s L ok can are order =
+    let new = renamed_new change s L ok can are order in
+    let best = keeps (after change s) (rename change L) new in
+    record {
+      new = new;
+      kept = record { part = replay_sublist (arena (after change s)) (rename change L); order = best.order };
+      holds = λ M can. best.best M can.part can.order;
+      longest = λ M can. sublist_no_longer M (replay (arena (after change s)) (rename change L)) (best.best M can.part can.order);
+    }
+
+pub replays_most : ReplayKeeps → ReplaysKeepTheMost
+replays_most keeps change s old new kept ok can are order begins count =
+    let most = repairs_most keeps change s (map (entry_at s) old) ok can are order in
+    record {
+      holds = λ M part. subst (IsSublist M) (sym begins) (most.holds M part);
+      longest = λ M part. subst (λ n. length M ≤ n) (sym count) (most.longest M part);
+    }

@@ -1,0 +1,159 @@
+-- What the system that stands for several targets allows and offers is what its targets ask and what serves them all.
+use Rattle.std.proofs.Common.{◌≡◌, ℕ, ◌<◌, List, length, Some, IsTrue, slice_get, slice_index, slice_set, sym, ap, ◌∙◌, subst}
+use Rattle.std.proofs.lemmas.List.{length-map}
+use Rattle.std.proofs.lemmas.Option.{same_Some}
+use Rattle.roman_model.specs.System.{Beh, Pair, has_triple, has_move, TStep, SStep, IsPair}
+use Rattle.roman_model.specs.SystemArena.{is_allowed}
+use Rattle.roman_model.specs.Composition.{couple, Serves, GreatCouple}
+use Rattle.roman_model.specs.Numbers.{states_number, states_at}
+use Rattle.roman_model.specs.Several.{Several, ServesAll, GreatAll}
+use Rattle.roman_model.specs.Combined.{target_sizes, combined_seat, all_requests, combined, IsSeveral, couple_all}
+use Rattle.roman_model.specs.declared.request.Request.{Request}
+use Rattle.roman_model.proofs.CallerLemmas.{get_in, allowed_in, from_allowed, outcome_in, outcome_pair, offers_are, from_combined_target, combined_target_goes, combined_is_all, combined_system}
+use Rattle.roman_laws.specs.Requests.{TargetAllows, IsRequestOf, RequestsOfTargets, IsMoveOf, TurnsOfTargets}
+use Rattle.roman_laws.proofs.CombinedSteps.{place_in, step_requested, plain_triple, triple_for, plain_sstep, sstep_for}
+
+-- the states of the targets for a combined one
+abbrev pub targets_at : Several → ℕ → List ℕ
+targets_at w t = states_at (target_sizes w.targets) t
+
+-- A triple of the combined environment is one of the plain one, on the action of the request.
+world_of : (w : Several) (e n e' i a : ℕ) (target : Beh) → IsRequestOf w n i target a → IsTrue (has_triple (combined w).env e n e') → IsTrue (has_triple w.env e a e')
+world_of w e n e' i a target asks t =
+    let (r, at, world) = plain_triple w e n e' t in
+    subst (λ (x : Request). IsTrue (has_triple w.env e x.action e')) (same_Some r (record { target = i; action = a }) (sym at ∙ asks.request)) world
+
+-- A step of the combined target is one of the target that asks, and no other target moves.
+pub record IsOwnStep (w : Several) (t e t' i a : ℕ) (target : Beh) : Type 0 where
+  pub goes : IsTrue (has_move target (slice_index (targets_at w t) i) e a (slice_index (targets_at w t') i))
+  pub others : slice_set (targets_at w t) i (slice_index (targets_at w t') i) ≡ targets_at w t'
+
+own_step : (w : Several) (t e n t' i a : ℕ) (target : Beh) → IsRequestOf w n i target a → IsTrue (has_move (combined w).target t e n t') → IsOwnStep w t e t' i a target
+own_step w t e n t' i a target asks h =
+    let r : Request = record { target = i; action = a } in
+    let (ht, ht', r1, target1, step) = from_combined_target w t e n t' h in
+    let same : r1 ≡ r = same_Some r1 r (sym step.request ∙ asks.request) in
+    let member1 : slice_get w.targets i ≡ Some target1 = subst (λ (x : Request). slice_get w.targets x.target ≡ Some target1) same step.member in
+    let same_target : target1 ≡ target = same_Some target1 target (sym member1 ∙ asks.member) in
+    record {
+      goes = subst (λ (x : Beh). IsTrue (has_move x (slice_index (targets_at w t) i) e a (slice_index (targets_at w t') i))) same_target
+          (subst (λ (x : Request). IsTrue (has_move target1 (slice_index (targets_at w t) x.target) e x.action (slice_index (targets_at w t') x.target))) same step.goes);
+      others = subst (λ (x : Request). slice_set (targets_at w t) x.target (slice_index (targets_at w t') x.target) ≡ targets_at w t') same step.others;
+    }
+
+-- The combined target goes where the one that asks does.
+abbrev pub target_after : Several → Pair → ℕ → ℕ → ℕ
+target_after w p i t' = states_number (target_sizes w.targets) (slice_set (targets_at w p.t) i t')
+
+combined_goes : (w : Several) (p : Pair) (n i a t' : ℕ) (target : Beh) → IsSeveral w → IsPair (combined w) p → IsRequestOf w n i target a →
+    IsTrue (has_move target (slice_index (targets_at w p.t) i) p.e a t') → IsTrue (has_move (combined w).target p.t p.e n (target_after w p i t'))
+combined_goes w p n i a t' target ok pair asks goes = combined_target_goes w p.t p.e n t' (record { target = i; action = a }) target ok pair.t asks.request asks.member goes
+
+-- its states are then those of the targets, with the one that went in its new state
+after_is : (w : Several) (p : Pair) (n i a t' : ℕ) (target : Beh) → IsSeveral w → IsPair (combined w) p → IsRequestOf w n i target a →
+    IsTrue (has_move target (slice_index (targets_at w p.t) i) p.e a t') → targets_at w (target_after w p i t') ≡ slice_set (targets_at w p.t) i t'
+after_is w p n i a t' target ok pair asks goes =
+    let own : IsOwnStep w p.t p.e (target_after w p i t') i a target = own_step w p.t p.e n (target_after w p i t') i a target asks (combined_goes w p n i a t' target ok pair asks goes) in
+    let one : slice_index (targets_at w (target_after w p i t')) i ≡ t' =
+    (ok.targets target (get_in w.targets i target asks.member)).1 (slice_index (targets_at w p.t) i) p.e a (slice_index (targets_at w (target_after w p i t')) i) t' own.goes goes in
+    sym own.others ∙ ap (slice_set (targets_at w p.t) i) one
+
+-- Which combined actions are allowed.
+
+request_named : (w : Several) (p : Pair) (n : ℕ) → IsTrue (is_allowed (combined w) p n) → (i : ℕ) × (target : Beh) × (a : ℕ) × IsRequestOf w n i target a
+request_named w p n allowed =
+    let (t', e', step) = from_allowed (combined w) p n allowed in
+    let (ht, ht', r, target, goes) = from_combined_target w p.t p.e n t' step.1 in
+    (r.target, target, r.action, record { request = goes.request; member = goes.member })
+
+request_numbered : (w : Several) (p : Pair) (i : ℕ) (target : Beh) (a : ℕ) → IsSeveral w → slice_get w.targets i ≡ Some target → TargetAllows w p i target a → (n : ℕ) × IsRequestOf w n i target a
+request_numbered w p i target a ok member allows =
+    let (t1, e1, step) = allows in
+    let (n, at) = place_in (all_requests w) (record { target = i; action = a })
+    (step_requested w.env w.targets i target (slice_index (targets_at w p.t) i) p.e a t1 member (ok.targets target (get_in w.targets i target member)).0 step.1) in
+    (n, record { request = at; member = member })
+
+request_allowed : (w : Several) (p : Pair) (n i : ℕ) (target : Beh) (a : ℕ) → IsRequestOf w n i target a → IsTrue (is_allowed (combined w) p n) → TargetAllows w p i target a
+request_allowed w p n i target a asks allowed =
+    let (t', e', step) = from_allowed (combined w) p n allowed in
+    (slice_index (targets_at w t') i, e', (world_of w p.e n e' i a target asks step.0, (own_step w p.t p.e n t' i a target asks step.1).goes))
+
+allowed_request : (w : Several) (p : Pair) (n i : ℕ) (target : Beh) (a : ℕ) → IsSeveral w → IsPair (combined w) p → IsRequestOf w n i target a → TargetAllows w p i target a → IsTrue (is_allowed (combined w) p n)
+allowed_request w p n i target a ok pair asks allows =
+    let (t1, e1, step) = allows in
+    allowed_in (combined w) p n (combined_system w ok)
+    (target_after w p i t1, e1, (triple_for w p.e n e1 (record { target = i; action = a }) ok.env asks.request step.0, combined_goes w p n i a t1 target ok pair asks step.1))
+
+-- Which seats serve them.
+
+-- the pair after a step of the target and one of the system is one of the combined system
+next_pair : (w : Several) (p : Pair) (n k t' : ℕ) (bs' : List ℕ) (e' : ℕ) → IsSeveral w → IsPair (combined w) p → TStep (combined w) p.t p.e n t' e' → SStep (combined w) p.bs p.e n k bs' e' →
+    IsPair (combined w) (record { t = t'; e = e'; bs = bs' })
+next_pair w p n k t' bs' e' ok pair tstep sstep =
+    outcome_pair (combined w) p n k (record { t = t'; e = e'; bs = bs' }) (combined_system w ok) pair (outcome_in (combined w) p n k t' e' bs' (combined_system w ok) tstep sstep)
+
+serves_combined : (w : Several) (p : Pair) (n i : ℕ) (target : Beh) (a k : ℕ) → IsSeveral w → IsPair (combined w) p → IsRequestOf w n i target a →
+    ServesAll w (GreatAll w) (couple_all w p) i target a k → Serves (combined w) (GreatCouple (combined w)) (couple p) n k
+serves_combined w p n i target a k ok pair asks serves t' e' tstep =
+    let r : Request = record { target = i; action = a } in
+    let own : IsOwnStep w p.t p.e t' i a target = own_step w p.t p.e n t' i a target asks tstep.1 in
+    let world : IsTrue (has_triple w.env p.e a e') = world_of w p.e n e' i a target asks tstep.0 in
+    let (some, all) = serves (slice_index (targets_at w t') i) e' (world, own.goes) in (
+      (some.0, sstep_for w target p.bs p.e n k some.0 e' r ok asks.request some.1),
+      λ bs' sstep.
+          ((combined_is_all w ok).great (record { t = t'; e = e'; bs = bs' }) (next_pair w p n k t' bs' e' ok pair tstep sstep)).1
+          (subst (λ (ts : List ℕ). GreatAll w (record { ts = ts; e = e'; bs = bs'; e2 = e' })) own.others
+          (all bs' (plain_sstep w target p.bs p.e n k bs' e' r asks.request world sstep))),
+    )
+
+combined_serves : (w : Several) (p : Pair) (n i : ℕ) (target : Beh) (a k : ℕ) → IsSeveral w → IsPair (combined w) p → IsRequestOf w n i target a →
+    Serves (combined w) (GreatCouple (combined w)) (couple p) n k → ServesAll w (GreatAll w) (couple_all w p) i target a k
+combined_serves w p n i target a k ok pair asks serves t' e' tstep =
+    let r : Request = record { target = i; action = a } in
+    let whole : TStep (combined w) p.t p.e n (target_after w p i t') e' = (triple_for w p.e n e' r ok.env asks.request tstep.0, combined_goes w p n i a t' target ok pair asks tstep.1) in
+    let (some, all) = serves (target_after w p i t') e' whole in (
+      (some.0, plain_sstep w target p.bs p.e n k some.0 e' r asks.request tstep.0 some.1),
+      λ bs' sstep.
+          let step : SStep (combined w) p.bs p.e n k bs' e' = sstep_for w target p.bs p.e n k bs' e' r ok asks.request sstep in
+          subst (λ (ts : List ℕ). GreatAll w (record { ts = ts; e = e'; bs = bs'; e2 = e' })) (after_is w p n i a t' target ok pair asks tstep.1)
+          (((combined_is_all w ok).great (record { t = target_after w p i t'; e = e'; bs = bs' }) (next_pair w p n k (target_after w p i t') bs' e' ok pair whole step)).0
+          (all bs' step)),
+    )
+
+pub requests_of : RequestsOfTargets
+requests_of w ok p pair = record {
+  named = λ n allowed. request_named w p n allowed;
+  numbered = λ i target a member allows. request_numbered w p i target a ok member allows;
+  allowed = λ n i target a asks. (request_allowed w p n i target a asks, allowed_request w p n i target a ok pair asks);
+  offered = λ n i target a asks allows k.
+      let allowed : IsTrue (is_allowed (combined w) p n) = allowed_request w p n i target a ok pair asks allows in
+      let offer = (offers_are (combined w) (combined_system w ok)).offered p pair n allowed k in (
+        λ j. let (l, serves) = offer.0 j in (subst (λ m. k < m) seats_length l, combined_serves w p n i target a k ok pair asks serves),
+        λ (l, serves). offer.1 (subst (λ m. k < m) (sym seats_length) l, serves_combined w p n i target a k ok pair asks serves),
+      );
+}
+  where
+    seats_length : length (combined w).seats ≡ length w.seats
+    seats_length = length-map w.seats (combined_seat w.env.states (all_requests w))
+
+-- What a turn says, target by target.
+
+move_of : (w : Several) (p : Pair) (n i : ℕ) (target : Beh) (a t' e' : ℕ) → IsRequestOf w n i target a → TStep (combined w) p.t p.e n t' e' → IsMoveOf w p i target a t' e'
+move_of w p n i target a t' e' asks step =
+    let own : IsOwnStep w p.t p.e t' i a target = own_step w p.t p.e n t' i a target asks step.1 in
+    record {
+      to = slice_index (targets_at w t') i;
+      step = (world_of w p.e n e' i a target asks step.0, own.goes);
+      states = sym own.others;
+    }
+
+pub turns_of : TurnsOfTargets
+turns_of w ok p pair = record {
+  named = λ n allows. request_named w p n (allowed_in (combined w) p n (combined_system w ok) allows);
+  asked = λ n i target a asks. (
+    λ allows. request_allowed w p n i target a asks (allowed_in (combined w) p n (combined_system w ok) allows),
+    λ allows. from_allowed (combined w) p n (allowed_request w p n i target a ok pair asks allows),
+  );
+  served = λ n i target a asks k. (combined_serves w p n i target a k ok pair asks, serves_combined w p n i target a k ok pair asks);
+  moved = λ n i target a asks t' e' step. move_of w p n i target a t' e' asks step;
+}

@@ -1,0 +1,45 @@
+-- What is told of costs and of advice is right by the greatest ND-simulation and by plans.
+use Rattle.std.proofs.Common.{ℕ, List, Result, filter, sym, subst}
+use Rattle.roman_io.specs.Shelf.{Texts}
+use Rattle.roman_model.specs.System.{Pair, IsSys, IsPair}
+use Rattle.roman_model.specs.SystemArena.{pairs}
+use Rattle.roman_model.specs.Offers.{is_related}
+use Rattle.roman_model.proofs.CallerLemmas.{by_test, related_great, great_related}
+use Rattle.roman_parts.specs.declared.error.PartError.{PartError}
+use Rattle.roman_joint.specs.NamedSys.{NamedSys, system_of}
+use Rattle.roman_library.specs.Library.{PlainLibrary}
+use Rattle.roman_start.specs.Starts.{parts_of, start_pair_of}
+use Rattle.roman_cost.specs.AdviceText.{Advising, advised_by}
+use Rattle.roman_cost.specs.Laws.{TellsLeast}
+use Rattle.roman_cost.specs.Tables.{seat_costs}
+use Rattle.roman_cost.specs.declared.costs.Listed.{Listed}
+use Rattle.roman_cost.proofs.CallerLemmas.{advice_least}
+use Rattle.roman_top.specs.Advice.{SaysAdvice, OnCosts, GivesAdvice}
+use Rattle.roman_top.specs.HeadlineAdvise.{AdvisesBy, KeepsAdvice}
+use Rattle.roman_top.specs.declared.status.Status.{Status}
+use Rattle.roman_top.proofs.AdviseLemmas.{advised_unrelated, advised_many, advised_told}
+use Rattle.roman_top.proofs.ServingLemmas.{related_all}
+
+-- what is told by costs that were read
+advises_by : (n : NamedSys) (listed : List Listed) (requests : ℕ) (p : Pair) (text : List ℕ) (result : Status) → IsSys (system_of n) → IsPair (system_of n) p →
+    SaysAdvice (advised_by n listed requests p) text result → AdvisesBy n listed requests p text result
+advises_by n listed requests p text result ok pair says = record {
+  pairs = filter (is_related (system_of n)) (pairs (system_of n));
+  great = related_all (system_of n) ok;
+  unrelated = λ unrelated. subst (λ (a : Advising). SaysAdvice a text result)
+      (advised_unrelated n listed requests p (by_test (is_related (system_of n) p) (λ t. absurd (unrelated (related_great (system_of n) p ok pair t))) (λ f. f))) says;
+  many = λ great more. subst (λ (a : Advising). SaysAdvice a text result) (advised_many n listed requests p (great_related (system_of n) p ok great) more) says;
+  told = λ great few.
+      let told = subst (λ (a : Advising). SaysAdvice a text result) (advised_told n listed requests p (great_related (system_of n) p ok great) few) says in
+      (subst (TellsLeast n (seat_costs n listed) requests p) (sym told.0) (advice_least n listed requests p ok pair great), told.1);
+}
+
+pub keeps_advice : (costs : List ℕ) (requests : ℕ) (texts : Texts) (library : PlainLibrary) (text : List ℕ) (result : Status) →
+    IsSys (system_of (parts_of library)) → IsPair (system_of (parts_of library)) (start_pair_of library) → GivesAdvice costs requests texts library text result → KeepsAdvice costs requests texts library text result
+keeps_advice costs requests texts library text result ok pair gives = record {
+  refused = λ error e. subst (λ (read : Result (List Listed) PartError). OnCosts costs Work read text result) e gives;
+  advised = λ listed e. advises_by (parts_of library) listed requests (start_pair_of library) text result ok pair (subst (λ (read : Result (List Listed) PartError). OnCosts costs Work read text result) e gives);
+}
+  where
+    Work : List Listed → List ℕ → Status → Type 0
+    Work listed = SaysAdvice (advised_by (parts_of library) listed requests (start_pair_of library))

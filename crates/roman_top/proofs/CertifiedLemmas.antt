@@ -1,0 +1,112 @@
+-- A complete removal list over numbers lists exactly the pairs that aren't related, validly.
+use Rattle.std.proofs.Common.{◌≡◌, ℕ, zero, suc, ◌*◌, ◌<◌, ◌==◌, ◌&&◌, not, List, [], ◌∷◌, map, IsTrue, IsFalse, inl, inr, refl, sym, ap₂, ◌∙◌, subst, arith}
+use Rattle.std.specs.List.{list_any}
+use Rattle.std.proofs.Math.Nat.{div-lt_iff_lt-mul}
+use Rattle.std.proofs.lemmas.Bool.{both_ways, and_parts, and_from, or_cases, or_parts, eqb-true, eq-eqb, not-true, not-false}
+use Rattle.roman_model.specs.Lists.{IsIn, is_empty, product_of}
+use Rattle.roman_model.specs.System.{Sys, Pair, IsSys, IsPair, is_final, all_final}
+use Rattle.roman_model.specs.SystemArena.{pairs, outcomes, same_numbers, same_pair, is_fine, arena}
+use Rattle.roman_model.specs.Arena.{Entry, is_among, is_listed, is_justified, IsOrderFrom}
+use Rattle.roman_model.specs.CompleteLists.{IsComplete}
+use Rattle.roman_model.specs.Certificate.{cert_text}
+use Rattle.roman_model.specs.Numbers.{sizes_of, count, number, pair_at, entry_at, IsCompleteList}
+use Rattle.roman_model.specs.declared.reason.Reason.{Reason}
+use Rattle.roman_model.specs.declared.reason.Reason.TheVariants.{Final, Act}
+use Rattle.roman_model.proofs.CallerLemmas.{IsSame, any_true, any_from, in_map, from_map, from_allowed, outcome_in, from_outcome, same_numbers_is, same_numbers_itself, justified_is, listed_in, in_listed, in_not_empty, length-pairs, numbers_are_pairs, map-map}
+use Rattle.roman_top.specs.HeadlineCertify.{HoldsReason, AreValid, ListsUnrelated, numbered_entry, CertifiesUnrelated}
+
+-- Pairs are told apart by their numbers.
+
+pub same_is : (p q : Pair) → IsTrue (same_pair p q) → p ≡ q
+same_is p q h =
+    let (ends, bs) = and_parts (p.t == q.t && p.e == q.e) (same_numbers p.bs q.bs) h in
+    let (t, e) = and_parts (p.t == q.t) (p.e == q.e) ends in
+    pair_is p.t q.t p.e q.e p.bs q.bs (eqb-true p.t q.t t) (eqb-true p.e q.e e) (same_numbers_is p.bs q.bs bs)
+  where
+    pair_is : (t u e f : ℕ) (bs cs : List ℕ) → t ≡ u → e ≡ f → bs ≡ cs → ◌≡◌ {A = Pair} (record { t = t; e = e; bs = bs }) (record { t = u; e = f; bs = cs })
+    pair_is t u e f bs cs ht he hbs = rw (ht, he, hbs) refl
+
+pub same_itself : (p : Pair) → IsTrue (same_pair p p)
+same_itself p =
+    and_from (p.t == p.t && p.e == p.e) (same_numbers p.bs p.bs)
+    (and_from (p.t == p.t) (p.e == p.e) (eq-eqb p.t p.t refl) (eq-eqb p.e p.e refl)) (same_numbers_itself p.bs)
+
+pub told_apart : (s : Sys) → IsSame (arena s)
+told_apart s = record { is = same_is; itself = same_itself }
+
+-- Reasons.
+
+unfine_reason : (s : Sys) (p : Pair) → IsFalse (is_fine s p) → IsTrue (is_final s.target p.t) × (IsTrue (all_final s.seats p.bs) → ⊥)
+unfine_reason s p f =
+    let (final, others) = or_parts (not (is_final s.target p.t)) (all_final s.seats p.bs) f in
+    (not-false (is_final s.target p.t) final, λ all. both_ways (all_final s.seats p.bs) others all)
+
+holds_reason : (s : Sys) (before : List Pair) (p : Pair) (reason : Reason) → IsSys s → IsTrue (is_justified (arena s) (is_among (arena s) before) p reason) → HoldsReason s (λ q. IsIn q before) p reason
+holds_reason s before p Final ok j = unfine_reason s p (not-true (is_fine s p) j)
+holds_reason s before p (Act a) ok j =
+    let (allowed, each) = justified_is (arena s) (is_among (arena s) before) p a j in (
+      from_allowed s p a allowed,
+      λ k l. elim (or_cases (is_empty (outcomes s p a k)) (list_any (is_among (arena s) before) (outcomes s p a k)) (each k l)) [
+        | inl none ↦ inl (λ q (target, system).
+            both_ways (is_empty (outcomes s p a k)) (in_not_empty q (outcomes s p a k) (outcome_in s p a k q.t q.e q.bs ok target system)) none)
+        | inr found ↦
+            let (q, i, t) = any_true (is_among (arena s) before) (outcomes s p a k) found in
+            inr (q, from_outcome s p a k q i, among_listed before q t)
+      ],
+    )
+  where
+    among_listed : (before : List Pair) (q : Pair) → IsTrue (is_among (arena s) before q) → IsIn q before
+    among_listed before q t = let (r, i, same) = any_true (same_pair q) before t in subst (λ x. IsIn x before) (sym (same_is q r same)) i
+
+valid_from : (s : Sys) (before : List Pair) (L : List (Entry Pair)) → IsSys s → IsOrderFrom (arena s) before L → AreValid s before L
+valid_from s before [] ok order = tt
+valid_from s before (x ∷ L) ok order = (
+  λ i. both_ways (is_among (arena s) before x.node) order.0 (any_from (same_pair x.node) x.node before i (same_itself x.node)),
+  holds_reason s before x.node x.reason ok order.1,
+  valid_from s (x.node ∷ before) L ok order.2,
+)
+
+pub lists_unrelated : (s : Sys) (L : List (Entry Pair)) → IsSys s → IsComplete s L → ListsUnrelated s L
+lists_unrelated s L ok complete = record {
+  valid = valid_from s [] L ok complete.order;
+  exact = λ p. (
+    λ i.
+        let (x, j, e) = from_map (λ x. x.node) p L i in
+        let pair : IsPair s p = subst (IsPair s) (sym e) (complete.pairs x j) in
+        (pair, (complete.exact p pair).0 (subst (λ q. IsTrue (is_listed (arena s) L q)) (sym e) (in_listed (arena s) (told_apart s) L x j))),
+    λ (pair, unrelated).
+        let (x, j, e) = listed_in (arena s) (told_apart s) L p ((complete.exact p pair).1 unrelated) in
+        subst (λ q. IsIn q (map (λ x. x.node) L)) (sym e) (in_map (λ x. x.node) x L j),
+  );
+}
+
+-- Numbers.
+
+-- a factor of a product that has something below it isn't 0
+factor_some : (i a b : ℕ) → i < a * b → 0 < b
+factor_some i a zero h = omega arith
+factor_some i a (suc b) h = omega arith
+
+-- a number whose pair is one of the system is one of its numbers
+number_within : (s : Sys) (i : ℕ) → IsSys s → IsPair s (pair_at (sizes_of s) i) → i < count (sizes_of s)
+number_within s i ok pair =
+    let P : ℕ = product_of (sizes_of s).seats in
+    let some : 0 < P = factor_some (number (sizes_of s) (pair_at (sizes_of s) i)) (s.target.states * s.env.states) P ((numbers_are_pairs s).below (pair_at (sizes_of s) i) pair) in
+    (div-lt_iff_lt-mul some).0 ((div-lt_iff_lt-mul ok.env.states.0).0 pair.t)
+
+-- the entries of a complete list have numbers below the count, and the pairs of these numbers have them
+numbers_back : (s : Sys) (L : List (Entry ℕ)) → IsSys s → IsCompleteList s L → map (numbered_entry s) (map (entry_at s) L) ≡ L
+numbers_back s L ok complete = map-map (numbered_entry s) (entry_at s) L ∙ each L (λ x i. complete.pairs (entry_at s x) (in_map (entry_at s) x L i))
+  where
+    each : (M : List (Entry ℕ)) → ((x : Entry ℕ) → IsIn x M → IsPair s (pair_at (sizes_of s) x.node)) → map (λ x. numbered_entry s (entry_at s x)) M ≡ M
+    each [] pairs = refl
+    each (x ∷ M) pairs =
+        ap₂ (λ (n : ℕ) (ys : List (Entry ℕ)). record { node = n; reason = x.reason } ∷ ys)
+        ((numbers_are_pairs s).there x.node (number_within s x.node ok (pairs x (inl refl)))) (each M (λ y i. pairs y (inr i)))
+
+pub certifies_unrelated : (s : Sys) (L : List (Entry ℕ)) (text : List ℕ) → IsSys s → IsCompleteList s L → text ≡ cert_text (count (sizes_of s)) L → CertifiesUnrelated s text
+certifies_unrelated s L text ok complete says = record {
+  entries = map (entry_at s) L;
+  lists = lists_unrelated s (map (entry_at s) L) ok complete;
+  says = says ∙ ap₂ cert_text (sym (length-pairs s)) (sym (numbers_back s L ok complete));
+}

@@ -1,0 +1,76 @@
+-- A run of a job on an accepted document keeps what is promised of it.
+use Rattle.std.proofs.Common.{◌≡◌, ℕ, ◌≤◌, List, [], Option, None, Some, sym, subst, arith}
+use Rattle.roman_io.specs.Shelf.{Texts, shelf_text}
+use Rattle.roman_model.specs.System.{IsSys, IsPair}
+use Rattle.roman_model.specs.Certificate.{IsWithinCells, GreatestIsComplete}
+use Rattle.roman_model.specs.declared.limits.TheConstants.{MAX_CELLS}
+use Rattle.roman_joint.specs.NamedSys.{cells}
+use Rattle.roman_library.specs.Documents.{library_of}
+use Rattle.roman_library.specs.Library.{PlainLibrary}
+use Rattle.roman_library.proofs.CallerLemmas.{libraries_known}
+use Rattle.roman_start.specs.Starts.{parts_of, start_pair_of}
+use Rattle.roman_start.proofs.CallerLemmas.{start_pair}
+use Rattle.roman_hearing.specs.Events.{LinesAreRead}
+use Rattle.roman_top.specs.Command.{Job, Synth, Run, Certify, Check, Shortest, Advise, Resilience, Command, On, Make}
+use Rattle.roman_top.specs.Endings.{WritesText}
+use Rattle.roman_top.specs.Faults.{IsFree}
+use Rattle.roman_top.specs.HeadlineJobs.{KeepsJob, KeepsText}
+use Rattle.roman_top.specs.HeadlineResilience.{TellsLosses}
+use Rattle.roman_top.specs.Opening.{Accepted, document_opening, library_system}
+use Rattle.roman_top.specs.Run.{JobDoes, HasRun}
+use Rattle.roman_top.specs.Served.{Served}
+use Rattle.roman_top.specs.World.{World}
+use Rattle.roman_top.specs.declared.status.Status.{Status}
+use Rattle.roman_top.proofs.AdvisedLemmas.{keeps_advice}
+use Rattle.roman_top.proofs.CertifiedLemmas.{certifies_unrelated}
+use Rattle.roman_top.proofs.CheckedLemmas.{judges_certificate}
+use Rattle.roman_top.proofs.EndingLemmas.{told_more, work_of, accepted_is}
+use Rattle.roman_top.proofs.LossLemmas.{tells_losses}
+use Rattle.roman_top.proofs.MadeLemmas.{keeps_made}
+use Rattle.roman_top.proofs.StartsKnown.{library_parts}
+
+-- the library's system is one with few enough cells, and its starting states are a pair of it
+record Begins (library : PlainLibrary) : Type 0 where
+  system : IsSys (library_system library)
+  cells : IsWithinCells (library_system library)
+  pair : IsPair (library_system library) (start_pair_of library)
+
+library_begins : (texts : Texts) (system : List ℕ) (library : PlainLibrary) → document_opening texts system ≡ Accepted library → Begins library
+library_begins texts system library accepted =
+    let is = accepted_is (library_of texts system) library accepted in
+    let known = libraries_known texts system library is.means in
+    let parts = library_parts library known.known is.within in
+    let fits : cells (library_system library) ≤ library.limit = parts.fits in
+    let most : library.limit ≤ MAX_CELLS = parts.limit.1 in
+    record { system = parts.system; cells = omega arith; pair = start_pair library known.known }
+
+job_kept : GreatestIsComplete → (job : Job) (texts : Texts) (session : List ℕ) (library : PlainLibrary) (text : List ℕ) (result : Status) → Begins library → JobDoes job texts session library text result → KeepsJob job texts library text result
+job_kept law Synth texts session library text result begins does = tt
+job_kept law (Run name) texts session library text result begins does = tt
+job_kept law Certify texts session library text result begins does = (certifies_unrelated (library_system library) does.list text begins.system does.complete does.says.0, does.says.1)
+job_kept law (Check certificate) texts session library text result begins does =
+    judges_certificate law (library_system library) (start_pair_of library) (shelf_text texts certificate) text result begins.system begins.cells begins.pair does
+job_kept law Shortest texts session library text result begins does = does
+job_kept law (Advise costs requests) texts session library text result begins does = keeps_advice costs requests texts library text result begins.system begins.pair does
+job_kept law Resilience texts session library text result begins does = (
+  subst (TellsLosses (parts_of library) (library_system library) (start_pair_of library)) (sym does.0) (tells_losses (parts_of library) (start_pair_of library) begins.system begins.pair),
+  does.1,
+)
+
+keeps_job : GreatestIsComplete → (job : Job) (texts : Texts) (system session : List ℕ) (library : PlainLibrary) (text : List ℕ) (result : Status) → document_opening texts system ≡ Accepted library →
+    JobDoes job texts session library text result → KeepsJob job texts library text result
+keeps_job law job texts system session library text result accepted does = job_kept law job texts session library text result (library_begins texts system library accepted) does
+
+pub keeps_text : LinesAreRead → GreatestIsComplete → (asked : Option Command) (old new : World) (result : Status) → Served asked old new result → IsFree result → KeepsText asked old new result
+keeps_text read law (Some (On system job)) old new result served free = told_more old.texts (λ texts. HasRun (Some (On system job)) texts old new result)
+    (λ texts. (library : PlainLibrary) → document_opening texts system ≡ Accepted library → WritesText (KeepsJob job texts library) old.written new.written result) (served.run free)
+    (λ texts run library accepted. record {
+      text = run.text;
+      run = keeps_job law job texts system run.session library run.text result accepted
+          (work_of (JobDoes job texts run.session) (document_opening texts system) library run.text result accepted run.run);
+      wrote = run.wrote;
+    })
+keeps_text read law (Some (Make n)) old new result served free =
+    let run : HasRun (Some (Make n)) [] old new result = served.run free in
+    record { text = run.text; run = keeps_made n run.text result read run.run; wrote = run.wrote }
+keeps_text read law None old new result served free = tt

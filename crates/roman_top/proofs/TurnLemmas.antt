@@ -1,0 +1,99 @@
+-- Each line that is answered has its turn.
+use Rattle.std.proofs.Common.{◌≡◌, ℕ, List, [], ◌∷◌, ◌++◌, Result, Ok, inl, inr, IsTrue, refl, sym, ap, ap₂, ◌∙◌, subst}
+use Rattle.std.proofs.lemmas.Bool.{false≢true, both_ways, cond-true, cond-false}
+use Rattle.std.specs.List.{flat_map}
+use Rattle.roman_model.specs.System.{Pair}
+use Rattle.roman_model.proofs.CallerLemmas.{by_test}
+use Rattle.roman_joint.specs.NamedSys.{NamedSys}
+use Rattle.roman_library.specs.Library.{PlainLibrary}
+use Rattle.roman_session.specs.Situations.{Situation}
+use Rattle.roman_session.specs.Starts.{IsStart}
+use Rattle.roman_session.specs.Steps.{Step, is_quit}
+use Rattle.roman_session.specs.declared.phase.Phase.{Phase}
+use Rattle.roman_text.specs.Shapes.{LineShape, quit, shape_of}
+use Rattle.roman_text.specs.declared.errors.LineError.{LineError}
+use Rattle.roman_start.specs.Starts.{parts_of}
+use Rattle.roman_hearing.specs.Told.{until_quit, Answers}
+use Rattle.roman_hearing.specs.Known.{shown, IsKnownSituation}
+use Rattle.roman_hearing.specs.States.{State, start_state, IsState, IsOpenGreat}
+use Rattle.roman_hearing.specs.Events.{LinesAreRead}
+use Rattle.roman_hearing.proofs.CallerLemmas.{steps_known, steps_turns, line_keeps, open_great}
+use Rattle.roman_top.specs.HeadlineTurns.{Turn, AreTurns, after_turns}
+
+-- all parts but the services are the library's
+abbrev pub IsFrom : PlainLibrary → Situation → Type 0
+IsFrom library s = s.parts ≡ record (parts_of library) { seats = s.parts.seats }
+
+-- what is seen of a known situation is well formed
+pub state_known : (library : PlainLibrary) (s : Situation) → IsFrom library s → IsKnownSituation s → IsState library (shown s)
+state_known library s from known = record {
+  parts = from;
+  names = known.situation.parts.names;
+  here = known.situation.here;
+  asked = λ a phase. subst (IsOpenGreat (shown s)) phase (open_great s known.situation);
+  handed = λ a k phase. subst (IsOpenGreat (shown s)) phase (open_great s known.situation);
+}
+
+-- what is seen of a start
+pub start_seen : (library : PlainLibrary) (s : Situation) → IsStart library s → shown s ≡ start_state library
+start_seen library s start =
+    ap (λ (n : NamedSys). record { parts = n; here = s.here; phase = s.phase }) start.parts
+    ∙ ap₂ (λ (p : Pair) (phase : Phase). record { parts = parts_of library; here = p; phase = phase }) start.here start.phase
+
+pub start_from : (library : PlainLibrary) (s : Situation) → IsStart library s → IsFrom library s
+start_from library s start = subst (λ (n : NamedSys). n ≡ record (parts_of library) { seats = n.seats }) (sym start.parts) refl
+
+-- `quit` ends a session
+quit_is : (r : Result LineShape LineError) → IsTrue (is_quit r) → r ≡ Ok quit
+quit_is (Ok quit) h = refl
+quit_is _ h = absurd (false≢true h)
+
+-- the turns of the lines that are answered, and where they end
+pub record HasTurns (library : PlainLibrary) (s : State) (now : Situation) (ls : List (List ℕ)) (text : List ℕ) : Type 0 where
+  pub turns : List Turn
+  pub are : AreTurns library s ls turns
+  pub texts : flat_map (λ x. x.text) turns ≡ text
+  pub ends : after_turns s turns ≡ shown now
+  pub from : IsFrom library now
+  pub known : IsKnownSituation now
+
+-- the turn of a step
+abbrev turn_of : Situation → List ℕ → List ℕ → Situation → Turn
+turn_of s line text now = record { before = shown s; line = line; event = shape_of line; text = text; after = shown now }
+
+pub turns_of : (library : PlainLibrary) (s now : Situation) (ls : List (List ℕ)) (text : List ℕ) → LinesAreRead → IsFrom library s → IsKnownSituation s → Answers s (until_quit ls) text now → HasTurns library (shown s) now ls text
+turns_of library s now [] text read from known (none, same) = record {
+  turns = [];
+  are = state_known library s from known;
+  texts = sym none;
+  ends = ap shown (sym same);
+  from = subst (IsFrom library) (sym same) from;
+  known = subst IsKnownSituation (sym same) known;
+}
+turns_of library s now (line ∷ ls) text read from known told = by_test (is_quit (shape_of line))
+    (λ quits.
+    let (said, more, mid, split, step, (none, same)) = subst (λ (ls : List (List ℕ)). Answers s ls text now) (cond-true (is_quit (shape_of line)) (line ∷ []) (line ∷ until_quit ls) quits) told in
+    let (leads, keeps) = steps_turns s mid line said known step in
+    record {
+      turns = turn_of s line said mid ∷ [];
+      are = (state_known library s from known, refl, refl, read line, leads, keeps, inl (quit_is (shape_of line) quits, state_known library mid (goes_from s mid line said from step) (steps_known s mid line said known step), refl));
+      texts = ap (λ (more : List ℕ). said ++ more) (sym none) ∙ sym split;
+      ends = ap shown (sym same);
+      from = subst (IsFrom library) (sym same) (goes_from s mid line said from step);
+      known = subst IsKnownSituation (sym same) (steps_known s mid line said known step);
+    })
+    (λ goes.
+    let (said, more, mid, split, step, rest) = subst (λ (ls : List (List ℕ)). Answers s ls text now) (cond-false (is_quit (shape_of line)) (line ∷ []) (line ∷ until_quit ls) goes) told in
+    let (leads, keeps) = steps_turns s mid line said known step in
+    let others = turns_of library mid now ls more read (goes_from s mid line said from step) (steps_known s mid line said known step) rest in
+    record {
+      turns = turn_of s line said mid ∷ others.turns;
+      are = (state_known library s from known, refl, refl, read line, leads, keeps, inr (λ e. both_ways (is_quit (shape_of line)) goes (ap is_quit e), others.are));
+      texts = ap (λ (more : List ℕ). said ++ more) others.texts ∙ sym split;
+      ends = others.ends;
+      from = others.from;
+      known = others.known;
+    })
+  where
+    goes_from : (s mid : Situation) (line said : List ℕ) → IsFrom library s → Step s line said mid → IsFrom library mid
+    goes_from s mid line said from step = line_keeps s mid line said step ∙ ap (λ (n : NamedSys). record n { seats = mid.parts.seats }) from

@@ -1,0 +1,37 @@
+-- What `advise` tells: the least worst costs of plans by services that serve.
+use Rattle.std.specs.Prelude.{◌≡◌, ℕ, ◌<◌, ◌≤◌, ◌*◌, false, List, length, Ok, Err}
+use Rattle.roman_io.specs.Shelf.{Texts}
+use Rattle.roman_model.specs.System.{Pair}
+use Rattle.roman_model.specs.Composition.{Great}
+use Rattle.roman_parts.specs.declared.error.PartError.{PartError}
+use Rattle.roman_joint.specs.NamedSys.{NamedSys, system_of}
+use Rattle.roman_library.specs.Library.{PlainLibrary}
+use Rattle.roman_library.specs.Refusals.{refusal_of}
+use Rattle.roman_library.specs.declared.refusal.Part.TheVariants as part
+use Rattle.roman_start.specs.Starts.{parts_of, start_pair_of}
+use Rattle.roman_text.specs.Report.{line_text}
+use Rattle.roman_text.specs.declared.report.ReportLine.TheVariants as line
+use Rattle.roman_cost.specs.Costs.{costs_of}
+use Rattle.roman_cost.specs.Laws.{TellsLeast}
+use Rattle.roman_cost.specs.Tables.{seat_costs}
+use Rattle.roman_cost.specs.declared.costs.Listed.{Listed}
+use Rattle.roman_cost.specs.declared.limits.TheConstants.{MAX_VALUES}
+use Rattle.roman_rank.specs.DepthText.{AreRelated}
+use Rattle.roman_top.specs.Opening.{EndsSaying, limit_line}
+use Rattle.roman_top.specs.RefusalLine.{refusal_line}
+use Rattle.roman_top.specs.declared.status.Status.{Status}
+use Rattle.roman_top.specs.declared.status.Status.TheVariants as status
+
+-- what is told by costs that were read: `answer none` where the pair isn't related; a line of the limit where the related pairs times the
+-- requests are too many; and else the least that the requests cost at worst
+pub record AdvisesBy (n : NamedSys) (listed : List Listed) (requests : ℕ) (p : Pair) (text : List ℕ) (result : Status) : Type 0 where
+  pub pairs : List Pair
+  pub great : AreRelated (system_of n) pairs
+  pub unrelated : (Great (system_of n) p → ⊥) → EndsSaying (line_text (line.Answer false)) status.No text result
+  pub many : Great (system_of n) p → MAX_VALUES < length pairs * requests → EndsSaying (limit_line MAX_VALUES) status.Limit text result
+  pub told : Great (system_of n) p → length pairs * requests ≤ MAX_VALUES → TellsLeast n (seat_costs n listed) requests p text × (result ≡ status.Done)
+
+-- advise: costs that are refused get the line of their refusal, and by those that are read the starting states are advised
+pub record KeepsAdvice (costs : List ℕ) (requests : ℕ) (texts : Texts) (library : PlainLibrary) (text : List ℕ) (result : Status) : Type 0 where
+  pub refused : (error : PartError) → costs_of texts costs (parts_of library) ≡ Err error → EndsSaying (refusal_line (refusal_of costs part.Costs error)) status.Refused text result
+  pub advised : (listed : List Listed) → costs_of texts costs (parts_of library) ≡ Ok listed → AdvisesBy (parts_of library) listed requests (start_pair_of library) text result

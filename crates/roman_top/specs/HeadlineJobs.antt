@@ -1,0 +1,31 @@
+-- What is promised of each command but sessions and reports: its text, and its status.
+use Rattle.std.specs.Prelude.{◌≡◌, ℕ, List, Option, None, Some, IfSome}
+use Rattle.roman_io.specs.Shelf.{Texts, shelf_text}
+use Rattle.roman_library.specs.Library.{PlainLibrary}
+use Rattle.roman_top.specs.Command.{Job, Certify, Check, Shortest, Advise, Resilience, Command, On, Make}
+use Rattle.roman_top.specs.Endings.{WritesText}
+use Rattle.roman_top.specs.HeadlineAdvise.{KeepsAdvice}
+use Rattle.roman_top.specs.HeadlineCertify.{KeepsCertificate}
+use Rattle.roman_top.specs.HeadlineCheck.{KeepsVerdict}
+use Rattle.roman_top.specs.HeadlineMake.{KeepsMade}
+use Rattle.roman_top.specs.HeadlineResilience.{KeepsResilience}
+use Rattle.roman_top.specs.HeadlineShortest.{KeepsShortest}
+use Rattle.roman_top.specs.Opening.{Accepted, document_opening}
+use Rattle.roman_top.specs.World.{World}
+use Rattle.roman_top.specs.declared.status.Status.{Status}
+
+-- each command by the page of its name; `synth` and `run` have theirs in `Headline`
+abbrev pub KeepsJob : Job → Texts → PlainLibrary → List ℕ → Status → Type 0
+KeepsJob Certify texts library text result = KeepsCertificate library text result
+KeepsJob (Check certificate) texts library text result = KeepsVerdict (shelf_text texts certificate) library text result
+KeepsJob Shortest texts library text result = KeepsShortest library text result
+KeepsJob (Advise costs requests) texts library text result = KeepsAdvice costs requests texts library text result
+KeepsJob Resilience texts library text result = KeepsResilience library text result
+KeepsJob _ texts library text result = Unit {0}
+
+-- a text of which that holds was written for an accepted document within its limit, where the shelf tells its texts, and for a made system
+abbrev pub KeepsText : Option Command → World → World → Status → Type 0
+KeepsText (Some (On system job)) old new result =
+    IfSome old.texts (λ texts. (library : PlainLibrary) → document_opening texts system ≡ Accepted library → WritesText (KeepsJob job texts library) old.written new.written result)
+KeepsText (Some (Make n)) old new result = WritesText (KeepsMade n) old.written new.written result
+KeepsText None old new result = Unit {0}
