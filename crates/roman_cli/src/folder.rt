@@ -2,22 +2,44 @@
 ghost use Rattle.std.specs.Prelude.{◌≤◌, length, IfOk, None};
 
 use roman_io::{Failed, Shelf};
+use std::alloc::Global;
 use std::fs::File;
-use std::io::{Read, Seek, SeekFrom};
+use std::io::{ErrorKind, Read, Seek, SeekFrom};
 use std::rt::Files;
+
+/// A file that couldn't be read.
+#[derive(Drop)]
+pub struct Unread {
+    /// The file's name, as it was asked for.
+    pub name: String,
+    /// What the system says of it.
+    pub kind: ErrorKind,
+}
 
 /// The files by their names, which begin in the working folder where they are relative. It tells
 /// nothing of what a file holds. A fetch fails at the first error of the system.
 #[derive(Drop)]
 pub struct FolderShelf<'a, R: Files> {
     rt: &'a R,
+    alloc: Global,
     faults: u64,
+    unread: Option<Unread>,
 }
 
 impl<'a, R: Files> FolderShelf<'a, R> {
     /// The files that the runtime reaches.
-    pub fn new(rt: &'a R) -> FolderShelf<'a, R> {
-        FolderShelf { rt, faults: 0 }
+    pub fn new(rt: &'a R, alloc: Global) -> FolderShelf<'a, R> {
+        FolderShelf {
+            rt,
+            alloc,
+            faults: 0,
+            unread: None,
+        }
+    }
+
+    /// The file at which a fetch failed last; `None` also where there was no memory for its name.
+    pub fn unread(&self) -> Option<&Unread> {
+        self.unread.as_ref()
     }
 
     /// Reads once from the file at that place.
@@ -38,7 +60,10 @@ impl<R: Files> Shelf for FolderShelf<'_, R> {
     fn fetch(&mut self, name: &str, at: u64, into: &mut [u8]) -> Result<usize, Failed> {
         match self.read(name, at, into) {
             Ok(count) => Ok(count),
-            Err(_) => {
+            Err(error) => {
+                let kind = error.kind();
+                let name = String::from_str(self.alloc, name).ok();
+                self.unread = name.map(|name| Unread { name, kind });
                 self.faults = self.faults.saturating_add(1);
                 Err(Failed)
             }
@@ -55,7 +80,7 @@ mod tests {
     #[test]
     fn a_file_is_read_from_a_place_on(rt: HostRuntime) -> Result<(), Fail> {
         fs::write(&rt, "roman_folder_test", "behaviour")?;
-        let mut shelf = FolderShelf::new(&rt);
+        let mut shelf = FolderShelf::new(&rt, rt.alloc());
         let mut piece = [0u8; 4];
         assert_eq!(rt; shelf.fetch("roman_folder_test", 2, &mut piece)?, 4);
         assert_eq!(rt; piece, *b"havi");

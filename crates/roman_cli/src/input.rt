@@ -42,8 +42,9 @@ mod tests {
     use super::*;
     use std::test::Fail;
 
+    /// What is taken and written is tried on the built program, by `tests/test_edges.py`.
     #[test]
-    fn nothing_is_taken_into_no_place(rt: HostRuntime) -> Result<(), Fail> {
+    fn taking_into_no_place_is_no_fault(rt: HostRuntime) -> Result<(), Fail> {
         let mut input = StdSource::new(&rt);
         assert_eq!(rt; input.take(&mut [])?, 0);
         assert_eq!(rt; input.faults, 0);

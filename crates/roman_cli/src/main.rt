@@ -3,10 +3,12 @@
 
 ghost use Rattle.std.specs.Prelude.{◌≡◌, ◌<◌};
 
+mod complaint;
 mod folder;
 mod input;
 mod output;
 
+use complaint::{complain, complain_of};
 use folder::FolderShelf;
 use input::StdSource;
 use output::StdSink;
@@ -22,26 +24,12 @@ use std::sync::ledger::{Blank, Ledger};
 fn main(rt: HostRuntime) -> ExitCode {
     let status = match words(&rt) {
         Ok(words) => run::<Brand>(&rt, &words, Blank::new(1)),
-        Err(status) => status,
+        Err(status) => {
+            let _ = complain(&rt, status);
+            status
+        }
     };
-    if let Some(text) = complaint(status) {
-        let _ = rt.eprintln(text);
-    }
     ExitCode::from(status.number())
-}
-
-/// What standard error says of a run that the output doesn't explain.
-fn complaint(status: Status) -> Option<&'static str> {
-    match status {
-        Status::ShelfFault => Some("roman: a file couldn't be read"),
-        Status::ReadFault => Some("roman: the standard input couldn't be read"),
-        Status::WriteFault => Some("roman: the output couldn't be written"),
-        Status::TooLong => Some(
-            "roman: the session has more than 16,777,216 bytes, or the certificate more than 268,435,456",
-        ),
-        Status::Memory => Some("roman: there isn't enough memory"),
-        _ => None,
-    }
 }
 
 /// The words after the program's name, or how the program ends without them.
@@ -63,22 +51,25 @@ fn without_words(error: &io::Error) -> Status {
     }
 }
 
-/// Calls the program on the real outside, with a counter of steps on that blank.
+/// Calls the program on the real outside, with a counter of steps on that blank, and says on standard
+/// error what the output doesn't explain.
 fn run<L: Ledger>(rt: &HostRuntime, words: &Words, blank: Blank) -> Status
     requires name { blank.name ≡ L.name }
     requires parts { blank.parts ≡ L.parts }
     requires some { 0 < L.parts }
 {
-    let mut shelf = FolderShelf::new(rt);
+    let mut shelf = FolderShelf::new(rt, rt.alloc());
     let mut input = StdSource::new(rt);
     let mut out = StdSink::new(rt);
     let mut steps = Steps::<L>::new(blank);
-    serve(
+    let status = serve(
         rt.alloc(),
         words,
         &mut shelf,
         &mut input,
         &mut out,
         &mut steps,
-    )
+    );
+    let _ = complain_of(rt, status, words, &mut shelf, &out);
+    status
 }

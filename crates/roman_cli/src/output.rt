@@ -2,7 +2,7 @@
 ghost use Rattle.std.specs.Prelude.{None};
 
 use roman_io::{Failed, Sink};
-use std::io::{Stdout, Write};
+use std::io::{self, ErrorKind, Stdout, Write};
 
 /// Standard output. It tells nothing of what was written. A put fails at the first error of the system,
 /// or where nothing is taken of a piece that isn't empty.
@@ -10,6 +10,7 @@ use std::io::{Stdout, Write};
 pub struct StdSink {
     out: Stdout,
     faults: u64,
+    is_closed: bool,
 }
 
 impl StdSink {
@@ -18,7 +19,21 @@ impl StdSink {
         StdSink {
             out: rt.stdout(),
             faults: 0,
+            is_closed: false,
         }
+    }
+
+    /// Whether a put failed since the reader of the output went away, as the other end of a pipe does.
+    pub fn is_closed(&self) -> bool {
+        self.is_closed
+    }
+}
+
+/// Whether a write failed since the reader went away.
+fn is_of_closed_pipe(written: &io::Result<usize>) -> bool {
+    match written {
+        Ok(_) => false,
+        Err(error) => error.kind() == ErrorKind::BrokenPipe,
     }
 }
 
@@ -32,7 +47,8 @@ impl Sink for StdSink {
         while !rest.is_empty() {
             match self.out.write(rest) {
                 Ok(count) if count > 0 => rest = &rest[count..],
-                _ => {
+                written => {
+                    self.is_closed = is_of_closed_pipe(&written);
                     self.faults = self.faults.saturating_add(1);
                     return Err(Failed);
                 }
@@ -47,8 +63,9 @@ mod tests {
     use super::*;
     use std::test::Fail;
 
+    /// What is taken and written is tried on the built program, by `tests/test_edges.py`.
     #[test]
-    fn a_piece_is_written(rt: HostRuntime) -> Result<(), Fail> {
+    fn putting_is_no_fault(rt: HostRuntime) -> Result<(), Fail> {
         let mut out = StdSink::new(&rt);
         out.put(b"answer composition\n")?;
         out.put(b"")?;

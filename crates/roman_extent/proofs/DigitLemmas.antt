@@ -1,0 +1,78 @@
+-- Numbers by their decimal digits: one digit more, and what a product makes of them.
+use Rattle.std.proofs.Common.{◌≡◌, ℕ, zero, suc, ◌+◌, ◌*◌, ◌/◌, ◌%◌, ◌^◌, ◌<◌, ◌≤◌, min, nat_le, List, [], ◌∷◌, ◌++◌, length, length-append, get_or, take, length-take-le, refl, sym, ap, ◌∙◌, arith, add-one}
+use Rattle.std.proofs.Math.Nat.{pow-zero, pow-suc, min-eq_left, min-eq_right}
+use Rattle.std.proofs.lemmas.Bool.{leb-true, leb-false}
+use Rattle.std.proofs.Math.Seq.{take-suc}
+use Rattle.std.specs.Char.{digit_value}
+use Rattle.std.specs.Str.Parse.{AllDigits, digits_value}
+use Rattle.std.proofs.lemmas.Int.Digits.{digits_value_push}
+use Rattle.std.proofs.lemmas.List.Elements.{All-push}
+use Rattle.std.proofs.lemmas.Str.{digit_value_digit}
+use Rattle.roman_model.specs.Lists.{product_of}
+use Rattle.roman_model.proofs.CallerLemmas.{by_test}
+use Rattle.roman_extent.specs.Digits.{AreDigits, number_with_digits}
+use Rattle.roman_extent.proofs.ExtentLemmas.{product_push}
+
+number_push : (ds : List ℕ) (d : ℕ) → number_with_digits (ds ++ d ∷ []) ≡ number_with_digits ds + d * 10 ^ length ds
+number_push [] d = omega (arith, ap (λ x. d * x) (pow-zero 10))
+number_push (x ∷ ds) d = omega (arith, number_push ds d, ap (λ x. d * x) (pow-suc 10 (length ds)))
+
+-- the last digit of what is carried is put behind the digits, and the rest is carried on
+pub carry_step : (ds : List ℕ) (s total : ℕ) → number_with_digits ds + s * 10 ^ length ds ≡ total →
+    number_with_digits (ds ++ (s % 10) ∷ []) + s / 10 * 10 ^ length (ds ++ (s % 10) ∷ []) ≡ total
+carry_step ds s total h =
+    let p = 10 ^ length ds in
+    let longer : length (ds ++ (s % 10) ∷ []) ≡ suc (length ds) = length-append ds ((s % 10) ∷ []) ∙ add-one (length ds) in
+    let power : 10 ^ length (ds ++ (s % 10) ∷ []) ≡ p * 10 = ap (λ k. 10 ^ k) longer ∙ pow-suc 10 (length ds) in
+    let parts : s ≡ s / 10 * 10 + s % 10 = omega arith in
+    omega (arith, h, number_push ds (s % 10), ap (λ x. s / 10 * x) power, ap (λ x. x * p) parts)
+
+-- one digit is taken times a factor
+pub times_step : (ds items : List ℕ) (k d other f carry : ℕ) → k < length ds → d ≡ get_or ds k other → length items ≡ k → number_with_digits items + carry * 10 ^ length items ≡ number_with_digits (take k ds) * f →
+    number_with_digits items + (d * f + carry) * 10 ^ length items ≡ number_with_digits (take (k + 1) ds) * f
+times_step ds items k d other f carry l at long h =
+    let more : take (k + 1) ds ≡ take k ds ++ d ∷ [] = rw add-one (take-suc ds k other l) ∙ ap (λ z. take k ds ++ z ∷ []) (sym at) in
+    let here : number_with_digits (take (k + 1) ds) ≡ number_with_digits (take k ds) + d * 10 ^ length items = ap number_with_digits more ∙ (number_push (take k ds) d ∙ ap (λ n. number_with_digits (take k ds) + d * 10 ^ n) (length-take-le k ds (omega arith) ∙ sym long)) in
+    omega (arith, h, ap (λ x. x * f) here)
+
+-- The text of digits
+
+pub all_digits_push : (bs : List ℕ) (c : ℕ) → AllDigits 10 bs → digit_value c < 10 → AllDigits 10 (bs ++ c ∷ [])
+all_digits_push [] c h l = (l, tt)
+all_digits_push (b ∷ bs) c h l = (h.0, all_digits_push bs c h.1 l)
+
+pub glyph_value : (d : ℕ) → d < 10 → digit_value (48 + d) ≡ d
+glyph_value d l = omega (arith, digit_value_digit (48 + d) (omega arith, omega arith))
+
+-- the digit at place i is put behind the text of those after it
+pub text_step : (ds bs : List ℕ) (i d other : ℕ) → i < length ds → d ≡ get_or ds i other → d < 10 → digits_value 10 bs * 10 ^ (i + 1) + number_with_digits (take (i + 1) ds) ≡ number_with_digits ds →
+    digits_value 10 (bs ++ (48 + d) ∷ []) * 10 ^ i + number_with_digits (take i ds) ≡ number_with_digits ds
+text_step ds bs i d other l at low h =
+    let p = 10 ^ i in
+    let more : take (i + 1) ds ≡ take i ds ++ d ∷ [] = rw add-one (take-suc ds i other l) ∙ ap (λ z. take i ds ++ z ∷ []) (sym at) in
+    let here : number_with_digits (take (i + 1) ds) ≡ number_with_digits (take i ds) + d * p = ap number_with_digits more ∙ (number_push (take i ds) d ∙ ap (λ n. number_with_digits (take i ds) + d * 10 ^ n) (length-take-le i ds (omega arith))) in
+    let power : 10 ^ (i + 1) ≡ p * 10 = rw add-one (pow-suc 10 i) in
+    let value : digits_value 10 (bs ++ (48 + d) ∷ []) ≡ digits_value 10 bs * 10 + d = digits_value_push 10 bs (48 + d) ∙ ap (λ v. digits_value 10 bs * 10 + v) (glyph_value d low) in
+    omega (arith, h, here, ap (λ x. digits_value 10 bs * x) power, ap (λ x. x * p) value)
+
+-- Products
+
+pub product_more : (ns : List ℕ) (k n other : ℕ) → k < length ns → n ≡ get_or ns k other → product_of (take (k + 1) ns) ≡ product_of (take k ns) * n
+product_more ns k n other l at =
+    let more : take (k + 1) ns ≡ take k ns ++ n ∷ [] = rw add-one (take-suc ns k other l) ∙ ap (λ z. take k ns ++ z ∷ []) (sym at) in
+    ap product_of more ∙ product_push (take k ns) n
+
+-- a product that is cut off at a limit is that of the whole, cut off
+pub cut_step : (p n most : ℕ) → min (min p most * n) most ≡ min (p * n) most
+cut_step p zero most = omega arith
+cut_step p (suc n) most = by_test (nat_le p most)
+    (λ t. rw (min-eq_left (leb-true p most t)) refl)
+    (λ f.
+    let less : most ≤ p = omega (arith, leb-false p most f) in
+    let left : most ≤ most * suc n = omega arith in
+    let right : most ≤ p * suc n = omega arith in
+    rw (min-eq_right less) (min-eq_right left ∙ sym (min-eq_right right)))
+
+-- each digit that is pushed is one
+pub digits_push : (ds : List ℕ) (s : ℕ) → AreDigits ds → AreDigits (ds ++ (s % 10) ∷ [])
+digits_push ds s h = All-push (λ d. d < 10) ds (s % 10) h (omega arith)
