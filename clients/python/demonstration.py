@@ -13,7 +13,6 @@ is, until the next change; and where the target may be left, each service may be
 from __future__ import annotations
 
 import argparse
-import json
 import os
 import random
 import sys
@@ -24,6 +23,8 @@ from roman_client import (
     Choice,
     DeviceFailed,
     Dispatcher,
+    Document,
+    DocumentError,
     NoComposition,
     ProgramEnded,
     Session,
@@ -36,86 +37,37 @@ class DeadEnd(BaseException):
     """A promise was broken. It is no Exception, so that it isn't taken for a device's failure."""
 
 
-def part(value: Any) -> Any:
-    """A part of a document, from its file where it is given by one."""
-    if isinstance(value, dict) and "file" in value:
-        return json.loads(Path(value["file"]).read_text(encoding="utf-8"))
-    return value
-
-
-def holds(guard: Any, state: str) -> bool:
-    """Whether a guard holds in that state of the environment."""
-    if isinstance(guard, bool):
-        return guard
-    if isinstance(guard, list):
-        return state in guard
-    if "not" in guard:
-        return not holds(guard["not"], state)
-    if "all" in guard:
-        return all(holds(each, state) for each in guard["all"])
-    return any(holds(each, state) for each in guard["any"])
-
-
 class World:
     """The devices behind the services, and what they share."""
 
-    def __init__(self, document: Any, chance: random.Random, failing: float) -> None:
+    def __init__(self, document: Document, chance: random.Random, failing: float) -> None:
+        self.document = document
         self.chance = chance
         self.failing = failing
-        self.environment_part = part(document["environment"])
-        self.target_part = part(document["target"])
-        catalogue = {each["name"]: each for each in map(part, document["behaviours"])}
         self.behaviours = {
-            each["name"]: catalogue[each["behaviour"]] for each in document["services"]
+            each.name: document.behaviours[each.behaviour] for each in document.services
         }
-        self.loose = {
-            each["name"]
-            for each in document["services"]
-            if document["roman"] != 1 and each.get("rests") is False
-        }
-        self.states: Dict[str, str] = {
-            each["name"]: each.get("state", catalogue[each["behaviour"]]["start"])
-            for each in document["services"]
-        }
-        self.environment: str = self.environment_part["start"]
-        self.target: str = self.target_part["start"]
+        self.loose = {each.name for each in document.services if each.loose}
+        self.states: Dict[str, str] = {each.name: each.state for each in document.services}
+        self.environment = document.environment.start
+        self.target = document.start
         self.away: Dict[str, int] = {}
         self.outages = 0
         self.lies = 0
 
-    def moves(self, action: str) -> List[str]:
-        """The states of the environment to which an action may lead."""
-        return [
-            to
-            for state, by, to in self.environment_part["steps"]
-            if state == self.environment and by == action
-        ]
-
     def allowed(self) -> List[str]:
         """The actions that the target allows."""
-        steps = self.target_part["steps"]
-        return [
-            action
-            for action in self.environment_part["actions"]
-            if self.moves(action)
-            and any(
-                state == self.target and by == action and holds(guard, self.environment)
-                for state, guard, by, _ in steps
-            )
-        ]
+        return list(self.document.allowed(self.target, self.environment))
 
-    def answers(self, service: str, action: str) -> List[str]:
-        """The states in which a service may be after an action."""
-        return [
-            to
-            for state, guard, by, to in self.behaviours[service]["steps"]
-            if state == self.states[service] and by == action and holds(guard, self.environment)
-        ]
+    def outcomes(self, service: str, action: str) -> List[Tuple[str, str]]:
+        """What may come of an action: the states of the service, with those of the environment."""
+        behaviour, state = self.behaviours[service].name, self.states[service]
+        return list(self.document.outcomes(behaviour, state, self.environment, action))
 
     def device(self, service: str, action: str) -> Tuple[str, str]:
         """Carries out an action, fails, or lies."""
-        states, moves = self.answers(service, action), self.moves(action)
-        if not states or not moves:
+        outcomes = self.outcomes(service, action)
+        if not outcomes:
             raise DeadEnd(f"{service} was asked for {action} in {self.states[service]}")
         draw = self.chance.random()
         if draw < self.failing:
@@ -125,16 +77,15 @@ class World:
         if draw < 1.3 * self.failing:
             lies = [
                 (state, to)
-                for state in self.behaviours[service]["states"]
-                for to in self.environment_part["states"]
-                if state not in states or to not in moves
+                for state in self.behaviours[service].states
+                for to in self.document.environment.states
+                if (state, to) not in outcomes
             ]
             if lies:
                 self.lies += 1
                 self.away[service] = self.chance.randrange(1, 8)
                 return self.chance.choice(lies)
-        self.states[service] = self.chance.choice(states)
-        self.environment = self.chance.choice(moves)
+        self.states[service], self.environment = self.chance.choice(outcomes)
         return self.states[service], self.environment
 
     def back(self, service: str) -> bool:
@@ -147,8 +98,8 @@ class World:
 
     def rests(self) -> bool:
         """Whether the target may not be left, or each service may be left too."""
-        return self.target not in self.target_part["final"] or all(
-            self.states[service] in behaviour["final"]
+        return not self.document.is_final(self.target) or all(
+            self.states[service] in behaviour.final
             for service, behaviour in self.behaviours.items()
             if service not in self.loose
         )
@@ -179,7 +130,7 @@ class Demonstration:
         """A policy: any of the offered ones. Each of them can take the request."""
         self.offered_at = self.session.changes
         for service in choice.offered:
-            if not self.world.answers(service, choice.action):
+            if not self.world.outcomes(service, choice.action):
                 raise DeadEnd(f"{service} was offered for {choice.action}, and can't take it")
         return self.world.chance.choice(choice.offered)
 
@@ -192,11 +143,11 @@ class Demonstration:
         world = self.world
         self.by_hand += 1
         if world.chance.random() < 0.5:
-            world.environment = world.chance.choice(world.environment_part["states"])
+            world.environment = world.chance.choice(world.document.environment.states)
             self.session.jumpenv(world.environment)
         else:
             service = world.chance.choice(sorted(world.states))
-            world.states[service] = world.chance.choice(world.behaviours[service]["states"])
+            world.states[service] = world.chance.choice(world.behaviours[service].states)
             self.session.jump(service, world.states[service])
 
     def put_right(self) -> None:
@@ -252,12 +203,9 @@ def main() -> int:
     parse.add_argument("--seed", type=int, default=1)
     parse.add_argument("--program", default=os.environ.get("ROMAN", str(TOP / "roman")))
     words = parse.parse_args()
-    with open(words.system, encoding="utf-8") as text:
-        document = json.load(text)
-    if document.get("roman") == 3:
-        parse.error("it knows documents with one target alone")
-    world = World(document, random.Random(words.seed), words.failing)
     try:
+        document = Document.load(words.system)
+        world = World(document, random.Random(words.seed), words.failing)
         with Session(words.system, program=words.program, timeout=60) as session:
             demonstration = Demonstration(session, world)
             for _ in range(words.requests):
@@ -270,7 +218,7 @@ def main() -> int:
             return 0
     except DeadEnd as end:
         print(f"demonstration: {end} (seed {words.seed})", file=sys.stderr)
-    except ProgramEnded as end:
+    except (DocumentError, ProgramEnded) as end:
         print(f"demonstration: {end}", file=sys.stderr)
     return 1
 

@@ -1,20 +1,26 @@
 """A client of `roman`, which composes behaviours.
 
 `Session` talks to the program over pipes: a method for each event, replies as values, refusals as
-exceptions. `Dispatcher` stands on it and runs real devices.
+exceptions. `Dispatcher` stands on it and runs real devices. `Document` reads system documents. The same
+calls for asyncio are in `roman_client.aio`.
 """
 
-from .dispatcher import (
-    Choice,
+import logging
+
+from .devices import (
+    Act,
+    Back,
+    Call,
     Device,
     DeviceFailed,
-    Dispatcher,
-    Done,
-    Failure,
-    LeastCost,
-    Policy,
-    first_offered,
+    DeviceTimeout,
+    NOT_DONE,
+    Outcome,
+    Verdict,
+    device,
 )
+from .dispatcher import Dispatcher
+from .documents import Document, DocumentError, Environment, Machine
 from .errors import (
     AlreadyFrozen,
     BadLine,
@@ -22,10 +28,13 @@ from .errors import (
     Full,
     Idle,
     Impossible,
+    InDoubt,
+    InsideRequest,
     NameTaken,
     NoComposition,
     NoReply,
     NotAllowed,
+    NotBegun,
     NotFrozen,
     NotOffered,
     OverLimit,
@@ -33,48 +42,86 @@ from .errors import (
     Refusal,
     Related,
     RomanError,
+    SessionOver,
+    StoreBroken,
+    StoreError,
+    StoreFailed,
+    StoreLocked,
     UnexpectedReply,
     UnknownName,
 )
+from .notices import Asked, Changed, Done, Failure, Notice, Recovery, Restarted
+from .policies import Choice, LeastCost, Policy, first_offered
 from .replies import Answer, Explanation, Lost, Move, Offer, Repair, Report, Service
 from .session import Session
+from .snapshots import Snapshot
 
 __all__ = [
+    "Act",
     "AlreadyFrozen",
     "Answer",
+    "Asked",
+    "Back",
     "BadLine",
     "Busy",
+    "Call",
+    "Changed",
     "Choice",
     "Device",
     "DeviceFailed",
+    "DeviceTimeout",
     "Dispatcher",
+    "Document",
+    "DocumentError",
     "Done",
+    "Environment",
     "Explanation",
     "Failure",
     "Full",
     "Idle",
     "Impossible",
+    "InDoubt",
+    "InsideRequest",
     "LeastCost",
     "Lost",
+    "Machine",
     "Move",
+    "NOT_DONE",
     "NameTaken",
     "NoComposition",
     "NoReply",
     "NotAllowed",
+    "NotBegun",
     "NotFrozen",
     "NotOffered",
+    "Notice",
     "Offer",
+    "Outcome",
     "OverLimit",
     "Policy",
     "ProgramEnded",
+    "Recovery",
     "Refusal",
     "Related",
     "Repair",
     "Report",
+    "Restarted",
     "RomanError",
     "Service",
     "Session",
+    "SessionOver",
+    "Snapshot",
+    "StoreBroken",
+    "StoreError",
+    "StoreFailed",
+    "StoreLocked",
     "UnexpectedReply",
     "UnknownName",
+    "Verdict",
+    "device",
     "first_offered",
 ]
+
+__version__ = "1.0.0"
+
+logging.getLogger(__name__).addHandler(logging.NullHandler())

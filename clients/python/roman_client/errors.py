@@ -5,6 +5,7 @@ from __future__ import annotations
 from typing import TYPE_CHECKING, Dict, Optional, Sequence, Tuple, Type
 
 if TYPE_CHECKING:
+    from .notices import Done, Failure
     from .replies import Explanation
 
 
@@ -12,8 +13,22 @@ class RomanError(Exception):
     """Any error of this client."""
 
 
-class ProgramEnded(RomanError):
-    """The program has ended, so the session is over.
+class NotBegun(RomanError):
+    """A call to a session that wasn't begun."""
+
+
+class SessionOver(RomanError):
+    """The session is over. Where a dispatcher had a request open, `action` is what was requested, `service`
+    the one that it was given to, and `outcome` what that answered; each is None where it didn't come so
+    far."""
+
+    action: Optional[str] = None
+    service: Optional[str] = None
+    outcome: Optional[Tuple[str, str]] = None
+
+
+class ProgramEnded(SessionOver):
+    """The program has ended.
 
     `status` is its exit status, or the negative number of the signal that ended it. `output` has the
     lines that it wrote and nobody asked for, as `refused ..` for a document, and `errors` the last lines
@@ -27,12 +42,16 @@ class ProgramEnded(RomanError):
         said = "; ".join((*self.output, *self.errors))
         super().__init__(f"the program ended with status {status}" + (f": {said}" if said else ""))
 
+    def again(self) -> ProgramEnded:
+        """The error for a later call."""
+        return ProgramEnded(self.status, self.output, self.errors)
 
-class NoReply(RomanError):
+
+class NoReply(SessionOver):
     """The reply wasn't whole within the session's timeout. The program was ended."""
 
 
-class UnexpectedReply(RomanError):
+class UnexpectedReply(SessionOver):
     """The reply to a line isn't one that this client knows. The program was ended."""
 
     def __init__(self, line: str, reply: str) -> None:
@@ -70,7 +89,8 @@ class Idle(Refusal):
 class NoComposition(Refusal):
     """`no composition`: from here no way of delegating can promise to go on.
 
-    A dispatcher fills in the `explanation`; for a session it is None, and `Session.explain` gives it.
+    A dispatcher fills in the `explanation`, the services that failed at this request (`failures`), and the
+    names of all that are `frozen`. For a session the explanation is None, and `Session.explain` gives it.
     """
 
     def __init__(
@@ -78,6 +98,8 @@ class NoComposition(Refusal):
     ) -> None:
         super().__init__(line, reply)
         self.explanation = explanation
+        self.failures: Tuple[Failure, ...] = ()
+        self.frozen: Tuple[str, ...] = ()
 
 
 class NotAllowed(Refusal):
@@ -133,3 +155,34 @@ REFUSALS: Dict[str, Type[Refusal]] = {
     "error related": Related,
 }
 """The exception for each refusal."""
+
+
+class InDoubt(RomanError):
+    """The request with this key was under way when the dispatcher was killed, and may have been served."""
+
+
+class InsideRequest(RomanError):
+    """A call from inside of a device or a policy that would wait for the request that it is part of. `post`
+    is for that."""
+
+
+class StoreError(RomanError):
+    """Something is wrong with the store of a dispatcher."""
+
+
+class StoreLocked(StoreError):
+    """Another dispatcher is at work on that store."""
+
+
+class StoreBroken(StoreError):
+    """The store can't be read, or isn't one for this document."""
+
+
+class StoreFailed(StoreError):
+    """The store couldn't be written, as on a full disk.
+
+    No device is asked until it can be. Where a device had been asked before, what came of it is kept, and is
+    written with what comes next; `done` is set where it was that a request was served.
+    """
+
+    done: Optional[Done] = None

@@ -1,22 +1,29 @@
-"""A session with the program, over pipes."""
+"""A session with the program, for callers that wait."""
 
 from __future__ import annotations
 
-import os
-import selectors
-import subprocess
-import time
-from collections import deque
+import threading
 from types import TracebackType
-from typing import Callable, Deque, List, Optional, Sequence, Tuple, Type, TypeVar, Union
+from typing import Any, Optional, Type
 
-from .errors import REFUSALS, NoReply, ProgramEnded, UnexpectedReply
-from .replies import Explanation, Move, Offer, Repair, Report, explanation_of, report_of
-
-Value = TypeVar("Value")
-
-LONGEST = 16_777_216
-"""The most bytes that the lines of one session may have; a longer one ends with status 8."""
+from . import protocol
+from .documents import PathLike
+from .errors import NotBegun
+from .pipes import Pipes
+from .protocol import (
+    LONGEST,
+    Conversation,
+    Effect,
+    Event,
+    Exchange,
+    Program,
+    Start,
+    Steps,
+    Stop,
+    Value,
+)
+from .replies import Explanation, Move, Offer, Repair, Report
+from .snapshots import Snapshot
 
 
 class Session:
@@ -26,7 +33,11 @@ class Session:
     It sends one line and waits for the whole reply; a refusal is raised as a `Refusal`, and changes
     nothing. Where the program has ended, each call raises `ProgramEnded`, and none waits for it.
 
-    A session is for one thread at a time. A word that is empty, has a space in it or can't be encoded is a
+    A program takes 16,777,216 bytes of lines. Where they are used up the session goes on in a new one,
+    from the states that it has, and no call notices; only `Repair.kept` and `Repair.added`, and which
+    entries an explanation shows, may come out differently then.
+
+    Calls of several threads take turns. A word that is empty, has a space in it or can't be encoded is a
     ValueError, one that is no text a TypeError, and nothing is sent. After any other exception that isn't
     a `Refusal` the program has ended, or is ended, since a reply that was half read can't be told from the
     next one.
@@ -34,132 +45,144 @@ class Session:
 
     def __init__(
         self,
-        system: Union[str, os.PathLike[str]],
+        system: PathLike,
         *,
-        program: Union[str, Sequence[str]] = "roman",
-        folder: Union[str, os.PathLike[str], None] = None,
+        program: Program = "roman",
+        folder: Optional[PathLike] = None,
         timeout: Optional[float] = None,
+        longest: int = LONGEST,
     ) -> None:
         """Starts the program on a document, and waits for its first report.
 
         `program` is its name, or a list of the words that call it; `folder` is where it runs, and where
         the names of part files count from; `timeout` is how many seconds a reply may take, for ever
-        where it is None. Raises `ProgramEnded` where the document is refused or over its limit.
+        where it is None; `longest` is how many bytes of lines a program gets. Raises `ProgramEnded` where
+        the document is refused or over its limit.
         """
-        words = [program] if isinstance(program, str) else list(program)
+        self.core = Conversation(system, program, folder, longest)
+        self._begin(timeout, self.core.start())
+
+    @classmethod
+    def resume(
+        cls,
+        snapshot: Snapshot,
+        *,
+        program: Program = "roman",
+        folder: Optional[PathLike] = None,
+        timeout: Optional[float] = None,
+        longest: int = LONGEST,
+    ) -> Session:
+        """A session that goes on from a snapshot, with the request that was open there."""
+        session = cls.__new__(cls)
+        session.core = Conversation("system.json", program, folder, longest)
+        session._begin(timeout, session.core.resume(snapshot))
+        return session
+
+    def _begin(self, timeout: Optional[float], opening: Steps[Report]) -> None:
         self._timeout = timeout
-        self._until: Optional[float] = None
-        self._lines: Deque[str] = deque()
-        self._begun = bytearray()
-        self._ended: Optional[ProgramEnded] = None
-        self._errors: Deque[bytes] = deque(maxlen=64)
-        self._sent = 0
-        self.changes = 0
-        """How many changes were made: freezes, thaws, deaths, joins and jumps."""
-        self._process = subprocess.Popen(
-            [*words, "run", os.fspath(system)],
-            stdin=subprocess.PIPE,
-            stdout=subprocess.PIPE,
-            stderr=subprocess.PIPE,
-            cwd=folder,
-            bufsize=0,
-        )
-        assert self._process.stdin is not None
-        os.set_blocking(self._process.stdin.fileno(), False)
-        self._watch = selectors.DefaultSelector()
-        for stream in (self._process.stdout, self._process.stderr):
-            assert stream is not None
-            os.set_blocking(stream.fileno(), False)
-            self._watch.register(stream, selectors.EVENT_READ)
+        self._turn = threading.RLock()
+        self._pipes: Optional[Pipes] = None
         try:
-            self.opening: Report = self.report()
+            self.opening: Report = self.run(opening)
+            """The first report of the session."""
         except BaseException:
-            self._stop()
+            if self._pipes is not None:
+                self._pipes.stop()
             raise
 
     # The events.
 
     def do(self, action: str) -> Offer:
         """Requests an action, and says which services may serve it. The next event is `use` or `abort`."""
-        return self._tell(
-            ("do", action), lambda words: Offer(action, tuple(words[1:])), "offer", None
-        )
+        return self.tell(protocol.do(action))
 
     def use(self, service: str) -> None:
         """Delegates the request to a service that was offered. The next event is `saw` or `abort`."""
-        self._tell(("use", service), lambda words: None, "using", 2)
+        self.tell(protocol.use(service))
 
     def saw(self, state: str, environment: str) -> Move:
         """Reports the outcome: the state of the service that was used, and that of the environment."""
-        return self._tell(
-            ("saw", state, environment), lambda words: Move(words[1], words[2]), "now", 3
-        )
+        return self.tell(protocol.saw(state, environment))
 
     def abort(self) -> None:
         """Drops the request that is open; nothing has moved."""
-        self._tell(("abort",), lambda words: None, "aborted", 1)
+        self.tell(protocol.abort())
 
     def freeze(self, service: str) -> Repair:
         """A service takes no requests any more, and keeps its state."""
-        return self._change("freeze", service)
+        return self.tell(protocol.freeze(service))
 
     def thaw(self, service: str) -> Repair:
         """A frozen service takes requests again."""
-        return self._change("thaw", service)
+        return self.tell(protocol.thaw(service))
 
     def die(self, service: str) -> Repair:
         """A service is gone."""
-        return self._change("die", service)
+        return self.tell(protocol.die(service))
 
     def join(self, service: str, behaviour: str, state: str, *, loose: bool = False) -> Repair:
         """A new service joins, in that state of a behaviour of the catalogue."""
-        return self._change("join", service, behaviour, state, *(["loose"] if loose else []))
+        return self.tell(protocol.join(service, behaviour, state, loose=loose))
 
     def jump(self, service: str, state: str) -> None:
         """A service is in that state now, whatever its transitions say."""
-        self._jump("jump", service, state)
+        self.tell(protocol.jump(service, state))
 
     def jumpenv(self, environment: str) -> None:
         """The environment is in that state now, whatever its transitions say."""
-        self._jump("jumpenv", environment)
+        self.tell(protocol.jumpenv(environment))
 
     def report(self) -> Report:
         """The present states, and what is offered from them."""
-        return self._tell_pages("report", "pairs", report_of)
+        return self.tell(protocol.report())
 
     def explain(self) -> Explanation:
         """Why the present pair isn't related. Refused as `Related` where it is."""
-        return self._tell_pages("explain", "lost", explanation_of)
+        return self.tell(protocol.explain())
 
     def quit(self) -> int:
         """Ends the session, and gives the program's status."""
-        self._tell(("quit",), lambda words: None, "bye", 1)
+        self.tell(protocol.quit())
         return self.close()
+
+    def tell(self, event: Event[Value]) -> Value:
+        """Sends the line of any event of `roman_client.protocol`, and gives the value of its reply."""
+        return self.run(self.core.tell(event))
+
+    def restore(self, snapshot: Snapshot) -> Report:
+        """Goes on from a snapshot, in a new program, and gives the report of the states there."""
+        return self.run(self.core.resume(snapshot))
+
+    def snapshot(self) -> Snapshot:
+        """Where the session stands, to `resume` from. Raises `DocumentError` where the document couldn't
+        be read from here."""
+        return self.run(self.core.snapshot())
 
     # Its end.
 
     @property
+    def changes(self) -> int:
+        """How many changes were made: freezes, thaws, deaths, joins and jumps."""
+        return self.core.changes
+
+    @property
     def status(self) -> Optional[int]:
         """The program's status, or None where it is still running."""
-        return self._process.poll()
+        return self._running().process.poll()
+
+    @property
+    def pid(self) -> int:
+        """The number of the program's process."""
+        return self._running().process.pid
 
     @property
     def room(self) -> int:
-        """How many bytes the lines to come may still have. Begin another session before it is 0."""
-        return LONGEST - self._sent
+        """How many bytes the present program still takes."""
+        return self.core.longest - self.core.sent
 
     def close(self) -> int:
         """Closes the input, ends the program where it doesn't end by itself, and gives its status."""
-        assert self._process.stdin is not None
-        try:
-            self._process.stdin.close()
-        except OSError:
-            pass
-        try:
-            self._process.wait(timeout=5 if self._timeout is None else min(5, self._timeout))
-        except subprocess.TimeoutExpired:
-            pass
-        return self._stop()
+        return self._running().close()
 
     def __enter__(self) -> Session:
         return self
@@ -172,185 +195,27 @@ class Session:
     ) -> None:
         self.close()
 
-    def _stop(self) -> int:
-        """Ends the program, lets go of its pipes, and gives its status."""
-        if self._process.poll() is None:
-            self._process.kill()
-        status = self._process.wait()
-        if self._ended is None:
-            self._ended = ProgramEnded(status, (), self._error_lines())
-        self._watch.close()
-        for stream in (self._process.stdin, self._process.stdout, self._process.stderr):
-            if stream is not None and not stream.closed:
-                try:
-                    stream.close()
-                except OSError:
-                    pass
-        return status
+    # Its steps.
 
-    # Lines and replies.
+    def run(self, steps: Steps[Value]) -> Value:
+        """Does the steps of the session."""
+        with self._turn:
+            return protocol.run(steps, self.perform)
 
-    def _tell(
-        self,
-        words: Sequence[str],
-        value: Callable[[List[str]], Value],
-        first: str,
-        count: Optional[int],
-    ) -> Value:
-        """Sends a line, and gives the value of a reply of one line that begins with that word."""
-        line, reply = self._answered(words)
-        split = reply.split()
-        if split[:1] != [first] or (count is not None and len(split) != count):
-            raise self._unexpected(line, reply)
-        try:
-            return value(split)
-        except ValueError:
-            raise self._unexpected(line, reply) from None
+    def perform(self, effect: Effect) -> Any:
+        """Does one step of the session."""
+        if isinstance(effect, Exchange):
+            return self._running().exchange(effect)
+        if isinstance(effect, Start):
+            before, self._pipes = self._pipes, Pipes(effect, self._timeout)
+            if before is not None:
+                before.close()
+            return None
+        if isinstance(effect, Stop):
+            return self._running().stop()
+        raise TypeError(f"{effect!r} is no step of a session")
 
-    def _change(self, *words: str) -> Repair:
-        repair = self._tell(
-            words, lambda reply: Repair(int(reply[1]), int(reply[3])), "kept", 4
-        )
-        self.changes += 1
-        return repair
-
-    def _jump(self, *words: str) -> None:
-        self._tell(words, lambda reply: None, "jumped", 1)
-        self.changes += 1
-
-    def _tell_pages(
-        self, word: str, first: str, value: Callable[[Sequence[str]], Value]
-    ) -> Value:
-        """Sends a line of one word, and gives the value of a reply that ends with the line `end`."""
-        line, reply = self._answered((word,))
-        if reply.split()[:1] != [first]:
-            raise self._unexpected(line, reply)
-        lines = [reply]
-        try:
-            while lines[-1] != "end":
-                lines.append(self._next_line())
-            return value(lines)
-        except (ValueError, IndexError):
-            raise self._unexpected(line, lines[0]) from None
-        except BaseException:
-            self._stop()
-            raise
-
-    def _answered(self, words: Sequence[str]) -> Tuple[str, str]:
-        """Sends a line of these words, and takes the first line of the reply."""
-        line = " ".join(words)
-        for word in words:
-            if not word or any(letter.isspace() or letter < " " for letter in word):
-                raise ValueError(f"{word!r} is no word of a line")
-        data = f"{line}\n".encode()
-        if self._ended is not None:
-            raise self._ended
-        self._until = None if self._timeout is None else time.monotonic() + self._timeout
-        try:
-            self._send(data)
-            reply = self._next_line()
-        except BaseException:
-            self._stop()
-            raise
-        refusal = REFUSALS.get(reply)
-        if refusal is not None:
-            raise refusal(line, reply)
-        return line, reply
-
-    def _send(self, data: bytes) -> None:
-        """Writes a line. The program has read all lines before it, so there is room in the pipe but for one
-        that is longer than the pipe; that one waits for the program to read, as a reply is waited for."""
-        assert self._process.stdin is not None
-        self._sent += len(data)
-        try:
-            while True:
-                data = data[self._process.stdin.write(data) or 0 :]
-                if not data:
-                    return
-                self._wait(0.01)
-                if self._is_late():
-                    raise self._no_reply()
-        except (BrokenPipeError, ValueError):
-            raise self._ending() from None
-
-    def _next_line(self) -> str:
-        """The next line of a reply, which is to be whole by the time that `_answered` set for it."""
-        while not self._lines:
-            self._wait(0.2)
-            if not self._lines and self._is_late():
-                raise self._no_reply()
-        return self._lines.popleft()
-
-    def _wait(self, seconds: float) -> None:
-        """Waits that long for something to read, but not past the time that `_answered` set."""
-        left = seconds if self._until is None else self._until - time.monotonic()
-        if not self._gather(min(seconds, left)):
-            raise self._ending()
-
-    def _is_late(self) -> bool:
-        """Whether the time that `_answered` set has come."""
-        return self._until is not None and time.monotonic() >= self._until
-
-    def _no_reply(self) -> NoReply:
-        return NoReply(f"no whole reply within {self._timeout} seconds")
-
-    def _gather(self, seconds: float) -> bool:
-        """Waits that long for something to read, and reads what is there. False at the end of it: the
-        output is closed at the other end, or the program had ended and nothing was left to read."""
-        gone = self._process.poll() is not None
-        ready = self._watch.select(max(seconds, 0))
-        for key, _ in ready:
-            data = os.read(key.fd, 65536)
-            if not data:
-                self._watch.unregister(key.fileobj)
-            elif key.fileobj is self._process.stdout:
-                self._begun += data
-                *whole, rest = self._begun.split(b"\n")
-                self._lines.extend(line.decode(errors="replace") for line in whole)
-                self._begun = bytearray(rest)
-            else:
-                self._errors.append(data)
-        if self._process.stdout not in self._watch.get_map():
-            return False
-        return bool(ready) or not gone
-
-    def _ending(self) -> ProgramEnded:
-        """How the program ended, with what it still said. It is ended where it only closed its output."""
-        while self._watch.get_map() and self._gather(0.2):
-            pass
-        try:
-            status = self._process.wait(timeout=1)
-        except subprocess.TimeoutExpired:
-            self._process.kill()
-            status = self._process.wait()
-        self._drain_errors()
-        output = [*self._lines, *([self._begun.decode(errors="replace")] if self._begun else [])]
-        self._ended = ProgramEnded(status, output, self._error_lines())
-        return self._ended
-
-    def _drain_errors(self) -> None:
-        """Takes what is still in the pipe of standard error."""
-        assert self._process.stderr is not None
-        try:
-            while True:
-                data = os.read(self._process.stderr.fileno(), 65536)
-                if not data:
-                    return
-                self._errors.append(data)
-        except (BlockingIOError, ValueError, OSError):
-            return
-
-    def _error_lines(self) -> List[str]:
-        return b"".join(self._errors).decode(errors="replace").splitlines()[-16:]
-
-    def _unexpected(self, line: str, reply: str) -> Union[UnexpectedReply, ProgramEnded]:
-        """The error for a reply of no known form. A program that is about to end may have said why in
-        place of a reply, as `refused ..` does."""
-        self._lines.appendleft(reply)
-        words = reply.split()[:1]
-        if words and words[0] in ("refused", "limit", "usage:"):
-            error: Union[UnexpectedReply, ProgramEnded] = self._ending()
-        else:
-            error = UnexpectedReply(line, reply)
-        self._stop()
-        return error
+    def _running(self) -> Pipes:
+        if self._pipes is None:
+            raise NotBegun("the session wasn't begun")
+        return self._pipes

@@ -1,9 +1,12 @@
 """What a session makes of programs that die, hang, flood their output or talk nonsense."""
 
+import os
+import signal
 import sys
 import time
 import unittest
 from typing import Optional
+from unittest import mock
 
 import roman_client as roman
 from roman_client import Session
@@ -11,9 +14,10 @@ from roman_client import Session
 OPENING = r"pairs 4\nrelated 2\nenvironment e\ntarget off final\nservice l1 lamp off ready\nanswer composition\noffer on: l1\nend\n"
 
 
-def session(code: str, timeout: Optional[float] = None) -> Session:
-    """A session with a program in Python that reads the first line and writes a first report."""
-    begin = f"""
+LONG = 600
+"""How many seconds a program of these tests hangs."""
+
+BEGIN = f"""
 import os, sys, time
 def say(text):
     sys.stdout.write(text)
@@ -21,15 +25,25 @@ def say(text):
 sys.stdin.readline()
 say("{OPENING}")
 """
-    return Session("system", program=[sys.executable, "-c", begin + code], timeout=timeout)
+"""The beginning of a program in Python that reads the first line and writes a first report."""
+
+
+def session(code: str, timeout: Optional[float] = None) -> Session:
+    """A session with a program that begins so. It has all the time that it needs for its first report."""
+    talk = Session("system", program=[sys.executable, "-c", BEGIN + code])
+    assert talk._pipes is not None
+    talk._pipes._timeout = timeout
+    return talk
 
 
 class Pipes(unittest.TestCase):
+    """No call waits for a program that hangs, be the machine ever so busy."""
+
     def setUp(self) -> None:
         self.begun = time.monotonic()
 
     def tearDown(self) -> None:
-        self.assertLess(time.monotonic() - self.begun, 20)
+        self.assertLess(time.monotonic() - self.begun, LONG / 2)
 
     def ended(self, code: str, status: int) -> roman.ProgramEnded:
         with session(code) as talk, self.assertRaises(roman.ProgramEnded) as caught:
@@ -64,22 +78,34 @@ class Pipes(unittest.TestCase):
                 talk.report()
 
     def test_a_program_that_only_closes_its_output(self) -> None:
-        code = "sys.stdin.readline(); os.close(1); time.sleep(60)"
-        self.ended(code, -9)
+        self.ended(f"sys.stdin.readline(); os.close(1); time.sleep({LONG})", -9)
 
     def test_a_pipe_that_another_process_holds(self) -> None:
-        code = "sys.stdin.readline()\nif os.fork() == 0: time.sleep(30); os._exit(0)\nos._exit(5)"
-        self.ended(code, 5)
+        code = f"""
+sys.stdin.readline()
+child = os.fork()
+if child == 0:
+    time.sleep({LONG})
+print(child, file=sys.stderr, flush=True)
+os._exit(5)
+"""
+        end = self.ended(code, 5)
+        os.kill(int(end.errors[0]), signal.SIGKILL)
+
+    def test_a_program_that_hangs_before_its_first_report(self) -> None:
+        with self.assertRaises(roman.NoReply):
+            words = [sys.executable, "-c", f"import time; time.sleep({LONG})"]
+            Session("system", program=words, timeout=0.5)
 
     def test_a_program_that_hangs(self) -> None:
-        with session("time.sleep(60)", timeout=0.5) as talk:
+        with session(f"time.sleep({LONG})", timeout=0.5) as talk:
             with self.assertRaises(roman.NoReply):
                 talk.do("on")
             with self.assertRaises(roman.ProgramEnded):
                 talk.do("on")
 
     def test_a_program_that_hangs_before_it_has_read_a_long_line(self) -> None:
-        with session("time.sleep(60)", timeout=0.5) as talk:
+        with session(f"time.sleep({LONG})", timeout=0.5) as talk:
             with self.assertRaises(roman.NoReply):
                 talk.do("a" * 1_000_000)
         with session("say('x'); time.sleep(1); raise SystemExit(7)") as talk:
@@ -89,13 +115,16 @@ class Pipes(unittest.TestCase):
 
     def test_a_long_line_that_is_read_slowly(self) -> None:
         code = "line = sys.stdin.readline(); say(f'offer {len(line)}\\n'); sys.stdin.readline()"
-        with session(code, timeout=10) as talk:
+        with session(code, timeout=LONG / 2) as talk:
             self.assertEqual(talk.do("a" * 1_000_000).services, ("1000004",))
 
     def test_a_program_that_hangs_at_its_end(self) -> None:
-        with session("time.sleep(60)", timeout=0.5) as talk:
-            self.assertEqual(talk.close(), -9)
-        self.assertLess(time.monotonic() - self.begun, 4)
+        with session(f"time.sleep({LONG})", timeout=0.5) as talk:
+            assert talk._pipes is not None
+            process = talk._pipes.process
+            with mock.patch.object(process, "wait", wraps=process.wait) as wait:
+                self.assertEqual(talk.close(), -9)
+            self.assertEqual(wait.call_args_list[0], mock.call(timeout=0.5))
 
     def test_a_report_that_comes_too_slowly(self) -> None:
         code = f"""
@@ -111,7 +140,8 @@ for line in "{OPENING}".splitlines(True):
 
     def test_a_reply_that_makes_no_sense(self) -> None:
         for reply in ("offering l1", "now", "", "kept 1 added"):
-            with session(f"sys.stdin.readline(); say('{reply}\\n'); time.sleep(60)") as talk:
+            code = f"sys.stdin.readline(); say('{reply}\\n'); time.sleep({LONG})"
+            with session(code) as talk:
                 with self.subTest(reply), self.assertRaises(roman.UnexpectedReply):
                     talk.saw("on", "e")
 

@@ -1,10 +1,15 @@
 """Sessions with the program."""
 
 import json
+import os
 import signal
+import sys
 import tempfile
 import unittest
+from concurrent.futures import ThreadPoolExecutor
 from pathlib import Path
+from typing import Callable, List, Tuple, Type
+from unittest import mock
 
 import roman_client as roman
 from roman_client import Session
@@ -91,7 +96,7 @@ class Events(unittest.TestCase):
 
     def test_each_refusal(self) -> None:
         with Session(sample("lamp.json"), program=PROGRAM) as session:
-            refused = [
+            refused: List[Tuple[Type[roman.Refusal], Callable[[], object], str]] = [
                 (roman.UnknownName, lambda: session.do("dim"), "error name"),
                 (roman.Idle, lambda: session.use("l1"), "error idle"),
                 (roman.NotAllowed, lambda: session.do("off"), "not allowed"),
@@ -156,6 +161,126 @@ class Events(unittest.TestCase):
             session.do("brighten")
             self.assertEqual(before - session.room, len("do brighten\n"))
 
+    def test_calls_of_several_threads_take_turns(self) -> None:
+        with home() as session, ThreadPoolExecutor(8) as threads:
+            reports = list(threads.map(lambda _: session.report(), range(200)))
+        self.assertEqual(reports, [session.opening] * 200)
+
+
+class GoingOn(unittest.TestCase):
+    """Sessions that go on in another program."""
+
+    def test_a_snapshot(self) -> None:
+        with home() as session:
+            session.join("spare", "lamp", "on", loose=True)
+            session.freeze("ceiling")
+            session.die("kettle")
+            session.jumpenv("dusk")
+            report, snapshot = session.report(), session.snapshot()
+        with Session.resume(snapshot, program=PROGRAM) as session:
+            self.assertEqual(session.opening, report)
+            self.assertEqual(session.snapshot().document.value, snapshot.document.value)
+
+    def test_a_snapshot_of_an_open_request(self) -> None:
+        with home() as session, tempfile.TemporaryDirectory() as folder:
+            path = Path(folder) / "snapshot.json"
+            session.do("brighten")
+            offered = session.snapshot()
+            session.use("window")
+            session.snapshot().write(path)
+            used = roman.Snapshot.read(path)
+        self.assertEqual((offered.request, offered.service), ("brighten", None))
+        self.assertEqual((used.request, used.service), ("brighten", "window"))
+        with Session.resume(offered, program=PROGRAM) as session:
+            session.use("ceiling")
+            self.assertEqual(session.saw("on", "day").target, "bright")
+        with Session.resume(used, program=PROGRAM) as session:
+            self.assertEqual(session.saw("open", "day").target, "bright")
+            self.assertEqual(session.snapshot().request, None)
+
+    def test_what_is_no_snapshot(self) -> None:
+        document = json.loads(Path(sample("lamp.json")).read_text(encoding="utf-8"))
+        with tempfile.TemporaryDirectory() as folder:
+            path = Path(folder) / "snapshot.json"
+            for value in (
+                [],
+                {},
+                {"document": {}, "request": None, "service": None},
+                {"document": document, "request": 3, "service": None},
+                {"document": document, "request": None},
+            ):
+                path.write_text(json.dumps(value), encoding="utf-8")
+                with self.subTest(value), self.assertRaises(roman.DocumentError):
+                    roman.Snapshot.read(path)
+            path.write_text("{", encoding="utf-8")
+            with self.assertRaises(roman.DocumentError):
+                roman.Snapshot.read(path)
+
+    def test_a_session_goes_on_before_it_is_too_long(self) -> None:
+        """With little room for each program, in any phase of a request, nothing is to be seen of it."""
+        outcomes = {"brighten": ("on", "day"), "dim": ("off", "day")}
+        pids = set()
+        with Session(
+            sample("lamp.json"), program=PROGRAM, timeout=60, longest=1000
+        ) as plain, Session(sample("home.json"), program=PROGRAM, longest=120) as session:
+            self.assertEqual(plain.do("on").services, ("l1",))
+            session.freeze("window")
+            session.join("spare", "lamp", "off", loose=True)
+            for turn in range(40):
+                for action in ("brighten", "boil", "pour", "dim"):
+                    pids.add(session.pid)
+                    offer = session.do(action)
+                    service = offer.services[0]
+                    self.assertNotIn("window", offer.services)
+                    session.use(service)
+                    if action == "boil" and turn == 20:
+                        for _ in range(30):
+                            session.report()
+                    state = {"boil": "hot", "pour": "empty"}.get(action)
+                    session.saw(*((state, "day") if state else outcomes[action]))
+                    self.assertLessEqual(session.core.sent, 120)
+            self.assertEqual(session.report().services[0].frozen, True)
+            self.assertEqual(session.changes, 2)
+        self.assertGreater(len(pids), 20)
+
+    def test_a_session_of_more_than_16_megabytes(self) -> None:
+        line = "x" * 1_000_000
+        with home() as session:
+            first = session.pid
+            session.freeze("window")
+            session.do("brighten")
+            for _ in range(17):
+                with self.assertRaises(roman.BadLine):
+                    session.do(line)
+            self.assertNotEqual(session.pid, first)
+            session.use("ceiling")
+            self.assertEqual(session.saw("on", "day").target, "bright")
+        with Session(sample("home.json"), program=PROGRAM, longest=1 << 40) as session:
+            with self.assertRaises(roman.ProgramEnded) as caught:
+                for _ in range(17):
+                    with self.assertRaises(roman.BadLine):
+                        session.do(line)
+            self.assertEqual(caught.exception.status, 8)
+
+    def test_no_place_for_the_next_program_yet(self) -> None:
+        """Between two requests a session tries to go on early, and does so later where it can't yet."""
+        with Session(sample("lamp.json"), program=PROGRAM, longest=400) as session:
+            first = session.pid
+            with mock.patch("tempfile.mkdtemp", side_effect=OSError(28, "no space")):
+                while session.room > 40:
+                    session.jumpenv("e")
+            self.assertEqual(session.pid, first)
+            session.jumpenv("e")
+            self.assertNotEqual(session.pid, first)
+
+    def test_a_document_that_is_not_to_be_read_from_here(self) -> None:
+        """A program that runs elsewhere: the session works, and says why it can't go on in another one."""
+        move = f'import os, sys; os.execv({PROGRAM!r}, ["roman", "run", {sample("lamp.json")!r}])'
+        with Session("elsewhere.json", program=[sys.executable, "-c", move]) as session:
+            self.assertEqual(session.do("on").services, ("l1",))
+            with self.assertRaisesRegex(roman.DocumentError, "elsewhere.json"):
+                session.snapshot()
+
 
 class Ends(unittest.TestCase):
     def test_a_document_that_is_refused(self) -> None:
@@ -186,7 +311,7 @@ class Ends(unittest.TestCase):
     def test_a_program_that_is_killed(self) -> None:
         with home() as session:
             session.do("brighten")
-            session._process.send_signal(signal.SIGKILL)
+            os.kill(session.pid, signal.SIGKILL)
             with self.assertRaises(roman.ProgramEnded) as caught:
                 session.use("window")
             self.assertEqual(caught.exception.status, -signal.SIGKILL)

@@ -1,0 +1,12 @@
+"""The same calls for asyncio, over its subprocess streams.
+
+    async with aio.Session("home.json") as session:
+        async with aio.Dispatcher(session, devices) as dispatcher:
+            done = await dispatcher.request("brighten")
+"""
+
+from .devices import Act, Back, Device, Policy, device
+from .dispatcher import Dispatcher
+from .session import Session
+
+__all__ = ["Act", "Back", "Device", "Dispatcher", "Policy", "Session", "device"]

@@ -1,0 +1,485 @@
+"""System documents: read with their part files, looked up, given other starting states, and written.
+
+The program alone decides what a document is. This module checks no more than the form that it needs to
+look things up, and says nothing of names that aren't there or of rules that a document breaks.
+"""
+
+from __future__ import annotations
+
+import itertools
+import json
+import math
+import os
+from dataclasses import dataclass
+from pathlib import Path
+from typing import (
+    Any,
+    Dict,
+    FrozenSet,
+    Iterator,
+    List,
+    Mapping,
+    NamedTuple,
+    Optional,
+    Sequence,
+    Tuple,
+    Union,
+)
+
+from .errors import RomanError
+from .replies import Report, Service
+
+PathLike = Union[str, "os.PathLike[str]"]
+
+Guard = Any
+"""A guard as it stands in a document."""
+
+LONGEST_DOCUMENT = 1_048_576
+"""The most bytes that a document, or a part file, may have."""
+
+MOST_STATES = 64
+"""The most states that a target may have, or all of several targets together."""
+
+DEEPEST = 127
+"""The most lists and objects that may stand within each other."""
+
+
+class DocumentError(RomanError, ValueError):
+    """A document can't be read or written, or isn't of the form of one."""
+
+
+class Step(NamedTuple):
+    """A transition of a behaviour or a target."""
+
+    state: str
+    guard: Guard
+    action: str
+    to: str
+
+
+class Request(NamedTuple):
+    """What a request means: the place of its target, and the action that a service is asked for."""
+
+    target: int
+    action: str
+
+
+class EnvironmentStep(NamedTuple):
+    """A transition of the environment."""
+
+    state: str
+    action: str
+    to: str
+
+
+@dataclass(frozen=True)
+class Environment:
+    """The machine that all share."""
+
+    states: Tuple[str, ...]
+    start: str
+    actions: Tuple[str, ...]
+    steps: Tuple[EnvironmentStep, ...]
+
+    def after(self, state: str, action: str) -> Tuple[str, ...]:
+        """The states to which an action may lead from that one, each once."""
+        found = (step.to for step in self.steps if step.state == state and step.action == action)
+        return tuple(dict.fromkeys(found))
+
+
+@dataclass(frozen=True)
+class Machine:
+    """A behaviour or a target. A single target has no name."""
+
+    name: str
+    states: Tuple[str, ...]
+    start: str
+    final: FrozenSet[str]
+    steps: Tuple[Step, ...]
+
+    def after(self, state: str, environment: str, action: str) -> Tuple[str, ...]:
+        """The states to which an action may lead from that one, in that state of the environment, each
+        once."""
+        found = (
+            step.to
+            for step in self.steps
+            if step.state == state and step.action == action and holds(step.guard, environment)
+        )
+        return tuple(dict.fromkeys(found))
+
+
+class Document:
+    """A system document with its parts in place.
+
+    `value` is the document as JSON, `version` the number of its version. `services` are those that it
+    begins with, `behaviours` the catalogue by name, and `targets` its one target, or its two to four.
+    """
+
+    def __init__(self, value: Any) -> None:
+        """From JSON with no parts by file. Raises DocumentError where it isn't of the form of a document."""
+        try:
+            self._take(value)
+        except (AttributeError, IndexError, KeyError, TypeError, ValueError) as error:
+            raise DocumentError(f"it isn't a system document: {error!r}") from None
+
+    def _take(self, value: Any) -> None:
+        if nesting(value) > DEEPEST:
+            raise ValueError(f"more than {DEEPEST} lists and objects stand within each other")
+        self.value: Dict[str, Any] = dict(value)
+        self.version: int = value["roman"]
+        if type(self.version) is not int or not 1 <= self.version <= 3:
+            raise ValueError(f"{self.version!r} is no version")
+        self.environment = _environment(value["environment"])
+        machines = [_machine(each, text(each["name"])) for each in listed(value["behaviours"])]
+        self.behaviours: Mapping[str, Machine] = {each.name: each for each in machines}
+        if self.version == 3:
+            given = listed(value["targets"])
+            self.targets = tuple(_machine(each, text(each["name"])) for each in given)
+        else:
+            self.targets = (_machine(value["target"], ""),)
+        self.services = tuple(self._service(each) for each in listed(value["services"]))
+        self._combined = self._combined_states()
+        self._requests = self._all_requests()
+
+    def _service(self, value: Any) -> Service:
+        behaviour = self.behaviours[text(value["behaviour"])]
+        return Service(
+            text(value["name"]),
+            behaviour.name,
+            text(value.get("state", behaviour.start)),
+            flag(value.get("frozen", False)),
+            self.version != 1 and not flag(value.get("rests", True)),
+        )
+
+    def _combined_states(self) -> Mapping[str, Tuple[str, ...]]:
+        """The states of all targets, by the text that stands for them."""
+        count = math.prod(len(target.states) for target in self.targets)
+        if count > MOST_STATES:
+            raise ValueError(f"the targets have {count} states together, more than {MOST_STATES}")
+        states = itertools.product(*(target.states for target in self.targets))
+        return {"-".join(each): each for each in states}
+
+    def _all_requests(self) -> Mapping[str, Request]:
+        """The actions that may be requested, each with its target's place and what a service is asked."""
+        actions = self.environment.actions
+        if len(self.targets) == 1:
+            return {action: Request(0, action) for action in actions}
+        return {
+            f"{action}-{target.name}": Request(seat, action)
+            for seat, target in enumerate(self.targets)
+            for action in actions
+            if any(
+                step.action == action and holds(step.guard, state)
+                for step in target.steps
+                for state in self.environment.states
+            )
+        }
+
+    @classmethod
+    def load(cls, path: PathLike, folder: Optional[PathLike] = None) -> Document:
+        """Reads a document with its part files. `folder` is where both names count from, as they do for
+        the program that runs there; the working folder, where it is None. Raises DocumentError."""
+        top = Path() if folder is None else Path(folder)
+        value = read_json(top / path)
+        if not isinstance(value, dict):
+            raise DocumentError(f"{os.fspath(path)} is no object")
+        try:
+            placed = dict(_in_place(value, top))
+            return cls(placed)
+        except TypeError as error:
+            raise DocumentError(f"{os.fspath(path)}: {error}") from None
+        except DocumentError as error:
+            raise DocumentError(f"{os.fspath(path)}: {error}") from None
+
+    # Looking things up.
+
+    @property
+    def start(self) -> str:
+        """The state in which the target begins."""
+        return "-".join(target.start for target in self.targets)
+
+    @property
+    def actions(self) -> Tuple[str, ...]:
+        """The actions that may be requested, in the order of a report: of one target, those of the
+        environment; of several, those that name a target."""
+        return tuple(self._requests)
+
+    def target_states(self, state: str) -> Tuple[str, ...]:
+        """The states of all targets that one text stands for, as `bright-watering` does. Raises
+        DocumentError where it stands for none."""
+        if state not in self._combined:
+            raise DocumentError(f"{state} is no state of the target")
+        return self._combined[state]
+
+    def delegated(self, action: str) -> str:
+        """The action that a service is asked for at a request: for `draw-beds` it is `draw`, where there
+        are several targets. Raises DocumentError where there is no such request."""
+        return self._request(action).action
+
+    def _request(self, action: str) -> Request:
+        if action not in self._requests:
+            raise DocumentError(f"{action} is no action that may be requested")
+        return self._requests[action]
+
+    def target_after(self, state: str, environment: str, action: str) -> Optional[str]:
+        """The target's state after a request, or None where the target doesn't have it there. (The
+        environment may still lack the action there; see `allowed`.)"""
+        states = self.target_states(state)
+        seat, plain = self._request(action)
+        found = self.targets[seat].after(states[seat], environment, plain)
+        return "-".join((*states[:seat], found[0], *states[seat + 1 :])) if found else None
+
+    def allowed(self, state: str, environment: str) -> Tuple[str, ...]:
+        """The actions that the target allows in these states of target and environment."""
+        return tuple(
+            action
+            for action in self.actions
+            if self.environment.after(environment, self.delegated(action))
+            and self.target_after(state, environment, action) is not None
+        )
+
+    def is_final(self, state: str) -> bool:
+        """Whether the target may be left in that state."""
+        states = self.target_states(state)
+        return all(each in target.final for each, target in zip(states, self.targets))
+
+    def outcomes(
+        self, behaviour: str, state: str, environment: str, action: str
+    ) -> Iterator[Tuple[str, str]]:
+        """What may come of a request that is delegated to a service in that state, in that state of the
+        environment: its states afterwards with those of the environment."""
+        plain = self.delegated(action)
+        machine = self.behaviours[behaviour]
+        return itertools.product(
+            machine.after(state, environment, plain), self.environment.after(environment, plain)
+        )
+
+    def has_same_machines(self, other: Document) -> bool:
+        """Whether both have the same environment, catalogue and targets, wherever they start."""
+
+        def machines(document: Document) -> List[Any]:
+            environment = document.environment
+            return [
+                (environment.states, environment.actions, set(environment.steps)),
+                *(
+                    (each.name, each.states, each.final, _unguarded(each.steps))
+                    for each in (*document.behaviours.values(), *document.targets)
+                ),
+            ]
+
+        return machines(self) == machines(other)
+
+    # Other starting states, and writing.
+
+    def with_states(self, report: Report) -> Document:
+        """The document whose starting states are those of a report of a session that began with this one:
+        its services are those that are present, with their states, frozen and loose as they are."""
+        value = dict(self.value)
+        if value["roman"] == 1 and any(service.loose for service in report.services):
+            value["roman"] = 2
+        value["environment"] = {**value["environment"], "start": report.environment}
+        states = self.target_states(report.target)
+        if self.version == 3:
+            targets = zip(value["targets"], states)
+            value["targets"] = [{**target, "start": state} for target, state in targets]
+        else:
+            value["target"] = {**value["target"], "start": states[0]}
+        kept = {each["name"]: each for each in self.value["services"]}
+        value["services"] = [
+            _entry(service, kept.get(service.name, {})) for service in report.services
+        ]
+        return Document(value)
+
+    def text(self) -> str:
+        """The document in one text, without a newline at its end."""
+        return _text_of(self.value)
+
+    def write(self, path: PathLike) -> None:
+        """Writes the document. Where one file would be too long for the program, its parts stand in files
+        beside it, whose names begin with that of the document. Raises DocumentError where even a part
+        is too long, and OSError where a file can't be written."""
+        whole = self.text()
+        if len(whole.encode()) <= LONGEST_DOCUMENT:
+            _write(Path(path), whole)
+            return
+        value = dict(self.value)
+        beside = Path(os.path.abspath(path))
+        value["environment"] = _moved(value["environment"], beside, "environment")
+        for name in ("behaviours", "targets") if self.version == 3 else ("behaviours",):
+            parts = enumerate(value[name])
+            value[name] = [_moved(each, beside, f"{name}{number}") for number, each in parts]
+        if self.version != 3:
+            value["target"] = _moved(value["target"], beside, "target")
+        _write(beside, _text_of(value))
+
+
+def holds(guard: Guard, state: str) -> bool:
+    """Whether a guard holds in that state of the environment."""
+    if isinstance(guard, bool):
+        return guard
+    if isinstance(guard, list):
+        return state in guard
+    ((word, inner),) = guard.items()
+    if word == "not":
+        return not holds(inner, state)
+    return (all if word == "all" else any)(holds(each, state) for each in inner)
+
+
+def read_json(path: PathLike) -> Any:
+    """The JSON in a file. Raises DocumentError, with the name of the file."""
+    try:
+        data = Path(path).read_bytes()
+        if len(data) > LONGEST_DOCUMENT:
+            raise ValueError(f"it has more than {LONGEST_DOCUMENT:,} bytes")
+        return json.loads(data.decode("utf-8"), parse_constant=_no_number)
+    except (OSError, ValueError, RecursionError) as error:
+        raise DocumentError(f"{os.fspath(path)}: {error}") from None
+
+
+def nesting(value: Any) -> int:
+    """How many lists and objects stand within each other at most."""
+    depth, level = 0, [value]
+    while True:
+        level = [each for each in level if isinstance(each, (list, dict))]
+        if not level:
+            return depth
+        depth += 1
+        level = [
+            inner
+            for each in level
+            for inner in (each.values() if isinstance(each, dict) else each)
+        ]
+
+
+def text(value: Any) -> str:
+    """The value, which has to be a text."""
+    if not isinstance(value, str):
+        raise TypeError(f"{value!r} is no text")
+    return value
+
+
+def flag(value: Any) -> bool:
+    """The value, which has to be true or false."""
+    if not isinstance(value, bool):
+        raise TypeError(f"{value!r} is neither true nor false")
+    return value
+
+
+def listed(value: Any) -> List[Any]:
+    """The value, which has to be a list."""
+    if not isinstance(value, list):
+        raise TypeError(f"{value!r} is no list")
+    return value
+
+
+def texts(value: Any) -> Tuple[str, ...]:
+    """The value, which has to be a list of texts."""
+    return tuple(text(each) for each in listed(value))
+
+
+def _no_number(word: str) -> Any:
+    raise ValueError(f"{word} is no JSON")
+
+
+def _in_place(value: Mapping[str, Any], folder: Path) -> Iterator[Tuple[str, Any]]:
+    """The members of a document, with parts in the place of the names of their files."""
+    for name, member in value.items():
+        if name in ("environment", "target"):
+            yield name, _part(member, folder)
+        elif name in ("behaviours", "targets") and isinstance(member, list):
+            yield name, [_part(each, folder) for each in member]
+        else:
+            yield name, member
+
+
+def _part(value: Any, folder: Path) -> Any:
+    """A part, from its file where it is given by one."""
+    if not isinstance(value, dict) or "file" not in value:
+        return value
+    part = read_json(folder / text(value["file"]))
+    if isinstance(part, dict):
+        part.pop("file", None)  # It names no file there, and would in the place of the part.
+    return part
+
+
+def _environment(value: Any) -> Environment:
+    steps = tuple(EnvironmentStep(*_words(step, 3)) for step in listed(value["steps"]))
+    return Environment(
+        texts(value["states"]), text(value["start"]), texts(value["actions"]), steps
+    )
+
+
+def _machine(value: Any, name: str) -> Machine:
+    steps = tuple(_step(step) for step in listed(value["steps"]))
+    final = frozenset(texts(value["final"]))
+    return Machine(name, texts(value["states"]), text(value["start"]), final, steps)
+
+
+def _words(value: Any, count: int) -> Tuple[str, ...]:
+    words = texts(value)
+    if len(words) != count:
+        raise ValueError(f"{value!r} has not {count} items")
+    return words
+
+
+def _step(value: Any) -> Step:
+    state, guard, action, to = listed(value)
+    _check_guard(guard)
+    return Step(text(state), guard, text(action), text(to))
+
+
+def _check_guard(guard: Any) -> None:
+    if isinstance(guard, bool):
+        return
+    if isinstance(guard, list):
+        texts(guard)
+        return
+    ((word, inner),) = guard.items()
+    if word not in ("not", "all", "any"):
+        raise ValueError(f"{word!r} is no word of a guard")
+    for each in [inner] if word == "not" else listed(inner):
+        _check_guard(each)
+
+
+def _unguarded(steps: Sequence[Step]) -> FrozenSet[Tuple[str, str, str, str]]:
+    """Steps as a set, with each guard as its text."""
+    return frozenset(
+        (step.state, json.dumps(step.guard, sort_keys=True), step.action, step.to)
+        for step in steps
+    )
+
+
+SERVICE_MEMBERS = ("name", "behaviour", "state", "frozen", "rests")
+
+
+def _entry(service: Service, before: Mapping[str, Any]) -> Dict[str, Any]:
+    """A service as it stands in a document, with what else stood there before."""
+    entry: Dict[str, Any] = {
+        "name": service.name,
+        "behaviour": service.behaviour,
+        "state": service.state,
+    }
+    entry.update((name, each) for name, each in before.items() if name not in SERVICE_MEMBERS)
+    if service.frozen:
+        entry["frozen"] = True
+    if service.loose:
+        entry["rests"] = False
+    return entry
+
+
+def _moved(part: Any, document: Path, name: str) -> Dict[str, str]:
+    """Writes a part into a file beside its document, and gives what stands in its place."""
+    file = document.with_name(f"{document.name}.{name}.json")
+    whole = _text_of(part)
+    if len(whole.encode()) > LONGEST_DOCUMENT:
+        raise DocumentError(f"{name} has more than {LONGEST_DOCUMENT:,} bytes")
+    _write(file, whole)
+    return {"file": str(file)}
+
+
+def _text_of(value: Any) -> str:
+    return json.dumps(value, ensure_ascii=False, separators=(",", ":"))
+
+
+def _write(path: Path, whole: str) -> None:
+    path.write_text(whole, encoding="utf-8")

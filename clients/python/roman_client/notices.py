@@ -1,0 +1,68 @@
+"""What a dispatcher tells: of requests that were served, of services that failed, and of changes."""
+
+from __future__ import annotations
+
+from dataclasses import dataclass
+from typing import Any, Callable, Optional, Tuple, Union
+
+from .devices import Call, Verdict
+
+
+@dataclass(frozen=True)
+class Failure:
+    """A service failed at a request, and was frozen for it. Either its device raised `error`, or it gave an
+    `outcome` that its behaviour doesn't have there."""
+
+    service: str
+    action: str
+    error: Optional[BaseException]
+    outcome: Any
+
+
+@dataclass(frozen=True)
+class Done:
+    """A request was served: by which service, the states in which it is now, and the services that failed
+    at it before."""
+
+    action: str
+    service: str
+    state: str
+    target: str
+    environment: str
+    failures: Tuple[Failure, ...]
+
+
+@dataclass(frozen=True)
+class Asked:
+    """A device is asked."""
+
+    call: Call
+
+
+@dataclass(frozen=True)
+class Changed:
+    """A change was made between two requests: the words of its line, as `("freeze", "window")`."""
+
+    words: Tuple[str, ...]
+
+
+@dataclass(frozen=True)
+class Recovery:
+    """What became of the call that was under way when the dispatcher was killed. It is `done` where that
+    could be found out. Where it wasn't done nothing has moved, and the request can be made again. Where it
+    is in doubt its service is frozen; `Dispatcher.record` says that it was done after all."""
+
+    call: Call
+    verdict: Verdict
+    done: Optional[Done]
+
+
+@dataclass(frozen=True)
+class Restarted:
+    """The program had ended, and another one went on from the store."""
+
+    why: str
+
+
+Notice = Union[Asked, Done, Failure, Changed, Recovery, Restarted]
+Watch = Callable[[Notice], None]

@@ -1,0 +1,72 @@
+"""Which of the offered services is taken."""
+
+from __future__ import annotations
+
+import json
+import os
+from dataclasses import dataclass
+from typing import Callable, Dict, Iterable, Mapping, Sequence, Tuple, Union
+
+from .documents import PathLike
+
+
+@dataclass(frozen=True)
+class Choice:
+    """What a policy chooses from: the services that are offered for an action, in the document's order,
+    and the behaviour of each service."""
+
+    action: str
+    offered: Tuple[str, ...]
+    behaviours: Mapping[str, str]
+
+
+Policy = Callable[[Choice], str]
+"""Names one of the offered services. Whichever it names, the next request will have an offer."""
+
+
+def first_offered(choice: Choice) -> str:
+    """The policy of the first offered service."""
+    return choice.offered[0]
+
+
+GREATEST_COST = 1_000_000
+"""The most that an item of a table of costs may say."""
+
+
+class LeastCost:
+    """The policy of the service that costs least for this request, the first of those that cost alike.
+
+    A cost is given for a behaviour and an action, and is 0 where none is.
+    """
+
+    def __init__(self, costs: Iterable[Sequence[Union[str, int]]]) -> None:
+        """From a table of items `[behaviour, action, cost]`, the names and a whole number from 0 to
+        1,000,000. Raises ValueError for an item of another form, and for a second one with both names,
+        as `advise` refuses them. Names aren't looked up in a document."""
+        self._costs: Dict[Tuple[str, str], int] = {}
+        for item in costs:
+            if not isinstance(item, Sequence):
+                raise ValueError(f"{item!r} isn't [behaviour, action, cost]")
+            behaviour, action, cost = item
+            if not isinstance(behaviour, str) or not isinstance(action, str):
+                raise ValueError(f"{behaviour!r} and {action!r} aren't both names")
+            if type(cost) is not int or not 0 <= cost <= GREATEST_COST:
+                raise ValueError(f"{cost!r} isn't a whole number from 0 to {GREATEST_COST:,}")
+            if (behaviour, action) in self._costs:
+                raise ValueError(f"{behaviour} has two costs of {action}")
+            self._costs[behaviour, action] = cost
+
+    @classmethod
+    def read(cls, file: PathLike) -> LeastCost:
+        """From a JSON file with such a table. Raises ValueError for one that isn't a list, too."""
+        with open(file, encoding="utf-8") as text:
+            table = json.load(text)
+        if not isinstance(table, list):
+            raise ValueError(f"{os.fspath(file)} isn't a list of items [behaviour, action, cost]")
+        return cls(table)
+
+    def __call__(self, choice: Choice) -> str:
+        def cost(service: str) -> int:
+            return self._costs.get((choice.behaviours[service], choice.action), 0)
+
+        return min(choice.offered, key=cost)

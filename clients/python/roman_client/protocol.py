@@ -1,0 +1,354 @@
+"""The lines of a session and their replies, and what a session does with them, without a transport.
+
+Whatever a session does is a generator of type `Steps`. It yields what a transport is to do, one of the
+classes below `Effect`, and is sent what came of it. So the session of this package, which waits, and that
+of `roman_client.aio` share all but the pipes.
+"""
+
+from __future__ import annotations
+
+import logging
+import os
+import tempfile
+from dataclasses import dataclass
+from pathlib import Path
+from typing import (
+    Any,
+    Callable,
+    Generator,
+    Generic,
+    List,
+    Mapping,
+    Optional,
+    Sequence,
+    Tuple,
+    TypeVar,
+    Union,
+)
+
+from .documents import Document, DocumentError, PathLike
+from .errors import REFUSALS, UnexpectedReply
+from .replies import Explanation, Move, Offer, Repair, Report, explanation_of, report_of
+from .snapshots import Snapshot
+
+Value = TypeVar("Value")
+Program = Union[str, Sequence[str]]
+
+LOG = logging.getLogger("roman_client.session")
+
+LONGEST = 16_777_216
+"""The most bytes that the lines of one program may have; a longer session ends with status 8."""
+
+
+RESERVE = 65_536
+"""With fewer bytes left a session goes on in a new program between two requests."""
+
+
+# Lines and replies.
+
+
+@dataclass(frozen=True)
+class Event(Generic[Value]):
+    """A line of a session. `value` gives the value of its reply, or raises ValueError or IndexError. A reply
+    of several lines begins with the word `opens`, and ends with the line `end`."""
+
+    words: Tuple[str, ...]
+    value: Callable[[Sequence[str]], Value]
+    opens: Optional[str] = None
+    changes: bool = False
+
+    @property
+    def line(self) -> str:
+        """The line. Raises ValueError for a word that is none, and TypeError for one that is no text."""
+        line = " ".join(self.words)
+        for word in self.words:
+            if not word or any(letter.isspace() or letter < " " for letter in word):
+                raise ValueError(f"{word!r} is no word of a line")
+        return line
+
+
+def _words(first: str, count: Optional[int], lines: Sequence[str]) -> List[str]:
+    """The words of a reply of one line that begins with that one, and has so many."""
+    words = lines[0].split()
+    if words[:1] != [first] or (count is not None and len(words) != count):
+        raise ValueError("another reply")
+    return words
+
+
+def _nothing(first: str, count: int) -> Callable[[Sequence[str]], None]:
+    def value(lines: Sequence[str]) -> None:
+        _words(first, count, lines)
+
+    return value
+
+
+def do(action: str) -> Event[Offer]:
+    """Requests an action."""
+    return Event(
+        ("do", action), lambda lines: Offer(action, tuple(_words("offer", None, lines)[1:]))
+    )
+
+
+def use(service: str) -> Event[None]:
+    """Delegates the request."""
+    return Event(("use", service), _nothing("using", 2))
+
+
+def saw(state: str, environment: str) -> Event[Move]:
+    """Reports the outcome."""
+    return Event(("saw", state, environment), lambda lines: Move(*_words("now", 3, lines)[1:]))
+
+
+def abort() -> Event[None]:
+    """Drops the request."""
+    return Event(("abort",), _nothing("aborted", 1))
+
+
+def _repair(*words: str) -> Event[Repair]:
+    def value(lines: Sequence[str]) -> Repair:
+        reply = _words("kept", 4, lines)
+        return Repair(int(reply[1]), int(reply[3]))
+
+    return Event(words, value, changes=True)
+
+
+def freeze(service: str) -> Event[Repair]:
+    """A service takes no requests any more."""
+    return _repair("freeze", service)
+
+
+def thaw(service: str) -> Event[Repair]:
+    """A frozen service takes requests again."""
+    return _repair("thaw", service)
+
+
+def die(service: str) -> Event[Repair]:
+    """A service is gone."""
+    return _repair("die", service)
+
+
+def join(service: str, behaviour: str, state: str, *, loose: bool = False) -> Event[Repair]:
+    """A new service joins."""
+    return _repair("join", service, behaviour, state, *(["loose"] if loose else []))
+
+
+def jump(service: str, state: str) -> Event[None]:
+    """A service is in that state now."""
+    return Event(("jump", service, state), _nothing("jumped", 1), changes=True)
+
+
+def jumpenv(environment: str) -> Event[None]:
+    """The environment is in that state now."""
+    return Event(("jumpenv", environment), _nothing("jumped", 1), changes=True)
+
+
+def report() -> Event[Report]:
+    """The present states."""
+    return Event(("report",), report_of, opens="pairs")
+
+
+def explain() -> Event[Explanation]:
+    """Why the present pair isn't related."""
+    return Event(("explain",), explanation_of, opens="lost")
+
+
+def quit() -> Event[None]:
+    """Ends the session."""
+    return Event(("quit",), _nothing("bye", 1))
+
+
+def event_of(words: Sequence[str]) -> Event[Any]:
+    """The change that these words say. Raises ValueError where they are none."""
+    first, *rest = words
+    if first == "join" and len(rest) in (3, 4) and rest[3:] in ([], ["loose"]):
+        return join(rest[0], rest[1], rest[2], loose=len(rest) == 4)
+    if first == "jump" and len(rest) == 2:
+        return jump(*rest)
+    one: Mapping[str, Callable[[str], Event[Any]]] = {
+        "freeze": freeze,
+        "thaw": thaw,
+        "die": die,
+        "jumpenv": jumpenv,
+    }
+    if first in one and len(rest) == 1:
+        return one[first](*rest)
+    raise ValueError(f"{' '.join(words)} is no change")
+
+
+# What a transport does.
+
+
+@dataclass(frozen=True)
+class Effect:
+    """What is yielded by `Steps`."""
+
+
+@dataclass(frozen=True)
+class Start(Effect):
+    """Start a program, and end the one before. Gives None."""
+
+    words: Tuple[str, ...]
+    folder: Optional[PathLike]
+
+
+@dataclass(frozen=True)
+class Exchange(Effect):
+    """Send a line, and read its whole reply. Gives the lines of the reply, or raises `ProgramEnded` or
+    `NoReply`."""
+
+    data: bytes
+    opens: Optional[str]
+
+    def is_long(self, first: str) -> bool:
+        """Whether a reply with this first line goes on up to the line `end`."""
+        return self.opens is not None and first.split()[:1] == [self.opens]
+
+
+@dataclass(frozen=True)
+class Stop(Effect):
+    """End the program at once. Gives None."""
+
+
+Steps = Generator[Effect, Any, Value]
+"""What is to be done, up to a value."""
+
+LAST_WORDS = ("refused", "limit", "usage:")
+"""With one of these a line begins in place of a reply where the program is about to end."""
+
+
+def is_farewell(line: str) -> bool:
+    """Whether a line says, in place of a reply, why the program ends."""
+    return line.split()[:1] in ([word] for word in LAST_WORDS)
+
+
+# The session.
+
+
+class Conversation:
+    """What a session knows and does, whatever the transport."""
+
+    def __init__(
+        self, system: PathLike, program: Program, folder: Optional[PathLike], longest: int
+    ) -> None:
+        self.words = (program,) if isinstance(program, str) else tuple(program)
+        self.system = os.fspath(system)
+        self.folder = folder
+        self.longest = longest
+        self.sent = 0
+        """How many bytes the present program was sent."""
+        self.changes = 0
+        self.request: Optional[str] = None
+        """The action that is requested, while a request is open."""
+        self.service: Optional[str] = None
+        """The service that was used for it, once it is."""
+        self.document: Optional[Document] = None
+        self.unread: Optional[DocumentError] = None
+        """Why the document couldn't be read."""
+
+    def start(self) -> Steps[Report]:
+        """Starts the program on the document, and gives its first report. The document is kept for later,
+        where it can be read from here."""
+        try:
+            self.document = Document.load(self.system, self.folder)
+        except DocumentError as error:
+            self.unread = error
+        return (yield from self._begin(self.system))
+
+    def resume(self, snapshot: Snapshot) -> Steps[Report]:
+        """Goes on from a snapshot, in a program of its own. Gives the report of the states there."""
+        with tempfile.TemporaryDirectory(prefix="roman-") as folder:
+            system = os.path.join(folder, Path(self.system).name)
+            snapshot.document.write(system)
+            opening = yield from self._begin(system)
+        self.document, self.unread = snapshot.document, None
+        if snapshot.request is not None:
+            yield from self._told(do(snapshot.request))
+            if snapshot.service is not None:
+                yield from self._told(use(snapshot.service))
+        return opening
+
+    def _begin(self, system: str) -> Steps[Report]:
+        yield Start((*self.words, "run", system), self.folder)
+        self.sent, self.request, self.service = 0, None, None
+        return (yield from self._told(report()))
+
+    def snapshot(self) -> Steps[Snapshot]:
+        """The present states, and what is under way, to go on from."""
+        if self.document is None:
+            raise self.unread or DocumentError("the session wasn't begun")
+        present = yield from self.tell(report())
+        return self._snapshot_of(present)
+
+    def _snapshot_of(self, present: Report) -> Snapshot:
+        assert self.document is not None
+        return Snapshot(self.document.with_states(present), self.request, self.service)
+
+    def tell(self, event: Event[Value]) -> Steps[Value]:
+        """Sends a line, and gives the value of the reply. Where the session is near its end it goes on in a
+        new program before that: between two requests while there is some room left, and at the latest
+        where there would be none."""
+        needed = self.sent + len(_data(event)) + len(_data(report()))
+        if needed > self.longest:
+            yield from self._go_on()
+        elif self.request is None and needed + min(RESERVE, self.longest // 4) > self.longest:
+            try:
+                yield from self._go_on()
+            except (OSError, DocumentError) as error:
+                LOG.warning("%s can't go on in a new program yet: %s", self.system, error)
+        return (yield from self._told(event))
+
+    def _go_on(self) -> Steps[None]:
+        """Goes on in a new program, where the document is known."""
+        if self.document is None:
+            LOG.warning("%s nears its end, and can't go on: %s", self.system, self.unread)
+            return
+        snapshot = self._snapshot_of((yield from self._told(report())))
+        LOG.info("%s goes on in a new program after %s bytes", self.system, self.sent)
+        yield from self.resume(snapshot)
+
+    def _told(self, event: Event[Value]) -> Steps[Value]:
+        """Sends a line, and gives the value of the reply."""
+        data = _data(event)
+        self.sent += len(data)
+        lines: List[str] = yield Exchange(data, event.opens)
+        LOG.debug("%s: %s", data, lines[0])
+        refusal = REFUSALS.get(lines[0])
+        if refusal is not None:
+            raise refusal(event.line, lines[0])
+        try:
+            value = event.value(lines)
+        except (ValueError, IndexError):
+            yield Stop()
+            raise UnexpectedReply(event.line, lines[0]) from None
+        self._note(event)
+        return value
+
+    def _note(self, event: Event[Any]) -> None:
+        """Keeps what an accepted line says of the open request."""
+        self.changes += event.changes
+        if event.words[0] == "do":
+            self.request = event.words[1]
+        elif event.words[0] == "use":
+            self.service = event.words[1]
+        elif event.words[0] in ("saw", "abort"):
+            self.request = self.service = None
+
+
+def _data(event: Event[Any]) -> bytes:
+    return f"{event.line}\n".encode()
+
+
+def run(steps: Steps[Value], perform: Callable[[Effect], Any]) -> Value:
+    """Does the steps one by one, and gives their value."""
+    try:
+        effect = next(steps)
+        while True:
+            try:
+                result = perform(effect)
+            except BaseException as error:
+                effect = steps.throw(error)
+            else:
+                effect = steps.send(result)
+    except StopIteration as end:
+        value: Value = end.value
+        return value
