@@ -1,0 +1,59 @@
+"""A kettle that is reached over HTTP: kettle.py PORT. It fails now and then, with status 500.
+
+POST {"id": .., "action": ..} has it act; GET tells its state, and with ?id= whether that call was done.
+"""
+
+import json
+import os
+import random
+import sys
+import time
+from http.server import BaseHTTPRequestHandler, ThreadingHTTPServer
+from typing import Any, Optional
+from urllib.parse import parse_qs, urlsplit
+
+STEPS = {
+    ("empty", "boil"): ("warm", "hot"),
+    ("warm", "pour"): ("empty",),
+    ("hot", "pour"): ("empty",),
+}
+FAILURES = float(os.environ.get("DEMO_FAILURES", "0.1"))
+SECONDS = float(os.environ.get("DEMO_SECONDS", "0.8"))
+
+
+class Kettle(BaseHTTPRequestHandler):
+    """One request to the kettle. All requests share its state."""
+
+    state = "empty"
+    last: Optional[int] = None
+
+    def do_GET(self) -> None:
+        about = parse_qs(urlsplit(self.path).query).get("id")
+        self.answer(200, state=Kettle.state, done=about == [str(Kettle.last)])
+
+    def do_POST(self) -> None:
+        asked = json.loads(self.rfile.read(int(self.headers["Content-Length"])))
+        time.sleep(SECONDS)
+        if random.random() < FAILURES:
+            self.answer(500, error="the fuse is out")
+        elif (Kettle.state, asked["action"]) not in STEPS:
+            self.answer(200, id=asked["id"], error=f"can't {asked['action']}, being {Kettle.state}")
+        else:
+            Kettle.state = random.choice(STEPS[Kettle.state, asked["action"]])
+            Kettle.last = asked["id"]
+            self.answer(200, id=asked["id"], state=Kettle.state)
+
+    def answer(self, status: int, **value: Any) -> None:
+        body = json.dumps(value).encode()
+        self.send_response(status)
+        self.send_header("Content-Type", "application/json")
+        self.send_header("Content-Length", str(len(body)))
+        self.end_headers()
+        self.wfile.write(body)
+
+    def log_message(self, *words: Any) -> None:
+        """Says nothing."""
+
+
+if __name__ == "__main__":
+    ThreadingHTTPServer(("127.0.0.1", int(sys.argv[1])), Kettle).serve_forever()

@@ -1,0 +1,93 @@
+"""A blind, or a lamp, that is reached over MQTT: mqtt_device.py PORT NAME blind|lamp.
+
+It fails now and then: it doesn't answer, says that it can't, or ends, and then its last will says so. Its
+state is kept in the file NAME.state.
+"""
+
+import json
+import os
+import random
+import sys
+import time
+from pathlib import Path
+from typing import Any, Dict, Optional, Sequence, Tuple
+
+import paho.mqtt.client as mqtt  # type: ignore[import]
+
+Steps = Dict[Tuple[str, str], Sequence[str]]
+
+BEHAVIOURS: Dict[str, Steps] = {
+    "blind": {
+        ("shut", "brighten"): ("open",),
+        ("ajar", "brighten"): ("open",),
+        ("open", "dim"): ("shut", "ajar"),
+    },
+    "lamp": {("off", "brighten"): ("on",), ("on", "dim"): ("off",)},
+}
+"""Where each action leads from each state, as home.json has it."""
+
+FAILURES = float(os.environ.get("DEMO_FAILURES", "0.1"))
+SECONDS = float(os.environ.get("DEMO_SECONDS", "0.8"))
+
+
+class Device:
+    """A device behind a broker, which is asked on NAME/ask, and answers on NAME/answer."""
+
+    def __init__(self, port: int, name: str, steps: Steps) -> None:
+        self.steps = steps
+        self.file = Path(f"{name}.state")
+        self.state, self.last = self.remembered()
+        self.asks, self.answers = f"demo/{name}/ask", f"demo/{name}/answer"
+        self.client = mqtt.Client()
+        self.client.will_set(self.answers, json.dumps({"gone": True}), qos=1)
+        self.client.on_connect = self.connected
+        self.client.on_message = self.asked
+        self.client.connect(os.environ.get("DEMO_BROKER", "127.0.0.1"), port)
+
+    def remembered(self) -> Tuple[str, Optional[int]]:
+        """Where it stood when it ended, and the last call that it carried out."""
+        if not self.file.exists():
+            return next(iter(self.steps))[0], None
+        state, last = json.loads(self.file.read_text(encoding="utf-8"))
+        return state, last
+
+    def say(self, **answer: Any) -> None:
+        self.client.publish(self.answers, json.dumps(answer), qos=1)
+
+    def connected(self, client: Any, data: Any, flags: Any, code: int) -> None:
+        """Listens, and says where it is without being asked."""
+        client.subscribe(self.asks, qos=1)
+        self.say(state=self.state)
+
+    def asked(self, client: Any, data: Any, message: Any) -> None:
+        asked = json.loads(message.payload)
+        number, action = asked["id"], asked["action"]
+        if action is None:
+            self.say(id=number, state=self.state, done=asked.get("about") == self.last)
+            return
+        time.sleep(SECONDS)
+        if random.random() < FAILURES:
+            self.fail(number)
+        elif (self.state, action) not in self.steps:
+            self.say(id=number, error=f"can't {action}, being {self.state}")
+        else:
+            self.state, self.last = random.choice(self.steps[self.state, action]), number
+            self.file.write_text(json.dumps([self.state, self.last]), encoding="utf-8")
+            self.say(id=number, state=self.state)
+
+    def fail(self, number: int) -> None:
+        """Fails in one of three ways."""
+        way = random.choice(("silent", "unable", "dead"))
+        if way == "unable":
+            self.say(id=number, error="the motor is stuck")
+        elif way == "dead":
+            os._exit(1)
+
+
+def main() -> None:
+    _, port, name, behaviour = sys.argv
+    Device(int(port), name, BEHAVIOURS[behaviour]).client.loop_forever()
+
+
+if __name__ == "__main__":
+    main()

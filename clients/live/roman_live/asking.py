@@ -1,0 +1,43 @@
+"""Asks a running home."""
+
+from __future__ import annotations
+
+import sys
+from typing import Any, Mapping, Optional
+
+import aiohttp
+
+from .homefile import HomeFile
+
+SERVED, NOT_SERVED = 0, 1
+
+
+async def ask(file: HomeFile, action: str, key: Optional[str]) -> int:
+    """Asks for an action, and says what came of it. Gives the status."""
+    page = file.page
+    host = {"0.0.0.0": "127.0.0.1", "::": "::1"}.get(page.host, page.host)
+    url = f"http://[{host}]:{page.port}" if ":" in host else f"http://{host}:{page.port}"
+    headers = {} if page.token is None else {"Authorization": f"Bearer {page.token}"}
+    body = {"action": action, "wait": True, "key": key}
+    timeout = aiohttp.ClientTimeout(total=None)
+    async with aiohttp.ClientSession(headers=headers, timeout=timeout) as client:
+        async with client.post(f"{url}/requests", json=body) as response:
+            value = await response.json()
+    for failure in value.get("failures", ()):
+        print(f"{failure['service']} failed: {failure['error']}", file=sys.stderr)
+    if response.status == 200:
+        print(f"{value['served_by']} served {action}, and is {value['state']}")
+        return SERVED
+    print(_refusal(action, value), file=sys.stderr)
+    return NOT_SERVED
+
+
+def _refusal(action: str, value: Mapping[str, Any]) -> str:
+    """Why a request wasn't served."""
+    text = f"{action}: {value['error']}"
+    if value.get("explanation"):
+        text += f"\n{value['explanation']['text']}"
+    for name in ("allowed", "actions"):
+        if value.get(name):
+            text += f"\n{name}: {' '.join(value[name])}"
+    return text

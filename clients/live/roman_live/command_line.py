@@ -1,0 +1,96 @@
+"""roman-live: runs a home with real devices, or asks a running one."""
+
+from __future__ import annotations
+
+import argparse
+import asyncio
+import logging
+import os
+import signal
+import sys
+from typing import Sequence
+
+from aiohttp import ClientError
+from roman_client import RomanError
+
+from .asking import ask
+from .home import Home
+from .homefile import HomeFile, HomeFileError
+from .requests import Requests
+from .server import Server
+from .service import Supervisor
+
+LOG = logging.getLogger("roman_live")
+
+DONE, NO, USAGE, FAILED = 0, 1, 2, 3
+"""The statuses: all is well; the request wasn't served; the words or the home file are wrong; it couldn't
+be begun, or nobody was there to ask."""
+
+PATIENCE = 20.0
+"""How many seconds an open request has to come to its end, before the home ends as if it were killed."""
+
+
+def parser() -> argparse.ArgumentParser:
+    """The words of the command."""
+    words = argparse.ArgumentParser(
+        prog="roman-live",
+        usage="roman-live [--simulate] [--verbose] HOME.toml\n       roman-live ask [--key KEY] HOME.toml ACTION",
+        description="Runs the home that HOME.toml describes, until it is ended; or asks a running one for an action.",
+    )
+    words.add_argument("--simulate", action="store_true", help="play all devices by hand, on the page")
+    words.add_argument("--verbose", action="store_true", help="say each event")
+    words.add_argument("home", metavar="HOME.toml")
+    return words
+
+
+def ask_parser() -> argparse.ArgumentParser:
+    """The words of `ask`."""
+    words = argparse.ArgumentParser(prog="roman-live ask", description="Asks a running home for an action.")
+    words.add_argument("--key", help="a text that no other request has: asked again, it isn't served twice")
+    words.add_argument("home", metavar="HOME.toml")
+    words.add_argument("action", metavar="ACTION")
+    return words
+
+
+def main(words: Sequence[str]) -> int:
+    """Does what the words say, and gives the status."""
+    try:
+        if words[:1] == ["ask"]:
+            given = ask_parser().parse_args(words[1:])
+            return asyncio.run(ask(HomeFile.read(given.home), given.action, given.key))
+        given = parser().parse_args(words)
+        level = logging.INFO if given.verbose else logging.WARNING
+        logging.basicConfig(level=level, format="%(name)s: %(message)s", stream=sys.stderr)
+        asyncio.run(run(HomeFile.read(given.home), given.simulate))
+        return DONE
+    except HomeFileError as error:
+        print(f"roman-live: {error}", file=sys.stderr)
+        return USAGE
+    except (ClientError, OSError, RomanError) as error:
+        print(f"roman-live: {error}", file=sys.stderr)
+        return FAILED
+
+
+async def run(file: HomeFile, simulate: bool) -> None:
+    """Runs a home until it is ended by SIGTERM or SIGINT."""
+    ending = asyncio.Event()
+    for each in (signal.SIGTERM, signal.SIGINT):
+        asyncio.get_running_loop().add_signal_handler(each, ending.set)
+    home = Home(file, simulate=simulate)
+    server = Server(home, file.page)
+    await home.begin()
+    try:
+        await Requests(home).begin()
+        await server.begin()
+        supervisor = Supervisor()
+        supervisor.ready(server.url)
+        print(f"{file.document.name} is at {server.url}/", flush=True)
+        await supervisor.watch(ending)
+        supervisor.stopping()
+        if not simulate and not await home.settle(PATIENCE):
+            LOG.warning("a device is still at work; the next start finds out what came of it")
+            logging.shutdown()
+            os._exit(DONE)
+    finally:
+        await server.close()
+        await home.close()

@@ -1,0 +1,8 @@
+"""How services are reached."""
+
+from __future__ import annotations
+
+from .base import Answer, Listener, Reach
+from .simulated import Simulated
+
+__all__ = ["Answer", "Listener", "Reach", "Simulated"]

@@ -1,0 +1,96 @@
+"""What all ways to reach a device share."""
+
+from __future__ import annotations
+
+import json
+from dataclasses import dataclass
+from typing import Any, Optional, Protocol
+
+from roman_client import Call, DeviceFailed
+
+LONGEST_ANSWER = 65_536
+"""The most bytes that a device may answer."""
+
+STATE_WORD = "?"
+"""What a command is told in place of an action, to tell its present state."""
+
+
+@dataclass(frozen=True)
+class Answer:
+    """What a device says of itself: its state, and that of the environment where it knows it. `done` is set
+    where it was asked about a call, and knows whether that was done."""
+
+    state: str
+    environment: Optional[str] = None
+    done: Optional[bool] = None
+
+
+class Listener(Protocol):
+    """Who is told what a device says unasked."""
+
+    def moved(self, service: str, answer: Answer) -> None:
+        """A device said where it is now."""
+
+    def answered(self, service: str) -> None:
+        """The answer to what is under way has come; what the device says next is newer."""
+
+    def gone(self, service: str) -> None:
+        """A device is gone, until it says something."""
+
+    def late(self, service: str, text: str) -> None:
+        """An answer came that nobody waits for."""
+
+
+class Reach:
+    """How a service is reached. `waits` says that it may take any time, since a person plays it."""
+
+    reached = ""
+    waits = False
+
+    def __init__(self, service: str, listener: Listener) -> None:
+        self.service = service
+        self.listener = listener
+
+    async def open(self) -> None:
+        """Makes it ready to be asked."""
+
+    async def close(self) -> None:
+        """Lets go of what it holds."""
+
+    async def ask(self, number: int, call: Call) -> Answer:
+        """Has the action of a call carried out. Raises an exception where the device can't. It may be
+        cancelled at any time; then what is answered later is taken for nothing."""
+        raise NotImplementedError
+
+    async def tell(self, number: Optional[int]) -> Optional[Answer]:
+        """Where the device is now, and whether the call with that number was done; None where it can't
+        tell."""
+        return None
+
+
+def answer_of(value: Any) -> Answer:
+    """The answer that this JSON is. Raises DeviceFailed where it is none."""
+    if not isinstance(value, dict):
+        raise DeviceFailed(f"answered {short(value)}, which is no object")
+    if isinstance(value.get("error"), str):
+        raise DeviceFailed(value["error"])
+    state, environment, done = value.get("state"), value.get("environment"), value.get("done")
+    if not isinstance(state, str):
+        raise DeviceFailed(f"answered {short(value)}, without a state")
+    if environment is not None and not isinstance(environment, str):
+        raise DeviceFailed(f"answered {short(value)}, whose environment is no text")
+    return Answer(state, environment, done if isinstance(done, bool) else None)
+
+
+def json_of(data: bytes) -> Any:
+    """The JSON that these bytes are. Raises DeviceFailed where they are none."""
+    try:
+        return json.loads(data)
+    except (ValueError, RecursionError):
+        raise DeviceFailed(f"answered {short(data)}, which is no JSON") from None
+
+
+def short(value: Any) -> str:
+    """A value in a few letters."""
+    text = value.decode(errors="replace") if isinstance(value, bytes) else repr(value)
+    return text if len(text) <= 80 else f"{text[:77]}..."

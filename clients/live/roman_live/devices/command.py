@@ -1,0 +1,218 @@
+"""Devices that are commands: one for each call, or one that is kept and reads lines."""
+
+from __future__ import annotations
+
+import asyncio
+import contextlib
+import os
+import re
+import signal
+from typing import Optional, Set, Tuple
+
+from roman_client import Call, DeviceFailed
+
+from ..homefile import CommandReach
+from .base import LONGEST_ANSWER, STATE_WORD, Answer, Listener, Reach, short
+
+
+class Command(Reach):
+    """A device that is a command with the action as its last word. It writes one line, its state and that
+    of the environment, and ends with status 0. With `?` for the action it tells its present state."""
+
+    reached = "command"
+
+    def __init__(self, service: str, listener: Listener, entry: CommandReach) -> None:
+        super().__init__(service, listener)
+        self._entry = entry
+
+    async def ask(self, number: int, call: Call) -> Answer:
+        return await self._run(call.action, number)
+
+    async def tell(self, number: Optional[int]) -> Optional[Answer]:
+        return await self._run(STATE_WORD, number)
+
+    async def _run(self, word: str, number: Optional[int]) -> Answer:
+        """Runs the command once. What is still running when this is cancelled is ended."""
+        process = await _start(self._entry, (word,), number)
+        try:
+            output, errors = await process.communicate()
+        finally:
+            await _end(process)
+        if process.returncode != 0:
+            last = errors.decode(errors="replace").strip().splitlines()[-1:]
+            raise DeviceFailed(f"ended with status {process.returncode}: {''.join(last)}".rstrip(": "))
+        return _answer(output)
+
+
+class KeptCommand(Reach):
+    """A command that is kept, reads a line for each call, and writes one with its state and that of the
+    environment. To `?` it tells its present state.
+
+    Where it is numbered each line begins with the number of a call, and the answer to it does, so that a late
+    one is known by that; a line that begins with `-` says where it is by itself. Where it isn't, it is ended
+    when it is late, or writes what nobody asked for, so that no line is taken for another call's. A command
+    that doesn't tell its state in time is ended, too. It is started again when it is asked next.
+    """
+
+    reached = "command"
+
+    def __init__(self, service: str, listener: Listener, entry: CommandReach) -> None:
+        super().__init__(service, listener)
+        self._entry = entry
+        self._process: Optional[asyncio.subprocess.Process] = None
+        self._listening: Set[asyncio.Task[None]] = set()
+        self._waiting: Optional[Tuple[int, asyncio.Future[Answer]]] = None
+        self._last = 0
+        self._turn = asyncio.Lock()
+
+    async def close(self) -> None:
+        if self._process is not None:
+            await self._drop(self._process)
+        if self._listening:
+            await asyncio.wait(self._listening)
+
+    async def ask(self, number: int, call: Call) -> Answer:
+        return await self._exchange(number, call.action)
+
+    async def tell(self, number: Optional[int]) -> Optional[Answer]:
+        self._last -= 1  # Numbers below 0 are those of no call.
+        return await self._exchange(self._last, STATE_WORD)
+
+    async def _exchange(self, number: int, word: str) -> Answer:
+        """Writes a line, and waits for the one that answers it."""
+        async with self._turn:
+            process = await self._running()
+            answer: asyncio.Future[Answer] = asyncio.get_running_loop().create_future()
+            self._waiting = number, answer
+            try:
+                assert process.stdin is not None
+                line = f"{number} {word}\n" if self._entry.numbered else f"{word}\n"
+                process.stdin.write(line.encode())
+                await process.stdin.drain()
+                return await answer
+            except OSError as error:
+                await self._drop(process)
+                raise DeviceFailed(f"can't be reached: {error}") from None
+            except asyncio.CancelledError:
+                if not self._entry.numbered or word == STATE_WORD:
+                    await self._drop(process)
+                raise
+            finally:
+                self._waiting = None
+
+    async def _running(self) -> asyncio.subprocess.Process:
+        """The command, which is started where it doesn't run."""
+        if self._process is None or self._process.returncode is not None:
+            self._process = await _start(self._entry, (), None)
+            listening = asyncio.ensure_future(self._listen(self._process))
+            self._listening.add(listening)
+            listening.add_done_callback(self._listening.discard)
+        return self._process
+
+    async def _listen(self, process: asyncio.subprocess.Process) -> None:
+        """Hears what the command writes, until it ends, or writes a line of which it isn't known whose it is."""
+        assert process.stdout is not None
+        try:
+            while True:
+                line = await process.stdout.readline()
+                if process is not self._process:
+                    return
+                if not line.endswith(b"\n"):
+                    raise DeviceFailed("ended in place of an answer" if self._awaited(None) else "ended")
+                self._hear(line.strip())
+        except DeviceFailed as error:
+            await self._fail(process, str(error))
+        except ValueError:
+            await self._fail(process, f"wrote a line of more than {LONGEST_ANSWER} bytes")
+
+    def _hear(self, line: bytes) -> None:
+        """A line. Raises DeviceFailed where it isn't known whose it is."""
+        if self._entry.numbered:
+            self._hear_numbered(line)
+            return
+        answer = self._awaited(None)
+        if answer is None:
+            raise DeviceFailed(f"wrote {short(line)}, which nobody asked for")
+        answer.set_result(_answer(line))
+        self.listener.answered(self.service)
+
+    def _hear_numbered(self, line: bytes) -> None:
+        first, _, rest = line.partition(b" ")
+        if first == b"-":
+            self.listener.moved(self.service, _answer(rest))
+            return
+        if not re.fullmatch(rb"-?[0-9]{1,18}", first):
+            raise DeviceFailed(f"wrote {short(line)}, which begins with no number")
+        answer = self._awaited(int(first))
+        if answer is None:
+            self.listener.late(self.service, f"answered to {int(first)}, which nobody waits for")
+            return
+        try:
+            answer.set_result(_answer(rest))
+        except DeviceFailed as error:
+            answer.set_exception(error)
+        self.listener.answered(self.service)
+
+    def _awaited(self, number: Optional[int]) -> Optional[asyncio.Future[Answer]]:
+        """The answer that is waited for, unless it is that to another number."""
+        if self._waiting is None or self._waiting[1].done():
+            return None
+        return self._waiting[1] if number in (None, self._waiting[0]) else None
+
+    async def _fail(self, process: asyncio.subprocess.Process, text: str) -> None:
+        """Ends the command, and says why to the one who waits for an answer; where nobody does, as what came
+        late."""
+        if process is not self._process:
+            return
+        answer = self._awaited(None)
+        if answer is not None:
+            answer.set_exception(DeviceFailed(text))
+        else:
+            self.listener.late(self.service, text)
+        await self._drop(process)
+
+    async def _drop(self, process: asyncio.subprocess.Process) -> None:
+        """Ends the command. What it wrote is heard no more."""
+        if process is self._process:
+            self._process = None
+        await _end(process)
+
+
+async def _start(
+    entry: CommandReach, more: tuple[str, ...], number: Optional[int]
+) -> asyncio.subprocess.Process:
+    """Starts a command in a group of its own, beside the home file. The number of the call is in its
+    environment."""
+    known = {} if number is None else {"ROMAN_CALL": str(number)}
+    kept = entry.lines
+    try:
+        return await asyncio.create_subprocess_exec(
+            *entry.command,
+            *more,
+            stdin=asyncio.subprocess.PIPE if kept else asyncio.subprocess.DEVNULL,
+            stdout=asyncio.subprocess.PIPE,
+            stderr=None if kept else asyncio.subprocess.PIPE,
+            cwd=entry.folder,
+            env={**os.environ, **known},
+            start_new_session=True,
+            limit=LONGEST_ANSWER,
+        )
+    except OSError as error:
+        raise DeviceFailed(f"{entry.command[0]} can't be started: {error.strerror}") from None
+
+
+async def _end(process: asyncio.subprocess.Process) -> None:
+    """Ends a command with all that it started, where it is still running."""
+    if process.returncode is None:
+        with contextlib.suppress(ProcessLookupError):
+            os.killpg(process.pid, signal.SIGKILL)
+        await process.wait()
+
+
+def _answer(data: bytes) -> Answer:
+    """The answer in a line: a state, and that of the environment where it is known."""
+    lines = data.decode(errors="replace").splitlines()
+    words = lines[0].split() if lines else []
+    if len(lines) != 1 or not 1 <= len(words) <= 2:
+        raise DeviceFailed(f"answered {short(data)}, and not a line with its state and the environment's")
+    return Answer(words[0], words[1] if len(words) == 2 else None)

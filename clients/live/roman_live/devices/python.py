@@ -1,0 +1,94 @@
+"""Devices that are functions or devices of a Python module."""
+
+from __future__ import annotations
+
+import asyncio
+import importlib
+import inspect
+import sys
+import threading
+from typing import Any, Callable, Optional
+
+import roman_client
+from roman_client import Call, aio
+
+from ..homefile import HomeFileError, PythonReach
+from .base import Answer, Listener, Reach
+
+
+class PythonDevice(Reach):
+    """A function of the requested action, a `roman_client.Device` or an `aio.Device`, or the class of one.
+    What isn't for asyncio runs in a thread. A device tells its present state where it has a method
+    `present`, which gives the state, or it and that of the environment."""
+
+    reached = "python"
+
+    def __init__(self, service: str, listener: Listener, entry: PythonReach) -> None:
+        super().__init__(service, listener)
+        self._device = _load(entry)
+
+    async def ask(self, number: int, call: Call) -> Answer:
+        if isinstance(self._device, (roman_client.Device, aio.Device)):
+            value = await _value(self._device.serve, call)
+        else:
+            value = await _value(self._device, call.request)
+        return _answer(value)
+
+    async def tell(self, number: Optional[int]) -> Optional[Answer]:
+        present = getattr(self._device, "present", None)
+        if present is None:
+            return None
+        value = await _value(present)
+        return None if value is None else _answer(value)
+
+
+def _load(entry: PythonReach) -> Any:
+    """The device that an entry names, looked for beside the home file first."""
+    folder = str(entry.folder)
+    if folder not in sys.path:
+        sys.path.insert(0, folder)
+    try:
+        found = getattr(importlib.import_module(entry.module), entry.name)
+    except Exception as error:
+        raise HomeFileError(f"{entry.module}:{entry.name} can't be loaded: {error!r}") from None
+    if inspect.isclass(found):
+        found = found()
+    if not callable(found) and not isinstance(found, (roman_client.Device, aio.Device)):
+        raise HomeFileError(f"{entry.module}:{entry.name} is neither a function nor a device")
+    return found
+
+
+async def _value(call: Callable[..., Any], *words: Any) -> Any:
+    """The value of a call: of a coroutine function here, and of another one in a thread."""
+    if inspect.iscoroutinefunction(call):
+        return await call(*words)
+    answer: asyncio.Future[Any] = asyncio.get_running_loop().create_future()
+
+    def settle(value: Any, error: Optional[BaseException]) -> None:
+        if answer.done():
+            return
+        if error is None:
+            answer.set_result(value)
+        else:
+            answer.set_exception(error)
+
+    def work(loop: asyncio.AbstractEventLoop) -> None:
+        value, failure = None, None
+        try:
+            value = call(*words)
+        except BaseException as error:
+            failure = error
+        if not loop.is_closed():
+            loop.call_soon_threadsafe(settle, value, failure)
+
+    # A daemon, since one that hangs must not keep the home from its end.
+    threading.Thread(target=work, args=(asyncio.get_running_loop(),), daemon=True).start()
+    return await answer
+
+
+def _answer(value: Any) -> Answer:
+    if isinstance(value, str):
+        return Answer(value)
+    if isinstance(value, (tuple, list)) and len(value) == 2 and all(isinstance(each, str) for each in value):
+        return Answer(value[0], value[1])
+    raise roman_client.DeviceFailed(f"gave {value!r}, which is no outcome")

@@ -1,0 +1,45 @@
+"""Devices that a person plays, who says what came of each call."""
+
+from __future__ import annotations
+
+import asyncio
+from typing import Callable, Optional
+
+from roman_client import Call, DeviceFailed
+
+from .base import Answer, Listener, Reach
+
+
+class Simulated(Reach):
+    """A device that waits for its outcome to be said. Asked for its state it says the present one."""
+
+    reached = "simulated"
+    waits = True
+
+    def __init__(self, service: str, listener: Listener, present: Callable[[str], str]) -> None:
+        super().__init__(service, listener)
+        self._present = present
+        self._outcome: Optional[asyncio.Future[Answer]] = None
+
+    async def ask(self, number: int, call: Call) -> Answer:
+        self._outcome = asyncio.get_running_loop().create_future()
+        try:
+            return await self._outcome
+        finally:
+            self._outcome = None
+
+    async def tell(self, number: Optional[int]) -> Optional[Answer]:
+        return Answer(self._present(self.service))
+
+    @property
+    def waiting(self) -> bool:
+        """Whether an outcome is waited for."""
+        return self._outcome is not None and not self._outcome.done()
+
+    def answer(self, answer: Optional[Answer]) -> None:
+        """Says what came of the call that is under way; with None, that it failed."""
+        assert self._outcome is not None
+        if answer is None:
+            self._outcome.set_exception(DeviceFailed("it was told to fail"))
+        else:
+            self._outcome.set_result(answer)

@@ -1,0 +1,101 @@
+"""What happened, newest last, for whoever listens."""
+
+from __future__ import annotations
+
+import asyncio
+import time
+from collections import deque
+from dataclasses import dataclass, field
+from datetime import datetime, timezone
+from typing import Any, Deque, Dict, List, Mapping, Optional, Set
+
+KEPT = 200
+"""How many events are kept."""
+
+BEHIND = 1000
+"""How many messages may wait for a listener, before it is let go."""
+
+
+def now() -> str:
+    """The present time, in UTC."""
+    return datetime.now(timezone.utc).isoformat(timespec="milliseconds")
+
+
+@dataclass(frozen=True)
+class Event:
+    """Something that happened: its number, time, kind, a text for people, and what else belongs to it."""
+
+    number: int
+    time: str
+    kind: str
+    text: str
+    details: Mapping[str, Any] = field(default_factory=dict)
+
+    def to_json(self) -> Dict[str, Any]:
+        """The event as JSON."""
+        return {
+            "id": self.number,
+            "time": self.time,
+            "kind": self.kind,
+            "text": self.text,
+            **self.details,
+        }
+
+
+@dataclass(frozen=True)
+class Message:
+    """What a listener is sent: `event` or `state`, its JSON, and the number of an event."""
+
+    name: str
+    value: Any
+    number: Optional[int] = None
+
+
+Listener = asyncio.Queue[Optional[Message]]
+"""What waits for a listener. None says that it was let go."""
+
+
+class EventLog:
+    """The last events. Numbers grow over restarts, too."""
+
+    def __init__(self) -> None:
+        self._next = int(time.time() * 1000)
+        self._kept: Deque[Event] = deque(maxlen=KEPT)
+        self._listeners: Set[Listener] = set()
+
+    def add(self, kind: str, text: str, **details: Any) -> Event:
+        """Something happened."""
+        event = Event(self._next, now(), kind, text, details)
+        self._next += 1
+        self._kept.append(event)
+        self.send(Message("event", event.to_json(), event.number))
+        return event
+
+    def send(self, message: Message) -> None:
+        """Sends a message to all listeners. One that is far behind is let go."""
+        for listener in list(self._listeners):
+            if listener.qsize() >= BEHIND:
+                self._listeners.discard(listener)
+                listener.put_nowait(None)
+            else:
+                listener.put_nowait(message)
+
+    def after(self, number: int) -> List[Event]:
+        """The kept events after that one. All, where it isn't the number of one."""
+        first = self._kept[0].number if self._kept else self._next
+        return [each for each in self._kept if each.number > number or not first - 1 <= number < self._next]
+
+    def listen(self) -> Listener:
+        """A new listener."""
+        listener: Listener = asyncio.Queue()
+        self._listeners.add(listener)
+        return listener
+
+    def leave(self, listener: Listener) -> None:
+        """A listener goes."""
+        self._listeners.discard(listener)
+
+    @property
+    def listeners(self) -> int:
+        """How many listen."""
+        return len(self._listeners)

@@ -1,0 +1,64 @@
+"""What is kept beside the journal: the first number of its calls, and which services were frozen by hand."""
+
+from __future__ import annotations
+
+import json
+import logging
+import os
+import time
+from pathlib import Path
+from typing import Iterable, Set
+
+from .homefile import HomeFileError
+
+LOG = logging.getLogger("roman_live")
+
+NUMBERS_A_SECOND = 1_000_000
+"""More calls than can be made in a second, so that the numbers of two journals are never the same."""
+
+
+class Kept:
+    """A small file beside the journal. It is made anew with each journal."""
+
+    def __init__(self, journal: Path) -> None:
+        """Raises HomeFileError where the file can't be read or written."""
+        self._path = journal.with_name(f"{journal.name}.live")
+        self.first = int(time.time()) * NUMBERS_A_SECOND
+        self.held: Set[str] = set()
+        try:
+            if journal.exists() and self._path.exists():
+                self._read()
+            else:
+                self._write()
+        except (OSError, ValueError, KeyError, TypeError) as error:
+            raise HomeFileError(f"{self._path}: {error}") from None
+
+    def hold(self, service: str) -> None:
+        """A service was frozen by hand, and isn't asked back."""
+        self._change(self.held | {service})
+
+    def release(self, services: Iterable[str]) -> None:
+        """These services are held no more."""
+        self._change(self.held - set(services))
+
+    def _change(self, held: Set[str]) -> None:
+        """Keeps what has changed; where it can't be written, until the next change."""
+        if held != self.held:
+            self.held = held
+            try:
+                self._write()
+            except OSError as error:
+                LOG.warning("%s: %s", self._path, error.strerror)
+
+    def _read(self) -> None:
+        value = json.loads(self._path.read_text(encoding="utf-8"))
+        self.first = int(value["first"])
+        self.held = set(map(str, value["held"]))
+
+    def _write(self) -> None:
+        fresh = self._path.with_name(f"{self._path.name}.new")
+        with fresh.open("w", encoding="utf-8") as file:
+            json.dump({"first": self.first, "held": sorted(self.held)}, file)
+            file.flush()
+            os.fsync(file.fileno())
+        fresh.rename(self._path)

@@ -1,0 +1,80 @@
+"""What is known of a home, as JSON."""
+
+from __future__ import annotations
+
+from typing import Any, Dict, List, Optional, Sequence
+
+from roman_client import Document, Done, Explanation, Failure, Report
+
+
+def target_to_json(document: Document, report: Report) -> Dict[str, Any]:
+    """The target's state, and the states of all targets."""
+    parts = zip(document.targets, document.target_states(report.target))
+    return {
+        "state": report.target,
+        "final": report.final,
+        "targets": [{"name": each.name, "state": state} for each, state in parts],
+    }
+
+
+def actions_to_json(document: Document, report: Report) -> List[Dict[str, Any]]:
+    """Each action that may be requested, with who may serve it, or why it isn't allowed."""
+    allowed = document.allowed(report.target, report.environment)
+    actions = []
+    for action in document.actions:
+        why = "not allowed" if action not in allowed else "no composition"
+        offered = list(report.offers.get(action, ()))
+        actions.append(
+            {
+                "action": action,
+                "allowed": action in allowed,
+                "offered": offered,
+                "why": None if offered else why,
+            }
+        )
+    return actions
+
+
+def explanation_to_json(explanation: Explanation) -> Dict[str, Any]:
+    """Why there is no composition: each entry is lost by those before it, and the last is the present."""
+    return {
+        "text": str(explanation),
+        "entries": [
+            {
+                "target": entry.target,
+                "environment": entry.environment,
+                "states": list(entry.states),
+                "request": entry.request,
+                "answers": [
+                    {"service": each.service, "outcome": each.outcome and list(each.outcome)}
+                    for each in entry.answers
+                ],
+            }
+            for entry in explanation.entries
+        ],
+    }
+
+
+def failures_to_json(failures: Sequence[Failure]) -> List[Dict[str, str]]:
+    """Which services failed at a request, and how."""
+    return [{"service": each.service, "error": error_of(each)} for each in failures]
+
+
+def error_of(failure: Failure) -> str:
+    """How a service failed, in words."""
+    if failure.error is not None:
+        return str(failure.error) or type(failure.error).__name__
+    return f"answered {' '.join(map(str, failure.outcome))}, which can't be"
+
+
+def done_to_json(done: Done, number: Optional[int]) -> Dict[str, Any]:
+    """A request that was served."""
+    return {
+        "id": number,
+        "action": done.action,
+        "served_by": done.service,
+        "state": done.state,
+        "environment": done.environment,
+        "target": done.target,
+        "failures": failures_to_json(done.failures),
+    }

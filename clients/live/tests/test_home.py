@@ -1,0 +1,258 @@
+"""A home in this process, with devices that are played: policies, pauses, and what moves by itself."""
+
+import asyncio
+import tempfile
+import unittest
+from pathlib import Path
+from typing import Any, Dict, List, Optional
+from unittest import mock
+
+from . import PROGRAM, sample
+
+from roman_client import Call, DeviceFailed
+from roman_live import home as homes
+from roman_live.devices import Answer, Listener, Reach
+from roman_live.home import Home
+from roman_live.homefile import HomeFile, HomeFileError
+
+HOME = ("window", "ceiling", "kettle")
+SERVICES = {"depot": ("belt", "drone", "van", "broom"), "home": HOME, "short/home": HOME}
+
+
+class Played(Reach):
+    """A device that does what the test says; its first outcome where that says nothing."""
+
+    reached = "played"
+
+    def __init__(self, service: str, listener: Listener, test: "InProcess") -> None:
+        super().__init__(service, listener)
+        self.test = test
+
+    async def ask(self, number: int, call: Call) -> Answer:
+        self.test.asked.append(self.service)
+        if self.service in self.test.broken:
+            raise DeviceFailed("broken")
+        waited = self.test.gates.get(self.service)
+        if waited is not None:
+            await waited.wait()
+        home = self.test.home
+        known = home._known[self.service]
+        outcomes = home.document.outcomes(
+            known.behaviour, known.state, home._environment, call.request
+        )
+        state, environment = next(iter(outcomes))
+        self.test.states[self.service] = state
+        return Answer(state, environment)
+
+    async def tell(self, number: Optional[int]) -> Optional[Answer]:
+        self.test.told.append(self.service)
+        if self.service in self.test.broken:
+            raise DeviceFailed("broken")
+        state = self.test.states.get(self.service)
+        return None if state is None else Answer(state)
+
+
+class InProcess(unittest.IsolatedAsyncioTestCase):
+    """Homes of a sample."""
+
+    async def asyncSetUp(self) -> None:
+        asyncio.get_running_loop().slow_callback_duration = 60
+        folder = tempfile.TemporaryDirectory()
+        self.addCleanup(folder.cleanup)
+        self.folder = Path(folder.name)
+        self.asked: List[str] = []
+        self.told: List[str] = []
+        self.broken: set[str] = set()
+        self.states: Dict[str, str] = {}
+        self.gates: Dict[str, asyncio.Event] = {}
+        self.home: Home
+
+    async def begin(self, name: str, more: str = "") -> Home:
+        devices = "".join(
+            f'[devices.{each}]\nreach = "http"\nurl = "http://x"\n' for each in SERVICES[name]
+        )
+        file = self.folder / "home.toml"
+        head = f'document = "{sample(name)}.json"\nprogram = "{PROGRAM}"\n'
+        file.write_text(f"{head}{more}\n{devices}", encoding="utf-8")
+        self.home = Home(HomeFile.read(file))
+        with mock.patch.object(homes, "make_reach", self.play):
+            await self.home.begin()
+        self.addAsyncCleanup(self.home.close)
+        return self.home
+
+    def play(self, service: str, entry: Any, listener: Listener, broker: Any) -> Reach:
+        """What each service is reached by."""
+        return Played(service, listener, self)
+
+    async def until(self, true: Any) -> None:
+        for _ in range(6000):
+            if true():
+                return
+            await asyncio.sleep(0.01)
+        self.fail("it didn't come")
+
+    async def service(self, name: str) -> Dict[str, Any]:
+        (found,) = (each for each in (await self.home.state())["services"] if each["name"] == name)
+        return dict(found)
+
+
+class Policies(InProcess):
+    async def served_by(self, more: str, actions: List[str]) -> List[str]:
+        home = await self.begin("depot", more)
+        return [(await home.request(each))["served_by"] for each in actions]
+
+    async def test_first(self) -> None:
+        self.assertEqual(await self.served_by("", ["load", "ship"]), ["belt", "drone"])
+
+    async def test_least_cost(self) -> None:
+        costs = self.folder / "costs"
+        costs.write_text('[["drone", "ship", 7], ["van", "ship", 5]]', encoding="utf-8")
+        more = f'[policy]\nchoose = "least cost"\ncosts = "{costs}"'
+        self.assertEqual(await self.served_by(more, ["load", "ship"]), ["belt", "van"])
+
+    async def test_least_worst_is_that_of_advise(self) -> None:
+        costs = self.folder / "costs"
+        # Now the drone is cheaper; but it would have to sweep at a high price.
+        costs.write_text(
+            '[["drone", "ship", 1], ["van", "ship", 2], ["drone", "sweep", 90], ["broom", "sweep", 90]]',
+            encoding="utf-8",
+        )
+        more = f'[policy]\nchoose = "least worst"\nrequests = 1\ncosts = "{costs}"'
+        self.assertEqual(await self.served_by(more, ["load", "ship"]), ["belt", "drone"])
+        await self.home.close()
+        costs.write_text('[["drone", "ship", 3], ["van", "ship", 2]]', encoding="utf-8")
+        self.assertEqual(await self.served_by(more, ["load", "ship"]), ["belt", "van"])
+
+    async def test_round_robin(self) -> None:
+        home = await self.begin("home", '[policy]\nchoose = "round robin"')
+        cycle = ["brighten", "boil", "pour", "dim"]
+        served = [(await home.request(each))["served_by"] for each in cycle * 3]
+        self.assertEqual(served[::4], ["window", "ceiling", "window"])
+
+    async def test_costs_that_cannot_be_read(self) -> None:
+        with self.assertRaisesRegex(HomeFileError, "policy.costs is"):
+            await self.begin("depot", '[policy]\nchoose = "least cost"\ncosts = "none"')
+
+
+class ShortForm(InProcess):
+    """A home whose document is in the short form."""
+
+    async def test_it_runs_as_the_plain_one_does(self) -> None:
+        home = await self.begin("short/home")
+        self.assertEqual(home.document.version, 1)
+        cycle = ["brighten", "boil", "pour", "dim"]
+        self.assertEqual(
+            [(await home.request(each))["served_by"] for each in cycle],
+            ["window", "kettle", "kettle", "window"],
+        )
+        self.assertEqual((await home.state())["document"], "home.json")
+
+    async def test_its_journal_is_taken_up(self) -> None:
+        journal = '[journal]\npath = "journal"'
+        home = await self.begin("short/home", journal)
+        await home.request("brighten")
+        await home.close()
+        home = await self.begin("short/home", journal)
+        self.assertEqual((await home.request("boil"))["served_by"], "kettle")
+
+    async def test_mistakes_stand_where_they_were_written(self) -> None:
+        text = Path(sample("short/home.json")).read_text(encoding="utf-8")
+        wrong = text.replace('"when": "day"', '"when": "dya"', 1)
+        (self.folder / "mine.json").write_text(wrong, encoding="utf-8")
+        (self.folder / "home.toml").write_text(
+            f'document = "mine.json"\nprogram = "{PROGRAM}"\n', encoding="utf-8"
+        )
+        with self.assertRaises(HomeFileError) as raised:
+            await Home(HomeFile.read(self.folder / "home.toml")).begin()
+        line = wrong[: wrong.index('"dya"')].count("\n") + 1
+        self.assertRegex(str(raised.exception), f'\nmine.json:{line}:[0-9]+: error: .*dya.*"day"')
+
+
+class AskedBack(InProcess):
+    async def test_pauses_grow_and_end_when_it_is_back(self) -> None:
+        pauses: List[Optional[float]] = []
+
+        async def quick(poke: asyncio.Event, seconds: Optional[float]) -> None:
+            pauses.append(seconds)
+            await asyncio.sleep(0)
+
+        home = await self.begin("home")
+        self.states["window"] = "shut"
+        self.broken.add("window")
+        with mock.patch.object(homes, "pause_until", quick):
+            done = await home.request("brighten")
+            self.assertEqual(done["failures"], [{"service": "window", "error": "broken"}])
+            await self.until(lambda: len(pauses) >= 9)
+            shown = await self.service("window")
+            self.assertEqual((shown["status"], shown["last_error"]), ("frozen", "broken"))
+            self.broken.clear()
+            self.states["window"] = "ajar"
+            await self.until(lambda: not home._known["window"].frozen)
+        self.assertEqual(pauses[:9], [1, 2, 4, 8, 16, 32, 60, 60, 60])
+        self.assertEqual((await self.service("window"))["state"], "ajar")
+
+    async def test_one_that_cannot_tell_stays_frozen(self) -> None:
+        home = await self.begin("home")
+        self.broken.add("window")
+        await home.request("brighten")
+        self.broken.clear()
+        home.late("window", "says something")
+        await self.until(lambda: self.told.count("window") >= 2)
+        await asyncio.sleep(0.05)
+        self.assertEqual((await self.service("window"))["status"], "frozen")
+        await home.thaw("window")
+        self.assertEqual((await self.service("window"))["status"], "ready")
+
+
+class MovedByItself(InProcess):
+    async def test_at_the_beginning(self) -> None:
+        self.states["window"] = "ajar"
+        home = await self.begin("home")
+        await self.until(lambda: home._known["window"].state == "ajar")
+        self.assertEqual((await home.request("brighten"))["state"], "open")
+
+    async def test_what_is_said_before_the_answer_is_older_than_it(self) -> None:
+        home = await self.begin("home")
+        self.gates["window"] = asyncio.Event()
+        request = asyncio.ensure_future(home.request("brighten"))
+        await self.until(lambda: self.asked)
+        home.moved("window", Answer("ajar"))
+        home.moved("ceiling", Answer("on"))
+        self.gates["window"].set()
+        self.assertEqual((await request)["state"], "open")
+        await self.until(lambda: home._known["ceiling"].state == "on")
+        self.assertEqual((await self.service("window"))["state"], "open")
+
+    async def test_what_moves_while_a_service_is_chosen_is_heeded(self) -> None:
+        home = await self.begin("home")
+        policy, chosen = home._policy, []
+
+        async def slow(choice: Any) -> str:
+            chosen.append(choice.offered)
+            if len(chosen) == 1:
+                home.environment_moved("dusk")
+            return await policy(choice)
+
+        home._policy = slow
+        done = await home.request("brighten")
+        self.assertEqual(done["served_by"], "ceiling")
+        self.assertEqual(chosen, [("window", "ceiling"), ("ceiling",)])
+
+    async def test_a_second_request_waits_or_is_told(self) -> None:
+        home = await self.begin("home")
+        self.gates["window"] = asyncio.Event()
+        first = asyncio.ensure_future(home.request("brighten"))
+        await self.until(lambda: self.asked)
+        with self.assertRaises(homes.Busy):
+            await home.request("boil", wait=False)
+        second = asyncio.ensure_future(home.request("boil"))
+        self.assertEqual((await self.service("window"))["status"], "under way")
+        first.cancel()
+        await asyncio.sleep(0.02)
+        self.gates["window"].set()
+        self.assertEqual((await second)["served_by"], "kettle")
+        self.assertEqual((await self.service("window"))["state"], "open")
+
+
+if __name__ == "__main__":
+    unittest.main()

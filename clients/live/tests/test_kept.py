@@ -1,0 +1,48 @@
+"""What is kept beside the journal."""
+
+import tempfile
+import unittest
+from pathlib import Path
+from unittest import mock
+
+from roman_live.homefile import HomeFileError
+from roman_live.kept import Kept
+
+
+class KeptBesideTheJournal(unittest.TestCase):
+    def setUp(self) -> None:
+        folder = tempfile.TemporaryDirectory()
+        self.addCleanup(folder.cleanup)
+        self.journal = Path(folder.name) / "journal"
+
+    def begin(self, second: int) -> Kept:
+        with mock.patch("time.time", lambda: second):
+            kept = Kept(self.journal)
+        self.journal.touch()
+        return kept
+
+    def test_it_stays_with_its_journal(self) -> None:
+        first = self.begin(1000)
+        first.hold("window")
+        first.hold("ceiling")
+        first.release(["ceiling"])
+        again = self.begin(2000)
+        self.assertEqual((again.first, again.held), (first.first, {"window"}))
+
+    def test_a_new_journal_has_other_numbers(self) -> None:
+        first = self.begin(1000)
+        first.hold("window")
+        self.journal.unlink()
+        fresh = self.begin(1001)
+        self.assertGreaterEqual(fresh.first, first.first + 1_000_000)
+        self.assertEqual(fresh.held, set())
+
+    def test_what_cannot_be_read_is_named(self) -> None:
+        self.begin(1000)
+        self.journal.with_name("journal.live").write_text("{}", encoding="utf-8")
+        with self.assertRaisesRegex(HomeFileError, "journal.live"):
+            self.begin(1000)
+
+
+if __name__ == "__main__":
+    unittest.main()

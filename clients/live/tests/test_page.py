@@ -1,0 +1,375 @@
+"""The page, in a real browser."""
+
+from __future__ import annotations
+
+import re
+import threading
+import unittest
+import urllib.request
+from http.server import BaseHTTPRequestHandler, ThreadingHTTPServer
+from typing import Any, ClassVar, List
+
+from selenium.common.exceptions import ElementClickInterceptedException
+from selenium.webdriver.common.keys import Keys
+from selenium.webdriver.support.select import Select
+
+from .browser import Demonstrated, Played, Running, browser, wait_until
+
+CONTRAST = """
+const light = color => {
+  const parts = color.match(/[\\d.]+/g).map(Number).slice(0, 3).map(each => each / 255);
+  const linear = parts.map(each => each <= 0.03928 ? each / 12.92 : ((each + 0.055) / 1.055) ** 2.4);
+  return 0.2126 * linear[0] + 0.7152 * linear[1] + 0.0722 * linear[2];
+};
+const behind = element => {
+  for (let each = element; each; each = each.parentElement) {
+    const color = getComputedStyle(each).backgroundColor;
+    if (!color.endsWith(", 0)")) return color;
+  }
+  return "rgb(255, 255, 255)";
+};
+return [...document.querySelectorAll("header *, main *")]
+  .filter(each => each.checkVisibility() && [...each.childNodes].some(node => node.nodeType === 3 && node.data.trim()))
+  .map(each => {
+    const both = [light(getComputedStyle(each).color), light(behind(each))].sort((a, b) => b - a);
+    return [(both[0] + 0.05) / (both[1] + 0.05), each.textContent];
+  })
+  .filter(each => each[0] < 4.5);
+"""
+"""The texts that are hard to read: their contrast is below 4.5."""
+
+
+class Browsing(unittest.TestCase):
+    """Tests that share a browser."""
+
+    driver: ClassVar[Any]
+
+    @classmethod
+    def setUpClass(cls) -> None:
+        cls.driver = browser()
+        cls.addClassCleanup(cls.driver.quit)
+
+    def open(self, home: Running, path: str = "/") -> None:
+        """Opens the page, and waits until it is connected."""
+        self.driver.set_window_size(1200, 900)
+        self.driver.get(f"{home.url}{path}")
+        self.wait_for_text("link", "✓ connected")
+        wait_until(lambda: self.find("#main").is_displayed(), "the state")
+
+    def find(self, selector: str) -> Any:
+        return self.driver.find_element("css selector", selector)
+
+    def text(self, name: str) -> str:
+        return str(self.find(f"#{name}").text)
+
+    def wait_for_text(self, name: str, text: str) -> None:
+        wait_until(lambda: text in self.text(name), f"{text!r} in {name}")
+
+    def button(self, parent: str, word: str) -> Any:
+        """The button below a parent whose text has this word, and that may be pressed."""
+
+        def found() -> Any:
+            for each in self.driver.find_elements("css selector", f"#{parent} button"):
+                if word in each.text and each.get_attribute("aria-disabled") != "true":
+                    return each
+            return None
+
+        return wait_until(found, f"the button {word!r}")
+
+    def press(self, parent: str, word: str) -> str:
+        """Presses such a button; again where the page moved it away just then. Gives its first line."""
+
+        def pressed() -> str:
+            button = self.button(parent, word)
+            first = str(button.text).splitlines()[0]
+            try:
+                button.click()
+            except ElementClickInterceptedException:
+                return ""
+            return first
+
+        return str(wait_until(pressed, f"the button {word!r} in its place"))
+
+    def service(self, name: str) -> str:
+        """What the page says of a service."""
+        return str(self.find(f"#services li[data-key='{name}']").text)
+
+    def wait_for_service(self, name: str, text: str) -> None:
+        wait_until(lambda: text in self.service(name), f"{text!r} at {name}")
+
+    def change(self, name: str, word: str) -> None:
+        """Opens the dialog of a service, and chooses a change."""
+        self.find(f"#services li[data-key='{name}'] button").click()
+        wait_until(lambda: self.find("#dialog").is_displayed(), "the dialog")
+        Select(self.find("#fields select")).select_by_visible_text(word)
+
+    def confirm(self) -> None:
+        self.find("#confirm").click()
+        wait_until(lambda: not self.find("#dialog").is_displayed(), "the end of the dialog")
+
+    def complaints(self) -> List[str]:
+        """What the browser complained of."""
+        return [each["message"] for each in self.driver.get_log("browser")]
+
+
+class ThePage(Browsing):
+    """With devices that are played on the page."""
+
+    def setUp(self) -> None:
+        self.home = Played()
+        self.addCleanup(self.home.close)
+        self.home.begin()
+        # The page of the test before goes on asking for its server, which is gone: leave it first.
+        self.driver.get("about:blank")
+        self.driver.get_log("browser")
+        self.open(self.home)
+
+    def status(self, name: str) -> str:
+        (service,) = [each for each in self.home.state()["services"] if each["name"] == name]
+        return str(service["status"])
+
+    def test_a_request_is_served(self) -> None:
+        allowed = self.button("actions", "brighten")
+        self.assertIn("window, ceiling or desk may serve it", allowed.text)
+        self.assertIn("not allowed", self.find("#actions li[data-key='boil']").text)
+        self.find("#actions li[data-key='boil'] button").click()
+        self.assertEqual(self.text("result"), "")
+        self.press("actions", "brighten")
+        self.wait_for_service("window", "▶ under way")
+        buttons = self.driver.find_elements("css selector", "#actions button")
+        self.assertEqual({each.get_attribute("aria-disabled") for each in buttons}, {"true"})
+        self.wait_for_text("asked", "window is asked for brighten")
+        self.press("outcomes", "window is open")
+        self.wait_for_text("result", "window served brighten, and is open.")
+        self.wait_for_text("target", "It is bright.")
+        self.wait_for_text("events", "window served brighten, and is open")
+        self.assertEqual(self.home.state()["target"]["state"], "bright")
+        self.press("actions", "boil")
+        self.wait_for_text("asked", "kettle is asked for boil")
+        self.press("outcomes", "kettle is hot")
+        self.wait_for_text("target", "It is boiled.")
+        self.assertIn("hot", self.service("kettle"))
+        self.assertEqual(self.complaints(), [])
+
+    def test_by_keyboard(self) -> None:
+        """Reaches the request by Tab, and keeps the focus where it was."""
+        words = "return document.activeElement.textContent"
+        for _ in range(5):
+            self.driver.switch_to.active_element.send_keys(Keys.TAB)
+            if "brighten" in self.driver.execute_script(words):
+                break
+        self.driver.switch_to.active_element.send_keys(Keys.ENTER)
+        self.wait_for_service("window", "▶ under way")
+        self.assertIn("brighten", self.driver.execute_script(words))
+        self.button("outcomes", "window is open").send_keys(Keys.SPACE)
+        self.wait_for_text("target", "It is bright.")
+        self.find("#services li[data-key='desk'] button").send_keys(Keys.ENTER)
+        wait_until(lambda: self.find("#dialog").is_displayed(), "the dialog")
+        self.driver.switch_to.active_element.send_keys(Keys.ESCAPE)
+        wait_until(lambda: not self.find("#dialog").is_displayed(), "the end of the dialog")
+        self.assertIn("Change", self.driver.execute_script(words))
+        self.assertEqual(self.status("desk"), "ready")
+
+    def test_no_composition_is_explained(self) -> None:
+        self.press("actions", "brighten")
+        for name in ("window", "ceiling", "desk"):
+            self.wait_for_service(name, "▶ under way")
+            self.press("outcomes", "It fails")
+            self.wait_for_service(name, "❄ frozen")
+        self.wait_for_text("result", "brighten: no composition")
+        self.assertIn("desk failed: it was told to fail", self.text("result"))
+        wait_until(lambda: self.find("#lost").is_displayed(), "why there is no composition")
+        self.wait_for_text("lost-now", "nobody can be given brighten")
+        self.wait_for_text("lost-answers", "kettle can't do it now")
+        self.assertIn("no composition", self.find("#actions li[data-key='brighten']").text)
+        self.change("desk", "Thaw it")
+        self.confirm()
+        self.wait_for_service("desk", "● ready")
+        wait_until(lambda: not self.find("#lost").is_displayed(), "the composition")
+        self.button("actions", "desk may serve it")
+
+    def test_changes_ask_back(self) -> None:
+        self.change("window", "Freeze it")
+        self.wait_for_text("meaning", "window is asked no more")
+        self.assertEqual(self.status("window"), "ready")
+        self.find("#cancel").click()
+        self.assertEqual(self.status("window"), "ready")
+        self.change("window", "Freeze it")
+        self.confirm()
+        self.wait_for_service("window", "❄ frozen by hand")
+        self.assertEqual(self.status("window"), "frozen")
+        self.change("ceiling", "It is gone for good")
+        self.wait_for_text("meaning", "can't be taken back")
+        self.confirm()
+        self.wait_for_service("ceiling", "✕ dead")
+        self.change("desk", "Say where it is")
+        Select(self.find("#fields label:nth-child(2) select")).select_by_value("on")
+        self.confirm()
+        self.wait_for_service("desk", "on")
+        self.find("#move").click()
+        Select(self.find("#fields select")).select_by_value("dusk")
+        self.confirm()
+        self.wait_for_text("environment", "It is dusk.")
+        self.assertEqual(self.home.state()["environment"], "dusk")
+
+    def test_a_service_joins(self) -> None:
+        self.find("#join").click()
+        self.find("#fields input[type='text']").send_keys("bedside")
+        Select(self.find("#fields select")).select_by_value("lamp")
+        self.wait_for_text("meaning", "bedside joins as a lamp, and is off")
+        self.confirm()
+        self.wait_for_service("bedside", "● ready")
+        self.button("actions", "bedside may serve it")
+
+    def test_a_refusal_is_told(self) -> None:
+        self.find("#join").click()
+        self.find("#fields input[type='text']").send_keys("desk")
+        self.confirm()
+        self.wait_for_text("result", "That couldn't be:")
+
+    def test_it_connects_again(self) -> None:
+        self.home.end()
+        self.wait_for_text("link", "not connected")
+        self.home.begin()
+        self.wait_for_text("link", "✓ connected")
+        self.press("actions", "brighten")
+        self.wait_for_text("asked", "window is asked for brighten")
+        self.wait_for_text("events", "window is asked to brighten")
+
+    def test_each_event_is_shown_once(self) -> None:
+        """Also where the page connects again, and is sent all of them."""
+        self.press("actions", "brighten")
+        self.press("outcomes", "window is open")
+        self.wait_for_text("events", "window served brighten")
+        self.driver.execute_script("document.dispatchEvent(new Event('visibilitychange'))")
+        self.press("actions", "boil")
+        self.wait_for_text("events", "kettle is asked to boil")
+        shown = [each.text for each in self.driver.find_elements("css selector", "#events li")]
+        self.assertEqual(sum("window served brighten" in each for each in shown), 1, shown)
+
+    def test_a_narrow_window(self) -> None:
+        self.driver.execute_cdp_cmd(
+            "Emulation.setDeviceMetricsOverride",
+            {"width": 320, "height": 640, "deviceScaleFactor": 2, "mobile": True},
+        )
+        self.addCleanup(self.driver.execute_cdp_cmd, "Emulation.clearDeviceMetricsOverride", {})
+        self.press("actions", "brighten")
+        self.button("outcomes", "window is open")
+        wide = "return [document.documentElement.scrollWidth, innerWidth]"
+        scroll, inner = self.driver.execute_script(wide)
+        self.assertEqual((scroll, inner), (320, 320))
+        for each in self.driver.find_elements("css selector", "main button"):
+            if each.is_displayed():
+                self.assertGreaterEqual(each.size["height"], 44, each.text)
+
+    def test_light_and_dark_can_be_read(self) -> None:
+        self.addCleanup(self.driver.execute_cdp_cmd, "Emulation.setEmulatedMedia", {"features": []})
+        self.change("ceiling", "It is gone for good")
+        self.confirm()
+        self.change("desk", "Freeze it")
+        self.confirm()
+        self.change("kettle", "Freeze it")
+        self.confirm()
+        wait_until(lambda: self.find("#lost").is_displayed(), "why there is no composition")
+        seen = set()
+        for scheme in ("light", "dark"):
+            feature = {"name": "prefers-color-scheme", "value": scheme}
+            self.driver.execute_cdp_cmd("Emulation.setEmulatedMedia", {"features": [feature]})
+            self.assertEqual(self.driver.execute_script(CONTRAST), [], scheme)
+            seen.add(self.find("body").value_of_css_property("background-color"))
+        self.assertEqual(len(seen), 2)
+
+    def test_the_drawing(self) -> None:
+        self.find("#drawing summary").click()
+        drawn = "return document.querySelector('#drawn img')?.naturalWidth"
+        wait_until(lambda: self.driver.execute_script(drawn), "the drawing")
+
+    def test_nothing_comes_from_outside(self) -> None:
+        with urllib.request.urlopen(f"{self.home.url}/") as response:
+            page, policy = response.read().decode(), response.headers["Content-Security-Policy"]
+        self.assertIsNone(re.search(r"//\w", page))
+        self.assertIn("default-src 'none'", policy)
+        self.assertNotIn("unsafe", policy)
+
+    def test_another_page_changes_nothing(self) -> None:
+        class Foreign(BaseHTTPRequestHandler):
+            def do_GET(self) -> None:
+                self.send_response(200)
+                self.end_headers()
+
+            def log_message(self, *words: Any) -> None:
+                """Says nothing."""
+
+        server = ThreadingHTTPServer(("127.0.0.1", 0), Foreign)
+        self.addCleanup(server.server_close)
+        self.addCleanup(server.shutdown)
+        threading.Thread(target=server.serve_forever, daemon=True).start()
+        self.driver.get(f"http://127.0.0.1:{server.server_port}/")
+        for path, body in (("services/desk/freeze", ""), ("environment/jump", '{"state": "dusk"}')):
+            sent = self.driver.execute_async_script(
+                "const [url, body, done] = arguments;"
+                "fetch(url, {method: 'POST', mode: 'no-cors', body}).then(() => done(true), () => done(false))",
+                f"{self.home.url}/{path}",
+                body,
+            )
+            self.assertTrue(sent)
+        self.assertEqual(self.status("desk"), "ready")
+        self.assertEqual(self.home.state()["environment"], "day")
+
+
+class WithAToken(Browsing):
+    def test_a_token_is_needed(self) -> None:
+        home = Played('token_file = "token"\n')
+        self.addCleanup(home.close)
+        (home.folder / "token").write_text("open sesame\n", encoding="utf-8")
+        home.begin()
+        for path in ("/", "/?token=open"):
+            self.driver.get(f"{home.url}{path}")
+            self.assertIn("token", self.find("body").text)
+            self.assertEqual(self.driver.find_elements("id", "actions"), [])
+        self.open(home, "/?token=open+sesame")
+        self.assertEqual(self.driver.current_url, f"{home.url}/")
+        self.press("actions", "brighten")
+        self.press("outcomes", "window is open")
+        self.wait_for_text("target", "It is bright.")
+
+
+class Demonstration(Browsing):
+    """The home to try: a broker, and devices that fail."""
+
+    def test_the_page_is_open_while_devices_fail(self) -> None:
+        home = Demonstrated()
+        self.addCleanup(home.close)
+        home.begin(0.2)
+        self.open(home)
+        self.assertIn("✓ broker connected", self.text("broker"))
+        served, failed = 0, 0
+        for _ in range(100):
+            action = self.press("actions", "may serve it")
+            wait_until(lambda: " is requested" not in self.text("result"), "an answer")
+            said = self.text("result")
+            self.assertRegex(said, rf" served {action}\b|\b{action}: ")
+            served += " served " in said
+            failed += " failed: " in said
+            if served >= 6 and failed:
+                break
+        self.assertGreaterEqual(served, 6)
+        self.assertGreater(failed, 0)
+        self.wait_for_text("events", "failed at")
+        wait_until(lambda: self.agrees(home), "agreement of the page with the state")
+
+    def agrees(self, home: Running) -> bool:
+        """Whether the page says what the state says."""
+        state = home.state()
+        return (
+            f"It is {state['target']['state']}." in self.text("target")
+            and f"{state['counts']['served']} served" in self.text("counts")
+            and all(
+                f"{each['status']} · {each['state']}" in self.service(each["name"])
+                for each in state["services"]
+            )
+        )
+
+
+if __name__ == "__main__":
+    unittest.main()

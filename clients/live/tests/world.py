@@ -1,0 +1,238 @@
+"""Devices for the tests: what they did, where they are, and how they misbehave, over HTTP and MQTT.
+
+Called as a program, this module is a device that is a command: `world.py URL WORD`, or `world.py URL` for
+one that reads lines.
+"""
+
+import json
+import os
+import random
+import sys
+import threading
+import urllib.error
+import urllib.request
+from http.server import BaseHTTPRequestHandler, ThreadingHTTPServer
+from typing import Any, Dict, List, Optional, Set, Tuple
+
+if __name__ != "__main__":
+    import paho.mqtt.client as mqtt  # type: ignore[import]
+    from roman_client import Document
+
+    from .machinery import PATIENCE
+
+Told = Dict[str, Any]
+
+
+class World:
+    """What the services of a document did, and where they are. Each call is played once, however often it
+    is asked. `manners` has how a service misbehaves: `fail`, `hang`, `late`, `twice`, `wrong`, `junk`,
+    `foreign`. Those in `mute` don't tell where they are. What hangs, is late or mute does so until
+    `release` is set."""
+
+    def __init__(self, document: "Document", seed: int = 0) -> None:
+        self.document = document
+        self.chance = random.Random(seed)
+        self.lock = threading.Lock()
+        self.behaviours = {each.name: each.behaviour for each in document.services}
+        self.states = {each.name: each.state for each in document.services}
+        self.environment = document.environment.start
+        self.done: Dict[int, Told] = {}
+        self.played: List[Tuple[str, str]] = []
+        self.asked: List[Tuple[str, str]] = []
+        self.wrong: List[str] = []
+        self.manners: Dict[str, str] = {}
+        self.mute: Set[str] = set()
+        self.failing = 0.0
+        self.release = threading.Event()
+
+    def serve(self, service: str, action: str, number: Optional[int]) -> List[Told]:
+        """The answers to a call, one after the other; none where it hangs."""
+        manner = self.manners.get(service, "")
+        with self.lock:
+            self.asked.append((service, action))
+            failing = self.chance.random() < self.failing
+        if manner == "fail" or failing:
+            return [{"id": number, "error": "out of order"}]
+        if manner == "junk":
+            return [{"id": number, "nonsense": True}]
+        if manner == "wrong":
+            return [{"id": number, "state": self.states[service], "environment": "nowhere"}]
+        if manner == "hang":
+            self.release.wait()
+            return []
+        told = self.play(service, action, number)
+        if manner == "foreign":
+            return [{**told, "id": -5}]
+        if manner == "late":
+            self.release.wait()
+        return [told, told] if manner == "twice" else [told]
+
+    def play(self, service: str, action: str, number: Optional[int]) -> Told:
+        """Has a service carry out an action."""
+        with self.lock:
+            if number is not None and number in self.done:
+                self.wrong.append(f"call {number} came twice")
+                return self.done[number]
+            outcomes = list(
+                self.document.outcomes(
+                    self.behaviours[service], self.states[service], self.environment, action
+                )
+            )
+            if not outcomes:
+                self.wrong.append(f"{service} can't {action} in {self.states[service]}")
+                return {"id": number, "error": "can't"}
+            self.states[service], self.environment = self.chance.choice(outcomes)
+            told = {
+                "id": number,
+                "state": self.states[service],
+                "environment": self.environment,
+            }
+            if number is not None:
+                self.done[number] = told
+            self.played.append((service, action))
+            return told
+
+    def tell(self, service: str, number: Optional[int]) -> Told:
+        """Where a service is, and whether it did that call."""
+        if self.manners.get(service) == "hang" or service in self.mute:
+            self.release.wait()
+        with self.lock:
+            told: Told = {"state": self.states[service], "environment": self.environment}
+            if number is not None:
+                told["done"] = number in self.done
+            return told
+
+
+class QuietServer(ThreadingHTTPServer):
+    """A server that says nothing of those who go away."""
+
+    daemon_threads = True
+
+    def handle_error(self, request: Any, address: Any) -> None:
+        pass
+
+
+class HttpDevices:
+    """All services of a world over HTTP: each at its name, `/window`."""
+
+    def __init__(self, world: World) -> None:
+        self.server = QuietServer(("127.0.0.1", 0), _handler(world))
+        self.url = f"http://127.0.0.1:{self.server.server_address[1]}"
+        threading.Thread(target=self.server.serve_forever, daemon=True).start()
+
+    def close(self) -> None:
+        """Takes them away."""
+        self.server.shutdown()
+        self.server.server_close()
+
+
+def _handler(world: World) -> type:
+    class Handler(BaseHTTPRequestHandler):
+        protocol_version = "HTTP/1.1"
+
+        def do_POST(self) -> None:
+            asked = json.loads(self.rfile.read(int(self.headers["Content-Length"])))
+            answers = world.serve(self.path[1:], asked["action"], asked["id"])
+            if answers:
+                self.answer(answers[0])
+
+        def do_GET(self) -> None:
+            service, _, number = self.path[1:].partition("?id=")
+            self.answer(world.tell(service, int(number) if number else None))
+
+        def answer(self, told: Told) -> None:
+            data = json.dumps(told).encode()
+            try:
+                self.send_response(200)
+                self.send_header("Content-Length", str(len(data)))
+                self.end_headers()
+                self.wfile.write(data)
+            except OSError:
+                pass
+
+        def log_message(self, *words: Any) -> None:
+            pass
+
+    return Handler
+
+
+class MqttDevices:
+    """Services of a world over MQTT, asked on `NAME/ask`, answering on `NAME/answer`."""
+
+    def __init__(self, world: World, port: int, services: List[str]) -> None:
+        self.world = world
+        self.services = services
+        self.subscribed = threading.Event()
+        self.heard: List[Told] = []
+        self.client = mqtt.Client()
+        self.client.reconnect_delay_set(1, 1)
+        self.client.on_connect = self._connected
+        self.client.on_subscribe = lambda *words: self.subscribed.set()
+        self.client.on_message = self._asked
+        self.client.will_set(f"{services[0]}/answer", json.dumps({"gone": True}), qos=1)
+        self.client.connect("127.0.0.1", port, keepalive=5)
+        self.client.loop_start()
+        if not self.subscribed.wait(PATIENCE):
+            raise TimeoutError("the broker doesn't answer")
+
+    def listen(self, topic: str) -> None:
+        """Listens to one more topic, from when the broker knows of it."""
+        self.subscribed.clear()
+        self.client.subscribe(topic, 1)
+        if not self.subscribed.wait(PATIENCE):
+            raise TimeoutError("the broker doesn't answer")
+
+    def _connected(self, client: Any, data: Any, flags: Any, code: int) -> None:
+        client.subscribe([(f"{each}/ask", 1) for each in self.services])
+
+    def _asked(self, client: Any, data: Any, message: Any) -> None:
+        asked = json.loads(message.payload)
+        self.heard.append(asked)
+        service = message.topic.rpartition("/")[0]
+        threading.Thread(target=self._answer, args=(service, asked), daemon=True).start()
+
+    def _answer(self, service: str, asked: Told) -> None:
+        if asked["action"] is None:
+            answers = [{**self.world.tell(service, asked.get("about")), "id": asked["id"]}]
+        else:
+            answers = self.world.serve(service, asked["action"], asked["id"])
+        for each in answers:
+            self.say(service, each)
+
+    def say(self, service: str, told: Told, retain: bool = False) -> None:
+        """Has a service say something."""
+        data = json.dumps(told)
+        self.client.publish(f"{service}/answer", data, qos=1, retain=retain).wait_for_publish(PATIENCE)
+
+    def close(self, rudely: bool = False) -> None:
+        """Takes them away; rudely, so that the broker publishes their last will."""
+        if rudely:
+            self.client.loop_stop()
+            self.client.socket().close()
+        else:
+            self.client.disconnect()
+            self.client.loop_stop()
+
+
+def command(url: str, word: str) -> str:
+    """The line of a command: what the service at a URL answers."""
+    number = os.environ.get("ROMAN_CALL")
+    if word == "?":
+        request = urllib.request.Request(url)
+    else:
+        body = json.dumps({"id": None if number is None else int(number), "action": word})
+        request = urllib.request.Request(url, body.encode(), {"Content-Type": "application/json"})
+    opener = urllib.request.build_opener(urllib.request.ProxyHandler({}))
+    with opener.open(request) as response:
+        told = json.loads(response.read())
+    if "state" not in told:
+        raise SystemExit(told.get("error", "no state"))
+    return f"{told['state']} {told['environment']}"
+
+
+if __name__ == "__main__":
+    if len(sys.argv) == 3:
+        print(command(sys.argv[1], sys.argv[2]))
+    else:
+        for line in sys.stdin:
+            print(command(sys.argv[1], line.strip()), flush=True)
