@@ -1,4 +1,4 @@
-# Completion of roman's commands and file names for bash. It needs no other file.
+# Completion of roman's commands, of its tools and of file names for bash. It needs no other file.
 
 _roman_files() {
     # Files whose names end so, and folders; all files where there is none.
@@ -24,4 +24,21 @@ _roman() {
     esac
 }
 
+_roman_tool() {
+    local options word=${COMP_WORDS[COMP_CWORD]} before=${COMP_WORDS[COMP_CWORD - 1]}
+    COMPREPLY=()
+    case ${COMP_WORDS[0]} in
+        *lint) options="--json --strict --program --no-program --help" ;;
+        *expand) options="-o --map --help" ;;
+        *draw) options="--explanation --offers --all --text -o --dot --program --help" ;;
+        *talk) options="--program --help" ;;
+    esac
+    case $before:$word in
+        -o:* | --map:* | --program:* | --explanation:*) _roman_files "" ;;
+        *:-*) COMPREPLY=($(compgen -W "$options" -- "$word")) ;;
+        *) _roman_files .json ;;
+    esac
+}
+
 complete -F _roman roman ./roman
+complete -F _roman_tool roman-lint roman-expand roman-draw roman-talk tools/draw tools/talk

@@ -1,0 +1,43 @@
+# Completion of roman's commands, of its tools and of file names for fish. It needs no other file.
+
+function __roman_words
+    commandline -opc | count
+end
+
+function __roman_file --description 'Whether the word that comes now has that place, after one of these commands'
+    test (__roman_words) -eq $argv[1]; and contains -- (commandline -opc)[2] (string split , $argv[2])
+end
+
+complete -c roman -f
+complete -c roman -n 'test (__roman_words) -eq 1' -a synth -d 'report on the starting states'
+complete -c roman -n 'test (__roman_words) -eq 1' -a run -d 'answer the lines of a session'
+complete -c roman -n 'test (__roman_words) -eq 1' -a certify -d 'write a certificate of what is related'
+complete -c roman -n 'test (__roman_words) -eq 1' -a check -d 'check a certificate'
+complete -c roman -n 'test (__roman_words) -eq 1' -a make -d 'make a large system of workers'
+complete -c roman -n 'test (__roman_words) -eq 1' -a resilience -d 'say what is left where services fail'
+complete -c roman -n 'test (__roman_words) -eq 1' -a shortest -d 'say within how many requests pairs are lost'
+complete -c roman -n 'test (__roman_words) -eq 1' -a advise -d 'say what requests cost at worst'
+complete -c roman -n '__roman_file 2 make' -a '(seq 10)'
+complete -c roman -k -n '__roman_file 2 synth,run,certify,check,resilience,shortest,advise' -a '(__fish_complete_suffix .json)'
+complete -c roman -k -n '__roman_file 3 run' -a '(__fish_complete_suffix .session)'
+complete -c roman -k -n '__roman_file 3 check' -a '(__fish_complete_suffix .cert)'
+complete -c roman -k -n '__roman_file 3 advise' -a '(__fish_complete_suffix .costs)'
+
+for tool in roman-lint roman-expand roman-draw roman-talk
+    complete -c $tool -k -a '(__fish_complete_suffix .json)'
+end
+for tool in roman-lint roman-draw roman-talk
+    complete -c $tool -l program -r -d 'the program that answers'
+end
+for tool in roman-expand roman-draw
+    complete -c $tool -s o -r -d 'write to this file'
+end
+complete -c roman-lint -l json -d 'write a JSON value, for editors'
+complete -c roman-lint -l strict -d 'end with status 1 where there are warnings'
+complete -c roman-lint -l no-program -d 'do not ask the program'
+complete -c roman-expand -l map -r -d 'write where each name and step comes from'
+complete -c roman-draw -l explanation -r -d 'draw the last explanation in a file'
+complete -c roman-draw -l offers -d 'draw what can happen when offers are followed'
+complete -c roman-draw -l all -d 'the whole game of an explanation'
+complete -c roman-draw -l text -d 'write the explanation in words'
+complete -c roman-draw -l dot -d 'write the text for Graphviz'

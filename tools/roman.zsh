@@ -1,0 +1,53 @@
+#compdef roman roman-draw roman-lint roman-expand roman-talk
+# Completion of roman's commands, of its tools and of file names for zsh. It needs no other file.
+
+_roman_tool() {
+    local -a options
+    local program='--program[the program that answers]:program:_files'
+    case $service in
+        *lint)
+            options=('--json[write a JSON value, for editors]' '--strict[end with status 1 where there are warnings]'
+                $program "--no-program[don't ask the program]")
+            ;;
+        *expand)
+            options=('-o[write to this file]:file:_files' '--map[write where each name and step comes from]:file:_files')
+            ;;
+        *draw)
+            options=('--explanation[draw the last explanation in a file]:file:_files'
+                '--offers[draw what can happen when offers are followed]' '--all[the whole game of an explanation]'
+                '--text[write the explanation in words]' '-o[write to this file]:file:_files'
+                '--dot[write the text for Graphviz]' $program)
+            ;;
+        *talk) options=($program) ;;
+    esac
+    _arguments $options ':system:_files -g "*.json"'
+}
+
+_roman() {
+    local -a commands
+    if [[ $service != roman ]]; then
+        _roman_tool
+        return
+    fi
+    commands=(
+        'synth:report on the starting states'
+        'run:answer the lines of a session'
+        'certify:write a certificate of what is related'
+        'check:check a certificate'
+        'make:make a large system of workers'
+        'resilience:say what is left where services fail'
+        'shortest:say within how many requests pairs are lost'
+        'advise:say what requests cost at worst'
+    )
+    case $CURRENT:$words[2] in
+        2:*) _describe command commands ;;
+        3:make) _values workers {1..10} ;;
+        3:(synth|run|certify|check|resilience|shortest|advise)) _files -g '*.json' ;;
+        4:run) _files -g '*.(session|txt)' ;;
+        4:check) _files -g '*.(cert|txt)' ;;
+        4:advise) _files -g '*.(costs|json)' ;;
+        *) _message 'nothing more' ;;
+    esac
+}
+
+_roman "$@"

@@ -1,0 +1,65 @@
+"""How pictures look: colours, labels, and Graphviz."""
+
+from __future__ import annotations
+
+from typing import Sequence
+
+from . import need
+
+need("graphviz")
+
+import graphviz  # type: ignore[import]  # noqa: E402
+
+PLAIN = "#222222"
+CHOICE = "#c2410c"
+GUARD = "#1d4ed8"
+FADED = "#6b7280"
+WRONG = "#b91c1c"
+FONT = "Helvetica,Arial,sans-serif"
+
+
+class Wrong(Exception):
+    """Something can't be drawn."""
+
+
+def graph(direction: str, **options: str) -> "graphviz.Digraph":
+    """An empty picture."""
+    picture = graphviz.Digraph("roman")
+    picture.attr(rankdir=direction, nodesep="0.35", ranksep="0.55", **options)
+    picture.attr("graph", fontname=FONT, fontsize="13", style="rounded", color="#9ca3af")
+    picture.attr("node", fontname=FONT, fontsize="12", shape="ellipse", color=PLAIN, height="0.4")
+    picture.attr("edge", fontname=FONT, fontsize="11", color=PLAIN, arrowsize="0.7")
+    return picture
+
+
+def svg(picture: "graphviz.Digraph") -> str:
+    """The picture as an SVG."""
+    try:
+        drawn: str = picture.pipe(format="svg", encoding="utf-8")
+        return drawn
+    except graphviz.ExecutableNotFound:
+        raise Wrong("Graphviz isn't there; tools/debian installs it") from None
+    except graphviz.CalledProcessError as error:
+        raise Wrong(f"Graphviz: {error.stderr}") from None
+
+
+def html(text: str) -> str:
+    """A text inside of a label with marks."""
+    return text.replace("&", "&amp;").replace("<", "&lt;").replace(">", "&gt;")
+
+
+def coloured(text: str, colour: str, small: bool = False) -> str:
+    size = ' POINT-SIZE="11"' if small else ""
+    return f'<FONT COLOR="{colour}"{size}>{html(text)}</FONT>'
+
+
+def marked(lines: Sequence[str]) -> str:
+    """A label of lines with marks."""
+    return "<" + "<BR/>".join(lines) + ">"
+
+
+def folded(words: Sequence[str], most: int) -> str:
+    """Words with commas between; of many the first ones, and how many more there are."""
+    if len(words) <= most:
+        return ", ".join(words)
+    return f"{', '.join(words[: most - 1])} and {len(words) - most + 1} more"

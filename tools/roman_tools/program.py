@@ -1,0 +1,27 @@
+"""The built program, as the tools call it."""
+
+from __future__ import annotations
+
+import os
+import shutil
+import subprocess
+from pathlib import Path
+from typing import Optional
+
+TOOLS = Path(__file__).resolve().parents[1]
+
+
+def find(given: Optional[str] = None) -> Optional[str]:
+    """The program that is given, that ROMAN names, that stands beside the tools, or that PATH has."""
+    for each in (given, os.environ.get("ROMAN")):
+        if each:
+            return each
+    built = TOOLS.parent / "crates" / "roman_cli" / "out" / "roman_cli"
+    if os.access(built, os.X_OK):
+        return str(built)
+    return shutil.which("roman")
+
+
+def run(program: str, *words: str) -> "subprocess.CompletedProcess[str]":
+    """What the program writes for these words. OSError where it can't be started."""
+    return subprocess.run([program, *words], capture_output=True, text=True, errors="replace", check=False)
