@@ -1,7 +1,11 @@
 """Tests of what stands around the program. `tests/run` runs them."""
 
 import os
+import shutil
 from pathlib import Path
 
 TOP = Path(__file__).resolve().parents[1]
-PROGRAM = os.environ.get("ROMAN", str(TOP / "crates" / "roman_cli" / "out" / "roman_cli"))
+BUILT = TOP / "crates" / "roman_cli" / "out" / "roman_cli"
+GIVEN = os.environ.get("ROMAN", str(BUILT))
+PROGRAM = os.path.abspath(shutil.which(GIVEN) or GIVEN)
+"""The program that the tests run: the one that ROMAN names, or the built one."""

@@ -2,7 +2,10 @@
  *
  * FAIL_KIND is `memory`, `read` or `write`, FAIL_AT the call's number from 1 on. When the call has failed,
  * the file that FAIL_TOLD names is made, so that a test can tell a run that met its fault from one that
- * ended before. Standard error is left alone. */
+ * ended before. Standard error is left alone.
+ *
+ * Where FAIL_KIND is `short`, no read or write moves more than FAIL_AT bytes; where it is `interrupted`, each
+ * second one is interrupted before it moves any. Neither is a fault. */
 #define _GNU_SOURCE
 #include <dlfcn.h>
 #include <errno.h>
@@ -71,32 +74,67 @@ int posix_memalign(void **block, size_t align, size_t size)
     return *block == NULL ? ENOMEM : 0;
 }
 
-static ssize_t failed(void)
+static ssize_t failed(int why)
 {
-    errno = EIO;
+    errno = why;
     return -1;
+}
+
+static int is_kind(const char *name)
+{
+    const char *kind = getenv("FAIL_KIND");
+    return kind != NULL && strcmp(kind, name) == 0;
+}
+
+/* How many of so many bytes a call may move. */
+static size_t moved(size_t size)
+{
+    const char *at = getenv("FAIL_AT");
+    size_t most = at != NULL && is_kind("short") ? (size_t)atol(at) : size;
+    return size < most ? size : most;
+}
+
+/* Whether this call is interrupted. */
+static int is_interrupted(void)
+{
+    static int turn;
+    return is_kind("interrupted") && (turn = !turn);
 }
 
 ssize_t read(int file, void *into, size_t size)
 {
-    return is_due(READ) ? failed() : syscall(SYS_read, file, into, size);
+    if (is_interrupted())
+        return failed(EINTR);
+    return is_due(READ) ? failed(EIO) : syscall(SYS_read, file, into, moved(size));
 }
 
 ssize_t pread64(int file, void *into, size_t size, off64_t at)
 {
-    return is_due(READ) ? failed() : syscall(SYS_pread64, file, into, size, at);
+    if (is_interrupted())
+        return failed(EINTR);
+    return is_due(READ) ? failed(EIO) : syscall(SYS_pread64, file, into, moved(size), at);
 }
 
 ssize_t pread(int file, void *into, size_t size, off_t at) { return pread64(file, into, size, at); }
 
 ssize_t write(int file, const void *from, size_t size)
 {
-    return file != 2 && is_due(WRITE) ? failed() : syscall(SYS_write, file, from, size);
+    if (file == 2)
+        return syscall(SYS_write, file, from, size);
+    if (is_interrupted())
+        return failed(EINTR);
+    return is_due(WRITE) ? failed(EIO) : syscall(SYS_write, file, from, moved(size));
 }
 
 ssize_t __write(int file, const void *from, size_t size) { return write(file, from, size); }
 
 ssize_t writev(int file, const struct iovec *from, int count)
 {
-    return file != 2 && is_due(WRITE) ? failed() : syscall(SYS_writev, file, from, count);
+    if (file == 2)
+        return syscall(SYS_writev, file, from, count);
+    if (is_interrupted())
+        return failed(EINTR);
+    if (is_due(WRITE))
+        return failed(EIO);
+    return count > 0 && is_kind("short") ? write(file, from->iov_base, from->iov_len) : syscall(SYS_writev, file, from, count);
 }

@@ -1,5 +1,6 @@
 """Each allocation, each read and each write failing in turn: the status is that of the fault, what was
 written is a prefix of what the run writes, and no run ends as if nothing had happened."""
+import json
 import os
 import shutil
 import subprocess
@@ -7,7 +8,7 @@ import tempfile
 import unittest
 from pathlib import Path
 
-from . import program
+from . import program, reference
 from .program import run
 
 SESSION = b"do on\nuse l1\nsaw on e\ndo off\nuse l1\nsaw off e\nfreeze l1\nexplain\nthaw l1\nreport\n"
@@ -23,7 +24,11 @@ COMMANDS = {
     "shortest": (["shortest", "lamp.json"], False),
     "advise": (["advise", "lamp.json", "lamp.costs", "3"], False),
     "resilience": (["resilience", "lamp.json"], False),
+    "several targets": (["run", "several.json", "several.session"], False),
 }
+SEVERAL = (b"do on-a\nuse l1\nsaw on e\njoin l3 lamp off\njoin l4 lamp on loose\nexplain\ndo on-b\nuse l3\nsaw on e\n"
+           b"jump l4 off\ndie l2\nreport\n")
+"""A session with a document of version 3, whose parts stand in files of their own."""
 
 
 class Faults(unittest.TestCase):
@@ -37,6 +42,12 @@ class Faults(unittest.TestCase):
         shutil.copy(program.SAMPLES / "lamp.json", cls.folder)
         (cls.folder / "lamp.session").write_bytes(SESSION)
         (cls.folder / "lamp.costs").write_bytes(b'[["lamp","on",3],["lamp","off",1]]')
+        two = json.loads((program.SAMPLES / "two.json").read_text(encoding="utf-8"))
+        for name, holder, key in (("world", two, "environment"), ("kind", two["behaviours"], 0), ("second", two["targets"], 1)):
+            (cls.folder / f"{name}.json").write_text(json.dumps(holder[key]), encoding="utf-8")
+            holder[key] = {"file": f"{name}.json"}
+        (cls.folder / "several.json").write_text(json.dumps(two), encoding="utf-8")
+        (cls.folder / "several.session").write_bytes(SEVERAL)
         (cls.folder / "lamp.cert").write_bytes(run(["certify", "lamp.json"], cls.folder).text)
 
     def each_fault(self, kind, words, session):
@@ -84,3 +95,34 @@ class Faults(unittest.TestCase):
             return ended.status == program.WRITE_FAULT
         for name, count in self.check_each("write", is_right):
             self.assertGreater(count, 0, name)
+
+    def each_kind(self, *kinds):
+        """Yields how each command ends plainly, and with one of these kinds of calls."""
+        for name, (words, takes) in COMMANDS.items():
+            session = SESSION if takes else b""
+            plain = run(words, self.folder, session)
+            self.assertTrue(plain.text)
+            for kind, at in kinds:
+                with self.subTest(command=name, kind=kind, at=at):
+                    yield plain, run(words, self.folder, session, {
+                        "LD_PRELOAD": os.fspath(self.library), "FAIL_KIND": kind, "FAIL_AT": at})
+
+    def test_calls_that_move_few_bytes(self):
+        """They are no faults: each run ends as it does without."""
+        for plain, ended in self.each_kind(("short", "1"), ("short", "7")):
+            self.assertEqual(ended, plain)
+
+    def test_calls_that_are_interrupted(self):
+        """They are tried again, or they are faults; nothing is lost unseen."""
+        faults = (program.SHELF_FAULT, program.READ_FAULT, program.WRITE_FAULT)
+        for plain, ended in self.each_kind(("interrupted", "0")):
+            self.assertTrue(ended == plain or ended.status in faults and plain.text.startswith(ended.text), ended)
+
+    def test_what_is_tried_is_right(self):
+        """The runs that fail here do what they should where nothing fails."""
+        shelf = {each.name: each.read_bytes() for each in self.folder.iterdir() if each.suffix != ".so"}
+        for name, (words, takes) in COMMANDS.items():
+            session = SESSION if takes else b""
+            ended = run(words, self.folder, session)
+            with self.subTest(command=name):
+                self.assertIsNone(reference.run_fault(words, shelf, session, ended.status, ended.text))

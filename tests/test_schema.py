@@ -249,7 +249,8 @@ class Schemas(unittest.TestCase):
         self.folder = Path(folder.name)
 
     def ask(self, document: Any) -> Tuple[int, str]:
-        """How the program takes a document: its status, and its line where it refuses."""
+        """How the program takes a document: its status, and its line where it refuses. Where it doesn't, it
+        has to write a report, or that the system is over its limit."""
         (self.folder / "s.json").write_text(json.dumps(document), encoding="utf-8")
         done = subprocess.run(
             [PROGRAM, "synth", "s.json"],
@@ -259,6 +260,8 @@ class Schemas(unittest.TestCase):
             timeout=60,
             check=False,
         )
+        first = {0: "pairs ", 1: "pairs ", 3: "refused ", 4: "limit "}.get(done.returncode, "no such status")
+        self.assertTrue(done.stdout.startswith(first), (done.returncode, done.stdout))
         return done.returncode, done.stdout if done.returncode == 3 else ""
 
     def test_samples_are_valid(self) -> None:
@@ -398,6 +401,16 @@ def undescribed(value: Any, where: str) -> Iterator[str]:
     for name, member in value.get("$defs", {}).items():
         yield from undescribed(member, f"{where} {name}")
 
+
+class Copies(unittest.TestCase):
+    """The schemas that stand beside the samples, so that an editor finds them there too."""
+
+    def test_they_are_those_of_the_repository(self) -> None:
+        copies = sorted((TOP / "samples").glob("**/schema/*.json"))
+        self.assertEqual({file.name for file in copies}, {file.name for file in (TOP / "schema").glob("*.json")})
+        for file in copies:
+            with self.subTest(file):
+                self.assertEqual(file.read_bytes(), (TOP / "schema" / file.name).read_bytes())
 
 if __name__ == "__main__":
     unittest.main()

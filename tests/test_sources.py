@@ -1,10 +1,11 @@
 """What holds of the sources as a whole, and no proof says."""
 
+import hashlib
 import re
 import unittest
 from collections import Counter, defaultdict
 from pathlib import Path
-from typing import Dict, Iterator, List
+from typing import Dict, Iterator, List, Set, Tuple
 
 from . import TOP
 
@@ -14,6 +15,29 @@ WORD = re.compile(r"[^\s(){}\[\],;.λ→∙×⊎≡:=|`]+")
 LEMMA = re.compile(r" *(pub )?(?:abbrev )?(pub )?([^\s:(){}◌]+) :(?: |$)", re.M)
 MODULE = re.compile(r"(?: *--.*\n)* *module (?:.*\n)*?.*\bwhere\n")
 DEFINED = re.compile(r"^(?:abbrev pub|unfoldable pub|pub record|pub data) +([A-Za-z_]+)", re.M)
+IMPORTED = re.compile(r"^use Rattle\.(roman_\w+\.specs[\w.]*)\.\{([^}]*)\}", re.M)
+HEAD = re.compile(r"(?:abbrev |unfoldable )?(?:pub )?(?:record |data )?([^\s:(){}]+)")
+
+# A definition by its page, as `use` writes it without `Rattle.`, and its name.
+Definition = Tuple[str, str]
+
+# What readers are sent to, and on how many definitions it rests. Of the headline it is what is promised of sessions and
+# of `synth`, the meaning of documents included.
+RESTS_ON: Dict[Definition, int] = {
+    ("roman_model.specs.Composition", "Great"): 23,
+    ("roman_model.specs.Several", "GreatAll"): 23,
+    ("roman_top.specs.Headline", "KeepsPromise"): 247,
+}
+
+# What is computed of a system, and what a session keeps: none of it is needed to believe that.
+NOT_IN_HEADLINE = {"is_related", "offers", "related_count", "choice_count", "is_justified", "report_text", "Step", "Situation", "replay"}
+
+
+PROMISES = {"served": "Served", "headline": "HasHeadline", "complete": "AnswersWherePossible", "input": ""}
+"""The public clauses of `serve`, each with the definition that it begins with. None of them asks for anything."""
+PAGES = TOP / "tests" / "pages.sha256"
+"""Digests of the pages on which the headline stands. Where one has to change, this renews them:
+`sha256sum $(cut -c67- tests/pages.sha256) > pages && mv pages tests/pages.sha256`."""
 
 
 def sources(part: str, ending: str) -> Iterator[Path]:
@@ -35,6 +59,56 @@ def declarations(page: str, depth: int = 0) -> Iterator[str]:
             yield from declarations(declaration[head.end():], depth + 2)
         else:
             yield declaration
+
+
+def definitions() -> Dict[Definition, Set[Definition]]:
+    """Each definition of the pages in `specs`, and those that its text names, of its own page or brought in by `use`."""
+    texts: Dict[Definition, str] = defaultdict(str)
+    brought_in: Dict[str, Dict[str, Definition]] = defaultdict(dict)
+    for file in sources("specs", ".antt"):
+        page = ".".join(file.relative_to(CRATES).with_suffix("").parts)
+        content = file.read_text(encoding="utf-8")
+        for found in IMPORTED.finditer(content):
+            brought_in[page].update({name: (found[1], name) for name in re.split(r",\s*", found[2].strip())})
+        name = ""
+        for line in content.splitlines():
+            if re.match(r"use |pub mod |--", line) or not line:
+                continue
+            # A line that begins at the margin begins a definition, or a further case of the one above it.
+            head = HEAD.match(line) if re.match(r"[^\s)\]}|]", line) else None
+            name = head[1] if head else name
+            texts[page, name] += re.sub(r'"[^"]*"', "", line) + "\n"
+    return {(page, name): {found for word in words(text) for found in [brought_in[page].get(word, (page, word))] if found in texts}
+            for (page, name), text in texts.items()}
+
+
+def rests_on(root: Definition, named: Dict[Definition, Set[Definition]]) -> Set[Definition]:
+    """The definitions to which this one leads, itself among them."""
+    found, left = {root}, [root]
+    while left:
+        for other in named[left.pop()] - found:
+            found.add(other)
+            left.append(other)
+    return found
+
+
+class Promises(unittest.TestCase):
+    """What the program promises can only be weakened by an edit of this file, or of the digests beside it."""
+
+    def test_the_clauses_of_serve(self) -> None:
+        heads = [found[0] for file in sources("src", ".rt")
+                 for found in re.finditer(r"^pub fn serve<.*?^\{$", file.read_text(encoding="utf-8"), re.M | re.S)]
+        self.assertEqual(len(heads), 1)
+        clauses = re.findall(r"^    (requires|ensures) (?:(\w+) )?\{ (\w*)", heads[0], re.M)
+        self.assertEqual(clauses, [("ensures", name, definition) for name, definition in PROMISES.items()])
+
+    def test_the_pages_of_the_headline(self) -> None:
+        lines = PAGES.read_text(encoding="utf-8").splitlines()
+        self.assertEqual([line.rpartition("/")[2] for line in lines], ["System.antt", "Composition.antt", "Words.antt", "HeadlineTurns.antt", "Headline.antt"])
+        for line in lines:
+            digest, page = line.split("  ")
+            with self.subTest(page):
+                self.assertEqual(hashlib.sha256((TOP / page).read_bytes()).hexdigest(), digest)
 
 
 class Sources(unittest.TestCase):
@@ -76,3 +150,11 @@ class Sources(unittest.TestCase):
                 if around[found[3]] == words(declaration)[found[3]]:
                     uncited.append(f"{file.relative_to(TOP)}: {found[3]}")
         self.assertEqual(uncited, [])
+
+    def test_what_readers_are_sent_to_rests_on_few_definitions(self) -> None:
+        named = definitions()
+        self.assertEqual({root: len(rests_on(root, named)) for root in RESTS_ON}, RESTS_ON)
+
+    def test_the_headline_names_nothing_that_is_computed(self) -> None:
+        headline = {name for page, name in rests_on(("roman_top.specs.Headline", "KeepsPromise"), definitions())}
+        self.assertEqual(headline & NOT_IN_HEADLINE, set())

@@ -1,31 +1,42 @@
-"""What the program costs on large systems: instructions, as valgrind counts them over the whole process, and
-memory. The figures are the last ones reached, with a tenth of room; `docs/DESIGN.md` says how they came about."""
+"""What the program costs on large systems: instructions, as valgrind counts them over each process of a run,
+and memory. tests/speed.json has the last figures reached, with what was written then; `tests/speed` prints
+that table anew, and `docs/DESIGN.md` says how the figures came about.
 
+A figure may grow by a tenth. One that falls below seven tenths of the last is a gain that isn't written down:
+it fails as well, so that it can't be lost again unseen.
+"""
+
+import hashlib
 import json
+import os
 import re
 import subprocess
 import tempfile
 import unittest
+from concurrent.futures import ThreadPoolExecutor
+from dataclasses import dataclass
 from pathlib import Path
-from typing import Dict, List, Tuple
+from typing import Any, Dict, List, Tuple
 
-from . import PROGRAM
+from . import PROGRAM, TOP
 
+TABLE = TOP / "tests" / "speed.json"
 LIMIT = 16_777_216
-
-# Millions of instructions of each command on each system; `talk` is `run` with many requests.
-INSTRUCTIONS = {
-    "workers": {"synth": 18.9, "certify": 34.3, "check": 32.3, "run": 239.1, "shortest": 23.9, "resilience": 633.6},
-    "lamps": {"synth": 18.9, "certify": 53.8, "check": 64.9, "run": 356.1, "shortest": 30.2, "talk": 34.5},
-    "cycle": {"synth": 146.5, "shortest": 153.8},
+MOST, LEAST = 1.1, 0.7
+"""A figure's bounds, as shares of the last one reached."""
+SLACK = 1.0
+"""How many megabytes a figure of memory may differ by besides: pages of the C library and of the system come and go."""
+MEASURED = {
+    "workers": ["synth", "certify", "check", "run", "shortest", "resilience"],
+    "lamps": ["synth", "certify", "check", "run", "shortest", "talk"],
+    "cycle": ["synth", "shortest"],
 }
-# Megabytes of each command on each system.
-MEGABYTES = {
-    "workers": {"synth": 3.4, "resilience": 7.3},
-    "lamps": {"synth": 5.8},
-    "cycle": {"synth": 3.8},
-}
-ROOM = 1.1
+"""The commands that are measured on each system; `talk` is `run` with many requests."""
+if "ROMAN_MEASURED" in os.environ:
+    # One system and one command alone: the tests of the tests need no more.
+    MEASURED = {os.environ["ROMAN_MEASURED"].split()[0]: os.environ["ROMAN_MEASURED"].split()[1:]}
+RELATED = {"workers": 12287, "lamps": 19, "cycle": 0}
+"""How many pairs of each system are related: (N + 2) 2^N - 1 of N workers, N + 1 of N lamps."""
 
 
 def system(states: List[str], actions: List[str], steps: List[List[object]], behaviours: List[Dict[str, object]],
@@ -89,46 +100,125 @@ def session(names: List[str], behaviour: str, state: str, action: str) -> str:
     return "\n".join(lines) + "\n"
 
 
+@dataclass(frozen=True)
+class Ended:
+    """How a measured run ended."""
+
+    status: int
+    text: bytes
+    figure: float
+
+
+class Bench:
+    """The systems in files of a folder, and the runs on them."""
+
+    def __init__(self, folder: Path) -> None:
+        self.folder = folder
+        self.peak = folder / "peak"
+        subprocess.run(["cc", "-O1", "-o", self.peak, Path(__file__).with_name("peak.c")], check=True)
+        for name, made in (("workers", workers()), ("lamps", lamps()), ("cycle", cycle())):
+            (folder / f"{name}.json").write_text(json.dumps(made, separators=(",", ":")), encoding="utf-8")
+        for name in ("workers", "lamps"):
+            (folder / f"{name}.cert").write_bytes(self.run([], [PROGRAM, "certify", f"{name}.json"]).text)
+        (folder / "workers.session").write_text(session([f"w{i}" for i in range(1, 11)], "worker", "idle", "start"), encoding="utf-8")
+        (folder / "lamps.session").write_text(session([f"l{i}" for i in range(1, 19)], "lamp", "off", "on"), encoding="utf-8")
+        (folder / "lamps.talk").write_text("do on\nuse l1\nsaw on e\ndo off\nuse l1\nsaw off e\n" * 2000, encoding="utf-8")
+
+    def run(self, by: List[str], words: List[str], found: str = "") -> Ended:
+        """A run by a program that measures, whose figures stand on the standard error."""
+        done = subprocess.run([*by, *words], cwd=self.folder, stdin=subprocess.DEVNULL, capture_output=True, timeout=400, check=False)
+        figures = re.findall(found, done.stderr.decode()) if found else []
+        if found and not figures:
+            raise AssertionError(done.stderr.decode())
+        return Ended(done.returncode, done.stdout, sum(map(float, figures)))
+
+    def words(self, name: str, command: str) -> List[str]:
+        more = {"check": [f"{name}.cert"], "run": [f"{name}.session"], "talk": [f"{name}.talk"]}
+        return [PROGRAM, "run" if command == "talk" else command, f"{name}.json", *more.get(command, [])]
+
+    def millions(self, name: str, command: str) -> Ended:
+        """Millions of instructions, of the run and of all that it starts."""
+        by = ["valgrind", "--tool=callgrind", "--callgrind-out-file=/dev/null", "--trace-children=yes"]
+        ended = self.run(by, self.words(name, command), r"Collected : (\d+)")
+        return Ended(ended.status, ended.text, ended.figure / 1e6)
+
+    def megabytes(self, name: str, command: str) -> Ended:
+        ended = self.run([str(self.peak)], self.words(name, command), r"(?m)^(\d+)$")
+        return Ended(ended.status, ended.text, ended.figure / 1024)
+
+
+def plain(text: bytes) -> bytes:
+    """An output without what may differ from one right program to another: how many pairs follow from what was
+    known, and the order of a certificate."""
+    if text.startswith(b"roman-order"):
+        return b"%d lines" % text.count(b"\n")
+    return re.sub(rb"kept (\d+) added (\d+)", lambda found: b"lost %d" % (int(found[1]) + int(found[2])), text)
+
+
+def digest(text: bytes) -> str:
+    return hashlib.sha256(plain(text)).hexdigest()[:16]
+
+
+def measured(folder: Path) -> Dict[str, Dict[str, Dict[str, Any]]]:
+    """The table of figures, with the status and the output of each run."""
+    bench = Bench(folder)
+    runs = [(name, command) for name, commands in MEASURED.items() for command in commands]
+    with ThreadPoolExecutor(4) as pool:
+        counted = list(pool.map(lambda each: bench.millions(*each), runs))
+        peaks = list(pool.map(lambda each: bench.megabytes(*each), runs))
+    table: Dict[str, Dict[str, Dict[str, Any]]] = {name: {} for name in MEASURED}
+    for (name, command), count, peak in zip(runs, counted, peaks):
+        if (count.status, count.text) != (peak.status, peak.text):
+            raise AssertionError(f"two runs of {command} on {name} differ")
+        table[name][command] = {"millions": round(count.figure, 1), "megabytes": round(peak.figure, 1),
+                                "status": count.status, "output": digest(count.text)}
+    return table
+
+
 class Speed(unittest.TestCase):
+    table: Dict[str, Dict[str, Dict[str, Any]]]
+
     @classmethod
     def setUpClass(cls) -> None:
         folder = tempfile.TemporaryDirectory()
         cls.addClassCleanup(folder.cleanup)
         cls.folder = Path(folder.name)
-        cls.peak = cls.folder / "peak"
-        subprocess.run(["cc", "-O1", "-o", cls.peak, Path(__file__).with_name("peak.c")], check=True)
-        for name, made in (("workers", workers()), ("lamps", lamps()), ("cycle", cycle())):
-            (cls.folder / f"{name}.json").write_text(json.dumps(made, separators=(",", ":")))
-            with open(cls.folder / f"{name}.cert", "wb") as certificate:
-                subprocess.run([PROGRAM, "certify", f"{name}.json"], cwd=cls.folder, stdout=certificate, check=False)
-        (cls.folder / "workers.session").write_text(session([f"w{i}" for i in range(1, 11)], "worker", "idle", "start"))
-        (cls.folder / "lamps.session").write_text(session([f"l{i}" for i in range(1, 19)], "lamp", "off", "on"))
-        (cls.folder / "lamps.talk").write_text("do on\nuse l1\nsaw on e\ndo off\nuse l1\nsaw off e\n" * 2000)
+        cls.reached = json.loads(TABLE.read_text(encoding="utf-8"))
+        cls.table = measured(cls.folder)
 
-    def words(self, name: str, command: str) -> List[str]:
-        more = {"check": [f"{name}.cert"], "run": [f"{name}.session"], "talk": [f"{name}.talk"]}
-        word = "run" if command == "talk" else command
-        return [word, f"{name}.json", *more.get(command, [])]
+    def each(self) -> List[Tuple[str, str, Dict[str, Any], Dict[str, Any]]]:
+        return [(name, command, self.reached[name][command], now)
+                for name, commands in self.table.items() for command, now in commands.items()]
+
+    def test_each_figure_is_measured(self) -> None:
+        self.assertEqual({name: sorted(commands) for name, commands in self.reached.items()},
+                         {name: sorted(commands) for name, commands in MEASURED.items()})
+
+    def test_what_is_measured_is_right(self) -> None:
+        """The certificates that are checked are right, and each run ends as it did, with what it wrote then."""
+        for name, related in RELATED.items():
+            report = subprocess.run([PROGRAM, "synth", f"{name}.json"], cwd=self.folder, capture_output=True, check=False)
+            self.assertIn(f"\nrelated {related}\n", report.stdout.decode())
+        for name in ("workers", "lamps"):
+            done = subprocess.run([PROGRAM, "check", f"{name}.json", f"{name}.cert"], cwd=self.folder, capture_output=True, check=False)
+            self.assertEqual(done.stdout.decode(), f"greatest {RELATED[name]}\nanswer composition\n")
+        for name, command, reached, now in self.each():
+            with self.subTest(system=name, command=command):
+                self.assertEqual((now["status"], now["output"]), (reached["status"], reached["output"]))
+
+    def bounded(self, figure: str) -> None:
+        for name, command, reached, now in self.each():
+            with self.subTest(system=name, command=command):
+                room = SLACK if figure == "megabytes" else 0
+                self.assertLess(now[figure], reached[figure] * MOST + room)
+                self.assertGreater(now[figure], reached[figure] * LEAST - room, "a gain: write it down by tests/speed")
 
     def test_instructions(self) -> None:
-        for name, commands in INSTRUCTIONS.items():
-            for command, reached in commands.items():
-                with self.subTest(system=name, command=command):
-                    done = subprocess.run(
-                        ["valgrind", "--tool=callgrind", "--callgrind-out-file=/dev/null", PROGRAM, *self.words(name, command)],
-                        cwd=self.folder, stdin=subprocess.DEVNULL, stdout=subprocess.DEVNULL, stderr=subprocess.PIPE,
-                        text=True, timeout=300, check=False)
-                    found = re.search(r"Collected : (\d+)", done.stderr)
-                    assert found, done.stderr
-                    self.assertLess(int(found[1]) / 1e6, reached * ROOM)
+        self.bounded("millions")
 
     def test_memory(self) -> None:
-        for name, commands in MEGABYTES.items():
-            for command, reached in commands.items():
-                with self.subTest(system=name, command=command):
-                    done = subprocess.run(
-                        [self.peak, PROGRAM, *self.words(name, command)],
-                        cwd=self.folder, stdin=subprocess.DEVNULL, stdout=subprocess.DEVNULL, stderr=subprocess.PIPE,
-                        text=True, timeout=60, check=False)
-                    self.assertIn(done.returncode, (0, 1), done.stderr)
-                    self.assertLess(int(done.stderr) / 1024, reached * ROOM)
+        self.bounded("megabytes")
+
+
+if __name__ == "__main__":
+    unittest.main()

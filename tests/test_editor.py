@@ -1,0 +1,150 @@
+"""tools/editor: the grammars of .rt and .antt files. What reads them here does as TextMate's readers do: the first
+match in a line wins, of two at one place the end of what is open, and then the one that is listed first."""
+
+import json
+import re
+import unittest
+from pathlib import Path
+from typing import Any, Dict, Iterator, List, Tuple
+
+from . import TOP
+
+EDITOR = TOP / "tools" / "editor"
+Rule = Dict[str, Any]
+GRAMMARS: Dict[str, Rule] = {each["scopeName"]: each for each in (
+    json.loads(file.read_text(encoding="utf-8")) for file in sorted(EDITOR.glob("*.tmLanguage.json")))}
+
+
+def expressions(rule: Any) -> Iterator[str]:
+    """Every regular expression of a grammar."""
+    for key, value in rule.items() if isinstance(rule, dict) else enumerate(rule):
+        if key in ("match", "begin", "end"):
+            yield value
+        elif isinstance(value, (dict, list)):
+            yield from expressions(value)
+
+
+def rules(grammar: str, patterns: List[Rule]) -> Iterator[Tuple[str, Rule]]:
+    """The rules that such patterns come to, each with its grammar."""
+    for pattern in patterns:
+        name = pattern.get("include")
+        if name is None and "match" not in pattern and "begin" not in pattern:
+            yield from rules(grammar, pattern["patterns"])
+        elif name is None:
+            yield grammar, pattern
+        elif name.startswith("#"):
+            yield from rules(grammar, [GRAMMARS[grammar]["repository"][name[1:]]])
+        else:
+            yield from rules(name, GRAMMARS[name]["patterns"])
+
+
+def captured(rule: Rule, found: "re.Match[str]", captures: str) -> List[Tuple[str, str]]:
+    """The groups of a match that have names, or else the whole of it."""
+    parts = [(found[int(group)], each["name"]) for group, each in rule.get(captures, {}).items()]
+    return [part for part in parts if part[0]] or [(found[0], rule.get("name", ""))]
+
+
+class Reader:
+    """Reads a text by a grammar, and knows which rules are open at its end."""
+
+    def __init__(self, scope: str, text: str) -> None:
+        self.open: List[Tuple[str, Rule]] = [(scope, GRAMMARS[scope])]
+        self.found: List[Tuple[str, str]] = []
+        for line in text.splitlines():
+            self.read(line)
+
+    def read(self, line: str) -> None:
+        place = 0
+        while True:
+            grammar, top = self.open[-1]
+            ends = [(found.start(), -1, grammar, top, found) for found in [re.compile(top["end"]).search(line, place)]
+                    if found] if "end" in top else []
+            starts = [(found.start(), number, where, rule, found)
+                      for number, (where, rule) in enumerate(rules(grammar, top.get("patterns", [])))
+                      for found in [re.compile(rule.get("match") or rule["begin"]).search(line, place)] if found]
+            if not ends + starts:
+                return
+            _, number, where, rule, found = min(ends + starts, key=lambda each: each[:2])
+            if number < 0:
+                self.open.pop()
+            elif "begin" in rule:
+                self.open.append((where, rule))
+                self.found += captured(rule, found, "beginCaptures")
+            else:
+                self.found += captured(rule, found, "captures")
+            if found.end() == place == len(line) or (found.end() == found.start() and number >= 0):
+                return
+            place = found.end()
+
+    def scope_of(self, word: str) -> str:
+        return next((scope for text, scope in self.found if text.strip() == word), "")
+
+
+RATTLE = '''#![tactic(auto)]
+/// Whether state `e` is in the set.
+pub fn has(&self, e: u8) -> bool
+    ensures* has { record { now = result } ≡ has_state self.now e }
+{
+    let text = "}"; // the end
+    prove!(e < 64);
+    MAX + first(b'{')
+}
+ghost use Rattle.std.specs.Prelude.{ℕ};
+'''
+ANTT = '''-- a line
+use Rattle.std.specs.Prelude.{ℕ, List}
+abbrev pub IsOrder : {N : Type 0} → List N → Type 0
+IsOrder L = grind (rules, 0x1f) ?
+order_new : ℕ
+'''
+
+
+class Grammars(unittest.TestCase):
+    def test_they_are_listed(self) -> None:
+        listed = json.loads((EDITOR / "package.json").read_text(encoding="utf-8"))["contributes"]["grammars"]
+        self.assertEqual({each["scopeName"] for each in listed}, {*GRAMMARS})
+        for each in listed:
+            grammar = json.loads((EDITOR / each["path"]).read_text(encoding="utf-8"))
+            self.assertEqual(grammar["scopeName"], each["scopeName"])
+
+    def test_the_expressions_compile(self) -> None:
+        for scope, grammar in GRAMMARS.items():
+            found = [*expressions(grammar)]
+            self.assertGreater(len(found), 5)
+            for each in found:
+                with self.subTest(scope, expression=each):
+                    re.compile(each)
+
+    def test_lines_of_rattle(self) -> None:
+        reader = Reader("source.rattle", RATTLE)
+        for word, kind in (
+            ("/// Whether state `e` is in the set.", "comment.line.documentation"), ("has", "entity.name.function"),
+            ("ensures", "keyword.other.clause"), ("record", "keyword.control.antt"), ("≡", "keyword.operator.antt"),
+            ("u8", "support.type"), ("let", "keyword.control"), ("// the end", "comment.line.double-slash"),
+            ("prove!", "support.function.macro"), ("64", "constant.numeric"), ("MAX", "constant.other"),
+            ("b'{'", "string.quoted.single"), ("ghost", "keyword.other.ghost"), ("ℕ", "entity.name.type.antt"),
+        ):
+            with self.subTest(word):
+                self.assertTrue(reader.scope_of(word).startswith(kind), reader.found)
+        self.assertEqual(len(reader.open), 1)
+
+    def test_lines_of_antt(self) -> None:
+        reader = Reader("source.antt", ANTT)
+        for word, kind in (
+            ("-- a line", "comment.line"), ("use", "keyword.control"), ("abbrev pub", "keyword.declaration"),
+            ("IsOrder", "entity.name.function"), ("→", "keyword.operator"), ("Type", "keyword.control"),
+            ("List", "entity.name.type"), ("grind", "support.function.tactic"), ("0x1f", "constant.numeric"),
+            ("?", "invalid.hole"), ("order_new", "entity.name.function"),
+        ):
+            with self.subTest(word):
+                self.assertTrue(reader.scope_of(word).startswith(kind), reader.found)
+
+    def test_nothing_stays_open_at_the_end_of_a_file(self) -> None:
+        for ending, scope in ((".rt", "source.rattle"), (".antt", "source.antt")):
+            for file in sorted((TOP / "crates" / "roman_guard").glob(f"s*/*{ending}")):
+                with self.subTest(file.name):
+                    self.assertEqual(len(Reader(scope, file.read_text(encoding="utf-8")).open), 1)
+
+
+if __name__ == "__main__":
+    unittest.main()

@@ -1,0 +1,163 @@
+"""Tests of the tests: wrong programs, each a few lines around the built one, and for each the tests that have
+to fail with it. A harmless one passes all of them but those that take long."""
+
+from __future__ import annotations
+
+import os
+import re
+import subprocess
+import sys
+import tempfile
+import unittest
+from concurrent.futures import ThreadPoolExecutor
+from dataclasses import dataclass
+from pathlib import Path
+from typing import Sequence
+
+from . import PROGRAM, TOP
+
+CLIENT = "clients/python:"
+"""Stands before the name of a test of the client."""
+SAMPLES = "samples/try"
+
+EACH_BLOCK = "tests.test_guide.Guide.test_each_block_is_tried"
+TABLES = "tests.test_guide.Guide.test_the_tables_of_the_workshop"
+LATE = "tests.test_edges.Outside.test_output_that_is_read_late"
+ACCEPTED = "tests.test_schema.Schemas.test_what_the_program_accepts_the_schema_accepts"
+RANDOM = "tests.test_random.Random.test_the_fixed_seed_and_a_fresh_one"
+CORPUS = "tests.test_random.Random.test_what_failed_once"
+SPEED = "tests.test_speed.Speed"
+FAULTS = "tests.test_faults.Faults"
+ENDS = "tests.test_outside.Ends"
+OTHER_SAMPLES = CLIENT + "tests.test_dispatcher.Demonstration.test_the_other_samples"
+LONG = (RANDOM, SPEED, FAULTS)
+"""Tests that take long, or look at the process itself."""
+
+
+@dataclass(frozen=True)
+class Wrong:
+    """A wrong program, as a script or as C, where @ROMAN@ is the built one; and the tests that have to fail."""
+
+    name: str
+    text: str
+    tests: Sequence[str]
+    is_c: bool = False
+
+    def write(self, folder: Path) -> Path:
+        """Writes the program, and says where it is."""
+        file = folder / self.name.replace(" ", "_")
+        if not self.is_c:
+            file.write_text("#!/usr/bin/env bash\n" + self.text.replace("@ROMAN@", PROGRAM), encoding="utf-8")
+            file.chmod(0o755)
+            return file
+        source = file.with_suffix(".c")
+        source.write_text(self.text.replace("@ROMAN@", PROGRAM), encoding="utf-8")
+        # Linked with no library that a test could put another one before: a fault is for the program alone.
+        subprocess.run(["cc", "-O1", "-static", "-o", file, source], check=True)
+        return file
+
+
+def ends_well(*statuses: int) -> str:
+    """A program in C that ends with 0 where the right one ends with one of these statuses."""
+    wrong = " || ".join(f"ended == {status}" for status in statuses)
+    return f"""#include <sys/wait.h>
+#include <unistd.h>
+int main(int count, char **words)
+{{
+    int status;
+    if (fork() == 0)
+        execv("@ROMAN@", words);
+    wait(&status);
+    int ended = WEXITSTATUS(status) + 0 * count;
+    return {wrong} ? 0 : ended;
+}}
+"""
+
+
+RUN = '"@ROMAN@" "$@"'
+"""Runs the right program."""
+ENDED = "\nexit ${PIPESTATUS[0]}\n"
+
+WRONG = [
+    Wrong("does nothing", "exit 0\n", [
+        LATE, EACH_BLOCK, TABLES, ACCEPTED, RANDOM, CORPUS, OTHER_SAMPLES, SAMPLES, f"{SPEED}.test_what_is_measured_is_right",
+        f"{FAULTS}.test_memory", f"{FAULTS}.test_reads", f"{FAULTS}.test_writes", f"{ENDS}.test_a_file_that_can_not_be_read",
+        "tests.test_schema.Schemas.test_parts_by_file", "tests.test_edges.Outside.test_input_in_odd_pieces"]),
+    Wrong("always out of memory", "exit 9\n", [ACCEPTED, EACH_BLOCK, OTHER_SAMPLES, SAMPLES, CORPUS, f"{FAULTS}.test_memory"]),
+    Wrong("no composition to each do", f"{RUN} | sed -u 's/^offer [^:]*$/no composition/'{ENDED}", [
+        TABLES, EACH_BLOCK, RANDOM, SAMPLES, OTHER_SAMPLES,
+        "tests.test_edges.Outside.test_each_reply_comes_before_the_next_line_is_asked_for"]),
+    Wrong("the first offer alone", f"{RUN} | sed -u -E 's/^(offer [^ :]+|offer [^ ]+: [^ ]+) .*/\\1/'{ENDED}", [
+        TABLES, EACH_BLOCK, RANDOM, SAMPLES]),
+    Wrong("all services are offered",
+          'names=$("@ROMAN@" synth "$2" | sed -n "s/^service \\([^ ]*\\).*/ \\1/p" | tr -d "\\n")\n'
+          f'{RUN} | sed -u "s/^offer [^:]*$/offer$names/"{ENDED}', [TABLES, RANDOM, SAMPLES]),
+    Wrong("replies only at the end", f'kept=$(mktemp)\n{RUN} >"$kept"\nended=$?\ncat "$kept"\nrm "$kept"\nexit $ended\n', [
+        "tests.test_edges.Outside.test_each_reply_comes_before_the_next_line_is_asked_for"]),
+    Wrong("a report of the start after a jump",
+          'start=$("@ROMAN@" synth "$2")\n'
+          f"{RUN} | awk -v start=\"$start\" '/^jumped$/ {{ jumped = 1 }} /^pairs / && jumped {{ print start; skips = 1 }}"
+          f" !skips {{ print; fflush() }} /^end$/ {{ skips = 0 }}'{ENDED}", [SAMPLES, RANDOM]),
+    Wrong("a certificate without its last line", f'{RUN} | if [ "$1" = certify ]; then head -n -1; else cat; fi{ENDED}', [
+        EACH_BLOCK, RANDOM]),
+    Wrong("half of a page is lost", f"{RUN} | {{ head -c 2048; head -c 2048 >/dev/null; cat; }}{ENDED}", [LATE, RANDOM]),
+    Wrong("the replies turned round by one", f"{RUN} | sed '1{{h;d}};${{p;x}}'{ENDED}", [TABLES, SAMPLES, RANDOM, EACH_BLOCK]),
+    Wrong("kept and added are swapped", f"{RUN} | sed -u -E 's/^kept (.*) added (.*)/kept \\2 added \\1/'{ENDED}", [
+        TABLES, RANDOM, SAMPLES, EACH_BLOCK]),
+    Wrong("an explanation without its first line", f"{RUN} | awk '/^lost / && !seen++ {{ next }} {{ print; fflush() }}'{ENDED}", [
+        EACH_BLOCK, RANDOM]),
+    Wrong("a rejected certificate is fine", f'{RUN}\nended=$?\n[ "$1" = check ] && exit 0\nexit $ended\n', [
+        RANDOM, "tests.test_guide.Guide.test_the_rejections_of_certificates"]),
+    Wrong("nothing on the standard error", f"exec {RUN} 2>/dev/null\n", [
+        f"{ENDS}.test_a_file_that_can_not_be_read", f"{ENDS}.test_an_input_that_can_not_be_read",
+        f"{ENDS}.test_an_output_that_can_not_be_written", f"{ENDS}.test_a_session_that_is_too_long",
+        f"{ENDS}.test_a_system_past_its_limit", f"{ENDS}.test_advice_with_too_many_values"]),
+    Wrong("ten times the work",
+          f"for time in 1 2 3 4 5 6 7 8 9; do {RUN} </dev/null >/dev/null; done\nexec {RUN}\n", [f"{SPEED}.test_instructions"]),
+    Wrong("done where memory ran out", ends_well(9), [f"{FAULTS}.test_memory"], is_c=True),
+    Wrong("done where nothing could be read", ends_well(5, 6), [
+        f"{FAULTS}.test_reads", "tests.test_edges.Outside.test_folders_and_files_that_are_not_there"], is_c=True),
+    Wrong("done where nothing could be written", ends_well(7), [
+        f"{FAULTS}.test_writes", "tests.test_edges.Outside.test_output_that_is_closed"], is_c=True),
+]
+HARMLESS = Wrong("harmless", f"exec {RUN}\n", sorted(
+    {test for each in WRONG for test in each.tests if not test.startswith(LONG)}))
+
+
+def failed(program: Path, test: str) -> "tuple[bool, str]":
+    """Whether a test fails with a program, and what it says."""
+    environment = {**os.environ, "ROMAN": str(program), "ROMAN_CORPUS": "", "ROMAN_MEASURED": "lamps synth"}
+    folder, words = TOP, [str(TOP / SAMPLES)]
+    if test != SAMPLES:
+        folder = TOP / "clients/python" if test.startswith(CLIENT) else TOP
+        words = [sys.executable, "-m", "unittest", test.removeprefix(CLIENT)]
+    done = subprocess.run(words, cwd=folder, env=environment, capture_output=True, text=True, timeout=400, check=False)
+    said = done.stdout + done.stderr
+    if test != SAMPLES and (not re.search(r"^Ran 1 test", said, re.M) or "_FailedTest" in said):
+        raise AssertionError(f"{test} wasn't run: {said}")
+    return done.returncode != 0, said
+
+
+class TestsOfTests(unittest.TestCase):
+    def setUp(self) -> None:
+        folder = tempfile.TemporaryDirectory()
+        self.addCleanup(folder.cleanup)
+        self.folder = Path(folder.name)
+
+    def test_each_wrong_program_fails_its_tests(self) -> None:
+        tried = [(each.name, each.write(self.folder), test) for each in WRONG for test in each.tests]
+        with ThreadPoolExecutor(4) as pool:
+            for (name, _, test), (fails, _) in zip(tried, pool.map(lambda each: failed(*each[1:]), tried)):
+                with self.subTest(program=name, test=test):
+                    self.assertTrue(fails, "it passes with a wrong program")
+
+    def test_a_harmless_program_passes_them(self) -> None:
+        program = HARMLESS.write(self.folder)
+        with ThreadPoolExecutor(4) as pool:
+            for test, (fails, said) in zip(HARMLESS.tests, pool.map(lambda each: failed(program, each), HARMLESS.tests)):
+                with self.subTest(test):
+                    self.assertFalse(fails, said)
+
+
+if __name__ == "__main__":
+    unittest.main()
