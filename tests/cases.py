@@ -110,8 +110,8 @@ class Maker:
                  for _ in range(self.chance.choice([1, 1, 2])) if self.often(least)]
         return {"states": states, "start": self.chance.choice(states), "actions": actions, "steps": steps}
 
-    def behaviour(self, name: str, world: Dict[str, Any], most: int) -> Dict[str, Any]:
-        states = self.names("b", self.chance.randint(1, most))
+    def behaviour(self, name: str, world: Dict[str, Any], most: int, least: int = 1) -> Dict[str, Any]:
+        states = self.names("b", self.chance.randint(least, most))
         dense = self.chance.choice([0.4, 0.8, 1.0])
         steps = [[b, self.guard(world["states"]), a, self.chance.choice(states)] for b in states for a in world["actions"]
                  for _ in range(self.chance.choice([1, 1, 2])) if self.often(dense)]
@@ -137,18 +137,22 @@ class Maker:
 
     def system(self) -> Dict[str, Any]:
         """A document that is accepted, with few pairs."""
-        # Now and then so many services that only the last of them share a row of up to 64 pairs.
-        has_many = self.often(0.3)
-        states, counts = ([2, 3], [4, 5, 6, 7]) if has_many else ([2, 3, 4], [0, 1, 2, 2, 3, 3, 4])
+        # Now and then so many services that only the last of them share a row of up to 64 pairs, or three so
+        # large that one of them makes a row, the next one a band of rows, and the first stands before bands.
+        shape = self.chance.choices(["few", "many", "large"], [50, 30, 20])[0]
+        states, counts = ([2, 3], [4, 5, 6, 7]) if shape == "many" else ([2, 3, 4], [0, 1, 2, 2, 3, 3, 4])
         while True:
             world = self.environment()
             catalogue = [self.behaviour(f"m{number}", world, self.chance.choice(states)) for number in range(self.chance.choice([1, 2, 2, 3]))]
             services = [self.service(f"s{number}", catalogue) for number in range(self.chance.choice(counts))]
+            if shape == "large":
+                catalogue = [self.behaviour(f"m{count}", world, count, count) for count in (8, 9)]
+                services = [self.service(f"s{number}", [catalogue[kind]]) for number, kind in enumerate([0, 1, 0])]
             version = self.chance.choice([1, 2, 2, 2, 3])
             value: Dict[str, Any] = {"roman": version, "environment": world, "behaviours": catalogue, "services": services}
-            like = self.chance.choice(catalogue) if self.often(0.6) else None
+            like = self.chance.choice(catalogue) if shape != "large" and self.often(0.6) else None
             if version < 3:
-                value["target"] = self.target(world, 4, like)
+                value["target"] = self.target(world, 2 if shape == "large" else 4, like)
             else:
                 value["targets"] = [{"name": f"t{number}", **self.target(world, 3, like if number == 0 else None)}
                                     for number in range(self.chance.choice([2, 2, 3]))]
@@ -157,7 +161,8 @@ class Maker:
             except reference.Refused:
                 continue
             parts = len(library.target.states) * len(library.world.states)
-            if not (65 * parts if has_many else self.chance.choice([1, 8, 8])) <= size_of(library) <= MOST_PAIRS:
+            least = {"few": self.chance.choice([1, 8, 8]), "many": 65 * parts, "large": 1}[shape]
+            if not least <= size_of(library) <= (2 if shape == "large" else 1) * MOST_PAIRS:
                 continue
             # Mostly one with a composition from its start: more is asked of it.
             system = reference.System(library, library.services)
