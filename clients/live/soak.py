@@ -11,6 +11,7 @@ from __future__ import annotations
 
 import argparse
 import asyncio
+import functools
 import logging
 import os
 import random
@@ -49,6 +50,13 @@ class World:
         self.done: Dict[str, Optional[int]] = {}
         self.acted = 0
         self.failed = 0
+        # The devices are no part of what is measured, so each thing is looked up once.
+        self._allowed = functools.cache(document.allowed)
+        self._outcomes = functools.cache(lambda *words: tuple(document.outcomes(*words)))
+
+    def draw(self) -> str:
+        """One of the actions that the target allows."""
+        return self.chance.choice(self._allowed(self.target, self.environment))
 
     def act(self, service: str, call: Call) -> Tuple[str, str]:
         """Has a service carry out an action, or fail."""
@@ -57,10 +65,8 @@ class World:
             raise DeviceFailed("it doesn't answer")
         if self.done.get(service) == call.number:
             raise AssertionError(f"{service} was asked twice for call {call.number}")
-        outcomes = list(
-            self.document.outcomes(
-                self.behaviours[service], self.states[service], self.environment, call.request
-            )
+        outcomes = self._outcomes(
+            self.behaviours[service], self.states[service], self.environment, call.request
         )
         self.states[service], self.environment = self.chance.choice(outcomes)
         self.done[service] = call.number
@@ -90,10 +96,10 @@ def device(service: str) -> aio.Device:
 
 async def serve(home: Home, requests: int) -> int:
     """Has requests served, one after the other; gives how many had no composition until a device was back."""
-    document, refused, served = WORLD.document, 0, 0
+    refused, served = 0, 0
     begun, tenth = time.monotonic(), max(1, requests // 10)
     while served < requests:
-        action = WORLD.chance.choice(list(document.allowed(WORLD.target, WORLD.environment)))
+        action = WORLD.draw()
         try:
             done = await home.request(action)
         except NoComposition:

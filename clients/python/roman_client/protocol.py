@@ -9,6 +9,7 @@ from __future__ import annotations
 
 import logging
 import os
+import re
 import tempfile
 from dataclasses import dataclass
 from pathlib import Path
@@ -43,6 +44,9 @@ LONGEST = 16_777_216
 RESERVE = 65_536
 """With fewer bytes left a session goes on in a new program between two requests."""
 
+WORD = re.compile(r"[^\s\x00-\x1f]+")
+"""A word of a line: letters without blanks and control characters."""
+
 
 # Lines and replies.
 
@@ -62,7 +66,7 @@ class Event(Generic[Value]):
         """The line. Raises ValueError for a word that is none, and TypeError for one that is no text."""
         line = " ".join(self.words)
         for word in self.words:
-            if not word or any(letter.isspace() or letter < " " for letter in word):
+            if WORD.fullmatch(word) is None:
                 raise ValueError(f"{word!r} is no word of a line")
         return line
 
@@ -287,7 +291,8 @@ class Conversation:
         """Sends a line, and gives the value of the reply. Where the session is near its end it goes on in a
         new program before that: between two requests while there is some room left, and at the latest
         where there would be none."""
-        needed = self.sent + len(_data(event)) + len(_data(report()))
+        data = _data(event)
+        needed = self.sent + len(data) + len(REPORT)
         if needed > self.longest:
             yield from self._go_on()
         elif self.request is None and needed + min(RESERVE, self.longest // 4) > self.longest:
@@ -295,7 +300,7 @@ class Conversation:
                 yield from self._go_on()
             except (OSError, DocumentError) as error:
                 LOG.warning("%s can't go on in a new program yet: %s", self.system, error)
-        return (yield from self._told(event))
+        return (yield from self._sent(event, data))
 
     def _go_on(self) -> Steps[None]:
         """Goes on in a new program, where the document is known."""
@@ -308,7 +313,10 @@ class Conversation:
 
     def _told(self, event: Event[Value]) -> Steps[Value]:
         """Sends a line, and gives the value of the reply."""
-        data = _data(event)
+        return self._sent(event, _data(event))
+
+    def _sent(self, event: Event[Value], data: bytes) -> Steps[Value]:
+        """Sends a line as these bytes, and gives the value of the reply."""
         self.sent += len(data)
         lines: List[str] = yield Exchange(data, event.opens)
         LOG.debug("%s: %s", data, lines[0])
@@ -336,6 +344,10 @@ class Conversation:
 
 def _data(event: Event[Any]) -> bytes:
     return f"{event.line}\n".encode()
+
+
+REPORT = _data(report())
+"""The line that asks for the present states."""
 
 
 def run(steps: Steps[Value], perform: Callable[[Effect], Any]) -> Value:
