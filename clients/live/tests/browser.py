@@ -13,7 +13,11 @@ from pathlib import Path
 from typing import Any, Callable, Optional
 
 from selenium import webdriver
-from selenium.common.exceptions import StaleElementReferenceException, WebDriverException
+from selenium.common.exceptions import (
+    NoSuchElementException,
+    StaleElementReferenceException,
+    WebDriverException,
+)
 from selenium.webdriver.chrome.service import Service
 
 from . import LIVE, PROGRAM
@@ -24,8 +28,8 @@ STARTS = 3
 
 
 def wait_until(holds: Callable[[], Any], what: str) -> Any:
-    """Waits until something is so on a page, or at a server that may not be there yet."""
-    return until(holds, what, (OSError, StaleElementReferenceException))
+    """Waits until something is so on a page, or at a server, either of which may not be there yet."""
+    return until(holds, what, (OSError, NoSuchElementException, StaleElementReferenceException))
 
 
 class Running:
@@ -82,15 +86,15 @@ class Running:
 
 
 class Played(Running):
-    """A home whose devices are played by hand."""
+    """A home whose devices are played by hand. `name` is that of its document."""
 
-    def __init__(self, more: str = "") -> None:
+    def __init__(self, more: str = "", name: str = "home.json") -> None:
         port = free_port()
         super().__init__(port)
         document = (LIVE / "demo" / "home.json").read_text(encoding="utf-8")
-        (self.folder / "home.json").write_text(document, encoding="utf-8")
+        (self.folder / name).write_text(document, encoding="utf-8")
         (self.folder / "home.toml").write_text(
-            f'document = "home.json"\n[page]\nport = {port}\n{more}', encoding="utf-8"
+            f'document = "{name}"\n[page]\nport = {port}\n{more}', encoding="utf-8"
         )
 
     def begin(self) -> None:

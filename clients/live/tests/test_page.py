@@ -221,6 +221,22 @@ class ThePage(Browsing):
         self.wait_for_service("bedside", "● ready")
         self.button("actions", "bedside may serve it")
 
+    def test_a_service_joins_loose(self) -> None:
+        """The target may rest at once, and this service, which is on, couldn't if it weren't loose."""
+        self.find("#join").click()
+        self.find("#fields input[type='text']").send_keys("bedside")
+        Select(self.find("#fields label:nth-child(2) select")).select_by_value("lamp")
+        Select(self.find("#fields label:nth-child(3) select")).select_by_visible_text("on")
+        self.find("#fields input[type='checkbox']").click()
+        self.wait_for_text("meaning", "is on. It doesn't matter where it is when the target rests.")
+        self.confirm()
+        self.wait_for_service("bedside", "● ready · on")
+        self.assertIn("loose", self.service("bedside"))
+        state = self.home.state()
+        self.assertEqual([each["name"] for each in state["services"] if each["loose"]], ["bedside"])
+        self.assertTrue(state["composes"])
+        self.button("actions", "may serve it")
+
     def test_a_refusal_is_told(self) -> None:
         self.find("#join").click()
         self.find("#fields input[type='text']").send_keys("desk")
@@ -315,6 +331,29 @@ class ThePage(Browsing):
             self.assertTrue(sent)
         self.assertEqual(self.status("desk"), "ready")
         self.assertEqual(self.home.state()["environment"], "day")
+
+
+class Markup(Browsing):
+    def test_what_looks_like_markup_is_text(self) -> None:
+        """The name of a document, what a device answers, and a name that somebody types."""
+        home = Played(name="<b>home.json")
+        self.addCleanup(home.close)
+        home.begin()
+        self.open(home)
+        self.assertEqual(self.text("name"), "<b>home.json")
+        self.assertEqual(self.driver.title, "<b>home.json")
+        self.press("actions", "brighten")
+        self.wait_for_service("window", "▶ under way")
+        home.post("outcome", {"service": "window", "state": "<b>open", "environment": "day"})
+        error = "answered <b>open day, which can't be"
+        self.wait_for_service("window", f"last error: {error}")
+        self.wait_for_text("events", f"window failed at brighten: {error}")
+        self.press("outcomes", "ceiling is on")
+        self.wait_for_text("result", f"window failed: {error}. ceiling served brighten, and is on.")
+        self.find("#join").click()
+        self.find("#fields input[type='text']").send_keys("<b>bedside")
+        self.wait_for_text("meaning", "<b>bedside joins as a")
+        self.assertEqual(self.driver.find_elements("css selector", "b"), [])
 
 
 class WithAToken(Browsing):
