@@ -415,6 +415,9 @@ class Install(Tree):
             "share/fish/vendor_completions.d/roman.fish",
         ):
             self.assertTrue((root / "usr" / place).is_file(), place)
+        # Whoever adds a licence changes what the package says of it.
+        said = (root / "usr/share/doc/roman/copyright").read_text(encoding="utf-8")
+        self.assertEqual("names no licence" in said, not [*TOP.glob("LICEN*"), *TOP.glob("COPYING*")])
 
     def test_a_prefix_with_a_slash_at_its_end(self) -> None:
         self.build()
