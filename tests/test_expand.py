@@ -14,7 +14,7 @@ from typing import Any, Dict, List, Tuple
 from . import PROGRAM, TOP
 from .broken import Broken, seeds, walk
 
-sys.path.insert(0, str(TOP / "tools"))
+sys.path[:0] = [str(TOP / "tools"), str(TOP / "clients" / "python")]
 
 from jsonschema import Draft202012Validator  # noqa: E402
 

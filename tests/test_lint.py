@@ -16,7 +16,7 @@ from typing import Iterator, List, Set, Tuple
 from . import PROGRAM, TOP
 from .broken import Broken, seeds
 
-sys.path.insert(0, str(TOP / "tools"))
+sys.path[:0] = [str(TOP / "tools"), str(TOP / "clients" / "python")]
 
 from roman_tools.documents import read  # noqa: E402
 from roman_tools.findings import Finding, Level  # noqa: E402

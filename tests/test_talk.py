@@ -128,6 +128,27 @@ class Terminal(unittest.TestCase):
         self.assertEqual(self.say("do clean"), "no composition")
         self.assertIn("may answer: free → loaded, environment half → spilt", self.say("explain"))
 
+    def test_help_says_what_may_be_asked_now(self) -> None:
+        self.assertEqual(self.words_of_help(), "do freeze die join jump jumpenv report help quit")
+        self.assertIn("\n  now: do clean", self.say("help"))
+        self.say("freeze arm2")
+        self.assertEqual(self.words_of_help(), "do freeze thaw die join jump jumpenv report help quit")
+        self.say("jumpenv half")
+        self.say("jump arm1 worn")
+        self.assertEqual(self.say("do clean"), "no composition")
+        self.assertEqual(self.words_of_help(), "freeze thaw die join jump jumpenv report explain help quit")
+        now = "now: there is no composition (explain says why), so do clean is refused until something changes"
+        self.assertEqual(self.say("help").splitlines()[-1], f"  {now}")
+        self.assertEqual(self.say("do dip"), "no composition")
+        for service in ("arm1", "arm2", "arm3"):
+            self.say(f"die {service}")
+        self.assertEqual(self.words_of_help(), "join jumpenv report explain help quit")
+
+    def words_of_help(self) -> str:
+        """The first words of the lines that may come now."""
+        lines = [line.split() for line in self.say("help").splitlines()]
+        return " ".join(words[0] for words in lines if words[0] != "now:")
+
     def test_the_history_is_kept(self) -> None:
         self.say("do clean")
         os.write(self.leader, b"quit\n")

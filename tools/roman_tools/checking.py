@@ -7,9 +7,10 @@ import re
 from dataclasses import dataclass, field
 from typing import Dict, Iterator, List, Optional, Sequence, Tuple
 
+from roman_client.documents import LONGEST_DOCUMENT
+
 from .findings import Finding, Level, Refusal, meant
 from .reading import (
-    LONGEST,
     Broken,
     Constant,
     Items,
@@ -102,9 +103,9 @@ class Checker:
     def fetch(self, name: str, where: Tuple[str, str, int]) -> Optional[Value]:
         """The value of a file, which a refusal of that part would name."""
         source, size = self.shelf.source(name)
-        if size > LONGEST:
+        if size > LONGEST_DOCUMENT:
             start = Span(source, 0, 1)
-            message = f"the text has {size:,} bytes; {LONGEST:,} is the most"
+            message = f"the text has {size:,} bytes; {LONGEST_DOCUMENT:,} is the most"
             self.refuse(where, "toolong", ("whole", 0), start, message)
             return None
         try:

@@ -4,8 +4,11 @@ from __future__ import annotations
 
 import contextlib
 import dataclasses
+import json
 import tempfile
 from typing import Iterator, Optional
+
+from roman_client import Document
 
 from .checking import Checker
 from .reading import Members, Shelf
@@ -31,6 +34,11 @@ def read(name: str, shelf: Optional[Shelf] = None) -> Checker:
     # The numbers of steps in a refusal would be those of the plain document, which nobody sees.
     checker.findings = [dataclasses.replace(each, refusal=None) for each in checker.findings]
     return checker
+
+
+def looked_up(system: System) -> Document:
+    """The document of a system, in which the client looks things up."""
+    return Document(json.loads(written(system).text))
 
 
 @contextlib.contextmanager

@@ -16,7 +16,7 @@ from pathlib import Path
 from typing import Any, Optional, Sequence
 
 from . import explanations, offers_picture, program
-from .documents import plain_file, read
+from .documents import looked_up, plain_file, read
 from .linting import all_findings
 from .pictures import Wrong, svg
 from .system_picture import Picture
@@ -45,10 +45,10 @@ def play_of(system: System, name: str) -> explanations.Play:
         text = sys.stdin.read() if name == "-" else Path(name).read_text(encoding="utf-8")
     except ValueError as error:
         raise Wrong(f"{name}: {error}") from None
-    entries = explanations.last_explanation(text)
-    if not entries:
+    explanation = explanations.last_explanation(text)
+    if explanation is None:
         raise Wrong(f"{name} has no explanation: lines from `lost ..` to `end`")
-    return explanations.Play(system, entries)
+    return explanations.Play(looked_up(system), explanation)
 
 
 def offers_of(system: System, roman: Optional[str]) -> Any:
@@ -60,7 +60,7 @@ def offers_of(system: System, roman: Optional[str]) -> Any:
         done = program.run(found, "certify", file)
     if done.returncode != 0:
         raise Wrong(f"roman says: {(done.stdout or done.stderr).strip()}")
-    return offers_picture.picture(system, done.stdout)
+    return offers_picture.picture(looked_up(system), done.stdout)
 
 
 def drawn(asked: argparse.Namespace) -> str:

@@ -3,65 +3,37 @@
 from __future__ import annotations
 
 import graphlib
-import itertools
-from dataclasses import dataclass, field
+from dataclasses import dataclass
 from typing import Any, Dict, Iterator, List, Optional, Sequence, Set, Tuple
 
+from roman_client import Document, DocumentError, Explanation, Lost
+from roman_client.documents import Machine
+from roman_client.replies import explanation_of
+
 from .pictures import CHOICE, FADED, GUARD, PLAIN, WRONG, Wrong, coloured, graph, html, marked
-from .systems import Machine, System
 
 Outcome = Tuple[str, str]
 """The states of a service and of the environment after an answer."""
 
 
-@dataclass
-class Entry:
-    """One entry of an explanation, with the lines of its services."""
-
-    target: str
-    environment: str
-    states: List[str]
-    reason: str
-    answers: List[Tuple[str, Optional[Outcome]]] = field(default_factory=list)
-
-    @property
-    def is_final(self) -> bool:
-        """Whether it is lost since the target may be left there."""
-        return self.reason == "final" and not self.answers
-
-
-def entry_of(line: str) -> Entry:
-    pair, _, reason = line[len("lost ") :].partition(": ")
-    target, environment, *states = pair.split()
-    return Entry(target, environment, states, reason)
-
-
-def answer_of(line: str) -> Tuple[str, Optional[Outcome]]:
-    name, *words = line.split()
-    return name, (words[2], words[3]) if words[:2] == ["may", "answer"] else None
-
-
-def last_explanation(text: str) -> List[Entry]:
-    """The last explanation in a text, which may hold other replies too; nothing where there is none."""
-    found: List[Entry] = []
-    entries: List[Entry] = []
+def last_explanation(text: str) -> Optional[Explanation]:
+    """The last explanation in a text, which may hold other replies too; None where there is none."""
+    found: List[str] = []
+    lines: List[str] = []
+    for line in text.splitlines():
+        if line.startswith("lost ") or (lines and line.startswith("  ")):
+            lines.append(line)
+        else:
+            found = [*lines, line] if line == "end" and lines else found
+            lines = []
     try:
-        for line in text.splitlines():
-            if line.startswith("lost "):
-                entries.append(entry_of(line))
-            elif line.startswith("  ") and entries:
-                entries[-1].answers.append(answer_of(line))
-            elif line == "end" and entries:
-                found, entries = entries, []
-            else:
-                entries = []
-    except (ValueError, IndexError):
-        return []
-    return found
+        return explanation_of(found) if found else None
+    except ValueError:
+        return None
 
 
 @dataclass(frozen=True)
-class Answer:
+class Reply:
     """What services that are alike may answer: their names, the change of the first one, and the entry to which
     that leads."""
 
@@ -75,13 +47,13 @@ class Answer:
 class Play:
     """An explanation with the ways from each answer to the entry that it leads to."""
 
-    def __init__(self, system: System, entries: Sequence[Entry]) -> None:
-        self.system = system
-        self.entries = entries
-        self.numbers = {(e.target, e.environment, *e.states): i for i, e in enumerate(entries)}
-        if len({len(each.states) for each in entries}) > 1:
+    def __init__(self, document: Document, explanation: Explanation) -> None:
+        self.document = document
+        self.entries = explanation.entries
+        self.numbers = {(e.target, e.environment, *e.states): i for i, e in enumerate(self.entries)}
+        if len({len(each.states) for each in self.entries}) > 1:
             raise Wrong("the entries of the explanation have different numbers of services")
-        self.count = len(entries[0].states)
+        self.count = len(explanation.present.states)
         self.seats = self.find_seats()
         self.names = self.all_names()
         self.kinds = [self.kind_of(seat) for seat in range(self.count)]
@@ -89,54 +61,40 @@ class Play:
 
     # Which service is which.
 
-    def targets_after(self, entry: Entry) -> List[str]:
-        """The target's states after the request. Of several targets one moves, and a request names it."""
-        targets = self.system.targets
-        env = self.system.environment
-        here = [number for number, state in enumerate(env.states) if state.text == entry.environment]
-        found = []
-        for states in itertools.product(*([name.text for name in target.states] for target in targets)):
-            if "-".join(states) != entry.target or not here:
-                continue
-            for seat, target in enumerate(targets):
-                for step in target.steps:
-                    action = env.actions[step.action].text
-                    if len(targets) > 1 and target.name:
-                        action = f"{action}-{target.name.text}"
-                    if (
-                        target.states[step.state].text == states[seat]
-                        and action == entry.reason
-                        and step.guard >> here[0] & 1
-                    ):
-                        to = target.states[step.to].text
-                        found.append("-".join([*states[:seat], to, *states[seat + 1 :]]))
-        return found
+    def target_after(self, entry: Lost) -> Optional[str]:
+        """The target's state after the request of an entry, or None where the document has none."""
+        if entry.request is None or entry.environment not in self.document.environment.states:
+            return None
+        try:
+            return self.document.target_after(entry.target, entry.environment, entry.request)
+        except DocumentError:
+            return None
 
     def led_to(self, number: int, seat: int, outcome: Outcome) -> Optional[int]:
         """The earlier entry to which an answer of that seat leads."""
         entry = self.entries[number]
         state, environment = outcome
-        states = [*entry.states[:seat], state, *entry.states[seat + 1 :]]
-        for target in self.targets_after(entry):
-            found = self.numbers.get((target, environment, *states))
-            if found is not None and found < number:
-                return found
-        return None
+        target = self.target_after(entry)
+        if target is None:
+            return None
+        states = (*entry.states[:seat], state, *entry.states[seat + 1 :])
+        found = self.numbers.get((target, environment, *states))
+        return found if found is not None and found < number else None
 
     def fits(self, name: str, seat: int) -> bool:
         """Whether all answers of that name lead somewhere, if it has that place."""
         return all(
-            self.led_to(number, seat, outcome) is not None
+            self.led_to(number, seat, answer.outcome) is not None
             for number, entry in enumerate(self.entries)
-            for each, outcome in entry.answers
-            if each == name and outcome is not None
+            for answer in entry.answers
+            if answer.service == name and answer.outcome is not None
         )
 
     def find_seats(self) -> Dict[str, int]:
         """The place of each service that answers. The document's order, where it fits; services may have died
         and joined since, and then the places are those to which all their answers lead."""
-        named = in_order([[name for name, _ in each.answers] for each in self.entries])
-        usual = {each.name.text: seat for seat, each in enumerate(self.system.services)}
+        named = in_order([[answer.service for answer in each.answers] for each in self.entries])
+        usual = {each.name: seat for seat, each in enumerate(self.document.services)}
         if self.count == len(usual) and all(name in usual and self.fits(name, usual[name]) for name in named):
             return {name: usual[name] for name in named}
         choices = [[seat for seat in range(self.count) if self.fits(name, seat)] for name in named]
@@ -148,7 +106,7 @@ class Play:
     def all_names(self) -> List[str]:
         """The name of each place; of one that never answers the document's, where that can be told."""
         names = {seat: name for name, seat in self.seats.items()}
-        services = [each.name.text for each in self.system.services]
+        services = [each.name for each in self.document.services]
         usual = self.count == len(services) and all(services[seat] == name for seat, name in names.items())
         for seat in range(self.count):
             if seat not in names:
@@ -158,18 +116,18 @@ class Play:
     def kind_of(self, seat: int) -> Optional[Tuple[Machine, bool]]:
         """The behaviour of a place, and whether its service rests: the document's, or the only behaviour that
         has the states that are seen there."""
-        for service in self.system.services:
-            if service.name.text == self.names[seat]:
-                return self.system.behaviours[service.behaviour], service.rests
+        for service in self.document.services:
+            if service.name == self.names[seat]:
+                return self.document.behaviours[service.behaviour], not service.loose
         seen = {each.states[seat] for each in self.entries}
-        fitting = [m for m in self.system.behaviours if seen <= {state.text for state in m.states}]
+        fitting = [each for each in self.document.behaviours.values() if seen <= set(each.states)]
         return (fitting[0], True) if len(fitting) == 1 else None
 
     def find_frozen(self) -> Set[int]:
         """The places that are never asked, where somebody would be."""
-        if not all(entry.is_final for entry in self.entries):
+        if not all(entry.request is None for entry in self.entries):
             return set(range(self.count)) - set(self.seats.values())
-        frozen = {each.name.text for each in self.system.services if each.frozen}
+        frozen = {each.name for each in self.document.services if each.frozen}
         return {seat for seat, name in enumerate(self.names) if name in frozen}
 
     # What happens.
@@ -179,17 +137,15 @@ class Play:
         told = []
         for seat, state in enumerate(self.entries[number].states):
             kind = self.kinds[seat]
-            if kind is not None and kind[1]:
-                finals = {kind[0].states[each].text for each in kind[0].finals}
-                if state not in finals:
-                    told.append(f"{self.names[seat]} in {state}")
+            if kind is not None and kind[1] and state not in kind[0].final:
+                told.append(f"{self.names[seat]} in {state}")
         return told or ["a service"]
 
-    def answers(self, number: int) -> List[Answer]:
+    def answers(self, number: int) -> List[Reply]:
         """What may be answered at an entry. Services that are alike, and may answer alike, are one."""
         entry = self.entries[number]
-        found: Dict[object, Answer] = {}
-        for name, outcome in entry.answers:
+        found: Dict[object, Reply] = {}
+        for name, outcome in ((answer.service, answer.outcome) for answer in entry.answers):
             if outcome is None:
                 continue
             seat = self.seats[name]
@@ -197,11 +153,11 @@ class Play:
             alike = (kind[0].name, kind[1], entry.states[seat], outcome) if kind else name
             if alike in found:
                 first = found[alike]
-                found[alike] = Answer((*first.names, name), first.seat, first.before, outcome, first.to)
+                found[alike] = Reply((*first.names, name), first.seat, first.before, outcome, first.to)
             else:
                 to = self.led_to(number, seat, outcome)
                 assert to is not None
-                found[alike] = Answer((name,), seat, entry.states[seat], outcome, to)
+                found[alike] = Reply((name,), seat, entry.states[seat], outcome, to)
         return list(found.values())
 
     def lengths(self) -> List[int]:
@@ -210,10 +166,10 @@ class Play:
         lengths = [0] * len(self.entries)
         for number in graphlib.TopologicalSorter(after).static_order():
             rest = [lengths[each] for each in after[number]]
-            lengths[number] = 0 if self.entries[number].is_final else 1 + (min(rest) if rest else 0)
+            lengths[number] = 0 if self.entries[number].request is None else 1 + (min(rest) if rest else 0)
         return lengths
 
-    def line(self) -> List[Tuple[int, Optional[Answer], List[Answer]]]:
+    def line(self) -> List[Tuple[int, Optional[Reply], List[Reply]]]:
         """One line of play, the shortest: each entry with the answer that is followed, and the other ones."""
         lengths = self.lengths()
         number = len(self.entries) - 1
@@ -226,7 +182,7 @@ class Play:
                 return line
             number = chosen.to
 
-    def shown(self, everything: bool) -> List[Tuple[int, List[Answer], List[Answer]]]:
+    def shown(self, everything: bool) -> List[Tuple[int, List[Reply], List[Reply]]]:
         """The entries that are shown, from the present pair on, with the answers that are followed and those that
         are only named."""
         if not everything:
@@ -255,7 +211,7 @@ class Play:
             for seat, (name, state) in enumerate(zip(self.names, self.entries[-1].states))
         ]
 
-    def answer_text(self, number: int, answer: Answer) -> str:
+    def answer_text(self, number: int, answer: Reply) -> str:
         """An answer as what changes by it."""
         state, environment = answer.outcome
         text = f"{state}, as before" if state == answer.before else f"{answer.before} → {state}"
@@ -274,10 +230,10 @@ class Play:
             changed = self.present() if place == 0 else self.changes(number)
             title = f"[{number}] " if everything else ""
             yield f"{title}{where}" + (f"; {', '.join(changed)}" if changed else "")
-            if entry.is_final:
+            if entry.request is None:
                 yield f"  the target may be left, and may not: {', '.join(self.unrested(number))}"
                 continue
-            yield f"  {entry.reason} is requested"
+            yield f"  {entry.request} is requested"
             for words in self.helpless(number):
                 yield f"    {words}"
             for answer in answers:
@@ -288,7 +244,7 @@ class Play:
 
     def helpless(self, number: int) -> List[str]:
         """Who can't take the request of an entry, and who isn't asked."""
-        cannot = [name for name, outcome in self.entries[number].answers if outcome is None]
+        cannot = [each.service for each in self.entries[number].answers if each.outcome is None]
         told = [f"cannot: {', '.join(cannot)}"] if cannot else []
         frozen = [self.names[seat] for seat in sorted(self.frozen)]
         return told + ([f"frozen: {', '.join(frozen)}"] if frozen else []) or (
@@ -304,10 +260,10 @@ class Play:
         picture.edge("start", f"p{len(self.entries) - 1}")
         for place, (number, answers, rest) in enumerate(self.shown(everything)):
             self.pair(picture, number, place == 0)
-            if self.entries[number].is_final:
+            if self.entries[number].request is None:
                 continue
-            reason = self.entries[number].reason
-            picture.node(f"r{number}", label=reason, shape="diamond", color=GUARD, fontcolor=GUARD)
+            request = self.entries[number].request
+            picture.node(f"r{number}", label=request, shape="diamond", color=GUARD, fontcolor=GUARD)
             picture.edge(f"p{number}", f"r{number}", color=GUARD, arrowhead="none")
             told = self.helpless(number)
             if rest:
@@ -327,7 +283,7 @@ class Play:
         entry = self.entries[number]
         lines = [f"<B>{html(entry.target)}</B> · {html(entry.environment)}"]
         lines += [coloured(each, PLAIN, True) for each in (self.present() if is_present else self.changes(number))]
-        if entry.is_final:
+        if entry.request is None:
             lines.append(coloured("the target may be left, and may not:", WRONG))
             lines += [coloured(each, WRONG) for each in self.unrested(number)]
         options = {"penwidth": "2.4"} if is_present else {}

@@ -3,10 +3,11 @@
 from __future__ import annotations
 
 from dataclasses import dataclass
-from typing import Any, Dict, Iterator, List, Set, Tuple
+from typing import Any, Dict, List, Set, Tuple
+
+from roman_client import Document
 
 from .pictures import CHOICE, FADED, PLAIN, WRONG, Wrong, coloured, folded, graph, html, marked
-from .systems import System
 
 MOST = 40
 """How many pairs a picture shows."""
@@ -14,87 +15,67 @@ MOST = 40
 
 @dataclass(frozen=True)
 class Pair:
-    """A state of each target, of the environment, and of each service."""
+    """A state of the target, of the environment, and of each service."""
 
-    targets: Tuple[int, ...]
-    environment: int
-    services: Tuple[int, ...]
+    target: str
+    environment: str
+    services: Tuple[str, ...]
 
 
 class Arena:
-    """The pairs of a system, and those of them that are lost."""
+    """The pairs of a document, and those of them that are lost."""
 
-    def __init__(self, system: System, certificate: str) -> None:
-        self.system = system
+    def __init__(self, document: Document, certificate: str) -> None:
+        self.document = document
         lines = certificate.splitlines()[2:-1]
         self.lost: Set[int] = {int(line.split()[0]) for line in lines}
-        self.start = Pair(
-            tuple(target.start for target in system.targets),
-            system.environment.start,
-            tuple(service.state for service in system.services),
-        )
+        states = tuple(service.state for service in document.services)
+        self.start = Pair(document.start, document.environment.start, states)
 
     def number(self, pair: Pair) -> int:
         """A pair's number in certificates: the target's state first, the last service's changing fastest."""
+        document = self.document
+        targets = zip(document.targets, document.target_states(pair.target))
+        places = [(each.states, state) for each, state in targets]
+        places.append((document.environment.states, pair.environment))
+        for service, state in zip(document.services, pair.services):
+            places.append((document.behaviours[service.behaviour].states, state))
         number = 0
-        for state, target in zip(pair.targets, self.system.targets):
-            number = number * len(target.states) + state
-        number = number * len(self.system.environment.states) + pair.environment
-        for state, service in zip(pair.services, self.system.services):
-            number = number * len(self.system.behaviours[service.behaviour].states) + state
+        for states, state in places:
+            number = number * len(states) + states.index(state)
         return number
 
     def is_related(self, pair: Pair) -> bool:
         return self.number(pair) not in self.lost
 
-    def requests(self, pair: Pair) -> Iterator[Tuple[str, int, Tuple[int, ...]]]:
-        """What the target allows at a pair: the name, the action, and the states of the targets afterwards."""
-        moved = {move.action for move in self.system.environment.moves if move.state == pair.environment}
-        for seat, target in enumerate(self.system.targets):
-            for step in target.steps:
-                here = step.state == pair.targets[seat] and step.guard >> pair.environment & 1
-                if here and step.action in moved:
-                    name = self.system.environment.actions[step.action].text
-                    if target.name and len(self.system.targets) > 1:
-                        name = f"{name}-{target.name.text}"
-                    after = (*pair.targets[:seat], step.to, *pair.targets[seat + 1 :])
-                    yield name, step.action, after
-
-    def outcomes(self, pair: Pair, action: int, targets: Tuple[int, ...], seat: int) -> List[Pair]:
-        """The pairs to which a service may lead by an action; none where it can't take it."""
-        service = self.system.services[seat]
-        if service.frozen:
+    def outcomes(self, pair: Pair, request: str, seat: int) -> List[Pair]:
+        """The pairs to which a service may lead by a request that is allowed; none where it can't take it."""
+        service = self.document.services[seat]
+        target = self.document.target_after(pair.target, pair.environment, request)
+        if service.frozen or target is None:
             return []
-        return [
-            Pair(targets, move.to, (*pair.services[:seat], step.to, *pair.services[seat + 1 :]))
-            for move in self.system.environment.moves
-            if move.state == pair.environment and move.action == action
-            for step in self.system.behaviours[service.behaviour].steps
-            if step.state == pair.services[seat] and step.action == action and step.guard >> pair.environment & 1
-        ]
+        before, after = pair.services[:seat], pair.services[seat + 1 :]
+        outcomes = self.document.outcomes(service.behaviour, pair.services[seat], pair.environment, request)
+        return [Pair(target, environment, (*before, state, *after)) for state, environment in outcomes]
 
     # Names.
 
     def where(self, pair: Pair) -> str:
-        names = [target.states[state].text for target, state in zip(self.system.targets, pair.targets)]
-        return f"<B>{html('-'.join(names))}</B> · {html(self.system.environment.states[pair.environment].text)}"
-
-    def state(self, pair: Pair, seat: int) -> str:
-        return self.system.behaviours[self.system.services[seat].behaviour].states[pair.services[seat]].text
+        return f"<B>{html(pair.target)}</B> · {html(pair.environment)}"
 
     def changes(self, pair: Pair) -> List[str]:
         """The services whose states aren't those of the start."""
         return [
-            f"{service.name.text}: {self.state(pair, seat)}"
-            for seat, service in enumerate(self.system.services)
-            if pair.services[seat] != self.start.services[seat]
+            f"{service.name}: {state}"
+            for service, state, start in zip(self.document.services, pair.services, self.start.services)
+            if state != start
         ]
 
 
-def picture(system: System, certificate: str) -> Any:
+def picture(document: Document, certificate: str) -> Any:
     """The related pairs that come from the start when offered services are used, and in red what a service that
     isn't offered may lead to."""
-    arena = Arena(system, certificate)
+    arena = Arena(document, certificate)
     if not arena.is_related(arena.start):
         raise Wrong("there is no composition from the start, so nothing is offered there")
     drawn = graph("LR")
@@ -108,15 +89,15 @@ def picture(system: System, certificate: str) -> Any:
         drawn.node(names[pair], label=marked(lines), shape="box", style="rounded", **options)
         arrows: Dict[Pair, List[str]] = {}
         lost: List[str] = []
-        for name, action, targets in arena.requests(pair):
-            for seat, service in enumerate(system.services):
-                found = arena.outcomes(pair, action, targets, seat)
+        for request in document.allowed(pair.target, pair.environment):
+            for seat, service in enumerate(document.services):
+                found = arena.outcomes(pair, request, seat)
                 if all(arena.is_related(each) for each in found):
                     for each in found:
-                        answer = label_of(arena, pair, each, name, seat, len(found) > 1)
+                        answer = label_of(arena, pair, each, request, seat, len(found) > 1)
                         arrows.setdefault(each, []).append(answer)
                 else:
-                    lost.append(f"{name} by {service.name.text}")
+                    lost.append(f"{request} by {service.name}")
         for to, labels in arrows.items():
             if to not in names:
                 if len(names) == MOST:
@@ -136,8 +117,8 @@ def picture(system: System, certificate: str) -> Any:
 
 def label_of(arena: Arena, before: Pair, after: Pair, request: str, seat: int, is_choice: bool) -> str:
     """An arrow's label: the request, who serves it, and what changes by that."""
-    name = arena.system.services[seat].name.text
-    one, other = arena.state(before, seat), arena.state(after, seat)
+    name = arena.document.services[seat].name
+    one, other = before.services[seat], after.services[seat]
     change = f": {one} → {other}" if one != other else ""
     colour = CHOICE if is_choice else PLAIN
     return coloured(f"{request} by {name}{change}", colour)

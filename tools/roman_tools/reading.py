@@ -18,11 +18,7 @@ from typing import Any, Dict, Iterator, List, Optional, Tuple
 from lark import Lark, Token, UnexpectedCharacters, UnexpectedInput
 from lark.visitors import Transformer_NonRecursive
 
-DEEPEST = 127
-"""How many lists and objects may stand within one another."""
-
-LONGEST = 1_048_576
-"""The most bytes of a document or a part file."""
+from roman_client.documents import DEEPEST
 
 GRAMMAR = r"""
 ?start: value

@@ -18,11 +18,20 @@ import tempfile
 from pathlib import Path
 from typing import Callable, Dict, Iterator, List, Optional, Sequence, Tuple
 
-from roman_client import Offer, ProgramEnded, Refusal, Report, RomanError, Session
+from roman_client import (
+    Document,
+    NoComposition,
+    Offer,
+    ProgramEnded,
+    Refusal,
+    Report,
+    RomanError,
+    Session,
+)
 
 from . import explanations, program
 from .checking import Checker
-from .documents import plain_file, read
+from .documents import looked_up, plain_file, read
 from .findings import in_order, meant
 from .linting import UNREADABLE, WRONG
 from .pictures import Wrong
@@ -102,8 +111,8 @@ def echo(checker: Checker, roman: str, data: bytes) -> int:
 class Talk:
     """A session with what may be said in it next."""
 
-    def __init__(self, system: System, session: Session) -> None:
-        self.system = system
+    def __init__(self, document: Document, session: Session) -> None:
+        self.document = document
         self.session = session
         self.report: Report = session.opening
         self.offer: Optional[Offer] = None
@@ -112,13 +121,18 @@ class Talk:
     # What may be said.
 
     def states_of(self, behaviour: str) -> List[str]:
-        for machine in self.system.behaviours:
-            if machine.name is not None and machine.name.text == behaviour:
-                return [state.text for state in machine.states]
-        return []
+        found = self.document.behaviours.get(behaviour)
+        return list(found.states) if found else []
 
     def service_states(self, name: str) -> List[str]:
         return next((self.states_of(s.behaviour) for s in self.report.services if s.name == name), [])
+
+    def allowed(self) -> List[str]:
+        """The actions that the target allows in the present states: those for which the program offers
+        something, or for which it would where there is no composition."""
+        if self.report.composition:
+            return list(self.report.offers)
+        return list(self.document.allowed(self.report.target, self.report.environment))
 
     def events(self) -> List[str]:
         """The words with which a line may begin now."""
@@ -126,19 +140,26 @@ class Talk:
             return ["saw", "abort", "report", "help", "quit"]
         if self.offer is not None:
             return ["use", "abort", "report", "help", "quit"]
-        return [word for word in EVENTS if word not in ("use", "saw", "abort")]
+        refused = {"use", "saw", "abort", "explain" if self.report.composition else "do"}
+        if all(service.frozen for service in self.report.services):
+            refused.add("freeze")
+        if not any(service.frozen for service in self.report.services):
+            refused.add("thaw")
+        if not self.report.services:
+            refused |= {"die", "jump"}
+        return [word for word in EVENTS if word not in refused]
 
     def names(self, words: Sequence[str]) -> List[str]:
         """The names that may come behind these words."""
         event, given = words[0], words[1:]
-        environments = [state.text for state in self.system.environment.states]
+        environments = list(self.document.environment.states)
         services = [service.name for service in self.report.services]
         if event == "join":
-            behaviours = [machine.name.text for machine in self.system.behaviours if machine.name]
+            behaviours = list(self.document.behaviours)
             joined: List[List[str]] = [[], behaviours, self.states_of(given[1]) if len(given) > 1 else [], ["loose"]]
             return joined[len(given)] if len(given) < 4 else []
         places: Dict[str, List[List[str]]] = {
-            "do": [list(self.report.offers) or self.system.combined_actions()],
+            "do": [self.allowed()],
             "use": [list(self.offer.services) if self.offer else []],
             "saw": [self.service_states(self.used or ""), environments],
             "freeze": [[each.name for each in self.report.services if not each.frozen]],
@@ -157,13 +178,17 @@ class Talk:
         return [f"{each} " for each in known if each.startswith(text)]
 
     def help(self) -> str:
-        """What a line may be, those that may come now first."""
+        """What a line may be now."""
         now = self.events()
         lines = [f"  {word + ' ' + EVENTS[word][0]:36} {EVENTS[word][1]}" for word in now]
         for word in now:
             names = self.names([word])
             if names and word in ("do", "use", "saw"):
                 lines.append(f"  now: {word} {' | '.join(names)}")
+        if not self.report.composition:
+            requests = " | ".join(self.allowed())
+            then = f"so do {requests} is refused until something changes" if requests else "and the target allows no request"
+            lines.append(f"  now: there is no composition (explain says why), {then}")
         return "\n".join(lines)
 
     # What is said.
@@ -182,6 +207,8 @@ class Talk:
             return f"a line is: {event} {names}".rstrip() + f" - {does}"
         try:
             return self.said(event, given)
+        except NoComposition as refusal:
+            return refusal.reply
         except Refusal as refusal:
             return refusal.reply + self.unknown(event, given)
 
@@ -191,7 +218,7 @@ class Talk:
             if event == "join" and place == 0:
                 continue
             known = self.names([event, *given[:place]])
-            everything = self.system.combined_actions() if event == "do" else known
+            everything = list(self.document.actions) if event == "do" else known
             if event == "use":
                 everything = [service.name for service in self.report.services]
             if known and word not in known:
@@ -249,11 +276,11 @@ class Talk:
 
     def explained(self) -> str:
         """The explanation as a play; as the program writes it where that can't be told."""
-        text = f"{self.session.explain()}\nend\n"
+        explanation = self.session.explain()
         try:
-            return explanations.Play(self.system, explanations.last_explanation(text)).text(False).rstrip("\n")
+            return explanations.Play(self.document, explanation).text(False).rstrip("\n")
         except Wrong:
-            return text.rstrip("\n")
+            return f"{explanation}\nend"
 
 
 def shown(report: Report) -> str:
@@ -293,7 +320,7 @@ def prepare(talk: Talk) -> None:
 def talk_at_terminal(checker: Checker, system: System, roman: str) -> int:
     """Asks for lines until the end."""
     with document_of(checker) as file, Session(file, program=roman) as session:
-        talk = Talk(system, session)
+        talk = Talk(looked_up(system), session)
         prepare(talk)
         print(shown(session.opening))
         print("help says what a line may be; the tab key completes names")
