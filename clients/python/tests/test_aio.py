@@ -1,6 +1,7 @@
 """The same calls for asyncio."""
 
 import asyncio
+import inspect
 import os
 import signal
 import sys
@@ -17,6 +18,8 @@ from . import PROGRAM, sample
 from .test_pipes import BEGIN, LONG, OPENING
 
 States = Tuple[str, str]
+
+REQUIRED = inspect.Parameter.empty
 
 
 async def works(action: str) -> States:
@@ -406,6 +409,40 @@ class Dispatchers(unittest.IsolatedAsyncioTestCase):
             return "on", "e"
 
         return state
+
+
+class Twins(unittest.TestCase):
+    """The two drivers stand as twins, since a call that is awaited can't be written with one that isn't."""
+
+    def test_both_have_the_same_calls_with_the_same_words(self) -> None:
+        twins: Tuple[Tuple[type, type], ...] = (
+            (roman.Session, aio.Session),
+            (roman.Dispatcher, aio.Dispatcher),
+        )
+        for one, other in twins:
+            with self.subTest(one.__name__):
+                found = calls(other)
+                self.assertEqual(found.pop("begin"), [("self", inspect.Parameter.POSITIONAL_OR_KEYWORD, REQUIRED)])
+                found.pop("core", None)  # What it knows is there from when it has begun.
+                self.assertEqual(calls(one), found)
+
+    def test_what_is_awaited(self) -> None:
+        at_once = {"__init__", "post", "resume"}
+        for each in (aio.Session, aio.Dispatcher):
+            found = {name for name, value in vars(each).items() if inspect.isroutine(value) and name in calls(each)}
+            awaited = {name for name in found if inspect.iscoroutinefunction(getattr(each, name))}
+            self.assertEqual(found - awaited, at_once & found)
+
+
+def calls(kind: type) -> Dict[str, Any]:
+    """The public names of a class, with the words of those that are called."""
+    found: Dict[str, Any] = {}
+    for name, value in vars(kind).items():
+        if name == "__init__" or not name.startswith("_"):
+            called = getattr(kind, name)
+            words = inspect.signature(called).parameters.values() if callable(called) else ()
+            found[name] = [(word.name, word.kind, word.default) for word in words]
+    return found
 
 
 if __name__ == "__main__":
