@@ -318,11 +318,12 @@ class Install(Tree):
         self.assertEqual([each for each in self.prefix.rglob("*") if each.is_file()], [])
 
     def test_the_tools_run_where_they_are_installed(self) -> None:
+        """They find each other, and the program, though PATH doesn't have them."""
         self.build()
         self.assertEqual(self.install(str(self.prefix)).returncode, 0)
-        path = {**os.environ, "PATH": f"{self.prefix}/bin:{os.environ['PATH']}"}
-        path.pop("ROMAN", None)
+        path = {name: value for name, value in os.environ.items() if name != "ROMAN"}
         home = str(TOP / "samples" / "short" / "home.json")
+        tools = self.prefix / "bin"
         for words, said in (
             (["roman-lint", home], "roman says: answer composition"),
             (["roman-expand", home], '"roman": 1'),
@@ -330,11 +331,12 @@ class Install(Tree):
             (["roman-live", "--help"], "usage: roman-live"),
         ):
             with self.subTest(words):
-                done = run(*words, env=path, cwd="/")
+                done = run(str(tools / words[0]), *words[1:], env=path, cwd="/")
                 self.assertEqual((done.returncode, done.stderr), (0, ""))
                 self.assertIn(said, done.stdout)
-        self.assertIn("offer window ceiling", run("roman-talk", home, env=path, cwd="/", input="do brighten\n").stdout)
-        done = run("roman-live", "gone.toml", env=path, cwd="/")
+        done = run(str(tools / "roman-talk"), home, env=path, cwd="/", input="do brighten\n")
+        self.assertIn("offer window ceiling", done.stdout)
+        done = run(str(tools / "roman-live"), "gone.toml", env=path, cwd="/")
         self.assertEqual((done.returncode, done.stdout, done.stderr), (2, "", "roman-live: gone.toml: No such file or directory\n"))
 
     def test_what_the_tools_need_is_named(self) -> None:

@@ -9,6 +9,7 @@ from pathlib import Path
 from typing import Optional
 
 TOOLS = Path(__file__).resolve().parents[1]
+"""The folder of the tools: that of the repository, or where ./install puts them."""
 
 
 def find(given: Optional[str] = None) -> Optional[str]:
@@ -16,10 +17,10 @@ def find(given: Optional[str] = None) -> Optional[str]:
     for each in (given, os.environ.get("ROMAN")):
         if each:
             return each
-    built = TOOLS.parent / "crates" / "roman_cli" / "out" / "roman_cli"
-    if os.access(built, os.X_OK):
-        return str(built)
-    return shutil.which("roman")
+    beside = TOOLS.parent / "crates" / "roman_cli" / "out" / "roman_cli"
+    if TOOLS.parts[-3:] == ("share", "roman", "python"):
+        beside = TOOLS.parents[2] / "bin" / "roman"
+    return str(beside) if os.access(beside, os.X_OK) else shutil.which("roman")
 
 
 def run(program: str, *words: str) -> "subprocess.CompletedProcess[str]":

@@ -340,6 +340,12 @@ def talk_at_terminal(checker: Checker, system: System, roman: str) -> int:
         return session.quit()
 
 
+def unproved() -> Optional[str]:
+    """The script of the repository that runs the sources where the program isn't built."""
+    script = program.TOOLS.parent / "roman"
+    return str(script) if os.access(script, os.X_OK) and script.is_file() else None
+
+
 def main(arguments: Optional[Sequence[str]] = None) -> int:
     words = argparse.ArgumentParser(prog="tools/talk", description=(__doc__ or "").split("\n\n", 1)[1])
     words.add_argument("system", metavar="SYSTEM")
@@ -351,7 +357,10 @@ def main(arguments: Optional[Sequence[str]] = None) -> int:
             for each in in_order(checker.findings):
                 print(*each.shown(), sep="\n", file=sys.stderr)
             return WRONG
-        roman = program.find(asked.program) or str(program.TOOLS.parent / "roman")
+        roman = program.find(asked.program) or unproved()
+        if roman is None:
+            print("tools/talk: the program isn't here; ./build makes it", file=sys.stderr)
+            return UNREADABLE
         if sys.stdin.isatty():
             return talk_at_terminal(checker, checker.system, roman)
         return echo(checker, roman, sys.stdin.buffer.read())
