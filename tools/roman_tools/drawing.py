@@ -97,7 +97,9 @@ def main(arguments: Optional[Sequence[str]] = None) -> int:
         else:
             Path(asked.out).write_bytes(data)
     except OSError as error:
-        print(f"tools/draw: {error.filename or asked.system}: {error.strerror}", file=sys.stderr)
+        if error.filename is None:
+            raise  # What it writes can't be written.
+        print(f"tools/draw: {error.filename}: {error.strerror}", file=sys.stderr)
         return 1
     except Wrong as error:
         print(f"tools/draw: {error}".encode("ascii", "backslashreplace").decode(), file=sys.stderr)

@@ -42,6 +42,8 @@ def main(arguments: Optional[Sequence[str]] = None) -> int:
         else:
             Path(asked.out).write_text(document.text, encoding="utf-8")
     except OSError as error:
-        print(f"roman-expand: {error.filename or asked.file}: {error.strerror}", file=sys.stderr)
+        if error.filename is None:
+            raise  # What it writes can't be written.
+        print(f"roman-expand: {error.filename}: {error.strerror}", file=sys.stderr)
         return UNREADABLE
     return CLEAN

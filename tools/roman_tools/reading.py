@@ -375,7 +375,11 @@ class Shelf:
     def source(self, name: str) -> Tuple[Source, int]:
         """A file's text, and how many bytes it has. OSError where it can't be read."""
         if name not in self._sources:
-            data = (self._folder / name).read_bytes()
+            try:
+                data = (self._folder / name).read_bytes()
+            except OSError as error:
+                # An error while it is read, once it is open, doesn't name it.
+                raise OSError(error.errno, error.strerror, error.filename or name) from None
             text = data.decode("utf-8", "surrogateescape")
             self._sources[name] = Source(name, text), len(data)
         return self._sources[name]

@@ -365,7 +365,9 @@ def main(arguments: Optional[Sequence[str]] = None) -> int:
             return talk_at_terminal(checker, checker.system, roman)
         return echo(checker, roman, sys.stdin.buffer.read())
     except OSError as error:
-        print(f"tools/talk: {error.filename or asked.system}: {error.strerror}", file=sys.stderr)
+        if error.filename is None:
+            raise  # What it writes can't be written.
+        print(f"tools/talk: {error.filename}: {error.strerror}", file=sys.stderr)
         return UNREADABLE
     except ProgramEnded as ended:
         print(f"tools/talk: {ended}", file=sys.stderr)
