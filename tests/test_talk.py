@@ -131,7 +131,9 @@ class Terminal(unittest.TestCase):
     def test_help_says_what_may_be_asked_now(self) -> None:
         self.assertEqual(self.words_of_help(), "do freeze die join jump jumpenv report help quit")
         self.assertIn("\n  now: do clean", self.say("help"))
+        self.assertIn('"arm1" can\'t be taken now; now: none', self.say("thaw arm1"))
         self.say("freeze arm2")
+        self.assertIn('"arm2" can\'t be taken now; now: arm1, arm3', self.say("freeze arm2"))
         self.assertEqual(self.words_of_help(), "do freeze thaw die join jump jumpenv report help quit")
         self.say("jumpenv half")
         self.say("jump arm1 worn")

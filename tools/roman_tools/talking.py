@@ -219,12 +219,12 @@ class Talk:
                 continue
             known = self.names([event, *given[:place]])
             everything = list(self.document.actions) if event == "do" else known
-            if event == "use":
+            if event in ("use", "freeze", "thaw"):
                 everything = [service.name for service in self.report.services]
-            if known and word not in known:
-                near = meant(word, everything)
-                what = "isn't known" if word not in everything else "can't be taken now"
-                return f'\n"{word}" {what}{near if word not in everything else ""}; now: {", ".join(known)}'
+            if everything and word not in known:
+                is_known = word in everything
+                what = "can't be taken now" if is_known else f"isn't known{meant(word, everything)}"
+                return f'\n"{word}" {what}; now: {", ".join(known) or "none"}'
         return ""
 
     def said(self, event: str, given: Sequence[str]) -> str:
