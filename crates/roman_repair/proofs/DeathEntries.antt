@@ -1,24 +1,37 @@
 -- What becomes of the entries of a removal list when a service dies.
-use Rattle.std.proofs.Common.{◌≡◌, ℕ, ◌*◌, ◌<◌, ◌≤◌, ◌==◌, Bool, true, false, ◌||◌, if◌then◌else◌, List, [], ◌∷◌, ◌++◌, map, length, filter, slice_index, refl, sym, ap, ap₂, ◌∙◌, subst, arith}
+use Rattle.std.proofs.Common.{◌≡◌, ℕ, ◌+◌, ◌-◌, ◌*◌, ◌/◌, ◌%◌, ◌^◌, ◌<◌, ◌≤◌, ◌==◌, Bool, true, false, not, ◌||◌, if◌then◌else◌, cond, List, [], ◌∷◌, ◌++◌, map, length, filter, remove, slice_index, IsFalse, inl, inr, refl, sym, ap, ap₂, ◌∙◌, subst, arith, append-nil, append_assoc, bit_and}
 use Rattle.std.specs.List.{list_any}
-use Rattle.std.proofs.lemmas.List.{append_assoc, map_push}
+use Rattle.std.proofs.lemmas.Bool.{cases_lt, both_ways, and_parts, eqb-true, false_from_ne_true}
+use Rattle.std.proofs.lemmas.Nat.{div-add-mod', mod_below}
+use Rattle.std.proofs.lemmas.List.{map-append}
+use Rattle.std.proofs.lemmas.List.Elements.{filter-append}
 use Rattle.std.proofs.lemmas.List.Folds.{list_any-append}
 use Rattle.std.proofs.Math.Nat.{mul-le-mul_left}
-use Rattle.roman_model.specs.System.{Seat, Sys}
+use Rattle.roman_model.specs.Lists.{IsIn, HasNoRepeats, below}
+use Rattle.roman_model.specs.System.{Seat, Sys, is_final}
 use Rattle.roman_model.specs.Arena.{Entry}
-use Rattle.roman_model.specs.Change.{without, may_go}
+use Rattle.roman_model.specs.Change.{may_go}
 use Rattle.roman_model.specs.Numbers.{Sizes, sizes_of, sizes_without, count, pair_at, numbered}
-use Rattle.roman_model.specs.NumberedChange.{number_entry_without, first_numbers}
-use Rattle.roman_model.proofs.CallerLemmas.{by_test, list_any-map, length-below, left, number_without-is, count-without, sizes-left}
+use Rattle.roman_model.specs.NumberedChange.{number_without, number_entry_without, first_numbers}
+use Rattle.roman_model.specs.declared.reason.Reason.{Reason}
+use Rattle.roman_model.proofs.CallerLemmas.{in_map, in_append_left, in_append_right, filter_same, map-map, list_any-map, length-below, left, count-without, sizes-left}
+use Rattle.roman_lanes.specs.Rows.{is_on, HasLanes}
+use Rattle.roman_lanes.proofs.CallerLemmas.{on_and}
 use Rattle.roman_radix.specs.Radix.{IsSizes}
 use Rattle.roman_radix.specs.Rows.{lanes_of}
 use Rattle.roman_radix.proofs.CallerLemmas.{AreSizes-index}
 use Rattle.roman_joint.specs.NamedSys.{NamedSys, system_of}
 use Rattle.roman_joint.specs.Rows.{lanes_in}
-use Rattle.roman_order.specs.Board.{Board, pairs_of, has_entry, nodes_of}
+use Rattle.roman_order.specs.Board.{Board, as_entry, pairs_of, has_entry, nodes_of, set_lanes, entries_in}
+use Rattle.roman_order.specs.Events.{IsEvent, entries_at}
+use Rattle.roman_order.specs.declared.event.Event.{Event}
+use Rattle.roman_order.proofs.CallerLemmas.{in_lanes, lanes_once, set_lanes-zero}
 use Rattle.roman_relation.specs.Shaped.{IsShaped}
-use Rattle.roman_repair.specs.Deaths.{entry_left, list_with}
+use Rattle.roman_repair.specs.Deaths.{entries_left, list_with, entries_from, IsPart}
 use Rattle.roman_repair.proofs.DeathStates.{seat_in_sizes}
+use Rattle.roman_repair.proofs.DeathParts.{part_number, part_state, part_place, row_of_left, part_word, part_lanes, moved_lanes}
+use Rattle.roman_repair.proofs.Joined.{map_as}
+use Rattle.roman_repair.proofs.Fronts.{false_else, on_in, filter_split, only_so_far}
 
 -- The first entry of each number.
 
@@ -30,50 +43,204 @@ first_numbers_seen seen more (x ∷ L) same =
     (first_numbers_seen (x.node ∷ seen) (x.node ∷ more) L (λ i. ap (λ b. (i == x.node) || b) (same i)))
     ∙ ap (λ b. if b then first_numbers more L else x ∷ first_numbers (x.node ∷ more) L) (same x.node)
 
-seen_first : (i m : ℕ) (ns : List ℕ) → list_any (λ j. i == j) (m ∷ ns) ≡ list_any (λ j. i == j) (ns ++ m ∷ [])
-seen_first i m ns = turned (i == m) (list_any (λ j. i == j) ns) ∙ sym (list_any-append (λ j. i == j) ns (m ∷ []))
+seen_middle : (i m : ℕ) (seen ns : List ℕ) → list_any (λ j. i == j) ((m ∷ seen) ++ ns) ≡ list_any (λ j. i == j) (seen ++ m ∷ ns)
+seen_middle i m seen ns =
+    list_any-append (λ j. i == j) (m ∷ seen) ns
+    ∙ turned (i == m) (list_any (λ j. i == j) seen) (list_any (λ j. i == j) ns)
+    ∙ sym (list_any-append (λ j. i == j) seen (m ∷ ns))
   where
-    turned : (a b : Bool) → (a || b) ≡ (b || (a || false))
-    turned true true = refl
-    turned true false = refl
-    turned false true = refl
-    turned false false = refl
+    turned : (a b c : Bool) → ((a || b) || c) ≡ (b || (a || c))
+    turned true true c = refl
+    turned true false c = refl
+    turned false b c = refl
 
--- what is left of the entries that may go
-abbrev pub entries_left : Sizes → ℕ → Seat → List (Entry ℕ) → List (Entry ℕ)
-entries_left n k seat W = map (number_entry_without k n) (filter (λ x. may_go k seat (pair_at n x.node)) W)
-
--- the list so far, and what is left of the entries that wait, make up the whole
-abbrev pub IsRenaming : Sizes → ℕ → Seat → List (Entry ℕ) → List (Entry ℕ) → List (Entry ℕ) → Type 0
-IsRenaming n k seat whole done waiting = done ++ first_numbers (nodes_of done) (entries_left n k seat waiting) ≡ whole
-
-left_is : (n : Sizes) (k : ℕ) (x : Entry ℕ) → x.node < count n → k < length n.seats → number_entry_without k n x ≡ entry_left n k x
-left_is n k x l seat = ap (λ i. record { node = i; reason = x.reason }) (sym (number_without-is n x.node k l seat))
-
--- one entry less waits
-pub renaming_step : (n : Sizes) (k : ℕ) (seat : Seat) (whole done rest : List (Entry ℕ)) (x : Entry ℕ) → x.node < count n → k < length n.seats →
-    IsRenaming n k seat whole done (x ∷ rest) → IsRenaming n k seat whole (list_with n k seat done x) rest
-renaming_step n k seat whole done rest x l h so_far = by_test (may_go k seat (pair_at n x.node))
-    (λ goes. by_test (has_entry done y.node)
-    (λ listed. rw (goes, listed) (rw (goes, left_is n k x l h, node, seen ∙ listed) at so_far))
-    (λ new. rw (goes, new)
-    (append_assoc done (y ∷ []) (first_numbers (nodes_of (done ++ y ∷ [])) left)
-    ∙ ap (λ ys. done ++ (y ∷ ys)) (ap (λ ns. first_numbers ns left) (map_push (λ z. z.node) done y)
-    ∙ sym (first_numbers_seen (y.node ∷ nodes_of done) (nodes_of done ++ y.node ∷ []) left (λ i. seen_first i y.node (nodes_of done))))
-    ∙ (rw (goes, left_is n k x l h, node, seen ∙ new) at so_far))))
-    (λ stays. rw stays (rw stays at so_far))
+-- those of one list, and then those of another
+first_numbers_append : (seen : List ℕ) (L M : List (Entry ℕ)) → first_numbers seen (L ++ M) ≡ first_numbers seen L ++ first_numbers (seen ++ nodes_of (first_numbers seen L)) M
+first_numbers_append seen [] M = ap (λ ns. first_numbers ns M) (sym (append-nil seen))
+first_numbers_append seen (x ∷ L) M = by_answer (list_any (λ i. x.node == i) seen) (first_numbers_append seen L M) (first_numbers_append (x.node ∷ seen) L M)
   where
-    y : Entry ℕ
-    y = entry_left n k x
+    those : List (Entry ℕ)
+    those = first_numbers (x.node ∷ seen) L
 
-    left : List (Entry ℕ)
-    left = entries_left n k seat rest
+    by_answer : (b : Bool) → first_numbers seen (L ++ M) ≡ first_numbers seen L ++ first_numbers (seen ++ nodes_of (first_numbers seen L)) M →
+        first_numbers (x.node ∷ seen) (L ++ M) ≡ those ++ first_numbers ((x.node ∷ seen) ++ nodes_of those) M →
+        (if b then first_numbers seen (L ++ M) else x ∷ first_numbers (x.node ∷ seen) (L ++ M))
+        ≡ (if b then first_numbers seen L else x ∷ those) ++ first_numbers (seen ++ nodes_of (if b then first_numbers seen L else x ∷ those)) M
+    by_answer true same more = same
+    by_answer false same more =
+        ap (λ N. x ∷ N) (more ∙ ap (λ N. those ++ N) (first_numbers_seen ((x.node ∷ seen) ++ nodes_of those) (seen ++ x.node ∷ nodes_of those) M (λ i. seen_middle i x.node seen (nodes_of those))))
 
-    node : (number_entry_without k n x).node ≡ y.node
-    node = ap (λ (z : Entry ℕ). z.node) (left_is n k x l h)
+-- where the numbers differ each that isn't seen is the first
+first_apart : (f : ℕ → Entry ℕ) (seen more ls : List ℕ) → ((i j : ℕ) → (f i).node ≡ (f j).node → i ≡ j) → HasNoRepeats ls →
+    ((i : ℕ) → IsIn i ls → list_any (λ j. (f i).node == j) more ≡ list_any (λ j. (f i).node == j) seen) →
+    first_numbers more (map f ls) ≡ map f (filter (λ i. not (list_any (λ j. (f i).node == j) seen)) ls)
+first_apart f seen more [] apart once same = refl
+first_apart f seen more (i ∷ ls) apart once same =
+    by_answer (list_any (λ j. (f i).node == j) seen) (same i (inl refl)) (first_apart f seen more ls apart once.1 (λ j h. same j (inr h))) (first_apart f seen ((f i).node ∷ more) ls apart once.1 others)
+  where
+    new : List ℕ
+    new = filter (λ j. not (list_any (λ m. (f j).node == m) seen)) ls
 
-    seen : list_any (λ i. y.node == i) (nodes_of done) ≡ has_entry done y.node
-    seen = list_any-map (λ z. z.node) (λ i. y.node == i) done
+    others : (j : ℕ) → IsIn j ls → list_any (λ m. (f j).node == m) ((f i).node ∷ more) ≡ list_any (λ m. (f j).node == m) seen
+    others j h =
+        let differ : IsFalse ((f j).node == (f i).node) = false_from_ne_true ((f j).node == (f i).node) (λ t. once.0 (subst (λ m. IsIn m ls) (apart j i (eqb-true (f j).node (f i).node t)) h)) in
+        ap (λ b. b || list_any (λ m. (f j).node == m) more) differ ∙ same j (inr h)
+
+    by_answer : (b : Bool) → list_any (λ j. (f i).node == j) more ≡ b → first_numbers more (map f ls) ≡ map f new → first_numbers ((f i).node ∷ more) (map f ls) ≡ map f new →
+        first_numbers more (map f (i ∷ ls)) ≡ map f (cond (not b) (i ∷ new) new)
+    by_answer true e was is = ap (λ b. if b then first_numbers more (map f ls) else f i ∷ first_numbers ((f i).node ∷ more) (map f ls)) e ∙ was
+    by_answer false e was is = ap (λ b. if b then first_numbers more (map f ls) else f i ∷ first_numbers ((f i).node ∷ more) (map f ls)) e ∙ ap (λ N. f i ∷ N) is
+
+-- What is left of entries.
+
+-- of some entries, and of others after them
+pub list_with_append : (n : Sizes) (k : ℕ) (seat : Seat) (L V W : List (Entry ℕ)) → list_with n k seat L (V ++ W) ≡ list_with n k seat (list_with n k seat L V) W
+list_with_append n k seat L V W =
+    let new = first_numbers (nodes_of L) (entries_left n k seat V) in
+    let parts : entries_left n k seat (V ++ W) ≡ entries_left n k seat V ++ entries_left n k seat W =
+    ap (map (number_entry_without k n)) (filter-append (λ x. may_go k seat (pair_at n x.node)) V W)
+    ∙ map-append (number_entry_without k n) (filter (λ x. may_go k seat (pair_at n x.node)) V) (filter (λ x. may_go k seat (pair_at n x.node)) W) in
+    ap (λ N. L ++ first_numbers (nodes_of L) N) parts
+    ∙ ap (λ N. L ++ N) (first_numbers_append (nodes_of L) (entries_left n k seat V) (entries_left n k seat W))
+    ∙ sym (append_assoc L new (first_numbers (nodes_of L ++ nodes_of new) (entries_left n k seat W)))
+    ∙ ap (λ ns. (L ++ new) ++ first_numbers ns (entries_left n k seat W)) (sym (map-append (λ (x : Entry ℕ). x.node) L new))
+
+-- all of them pass, or none
+all_alike : (p : Entry ℕ → Bool) (f : ℕ → Entry ℕ) (ls : List ℕ) (b : Bool) → ((i : ℕ) → IsIn i ls → p (f i) ≡ b) → filter p (map f ls) ≡ cond b (map f ls) []
+all_alike p f [] true same = refl
+all_alike p f [] false same = refl
+all_alike p f (i ∷ ls) true same = ap₂ (λ b M. cond b (f i ∷ M) M) (same i (inl refl)) (all_alike p f ls true (λ j h. same j (inr h)))
+all_alike p f (i ∷ ls) false same = ap₂ (λ b M. cond b (f i ∷ M) M) (same i (inl refl)) (all_alike p f ls false (λ j h. same j (inr h)))
+
+-- nothing is left of no entries
+pub nothing_left : (n : Sizes) (k : ℕ) (seat : Seat) (first word : ℕ) (reason : Reason) (L : List (Entry ℕ)) → word ≡ 0 → L ≡ list_with n k seat L (entries_from first word reason)
+nothing_left n k seat first word reason L none =
+    sym (ap (λ ls. L ++ first_numbers (nodes_of L) (entries_left n k seat (map (λ i. as_entry (first + i, reason)) ls))) (ap set_lanes none ∙ set_lanes-zero) ∙ append-nil L)
+
+-- some pairs of a part, at which a seat may leave its state behind or not
+pub record IsDying (n : Sizes) (k : ℕ) (seat : Seat) (first word : ℕ) (may : Bool) : Type 0 where
+  pub part : (width : ℕ) × (j : ℕ) × IsPart n.seats k width × (first ≡ j * width) × ((i : ℕ) → is_on word i ≡ true → i < width)
+  pub seat_in : k < length n.seats
+  pub pair : (i : ℕ) → is_on word i ≡ true → first + i < count n
+  pub goes : may_go k seat (pair_at n first) ≡ may
+
+part_goes : (n : Sizes) (k : ℕ) (seat : Seat) (first word : ℕ) (may : Bool) (reason : Reason) → IsDying n k seat first word may →
+    filter (λ x. may_go k seat (pair_at n x.node)) (entries_from first word reason) ≡ cond may (entries_from first word reason) []
+part_goes n k seat first word may reason is =
+    all_alike (λ x. may_go k seat (pair_at n x.node)) (λ i. as_entry (first + i, reason)) (set_lanes word) may (λ i h.
+    let on = (in_lanes word i h).1 in
+    let (width, j, part, e, within) = is.part in
+    let same : slice_index (pair_at n (first + i)).bs k ≡ slice_index (pair_at n first).bs k =
+    ap (λ f. slice_index (pair_at n (f + i)).bs k) e ∙ part_state n k width j i part (within i on) (subst (λ f. f + i < count n) e (is.pair i on)) is.seat_in ∙ sym (ap (λ f. slice_index (pair_at n f).bs k) e) in
+    ap (λ b. not seat.rests || is_final seat.beh b) same ∙ is.goes)
+
+-- nothing is left of those where it may not
+pub part_stays : (n : Sizes) (k : ℕ) (seat : Seat) (first word : ℕ) (reason : Reason) (L : List (Entry ℕ)) → IsDying n k seat first word false → L ≡ list_with n k seat L (entries_from first word reason)
+part_stays n k seat first word reason L is =
+    sym (ap (λ W. L ++ first_numbers (nodes_of L) (map (number_entry_without k n) W)) (part_goes n k seat first word false reason is) ∙ append-nil L)
+
+-- and of those where it may the entries of the row in which they lie then, but for those that are listed
+pub part_left : (n : Sizes) (k : ℕ) (seat : Seat) (first word left lanes alive : ℕ) (reason : Reason) (L : List (Entry ℕ)) → IsDying n k seat first word true →
+    left ≡ number_without k n first → lanes ≡ lanes_of (remove n.seats k) → (0 < lanes) × (lanes ≤ 64) → HasLanes lanes (left / lanes) (λ p. not (has_entry L p)) alive →
+    L ++ entries_in lanes (left / lanes) (bit_and (word * 2 ^ (left % lanes) % 2 ^ 64) alive) reason ≡ list_with n k seat L (entries_from first word reason)
+part_left n k seat first word left lanes alive reason L is moved wide few rows =
+    ap (λ M. L ++ M) (
+    ap (map (λ lane. as_entry (left / lanes * lanes + lane, reason))) (moved_lanes word alive (left % lanes) new (omega (arith, mod_below left lanes few.0, few.1)) each)
+    ∙ map-map (λ lane. as_entry (left / lanes * lanes + lane, reason)) (λ i. left % lanes + i) (filter new (set_lanes word))
+    ∙ map_as (λ i. as_entry (left / lanes * lanes + (left % lanes + i), reason)) f (filter new (set_lanes word)) (λ i h. ap (λ p. as_entry (p, reason)) (place i))
+    ∙ ap (map f) (filter_same new (λ i. not (list_any (λ j. left + i == j) (nodes_of L))) (set_lanes word) (λ i h. ap not (sym (list_any-map (λ (x : Entry ℕ). x.node) (λ j. left + i == j) L))))
+    ∙ sym (first_apart f (nodes_of L) (nodes_of L) (set_lanes word) (λ i j e. omega (arith, e)) (lanes_once word) (λ i h. refl))
+    ∙ ap (first_numbers (nodes_of L)) (sym (
+    ap (map (number_entry_without k n)) (part_goes n k seat first word true reason is)
+    ∙ map-map (number_entry_without k n) (λ i. as_entry (first + i, reason)) (set_lanes word)
+    ∙ map_as (λ i. number_entry_without k n (as_entry (first + i, reason))) f (set_lanes word) (λ i h. ap (λ p. as_entry (p, reason)) (number i (in_lanes word i h).1)))))
+  where
+    f : ℕ → Entry ℕ
+    f i = as_entry (left + i, reason)
+
+    new : ℕ → Bool
+    new i = not (has_entry L (left + i))
+
+    place : (i : ℕ) → left / lanes * lanes + (left % lanes + i) ≡ left + i
+    place i = let whole : left / lanes * lanes + left % lanes ≡ left = div-add-mod' left lanes in omega arith
+
+    number : (i : ℕ) → is_on word i ≡ true → number_without k n (first + i) ≡ left + i
+    number i on =
+        let (width, j, part, e, within) = is.part in
+        ap (λ p. number_without k n (p + i)) e ∙ part_number n k width j i part (within i on) ∙ ap (λ p. number_without k n p + i) (sym e) ∙ ap (λ p. p + i) (sym moved)
+
+    each : (i : ℕ) → i < 64 → is_on word i ≡ true → (left % lanes + i < 64) × (is_on alive (left % lanes + i) ≡ new i)
+    each i h on =
+        let (width, j, part, e, within) = is.part in
+        let l = within i on in
+        let fits : left % lanes + width ≤ lanes = subst (λ q. q % lanes + width ≤ lanes) (sym (moved ∙ ap (number_without k n) e)) (part_place n k width j lanes part (omega (arith, l)) wide few.0) in
+        (omega (arith, fits, l, few.1), rows.each (left % lanes + i) (omega (arith, fits, l)) ∙ ap (λ p. not (has_entry L p)) (place i))
+
+-- the row in which they lie then
+pub left_row : (n shape : Sizes) (k left lanes : ℕ) (order : Board) → left < count (sizes_without k shape) → shape ≡ n → pairs_of order ≡ count (sizes_without k n) → lanes ≡ order.lanes → left / lanes < order.rows
+left_row n shape k left lanes order l is pairs wide = row_of_left left lanes order.rows (omega (arith, l, ap (λ (m : Sizes). count (sizes_without k m)) is, pairs, ap (λ m. order.rows * m) wide))
+
+-- what is listed of them is in the row, and wasn't listed
+pub lost_within : (lanes x other alive lane : ℕ) (L : List (Entry ℕ)) → HasLanes lanes x (λ p. not (has_entry L p)) alive → is_on (bit_and other alive) lane ≡ true →
+    (lane < lanes) × (has_entry L (x * lanes + lane) ≡ false)
+lost_within lanes x other alive lane L rows on =
+    let here : is_on alive lane ≡ true = (and_parts (is_on other lane) (is_on alive lane) (sym (on_and other alive lane) ∙ on)).1 in
+    elim (cases_lt lane lanes) [
+      | inl l ↦ (l, false_else (has_entry L (x * lanes + lane)) (λ t. both_ways (is_on alive lane) (rows.each lane l ∙ ap not t) here))
+      | inr past ↦ absurd (both_ways (is_on alive lane) (rows.rest lane past) here)
+    ]
+
+-- The entries of a row, part by part.
+
+-- those of the lanes below a bound
+abbrev pub entries_below : ℕ → ℕ → ℕ → ℕ → Reason → List (Entry ℕ)
+entries_below n x word bound reason = map (λ lane. as_entry (x * n + lane, reason)) (filter (is_on word) (below bound))
+
+pub row_next : (n x word i w : ℕ) (reason : Reason) → w ≤ 64 →
+    entries_below n x word (i * w) reason ++ entries_from (x * n + i * w) (part_word word (i * w) w) reason ≡ entries_below n x word ((i + 1) * w) reason
+row_next n x word i w reason few =
+    let next : (i + 1) * w ≡ i * w + w = omega arith in
+    let those = filter (λ a. is_on word (i * w + a)) (below w) in
+    let f = λ (lane : ℕ). as_entry (x * n + lane, reason) in
+    sym (ap (λ m. map f (filter (is_on word) (below m))) next
+    ∙ ap (map f) (filter_split (is_on word) (i * w) w)
+    ∙ map-append f (filter (is_on word) (below (i * w))) (map (λ a. i * w + a) those)
+    ∙ ap (λ M. map f (filter (is_on word) (below (i * w))) ++ M) (map-map f (λ a. i * w + a) those
+    ∙ map_as (λ a. as_entry (x * n + (i * w + a), reason)) (λ a. as_entry (x * n + i * w + a, reason)) those
+    (λ a h. ap (λ p. as_entry (p, reason)) (let place : x * n + (i * w + a) ≡ x * n + i * w + a = omega arith in place))
+    ∙ ap (map (λ a. as_entry (x * n + i * w + a, reason))) (sym (part_lanes word (i * w) w few))))
+
+pub row_whole : (n x word : ℕ) (reason : Reason) → n ≤ 64 → ((lane : ℕ) → is_on word lane ≡ true → lane < n) → entries_below n x word n reason ≡ entries_in n x word reason
+unfolding set_lanes
+row_whole n x word reason few within =
+    let whole : 64 ≡ n + (64 - n) = omega arith in
+    ap (map (λ lane. as_entry (x * n + lane, reason)))
+    (sym (ap (λ m. filter (is_on word) (below m)) whole
+    ∙ only_so_far (is_on word) n (64 - n) (λ i l. false_else (is_on word (n + i)) (λ t. let past : n + i < n = within (n + i) t in omega (arith, past)))))
+
+-- The pairs of an event that waits are in range.
+
+pub record IsEventIn (lanes bound : ℕ) (rest : List (Entry ℕ)) (e : Event) : Type 0 where
+  pub within : (lane : ℕ) → is_on e.lanes lane ≡ true → (lane < lanes) × (e.row * lanes + lane < bound)
+  pub row : e.row * lanes < bound
+  pub others : (x : Entry ℕ) → IsIn x rest → x.node < bound
+
+pub event_in_range : (wide lanes bound : ℕ) (W rest : List (Entry ℕ)) (e : Event) → wide ≡ lanes → lanes ≤ 64 → W ≡ entries_at wide e ++ rest → IsEvent wide e → ((x : Entry ℕ) → IsIn x W → x.node < bound) →
+    IsEventIn lanes bound rest e
+event_in_range wide lanes bound W rest e same few parts is all =
+    record { within = within; row = row (set_lanes e.lanes) refl; others = λ x i. all x (subst (IsIn x) (sym parts) (in_append_right x (entries_at wide e) rest i)) }
+  where
+    pair : (lane : ℕ) → IsIn lane (set_lanes e.lanes) → e.row * lanes + lane < bound
+    pair lane i = subst (λ m. e.row * m + lane < bound) same
+        (all (as_entry (e.row * wide + lane, e.reason)) (subst (IsIn (as_entry (e.row * wide + lane, e.reason))) (sym parts)
+        (in_append_left (as_entry (e.row * wide + lane, e.reason)) (entries_at wide e) rest (in_map (λ lane. as_entry (e.row * wide + lane, e.reason)) lane (set_lanes e.lanes) i))))
+
+    within : (lane : ℕ) → is_on e.lanes lane ≡ true → (lane < lanes) × (e.row * lanes + lane < bound)
+    within lane on = (omega (arith, is.within lane on, same), pair lane (on_in e.lanes lane (omega (arith, is.within lane on, few)) on))
+
+    row : (ls : List ℕ) → set_lanes e.lanes ≡ ls → e.row * lanes < bound
+    row [] none = absurd (omega (arith, is.some, ap length none))
+    row (lane ∷ ls) some = omega (arith, pair lane (subst (IsIn lane) (sym some) (inl refl)))
 
 -- How many pairs are left.
 

@@ -54,7 +54,7 @@ none_so_far : (p : ℕ → Bool) (m : ℕ) → ((lane : ℕ) → lane < m → p 
 none_so_far p zero off = refl
 none_so_far p (suc m) off = rw (filter_below_more p m, none_so_far p m (λ lane l. off lane (omega arith)), off m (omega arith)) refl
 
-same_so_far : (p q : ℕ → Bool) (m : ℕ) → ((lane : ℕ) → lane < m → p lane ≡ q lane) → filter p (below m) ≡ filter q (below m)
+pub same_so_far : (p q : ℕ → Bool) (m : ℕ) → ((lane : ℕ) → lane < m → p lane ≡ q lane) → filter p (below m) ≡ filter q (below m)
 same_so_far p q zero same = refl
 same_so_far p q (suc m) same = rw (filter_below_more p m, filter_below_more q m, same_so_far p q m (λ lane l. same lane (omega arith)), same m (omega arith)) refl
 
@@ -143,21 +143,29 @@ front_some word end cut lane few both l on before off =
 
 -- ---- neighbouring lanes
 
--- where those from b on are as others from 0 on
-moved_so_far : (p q : ℕ → Bool) (b m : ℕ) → ((i : ℕ) → i < b → q i ≡ false) → ((i : ℕ) → i < m → q (b + i) ≡ p i) → filter q (below (b + m)) ≡ map (λ i. b + i) (filter p (below m))
-moved_so_far p q b zero off same = (let end : b + 0 ≡ b = omega arith in ap (λ n. filter q (below n)) end) ∙ none_so_far q b off
-moved_so_far p q b (suc m) off same =
+-- those below b, and those from b on
+pub filter_split : (q : ℕ → Bool) (b m : ℕ) → filter q (below (b + m)) ≡ filter q (below b) ++ map (λ i. b + i) (filter (λ i. q (b + i)) (below m))
+filter_split q b zero = (let end : b + 0 ≡ b = omega arith in ap (λ n. filter q (below n)) end) ∙ sym (append-nil (filter q (below b)))
+filter_split q b (suc m) =
     let next : b + suc m ≡ suc (b + m) = omega arith in
+    let last : List ℕ = cond (q (b + m)) (m ∷ []) [] in
     ap (λ n. filter q (below n)) next
     ∙ filter_below_more q (b + m)
-    ∙ ap₂ (λ L x. L ++ cond x ((b + m) ∷ []) []) (moved_so_far p q b m off (λ i l. same i (omega arith))) (same m (omega arith))
-    ∙ by_last (p m)
-    ∙ sym (map-append (λ i. b + i) (filter p (below m)) (cond (p m) (m ∷ []) []))
-    ∙ ap (map (λ i. b + i)) (sym (filter_below_more p m))
+    ∙ ap₂ (λ L M. L ++ M) (filter_split q b m) (by_last (q (b + m)))
+    ∙ append_assoc (filter q (below b)) (map (λ i. b + i) (filter (λ i. q (b + i)) (below m))) (map (λ i. b + i) last)
+    ∙ ap (λ L. filter q (below b) ++ L) (sym (map-append (λ i. b + i) (filter (λ i. q (b + i)) (below m)) last) ∙ ap (map (λ i. b + i)) (sym (filter_below_more (λ i. q (b + i)) m)))
   where
-    by_last : (x : Bool) → map (λ i. b + i) (filter p (below m)) ++ cond x ((b + m) ∷ []) [] ≡ map (λ i. b + i) (filter p (below m)) ++ map (λ i. b + i) (cond x (m ∷ []) [])
+    by_last : (x : Bool) → cond x ((b + m) ∷ []) [] ≡ map (λ i. b + i) (cond x (m ∷ []) [])
     by_last true = refl
     by_last false = refl
+
+-- where those from b on are as others from 0 on
+pub moved_so_far : (p q : ℕ → Bool) (b m : ℕ) → ((i : ℕ) → i < b → q i ≡ false) → ((i : ℕ) → i < m → q (b + i) ≡ p i) → filter q (below (b + m)) ≡ map (λ i. b + i) (filter p (below m))
+moved_so_far p q b m off same = filter_split q b m ∙ ap₂ (λ L M. L ++ map (λ i. b + i) M) (none_so_far q b off) (same_so_far (λ i. q (b + i)) p m same)
+
+-- where none passes from b on
+pub only_so_far : (q : ℕ → Bool) (b m : ℕ) → ((i : ℕ) → i < m → q (b + i) ≡ false) → filter q (below (b + m)) ≡ filter q (below b)
+only_so_far q b m off = filter_split q b m ∙ ap (λ M. filter q (below b) ++ map (λ i. b + i) M) (none_so_far (λ i. q (b + i)) m off) ∙ append-nil (filter q (below b))
 
 -- where those below s pass and no others
 first_so_far : (p : ℕ → Bool) (s m : ℕ) → s ≤ m → ((i : ℕ) → i < s → p i ≡ true) → ((i : ℕ) → s ≤ i → i < m → p i ≡ false) → filter p (below m) ≡ below s

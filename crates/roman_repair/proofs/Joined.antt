@@ -96,21 +96,21 @@ joined_lanes s seat can =
     let (m, is) = lanes_last (sizes_of s).seats seat.beh.states can.0.states.1 in
     (m, ap (λ (n : Sizes). lanes_of n.seats) (sizes-joined s seat) ∙ is)
 
+pub map_as : {X Y : Type 0} (f g : X → Y) (xs : List X) → ((x : X) → IsIn x xs → f x ≡ g x) → map f xs ≡ map g xs
+map_as f g [] same = refl
+map_as f g (x ∷ xs) same = ap₂ (λ y ys. y ∷ ys) (same x (inl refl)) (map_as f g xs (λ y i. same y (inr i)))
+
 -- the entries of neighbouring pairs are those of a word of neighbouring lanes
 pub grown_entries : (n m states pair word : ℕ) (reason : Reason) → n ≡ m * states → set_lanes word ≡ map (λ i. pair * states % n + i) (below states) →
     entries_in n (pair * states / n) word reason ≡ grown_numbers states (as_entry (pair, reason))
 grown_entries n m states pair word reason is lanes =
     ap (map (λ lane. as_entry (pair * states / n * n + lane, reason))) lanes
     ∙ map-map (λ lane. as_entry (pair * states / n * n + lane, reason)) (λ i. pair * states % n + i) (below states)
-    ∙ map_same (λ i. as_entry (pair * states / n * n + (pair * states % n + i), reason)) (grown_number states (as_entry (pair, reason))) (below states)
-    (λ i. ap (λ p. as_entry (p, reason)) (let whole : pair * states / n * n + pair * states % n ≡ pair * states = div-add-mod' (pair * states) n in
+    ∙ map_as (λ i. as_entry (pair * states / n * n + (pair * states % n + i), reason)) (grown_number states (as_entry (pair, reason))) (below states)
+    (λ i j. ap (λ p. as_entry (p, reason)) (let whole : pair * states / n * n + pair * states % n ≡ pair * states = div-add-mod' (pair * states) n in
     let place : pair * states / n * n + (pair * states % n + i) ≡ pair * states + i = omega arith in place))
-  where
-    map_same : {X Y : Type 0} (f g : X → Y) (xs : List X) → ((x : X) → f x ≡ g x) → map f xs ≡ map g xs
-    map_same f g [] same = refl
-    map_same f g (x ∷ xs) same = ap₂ (λ y ys. y ∷ ys) (same x) (map_same f g xs same)
 
-positive : (m n : ℕ) → 0 < m * n → (0 < m) × (0 < n)
+pub positive : (m n : ℕ) → 0 < m * n → (0 < m) × (0 < n)
 positive zero n some = absurd (let none : zero * n ≡ 0 = omega arith in omega (arith, none, some))
 positive (suc m) zero some = absurd (let none : suc m * zero ≡ 0 = omega arith in omega (arith, none, some))
 positive (suc m) (suc n) some = (omega arith, omega arith)

@@ -1,7 +1,7 @@
 -- What a replay keeps, candidate by candidate.
-use Rattle.std.proofs.Common.{◌≡◌, ℕ, ◌+◌, ◌-◌, ◌*◌, ◌<◌, ◌≤◌, ◌==◌, Bool, true, false, if◌then◌else◌, ◌&&◌, List, [], ◌∷◌, ◌++◌, map, flat_map, drop, length, IsTrue, IsFalse, sum_by, count_by, inl, inr, refl, sym, ap, ◌∙◌, subst, arith, append-nil, append_assoc}
-use Rattle.std.proofs.lemmas.Bool.{or_from, or_left, false_from_ne_true, eqb-true}
-use Rattle.std.proofs.lemmas.List.{map-append, drop-map, drop_more, drop_all, length-map}
+use Rattle.std.proofs.Common.{◌≡◌, ℕ, ◌+◌, ◌*◌, ◌<◌, ◌≤◌, ◌==◌, Bool, true, false, if◌then◌else◌, ◌&&◌, List, [], ◌∷◌, ◌++◌, flat_map, length, IsTrue, IsFalse, sum_by, count_by, inl, inr, refl, sym, ap, ◌∙◌, subst, arith, append-nil, append_assoc}
+use Rattle.std.proofs.lemmas.Bool.{or_from, false_from_ne_true, eqb-true}
+use Rattle.std.proofs.lemmas.List.{map-append}
 use Rattle.std.proofs.lemmas.List.Sums.{sum_by-cons, sum_by-append}
 use Rattle.std.proofs.lemmas.List.Folds.{list_any-append}
 use Rattle.roman_model.specs.Lists.{IsIn, HasNoRepeats, below}
@@ -9,11 +9,10 @@ use Rattle.roman_model.specs.Arena.{Arena, Entry, is_among, is_listed, is_justif
 use Rattle.roman_model.specs.declared.reason.Reason.{Reason}
 use Rattle.roman_model.specs.declared.reason.Reason.TheVariants.{Final, Act}
 use Rattle.roman_model.specs.NumberedChange.{grown_numbers}
-use Rattle.roman_model.proofs.CallerLemmas.{in_map, from_map, in_append_left, in_below, sum_by_within, length-below, get_or-below, listed_among, listed_append, justified_same, replay_from_same, middle_first, readings_at, readings_within}
+use Rattle.roman_model.proofs.CallerLemmas.{in_map, from_map, in_append_left, in_below, sum_by_within, listed_among, justified_same, replay_from_same, middle_first, readings_at, readings_within}
 use Rattle.roman_rules.specs.Numbered.{IsNumbered}
-use Rattle.roman_rules.specs.Asked.{HoldsWhereKept, IsReasonOf, readings_of, readings_of_reason}
-use Rattle.roman_rules.specs.declared.asked.Asked.{Asked}
-use Rattle.roman_rules.proofs.CallerLemmas.{known_more, readings_of-allowed}
+use Rattle.roman_rules.specs.Asked.{IsReasonOf, readings_of, readings_of_reason}
+use Rattle.roman_rules.proofs.CallerLemmas.{readings_of-allowed}
 use Rattle.roman_order.specs.Board.{Board, nodes_of, has_entry, as_entry}
 use Rattle.roman_repair.specs.Replays.{is_possible, AreCandidates, with_replay, readings_of_entries}
 

@@ -3,6 +3,7 @@ pub mod Keeping
 pub mod Waiting
 pub mod Joined
 pub mod DeathStates
+pub mod DeathParts
 pub mod DeathEntries
 pub mod Whole
 pub mod Fronts

@@ -1,16 +1,30 @@
 -- A service that dies: what becomes of the entries of a removal list.
-use Rattle.std.specs.Prelude.{ℕ, not, ◌&&◌, List, [], ◌∷◌, ◌++◌, if◌then◌else◌}
+use Rattle.std.specs.Prelude.{◌≡◌, ℕ, ◌+◌, ◌*◌, List, ◌++◌, map, drop}
+use Rattle.std.specs.List.{filter, remove}
+use Rattle.roman_model.specs.Lists.{product_of}
 use Rattle.roman_model.specs.System.{Seat}
 use Rattle.roman_model.specs.Arena.{Entry}
-use Rattle.roman_model.specs.Change.{without, may_go}
-use Rattle.roman_model.specs.Numbers.{Sizes, sizes_without, number, pair_at}
-use Rattle.roman_order.specs.Board.{has_entry}
+use Rattle.roman_model.specs.Change.{may_go}
+use Rattle.roman_model.specs.Numbers.{Sizes, pair_at}
+use Rattle.roman_model.specs.NumberedChange.{number_entry_without, first_numbers}
+use Rattle.roman_model.specs.declared.reason.Reason.{Reason}
+use Rattle.roman_radix.specs.Rows.{lanes_of}
+use Rattle.roman_order.specs.Board.{as_entry, nodes_of, set_lanes}
 
--- what is left of an entry without seat k
-abbrev pub entry_left : Sizes → ℕ → Entry ℕ → Entry ℕ
-entry_left n k x = record { node = number (sizes_without k n) (without k (pair_at n x.node)); reason = x.reason }
+-- what is left of the entries that may go
+abbrev pub entries_left : Sizes → ℕ → Seat → List (Entry ℕ) → List (Entry ℕ)
+entries_left n k seat W = map (number_entry_without k n) (filter (λ x. may_go k seat (pair_at n x.node)) W)
 
--- the list with what is left of the entry, where the seat may leave its state behind and the pair that is left isn't listed
-abbrev pub list_with : Sizes → ℕ → Seat → List (Entry ℕ) → Entry ℕ → List (Entry ℕ)
-list_with n k seat L x =
-    if may_go k seat (pair_at n x.node) && not (has_entry L (entry_left n k x).node) then L ++ entry_left n k x ∷ [] else L
+-- the list with what is left of the entries, of each pair that isn't listed the first
+abbrev pub list_with : Sizes → ℕ → Seat → List (Entry ℕ) → List (Entry ℕ) → List (Entry ℕ)
+list_with n k seat L W = L ++ first_numbers (nodes_of L) (entries_left n k seat W)
+
+-- the entries for the pairs from one on whose places are the bits of a word, all for one reason
+abbrev pub entries_from : ℕ → ℕ → Reason → List (Entry ℕ)
+entries_from first word reason = map (λ i. as_entry (first + i, reason)) (set_lanes word)
+
+-- so many neighbouring pairs lie in one row and have one state of seat k, and so do those that are left of them
+pub record IsPart (sizes : List ℕ) (k width : ℕ) : Type 0 where
+  pub stride : (c : ℕ) × (product_of (drop (k + 1) sizes) ≡ c * width)
+  pub lanes : (c : ℕ) × (lanes_of sizes ≡ c * width)
+  pub left : (c : ℕ) × (lanes_of (remove sizes k) ≡ c * width)

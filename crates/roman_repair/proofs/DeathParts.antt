@@ -1,0 +1,240 @@
+-- The parts of rows that stay together when a service dies.
+use Rattle.std.proofs.Common.{◌≡◌, ℕ, zero, suc, ◌+◌, ◌-◌, ◌*◌, ◌/◌, ◌%◌, ◌^◌, ◌<◌, ◌≤◌, Bool, true, false, ◌&&◌, List, [], ◌∷◌, map, length, drop, filter, cond, eqb, remove, slice_index, inl, inr, refl, sym, ap, ap₂, ◌∙◌, subst, arith, bit_and}
+use Rattle.std.specs.Int.{bit_at}
+use Rattle.std.proofs.Math.Nat.{mul-le-mul_left}
+use Rattle.std.proofs.lemmas.Bool.{cases_lt, both_ways, lt-ltb, le-ltb}
+use Rattle.std.proofs.lemmas.Nat.{shr-shr, pow_pos, mul-le, div-add-mod'}
+use Rattle.std.proofs.lemmas.Nat.Bits.{bit_at-zero, bit_at_cat_low, bit_at_cat_high, shr_and_one}
+use Rattle.roman_model.specs.Lists.{below, product_of}
+use Rattle.roman_model.specs.Numbers.{Sizes, count, pair_at}
+use Rattle.roman_model.specs.NumberedChange.{number_without}
+use Rattle.roman_model.proofs.CallerLemmas.{by_test, part_at}
+use Rattle.roman_lanes.specs.Rows.{is_on}
+use Rattle.roman_lanes.proofs.CallerLemmas.{on_and, on_full, on_full_past}
+use Rattle.roman_radix.specs.Radix.{AreSizes, IsSizes}
+use Rattle.roman_radix.specs.Rows.{low_of, lanes_of}
+use Rattle.roman_radix.proofs.CallerLemmas.{tails_from, row_div, row_mod, row_below, rows_are, lanes_few, lanes_positive}
+use Rattle.roman_order.specs.Board.{set_lanes}
+use Rattle.roman_repair.specs.Deaths.{IsPart}
+use Rattle.roman_repair.proofs.Joined.{positive, grown_within}
+use Rattle.roman_repair.proofs.Fronts.{moved_so_far, same_so_far, only_so_far}
+
+-- ---- how wide the parts are
+
+-- where the states of all components fit into a row
+whole_row : (ns : List ℕ) → product_of ns ≤ 64 → (low_of ns ≡ 0) × (lanes_of ns ≡ product_of ns)
+whole_row [] few = (refl, refl)
+whole_row (n ∷ ns) few = (
+  ap (λ b. cond b (suc (low_of ns)) 0) (le-ltb 64 (product_of (n ∷ ns)) few),
+  ap (λ b. product_of (drop (cond b (suc (low_of ns)) 0) (n ∷ ns))) (le-ltb 64 (product_of (n ∷ ns)) few),
+)
+
+-- and where those of the first don't
+shorter_row : (n : ℕ) (ns : List ℕ) → 64 < product_of (n ∷ ns) → (low_of (n ∷ ns) ≡ suc (low_of ns)) × (lanes_of (n ∷ ns) ≡ lanes_of ns)
+shorter_row n ns more = (
+  ap (λ b. cond b (suc (low_of ns)) 0) (lt-ltb 64 (product_of (n ∷ ns)) more),
+  ap (λ b. product_of (drop (cond b (suc (low_of ns)) 0) (n ∷ ns))) (lt-ltb 64 (product_of (n ∷ ns)) more),
+)
+
+few_behind : (n : ℕ) (ns : List ℕ) → 0 < n → product_of (n ∷ ns) ≤ 64 → product_of ns ≤ 64
+few_behind n ns some few = let less : product_of ns * 1 ≤ product_of ns * n = mul-le-mul_left (product_of ns) some in omega (arith, less, few)
+
+-- what goes into a row goes into one of a component more
+part_of_more : (n : ℕ) (ns : List ℕ) (w : ℕ) → 0 < n → (c : ℕ) × (lanes_of ns ≡ c * w) → (c : ℕ) × (lanes_of (n ∷ ns) ≡ c * w)
+part_of_more n ns w some (c, is) = elim (cases_lt 64 (product_of (n ∷ ns))) [
+  | inl more ↦ (c, (shorter_row n ns more).1 ∙ is)
+  | inr few ↦
+      let those : n * product_of ns ≡ n * (c * w) = ap (λ m. n * m) (sym (whole_row ns (few_behind n ns some few)).1 ∙ is) in
+      (n * c, (whole_row (n ∷ ns) few).1 ∙ those ∙ omega arith)
+]
+
+part_first_seat : (n : ℕ) (ns : List ℕ) (w : ℕ) → 0 < n → (c : ℕ) × (product_of ns ≡ c * w) → (c : ℕ) × (lanes_of ns ≡ c * w) → IsPart (n ∷ ns) 0 w
+part_first_seat n ns w some stride lanes = record { stride = stride; lanes = part_of_more n ns w some lanes; left = lanes }
+
+part_later_seat : (n : ℕ) (ns : List ℕ) (k w : ℕ) → 0 < n → IsPart ns k w → IsPart (n ∷ ns) (suc k) w
+part_later_seat n ns k w some is =
+    let next : suc (k + 1) ≡ suc k + 1 = omega arith in
+    record {
+      stride = subst (λ j. (c : ℕ) × (product_of (drop j (n ∷ ns)) ≡ c * w)) next is.stride;
+      lanes = part_of_more n ns w some is.lanes;
+      left = part_of_more n (remove ns k) w some is.left;
+    }
+
+-- before the lanes it is whole rows
+pub part_before : (ns : List ℕ) (k : ℕ) → AreSizes ns → k < low_of ns → IsPart ns k (lanes_of ns)
+part_before [] k h l = absurd (omega arith)
+part_before (n ∷ ns) zero h l = elim (cases_lt 64 (product_of (n ∷ ns))) [
+  | inl more ↦ subst (IsPart (n ∷ ns) 0) (sym (shorter_row n ns more).1) (part_first_seat n ns (lanes_of ns) h.0 (tails_from ns 0 (low_of ns) (omega arith)) (1, omega arith))
+  | inr few ↦ absurd (omega (arith, l, (whole_row (n ∷ ns) few).0))
+]
+part_before (n ∷ ns) (suc k) h l = elim (cases_lt 64 (product_of (n ∷ ns))) [
+  | inl more ↦ subst (IsPart (n ∷ ns) (suc k)) (sym (shorter_row n ns more).1) (part_later_seat n ns k (lanes_of ns) h.0 (part_before ns k h.2 (omega (arith, l, (shorter_row n ns more).0))))
+  | inr few ↦ absurd (omega (arith, l, (whole_row (n ∷ ns) few).0))
+]
+
+-- and within them one state of the component
+pub part_within : (ns : List ℕ) (k : ℕ) → AreSizes ns → low_of ns ≤ k → k < length ns → IsPart ns k (product_of (drop (k + 1) ns))
+part_within [] k h l m = absurd (omega arith)
+part_within (n ∷ ns) zero h l m = elim (cases_lt 64 (product_of (n ∷ ns))) [
+  | inl more ↦ absurd (omega (arith, l, (shorter_row n ns more).0))
+  | inr few ↦ part_first_seat n ns (product_of ns) h.0 (1, omega arith) (1, omega (arith, (whole_row ns (few_behind n ns h.0 few)).1))
+]
+part_within (n ∷ ns) (suc k) h l m =
+    let next : suc (k + 1) ≡ suc k + 1 = omega arith in
+    let low : low_of ns ≤ k = elim (cases_lt 64 (product_of (n ∷ ns))) [
+      | inl more ↦ omega (arith, l, (shorter_row n ns more).0)
+      | inr few ↦ omega (arith, (whole_row ns (few_behind n ns h.0 few)).0)
+    ] in
+    subst (λ j. IsPart (n ∷ ns) (suc k) (product_of (drop j (n ∷ ns)))) next (part_later_seat n ns k (product_of (drop (k + 1) ns)) h.0 (part_within ns k h.2 low (omega arith)))
+
+pub part_few : (ns : List ℕ) (k w : ℕ) → AreSizes ns → IsPart ns k w → (0 < w) × (w ≤ 64)
+part_few ns k w h is =
+    let (c, e) = is.lanes in
+    let (some, pos) = positive c w (omega (arith, e, lanes_positive ns h)) in
+    let less : w * 1 ≤ w * c = mul-le-mul_left w some in
+    (pos, omega (arith, less, e, lanes_few ns))
+
+-- ---- the pairs of a part
+
+part_div : (n : Sizes) (k w j i : ℕ) → (part : IsPart n.seats k w) → i < w → (j * w + i) / product_of (drop (k + 1) n.seats) ≡ j / part.stride.0
+part_div n k w j i part l = ap (λ s. (j * w + i) / s) part.stride.1 ∙ row_div j w i part.stride.0 l
+
+part_mod : (n : Sizes) (k w j i : ℕ) → (part : IsPart n.seats k w) → i < w → (j * w + i) % product_of (drop (k + 1) n.seats) ≡ j % part.stride.0 * w + i
+part_mod n k w j i part l = ap (λ s. (j * w + i) % s) part.stride.1 ∙ row_mod j w i part.stride.0 l
+
+-- they are neighbours without the seat
+pub part_number : (n : Sizes) (k w j i : ℕ) → IsPart n.seats k w → i < w → number_without k n (j * w + i) ≡ number_without k n (j * w) + i
+part_number n k w j i part l =
+    let size = slice_index n.seats k in
+    let stride = product_of (drop (k + 1) n.seats) in
+    let none : j * w + 0 ≡ j * w = omega arith in
+    let here = ap₂ (λ q r. q / size * stride + r) (part_div n k w j i part l) (part_mod n k w j i part l) in
+    let first = ap (number_without k n) (sym none) ∙ ap₂ (λ q r. q / size * stride + r) (part_div n k w j 0 part (omega arith)) (part_mod n k w j 0 part (omega arith)) in
+    omega (arith, here, first)
+
+-- in one state of it
+pub part_state : (n : Sizes) (k w j i : ℕ) → IsPart n.seats k w → i < w → j * w + i < count n → k < length n.seats → slice_index (pair_at n (j * w + i)).bs k ≡ slice_index (pair_at n (j * w)).bs k
+part_state n k w j i part l pair seat =
+    let none : j * w + 0 ≡ j * w = omega arith in
+    let first = ap (λ p. p / product_of (drop (k + 1) n.seats)) (sym none) ∙ part_div n k w j 0 part (omega arith) in
+    part_at n (j * w + i) k pair seat ∙ ap (λ q. q % slice_index n.seats k) (part_div n k w j i part l ∙ sym first) ∙ sym (part_at n (j * w) k (omega arith) seat)
+
+-- and in one row
+pub part_place : (n : Sizes) (k w j lanes : ℕ) → IsPart n.seats k w → 0 < w → lanes ≡ lanes_of (remove n.seats k) → 0 < lanes → number_without k n (j * w) % lanes + w ≤ lanes
+part_place n k w j lanes part some is pos =
+    let (c, e) = part.stride in
+    let (d, f) = part.left in
+    let none : j * w + 0 ≡ j * w = omega arith in
+    let place : ℕ = j / c / slice_index n.seats k * c + j % c in
+    let front : j / c / slice_index n.seats k * product_of (drop (k + 1) n.seats) ≡ j / c / slice_index n.seats k * (c * w) = ap (λ s. j / c / slice_index n.seats k * s) e in
+    let split : place * w ≡ j / c / slice_index n.seats k * (c * w) + j % c * w = omega arith in
+    let first = ap (number_without k n) (sym none)
+    ∙ ap₂ (λ q r. q / slice_index n.seats k * product_of (drop (k + 1) n.seats) + r) (part_div n k w j 0 part some) (part_mod n k w j 0 part some) in
+    let number : number_without k n (j * w) ≡ place * w = omega (arith, first, front, split) in
+    subst (λ q. q % lanes + w ≤ lanes) (sym number) (grown_within lanes d w place (is ∙ f) pos)
+
+-- a part ends in its row
+pub part_end : (i w lanes : ℕ) → i < lanes / w → (i + 1) * w ≤ lanes
+part_end i w lanes l = let most : (i + 1) * w ≤ lanes / w * w = mul-le (i + 1) w (lanes / w) w (omega arith) (omega arith) in omega (arith, most, div-add-mod' lanes w)
+
+-- and a row among the pairs
+pub row_end : (n : Sizes) (x : ℕ) → IsSizes n → x * lanes_of n.seats < count n → (x + 1) * lanes_of n.seats ≤ count n
+row_end n x h l =
+    let lanes = lanes_of n.seats in
+    let below : x < count n / lanes = row_below x lanes 0 (count n / lanes) (omega (arith, l, rows_are n h)) in
+    let most : (x + 1) * lanes ≤ count n / lanes * lanes = mul-le (x + 1) lanes (count n / lanes) lanes (omega arith) (omega arith) in
+    omega (arith, most, rows_are n h)
+
+pub row_of_left : (left lanes rows : ℕ) → left < rows * lanes → left / lanes < rows
+row_of_left left lanes rows l = row_below (left / lanes) lanes (left % lanes) rows (omega (arith, div-add-mod' left lanes, l))
+
+-- the pairs of a row begin a part at each multiple of the width
+pub part_begins : (x lanes c w i : ℕ) → lanes ≡ c * w → x * lanes + i * w ≡ (x * c + i) * w
+part_begins x lanes c w i is = let slices : x * lanes ≡ x * (c * w) = ap (λ m. x * m) is in omega (arith, slices)
+
+-- ---- their lanes
+
+on_lowered : (a d i : ℕ) → is_on (a / 2 ^ d) i ≡ is_on a (d + i)
+unfolding is_on
+on_lowered a d i = ap (λ n. eqb n 1) (sym (shr_and_one (a / 2 ^ d) i) ∙ (ap (λ n. bit_and n 1) (shr-shr a d i) ∙ shr_and_one a (d + i)))
+
+on_fitting : (a d i : ℕ) → i < 64 → is_on (a * 2 ^ d % 2 ^ 64) i ≡ is_on (a * 2 ^ d + 0) i
+unfolding is_on
+on_fitting a d i h =
+    let whole : a * 2 ^ d + 0 ≡ (a * 2 ^ d / 2 ^ 64) * 2 ^ 64 + a * 2 ^ d % 2 ^ 64 = omega arith in
+    ap (λ n. eqb n 1) (sym (ap (λ n. bit_at n i) whole ∙ bit_at_cat_low (a * 2 ^ d / 2 ^ 64) 64 (a * 2 ^ d % 2 ^ 64) i h))
+
+on_raised : (a d i : ℕ) → d + i < 64 → is_on (a * 2 ^ d % 2 ^ 64) (d + i) ≡ is_on a i
+unfolding is_on
+on_raised a d i h =
+    let place : d + i - d ≡ i = omega arith in
+    on_fitting a d (d + i) h ∙ ap (λ n. eqb n 1) (bit_at_cat_high a d 0 (d + i) (pow_pos d) (omega arith) ∙ ap (bit_at a) place)
+
+on_under : (a d i : ℕ) → i < d → i < 64 → is_on (a * 2 ^ d % 2 ^ 64) i ≡ false
+unfolding is_on
+on_under a d i l h = on_fitting a d i h ∙ ap (λ n. eqb n 1) (bit_at_cat_low a d 0 i l ∙ bit_at-zero i)
+
+-- the lanes of a part, as its word is computed
+abbrev pub part_word : ℕ → ℕ → ℕ → ℕ
+part_word word base w = bit_and (word / 2 ^ base) ((2 ^ 64 - 1) / 2 ^ (64 - w))
+
+part_on : (word base w i : ℕ) → w ≤ 64 → i < w → is_on (part_word word base w) i ≡ is_on word (base + i)
+part_on word base w i few l =
+    on_and (word / 2 ^ base) ((2 ^ 64 - 1) / 2 ^ (64 - w)) i ∙ ap₂ (λ a b. a && b) (on_lowered word base i) (on_full w i few l) ∙ both (is_on word (base + i))
+  where
+    both : (b : Bool) → (b && true) ≡ b
+    both true = refl
+    both false = refl
+
+part_off : (word base w i : ℕ) → w ≤ 64 → w ≤ i → is_on (part_word word base w) i ≡ false
+part_off word base w i few past = on_and (word / 2 ^ base) ((2 ^ 64 - 1) / 2 ^ (64 - w)) i ∙ ap (λ b. is_on (word / 2 ^ base) i && b) (on_full_past w i few past) ∙ neither (is_on (word / 2 ^ base) i)
+  where
+    neither : (b : Bool) → (b && false) ≡ false
+    neither true = refl
+    neither false = refl
+
+pub part_in : (word base w i : ℕ) → w ≤ 64 → is_on (part_word word base w) i ≡ true → (i < w) × (is_on word (base + i) ≡ true)
+part_in word base w i few on = elim (cases_lt i w) [
+  | inl l ↦ (l, sym (part_on word base w i few l) ∙ on)
+  | inr past ↦ absurd (both_ways (is_on (part_word word base w) i) (part_off word base w i few past) on)
+]
+
+pub part_lanes : (word base w : ℕ) → w ≤ 64 → set_lanes (part_word word base w) ≡ filter (λ i. is_on word (base + i)) (below w)
+unfolding set_lanes
+part_lanes word base w few =
+    let whole : 64 ≡ w + (64 - w) = omega arith in
+    ap (λ n. filter (is_on (part_word word base w)) (below n)) whole
+    ∙ only_so_far (is_on (part_word word base w)) w (64 - w) (λ i l. part_off word base w (w + i) few (omega arith))
+    ∙ same_so_far (is_on (part_word word base w)) (λ i. is_on word (base + i)) w (λ i l. part_on word base w i few l)
+
+-- those that pass both tests
+both_tests : {X : Type 0} (f g : X → Bool) (xs : List X) → filter f (filter g xs) ≡ filter (λ x. g x && f x) xs
+both_tests f g [] = refl
+both_tests f g (x ∷ xs) = by_answer (g x) (both_tests f g xs)
+  where
+    by_answer : (b : Bool) → filter f (filter g xs) ≡ filter (λ y. g y && f y) xs →
+        filter f (cond b (x ∷ filter g xs) (filter g xs)) ≡ cond (b && f x) (x ∷ filter (λ y. g y && f y) xs) (filter (λ y. g y && f y) xs)
+    by_answer true rest = ap (λ ys. cond (f x) (x ∷ ys) ys) rest
+    by_answer false rest = rest
+
+-- the lanes that are left of a part where it is moved up
+pub moved_lanes : (word alive place : ℕ) (test : ℕ → Bool) → place < 64 → ((i : ℕ) → i < 64 → is_on word i ≡ true → (place + i < 64) × (is_on alive (place + i) ≡ test i)) →
+    set_lanes (bit_and (word * 2 ^ place % 2 ^ 64) alive) ≡ map (λ i. place + i) (filter test (set_lanes word))
+unfolding set_lanes
+moved_lanes word alive place test few each =
+    let whole : 64 ≡ place + (64 - place) = omega arith in
+    let ends : 64 ≡ 64 - place + place = omega arith in
+    ap (λ n. filter (is_on (bit_and (word * 2 ^ place % 2 ^ 64) alive)) (below n)) whole
+    ∙ moved_so_far (λ i. is_on word i && test i) (is_on (bit_and (word * 2 ^ place % 2 ^ 64) alive)) place (64 - place) low same
+    ∙ ap (map (λ i. place + i)) (sym (both_tests test (is_on word) (below (64 - place)))
+    ∙ ap (filter test) (sym (ap (λ n. filter (is_on word) (below n)) ends ∙ only_so_far (is_on word) (64 - place) place past)))
+  where
+    low : (i : ℕ) → i < place → is_on (bit_and (word * 2 ^ place % 2 ^ 64) alive) i ≡ false
+    low i l = on_and (word * 2 ^ place % 2 ^ 64) alive i ∙ ap (λ b. b && is_on alive i) (on_under word place i l (omega arith))
+
+    same : (i : ℕ) → i < 64 - place → is_on (bit_and (word * 2 ^ place % 2 ^ 64) alive) (place + i) ≡ (is_on word i && test i)
+    same i l = on_and (word * 2 ^ place % 2 ^ 64) alive (place + i) ∙ ap (λ b. b && is_on alive (place + i)) (on_raised word place i (omega arith))
+        ∙ by_test (is_on word i) (λ on. ap₂ (λ a b. a && b) on (each i (omega arith) on).1 ∙ sym (ap (λ b. b && test i) on)) (λ off. ap (λ b. b && is_on alive (place + i)) off ∙ sym (ap (λ b. b && test i) off))
+
+    past : (i : ℕ) → i < place → is_on word (64 - place + i) ≡ false
+    past i l = by_test (is_on word (64 - place + i)) (λ on. absurd (let (h, s) = each (64 - place + i) (omega arith) on in omega (arith, h))) (λ off. off)

@@ -1,0 +1,17 @@
+use Rattle.std.proofs.Common.{◌≡◌, ◌*◌}
+use Rattle.roman_model.specs.System.{Seat}
+use Rattle.roman_model.specs.Change.{Die, CanChange}
+use Rattle.roman_model.specs.Numbers.{sizes_of}
+use Rattle.roman_joint.specs.NamedSys.{system_of}
+use Rattle.roman_joint.specs.Rows.{lanes_in}
+use Rattle.roman_repair.specs.Deaths.{list_with}
+use Rattle.roman_repair.proofs.DeathEntries.{entries_below}
+use Rattle.roman_repair.proofs.dying.renaming.rename_row.Given as goal
+
+-- the parts so far are renamed
+abbrev pub invariant-loop-i : goal.invariant-loop-i
+invariant-loop-i l = record {
+  list : (seat : Seat) → CanChange (Die l.k seat) (system_of l.joint) →
+      l.order.list ≡ list_with (sizes_of (system_of l.joint)) l.k seat l.fn.order.list (entries_below (lanes_in (system_of l.joint)) l.x l.word (l.i * l.width) l.reason);
+  rest : l.order ≡ record l.fn.order { list = l.order.list };
+}
