@@ -114,17 +114,7 @@ some_entry pairs actions line front back n r few cut l e i same =
 
 -- Lines with which more bytes begin
 
--- a line whose first part is a pair's number, and whose second part is a reason's text before a newline
-pub front_line : (pairs actions : ℕ) (bytes : List ℕ) (i end n : ℕ) (r : Reason) → AreFew pairs actions → IsNumberTo 32 bytes i → n < pairs → decimal n ≡ take i bytes →
-    IsIn r (reasons actions) → IsEndedAt (after bytes i) end → reason_text r ≡ take end (after bytes i) → IsEndedAt bytes (i + 1 + end) × (entry_of pairs actions (take (i + 1 + end) bytes) ≡ Some (record { node = n; reason = r }))
-front_line pairs actions bytes i end n r few number l e given ended same =
-    let rest : after bytes i ≡ drop (i + 1) bytes = take_rest bytes (i + 1) in
-    let at : IsEndedAt (drop (i + 1) bytes) end = subst (λ bs. IsEndedAt bs end) rest ended in (
-      record { within = omega (arith, at.within, length-drop (i + 1) bytes); newline = sym (get_or-drop (i + 1) bytes end 0) ∙ at.newline },
-      some_entry pairs actions (take (i + 1 + end) bytes) (take i bytes) (take end (drop (i + 1) bytes)) n r few (cut_to bytes i end number) l e given (same ∙ ap (take end) rest),
-    )
-
--- such a line from a place on
+-- an entry's line from a place on
 pub entry_at : (pairs actions : ℕ) (piece : List ℕ) (start len : ℕ) (x : Entry ℕ) → AreFew pairs actions → IsEndedAt (take (length piece - start) (drop start piece)) len →
     entry_of pairs actions (take len (take (length piece - start) (drop start piece))) ≡ Some x → (start ≤ start + len) × (start + len < length piece) × IsLine (take (start + len - start) (drop start piece)) ×
     (get_or piece (start + len) 0 ≡ 10) × (entry_of pairs actions (take (start + len - start) (drop start piece)) ≡ Some x)

@@ -1,6 +1,7 @@
 pub mod Texts
 pub mod DigitLemmas
 pub mod EntryLemmas
+pub mod PatternLemmas
 pub mod ReasonLemmas
 pub mod RemainLemmas
 pub mod AuditLemmas

@@ -1,5 +1,6 @@
 pub mod Decimals
 pub mod Readings
+pub mod Patterns
 pub mod Verdicts
 pub mod Remain
 pub mod Audits

@@ -1,8 +1,9 @@
 -- What a text is read as.
-use Rattle.std.specs.Prelude.{◌≡◌, ◌≢◌, ℕ, ◌<◌, List, Option, None, Some, length, slice_index}
+use Rattle.std.specs.Prelude.{◌≡◌, ◌≢◌, ℕ, ◌+◌, ◌-◌, ◌<◌, List, Option, None, Some, length, take, drop, slice_index, decimal}
 use Rattle.roman_model.specs.Lists.{IsIn}
 use Rattle.roman_model.specs.Arena.{Entry}
 use Rattle.roman_model.specs.declared.reason.Reason.{Reason}
+use Rattle.roman_model.specs.Certificate.{reason_text}
 
 -- the entry of a pair and a reason
 abbrev pub entry_with : ℕ × Reason → Entry ℕ
@@ -21,3 +22,11 @@ pub record ReadsOff {X : Type 0} (xs : List X) (text_of : X → List ℕ) (line 
 pub record IsEndedAt (bytes : List ℕ) (end : ℕ) : Type 0 where
   pub within : end < length bytes
   pub newline : slice_index bytes end ≡ 10
+
+-- the bytes begin with the pair's number, which ends there, a space, the reason's text and a newline
+pub record HasParts (bytes : List ℕ) (pair : ℕ) (reason : Reason) (space end : ℕ) : Type 0 where
+  pub number : decimal pair ≡ take space bytes
+  pub stop : slice_index bytes space ≡ 32
+  pub before : space < end
+  pub text : reason_text reason ≡ take (end - (space + 1)) (drop (space + 1) bytes)
+  pub ended : IsEndedAt bytes end

@@ -1,17 +1,17 @@
 //! The lines of a certificate.
-ghost use Rattle.std.specs.Prelude.{◌≡◌, [], ◌∷◌, Some, IfSome, take};
+ghost use Rattle.std.specs.Prelude.{◌≡◌, ◌<◌, ◌≤◌, [], ◌∷◌, Some, IfSome, length, take};
 ghost use Rattle.std.specs.Option.{option_map};
 ghost use Rattle.roman_model.specs.Lists.{IsIn};
 ghost use Rattle.roman_model.specs.SystemArena.{same_numbers};
 ghost use Rattle.roman_model.specs.Certificate.{head_line, count_line, end_line, reason_text, reasons, entry_of};
-ghost use Rattle.roman_check.specs.Readings.{entry_with, IsEndedAt, ReadsOff};
+ghost use Rattle.roman_check.specs.Readings.{entry_with, HasParts, IsEndedAt, ReadsOff};
 
 use crate::numbers::{is_number, number_below, number_to, trim_below};
 use roman_model::Reason;
 
 /// No fewer bytes than are looked at for one entry, which are eleven for each of its two numbers:
 /// where so many follow, no test of an index is needed.
-const ROOM: usize = 24;
+pub(crate) const ROOM: usize = 24;
 
 /// Whether that is the first line of a certificate.
 pub(crate) fn is_head(line: &[u8]) -> bool
@@ -95,11 +95,16 @@ fn front_reason(bytes: &[u8], actions: u8) -> Option<(Reason, usize)>
     Some((Reason::Act(action as u8), end))
 }
 
-/// The entry on the line with which the bytes begin, and how long the line is, read in one pass; `None`
-/// says nothing. With the first digit known, its number needs no look at leading zeros.
+/// The entry on the line with which the bytes begin, where its pair's number ends, and how long the line
+/// is, read in one pass; `None` says nothing. With the first digit known, its number needs no look at
+/// leading zeros.
 #[inline]
-pub(crate) fn front_entry(bytes: &[u8], pairs: u32, actions: u8) -> Option<(u32, Reason, usize)>
-    ensures { IfSome result (λ r. IsEndedAt bytes.now r.2 × (entry_of pairs actions (take r.2 bytes.now) ≡ Some (entry_with (r.0, r.1)))) }
+pub(crate) fn front_entry(
+    bytes: &[u8],
+    pairs: u32,
+    actions: u8,
+) -> Option<(u32, Reason, usize, usize)>
+    ensures { IfSome result (λ r. (r.0 < pairs) × IsIn r.1 (reasons actions) × (ROOM ≤ length bytes.now) × HasParts bytes.now r.0 r.1 r.2 r.3) }
 {
     if bytes.len() < ROOM || !matches!(bytes[0], b'1'..=b'9') {
         return None;
@@ -107,5 +112,5 @@ pub(crate) fn front_entry(bytes: &[u8], pairs: u32, actions: u8) -> Option<(u32,
     let (value, space) = number_to(bytes, b' ')?;
     let pair = trim_below(value, &bytes[..space], pairs)?;
     let (reason, end) = front_reason(&bytes[space + 1..], actions)?;
-    Some((pair, reason, space + 1 + end))
+    Some((pair, reason, space, space + 1 + end))
 }

@@ -12,6 +12,7 @@ mod error;
 mod line;
 mod missing;
 mod numbers;
+mod pattern;
 mod reader;
 mod remaining;
 mod table;

@@ -25,7 +25,7 @@ fn digits(text: &[u8]) -> Option<u64>
 }
 
 /// The value of a digit, or more than 9 where the byte is none.
-fn digit(byte: u8) -> u64
+pub(crate) fn digit(byte: u8) -> u64
     ensures digit { result ≤ 9 → IsInRange 48 57 byte × (result ≡ byte - 48) }
     ensures other { 9 < result → IsOutOfRange 48 57 byte }
 {

@@ -10,8 +10,8 @@ ghost use Rattle.roman_check.specs.Audits.{IsInRows, Judges};
 ghost use Rattle.roman_check.specs.Readers.{IsReading, HasLines, IsReadTo, Feeds, Closes};
 
 use crate::audit::{Audit, Due};
-use crate::entries::front_entry;
 use crate::line::Line;
+use crate::pattern::Pattern;
 use crate::verdict::{Verdict, Why};
 use roman_io::Steps;
 use roman_model::MAX_CERTIFICATE_BYTES;
@@ -147,7 +147,8 @@ impl Reader {
             return Ok(start);
         }
         let (pairs, actions) = (joint.pairs(), joint.actions());
-        while let Some((pair, reason, len)) = front_entry(&piece[start..], pairs, actions) {
+        let mut pattern = Pattern::new();
+        while let Some((pair, reason, len)) = pattern.read(&piece[start..], pairs, actions) {
             let end = start + len;
             if let Some(why) = self.audit.take_entry(joint, pair, reason, steps) {
                 return Err(why);

@@ -10,14 +10,14 @@ pub take_entry-requires-clause-pair : goal.take_entry-requires-clause-pair
 take_entry-requires-clause-pair g c =
     let A = g.J.Rules.arena c.args.joint.now in
     let line = take c.in-Some.len (take (length c.args.piece.now - c.loop-pair.start) (drop c.loop-pair.start c.args.piece.now)) in
-    (entry_given (length A.nodes) A.actions line (entry_with (c.in-Some.pair, c.in-Some.reason)) (sym c.in-Some.ensures.1 ∙ ap₂ (λ p a. entry_of p a line) c.pairs-pairs.ensures c.actions-actions.ensures)).0
+    (entry_given (length A.nodes) A.actions line (entry_with (c.in-Some.pair, c.in-Some.reason)) (sym c.in-Some.ensures.read.1 ∙ ap₂ (λ p a. entry_of p a line) c.pairs-pairs.ensures c.actions-actions.ensures)).0
 
 pub take_entry-requires-clause-reason : goal.take_entry-requires-clause-reason
 take_entry-requires-clause-reason g c =
     let A = g.J.Rules.arena c.args.joint.now in
     let line = take c.in-Some.len (take (length c.args.piece.now - c.loop-pair.start) (drop c.loop-pair.start c.args.piece.now)) in
     reason_given A c.in-Some.reason
-    (entry_given (length A.nodes) A.actions line (entry_with (c.in-Some.pair, c.in-Some.reason)) (sym c.in-Some.ensures.1 ∙ ap₂ (λ p a. entry_of p a line) c.pairs-pairs.ensures c.actions-actions.ensures)).1
+    (entry_given (length A.nodes) A.actions line (entry_with (c.in-Some.pair, c.in-Some.reason)) (sym c.in-Some.ensures.read.1 ∙ ap₂ (λ p a. entry_of p a line) c.pairs-pairs.ensures c.actions-actions.ensures)).1
 
 pub returns-in-Some-take_entry-clause-fault : goal.returns-in-Some-take_entry-clause-fault
 returns-in-Some-take_entry-clause-fault g c before so_far =
@@ -27,7 +27,7 @@ returns-in-Some-take_entry-clause-fault g c before so_far =
     let start = c.loop-pair.start in
     let end = start + c.in-Some.len in
     let (low, below, newline, line, judged) = entry_in_piece A c.known.ensures.numbered mid new c.args.piece.now start c.in-Some.len c.pairs-pairs.result c.actions-actions.result (entry_with (c.in-Some.pair, c.in-Some.reason))
-    c.take_entry.result c.pairs-pairs.ensures c.actions-actions.ensures c.in-Some.ensures.0 c.in-Some.ensures.1 c.loop-pair.invariant.due
+    c.take_entry.result c.pairs-pairs.ensures c.actions-actions.ensures c.in-Some.ensures.read.0 c.in-Some.ensures.read.1 c.loop-pair.invariant.due
     (λ bytes held. (c.is_empty.ensures.told bytes (subst (λ line. Holds line bytes) c.loop-pair.invariant.line held)).0 c.if-not-is_empty.false) c.take_entry.ensures.fault c.take_entry.ensures.list c.take_entry.ensures.due in
     stop_in_piece A before mid new c.args.piece.now start end c.in-Some-take_entry.why low below newline (c.loop-pair.invariant.reads before so_far)
     (stop_line A mid new (take (end - start) (drop start c.args.piece.now)) c.take_entry.result c.in-Some-take_entry.why line judged c.in-Some-take_entry.is refl)
@@ -40,9 +40,11 @@ loop-pair-preserved g c =
     let start = c.loop-pair.start in
     let end = start + c.in-Some.len in
     let (low, below, newline, line, judged) = entry_in_piece A c.known.ensures.numbered mid new c.args.piece.now start c.in-Some.len c.pairs-pairs.result c.actions-actions.result (entry_with (c.in-Some.pair, c.in-Some.reason))
-    c.take_entry.result c.pairs-pairs.ensures c.actions-actions.ensures c.in-Some.ensures.0 c.in-Some.ensures.1 c.loop-pair.invariant.due
+    c.take_entry.result c.pairs-pairs.ensures c.actions-actions.ensures c.in-Some.ensures.read.0 c.in-Some.ensures.read.1 c.loop-pair.invariant.due
     (λ bytes held. (c.is_empty.ensures.told bytes (subst (λ line. Holds line bytes) c.loop-pair.invariant.line held)).0 c.if-not-is_empty.false) c.take_entry.ensures.fault c.take_entry.ensures.list c.take_entry.ensures.due in
     record {
+      pattern = c.read.ensures.pattern;
+      reason = c.read.ensures.reason;
       low = omega (arith, c.loop-pair.invariant.low);
       high = omega (arith, below);
       reads = λ before so_far.

@@ -1,6 +1,9 @@
 use Rattle.std.proofs.Common.{◌≡◌, ◌+◌, ◌-◌, ◌≤◌, length}
+use Rattle.roman_model.specs.Lists.{IsIn}
+use Rattle.roman_model.specs.Certificate.{reasons}
 use Rattle.roman_check.specs.declared.audit.Due.TheVariants.{Body}
 use Rattle.roman_check.specs.declared.reader.Reader.{Reader}
+use Rattle.roman_check.specs.Patterns.{IsPattern}
 use Rattle.roman_check.specs.Readers.{IsReadTo}
 use Rattle.roman_check.specs.Audits.{IsInRows}
 use Rattle.roman_check.proofs.reader.Reader.read_entries.Given as goal
@@ -8,6 +11,8 @@ use Rattle.roman_check.proofs.reader.Reader.read_entries.Given as goal
 -- the entries so far are read, and an entry or the last line is due
 abbrev pub invariant-loop-pair : goal.invariant-loop-pair
 invariant-loop-pair g l = record {
+  pattern : IsPattern l.pattern;
+  reason : IsIn l.pattern.reason (reasons l.actions);
   low : l.from ≤ l.start;
   high : l.start ≤ length l.piece;
   reads : (before : Reader) → IsReadTo (g.J.Rules.arena l.joint) before l.initial.self l.piece l.from → IsReadTo (g.J.Rules.arena l.joint) before l.self l.piece l.start;

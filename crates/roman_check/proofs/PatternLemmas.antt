@@ -1,0 +1,175 @@
+-- Lines that differ in the last two digits of the pair.
+use Rattle.std.proofs.Common.{◌≡◌, ℕ, ◌+◌, ◌-◌, ◌*◌, ◌/◌, ◌%◌, ◌^◌, ◌<◌, ◌≤◌, List, [], ◌∷◌, ◌++◌, length, take, drop, get_or, set, Some, decimal, refl, sym, ap, ap₂, ◌∙◌, subst, inl, inr, arith, append_assoc, length-append, length-drop, length-take-le}
+use Rattle.std.proofs.lemmas.Bool.{cases_lt}
+use Rattle.std.proofs.lemmas.Fmt.{decimal_digit, decimal_step}
+use Rattle.std.proofs.lemmas.Grind.{same_number_lists}
+use Rattle.std.proofs.lemmas.List.{take_at, take_rest, take-take, take_more_set, drop-take, drop-set-lt, get_or-take, get_or-drop, get_or-set_other, length-set}
+use Rattle.roman_model.specs.Lists.{IsIn}
+use Rattle.roman_model.specs.Certificate.{reason_text, reasons, entry_of}
+use Rattle.roman_model.specs.declared.reason.Reason.{Reason}
+use Rattle.roman_model.proofs.CallerLemmas.{AreFew}
+use Rattle.roman_check.specs.Readings.{IsEndedAt, HasParts}
+use Rattle.roman_check.specs.Patterns.{IsPattern}
+use Rattle.roman_check.specs.declared.pattern.Pattern.{Pattern}
+use Rattle.roman_check.proofs.DigitLemmas.{decimal_shape}
+use Rattle.roman_check.proofs.EntryLemmas.{after, cut_to, some_entry}
+
+-- Parts of a line
+
+-- digits, a space and a reason's text before a newline
+pub front_parts : (bytes : List ℕ) (space end n : ℕ) (r : Reason) → decimal n ≡ take space bytes → get_or bytes space 0 ≡ 32 → IsEndedAt (after bytes space) end → reason_text r ≡ take end (after bytes space) → HasParts bytes n r space (space + 1 + end)
+front_parts bytes space end n r number stop ended text =
+    let rest : after bytes space ≡ drop (space + 1) bytes = take_rest bytes (space + 1) in
+    let at : IsEndedAt (drop (space + 1) bytes) end = subst (λ bs. IsEndedAt bs end) rest ended in
+    let long : end ≡ space + 1 + end - (space + 1) = omega arith in
+    record {
+      number = number;
+      stop = stop;
+      before = omega arith;
+      text = text ∙ ap₂ (λ k bs. take k bs) long rest;
+      ended = record { within = omega (arith, at.within, length-drop (space + 1) bytes); newline = sym (get_or-drop (space + 1) bytes end 0) ∙ at.newline };
+    }
+
+-- they are the line of an entry
+pub parts_entry : (pairs actions : ℕ) (bytes : List ℕ) (n space end : ℕ) (r : Reason) → AreFew pairs actions → pairs < 2 ^ 32 → HasParts bytes n r space end → n < pairs → IsIn r (reasons actions) →
+    IsEndedAt bytes end × (entry_of pairs actions (take end bytes) ≡ Some (record { node = n; reason = r }))
+parts_entry pairs actions bytes n space end r few small parts l given =
+    let before : space < end = parts.before in
+    let within : end < length bytes = parts.ended.within in
+    let long : length (take space bytes) ≡ space = length-take-le space bytes (omega arith) in
+    let (all, trim, value) = decimal_shape n (take space bytes) (omega arith) parts.number in
+    let short : length (take space bytes) ≤ 10 = trim.few in
+    let m = end - (space + 1) in
+    let whole : space + 1 + m ≡ end = omega arith in (
+      parts.ended,
+      ap (λ k. entry_of pairs actions (take k bytes)) (sym whole)
+          ∙ some_entry pairs actions (take (space + 1 + m) bytes) (take space bytes) (take m (drop (space + 1) bytes)) n r few
+          (cut_to bytes space m (record { few = omega arith; within = omega arith; digits = all; stops = parts.stop })) l parts.number given parts.text,
+    )
+
+-- The same bytes
+
+take_same : (n : ℕ) (xs ys : List ℕ) → n ≤ length xs → n ≤ length ys → ((k : ℕ) → k < n → get_or xs k 0 ≡ get_or ys k 0) → take n xs ≡ take n ys
+take_same n xs ys l m same =
+    let left : length (take n xs) ≡ n = length-take-le n xs l in
+    let right : length (take n ys) ≡ n = length-take-le n ys m in
+    same_number_lists (take n xs) (take n ys) (left ∙ sym right)
+    (λ k within. (let low : k < n = omega arith in get_or-take n xs k 0 low ∙ same k low ∙ sym (get_or-take n ys k 0 low)))
+
+-- where the bytes up to the newline are the same, so are the parts
+pub parts_same : (xs ys : List ℕ) (n space end : ℕ) (r : Reason) → end < length ys → ((k : ℕ) → k ≤ end → get_or xs k 0 ≡ get_or ys k 0) → HasParts xs n r space end → HasParts ys n r space end
+parts_same xs ys n space end r within same parts =
+    let before : space < end = parts.before in
+    let inside : end < length xs = parts.ended.within in
+    let m = end - (space + 1) in
+    let whole : space + 1 + m ≡ end = omega arith in
+    record {
+      number = parts.number ∙ take_same space xs ys (omega arith) (omega arith) (λ k l. same k (omega arith));
+      stop = sym (same space (omega arith)) ∙ parts.stop;
+      before = before;
+      text = parts.text ∙ sym (drop-take (space + 1) m xs) ∙ ap (drop (space + 1)) (take_same (space + 1 + m) xs ys (omega arith) (omega arith) (λ k l. same k (omega arith))) ∙ drop-take (space + 1) m ys;
+      ended = record { within = within; newline = sym (same end (omega arith)) ∙ parts.ended.newline };
+    }
+
+-- the first eight bytes and the last eight of a line are all of them
+pub same_ends : (xs ys : List ℕ) (len m n : ℕ) → 7 ≤ len → len < 16 → 8 ≤ m → 8 ≤ n → ((k : ℕ) → k < 8 → get_or xs k 0 ≡ get_or ys k 0) →
+    ((k : ℕ) → k < 8 → get_or (take m (drop (len - 7) xs)) k 0 ≡ get_or (take n (drop (len - 7) ys)) k 0) → (k : ℕ) → k ≤ len → get_or xs k 0 ≡ get_or ys k 0
+same_ends xs ys len m n long short left right front back k l = elim (cases_lt k 8) [
+  | inl less ↦ front k less
+  | inr more ↦
+      let j = k - (len - 7) in
+      let low : j < 8 = omega arith in
+      let place : len - 7 + j ≡ k = omega arith in
+      ap (λ i. get_or xs i 0) (sym place) ∙ sym (behind xs m j (omega arith)) ∙ back j low ∙ behind ys n j (omega arith) ∙ ap (λ i. get_or ys i 0) place
+]
+  where
+    behind : (zs : List ℕ) (m j : ℕ) → j < m → get_or (take m (drop (len - 7) zs)) j 0 ≡ get_or zs (len - 7 + j) 0
+    behind zs m j low = get_or-take m (drop (len - 7) zs) j 0 low ∙ get_or-drop (len - 7) zs j 0
+
+-- Two digits
+
+two_digits : (q a b : ℕ) → 0 < q → a < 10 → b < 10 → q < 2 ^ 32 → decimal (q * 100 + a * 10 + b) ≡ decimal q ++ (48 + a) ∷ (48 + b) ∷ []
+two_digits q a b some tens ones small =
+    decimal_step (q * 100 + a * 10 + b) (omega arith) (omega arith)
+    ∙ ap₂ (λ m c. decimal m ++ c ∷ []) high (ap (λ c. 48 + c) low)
+    ∙ ap (λ ds. ds ++ (48 + b) ∷ []) (decimal_step (q * 10 + a) (omega arith) (omega arith) ∙ ap₂ (λ m c. decimal m ++ c ∷ []) (omega arith) (ap (λ c. 48 + c) (omega arith)))
+    ∙ append_assoc (decimal q) ((48 + a) ∷ []) ((48 + b) ∷ [])
+  where
+    high : (q * 100 + a * 10 + b) / 10 ≡ q * 10 + a
+    high = omega arith
+
+    low : (q * 100 + a * 10 + b) % 10 ≡ b
+    low = omega arith
+
+-- what stands before the last two digits
+front_digits : (text : List ℕ) (pair place : ℕ) → 100 ≤ pair → pair < 8589934592 → place + 2 ≤ length text → decimal pair ≡ take (place + 2) text → take place text ≡ decimal (pair / 100)
+front_digits text pair place large small within number =
+    let q = pair / 100 in
+    let a = pair / 10 % 10 in
+    let b = pair % 10 in
+    let whole : pair ≡ q * 100 + a * 10 + b = omega arith in
+    let split : decimal pair ≡ decimal q ++ (48 + a) ∷ (48 + b) ∷ [] = ap decimal whole ∙ two_digits q a b (omega arith) (omega arith) (omega arith) (omega arith) in
+    let long : length (take (place + 2) text) ≡ place + 2 = length-take-le (place + 2) text within in
+    let sum : length (decimal q ++ (48 + a) ∷ (48 + b) ∷ []) ≡ length (decimal q) + 2 = length-append (decimal q) ((48 + a) ∷ (48 + b) ∷ []) in
+    let same : length (decimal pair) ≡ length (take (place + 2) text) = ap length number in
+    let both : length (decimal pair) ≡ length (decimal q ++ (48 + a) ∷ (48 + b) ∷ []) = ap length split in
+    sym (take-take place (place + 2) text (omega arith)) ∙ ap (take place) (sym number ∙ split) ∙ take_at (decimal q) ((48 + a) ∷ (48 + b) ∷ []) place (omega arith)
+
+-- a number from 100 on has more than two
+pub large_number : (bytes : List ℕ) (pair space : ℕ) → 100 ≤ pair → pair < 2 ^ 32 → space ≤ length bytes → decimal pair ≡ take space bytes → 2 ≤ space
+large_number bytes pair space large small within number = elim (cases_lt space 2) [
+  | inl less ↦
+      let q = pair / 100 in
+      let a = pair / 10 % 10 in
+      let b = pair % 10 in
+      let whole : pair ≡ q * 100 + a * 10 + b = omega arith in
+      let split : decimal pair ≡ decimal q ++ (48 + a) ∷ (48 + b) ∷ [] = ap decimal whole ∙ two_digits q a b (omega arith) (omega arith) (omega arith) (omega arith) in
+      let long : length (take space bytes) ≡ space = length-take-le space bytes within in
+      let sum : length (decimal q ++ (48 + a) ∷ (48 + b) ∷ []) ≡ length (decimal q) + 2 = length-append (decimal q) ((48 + a) ∷ (48 + b) ∷ []) in
+      let same : length (decimal pair) ≡ length (take space bytes) = ap length number in
+      let both : length (decimal pair) ≡ length (decimal q ++ (48 + a) ∷ (48 + b) ∷ []) = ap length split in
+      absurd (omega arith)
+  | inr more ↦ more
+]
+
+-- the digits of the pattern at the start
+pub first_number : decimal 10000 ≡ 49 ∷ 48 ∷ 48 ∷ 48 ∷ 48 ∷ []
+first_number =
+    two_digits 100 0 0 (omega arith) (omega arith) (omega arith) (omega arith)
+    ∙ ap (λ ds. ds ++ 48 ∷ 48 ∷ []) (two_digits 1 0 0 (omega arith) (omega arith) (omega arith) (omega arith) ∙ ap (λ ds. ds ++ 48 ∷ 48 ∷ []) (decimal_digit 1 (omega arith)))
+
+-- other digits stand as the last two
+pub with_digits : (p : Pattern) (tens ones n : ℕ) → IsPattern p → 48 ≤ tens → tens ≤ 57 → 48 ≤ ones → ones ≤ 57 → n + 528 ≡ p.base + tens * 10 + ones →
+    HasParts (set (set p.text p.place tens) (p.place + 1) ones) n p.reason (p.place + 2) p.len
+with_digits p tens ones n is tens_low tens_high ones_low ones_high value =
+    let text = p.text in
+    let place = p.place in
+    let q = is.pair / 100 in
+    let base : p.base ≡ q * 100 = is.base in
+    let large : 100 ≤ is.pair = is.large in
+    let small : p.base < 4294967296 = is.small in
+    let before : place + 2 < p.len = is.parts.before in
+    let inside : p.len < length text = is.parts.ended.within in
+    let own : n ≡ q * 100 + (tens - 48) * 10 + (ones - 48) = omega arith in
+    let tens_is : 48 + (tens - 48) ≡ tens = omega arith in
+    let ones_is : 48 + (ones - 48) ≡ ones = omega arith in
+    let one = set text place tens in
+    let two = set one (place + 1) ones in
+    let long_one : length one ≡ length text = length-set text place tens in
+    let long_two : length two ≡ length one = length-set one (place + 1) ones in
+    record {
+      number =
+          ap decimal own ∙ two_digits q (tens - 48) (ones - 48) (omega arith) (omega arith) (omega arith) (omega arith)
+          ∙ ap₂ (λ c d. decimal q ++ c ∷ d ∷ []) tens_is ones_is
+          ∙ ap (λ ds. ds ++ tens ∷ ones ∷ []) (sym (front_digits text is.pair place large (omega arith) (omega arith) is.parts.number))
+          ∙ sym (append_assoc (take place text) (tens ∷ []) (ones ∷ []))
+          ∙ ap (λ ds. ds ++ ones ∷ []) (sym (take_more_set text place tens (omega arith)))
+          ∙ sym (take_more_set one (place + 1) ones (omega arith)) ∙ ap (λ k. take k two) (omega arith);
+      stop = get_or-set_other one (place + 1) (place + 2) ones 0 (omega arith) ∙ get_or-set_other text place (place + 2) tens 0 (omega arith) ∙ is.parts.stop;
+      before = before;
+      text = is.parts.text ∙ ap (take (p.len - (place + 2 + 1))) (sym (drop-set-lt (place + 2 + 1) one (place + 1) ones (omega arith) ∙ drop-set-lt (place + 2 + 1) text place tens (omega arith)));
+      ended = record {
+        within = omega arith;
+        newline = get_or-set_other one (place + 1) p.len ones 0 (omega arith) ∙ get_or-set_other text place p.len tens 0 (omega arith) ∙ is.parts.ended.newline;
+      };
+    }
