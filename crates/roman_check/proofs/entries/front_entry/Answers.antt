@@ -1,4 +1,3 @@
-use Rattle.std.proofs.Common.{◌≡◌}
 use Rattle.roman_check.proofs.PatternLemmas.{front_parts}
 use Rattle.roman_check.proofs.entries.front_entry.Goals as goal
 

@@ -1,4 +1,4 @@
-use Rattle.std.proofs.Common.{◌≡◌, ◌+◌, ◌-◌, ◌*◌, ◌<◌, ◌≤◌, get_or, ap, arith}
+use Rattle.std.proofs.Common.{◌≡◌, ◌+◌, ◌*◌, ◌≤◌, get_or, ap, arith}
 use Rattle.roman_check.proofs.PatternLemmas.{parts_same}
 use Rattle.roman_check.proofs.pattern.Pattern.fit.Goals as goal
 
