@@ -6,3 +6,4 @@ pub mod LineTexts
 pub mod AnswerTexts
 pub mod SliceTexts
 pub mod Slicing
+pub mod Templating

@@ -1,3 +1,4 @@
 pub mod Certified
 pub mod Reasons
 pub mod Slices
+pub mod Templates

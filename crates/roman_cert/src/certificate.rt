@@ -1,16 +1,18 @@
 //! The certificate of a relation.
-ghost use Rattle.std.specs.Prelude.{◌≡◌, ◌++◌, [], ◌∷◌, OnOk};
+ghost use Rattle.std.specs.Prelude.{◌≡◌, ◌++◌, [], ◌∷◌, IfSome, OnOk};
 ghost use Rattle.roman_io.specs.Faults.{HasCause};
 ghost use Rattle.roman_io.specs.Sink.{Puts};
 ghost use Rattle.roman_text.specs.Pages.{Gathers};
 ghost use Rattle.roman_model.specs.declared.reason.Reason.TheVariants.{Act};
 ghost use Rattle.roman_model.specs.Lines.{text_of_lines};
-ghost use Rattle.roman_model.specs.Certificate.{head_line, count_line, entry_line, cert_text};
+ghost use Rattle.roman_model.specs.Certificate.{head_line, count_line, reason_text, entry_line, cert_text};
 ghost use Rattle.roman_model.specs.Numbers.{sizes_of, count, IsCompleteList};
 ghost use Rattle.roman_joint.specs.NamedSys.{system_of};
 ghost use Rattle.roman_order.specs.Board.{as_entry};
 ghost use Rattle.roman_cert.specs.Certified.{WroteGreatest};
+ghost use Rattle.roman_cert.specs.Templates.{IsTemplate};
 
+use crate::template::Template;
 use roman_io::{Failed, Sink};
 use roman_model::Reason;
 use roman_order::{Ahead, Order};
@@ -43,10 +45,11 @@ pub(crate) fn write_list<O: Sink>(pairs: u32, order: &Order, out: &mut O) -> Res
     let mut page = Page::new();
     let head = head_piece(pairs);
     page.push(head.bytes(), out)?;
+    let mut template = Template::new();
     let mut ahead = Ahead::nothing(0);
     for i in 0..order.len() {
         let (pair, reason) = order.walk(i, &mut ahead);
-        push_entry(pair, reason, &mut page, out)?;
+        push_entry(pair, reason, &mut template, &mut page, out)?;
     }
     page.push(b"end\n", out)?;
     page.flush(out)
@@ -60,8 +63,50 @@ fn head_piece(pairs: u32) -> Piece
     text.number(pairs).text(b"\n")
 }
 
-/// Takes the line of an entry.
+/// The letter that is the text of a reason, or `None` where it has more.
+#[inline(always)]
+fn letter_of(reason: Reason) -> Option<u8>
+    ensures { IfSome result (λ letter. reason_text reason ≡ letter ∷ []) }
+{
+    match reason {
+        Reason::Final => Some(b'f'),
+        Reason::Act(action) => {
+            if action >= 10 {
+                return None;
+            }
+            Some(b'0' + action)
+        }
+    }
+}
+
+/// Takes the line of an entry, made from the line before where that is shorter.
+#[inline(always)]
 fn push_entry<O: Sink>(
+    pair: u32,
+    reason: Reason,
+    template: &mut Template,
+    page: &mut Page,
+    out: &mut O,
+) -> Result<(), Failed>
+    requires template { IsTemplate template.old }
+    ensures template { IsTemplate template.new }
+    ensures gathers { Gathers (O.written out.old) (O.written out.new) page.new
+        (page.old ++ text_of_lines (entry_line (as_entry (pair, reason)) ∷ [])) result }
+    ensures cause { HasCause (O.faults out.old) (O.faults out.new) result }
+{
+    let Some(letter) = letter_of(reason) else {
+        return push_parts(pair, reason, page, out);
+    };
+    if pair < 100 {
+        return push_parts(pair, reason, page, out);
+    }
+    template.put(pair, letter);
+    page.push_short(&template.text, template.len, out)
+}
+
+/// Takes the line of an entry, part by part.
+#[inline(never)]
+fn push_parts<O: Sink>(
     pair: u32,
     reason: Reason,
     page: &mut Page,

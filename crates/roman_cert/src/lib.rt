@@ -11,6 +11,7 @@ mod certificate;
 mod lines;
 mod marking;
 mod slice;
+mod template;
 #[cfg(test)]
 mod tests;
 

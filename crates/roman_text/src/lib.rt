@@ -24,7 +24,7 @@ pub use errors::LineError;
 pub use events::Event;
 pub use laws::{keep_shapes, spell_events, split_lines};
 pub use lines::Splitter;
-pub use page::Page;
+pub use page::{Page, SHORT};
 pub use parsing::parse_line;
 pub use piece::Piece;
 pub use replies::Reply;

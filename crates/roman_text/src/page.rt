@@ -1,5 +1,5 @@
 //! Output that is gathered in a buffer of fixed size.
-ghost use Rattle.std.specs.Prelude.{◌≡◌, ◌+◌, ◌≤◌, ◌∷◌, ◌++◌, [], length, decimal, OnOk};
+ghost use Rattle.std.specs.Prelude.{◌≡◌, ◌+◌, ◌≤◌, ◌∷◌, ◌++◌, [], length, take, decimal, OnOk};
 ghost use Rattle.roman_io.specs.Faults.{HasCause};
 ghost use Rattle.roman_io.specs.Sink.{Puts};
 ghost use Rattle.roman_model.specs.declared.limits.TheConstants.{MAX_NAME_BYTES, PIECE_BYTES};
@@ -19,6 +19,9 @@ use std::marker::Model;
 
 /// The greatest number of digits that a number has.
 const DIGITS: usize = 10;
+
+/// How many bytes an array has from which [`Page::push_short`] takes the first.
+pub const SHORT: usize = 16;
 
 /// A buffer of 4,096 bytes on their way to a sink, so that many short texts are put as one piece.
 /// Contracts see the bytes that are held: the sink has those before them. Where a call fails, the
@@ -110,6 +113,26 @@ impl Page {
         Ok(())
     }
 
+    /// Takes the first `len` bytes of an array, as [`Page::push`] takes bytes. Where all of them have room,
+    /// all are copied.
+    #[inline(always)]
+    pub fn push_short<O: Sink>(
+        &mut self,
+        bytes: &[u8; SHORT],
+        len: usize,
+        out: &mut O,
+    ) -> Result<(), Failed>
+        requires { len ≤ SHORT }
+        ensures gathers { Gathers (O.written out.old) (O.written out.new) self.new (self.old ++ take len bytes.now) result }
+        ensures cause { HasCause (O.faults out.old) (O.faults out.new) result }
+    {
+        if self.room() < SHORT {
+            return self.push(&bytes[..len], out);
+        }
+        self.add_short(bytes, len);
+        Ok(())
+    }
+
     /// Takes a byte and the name behind it, as [`Page::push`] takes bytes, but puts what is held
     /// first where fewer than 128 bytes have room.
     #[inline]
@@ -175,6 +198,18 @@ impl Page {
         let end = self.len + bytes.len();
         self.bytes[self.len..end].copy_from_slice(bytes);
         self.len = end;
+    }
+
+    /// Adds the first `len` bytes of an array that has room.
+    #[inline(always)]
+    fn add_short(&mut self, bytes: &[u8; SHORT], len: usize)
+        requires room { length self.old + SHORT ≤ PIECE_BYTES }
+        requires len { len ≤ SHORT }
+        ensures { self.new ≡ self.old ++ take len bytes.now }
+    {
+        let end = self.len + SHORT;
+        self.bytes[self.len..end].copy_from_slice(bytes);
+        self.len += len;
     }
 
     /// Adds a name that has room, with the bytes before it and behind it.

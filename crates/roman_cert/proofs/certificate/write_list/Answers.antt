@@ -20,6 +20,7 @@ loop-i-init g c =
     let begins = cert_begins c.args.pairs L c.bytes.result.now (c.bytes.ensures ∙ c.head_piece-head.ensures) in
     record {
       filling = fill_more _ _ _ _ _ c.bytes.result.now (rest_from L 0) _ (fill_whole _ _ _ _ c.new-page.ensures.empty begins) c.in_ok-push.ensures.gathers;
+      template = c.new-template.ensures;
       ahead = c.nothing-ahead.ensures c.args.order.now 0;
       cause = c.in_ok-push.ensures.cause.stays;
     }
@@ -39,6 +40,7 @@ loop-i-preserved g c =
     let next = cert_next L c.loop-i.i (as_entry c.walk-pair.result) bytes c.walk-pair.ensures.entry refl in
     record {
       filling = fill_more _ _ _ _ _ bytes (rest_from L (c.loop-i.i + 1)) _ (fill_same _ _ _ _ _ _ next c.loop-i.invariant.filling) c.in_ok-push_entry.ensures.gathers;
+      template = c.in_ok-push_entry.ensures.template;
       ahead = c.walk-pair.ensures.ahead;
       cause = c.in_ok-push_entry.ensures.cause.stays ∙ c.loop-i.invariant.cause;
     }

@@ -2,6 +2,7 @@ use Rattle.std.proofs.Common.{◌≡◌}
 use Rattle.roman_model.specs.Certificate.{cert_text}
 use Rattle.roman_text.proofs.CallerLemmas.{IsFilling}
 use Rattle.roman_order.specs.Walks.{IsAhead}
+use Rattle.roman_cert.specs.Templates.{IsTemplate}
 use Rattle.roman_cert.proofs.Certificates.{rest_from}
 use Rattle.roman_cert.proofs.certificate.write_list.Given as goal
 
@@ -9,6 +10,7 @@ use Rattle.roman_cert.proofs.certificate.write_list.Given as goal
 abbrev pub invariant-loop-i : goal.invariant-loop-i
 invariant-loop-i g l = record {
   filling : IsFilling (g.O.Sink.written l.fn.out) (g.O.Sink.written l.out) l.page (rest_from l.order.list l.i) (cert_text l.pairs l.order.list);
+  template : IsTemplate l.template;
   ahead : IsAhead l.order l.i l.ahead;
   cause : g.O.Sink.faults l.out ≡ g.O.Sink.faults l.fn.out;
 }

@@ -1,0 +1,88 @@
+//! The lines of entries, where each is made from the one before.
+ghost use Rattle.std.specs.Prelude.{◌≡◌, ◌≢◌, ℕ, ◌+◌, ◌*◌, ◌<◌, ◌≤◌, ◌++◌, [], ◌∷◌, take, decimal};
+ghost use Rattle.roman_cert.specs.Templates.{IsTemplate};
+
+use itoa::Buffer;
+use roman_text::SHORT;
+
+/// The line of an entry whose reason is one letter, with its newline. The next entry's mostly differs in
+/// the last two digits of the pair, and these are put in its place.
+#[derive(Drop)]
+pub(crate) struct Template {
+    pub(crate) text: [u8; SHORT],
+    // how long the line is, with its newline
+    pub(crate) len: usize,
+    // where the last two digits of the pair stand
+    pub(crate) place: usize,
+    // the pair, where these are zeros
+    pub(crate) base: u32,
+    // the letter of the reason
+    pub(crate) letter: u8,
+}
+
+impl Template {
+    /// The line of pair 100 and clause 2.
+    pub(crate) fn new() -> Template
+        ensures { IsTemplate result }
+    {
+        Template {
+            text: [
+                b'1', b'0', b'0', b' ', b'f', b'\n', 0, 0, 0, 0, 0, 0, 0, 0, 0, 0,
+            ],
+            len: 6,
+            place: 1,
+            base: 100,
+            letter: b'f',
+        }
+    }
+
+    /// Makes the line that of a pair and a letter.
+    #[inline(always)]
+    pub(crate) fn put(&mut self, pair: u32, letter: u8)
+        requires template { IsTemplate self.old }
+        requires large { 100 ≤ pair }
+        ensures template { IsTemplate self.new }
+        ensures line { take self.new.len self.new.text ≡ decimal pair ++ 32 ∷ letter ∷ 10 ∷ [] }
+        ensures short { self.new.len ≤ 16 }
+    {
+        if letter != self.letter || pair.wrapping_sub(self.base) >= 100 {
+            self.renew(pair / 100, letter);
+        }
+        self.put_digits(pair - self.base);
+    }
+
+    /// Puts the last two digits of the pair.
+    #[inline(always)]
+    fn put_digits(&mut self, two: u32)
+        requires template { IsTemplate self.old }
+        requires two { two < 100 }
+        ensures template { IsTemplate self.new }
+        ensures line { take self.new.len self.new.text ≡ decimal (self.old.base + two) ++ 32 ∷ self.old.letter ∷ 10 ∷ [] }
+    {
+        let place = self.place;
+        self.text[place] = b'0' + (two / 10) as u8;
+        self.text[place + 1] = b'0' + (two % 10) as u8;
+    }
+
+    /// Makes the line that of a pair with those digits and two more, and of a letter.
+    #[inline(never)]
+    fn renew(&mut self, high: u32, letter: u8)
+        requires some { 0 < high }
+        requires few { high ≤ 42_949_672 }
+        ensures template { IsTemplate self.new }
+        ensures base { self.new.base ≡ high * 100 }
+        ensures letter { self.new.letter ≡ letter }
+    {
+        let mut buffer = Buffer::new();
+        let digits = buffer.format(high).as_bytes();
+        let place = digits.len();
+        self.text[..place].copy_from_slice(digits);
+        self.text[place + 2] = b' ';
+        self.text[place + 3] = letter;
+        self.text[place + 4] = b'\n';
+        self.len = place + 5;
+        self.place = place;
+        self.base = high * 100;
+        self.letter = letter;
+    }
+}
