@@ -1,5 +1,5 @@
 //! What was read of a certificate, and the next line judged by it.
-ghost use Rattle.std.specs.Prelude.{◌≡◌, ℕ, ◌+◌, ◌*◌, ◌<◌, ◌++◌, not, List, [], ◌∷◌, None, Some, length, IfOk, if◌then◌else◌};
+ghost use Rattle.std.specs.Prelude.{◌≡◌, ℕ, ◌+◌, ◌*◌, ◌<◌, ◌++◌, false, not, IsTrue, List, [], ◌∷◌, None, Some, length, IfOk, if◌then◌else◌};
 ghost use Rattle.std.specs.Option.{option_map};
 ghost use Rattle.roman_model.specs.SystemArena.{same_numbers};
 ghost use Rattle.roman_model.specs.Arena.{Arena, Entry, is_listed};
@@ -148,6 +148,33 @@ impl Audit {
         }
         self.left.remove(row, lane);
         None
+    }
+
+    /// Takes out a pair of the system for the reason that was asked about last, where it lies in the row
+    /// that was asked and the reason is known to hold there. Whether that is so.
+    #[inline(always)]
+    pub(crate) fn take_known<J: Rules>(&mut self, joint: &J, pair: u32) -> bool
+        requires shaped { IsInRows (J.lanes joint.now) (length (J.arena joint.now).nodes) self.old }
+        requires pair { pair < length (J.arena joint.now).nodes }
+        ensures fault { let A = J.arena joint.now in
+            IsTrue result → (L : List (Entry ℕ)) → HasListed A L self.old → None ≡ entry_fault A L (Some (entry_with (pair, self.old.asked.reason))) }
+        ensures list { let A = J.arena joint.now in
+            IsTrue result → (L : List (Entry ℕ)) → HasListed A L self.old → HasListed A (L ++ entry_with (pair, self.old.asked.reason) ∷ []) self.new }
+        ensures untaken { result ≡ false → self.new ≡ self.old }
+        ensures shaped { IsInRows (J.lanes joint.now) (length (J.arena joint.now).nodes) self.new }
+        ensures due { self.new.due ≡ self.old.due }
+        ensures asked { self.new.asked ≡ self.old.asked }
+    {
+        joint.known();
+        let row = self.asked.row;
+        let Some(lane) = self.left.lane_in(row, pair) else {
+            return false;
+        };
+        if !has_lane(self.asked.lanes, lane) || !self.left.has(row, lane) {
+            return false;
+        }
+        self.left.remove(self.asked.row, lane);
+        true
     }
 
     /// Judges a line as an entry.

@@ -98,7 +98,7 @@ impl Pattern {
     /// The pair of the entry on the line with which the bytes begin, where only the last two digits may
     /// differ from the pattern, and where the pair is below the bound. They become the pattern's.
     #[inline(always)]
-    fn fit(&mut self, bytes: &[u8], pairs: u32) -> Option<u32>
+    pub(crate) fn fit(&mut self, bytes: &[u8], pairs: u32) -> Option<u32>
         requires pattern { IsPattern self.old }
         requires room { 16 ≤ length bytes.now }
         ensures pattern { IsPattern self.new }

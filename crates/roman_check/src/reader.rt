@@ -1,15 +1,18 @@
 //! A certificate that is read line by line, in whatever pieces it comes.
 ghost use Rattle.std.specs.Prelude.{◌≡◌, ℕ, ◌+◌, ◌-◌, ◌*◌, ◌<◌, ◌≤◌, ◌++◌, List, [], ◌∷◌, length, take, drop, slice_index, position, ◌==◌, Some, IfOk, IfErr, MatchOption};
+ghost use Rattle.roman_model.specs.Lists.{IsIn};
 ghost use Rattle.roman_model.specs.Lines.{lines, IsLine};
 ghost use Rattle.roman_model.specs.Arena.{Arena};
-ghost use Rattle.roman_model.specs.Certificate.{cert_verdict};
+ghost use Rattle.roman_model.specs.Certificate.{cert_verdict, reasons};
 ghost use Rattle.roman_rules.specs.Numbered.{IsNumbered};
 ghost use Rattle.roman_check.specs.Verdicts.{verdict_of};
 ghost use Rattle.roman_check.specs.Lines.{Holds};
 ghost use Rattle.roman_check.specs.Audits.{IsInRows, Judges};
+ghost use Rattle.roman_check.specs.Patterns.{IsPattern};
 ghost use Rattle.roman_check.specs.Readers.{IsReading, HasLines, IsReadTo, Feeds, Closes};
 
 use crate::audit::{Audit, Due};
+use crate::entries::ROOM;
 use crate::line::Line;
 use crate::pattern::Pattern;
 use crate::verdict::{Verdict, Why};
@@ -118,6 +121,50 @@ impl Reader {
         None
     }
 
+    /// Reads entries from a place on that differ from the pattern in two digits alone, and whose reason is
+    /// known to hold. Tells the place behind them.
+    fn read_alike<J: Rules>(
+        &mut self,
+        joint: &J,
+        pattern: &mut Pattern,
+        piece: &[u8],
+        from: usize,
+    ) -> usize
+        requires shaped { IsInRows (J.lanes joint.now) (length (J.arena joint.now).nodes) self.old.audit }
+        requires place { from ≤ length piece.now }
+        requires room { self.old.lines + (length piece.now - from) ≤ MAX_CERTIFICATE_BYTES }
+        requires due { self.old.audit.due ≡ Due.Body }
+        requires alone { (bytes : List ℕ) → Holds self.old.line bytes → bytes ≡ [] }
+        requires none { Holds self.old.line [] }
+        requires pattern { IsPattern pattern.old }
+        requires reason { IsIn pattern.old.reason (reasons (J.arena joint.now).actions) }
+        ensures place { (from ≤ result) × (result ≤ length piece.now) × (self.new.lines ≤ self.old.lines + (result - from)) }
+        ensures read { (before : Reader) → IsReadTo (J.arena joint.now) before self.old piece.now from → IsReadTo (J.arena joint.now) before self.new piece.now result }
+        ensures due { self.new.audit.due ≡ Due.Body }
+        ensures line { self.new.line ≡ self.old.line }
+        ensures shaped { IsInRows (J.lanes joint.now) (length (J.arena joint.now).nodes) self.new.audit }
+        ensures pattern { IsPattern pattern.new }
+        ensures reason { pattern.new.reason ≡ pattern.old.reason }
+    {
+        joint.known();
+        let mut start = from;
+        if pattern.reason != self.audit.asked.reason {
+            return start;
+        }
+        let pairs = joint.pairs();
+        while piece.len() - start >= ROOM {
+            let Some(pair) = pattern.fit(&piece[start..], pairs) else {
+                return start;
+            };
+            if !self.audit.take_known(joint, pair) {
+                return start;
+            }
+            self.lines += 1;
+            start += pattern.len + 1;
+        }
+        start
+    }
+
     /// Reads entries from a place on, one after the other, as long as each is read in one pass. Tells
     /// the place behind them, or names the fault of the last one.
     fn read_entries<J: Rules, L: Ledger>(
@@ -154,7 +201,7 @@ impl Reader {
                 return Err(why);
             }
             self.lines += 1;
-            start = end + 1;
+            start = self.read_alike(joint, &mut pattern, piece, end + 1);
         }
         Ok(start)
     }

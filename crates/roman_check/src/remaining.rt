@@ -1,5 +1,5 @@
 //! The pairs that no entry names yet, row by row.
-ghost use Rattle.std.specs.Prelude.{◌≡◌, ◌≢◌, ℕ, ◌+◌, ◌*◌, ◌<◌, ◌≤◌, ◌==◌, Bool, false, not, ◌||◌, length, IfOk, IsFalse};
+ghost use Rattle.std.specs.Prelude.{◌≡◌, ◌≢◌, ℕ, ◌+◌, ◌*◌, ◌<◌, ◌≤◌, ◌==◌, Bool, false, not, ◌||◌, length, IfOk, IfSome, IsFalse};
 ghost use Rattle.roman_lanes.specs.Rows.{is_on};
 ghost use Rattle.roman_check.specs.Remain.{Remain};
 
@@ -46,15 +46,26 @@ impl Remaining {
         })
     }
 
+    /// The lane of the pair `p`, where it lies in the row.
+    #[inline(always)]
+    pub(crate) fn lane_in(&self, row: u32, p: u32) -> Option<u32>
+        ensures { IfSome result (λ lane. (row * self.now.lanes + lane ≡ p) × (lane < self.now.lanes)) }
+    {
+        let first = u64::from(row) * u64::from(self.lanes);
+        let lane = u64::from(p).wrapping_sub(first);
+        if lane >= u64::from(self.lanes) {
+            return None;
+        }
+        Some(lane as u32)
+    }
+
     /// The row and the lane of the pair `p`, which may well be in the row `near`.
     pub(crate) fn place(&self, near: u32, p: u32) -> (u32, u32)
         ensures pair { result.0 * self.now.lanes + result.1 ≡ p }
         ensures lane { result.1 < self.now.lanes }
     {
-        let first = u64::from(near) * u64::from(self.lanes);
-        let pair = u64::from(p);
-        if first <= pair && pair - first < u64::from(self.lanes) {
-            return (near, (pair - first) as u32);
+        if let Some(lane) = self.lane_in(near, p) {
+            return (near, lane);
         }
         (p / self.lanes, p % self.lanes)
     }

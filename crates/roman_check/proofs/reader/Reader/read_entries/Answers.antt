@@ -1,5 +1,6 @@
 use Rattle.std.proofs.Common.{◌+◌, ◌-◌, [], length, take, drop, None, refl, sym, ap₂, ◌∙◌, subst, arith}
-use Rattle.roman_model.specs.Certificate.{entry_of}
+use Rattle.roman_model.specs.Lists.{IsIn}
+use Rattle.roman_model.specs.Certificate.{entry_of, reasons}
 use Rattle.roman_check.specs.Lines.{Holds}
 use Rattle.roman_check.specs.Readings.{entry_with}
 use Rattle.roman_check.proofs.AuditLemmas.{entry_given, reason_given}
@@ -42,17 +43,19 @@ loop-pair-preserved g c =
     let (low, below, newline, line, judged) = entry_in_piece A c.known.ensures.numbered mid new c.args.piece.now start c.in-Some.len c.pairs-pairs.result c.actions-actions.result (entry_with (c.in-Some.pair, c.in-Some.reason))
     c.take_entry.result c.pairs-pairs.ensures c.actions-actions.ensures c.in-Some.ensures.read.0 c.in-Some.ensures.read.1 c.loop-pair.invariant.due
     (λ bytes held. (c.is_empty.ensures.told bytes (subst (λ line. Holds line bytes) c.loop-pair.invariant.line held)).0 c.if-not-is_empty.false) c.take_entry.ensures.fault c.take_entry.ensures.list c.take_entry.ensures.due in
+    let alike = c.read_alike-start.ensures in
+    let (after, within, counted) = alike.place in
     record {
-      pattern = c.read.ensures.pattern;
-      reason = c.read.ensures.reason;
-      low = omega (arith, c.loop-pair.invariant.low);
-      high = omega (arith, below);
-      reads = λ before so_far.
+      pattern = alike.pattern;
+      reason = subst (λ r. IsIn r (reasons c.actions-actions.result)) (sym alike.reason) c.read.ensures.reason;
+      low = omega (arith, c.loop-pair.invariant.low, after);
+      high = within;
+      reads = λ before so_far. alike.read before (
           read_more A before mid new c.args.piece.now start end None low below newline (c.loop-pair.invariant.reads before so_far)
           (read_line A mid new (take (end - start) (drop start c.args.piece.now)) c.take_entry.result line judged c.in_default-take_entry.is refl
-          (subst (λ line. Holds line []) (sym c.loop-pair.invariant.line) (c.is_empty.ensures.none c.if-not-is_empty.false))) refl;
-      due = c.take_entry.ensures.due ∙ c.loop-pair.invariant.due;
-      line = c.loop-pair.invariant.line;
-      shaped = c.take_entry.ensures.shaped;
-      lines = omega (arith, c.loop-pair.invariant.low, c.loop-pair.invariant.lines);
+          (subst (λ line. Holds line []) (sym c.loop-pair.invariant.line) (c.is_empty.ensures.none c.if-not-is_empty.false))) refl);
+      due = alike.due;
+      line = alike.line ∙ c.loop-pair.invariant.line;
+      shaped = alike.shaped;
+      lines = omega (arith, c.loop-pair.invariant.low, c.loop-pair.invariant.lines, after, counted);
     }
