@@ -1,4 +1,4 @@
--- Advice by costs that were read, as part of a run.
+-- Writing advice by accepted costs as part of a run.
 use Rattle.std.proofs.Common.{◌≡◌, ◌≢◌, ◌↔◌, ℕ, ◌*◌, ◌<◌, ◌≤◌, inl, inr, Bool, IsTrue, IsFalse, List, Option, Some, IfSome, Result, Ok, Err, refl, sym, ap, ◌∙◌, subst}
 use Rattle.std.proofs.lemmas.Bool.{cond-true, cond-false, lt-ltb, le-ltb, cases_lt}
 use Rattle.roman_io.specs.Shelf.{Texts}
@@ -36,9 +36,9 @@ use Rattle.roman_top.specs.declared.status.Status.{Status}
 use Rattle.roman_top.proofs.EndingLemmas.{told_both, on_accepted, writes_put, writes_weaker, spoken_shelf}
 use Rattle.roman_top.proofs.ServedLemmas.{job_served}
 
--- ---- what a request for advice comes to
+-- ---- the result of a request for advice
 
--- what is told of the greatest ND-simulation is the test
+-- a flag that is true exactly for a related pair is the test
 pub told_related : (s : Sys) (p : ℕ) (told : Bool) → IsSys s → p < count (sizes_of s) → (IsTrue told ↔ Great s (pair_at (sizes_of s) p)) → told ≡ is_related s (pair_at (sizes_of s) p)
 told_related s p told ok l great =
     let P = pair_at (sizes_of s) p in
@@ -57,27 +57,27 @@ advised_told n listed h p related few =
     cond-true (is_related (system_of n) p) _ Unrelated related
     ∙ cond-false _ TooMany (Told (advice_text n listed h p)) (le-ltb MAX_VALUES (related_count (system_of n) * h) few)
 
--- there aren't too many values where that isn't answered
+-- there are few enough values where the limit isn't reported
 pub few_values : {X : Type 0} (s : Sys) (h : ℕ) (built : Result X AdviceError) → (built ≡ Err advice_error.Limit → ⊥) → ((built ≡ Err advice_error.Limit) ↔ (MAX_VALUES < related_count s * h)) → related_count s * h ≤ MAX_VALUES
 few_values s h built other limit = elim (cases_lt MAX_VALUES (related_count s * h)) [
   | inl many ↦ absurd (other (limit.1 many))
   | inr few ↦ few
 ]
 
--- its text was put
+-- the text of the advice was put
 pub advice_put : {T E : Type 0} (advising is : Advising) (text : List ℕ) (ends : Status) (old new : Option (List ℕ)) (result : Status) (r : Result T E) → advising ≡ is → SaysAdvice is text ends →
     Puts old new text r → Finishes r ends result → (WritesText (SaysAdvice is) old new ends → Writes (SaysAdvice is) old new ends) → Writes (SaysAdvice advising) old new result
 advice_put advising is text ends old new result r same says puts finishes whole =
     subst (λ (a : Advising). Writes (SaysAdvice a) old new result) (sym same) (writes_put (SaysAdvice is) old new text ends result r puts finishes says whole)
 
--- the same of the same system
+-- the same advice for an equal system
 pub advice_moved : (n m : NamedSys) (listed : List Listed) (h start : ℕ) (old new : Option (List ℕ)) (result : Status) → n ≡ m →
     Writes (SaysAdvice (advised_by n listed h (pair_at (sizes_of (system_of n)) start))) old new result → Writes (SaysAdvice (advised_by m listed h (pair_at (sizes_of (system_of m)) start))) old new result
 advice_moved n m listed h start old new result same writes = subst (λ (n : NamedSys). Writes (SaysAdvice (advised_by n listed h (pair_at (sizes_of (system_of n)) start))) old new result) same writes
 
 -- ---- how the parts end
 
--- costs that were read, or refused
+-- accepted and refused costs
 pub read_caused : (read known : Result CostTable CostError) (old new : Option (List ℕ)) (result : Status) → read ≡ known → ((n n_now : ℕ) → HasCostCause n n_now known → n_now ≡ n) → IsSpoken old new result →
     CausedByRead read result
 read_caused read known old new result is stays spoken n n_now caused =
@@ -89,7 +89,7 @@ read_writes name n requests p read known old new result is writes = subst (λ (r
 
 -- ---- the whole
 
--- what is told of the reading is told of what it means
+-- the text for the result of reading the costs is the text for their meaning
 told_of : (name : List ℕ) (n : NamedSys) (requests : ℕ) (p : Pair) (read : Result CostTable CostError) (reading : Result (List Listed) PartError) → ReadsAs (λ costs. costs.listed) read reading →
     (text : List ℕ) (ends : Status) → TellsRead name n requests p read text ends → OnCosts name (λ listed. SaysAdvice (advised_by n listed requests p)) reading text ends
 told_of name n requests p (Ok costs) reading reads text ends tells =
@@ -119,7 +119,7 @@ advised_is_run texts system name requests seated read old new result accepts rea
     on_accepted (GivesAdvice name requests texts) (document_opening texts system) library text ends accepts.accepted
     (told_of name n requests start read (costs_of texts name n) read_here text ends tells)) at_start
 
--- so advice on an opened document does its job
+-- advice on an opened document does its job
 pub advise_served : (system name : List ℕ) (requests : ℕ) (seated : Seated) (told told_mid told_now : Option Texts) (shelf shelf_mid shelf_now : ℕ) (old mid new : Option (List ℕ)) (out out_mid out_now : ℕ) (read : Result CostTable CostError) (result : Status) →
     Opens IsSeated system (desk told shelf old out) (desk told_mid shelf_mid mid out_mid) (Ok seated) → IfSome told_mid (λ texts. ReadsAs (λ costs. costs.listed) read (costs_of texts name seated.joint)) →
     told_now ≡ told_mid → HasCostCause shelf_mid shelf_now read → Writes (TellsRead name seated.joint requests (pair_at (sizes_of (system_of seated.joint)) seated.start) read) mid new result →
@@ -142,13 +142,13 @@ advise_served system name requests seated told told_mid told_now shelf shelf_mid
 
 -- ---- completeness
 
--- advice that doesn't come to too many values answers
+-- advice without too many values answers
 advising_answered : (advising : Advising) (text : List ℕ) (result : Status) → advising ≢ TooMany → SaysAdvice advising text result → IsAnswered result
 advising_answered Unrelated text result few says = subst IsAnswered (sym says.1) tt
 advising_answered TooMany text result few says = absurd (few refl)
 advising_answered (Told told) text result few says = subst IsAnswered (sym says.1) tt
 
--- so it doesn't where they are few
+-- few values aren't too many
 few_advised : (n : NamedSys) (listed : List Listed) (h : ℕ) (p : Pair) → related_count (system_of n) * h ≤ MAX_VALUES → advised_by n listed h p ≢ TooMany
 few_advised n listed h p few many = by_test (is_related (system_of n) p)
     (λ related. let e : TooMany ≡ Told (advice_text n listed h p) = sym many ∙ advised_told n listed h p related few in absurd (let f : ⊥ = cc in f))

@@ -1,4 +1,4 @@
--- What is told of costs and of advice is right by the greatest ND-simulation and by plans.
+-- The text of `advise` is right by the greatest ND-simulation and by plans.
 use Rattle.std.proofs.Common.{ℕ, List, Result, filter, sym, subst}
 use Rattle.roman_io.specs.Shelf.{Texts}
 use Rattle.roman_model.specs.System.{Pair, IsSys, IsPair}
@@ -20,7 +20,7 @@ use Rattle.roman_top.specs.declared.status.Status.{Status}
 use Rattle.roman_top.proofs.AdviseLemmas.{advised_unrelated, advised_many, advised_told}
 use Rattle.roman_top.proofs.ServingLemmas.{related_all}
 
--- what is told by costs that were read
+-- the text by accepted costs
 advises_by : (n : NamedSys) (listed : List Listed) (requests : ℕ) (p : Pair) (text : List ℕ) (result : Status) → IsSys (system_of n) → IsPair (system_of n) p →
     SaysAdvice (advised_by n listed requests p) text result → AdvisesBy n listed requests p text result
 advises_by n listed requests p text result ok pair says = record {

@@ -15,7 +15,7 @@ use Rattle.roman_model.specs.declared.reason.Reason.TheVariants.{Final, Act}
 use Rattle.roman_model.proofs.CallerLemmas.{IsSame, any_true, any_from, in_map, from_map, from_allowed, outcome_in, from_outcome, same_numbers_is, same_numbers_itself, justified_is, listed_in, in_listed, in_not_empty, length-pairs, numbers_are_pairs, map-map}
 use Rattle.roman_top.specs.HeadlineCertify.{HoldsReason, AreValid, ListsUnrelated, numbered_entry, CertifiesUnrelated}
 
--- Pairs are told apart by their numbers.
+-- Different pairs have different numbers.
 
 pub same_is : (p q : Pair) → IsTrue (same_pair p q) → p ≡ q
 same_is p q h =
@@ -87,14 +87,14 @@ factor_some : (i a b : ℕ) → i < a * b → 0 < b
 factor_some i a zero h = omega arith
 factor_some i a (suc b) h = omega arith
 
--- a number whose pair is one of the system is one of its numbers
+-- a number whose pair is one of the system is below the count
 number_within : (s : Sys) (i : ℕ) → IsSys s → IsPair s (pair_at (sizes_of s) i) → i < count (sizes_of s)
 number_within s i ok pair =
     let P : ℕ = product_of (sizes_of s).seats in
     let some : 0 < P = factor_some (number (sizes_of s) (pair_at (sizes_of s) i)) (s.target.states * s.env.states) P ((numbers_are_pairs s).below (pair_at (sizes_of s) i) pair) in
     (div-lt_iff_lt-mul some).0 ((div-lt_iff_lt-mul ok.env.states.0).0 pair.t)
 
--- the entries of a complete list have numbers below the count, and the pairs of these numbers have them
+-- the entries of a complete list keep their numbers when they are read as pairs and numbered again
 numbers_back : (s : Sys) (L : List (Entry ℕ)) → IsSys s → IsCompleteList s L → map (numbered_entry s) (map (entry_at s) L) ≡ L
 numbers_back s L ok complete = map-map (numbered_entry s) (entry_at s) L ∙ each L (λ x i. complete.pairs (entry_at s x) (in_map (entry_at s) x L i))
   where

@@ -1,4 +1,4 @@
--- Certificates that are written, as part of a run.
+-- Writing certificates as part of a run.
 use Rattle.std.proofs.Common.{◌≡◌, ℕ, List, Option, Result, refl, subst}
 use Rattle.roman_io.specs.Sink.{Puts}
 use Rattle.roman_model.specs.Numbers.{sizes_of, count}
@@ -23,6 +23,6 @@ certified joint given order old new result r same complete puts finishes =
     (writes_put (CertifiesSystem (system_of given)) old new (cert_text (count (sizes_of (system_of given))) order.list) status.Done result r puts finishes
     (record { list = order.list; complete = complete.list; says = (refl, refl) }) (λ w. w))
 
--- the certificate of an opened document is that of its library
+-- the certificate of an opened document's system is that of its library
 pub certified_is_run : (seated : Seated) (library : PlainLibrary) → IsSeated library seated → (text : List ℕ) (ends : Status) → CertifiesSystem (system_of seated.joint) text ends → Certifies library text ends
 certified_is_run seated library is text ends certifies = subst (λ (n : NamedSys). CertifiesSystem (system_of n) text ends) is.parts certifies

@@ -41,7 +41,7 @@ found_text A start (Some texts) name (Ok verdict) whole long = had_text A start 
 found_text A start (Some texts) name (Err check.TooLong) whole long = had_text A start texts name TooLong (long refl)
 found_text A start (Some texts) name _ whole long = tt
 
--- the same of a source that began with that text
+-- the same for a source that began with that text
 pub finds_text : (A : Arena ℕ) (start : ℕ) (told given : Option Texts) (name given_name : List ℕ) (at : ℕ) (result : Result Verdict CheckError) → given ≡ told → given_name ≡ name → at ≡ 0 →
     IfOk result (λ verdict. HaveVerdict A start (rest_from given given_name at) (verdict_of verdict)) → (IsErrOf result check.TooLong → HaveVerdict A start (rest_from given given_name at) TooLong) →
     IfSome told (λ texts. FindsVerdict A start (shelf_text texts name) result)
@@ -50,7 +50,7 @@ finds_text A start told given name given_name at result same_texts same_name at_
     found_text A start told name result (subst (λ (rest : Option (List ℕ)). IfOk result (λ verdict. HaveVerdict A start rest (verdict_of verdict))) same whole)
     (λ e. subst (λ (rest : Option (List ℕ)). HaveVerdict A start rest TooLong) same (long e))
 
--- the verdict on the certificate is the run's
+-- the verdict on the certificate is the verdict of the run
 judged : (A : Arena ℕ) (start : ℕ) (certificate : List ℕ) (checked : Result Verdict CheckError) → FindsVerdict A start certificate checked → (text : List ℕ) (ends : Status) → JudgesCheck checked text ends → SaysVerdict (cert_verdict A start certificate) text ends
 judged A start certificate (Ok verdict) finds text ends judges = subst (λ v. SaysVerdict v text ends) (sym finds) judges
 judged A start certificate (Err check.Fault) finds text ends judges = absurd judges
@@ -71,7 +71,7 @@ checked_is_run texts system certificate seated checked old new result accepts fi
     on_accepted (Checks (shelf_text texts certificate)) (document_opening texts system) library text ends accepts.accepted
     (judged (numbered s) (number (sizes_of s) (start_pair_of library)) (shelf_text texts certificate) checked found text ends judges)) writes
 
--- so a check of an opened document does its job
+-- a check of an opened document does its job
 pub check_served : (system certificate : List ℕ) (seated : Seated) (told told_mid told_now : Option Texts) (shelf shelf_mid shelf_now : ℕ) (old mid new : Option (List ℕ)) (out out_mid out_now : ℕ) (checked : Result Verdict CheckError) (result : Status) →
     Opens IsSeated system (desk told shelf old out) (desk told_mid shelf_mid mid out_mid) (Ok seated) → IfSome told_mid (λ texts. FindsVerdict (numbered (system_of seated.joint)) seated.start (shelf_text texts certificate) checked) →
     told_now ≡ told_mid → CheckCause shelf_mid shelf_now checked → Writes (JudgesCheck checked) mid new result → EndsBare mid new result → CausedByCheck checked result → SinkCause out_mid out_now result →
@@ -91,7 +91,7 @@ check_served system certificate seated told told_mid told_now shelf shelf_mid sh
       out = subst (λ (n : ℕ). SinkCause n out_now result) opens.leaves.out wrote;
     })
 
--- what is said of a verdict
+-- the text and status for a verdict
 pub says_greatest : (verdict : Verdict) (related : ℕ) (start : Bool) → verdict ≡ checked_as.Greatest related start → SaysVerdict (verdict_of verdict) (greatest_text related start) status.Done
 says_greatest verdict related start e = subst (λ (v : Verdict). SaysVerdict (verdict_of v) (greatest_text related start) status.Done) (sym e) (refl, refl)
 

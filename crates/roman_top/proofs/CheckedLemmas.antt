@@ -1,4 +1,4 @@
--- What `check` accepts lists exactly the pairs that aren't related, and what does so is accepted.
+-- A certificate that `check` accepts lists exactly the pairs that aren't related, and each one that does is accepted.
 use Rattle.std.proofs.Common.{◌≡◌, ℕ, ◌<◌, Bool, not, List, [], ◌∷◌, map, length, IsTrue, filter, inl, inr, refl, sym, ap, ◌∙◌, subst}
 use Rattle.std.specs.List.{list_any, filter_map}
 use Rattle.std.proofs.lemmas.Bool.{both_ways, and_from, or_cases, or_left, or_right, not-true, not_from_false}
@@ -70,7 +70,7 @@ complete_from_valid s L ok lists = record {
   );
 }
 
--- The same by numbers.
+-- The same for the numbers of pairs.
 
 pairs_back : (s : Sys) (L : List (Entry Pair)) → AreEntries s L → map (entry_at s) (map (numbered_entry s) L) ≡ L
 pairs_back s L are = map-map (entry_at s) (numbered_entry s) L ∙ each L are
@@ -81,7 +81,7 @@ pairs_back s L are = map-map (entry_at s) (numbered_entry s) L ∙ each L are
         ap (λ (p : Pair). record { node = p; reason = x.reason } ∷ map (λ x. entry_at s (numbered_entry s x)) M) ((numbers_are_pairs s).back x.node (are x (inl refl)))
         ∙ ap (λ (ys : List (Entry Pair)). x ∷ ys) (each M (λ y i. are y (inr i)))
 
--- a certificate of exactly the pairs that aren't related has the verdict that it is complete
+-- a certificate of exactly the pairs that aren't related has the verdict Greatest
 certified_verdict : (s : Sys) (start : ℕ) (certificate : List ℕ) → IsSys s → IsWithinCells s → start < count (sizes_of s) → CertifiesUnrelated s certificate → cert_verdict (numbered s) start certificate ≡ greatest s start
 certified_verdict s start certificate ok few within certifies =
     let complete : IsComplete s certifies.entries = complete_from_valid s certifies.entries ok certifies.lists in
@@ -94,12 +94,12 @@ certified_verdict s start certificate ok few within certifies =
 
 -- Verdicts.
 
--- the entries by the number of pairs
+-- the entries with the numbers of their pairs
 entries_read : (s : Sys) (certificate : List ℕ) → map (entry_at s) (entries_on (numbered s) (lines certificate)) ≡ certified_entries s certificate
 entries_read s certificate =
     ap (λ n. map (entry_at s) (filter_map (entry_of n s.env.actions) (lines certificate))) (length-below (count (sizes_of s)) ∙ sym (length-pairs s))
 
--- the text of an accepted certificate tells of the related pairs
+-- the text for an accepted certificate counts the related pairs
 accepted_tells : GreatestIsComplete → (s : Sys) (p : Pair) (certificate : List ℕ) (related : ℕ) (starts : Bool) (text : List ℕ) → IsSys s → IsWithinCells s → IsPair s p →
     cert_verdict (numbered s) (number (sizes_of s) p) certificate ≡ Greatest related starts → text ≡ greatest_text related starts → ListsUnrelated s (certified_entries s certificate) × TellsGreatest s p text
 accepted_tells law s p certificate related starts text ok few pair verdict says =

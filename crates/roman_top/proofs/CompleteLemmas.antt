@@ -1,4 +1,4 @@
--- Commands get their answers.
+-- Commands are answered.
 use Rattle.std.proofs.Common.{◌≡◌, ◌≢◌, ℕ, Bool, true, false, IsTrue, MatchBool, List, Option, None, Some, IfSome, refl, sym, subst}
 use Rattle.std.proofs.lemmas.Bool.{false≢true}
 use Rattle.roman_io.specs.Shelf.{Texts, shelf_text}
@@ -45,7 +45,7 @@ talked_answered : (session : List ℕ) (library : PlainLibrary) (text : List ℕ
 talked_answered session library text result short talks =
     is_done result (matched_true (is_heard_out session) (ToldFromStart library (lines session) text × (result ≡ status.Done)) (ToldFromStart library (ended_lines (prefix_of session)) text × (result ≡ status.TooLong)) short talks).1
 
--- a job on its library gets its answer
+-- a job on its library is answered
 job_answered : (job : Job) (texts : Texts) (system : List ℕ) (rest : Option (List ℕ)) (session text : List ℕ) (library : PlainLibrary) (result : Status) → IsSessionText (Some (On system job)) texts rest session → Suffices job texts rest library →
     JobDoes job texts session library text result → IsAnswered result
 job_answered Synth texts system rest session text library result given enough does = ends_answered (library_system library) (start_pair_of library) result does.1
@@ -65,7 +65,7 @@ answered (Some (On system job)) texts old new result run (library, accepted, eno
     job_answered job texts system old.rest run.session run.text library result run.given enough (work_of (JobDoes job texts run.session) (document_opening texts system) library run.text result accepted run.run)
 answered (Some (Make n)) texts old new result run can = is_done result run.run.1
 
--- where no count of faults rose, the command gets its answer if it can
+-- where no count of faults rose, a command that has what it needs is answered
 by_status : (asked : Option Command) (old new : World) (result : Status) → Served asked old new result → IsUndisturbed old new → IfSome (texts_for asked old.texts) (λ texts. CanAnswer asked texts old.rest → IsAnswered result)
 by_status asked old new status.ShelfFault served quiet = absurd (quiet.shelf served.shelf)
 by_status asked old new status.ReadFault served quiet = absurd (quiet.input served.input)

@@ -15,7 +15,7 @@ use Rattle.roman_top.specs.RefusalLine.{refusal_line}
 use Rattle.roman_top.specs.declared.status.Status.{Status}
 use Rattle.roman_top.specs.declared.status.Status.TheVariants as status
 
--- what holds where something is told
+-- properties of the value that an option may hold
 pub told_more : {X : Type 0} (o : Option X) (P Q : X → Type 0) → IfSome o P → ((x : X) → P x → Q x) → IfSome o Q
 told_more None P Q p more = tt
 told_more (Some x) P Q p more = more x p
@@ -35,12 +35,12 @@ writes_put IsRun old new text ends result (Ok x) puts finishes run whole = subst
 writes_put IsRun old new text ends result (Err e) puts finishes run whole =
     subst (Writes IsRun old new) (sym finishes) (record { text = text; ends = ends; run = run; wrote = puts })
 
--- what a document comes to
+-- the result of opening a document
 
 pub opens_past : (meaning : Result PlainLibrary Refusal) (library : PlainLibrary) → meaning ≡ Ok library → IsTrue (is_past_limit library) → opening_of meaning ≡ Past library
 opens_past meaning library means past = ap opening_of means ∙ cond-true (is_past_limit library) (Past library) (Accepted library) past
 
--- an accepted document has that meaning, and is within its limit
+-- an accepted document means its library, and is within its limit
 pub record IsAccepted (meaning : Result PlainLibrary Refusal) (library : PlainLibrary) : Type 0 where
   pub means : meaning ≡ Ok library
   pub within : IsFalse (is_past_limit library)
@@ -76,7 +76,7 @@ exceeded Holds told name library old mid new result r means past same puts finis
 
 -- parts of a run
 
--- the text of a run is that of another
+-- each text of the one kind of run is a text of the other kind
 pub writes_weaker : (One Other : List ℕ → Status → Type 0) (old new : Option (List ℕ)) (result : Status) → ((text : List ℕ) (ends : Status) → One text ends → Other text ends) → Writes One old new result → Writes Other old new result
 writes_weaker One Other old new status.ShelfFault weaker w = tt
 writes_weaker One Other old new status.ReadFault weaker w = tt
@@ -93,7 +93,7 @@ pub finished_sink : {T E : Type 0} (ends : Status) (old new : ℕ) (result : Sta
 finished_sink ends old new result (Ok x) stays finishes cause = subst (SinkCause old new) (sym finishes) (stays cause.stays)
 finished_sink ends old new result (Err e) stays finishes cause = subst (SinkCause old new) (sym finishes) cause.failed
 
--- neither the shelf nor the input stops it
+-- neither a fault of the shelf nor of the input ended the run
 pub spoken_stops : (old new : Option (List ℕ)) (result : Status) → IsSpoken old new result → EndsBare old new result
 spoken_stops old new status.Usage spoken = absurd spoken
 spoken_stops old new status.ShelfFault spoken = absurd spoken

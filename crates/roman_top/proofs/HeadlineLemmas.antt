@@ -1,4 +1,4 @@
--- What was written of a session keeps its word.
+-- The text of a session keeps its promise.
 use Rattle.std.proofs.Common.{◌≡◌, ℕ, ◌<◌, Bool, true, false, MatchBool, cond, List, [], ◌∷◌, ◌++◌, length, take, nat_le, if◌then◌else◌, Option, Some, Result, Ok, inl, inr, IsTrue, IsFalse, refl, sym, ap, ap₂, ◌∙◌, subst, arith, ltb-true}
 use Rattle.std.proofs.lemmas.Bool.{false≢true, both_ways, cond-true, cond-false}
 use Rattle.std.specs.List.{flat_map}
@@ -43,12 +43,12 @@ means_accepted texts system library (is, fits) =
     (λ past. absurd (let more : library.limit < cells (library_system library) = ltb-true library.limit (cells (library_system library)) past in omega (arith, more, fits))) (λ within. within) in
     ap opening_of is ∙ cond-false (is_past_limit library) (Past library) (Accepted library) within
 
--- what is told of the lines that are heard
+-- the replies to the lines that are heard
 heard_tells : (b : Bool) (library : PlainLibrary) (ls ms : List (List ℕ)) (text : List ℕ) (P Q : Type 0) → MatchBool b (ToldFromStart library ls text × P) (ToldFromStart library ms text × Q) → ToldFromStart library (cond b ls ms) text
 heard_tells true library ls ms text P Q tells = tells.0
 heard_tells false library ls ms text P Q tells = tells.0
 
--- the lines of a session, or those that end within as much as is ever heard
+-- the lines of a session, or those that end within the limit
 abbrev lines_within : List ℕ → List (List ℕ)
 lines_within session = if nat_le (length session) MAX_SESSION_BYTES then lines session else ended_lines (take MAX_SESSION_BYTES session)
 

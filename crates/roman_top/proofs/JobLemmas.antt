@@ -1,4 +1,4 @@
--- A run of a job on an accepted document keeps what is promised of it.
+-- A run of a job on an accepted document keeps its promise.
 use Rattle.std.proofs.Common.{◌≡◌, ℕ, ◌≤◌, List, [], Option, None, Some, sym, subst, arith}
 use Rattle.roman_io.specs.Shelf.{Texts, shelf_text}
 use Rattle.roman_model.specs.System.{IsSys, IsPair}
@@ -29,7 +29,7 @@ use Rattle.roman_top.proofs.LossLemmas.{tells_losses}
 use Rattle.roman_top.proofs.MadeLemmas.{keeps_made}
 use Rattle.roman_top.proofs.StartsKnown.{library_parts}
 
--- the library's system is one with few enough cells, and its starting states are a pair of it
+-- the library's system is well formed and has few enough cells, and its starting states are one of its pairs
 record Begins (library : PlainLibrary) : Type 0 where
   system : IsSys (library_system library)
   cells : IsWithinCells (library_system library)

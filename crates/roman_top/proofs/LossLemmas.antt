@@ -1,4 +1,4 @@
--- What is left of a system and a pair where one or two services fail, and what `resilience` tells of it.
+-- The system and the pair that are left where one or two services fail, and what `resilience` writes of them.
 use Rattle.std.proofs.Common.{◌≡◌, ℕ, zero, suc, ◌+◌, ◌<◌, ◌≤◌, true, List, [], ◌∷◌, map, length, drop, Some, slice_get, remove, inl, inr, refl, sym, subst, arith}
 use Rattle.std.proofs.lemmas.Bool.{cases_lt}
 use Rattle.std.proofs.lemmas.List.{length-map}
@@ -14,12 +14,12 @@ use Rattle.roman_top.specs.HeadlineResilience.{AreFailing, TellsLosses}
 use Rattle.roman_top.specs.Outlooks.{lines_without, outlook_text}
 use Rattle.roman_top.proofs.ServingLemmas.{outlook_right}
 
--- the system is one, and the pair one of it
+-- the system is well formed, and the pair is one of its pairs
 record IsWhole (s : Sys) (p : Pair) : Type 0 where
   system : IsSys s
   pair : IsPair s p
 
--- a place from k on isn't below it
+-- a place from k on isn't below k
 later_place : (d n k j : ℕ) → n ≤ k + d → IsIn j (drop k (below n)) → (k ≤ j) × (j < n)
 later_place zero n k j l i = absurd (subst (λ ks. IsIn j ks) (from_end n k (omega arith)) i)
 later_place (suc d) n k j l i = elim (cases_lt k n) [

@@ -23,7 +23,7 @@ use Rattle.roman_top.specs.declared.status.Status.{Status}
 use Rattle.roman_top.proofs.ServingLemmas.{outlook_right}
 use Rattle.roman_top.proofs.TurnLemmas.{IsFrom, start_seen, start_from, turns_of}
 
--- how a known situation stands
+-- the figures of a well-formed situation
 stands : (word : List ℕ) (s : Situation) → IsKnownSituation s → TellsStanding word (shown s) (standing word s)
 stands word s known =
     let right = outlook_right (present_system s) s.here known.situation.parts.system known.situation.here in
@@ -59,7 +59,7 @@ stages_told library s (stage ∷ more) text read from known (quitless, others) (
       split,
     )
 
--- a summary keeps what is promised of it
+-- a summary keeps its promise
 pub keeps_made : (n : ℕ) (text : List ℕ) (result : Status) → LinesAreRead → Makes n text result → KeepsMade n text result
 keeps_made n text result read (made_of, done) = record {
   rest = made_of.rest;

@@ -37,7 +37,7 @@ few_cells : (n : ℕ) → n ≤ 10 → cells (library_system (made n)) ≤ 41943
 unfolding are_few
 few_cells n few = leb-true (cells (library_system (made n))) 4194304 (all_below_at are_few 11 n all_few (omega arith))
 
--- so they don't exceed its limit
+-- the cells of a made system don't exceed its limit
 pub not_past_limit : (library : PlainLibrary) (n : ℕ) → library ≡ made n → n ≤ 10 → library.limit < cells (library_system library) → ⊥
 not_past_limit library n is few past =
     let of_made : (made n).limit < cells (library_system (made n)) = subst (λ (l : PlainLibrary). l.limit < cells (library_system l)) is past in
@@ -45,7 +45,7 @@ not_past_limit library n is few past =
     let small = few_cells n few in
     omega arith
 
--- so a session of one begins well formed
+-- a session of a made system begins in a well-formed situation
 named_made : (n : ℕ) → (length (made n).environment.states ≡ (made n).environment.env.states) × (length (made n).environment.actions ≡ (made n).environment.env.actions)
 unfolding made floor
 named_made n = (refl, refl)

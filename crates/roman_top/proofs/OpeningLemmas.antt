@@ -1,4 +1,4 @@
--- Documents that are opened, and what becomes of a run without one.
+-- Opening documents, and how a run ends without one.
 use Rattle.std.proofs.Common.{◌≡◌, ℕ, ◌<◌, List, [], Option, IfSome, Result, Ok, Err, refl, sym, ◌∙◌, subst}
 use Rattle.roman_io.specs.Faults.{HasCause, Rose}
 use Rattle.roman_io.specs.Shelf.{Texts}
@@ -16,7 +16,7 @@ use Rattle.roman_top.specs.declared.status.Status.{Status}
 use Rattle.roman_top.specs.declared.status.Status.TheVariants as status
 use Rattle.roman_top.proofs.EndingLemmas.{told_all, refused, exceeded}
 
--- what a line leaves behind that ends a run
+-- what is left behind by a line that ends a run
 module _ {X : Type 0} (told told_now : Option Texts) (shelf shelf_now : ℕ) (old new : Option (List ℕ)) (out out_mid out_now : ℕ) (result : Status) (texts : told_now ≡ told) (shelves : shelf_now ≡ shelf) (outs : out_mid ≡ out) where
   failed_leaves : Rose out_mid out_now → result ≡ status.WriteFault → Leaves {X = X} (desk told shelf old out) (desk told_now shelf_now new out_now) (Err result)
   failed_leaves rose is = subst (λ (result : Status). Leaves {X = X} (desk told shelf old out) (desk told_now shelf_now new out_now) (Err result)) (sym is)
@@ -56,12 +56,12 @@ module _ {X : Type 0} (view : X → PlainLibrary) (name : List ℕ) (told told_n
 -- Opening it
 
 module _ {X Y : Type 0} (view : Y → PlainLibrary) (Holds : PlainLibrary → X → Type 0) (name : List ℕ) (told told_now : Option Texts) (shelf shelf_now : ℕ) (old mid : Option (List ℕ)) (out out_mid : ℕ) where
-  -- it was refused
+  -- the document was refused
   pub opens_away : (result : Status) → OpensLibrary view name (desk told shelf old out) (desk told_now shelf_now mid out_mid) (Err result) → Opens Holds name (desk told shelf old out) (desk told_now shelf_now mid out_mid) (Err result)
   opens_away result r = record { opens = r.reads; leaves = record { away = r.leaves.away; stops = r.leaves.stops; texts = r.leaves.texts; shelf = r.leaves.shelf; out = r.leaves.out } }
 
   module _ (y : Y) (read : OpensLibrary view name (desk told shelf old out) (desk told_now shelf_now mid out_mid) (Ok y)) where
-    -- there is no memory
+    -- out of memory
     pub opens_none : Opens Holds name (desk told shelf old out) (desk told_now shelf_now mid out_mid) (Err status.Memory)
     opens_none = record {
       opens = told_all told (λ texts. Unit {0}) (λ texts. tt);
@@ -74,7 +74,7 @@ module _ {X Y : Type 0} (view : Y → PlainLibrary) (Holds : PlainLibrary → X 
       };
     }
 
-    -- it is past its limit
+    -- the document exceeds its limit
     pub opens_past_limit : {T E : Type 0} (new : Option (List ℕ)) (out_now : ℕ) (result : Status) (r : Result T E) → (view y).limit < cells (library_system (view y)) → Puts mid new (limit_line (view y).limit) r → HasCause out_mid out_now r →
         Finishes r status.Limit result → Opens Holds name (desk told shelf old out) (desk told_now shelf_now new out_now) (Err result)
     opens_past_limit new out_now result r past puts cause finishes = record {

@@ -1,4 +1,4 @@
--- The lines of `resilience`, taken one after the other.
+-- The lines of `resilience`, pushed one after another.
 use Rattle.std.proofs.Common.{◌≡◌, ℕ, ◌+◌, ◌<◌, ◌≤◌, List, [], ◌∷◌, ◌++◌, map, length, drop, Some, slice_get, codes, decimal, refl, sym, ap, ap₂, ◌∙◌, append_assoc}
 use Rattle.std.specs.List.{flat_map}
 use Rattle.std.proofs.lemmas.List.{append-nil}
@@ -46,7 +46,7 @@ pub head_pieces : (parts : NamedSys) (now : Outlook) (first words : List ℕ) �
     first ++ (words ++ []) ≡ head_text parts now
 head_pieces parts now first words is_first is_words = ap (λ (x : List ℕ). first ++ x) (append-nil words) ∙ ap₂ (λ (x y : List ℕ). x ++ y) is_first is_words
 
--- The text of each place after the other.
+-- The text of the places, one after another.
 
 pub each_next : {X : Type 0} (g : ℕ → X) (f : X → List ℕ) (n k : ℕ) → k < n → flat_map f (map g (drop k (below n))) ≡ f (g k) ++ flat_map f (map g (drop (k + 1) (below n)))
 each_next g f n k l = ap (λ (ks : List ℕ). flat_map f (map g ks)) (from_place n k l)
@@ -62,7 +62,7 @@ all_next h f n k l =
 pub all_end : {X : Type 0} (h : ℕ → List X) (f : X → List ℕ) (n k : ℕ) → n ≤ k → flat_map f (flat_map h (drop k (below n))) ≡ []
 all_end h f n k l = ap (λ (ks : List ℕ). flat_map f (flat_map h ks)) (from_end n k l)
 
--- The whole.
+-- The whole text.
 
 pub text_pieces : (parts : NamedSys) (p : Pair) →
     head_text parts (outlook (system_of parts) p)

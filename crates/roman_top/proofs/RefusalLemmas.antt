@@ -1,4 +1,4 @@
--- The line of a refusal, by its pieces.
+-- The line of a refusal from its pieces.
 use Rattle.std.proofs.Common.{◌≡◌, ℕ, List, [], ◌++◌, codes, append_assoc}
 use Rattle.std.proofs.lemmas.List.{append-nil}
 use Rattle.roman_library.specs.declared.refusal.Refusal.{Refusal}

@@ -1,4 +1,4 @@
--- Outlooks that are written, as part of a run.
+-- Writing outlooks as part of a run.
 use Rattle.std.proofs.Common.{◌≡◌, ℕ, List, Option, Result, refl, ap, ◌∙◌, subst}
 use Rattle.roman_io.specs.Sink.{Puts}
 use Rattle.roman_model.specs.Numbers.{sizes_of, pair_at}
@@ -16,18 +16,18 @@ use Rattle.roman_top.specs.declared.status.Status.{Status}
 use Rattle.roman_top.specs.declared.status.Status.TheVariants as status
 use Rattle.roman_top.proofs.EndingLemmas.{writes_put}
 
--- the text for the pair of that number
+-- the outlook text for the pair with that number
 abbrev pub text_at : NamedSys → ℕ → List ℕ
 text_at n p = outlook_text n (pair_at (sizes_of (system_of n)) p)
 
--- it was put
+-- the outlook text was put
 pub foreseen : {T E : Type 0} (joint given : NamedSys) (p : ℕ) (old new : Option (List ℕ)) (result : Status) (r : Result T E) → given ≡ joint → Puts old new (text_at given p) r → Finishes r status.Done result →
     Writes (EndsSaying (text_at joint p) status.Done) old new result
 foreseen joint given p old new result r same puts finishes =
     subst (λ (n : NamedSys). Writes (EndsSaying (text_at n p) status.Done) old new result) same
     (writes_put (EndsSaying (text_at given p) status.Done) old new (text_at given p) status.Done result r puts finishes (refl, refl) (λ w. w))
 
--- that of the pair at which an opened document begins is that of its library
+-- the outlook text of the start pair of an opened document is that of its library
 pub foreseen_is_run : (seated : Seated) (library : PlainLibrary) → IsSeated library seated → (text : List ℕ) (ends : Status) → EndsSaying (text_at seated.joint seated.start) status.Done text ends → Foresees library text ends
 foreseen_is_run seated library is text ends says =
     let s = library_system library in

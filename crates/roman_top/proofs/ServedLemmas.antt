@@ -1,4 +1,4 @@
--- What a call does, from what its parts do.
+-- What a call does, derived from what its parts do.
 use Rattle.std.proofs.Common.{◌≡◌, ℕ, List, [], Option, None, Some, Result, Ok, Err, inl, refl, sym, subst}
 use Rattle.roman_io.specs.Faults.{HasCause}
 use Rattle.roman_io.specs.Shelf.{Texts, shelf_text}
@@ -18,7 +18,7 @@ use Rattle.roman_top.specs.declared.status.Status.{Status}
 use Rattle.roman_top.specs.declared.status.Status.TheVariants as status
 use Rattle.roman_top.proofs.EndingLemmas.{told_more, writes_weaker, spoken_stops, spoken_shelf, away_is_run, on_accepted}
 
--- the same words ask for the same
+-- equal commands do the same
 pub served_as : (asked other : Option Command) (old new : World) (result : Status) → asked ≡ other → Served other old new result → Served asked old new result
 served_as asked other old new result same served = subst (λ (a : Option Command). Served a old new result) (sym same) served
 
@@ -38,19 +38,19 @@ prefix_text IsRun old new result is w = subst (Writes IsRun old new) is w
 unwritten_at : (old new : Option (List ℕ)) (result ends : Status) → EndsBare old new result → result ≡ ends → EndsBare old new ends
 unwritten_at old new result ends stops is = subst (EndsBare old new) is stops
 
--- the input isn't read
+-- the input wasn't read
 input_stays : (old new : Option (List ℕ)) (n : ℕ) (result : Status) → EndsBare old new result → InputCause n n result
 input_stays old new n status.ReadFault stops = absurd stops
 input_stays old new n _ stops = refl
 
 -- By the job
 
--- a session from the input isn't done where its document isn't opened
+-- a session from the input isn't Done where its document isn't opened
 ends_away : (system : List ℕ) (old new : World) (result : Status) → IsAway result → EndsInput (Some (On system (Run None))) old new result
 ends_away system old new status.Done away = absurd away
 ends_away system old new _ away = tt
 
--- what a job says where it takes nothing from the input
+-- what a call does for a job that takes nothing from the input
 record IsAside (job : Job) : Type 0 where
   given : (texts : Texts) (system : List ℕ) (rest : Option (List ℕ)) → (session : List ℕ) × IsSessionText (Some (On system job)) texts rest session
   shelf : (system : List ℕ) (old new : World) → IsUnwritten old new → AtShelfFault (Some (On system job)) old new
@@ -78,7 +78,7 @@ aside _ = record { given = λ texts system rest. ([], tt); shelf = λ system old
 
 -- Documents that aren't opened
 
--- a prefix of the line of such a document is one of a run of any job
+-- a prefix of such a document's line is a prefix of a run of any job
 away_prefix : (texts : Texts) (system : List ℕ) (job : Job) (rest : Option (List ℕ)) (old new : World) (result : Status) → Writes (TurnsAway (document_opening texts system)) old.written new.written result → result ≡ status.WriteFault →
     HasRunPrefix (Some (On system job)) texts rest old new
 away_prefix texts system job rest old new result writes is =
@@ -110,7 +110,7 @@ away_served {X} Holds system job old new result opens rest faults =
       texts = opens.leaves.texts;
     }
 
--- Jobs by a shelf and a sink alone
+-- Jobs with a shelf and a sink alone
 
 -- the job isn't a session
 abbrev pub IsPlain : Job → Type 0
@@ -151,7 +151,7 @@ job_served system job old new result plain does rest faults =
       texts = does.texts;
     }
 
--- by what was done of an opened document, and is a run
+-- what was done with an opened document is a run
 pub opened_served : {X : Type 0} (Holds : PlainLibrary → X → Type 0) (x : X) (Work : List ℕ → Status → Type 0) (system : List ℕ) (job : Job) (told told_now : Option Texts) (shelf shelf_now : ℕ) (old mid new : Option (List ℕ))
     (out out_mid out_now : ℕ) (result : Status) → IsPlain job → ((texts : Texts) (library : PlainLibrary) → Holds library x → (text : List ℕ) (ends : Status) → Work text ends → JobDoes job texts [] library text ends) →
     Opens Holds system (desk told shelf old out) (desk told_now shelf_now mid out_mid) (Ok x) → Writes Work mid new result → IsSpoken mid new result → SinkCause out_mid out_now result →

@@ -1,4 +1,4 @@
--- Depths that are told, as part of a run.
+-- Writing depths as part of a run.
 use Rattle.std.proofs.Common.{◌≡◌, ℕ, ◌<◌, List, Option, Result, refl, sym, ap, ◌∙◌, subst}
 use Rattle.roman_model.specs.System.{Pair}
 use Rattle.roman_model.specs.Numbers.{sizes_of, count, pair_at}
@@ -28,7 +28,7 @@ shortened joint given start old new result r same puts finishes =
     subst (λ (n : NamedSys). Writes (TellsShortestOf (system_of n) (pair_at (sizes_of (system_of n)) start)) old new result) same
     (writes_put (TellsShortestOf (system_of given) (pair_at (sizes_of (system_of given)) start)) old new puts.text status.Done result r puts.puts finishes (puts.tells, refl) (λ w. w))
 
--- a library begins where its seated system does
+-- a library has the start pair of its seated system
 begins_there : (library : PlainLibrary) (seated : Seated) → IsSeated library seated → start_pair seated ≡ start_pair_of library
 begins_there library seated is =
     let s = library_system library in

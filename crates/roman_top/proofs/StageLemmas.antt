@@ -1,4 +1,4 @@
--- Lines of a script that are answered one after the other.
+-- Lines of a script, answered one after another.
 use Rattle.std.proofs.Common.{◌≡◌, ℕ, ◌+◌, ◌-◌, ◌<◌, ◌≤◌, List, [], ◌∷◌, ◌++◌, length, take, drop, get_or, add-one, drop-cons, Option, Some, Result, slice_get, codes, refl, sym, ap, ◌∙◌, subst, arith, append_assoc}
 use Rattle.std.proofs.lemmas.List.{append-nil, drop_all, get_or-drop, length-drop, take_more}
 use Rattle.std.proofs.lemmas.Option.{get_or_from_slice_get}
@@ -28,7 +28,7 @@ take_line xs from i line order within is =
     let there : get_or (drop from xs) k [] ≡ line = get_or-drop from xs k [] ∙ ap (λ n. get_or xs n []) place ∙ get_or_from_slice_get xs i line [] is in
     ap (λ n. take n (drop from xs)) next ∙ take_more (drop from xs) k [] short ∙ ap (λ x. take k (drop from xs) ++ x ∷ []) there
 
--- it is answered as well
+-- the next line of the script is answered
 pub answered_more : {T E : Type 0} (old mid new : Situation) (xs : List (List ℕ)) (from i : ℕ) (line : List ℕ) (before after : Option (List ℕ)) (result : Result T E) → from ≤ i → i < length xs → slice_get xs i ≡ Some line →
     HasComeTo old (take (i - from) (drop from xs)) mid → Answered mid line new before after result → HasComeTo old (take (i + 1 - from) (drop from xs)) new
 answered_more old mid new xs from i line before after result order within is so_far answered = record {
@@ -37,12 +37,12 @@ answered_more old mid new xs from i line before after result order within is so_
       (Answers-push old (take (i - from) (drop from xs)) so_far.replies mid line answered.text new so_far.answers answered.step);
 }
 
--- a stage after those lines, and the further stages
+-- a stage after these lines, and the stages that follow
 passes_on : (s next : Situation) (word : List ℕ) (lines : List (List ℕ)) (more : List (List ℕ × List (List ℕ))) (line rest : List ℕ) → HasComeTo s lines next → line ≡ standing word next → Passes next more rest →
     Passes s ((word, lines) ∷ more) (line ++ rest)
 passes_on s next word lines more line rest answered is passes = (answered.replies, rest, next, answered.answers, passes, ap (λ prefix. prefix ++ rest) is)
 
--- a session that is given the whole script
+-- a session that answers the whole script
 pub script_passes : (s0 s1 s2 s3 s4 s5 : Situation) (start freeze thaw die join round : Stage) →
     line_of_stage start ≡ standing (codes "start") s0 →
     HasComeTo s0 (take 1 script_lines) s1 → line_of_stage freeze ≡ standing (codes "freeze") s1 →
@@ -65,16 +65,16 @@ script_passes s0 s1 s2 s3 s4 s5 start freeze thaw die join round at_start h1 at_
     (line_of_stage freeze) (lines_of (thaw ∷ die ∷ join ∷ round ∷ [])) h1 at_freeze second in
     ([], lines_of (freeze ∷ thaw ∷ die ∷ join ∷ round ∷ []), s0, (refl, refl), first, ap (λ prefix. prefix ++ lines_of (freeze ∷ thaw ∷ die ∷ join ∷ round ∷ [])) at_start)
 
--- ---- lines that are taken one after the other
+-- ---- lines that are pushed one after another
 
--- what is left begins with the next line
+-- the rest begins with the next line
 pub lines_of-drop : (stages : List Stage) (i : ℕ) (d : Stage) (piece : List ℕ) → i < length stages → piece ≡ line_of_stage (get_or stages i d) → lines_of (drop i stages) ≡ piece ++ lines_of (drop (i + 1) stages)
 lines_of-drop stages i d piece within is = rw (add-one, is) (ap lines_of (drop-cons stages i d within))
 
--- past the last stage the last line is left
+-- after the last stage only the last line is left
 pub lines_of-end : (stages : List Stage) (i : ℕ) → length stages ≤ i → lines_of (drop i stages) ≡ codes "end\n" ++ []
 lines_of-end stages i past = ap lines_of (drop_all i stages past)
 
--- the first line, and those of the stages
+-- the first line, and the lines of the stages
 pub summary_pieces : (n : ℕ) (stages : List Stage) (first : List ℕ) → first ≡ made_line n → first ++ (lines_of stages ++ []) ≡ made_line n ++ lines_of stages
 summary_pieces n stages first is = rw is (ap (λ rest. made_line n ++ rest) (append-nil (lines_of stages)))

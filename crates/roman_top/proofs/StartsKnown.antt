@@ -1,4 +1,4 @@
--- Sessions of accepted documents begin well formed.
+-- Sessions of accepted documents begin in well-formed situations.
 use Rattle.std.proofs.Common.{◌≡◌, ℕ, List, [], map, IsFalse, refl, sym, ap, ◌∙◌, subst, arith}
 use Rattle.std.proofs.lemmas.Bool.{both_ways, lt-ltb}
 use Rattle.std.proofs.lemmas.List.{length-map}
@@ -79,7 +79,7 @@ starts_known texts system library s accepted start =
     let is = accepted_is (library_of texts system) library accepted in
     start_known library s (libraries_known texts system library is.means) is.within start
 
--- and there is a situation to start from: some removal list is complete
+-- a starting situation exists: some removal list is complete
 pub some_start : (texts : Texts) (system : List ℕ) (library : PlainLibrary) → document_opening texts system ≡ Accepted library → (s : Situation) × IsStart library s
 some_start texts system library accepted =
     let is = accepted_is (library_of texts system) library accepted in

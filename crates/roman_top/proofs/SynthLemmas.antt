@@ -1,4 +1,4 @@
--- Reports, as part of a run.
+-- Writing reports as part of a run.
 use Rattle.std.proofs.Common.{◌≡◌, ℕ, Bool, true, false, List, Option, Result, refl, sym, subst}
 use Rattle.std.proofs.lemmas.Bool.{both_ways}
 use Rattle.roman_io.specs.Sink.{Puts}
@@ -34,14 +34,14 @@ pub reported : {T E : Type 0} (s : Situation) (related : Bool) (wanted result : 
 reported s related wanted result old new r known e is puts finishes =
     report_put s related old new result r (ends_by s known related e) puts (subst (λ (ends : Status). Finishes r ends result) is finishes)
 
--- a report on the start is that of the library
+-- the report on the starting situation is that of the library
 pub reported_is_run : (s : Situation) (library : PlainLibrary) → IsStart library s → (text : List ℕ) (ends : Status) → Reports s text ends → Synthesises library text ends
 reported_is_run s library start text ends reports =
     let of_parts : (text ≡ report_text (parts_of library) s.here) × EndsBy (joint.system_of (parts_of library)) s.here ends =
     subst (λ (n : NamedSys). (text ≡ report_text n s.here) × EndsBy (joint.system_of n) s.here ends) start.parts reports in
     subst (λ (p : Pair). (text ≡ report_text (parts_of library) p) × EndsBy (joint.system_of (parts_of library)) p ends) start.here of_parts
 
--- where an answer was told, neither the shelf nor the input failed
+-- where a yes or a no was told, neither the shelf nor the input failed
 pub told_spoken : (old new : Option (List ℕ)) (result : Status) → IsTold result → IsSpoken old new result
 told_spoken old new status.Done told = tt
 told_spoken old new status.No told = tt

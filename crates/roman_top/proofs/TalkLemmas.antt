@@ -32,7 +32,7 @@ use Rattle.roman_top.proofs.EndingLemmas.{told_more, match_true, match_false, on
 pub text_source : (told given : Option Texts) (name given_name : List ℕ) (at : ℕ) → given ≡ told → given_name ≡ name → at ≡ 0 → rest_from given given_name at ≡ rest_from told name 0
 text_source told given name given_name at same_texts same_name at_start = rw (same_texts, same_name, at_start) refl
 
--- what a session that was heard from the input did
+-- what a session from the input did
 pub record Heard (old new : Hall) (result : Result (Unit {0}) HearError) : Type 0 where
   pub ok : OnOk result (IsHeardOut old new.spot)
   pub too_long : IsErrOf result hear.TooLong → IsCutOff old new.spot
@@ -45,7 +45,7 @@ pub record Heard (old new : Hall) (result : Result (Unit {0}) HearError) : Type 
 -- Sessions of accepted documents
 
 module _ (texts : Texts) (system : List ℕ) (start : Situation) (accepts : Accepts (document_opening texts system) (λ library. IsStart library start)) where
-  -- what is told of a whole session, or of its prefix, is a run
+  -- the replies to a whole session, or to its prefix, are a run
   talked : (name : Option (List ℕ)) (session text : List ℕ) (ends : Status) → Talks session accepts.library text ends → Runs (Some (On system (Run name))) texts session text ends
   talked name session text ends talks = on_accepted (Talks session) (document_opening texts system) accepts.library text ends accepts.accepted talks
 
@@ -56,7 +56,7 @@ module _ (texts : Texts) (system : List ℕ) (start : Situation) (accepts : Acce
   talks_prefix session text now long told = match_false (is_heard_out session) _ _ long (record { start = start; now = now; begins = accepts.holds; told = told }, refl)
 
   module _ (name : Option (List ℕ)) (old new : World) (from : Option (List ℕ)) (now : Situation) (given : (session : List ℕ) → Had from session → IsSessionText (Some (On system (Run name))) texts old.rest session) where
-    -- heard to its end, or to `quit`
+    -- the session was heard to its end, or to `quit`
     runs_out : IsHeardOut (hall start from old.written) (spot now new.written) → HasRun (Some (On system (Run name))) texts old new status.Done
     runs_out h = record {
       session = h.session;
@@ -66,7 +66,7 @@ module _ (texts : Texts) (system : List ℕ) (start : Situation) (accepts : Acce
       wrote = h.tells.wrote;
     }
 
-    -- too long
+    -- the session is too long
     runs_long : IsCutOff (hall start from old.written) (spot now new.written) → HasRun (Some (On system (Run name))) texts old new status.TooLong
     runs_long h = record {
       session = h.session;
@@ -76,7 +76,7 @@ module _ (texts : Texts) (system : List ℕ) (start : Situation) (accepts : Acce
       wrote = h.tells.wrote;
     }
 
-    -- a prefix of what may be told of it
+    -- a prefix of possible replies was written
     runs_prefix : TellsPrefixOfAll (hall start from old.written) new.written → HasRunPrefix (Some (On system (Run name))) texts old.rest old new
     runs_prefix h = by_test (is_heard_out h.session)
         (λ out. record {
@@ -100,7 +100,7 @@ module _ (texts : Texts) (system : List ℕ) (start : Situation) (accepts : Acce
           wrote = h.tells.wrote;
         })
 
-    -- a run, where no fault ended it
+    -- it is a run, where no fault ended it
     heard_runs : (fault : Status) (heard : Result (Unit {0}) HearError) → (IsFree fault → ⊥) → OnOk heard (IsHeardOut (hall start from old.written) (spot now new.written)) →
         (IsErrOf heard hear.TooLong → IsCutOff (hall start from old.written) (spot now new.written)) → IsFree (heard_status fault heard) → HasRun (Some (On system (Run name))) texts old new (heard_status fault heard)
     heard_runs fault (Ok x) is_fault out long free = runs_out out
@@ -108,7 +108,7 @@ module _ (texts : Texts) (system : List ℕ) (start : Situation) (accepts : Acce
     heard_runs fault (Err hear.WriteFault) is_fault out long free = absurd free
     heard_runs fault (Err hear.TooLong) is_fault out long free = runs_long (long refl)
 
-  -- and of what is told of the lines that were taken
+  -- a prefix of the replies to the lines that were taken was written
   taken_prefix : (old new : World) (now : Situation) → StopsShort (hall start old.rest old.written) (hall now new.rest new.written) → HasPrefixOfTaken texts system old new
   taken_prefix old new now h = record {
     taken = h.heard;
@@ -125,7 +125,7 @@ module _ (texts : Texts) (system : List ℕ) (start : Situation) (accepts : Acce
     };
   }
 
-  -- it would go on
+  -- the session would go on
   answered : (old new : World) (now : Situation) (from has : Option (List ℕ)) (h : GoesOn (hall start from old.written) (hall now has new.written)) → HasAnswered texts system h.taken old new
   answered old new now from has h = record {
     library = accepts.library;
@@ -137,7 +137,7 @@ module _ (texts : Texts) (system : List ℕ) (start : Situation) (accepts : Acce
 
 -- By the status
 
--- which fault ended it
+-- the fault that ended the session
 sink_failed : (fault : Status) (heard : Result (Unit {0}) HearError) → (fault ≡ status.WriteFault → ⊥) → heard_status fault heard ≡ status.WriteFault → IsErrOf heard hear.WriteFault
 sink_failed fault (Err hear.ReadFault) other is = absurd (other is)
 sink_failed fault (Err hear.WriteFault) other is = refl
@@ -157,7 +157,7 @@ shelf_failed : (heard : Result (Unit {0}) HearError) → heard_status status.She
 shelf_failed (Err hear.ReadFault) is = refl
 shelf_failed _ is = absurd (let e : ⊥ = cc in e)
 
--- the session has begun, so memory isn't asked for, and no other fault comes
+-- a session that has begun takes no memory, and no other fault ends it
 never_other : (fault other : Status) (heard : Result (Unit {0}) HearError) → (status.Done ≡ other → ⊥) → (fault ≡ other → ⊥) → (status.WriteFault ≡ other → ⊥) → (status.TooLong ≡ other → ⊥) →
     heard_status fault heard ≡ other → ⊥
 never_other fault other (Ok x) done failed unwritten long is = done is
@@ -204,7 +204,7 @@ input_stays n (Err hear.ReadFault) = refl
 input_stays n (Err hear.WriteFault) = refl
 input_stays n (Err hear.TooLong) = refl
 
--- what is taken from the input
+-- the bytes that are taken from the input
 of_session : (heard : Result (Unit {0}) HearError) → IsOfSession (heard_status status.ReadFault heard)
 of_session (Ok x) = tt
 of_session (Err hear.ReadFault) = tt
@@ -218,7 +218,7 @@ ends_input system old new (Err hear.ReadFault) past = tt
 ends_input system old new (Err hear.WriteFault) past = tt
 ends_input system old new (Err hear.TooLong) past = tt
 
--- What a call does that hears a session
+-- What a call does for a session
 
 heard_input : (system : List ℕ) (start now : Situation) (told told_mid : Option Texts) (shelf shelf_mid : ℕ) (rest rest_now : Option (List ℕ)) (input input_now : ℕ) (old new : Option (List ℕ)) (out out_mid out_now : ℕ)
     (heard : Result (Unit {0}) HearError) → IfSome told (λ texts. Accepts (document_opening texts system) (λ library. IsStart library start)) → AreBehaviours start.parts → told_mid ≡ told → shelf_mid ≡ shelf → out_mid ≡ out →
@@ -269,7 +269,7 @@ module _ (system : List ℕ) (start now : Situation) (told told_mid : Option Tex
       × TakesInput (Some (On system (Run None))) (world told shelf rest input old out) (world told_mid shelf_mid rest_now input_now new out_now) result
   input_done = (input_served, input_took)
 
--- the text of the shelf that a session is
+-- the text of the shelf that a session reads
 shelf_given : (texts : Texts) (system name : List ℕ) (rest : Option (List ℕ)) (session : List ℕ) → Had (rest_from (Some texts) name 0) session → IsSessionText (Some (On system (Run (Some name)))) texts rest session
 shelf_given texts system name rest session had = sym had
 
@@ -322,7 +322,7 @@ shelf_served system name start now told told_mid told_now shelf shelf_mid shelf_
     subst (λ (result : Status). ServedBeside (Some (On system (Run (Some name)))) (desk told shelf old out) (desk told_now shelf_now new out_now) result) (sym is)
     (heard_shelf system name start now told told_now shelf shelf_mid shelf_now old new out out_mid out_now heard opens.opens behaviours (texts ∙ opens.leaves.texts) opens.leaves.shelf opens.leaves.out all reads writes)
 
--- a session that was heard from a source over a whole text
+-- a session from a source over a whole text
 pub text_heard : (start now : Situation) (from given has : Option (List ℕ)) (old new : Option (List ℕ)) (heard : Result (Unit {0}) HearError) → given ≡ from → OnOk heard (IsHeardOut (hall start given old) (spot now new)) →
     (IsErrOf heard hear.TooLong → IsCutOff (hall start given old) (spot now new)) → (IsErrOf heard hear.ReadFault → GoesOn (hall start given old) (hall now has new)) →
     (IsErrOf heard hear.WriteFault → AreBehaviours start.parts → TellsPrefixOfAll (hall start given old) new) → HearsText (hall start from old) (spot now new) heard

@@ -1,4 +1,4 @@
--- Each line that is answered has its turn.
+-- Each answered line has its turn.
 use Rattle.std.proofs.Common.{◌≡◌, ℕ, List, [], ◌∷◌, ◌++◌, Result, Ok, inl, inr, IsTrue, refl, sym, ap, ap₂, ◌∙◌, subst}
 use Rattle.std.proofs.lemmas.Bool.{false≢true, both_ways, cond-true, cond-false}
 use Rattle.std.specs.List.{flat_map}
@@ -24,7 +24,7 @@ use Rattle.roman_top.specs.HeadlineTurns.{Turn, AreTurns, after_turns}
 abbrev pub IsFrom : PlainLibrary → Situation → Type 0
 IsFrom library s = s.parts ≡ record (parts_of library) { seats = s.parts.seats }
 
--- what is seen of a known situation is well formed
+-- the state of a well-formed situation is well formed
 pub state_known : (library : PlainLibrary) (s : Situation) → IsFrom library s → IsKnownSituation s → IsState library (shown s)
 state_known library s from known = record {
   parts = from;
@@ -34,7 +34,7 @@ state_known library s from known = record {
   handed = λ a k phase. subst (IsOpenGreat (shown s)) phase (open_great s known.situation);
 }
 
--- what is seen of a start
+-- the state of a starting situation
 pub start_seen : (library : PlainLibrary) (s : Situation) → IsStart library s → shown s ≡ start_state library
 start_seen library s start =
     ap (λ (n : NamedSys). record { parts = n; here = s.here; phase = s.phase }) start.parts
@@ -43,12 +43,12 @@ start_seen library s start =
 pub start_from : (library : PlainLibrary) (s : Situation) → IsStart library s → IsFrom library s
 start_from library s start = subst (λ (n : NamedSys). n ≡ record (parts_of library) { seats = n.seats }) (sym start.parts) refl
 
--- `quit` ends a session
+-- a line `quit` ends a session
 quit_is : (r : Result LineShape LineError) → IsTrue (is_quit r) → r ≡ Ok quit
 quit_is (Ok quit) h = refl
 quit_is _ h = absurd (false≢true h)
 
--- the turns of the lines that are answered, and where they end
+-- the turns of the answered lines, and the state to which they lead
 pub record HasTurns (library : PlainLibrary) (s : State) (now : Situation) (ls : List (List ℕ)) (text : List ℕ) : Type 0 where
   pub turns : List Turn
   pub are : AreTurns library s ls turns

@@ -1,4 +1,4 @@
--- Sessions of accepted documents begin well formed.
+-- Sessions of accepted documents begin in well-formed situations.
 use Rattle.std.specs.Prelude.{◌≡◌, ℕ, List}
 use Rattle.roman_io.specs.Shelf.{Texts}
 use Rattle.roman_library.specs.Library.{PlainLibrary}
@@ -7,6 +7,6 @@ use Rattle.roman_session.specs.Starts.{IsStart}
 use Rattle.roman_hearing.specs.Known.{IsKnownSituation}
 use Rattle.roman_top.specs.Opening.{Accepted, document_opening}
 
--- an accepted document within its limit starts a well-formed situation
+-- a session of an accepted document within its limit starts in a well-formed situation
 abbrev pub StartsAreKnown : Type 0
 StartsAreKnown = (texts : Texts) (system : List ℕ) (library : PlainLibrary) (s : Situation) → document_opening texts system ≡ Accepted library → IsStart library s → IsKnownSituation s

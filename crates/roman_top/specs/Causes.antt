@@ -1,25 +1,25 @@
--- Counts of faults: which rose, by the status.
+-- Which counts of faults rose, by the status.
 use Rattle.std.specs.Prelude.{◌≡◌, ℕ, Result, Ok, Err}
 use Rattle.roman_io.specs.Faults.{Rose}
 use Rattle.roman_top.specs.declared.status.Status.{Status}
 use Rattle.roman_top.specs.declared.status.Status.TheVariants as status
 
--- the shelf's count rose at a fault of the shelf, and stayed elsewhere
+-- the shelf's count of faults rose at the status ShelfFault, and stayed the same at any other
 abbrev pub ShelfCause : ℕ → ℕ → Status → Type 0
 ShelfCause old new status.ShelfFault = Rose old new
 ShelfCause old new _ = new ≡ old
 
--- the input's count rose at a fault of the input, and stayed elsewhere
+-- the input's count of faults rose at the status ReadFault, and stayed the same at any other
 abbrev pub InputCause : ℕ → ℕ → Status → Type 0
 InputCause old new status.ReadFault = Rose old new
 InputCause old new _ = new ≡ old
 
--- the sink's count rose at a fault of the sink, and stayed elsewhere
+-- the sink's count of faults rose at the status WriteFault, and stayed the same at any other
 abbrev pub SinkCause : ℕ → ℕ → Status → Type 0
 SinkCause old new status.WriteFault = Rose old new
 SinkCause old new _ = new ≡ old
 
--- the count stayed where a value is answered; where a status is, that says whether it rose
+-- the count stayed the same where a value is returned; a returned status says whether it rose
 abbrev pub CauseIn : {X : Type 0} → (ℕ → ℕ → Status → Type 0) → ℕ → ℕ → Result X Status → Type 0
 CauseIn Cause old new (Ok x) = new ≡ old
 CauseIn Cause old new (Err result) = Cause old new result

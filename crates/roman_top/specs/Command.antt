@@ -1,4 +1,4 @@
--- The words of a command, and what they ask for.
+-- The words of a command, and what the command asks for.
 use Rattle.std.specs.Prelude.{ℕ, List, [], ◌∷◌, Option, None, Some, codes, if◌then◌else◌}
 use Rattle.std.specs.Option.{option_map}
 use Rattle.std.specs.Str.{bytes_eq}
@@ -7,7 +7,7 @@ use Rattle.roman_top.specs.Workers.{workers_of}
 use Rattle.roman_top.specs.declared.command.Command.{Command as Asked}
 use Rattle.roman_top.specs.declared.command.Command.TheVariants as asked
 
--- what is done with a system; a session without a name on the shelf comes from the input
+-- what is done with a system; a session without a name is read from the input, and another from the shelf
 pub data Job : Type 0 where
   Synth : Job
   Run : (session : Option (List ℕ)) → Job
@@ -17,12 +17,12 @@ pub data Job : Type 0 where
   Advise : (costs : List ℕ) (requests : ℕ) → Job
   Resilience : Job
 
--- what a command asks for: a job on the system document of that name, or a made system of so many workers
+-- what a command asks for: a job on the system document of that name, or a made system of n workers
 pub data Command : Type 0 where
   On : (system : List ℕ) (job : Job) → Command
   Make : (n : ℕ) → Command
 
--- the command of a word and one more
+-- the command of a word and one argument
 abbrev pub command_with_one : List ℕ → List ℕ → Option Command
 command_with_one word name =
     if bytes_eq word (codes "synth") then Some (On name Synth)
@@ -33,20 +33,20 @@ command_with_one word name =
     else if bytes_eq word (codes "make") then option_map Make (workers_of name)
     else None
 
--- the command of a word and two names
+-- the command of a word and two arguments
 abbrev pub command_with_two : List ℕ → List ℕ → List ℕ → Option Command
 command_with_two word name other =
     if bytes_eq word (codes "run") then Some (On name (Run (Some other)))
     else if bytes_eq word (codes "check") then Some (On name (Check other))
     else None
 
--- the command of a word, two names and one more word
+-- the command of a word and three arguments
 abbrev pub command_with_three : List ℕ → List ℕ → List ℕ → List ℕ → Option Command
 command_with_three word name other third =
     if bytes_eq word (codes "advise") then option_map (λ requests. On name (Advise other requests)) (request_count_of third)
     else None
 
--- the command that the words are, if they have the shape of one
+-- the command that the words form, if they have the shape of one
 abbrev pub command_of : List (List ℕ) → Option Command
 command_of [] = None
 command_of (word ∷ []) = None
@@ -55,11 +55,11 @@ command_of (word ∷ name ∷ other ∷ []) = command_with_two word name other
 command_of (word ∷ name ∷ other ∷ third ∷ []) = command_with_three word name other third
 command_of (word ∷ name ∷ other ∷ third ∷ another ∷ more) = None
 
--- what words without a shape are answered
+-- the line that is written for words without a shape
 abbrev pub usage_line : List ℕ
 usage_line = codes "usage: roman synth SYSTEM | run SYSTEM [SESSION] | certify SYSTEM | check SYSTEM CERT | make N | resilience SYSTEM | shortest SYSTEM | advise SYSTEM COSTS H\n"
 
--- a command of the program, with its names as bytes
+-- a command of the program as a command of the definitions, with its names as bytes
 abbrev pub command_as : Asked → Command
 command_as (asked.Synth system) = On system.now Synth
 command_as (asked.Run system) = On system.now (Run None)

@@ -1,4 +1,4 @@
--- Completeness: what a command needs, so that it gets its answer.
+-- Completeness: what a command needs to be answered.
 use Rattle.std.specs.Prelude.{◌≡◌, ◌≢◌, ℕ, List, Option, None, Some, IsTrue}
 use Rattle.roman_io.specs.Faults.{Rose}
 use Rattle.roman_io.specs.Shelf.{Texts, shelf_text}
@@ -15,7 +15,7 @@ use Rattle.roman_top.specs.World.{World}
 use Rattle.roman_top.specs.declared.status.Status.{Status}
 use Rattle.roman_top.specs.declared.status.Status.TheVariants as status
 
--- the bytes of the session are told, and no more than are ever heard, or a line `quit` ends within that many
+-- the bytes of the session are known, and they are at most 16,777,216, or a line `quit` ends within that many
 abbrev pub IsShort : Option (List ℕ) → Type 0
 IsShort None = ⊥
 IsShort (Some session) = IsTrue (is_heard_out session)
@@ -26,7 +26,7 @@ IsShortFor library certificate =
     let s = library_system library in
     cert_verdict (numbered s) (number (sizes_of s) (start_pair_of library)) certificate ≢ TooLong
 
--- what a job needs beside its library
+-- what a job needs in addition to its library
 abbrev pub Suffices : Job → Texts → Option (List ℕ) → PlainLibrary → Type 0
 Suffices Synth texts rest library = Unit {0}
 Suffices (Run None) texts rest library = IsShort rest
@@ -37,13 +37,13 @@ Suffices Shortest texts rest library = Unit {0}
 Suffices (Advise costs requests) texts rest library = Affords costs requests texts library
 Suffices Resilience texts rest library = Unit {0}
 
--- nothing but a fault or running out of memory keeps the command from its answer
+-- the command has all that it needs: only a fault or running out of memory keeps it from its answer
 abbrev pub CanAnswer : Option Command → Texts → Option (List ℕ) → Type 0
 CanAnswer None texts rest = ⊥
 CanAnswer (Some (On system job)) texts rest = (library : PlainLibrary) × (document_opening texts system ≡ Accepted library) × Suffices job texts rest library
 CanAnswer (Some (Make n)) texts rest = Unit {0}
 
--- the command got its answer, or there was no memory
+-- the command was answered, or it ran out of memory
 abbrev pub IsAnswered : Status → Type 0
 IsAnswered status.Done = Unit {0}
 IsAnswered status.No = Unit {0}
@@ -56,6 +56,6 @@ pub record IsUndisturbed (old new : World) : Type 0 where
   pub input : Rose old.input_faults new.input_faults → ⊥
   pub out : Rose old.out_faults new.out_faults → ⊥
 
--- where no count rises, the command gets its answer if it can
+-- where no count of faults rises, a command that has what it needs is answered, or runs out of memory
 abbrev pub AnswersWherePossible : Option Command → World → World → Status → Type 0
 AnswersWherePossible asked old new result = IsUndisturbed old new → WithTexts asked old.texts (λ texts. CanAnswer asked texts old.rest → IsAnswered result)

@@ -1,4 +1,4 @@
--- How the parts of a run end: what was written by then, by the status that they answer.
+-- How the parts of a run end: what was written by then, by the status that they return.
 use Rattle.std.specs.Prelude.{◌≡◌, ℕ, Bool, true, false, List, [], Option, IfSome, IfErr, Result, Ok, Err, OnOk, IsErrOf}
 use Rattle.roman_io.specs.Faults.{Rose}
 use Rattle.roman_io.specs.Shelf.{Texts}
@@ -25,7 +25,7 @@ use Rattle.roman_top.specs.World.{Desk}
 use Rattle.roman_top.specs.declared.status.Status.{Status}
 use Rattle.roman_top.specs.declared.status.Status.TheVariants as status
 
--- the whole text of such a run was written, and it ends so
+-- the whole text of such a run was written, and the run ends with this status
 pub record WritesText (IsRun : List ℕ → Status → Type 0) (old new : Option (List ℕ)) (result : Status) : Type 0 where
   pub text : List ℕ
   pub run : IsRun text result
@@ -38,7 +38,7 @@ pub record WritesPrefix (IsRun : List ℕ → Status → Type 0) (old new : Opti
   pub run : IsRun text ends
   pub wrote : WrotePrefix old new text
 
--- the text of such a run, or a prefix of one where the sink failed; other faults and running out of memory say nothing of it
+-- the text of such a run was written, or a prefix of one where the sink failed; of other faults and running out of memory nothing is said
 abbrev pub Writes : (List ℕ → Status → Type 0) → Option (List ℕ) → Option (List ℕ) → Status → Type 0
 Writes IsRun old new status.ShelfFault = Unit {0}
 Writes IsRun old new status.ReadFault = Unit {0}
@@ -46,7 +46,7 @@ Writes IsRun old new status.WriteFault = WritesPrefix IsRun old new
 Writes IsRun old new status.Memory = Unit {0}
 Writes IsRun old new result = WritesText IsRun old new result
 
--- nothing was written where the shelf or memory failed; neither Usage nor a fault of the input is answered
+-- nothing was written at a fault of the shelf or out of memory; the status is neither Usage nor ReadFault
 abbrev pub EndsBare : Option (List ℕ) → Option (List ℕ) → Status → Type 0
 EndsBare old new status.Usage = ⊥
 EndsBare old new status.ShelfFault = Wrote old new []
@@ -54,7 +54,7 @@ EndsBare old new status.ReadFault = ⊥
 EndsBare old new status.Memory = Wrote old new []
 EndsBare old new _ = Unit {0}
 
--- a job on the document of that name, by a shelf and a sink alone
+-- what a job on the document of that name does, with a shelf and a sink alone
 pub record DoesJob (name : List ℕ) (job : Job) (old new : Desk) (result : Status) : Type 0 where
   pub writes : IfSome old.texts (λ texts. Writes (OnOpening (JobDoes job texts []) (document_opening texts name)) old.written new.written result)
   pub stops : EndsBare old.written new.written result
@@ -64,32 +64,32 @@ pub record DoesJob (name : List ℕ) (job : Job) (old new : Desk) (result : Stat
 
 -- ---- documents
 
--- no accepted library: the line of a refusal, or that of a limit
+-- no library is accepted: the line of the refusal is written, or that of the limit
 abbrev pub TurnsAway : Opening → List ℕ → Status → Type 0
 TurnsAway opening out result = OnOpening (λ library out result. ⊥) opening out result
 
--- an accepted library, of which this holds
+-- a library is accepted, and the property holds of it
 pub record Accepts (opening : Opening) (Holds : PlainLibrary → Type 0) : Type 0 where
   pub library : PlainLibrary
   pub accepted : opening ≡ Accepted library
   pub holds : Holds library
 
--- a document is opened, or turned away with its line
+-- a document is accepted within its limit, or turned away with its line
 abbrev pub OpensTo : {X : Type 0} → (PlainLibrary → X → Type 0) → Opening → Option (List ℕ) → Option (List ℕ) → Result X Status → Type 0
 OpensTo Holds opening old new (Ok x) = Accepts opening (λ library. Holds library x)
 OpensTo Holds opening old new (Err result) = Writes (TurnsAway opening) old new result
 
--- a document is read, its cells not being counted yet, or turned away with its line
+-- a document is read as a library whose cells aren't counted yet, or turned away with its line
 abbrev pub ReadsTo : {X : Type 0} → (X → PlainLibrary) → Texts → List ℕ → Option (List ℕ) → Option (List ℕ) → Result X Status → Type 0
 ReadsTo view texts name old new (Ok x) = library_of texts name ≡ Ok (view x)
 ReadsTo view texts name old new (Err result) = Writes (TurnsAway (document_opening texts name)) old new result
 
--- nothing was written where a value is answered; where a status is, nothing was if the shelf or memory failed
+-- nothing was written where a value is returned, nor at a fault of the shelf or out of memory
 abbrev pub StopsIn : {X : Type 0} → Option (List ℕ) → Option (List ℕ) → Result X Status → Type 0
 StopsIn old new (Ok x) = new ≡ old
 StopsIn old new (Err result) = EndsBare old new result
 
--- a broken rule, the limit, a fault of the shelf or the sink, or running out of memory kept a document from being opened
+-- the statuses with which opening a document fails: a broken rule, the limit, a fault of the shelf or the sink, or out of memory
 abbrev pub IsAway : Status → Type 0
 IsAway status.Refused = Unit {0}
 IsAway status.Limit = Unit {0}
@@ -98,7 +98,7 @@ IsAway status.WriteFault = Unit {0}
 IsAway status.Memory = Unit {0}
 IsAway _ = ⊥
 
--- what opening a document leaves behind, whatever it gives
+-- what opening a document leaves behind, for any result
 pub record Leaves {X : Type 0} (old new : Desk) (result : Result X Status) : Type 0 where
   pub away : IfErr result IsAway
   pub stops : StopsIn old.written new.written result
@@ -106,7 +106,7 @@ pub record Leaves {X : Type 0} (old new : Desk) (result : Result X Status) : Typ
   pub shelf : CauseIn ShelfCause old.shelf_faults new.shelf_faults result
   pub out : CauseIn SinkCause old.out_faults new.out_faults result
 
--- the document of that name is opened or turned away
+-- the document of that name is accepted within its limit, or turned away
 pub record Opens {X : Type 0} (Holds : PlainLibrary → X → Type 0) (name : List ℕ) (old new : Desk) (result : Result X Status) : Type 0 where
   pub opens : IfSome old.texts (λ texts. OpensTo Holds (document_opening texts name) old.written new.written result)
   pub leaves : Leaves old new result
@@ -118,28 +118,28 @@ pub record OpensLibrary {X : Type 0} (view : X → PlainLibrary) (name : List �
 
 -- ---- single steps
 
--- after a text was put: that status, or a fault of the sink
+-- the status after a put: `ends` where it succeeded, WriteFault where it failed
 abbrev pub Finishes : {T E : Type 0} → Result T E → Status → Status → Type 0
 Finishes (Ok x) ends result = result ≡ ends
 Finishes (Err e) ends result = result ≡ status.WriteFault
 
--- a yes or a no was told, of a pair or of a certificate, or the sink failed
+-- the status is Done, No or WriteFault: a yes, a no, or a fault of the sink
 abbrev pub IsTold : Status → Type 0
 IsTold status.Done = Unit {0}
 IsTold status.No = Unit {0}
 IsTold status.WriteFault = Unit {0}
 IsTold _ = ⊥
 
--- the status of an answer: whether a pair is related
+-- the status that says whether a pair is related
 abbrev pub status_of : Bool → Status
 status_of true = status.Done
 status_of false = status.No
 
--- the report of a session, and whether its pair is related
+-- the report of a session, and the status that says whether its pair is related
 abbrev pub Reports : Situation → List ℕ → Status → Type 0
 Reports s out result = (out ≡ report_text s.parts s.here) × EndsBy (present_system s) s.here result
 
--- neither Usage, TooLong nor a fault of the shelf or the input is answered, and nothing was written where memory failed
+-- the status is neither Usage, TooLong, ShelfFault nor ReadFault, and nothing was written out of memory
 abbrev pub IsSpoken : Option (List ℕ) → Option (List ℕ) → Status → Type 0
 IsSpoken old new status.Done = Unit {0}
 IsSpoken old new status.No = Unit {0}
@@ -151,18 +151,18 @@ IsSpoken old new _ = ⊥
 
 -- ---- sessions
 
--- a session would go on after some first bytes of what it comes from
+-- a session would go on after a prefix of its bytes
 abbrev pub GoesOnFrom : Hall → Spot → Type 0
 GoesOnFrom old new = (has : Option (List ℕ)) × GoesOn old (record { spot = new; rest = has })
 
--- a session that comes from a text of the shelf was heard
+-- what was written of a session that was read from a text of the shelf, by its result
 pub record HearsText (old : Hall) (new : Spot) (result : Result (Unit {0}) HearError) : Type 0 where
   pub ok : OnOk result (IsHeardOut old new)
   pub too_long : IsErrOf result hear.TooLong → IsCutOff old new
   pub read_fault : IsErrOf result hear.ReadFault → GoesOnFrom old new
   pub prefix : IsErrOf result hear.WriteFault → AreBehaviours old.spot.situation.parts → TellsPrefixOfAll old new.written
 
--- the status after a session was heard, where that one stands for a fault of what it comes from
+-- the status after a session, with `fault` for a failed read
 abbrev pub heard_status : Status → Result (Unit {0}) HearError → Status
 heard_status fault (Ok x) = status.Done
 heard_status fault (Err hear.ReadFault) = fault
@@ -171,27 +171,27 @@ heard_status fault (Err hear.TooLong) = status.TooLong
 
 -- ---- certificates
 
--- the verdict on a certificate, or that it is too long; a fault and running out of memory say nothing of it
+-- the verdict on a certificate, or that it is too long; at a fault and out of memory nothing is said
 abbrev pub FindsVerdict : Arena ℕ → ℕ → List ℕ → Result Verdict CheckError → Type 0
 FindsVerdict A start certificate (Ok verdict) = cert_verdict A start certificate ≡ verdict_of verdict
 FindsVerdict A start certificate (Err check.Fault) = Unit {0}
 FindsVerdict A start certificate (Err check.TooLong) = cert_verdict A start certificate ≡ TooLong
 FindsVerdict A start certificate (Err check.Memory) = Unit {0}
 
--- a count of faults rose where the check ended in a fault, and stayed elsewhere
+-- a count of faults rose where the check ended in a fault, and stayed the same otherwise
 abbrev pub CheckCause : {X : Type 0} → ℕ → ℕ → Result X CheckError → Type 0
 CheckCause old new (Ok x) = new ≡ old
 CheckCause old new (Err check.Fault) = Rose old new
 CheckCause old new (Err check.TooLong) = new ≡ old
 CheckCause old new (Err check.Memory) = new ≡ old
 
--- what is said of a check
+-- the text and status for the result of a check; nothing is written at a fault or out of memory
 abbrev pub JudgesCheck : Result Verdict CheckError → List ℕ → Status → Type 0
 JudgesCheck (Ok verdict) out result = SaysVerdict (verdict_of verdict) out result
 JudgesCheck (Err check.Fault) out result = ⊥
 JudgesCheck (Err check.TooLong) out result = SaysVerdict TooLong out result
 JudgesCheck (Err check.Memory) out result = ⊥
 
--- a fault of the check ends the run as one of the shelf, and nothing else does
+-- a fault of the check ends the run as a fault of the shelf, and only such a fault does
 abbrev pub CausedByCheck : Result Verdict CheckError → Status → Type 0
 CausedByCheck checked result = (old new : ℕ) → CheckCause old new checked → ShelfCause old new result

@@ -1,4 +1,4 @@
--- Runs that a fault or running out of memory has ended: what was written and taken by then.
+-- Runs that a fault or running out of memory ended: what was written and taken by then.
 use Rattle.std.specs.Prelude.{◌≡◌, ℕ, ◌+◌, ◌-◌, ◌⊎◌, List, ◌++◌, Option, None, Some, IfSome, IsSome}
 use Rattle.roman_io.specs.Shelf.{Texts, shelf_text}
 use Rattle.roman_io.specs.Sink.{Wrote, WrotePrefix}
@@ -24,7 +24,7 @@ IsFree _ = Unit {0}
 
 -- ---- what was written
 
--- a session of that document has taken those bytes and goes on, and the replies to their whole lines were written
+-- a session of that document took these bytes and would go on, and the replies to their whole lines were written
 pub record HasAnswered (texts : Texts) (system taken : List ℕ) (old new : World) : Type 0 where
   pub library : PlainLibrary
   pub accepted : document_opening texts system ≡ Accepted library
@@ -32,31 +32,31 @@ pub record HasAnswered (texts : Texts) (system taken : List ℕ) (old new : Worl
   pub replies : GoesOnInSession library taken text
   pub wrote : Wrote old.written new.written text
 
--- a session on the shelf has taken some first bytes of its text
+-- a session on the shelf took a prefix of its text, and the replies to its whole lines were written
 pub record HasAnsweredPrefix (texts : Texts) (system name : List ℕ) (old new : World) : Type 0 where
   pub taken : List ℕ
   pub rest : List ℕ
   pub split : shelf_text texts name ≡ taken ++ rest
   pub answered : HasAnswered texts system taken old new
 
--- at a fault of the shelf, which `make` and words without a shape don't ask: of a session on the shelf replies were written, and else nothing
+-- at a fault of the shelf: replies of a session on the shelf were written, and nothing else; `make` and words without a shape never end so
 abbrev pub AtShelfFault : Option Command → World → World → Type 0
 AtShelfFault (Some (On system (Run (Some name)))) old new = IsUnwritten old new ⊎ IfSome old.texts (λ texts. HasAnsweredPrefix texts system name old new)
 AtShelfFault (Some (On system job)) old new = IsUnwritten old new
 AtShelfFault _ old new = ⊥
 
--- a session from the input has taken exactly the bytes that the input gave
+-- a session from the input took exactly the bytes that the input gave, and the replies to their whole lines were written
 pub record HasAnsweredInput (texts : Texts) (system : List ℕ) (old new : World) : Type 0 where
   pub taken : List ℕ
   pub gave : Gave old.rest new.rest taken
   pub answered : HasAnswered texts system taken old new
 
--- at a fault of the input, which is read for a session alone: replies were written
+-- at a fault of the input: the replies of a session from the input were written; no other command ends so
 abbrev pub AtReadFault : Option Command → World → World → Type 0
 AtReadFault (Some (On system (Run None))) old new = IfSome old.texts (λ texts. HasAnsweredInput texts system old new)
 AtReadFault _ old new = ⊥
 
--- a prefix of the text of a run was written, where the input had that rest
+-- a prefix of the text of a run was written, for an input that had `rest` left
 pub record HasRunPrefix (asked : Option Command) (texts : Texts) (rest : Option (List ℕ)) (old new : World) : Type 0 where
   pub session : List ℕ
   pub given : IsSessionText asked texts rest session
@@ -65,7 +65,7 @@ pub record HasRunPrefix (asked : Option Command) (texts : Texts) (rest : Option 
   pub run : Runs asked texts session text ends
   pub wrote : WrotePrefix old.written new.written text
 
--- a prefix of what a session is told of whole lines that the input gave, or of all that it had, was written
+-- a prefix of the replies was written to whole lines that the input gave, or to all that it had
 pub record HasPrefixOfTaken (texts : Texts) (system : List ℕ) (old new : World) : Type 0 where
   pub taken : List ℕ
   pub more : List ℕ
@@ -73,22 +73,22 @@ pub record HasPrefixOfTaken (texts : Texts) (system : List ℕ) (old new : World
   pub ends : AreWhole taken ⊎ Had old.rest taken
   pub run : HasRunPrefix (Some (On system (Run None))) texts (Some taken) old new
 
--- of a session from the input a prefix of what it is told of lines that were taken was written; of other runs nothing is said
+-- for a session from the input a prefix of the replies to lines that were taken was written; of other runs nothing is said
 abbrev pub IsOfTaken : Option Command → Texts → World → World → Type 0
 IsOfTaken (Some (On system (Run None))) texts old new = HasPrefixOfTaken texts system old new
 IsOfTaken _ texts old new = Unit {0}
 
--- at a fault of the sink
+-- at a fault of the sink: a prefix of the text of a run was written
 abbrev pub AtWriteFault : Option Command → World → World → Type 0
 AtWriteFault asked old new = WithTexts asked old.texts (λ texts. HasRunPrefix asked texts old.rest old new × IsOfTaken asked texts old new)
 
--- where memory fails, which is asked for by commands alone: nothing was written
+-- out of memory: nothing was written, and the words are a command
 abbrev pub AtMemory : Option Command → World → World → Type 0
 AtMemory asked old new = IsSome asked × IsUnwritten old new
 
 -- ---- what was taken from the input
 
--- the status is one with which a session from the input may end: bytes are taken for sessions alone
+-- the statuses with which a run that took bytes from the input may end
 abbrev pub IsOfSession : Status → Type 0
 IsOfSession status.Done = Unit {0}
 IsOfSession status.ReadFault = Unit {0}
@@ -96,7 +96,7 @@ IsOfSession status.WriteFault = Unit {0}
 IsOfSession status.TooLong = Unit {0}
 IsOfSession _ = ⊥
 
--- bytes were taken for the session of an accepted document within its limit, and not too many of them
+-- bytes were taken for a session of an accepted document within its limit, at most 4,096 more than a session may have
 pub record HasTakenBytes (system : List ℕ) (old new : World) (result : Status) : Type 0 where
   pub accepted : IfSome old.texts (λ texts. (library : PlainLibrary) × (document_opening texts system ≡ Accepted library))
   pub session : IsOfSession result
@@ -107,7 +107,7 @@ abbrev pub TakesInput : Option Command → World → World → Status → Type 0
 TakesInput (Some (On system (Run None))) old new result = HasTakenBytes system old new result
 TakesInput _ old new result = ⊥
 
--- a session from the input that was done is at the input's end, or at most 4,095 bytes past its `quit`, less than a piece
+-- a session from the input that is Done is at the input's end, or at most 4,095 bytes past its `quit`
 abbrev pub EndsInput : Option Command → World → World → Status → Type 0
 EndsInput (Some (On system (Run None))) old new status.Done = IsAtEnd new.rest ⊎ GaveQuit (PIECE_BYTES - 1) old.rest new.rest
 EndsInput _ old new result = Unit {0}

@@ -1,4 +1,4 @@
--- What `advise` tells: the least worst costs of plans by services that serve.
+-- What `advise` writes: the least worst costs of plans by services that serve.
 use Rattle.std.specs.Prelude.{◌≡◌, ℕ, ◌<◌, ◌≤◌, ◌*◌, false, List, length, Ok, Err}
 use Rattle.roman_io.specs.Shelf.{Texts}
 use Rattle.roman_model.specs.System.{Pair}
@@ -22,8 +22,8 @@ use Rattle.roman_top.specs.RefusalLine.{refusal_line}
 use Rattle.roman_top.specs.declared.status.Status.{Status}
 use Rattle.roman_top.specs.declared.status.Status.TheVariants as status
 
--- what is told by costs that were read: `answer none` where the pair isn't related; a line of the limit where the related pairs times the
--- requests are too many; and else the least that the requests cost at worst
+-- what is written by accepted costs: `answer none` where the pair isn't related; the line of the limit where the related pairs times
+-- the requests are too many; and otherwise the least worst cost of the requests
 pub record AdvisesBy (n : NamedSys) (listed : List Listed) (requests : ℕ) (p : Pair) (text : List ℕ) (result : Status) : Type 0 where
   pub pairs : List Pair
   pub great : AreRelated (system_of n) pairs
@@ -31,7 +31,7 @@ pub record AdvisesBy (n : NamedSys) (listed : List Listed) (requests : ℕ) (p :
   pub many : Great (system_of n) p → MAX_VALUES < length pairs * requests → EndsSaying (limit_line MAX_VALUES) status.Limit text result
   pub told : Great (system_of n) p → length pairs * requests ≤ MAX_VALUES → TellsLeast n (seat_costs n listed) requests p text × (result ≡ status.Done)
 
--- advise: costs that are refused get the line of their refusal, and by those that are read the starting states are advised
+-- advise: costs that are refused get their refusal line; accepted costs get the advice for the starting states
 pub record KeepsAdvice (costs : List ℕ) (requests : ℕ) (texts : Texts) (library : PlainLibrary) (text : List ℕ) (result : Status) : Type 0 where
   pub refused : (error : PartError) → costs_of texts costs (parts_of library) ≡ Err error → EndsSaying (refusal_line (refusal_of costs part.Costs error)) status.Refused text result
   pub advised : (listed : List Listed) → costs_of texts costs (parts_of library) ≡ Ok listed → AdvisesBy (parts_of library) listed requests (start_pair_of library) text result

@@ -1,4 +1,4 @@
--- What `certify` tells: exactly the pairs that aren't related, each for a reason that holds by those before it.
+-- What `certify` writes: exactly the pairs that aren't related, each with a reason that holds by the pairs before it.
 use Rattle.std.specs.Prelude.{◌≡◌, ◌⊎◌, ◌↔◌, ℕ, ◌<◌, List, [], ◌∷◌, map, length, IsTrue}
 use Rattle.roman_model.specs.Lists.{IsIn}
 use Rattle.roman_model.specs.System.{Sys, Pair, IsPair, Allows, is_final, all_final}
@@ -15,24 +15,24 @@ use Rattle.roman_top.specs.Opening.{library_system}
 use Rattle.roman_top.specs.declared.status.Status.{Status}
 use Rattle.roman_top.specs.declared.status.Status.TheVariants as status
 
--- the reason holds at the pair: the target is final and the system isn't; or the target allows the action, and each seat cannot go on
--- by it, or may go to a pair that is gone
+-- the reason holds at the pair: the target is final and the system isn't; or the target allows the action, and each seat either can't
+-- serve it or may lead to a pair that is gone
 abbrev pub HoldsReason : Sys → (Pair → Type 0) → Pair → Reason → Type 0
 HoldsReason s Gone p Final = IsTrue (is_final s.target p.t) × (IsTrue (all_final s.seats p.bs) → ⊥)
 HoldsReason s Gone p (Act a) =
     Allows s p.t p.e a × ((k : ℕ) → k < length s.seats → ((q : Pair) → MovesTo s p a k q → ⊥) ⊎ ((q : Pair) × MovesTo s p a k q × Gone q))
 
--- each pair is new, and its reason holds where those before it are gone
+-- no pair repeats, and each reason holds where the pairs before it are gone
 abbrev pub AreValid : Sys → List Pair → List (Entry Pair) → Type 0
 AreValid s before [] = Unit {0}
 AreValid s before (x ∷ entries) = (IsIn x.node before → ⊥) × HoldsReason s (λ q. IsIn q before) x.node x.reason × AreValid s (x.node ∷ before) entries
 
--- these are exactly the pairs that aren't related, validly listed
+-- the entries list exactly the pairs that aren't related, and they are valid in their order
 pub record ListsUnrelated (s : Sys) (entries : List (Entry Pair)) : Type 0 where
   pub valid : AreValid s [] entries
   pub exact : (p : Pair) → IsIn p (map (λ x. x.node) entries) ↔ (IsPair s p × (Great s p → ⊥))
 
--- an entry by the number of its pair
+-- an entry with the number of its pair in place of the pair
 abbrev pub numbered_entry : Sys → Entry Pair → Entry ℕ
 numbered_entry s x = record { node = number (sizes_of s) x.node; reason = x.reason }
 
@@ -42,6 +42,6 @@ pub record CertifiesUnrelated (s : Sys) (text : List ℕ) : Type 0 where
   pub lists : ListsUnrelated s entries
   pub says : text ≡ cert_text (length (pairs s)) (map (numbered_entry s) entries)
 
--- certify: the certificate of the library's system
+-- certify: the text is a certificate of the library's system
 abbrev pub KeepsCertificate : PlainLibrary → List ℕ → Status → Type 0
 KeepsCertificate library text result = CertifiesUnrelated (library_system library) text × (result ≡ status.Done)

@@ -1,4 +1,4 @@
--- What `check` tells of a certificate: `greatest` exactly where it lists the pairs that aren't related, all of them and validly.
+-- What `check` writes of a certificate: `greatest` exactly where it validly lists all pairs that aren't related, and no others.
 use Rattle.std.specs.Prelude.{◌≡◌, ◌⊎◌, ◌↔◌, ℕ, Bool, List, [], map, length, IsTrue}
 use Rattle.std.specs.List.{filter_map}
 use Rattle.roman_model.specs.Lines.{lines}
@@ -17,7 +17,7 @@ use Rattle.roman_top.specs.Verdicts.{greatest_text, rejected_text}
 use Rattle.roman_top.specs.declared.status.Status.{Status}
 use Rattle.roman_top.specs.declared.status.Status.TheVariants as status
 
--- how many pairs are related, and whether that one is
+-- the text says how many pairs are related, and whether the given pair is
 pub record TellsGreatest (s : Sys) (p : Pair) (text : List ℕ) : Type 0 where
   pub pairs : List Pair
   pub great : AreRelated s pairs
@@ -25,12 +25,12 @@ pub record TellsGreatest (s : Sys) (p : Pair) (text : List ℕ) : Type 0 where
   pub start : IsTrue starts ↔ Great s p
   pub says : text ≡ greatest_text (length pairs) starts
 
--- the entries that stand on the lines of a certificate, each as the text of an entry
+-- the entries that the lines of a certificate give; lines that aren't the text of an entry give none
 abbrev pub certified_entries : Sys → List ℕ → List (Entry Pair)
 certified_entries s certificate = map (entry_at s) (filter_map (entry_of (length (pairs s)) s.env.actions) (lines certificate))
 
--- the verdict on a certificate: where it is accepted, its entries list exactly the pairs that aren't related, and the text tells of the
--- others; each text that certifies a system in this way is accepted; and what isn't accepted is rejected at a line, or too long
+-- the verdict on a certificate: where it is accepted, its entries list exactly the pairs that aren't related, and the text counts the
+-- related ones; each text that certifies the system in this way is accepted; every other text is rejected at a line, or too long
 pub record JudgesCertificate (s : Sys) (p : Pair) (certificate text : List ℕ) (result : Status) : Type 0 where
   pub accepted : result ≡ status.Done → ListsUnrelated s (certified_entries s certificate) × TellsGreatest s p text
   pub accepts : CertifiesUnrelated s certificate → result ≡ status.Done

@@ -1,4 +1,4 @@
--- What is promised of each command but sessions and reports: its text, and its status.
+-- What each command but `synth` and `run` promises of its text and its status.
 use Rattle.std.specs.Prelude.{◌≡◌, ℕ, List, Option, None, Some, IfSome}
 use Rattle.roman_io.specs.Shelf.{Texts, shelf_text}
 use Rattle.roman_library.specs.Library.{PlainLibrary}
@@ -14,7 +14,7 @@ use Rattle.roman_top.specs.Opening.{Accepted, document_opening}
 use Rattle.roman_top.specs.World.{World}
 use Rattle.roman_top.specs.declared.status.Status.{Status}
 
--- each command by the page of its name; `synth` and `run` have theirs in `Headline`
+-- each command by the page with its name; the page `Headline` has `synth` and `run`
 abbrev pub KeepsJob : Job → Texts → PlainLibrary → List ℕ → Status → Type 0
 KeepsJob Certify texts library text result = KeepsCertificate library text result
 KeepsJob (Check certificate) texts library text result = KeepsVerdict (shelf_text texts certificate) library text result
@@ -23,7 +23,7 @@ KeepsJob (Advise costs requests) texts library text result = KeepsAdvice costs r
 KeepsJob Resilience texts library text result = KeepsResilience library text result
 KeepsJob _ texts library text result = Unit {0}
 
--- a text of which that holds was written for an accepted document within its limit, where the shelf tells its texts, and for a made system
+-- the text that was written keeps its promise, for an accepted document within its limit where the texts are known, and for `make`
 abbrev pub KeepsText : Option Command → World → World → Status → Type 0
 KeepsText (Some (On system job)) old new result =
     IfSome old.texts (λ texts. (library : PlainLibrary) → document_opening texts system ≡ Accepted library → WritesText (KeepsJob job texts library) old.written new.written result)

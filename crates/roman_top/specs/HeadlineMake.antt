@@ -1,4 +1,4 @@
--- What `make` tells: how a session of the made system stands, from stage to stage, by the greatest ND-simulation.
+-- What `make` writes: the figures of a session of the made system at each stage, by the greatest ND-simulation.
 use Rattle.std.specs.Prelude.{◌≡◌, ◌↔◌, ℕ, Bool, List, [], ◌∷◌, ◌++◌, length, codes, IsTrue}
 use Rattle.roman_model.specs.System.{Pair}
 use Rattle.roman_model.specs.Numbers.{sizes_of, count}
@@ -12,7 +12,7 @@ use Rattle.roman_top.specs.Made.{stage_line, stages, made_line}
 use Rattle.roman_top.specs.declared.status.Status.{Status}
 use Rattle.roman_top.specs.declared.status.Status.TheVariants as status
 
--- a line tells how many pairs the present system has, how many are related, and whether the current one is
+-- a line says how many pairs the present system has, how many are related, and whether the current one is
 pub record TellsStanding (word : List ℕ) (s : State) (text : List ℕ) : Type 0 where
   pub related : List Pair
   pub great : AreRelated (system_of s.parts) related
@@ -20,14 +20,14 @@ pub record TellsStanding (word : List ℕ) (s : State) (text : List ℕ) : Type 
   pub here : IsTrue composes ↔ IsGreat s
   pub says : text ≡ stage_line word (count (sizes_of (system_of s.parts))) (length related) composes
 
--- the lines of each stage have their turns, and then a line tells how the state stands to which they lead
+-- the lines of each stage have their turns, and the stage's line gives the figures of the state to which they lead
 abbrev pub TellsStages : PlainLibrary → State → List (List ℕ × List (List ℕ)) → List ℕ → Type 0
 TellsStages library s [] text = text ≡ codes "end\n"
 TellsStages library s (stage ∷ more) text =
     (turns : List Turn) × (line rest : List ℕ) × AreTurns library s stage.1 turns × TellsStanding stage.0 (after_turns s turns) line
     × TellsStages library (after_turns s turns) more rest × (text ≡ line ++ rest)
 
--- make: how the session of the made system stands at the start, and after the lines of its script
+-- make: the figures of the session of the made system at its start, and after the lines of each stage of the script
 pub record KeepsMade (n : ℕ) (text : List ℕ) (result : Status) : Type 0 where
   pub rest : List ℕ
   pub tells : TellsStages (made n) (start_state (made n)) stages rest

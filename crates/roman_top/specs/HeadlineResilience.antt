@@ -1,4 +1,4 @@
--- What `resilience` tells, by the greatest ND-simulations of the system and of those that lack one or two of its services.
+-- What `resilience` writes, by the greatest ND-simulations of the system and of the systems without one or two of its services.
 use Rattle.std.specs.Prelude.{◌≡◌, ◌⊎◌, ◌↔◌, ℕ, List, ◌++◌, length, codes, IsTrue}
 use Rattle.std.specs.List.{flat_map}
 use Rattle.roman_model.specs.Lists.{IsIn, HasNoRepeats}
@@ -28,12 +28,12 @@ pub record IsServing (s : Sys) (x : Serving) : Type 0 where
   pub allowed : Allows s x.pair.t x.pair.e x.action
   pub serves : Serves s (GreatCouple s) (couple x.pair) x.action x.seat
 
--- these are all of them, each once
+-- the list has all such servings, each once
 pub record AreServings (s : Sys) (servings : List Serving) : Type 0 where
   pub once : HasNoRepeats servings
   pub each : (x : Serving) → IsIn x servings ↔ IsServing s x
 
--- an outlook is right: it tells whether the pair is related, how many pairs are, and in how many cases a seat serves an action
+-- an outlook is right: it says whether the pair is related, how many pairs are, and in how many cases a seat serves an action
 pub record IsRightOutlook (s : Sys) (p : Pair) (told : Outlook) : Type 0 where
   pub composes : IsTrue told.composes ↔ Great s p
   pub pairs : List Pair
@@ -43,15 +43,15 @@ pub record IsRightOutlook (s : Sys) (p : Pair) (told : Outlook) : Type 0 where
   pub serve : AreServings s servings
   pub choices : told.choices ≡ length servings
 
--- one or two of so many services fail
+-- K is the place of one of n services, or the places of two of them
 abbrev pub AreFailing : ℕ → List ℕ → Type 0
 AreFailing n K = IsIn K (ones n) ⊎ IsIn K (twos n)
 
--- the lines that tell what is left where the services at the places K freeze, and where they die
+-- the lines with the outlooks where the services at the places K freeze, and where they die
 abbrev pub loss_lines : NamedSys → (Way → List ℕ → Outlook) → List ℕ → List ℕ
 loss_lines parts left K = line_without parts K Freeze (left Freeze K) ++ line_without parts K Die (left Die K)
 
--- the text tells what a pair can look forward to, and what is left of it in the system without each one and each two of the services
+-- the text gives the outlook of a pair, and its outlook in the system without each one and each two of the services
 pub record TellsLosses (parts : NamedSys) (s : Sys) (p : Pair) (text : List ℕ) : Type 0 where
   pub now : Outlook
   pub whole : IsRightOutlook s p now
@@ -61,6 +61,6 @@ pub record TellsLosses (parts : NamedSys) (s : Sys) (p : Pair) (text : List ℕ)
       ≡ head_text parts now
       ++ (flat_map (loss_lines parts left) (ones (length parts.seats)) ++ (flat_map (loss_lines parts left) (twos (length parts.seats)) ++ codes "end\n"))
 
--- resilience: what the library's starting states can look forward to
+-- resilience: the outlooks of the library's starting states
 abbrev pub KeepsResilience : PlainLibrary → List ℕ → Status → Type 0
 KeepsResilience library text result = TellsLosses (parts_of library) (library_system library) (start_pair_of library) text × (result ≡ status.Done)

@@ -1,4 +1,4 @@
--- What `shortest` tells: within how many requests the opponent wins at the pairs that aren't related.
+-- What `shortest` writes: the number of requests within which the opponent wins from pairs that aren't related.
 use Rattle.std.specs.Prelude.{◌≡◌, ℕ, List}
 use Rattle.roman_library.specs.Library.{PlainLibrary}
 use Rattle.roman_rank.specs.DepthText.{TellsDepths}
@@ -7,7 +7,7 @@ use Rattle.roman_top.specs.Opening.{library_system}
 use Rattle.roman_top.specs.declared.status.Status.{Status}
 use Rattle.roman_top.specs.declared.status.Status.TheVariants as status
 
--- shortest: the text tells the depths of the library's pairs, and of its starting states the least number of requests within which the
--- opponent wins against every delegation
+-- shortest: the text gives the depths of the library's pairs, and for its starting states the least number of requests within which
+-- the opponent wins against every delegation
 abbrev pub KeepsShortest : PlainLibrary → List ℕ → Status → Type 0
 KeepsShortest library text result = TellsDepths (library_system library) (start_pair_of library) text × (result ≡ status.Done)

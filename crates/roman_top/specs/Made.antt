@@ -1,4 +1,4 @@
--- What is said of a made system: how it stands at the start, and after the lines of its script.
+-- The summary of a made system: the figures of its session at the start, and after the lines of the script.
 use Rattle.std.specs.Prelude.{◌≡◌, ℕ, Bool, List, [], ◌∷◌, ◌++◌, length, take, drop, if◌then◌else◌, codes, decimal}
 use Rattle.roman_model.specs.SystemArena.{pairs}
 use Rattle.roman_model.specs.Offers.{is_related, related_count}
@@ -14,11 +14,11 @@ abbrev pub stage_line : List ℕ → ℕ → ℕ → Bool → List ℕ
 stage_line word pairs related composes =
     word ++ codes " pairs " ++ decimal pairs ++ codes " related " ++ decimal related ++ (if composes then codes " composition\n" else codes " none\n")
 
--- how a session stands
+-- the line that gives the figures of a session
 abbrev pub standing : List ℕ → Situation → List ℕ
 standing word s = stage_line word (length (pairs (present_system s))) (related_count (present_system s)) (is_related (present_system s) s.here)
 
--- the stages of the script, each with the lines that lead to it from the one before
+-- the stages of the script, each with the lines that lead to it from the stage before
 abbrev pub stages : List (List ℕ × List (List ℕ))
 stages =
     (codes "start", [])
@@ -29,7 +29,7 @@ stages =
     ∷ (codes "round", take 9 (drop 4 script_lines))
     ∷ []
 
--- a session that goes from stage to stage: after the lines of each a line says how it stands
+-- a session goes from stage to stage, and after the lines of each stage a line gives its figures
 abbrev pub Passes : Situation → List (List ℕ × List (List ℕ)) → List ℕ → Type 0
 Passes s [] out = out ≡ codes "end\n"
 Passes s (stage ∷ more) out =
@@ -39,7 +39,7 @@ Passes s (stage ∷ more) out =
 abbrev pub made_line : ℕ → List ℕ
 made_line n = codes "made " ++ decimal n ++ codes "\n"
 
--- the summary of the system of n, from a well-formed start on
+-- the summary of the system of n workers, from a well-formed starting situation
 pub record Summarises (n : ℕ) (out : List ℕ) : Type 0 where
   pub start : Situation
   pub begins : IsStart (made n) start

@@ -1,4 +1,4 @@
--- What a system document comes to, and what is written of it.
+-- What opening a system document gives, and the text that a run writes then.
 use Rattle.std.specs.Prelude.{◌≡◌, ℕ, Bool, List, ◌++◌, Result, Ok, Err, nat_lt, codes, decimal, if◌then◌else◌}
 use Rattle.roman_io.specs.Shelf.{Texts}
 use Rattle.roman_model.specs.System.{Sys}
@@ -11,7 +11,7 @@ use Rattle.roman_top.specs.RefusalLine.{refusal_line}
 use Rattle.roman_top.specs.declared.status.Status.{Status}
 use Rattle.roman_top.specs.declared.status.Status.TheVariants as status
 
--- that text is written, and that is the status
+-- the run writes this text and ends with this status
 abbrev pub EndsSaying : List ℕ → Status → List ℕ → Status → Type 0
 EndsSaying text ends out result = (out ≡ text) × (result ≡ ends)
 
@@ -23,26 +23,26 @@ library_system library = system_of (parts_of library)
 abbrev pub is_past_limit : PlainLibrary → Bool
 is_past_limit library = nat_lt library.limit (cells (library_system library))
 
--- the line of a limit
+-- the line that reports an exceeded limit
 abbrev pub limit_line : ℕ → List ℕ
 limit_line limit = codes "limit " ++ decimal limit ++ codes "\n"
 
--- a document is refused, its library is past its limit, or it is accepted and within it
+-- a document is refused, its library exceeds its limit, or it is accepted within its limit
 pub data Opening : Type 0 where
   Refused : (refusal : Refusal) → Opening
   Past : (library : PlainLibrary) → Opening
   Accepted : (library : PlainLibrary) → Opening
 
--- what a document with that meaning comes to
+-- what opening a document with that meaning gives
 abbrev pub opening_of : Result PlainLibrary Refusal → Opening
 opening_of (Err refusal) = Refused refusal
 opening_of (Ok library) = if is_past_limit library then Past library else Accepted library
 
--- what the document of that name comes to
+-- what opening the document of that name gives
 abbrev pub document_opening : Texts → List ℕ → Opening
 document_opening texts name = opening_of (library_of texts name)
 
--- an accepted library gets its work done; else there is the line of the first refusal, or that of the limit
+-- an accepted library has the work done; otherwise the run writes the line of the first refusal, or that of the limit
 abbrev pub OnOpening : (PlainLibrary → List ℕ → Status → Type 0) → Opening → List ℕ → Status → Type 0
 OnOpening Work (Refused refusal) out result = EndsSaying (refusal_line refusal) status.Refused out result
 OnOpening Work (Past library) out result = EndsSaying (limit_line library.limit) status.Limit out result

@@ -1,4 +1,4 @@
--- The text of `resilience`: what the starting states can look forward to, and what is left of it where services fail.
+-- The text of `resilience`: the outlook of the starting states, and their outlook where services fail.
 use Rattle.std.specs.Prelude.{ℕ, ◌+◌, List, [], ◌∷◌, ◌++◌, map, length, drop, if◌then◌else◌, codes, decimal}
 use Rattle.std.specs.List.{flat_map}
 use Rattle.roman_model.specs.Lists.{below}
@@ -15,7 +15,7 @@ abbrev pub outlook_words : Outlook → List ℕ
 outlook_words o =
     (if o.composes then codes " composition related " else codes " none related ") ++ decimal o.related ++ codes " choices " ++ decimal o.choices ++ codes "\n"
 
--- the word for how services fail
+-- the word for the way in which services fail
 abbrev pub way_word : Way → List ℕ
 way_word Freeze = codes " freeze"
 way_word Die = codes " die"
@@ -24,25 +24,25 @@ way_word Die = codes " die"
 abbrev pub service_names : NamedSys → List ℕ → List ℕ
 service_names parts K = flat_map (λ k. codes " " ++ name_at (map seat_name parts.seats) k) K
 
--- the line that says what is left where the services at the places K fail so
+-- the line with the outlook where the services at the places K fail in that way
 abbrev pub line_without : NamedSys → List ℕ → Way → Outlook → List ℕ
 line_without parts K way left = codes "without" ++ service_names parts K ++ way_word way ++ outlook_words left
 
--- the lines that say what is left where the services at the places K freeze, and where they die
+-- the lines with the outlooks where the services at the places K freeze, and where they die
 unfoldable pub lines_without : NamedSys → Pair → List ℕ → List ℕ
 lines_without parts p K =
     let left = λ (way : Way). outlook (system_without way K (system_of parts)) (pair_without way K p) in
     line_without parts K Freeze (left Freeze) ++ line_without parts K Die (left Die)
 
--- each of so many places
+-- each place below n, as a list
 abbrev pub ones : ℕ → List (List ℕ)
 ones n = map (λ k. k ∷ []) (below n)
 
--- each two of so many places, ordered by the first and then by the second
+-- each two places below n, ordered by the first and then by the second
 abbrev pub twos : ℕ → List (List ℕ)
 twos n = flat_map (λ k. map (λ j. k ∷ j ∷ []) (drop (k + 1) (below n))) (below n)
 
--- how many services there are, and what the pair can look forward to
+-- the number of services, and the outlook of the pair
 abbrev pub head_text : NamedSys → Outlook → List ℕ
 head_text parts now = codes "services " ++ decimal (length parts.seats) ++ codes "\nstart" ++ outlook_words now
 

@@ -1,4 +1,4 @@
--- The line that names a refusal.
+-- The line that reports a refusal.
 use Rattle.std.specs.Prelude.{ℕ, List, [], ◌++◌, codes, decimal}
 use Rattle.roman_read.specs.declared.rules.Kind.{Kind}
 use Rattle.roman_read.specs.declared.rules.Kind.TheVariants as kind
@@ -8,7 +8,7 @@ use Rattle.roman_library.specs.declared.refusal.Part.{Part}
 use Rattle.roman_library.specs.declared.refusal.Part.TheVariants as part
 use Rattle.roman_library.specs.declared.refusal.Refusal.{Refusal}
 
--- the word of a rule
+-- the word of the kind of a refusal
 abbrev pub kind_word : Kind → List ℕ
 kind_word kind.Missing = codes "missing"
 kind_word kind.Form = codes "form"
@@ -59,17 +59,17 @@ list_word list.Frozen = codes "frozen"
 list_word list.Rests = codes "rests"
 list_word list.Targets = codes "targets"
 
--- what the line of a choice goes on with: the earlier transition and the environment state
+-- the words that only the line of a choice has: the earlier transition and the environment state
 abbrev pub choice_words : Kind → List ℕ
 choice_words (kind.Choice first state) = codes " " ++ decimal first ++ codes " " ++ state
 choice_words _ = []
 
--- what the line says after the document's name: the rule, and where it is broken
+-- the text after the document's name: the rule, and the place where it is broken
 abbrev pub rule_text : Refusal → List ℕ
 rule_text r =
     codes " " ++ kind_word r.kind ++ codes " " ++ part_word r.part ++ codes " " ++ decimal (part_number r.part)
     ++ codes " " ++ list_word r.list ++ codes " " ++ decimal r.index ++ choice_words r.kind ++ codes "\n"
 
--- `refused DOCUMENT KIND PART NUMBER LIST INDEX`, and for a choice what it goes on with
+-- `refused DOCUMENT KIND PART NUMBER LIST INDEX`, and for a choice the earlier transition and the environment state
 abbrev pub refusal_line : Refusal → List ℕ
 refusal_line r = codes "refused " ++ r.document ++ rule_text r

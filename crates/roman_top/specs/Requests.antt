@@ -1,4 +1,4 @@
--- For how many requests a word asks for advice.
+-- The number of requests that a word gives.
 use Rattle.std.specs.Prelude.{ℕ, ◌+◌, ◌-◌, ◌*◌, ◌&&◌, Bool, List, [], ◌∷◌, Option, None, Some, nat_le, if◌then◌else◌}
 use Rattle.roman_cost.specs.declared.limits.TheConstants.{MAX_REQUESTS}
 
@@ -10,11 +10,11 @@ is_first_digit byte = nat_le 49 byte && nat_le byte 57
 abbrev pub is_digit : ℕ → Bool
 is_digit byte = nat_le 48 byte && nat_le byte 57
 
--- the number that two digits are
+-- the number that two digits form
 abbrev pub two_digits : ℕ → ℕ → ℕ
 two_digits tens ones = (tens - 48) * 10 + (ones - 48)
 
--- `1` to `64`: a number of one or two digits, the first not 0
+-- the number that a word from `1` to `64` is; it has one or two digits, the first of which isn't 0
 abbrev pub request_count_of : List ℕ → Option ℕ
 request_count_of [] = None
 request_count_of (digit ∷ []) = if is_first_digit digit then Some (digit - 48) else None

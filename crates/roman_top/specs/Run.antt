@@ -1,4 +1,4 @@
--- Runs: what a call writes and how it ends, by its words, the texts of the shelf and the bytes of the session.
+-- Runs: what a call writes and how it ends, given its words, the texts of the shelf and the bytes of the session.
 use Rattle.std.specs.Prelude.{◌≡◌, ℕ, List, [], Option, None, Some, IfSome, MatchBool}
 use Rattle.roman_io.specs.Shelf.{Texts, shelf_text}
 use Rattle.roman_io.specs.Sink.{Wrote}
@@ -27,7 +27,7 @@ use Rattle.roman_top.specs.declared.status.Status.TheVariants as status
 
 -- ---- what each command does; a job has an accepted document within its limit
 
--- Done where the pair is related, and else No
+-- the status is Done where the pair is related, and No where it isn't
 abbrev pub EndsBy : Sys → Pair → Status → Type 0
 EndsBy s p status.Done = Great s p
 EndsBy s p status.No = Great s p → ⊥
@@ -48,7 +48,7 @@ pub record CertifiesSystem (s : Sys) (out : List ℕ) (result : Status) : Type 0
 abbrev pub Certifies : PlainLibrary → List ℕ → Status → Type 0
 Certifies library out result = CertifiesSystem (library_system library) out result
 
--- what is said of a certificate with that verdict
+-- the text and status for a verdict on a certificate
 abbrev pub SaysVerdict : Verdict → List ℕ → Status → Type 0
 SaysVerdict (Greatest related start) out result = EndsSaying (greatest_text related start) status.Done out result
 SaysVerdict (Rejected line why) out result = EndsSaying (rejected_text line why) status.No out result
@@ -60,27 +60,27 @@ Checks certificate library out result =
     let s = library_system library in
     SaysVerdict (cert_verdict (numbered s) (number (sizes_of s) (start_pair_of library)) certificate) out result
 
--- the depths of the system's pairs; what is told of the start pair is the least number of requests within which the
+-- the text gives the depths of the system's pairs, and for the start pair the least number of requests within which the
 -- opponent wins against every delegation
 abbrev pub TellsShortestOf : Sys → Pair → List ℕ → Status → Type 0
 TellsShortestOf s p out result = TellsDepths s p out × (result ≡ status.Done)
 
--- shortest: the depths of the system's pairs, and that of the starting states
+-- shortest: the depths of the system's pairs, and the depth of the starting states
 abbrev pub TellsShortest : PlainLibrary → List ℕ → Status → Type 0
 TellsShortest library out result = TellsShortestOf (library_system library) (start_pair_of library) out result
 
--- resilience: what the starting states can look forward to, and what is left of it where services fail
+-- resilience: the outlook of the starting states, and their outlook where services fail
 abbrev pub Foresees : PlainLibrary → List ℕ → Status → Type 0
 Foresees library out result = EndsSaying (outlook_text (parts_of library) (start_pair_of library)) status.Done out result
 
--- run: what is told of the lines, or of those that end within as much as is ever read
+-- run: the replies to the lines of the session; of a session that is too long, to the lines that end within the limit
 abbrev pub Talks : List ℕ → PlainLibrary → List ℕ → Status → Type 0
 Talks session library out result =
     MatchBool (is_heard_out session)
     (ToldFromStart library (lines session) out × (result ≡ status.Done))
     (ToldFromStart library (ended_lines (prefix_of session)) out × (result ≡ status.TooLong))
 
--- make: the summary of the system of n
+-- make: the summary of the system of n workers
 abbrev pub Makes : ℕ → List ℕ → Status → Type 0
 Makes n out result = Summarises n out × (result ≡ status.Done)
 
@@ -96,28 +96,28 @@ JobDoes Resilience texts session = Foresees
 
 -- ---- runs
 
--- a run of a command, or of words without a shape
+-- the text and status of a run, for a command or for words without a shape
 abbrev pub Runs : Option Command → Texts → List ℕ → List ℕ → Status → Type 0
 Runs None texts session out result = EndsSaying usage_line status.Usage out result
 Runs (Some (On system job)) texts session out result = OnOpening (JobDoes job texts session) (document_opening texts system) out result
 Runs (Some (Make n)) texts session out result = Makes n out result
 
--- the bytes of the session: a text of the shelf, or those that the input had, where it tells them
+-- the bytes of the session: a text of the shelf, or the bytes that the input had
 abbrev pub IsSessionText : Option Command → Texts → Option (List ℕ) → List ℕ → Type 0
 IsSessionText (Some (On system (Run (Some name)))) texts before session = session ≡ shelf_text texts name
 IsSessionText (Some (On system (Run None))) texts before session = Had before session
 IsSessionText _ texts before session = Unit {0}
 
--- the shelf's texts that a call asks for, where it tells them; `make` and words without a shape ask for none
+-- the texts that a call asks the shelf for, where they are known; `make` and words without a shape ask for none
 abbrev pub texts_for : Option Command → Option Texts → Option Texts
 texts_for (Some (On system job)) told = told
 texts_for _ told = Some []
 
--- this holds of the texts that a call asks for, where the shelf tells them
+-- the property holds of the texts that a call asks for, where they are known
 abbrev pub WithTexts : Option Command → Option Texts → (Texts → Type 0) → Type 0
 WithTexts asked told Holds = IfSome (texts_for asked told) Holds
 
--- what was written, and the status, are a run
+-- what was written and the status are those of a run
 pub record HasRun (asked : Option Command) (texts : Texts) (old new : World) (result : Status) : Type 0 where
   pub session : List ℕ
   pub given : IsSessionText asked texts old.rest session

@@ -1,4 +1,4 @@
--- What a call of `serve` does, by its words and the outside before and after it.
+-- What a call of `serve` does, given its words and the outside before and after it.
 use Rattle.std.specs.Prelude.{◌≡◌, ℕ, List, Option}
 use Rattle.roman_top.specs.Command.{Command}
 use Rattle.roman_top.specs.Run.{WithTexts, HasRun}
@@ -8,8 +8,8 @@ use Rattle.roman_top.specs.World.{World, Desk, beside}
 use Rattle.roman_top.specs.declared.status.Status.{Status}
 use Rattle.roman_top.specs.declared.status.Status.TheVariants as status
 
--- a run, where neither a fault nor running out of memory ended it; else what stands in the sink then; which counts of faults rose;
--- where the input stands after a session from it was done; and the shelf's texts stay
+-- unless a fault or running out of memory ended it, the call is a run; otherwise these say what was written; which counts of faults rose;
+-- where the input stands after a session from it; and the shelf's texts stay the same
 pub record Served (asked : Option Command) (old new : World) (result : Status) : Type 0 where
   pub run : IsFree result → WithTexts asked old.texts (λ texts. HasRun asked texts old new result)
   pub shelf_fault : result ≡ status.ShelfFault → AtShelfFault asked old new
@@ -22,6 +22,6 @@ pub record Served (asked : Option Command) (old new : World) (result : Status) :
   pub ends : EndsInput asked old new result
   pub texts : new.texts ≡ old.texts
 
--- what a call does that leaves the input alone, whatever is told of that
+-- what a call does that leaves the input unchanged, for any input
 abbrev pub ServedBeside : Option Command → Desk → Desk → Status → Type 0
 ServedBeside asked old new result = (rest : Option (List ℕ)) (faults : ℕ) → Served asked (beside old rest faults) (beside new rest faults) result

@@ -1,4 +1,4 @@
--- Sessions: what is told to them, from their start on.
+-- The replies of a session, from its start on.
 use Rattle.std.specs.Prelude.{ℕ, ◌≤◌, List, length, IsFalse}
 use Rattle.roman_model.specs.Lines.{ended_lines}
 use Rattle.roman_model.specs.declared.limits.TheConstants.{MAX_SESSION_BYTES}
@@ -8,15 +8,15 @@ use Rattle.roman_session.specs.Starts.{IsStart}
 use Rattle.roman_hearing.specs.Told.{Told}
 use Rattle.roman_hearing.specs.Hearing.{has_quit}
 
--- what a session of that library is told of those lines, from some start on
+-- the text is the replies to the lines in a session of that library, from one of its starting situations
 pub record ToldFromStart (library : PlainLibrary) (lines : List (List ℕ)) (text : List ℕ) : Type 0 where
   pub start : Situation
   pub now : Situation
   pub begins : IsStart library start
   pub told : Told start lines text now
 
--- a session that goes on: the bytes taken so far are not too many, none of their whole lines ends it, and
--- the replies to these lines are that text
+-- a session that goes on: the bytes taken so far are within the limit, none of their whole lines ends it, and
+-- the text is the replies to these lines
 pub record GoesOnInSession (library : PlainLibrary) (taken text : List ℕ) : Type 0 where
   pub few : length taken ≤ MAX_SESSION_BYTES
   pub quitless : IsFalse (has_quit (ended_lines taken))

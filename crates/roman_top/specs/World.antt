@@ -1,9 +1,9 @@
--- The outside before and after a call, as far as it tells.
+-- The outside before and after a call, as far as it is known.
 use Rattle.std.specs.Prelude.{ℕ, List, [], Option}
 use Rattle.roman_io.specs.Shelf.{Texts}
 use Rattle.roman_io.specs.Sink.{Wrote}
 
--- the shelf's texts, what the input has left to give, what was written, and how often each has failed
+-- the shelf's texts, the bytes that the input has left, what was written, and how often each has failed
 pub record World : Type 0 where
   pub texts : Option Texts
   pub rest : Option (List ℕ)
@@ -12,7 +12,7 @@ pub record World : Type 0 where
   pub input_faults : ℕ
   pub out_faults : ℕ
 
--- the outside of which that is told
+-- the outside from its parts
 abbrev pub world : Option Texts → ℕ → Option (List ℕ) → ℕ → Option (List ℕ) → ℕ → World
 world texts shelf_faults rest input_faults written out_faults = record {
   texts = texts;
@@ -30,11 +30,11 @@ pub record Desk : Type 0 where
   pub shelf_faults : ℕ
   pub out_faults : ℕ
 
--- the shelf and the sink of which that is told
+-- the shelf and the sink from their parts
 abbrev pub desk : Option Texts → ℕ → Option (List ℕ) → ℕ → Desk
 desk texts shelf_faults written out_faults = record { texts = texts; written = written; shelf_faults = shelf_faults; out_faults = out_faults }
 
--- the outside with that shelf and that sink, and an input of which that is told
+-- the outside with this shelf, this sink and an input from its parts
 abbrev pub beside : Desk → Option (List ℕ) → ℕ → World
 beside d rest faults = world d.texts d.shelf_faults rest faults d.written d.out_faults
 

@@ -1,4 +1,4 @@
-//! `advise SYSTEM COSTS H`.
+//! The command `advise SYSTEM COSTS H`.
 ghost use Rattle.std.specs.Prelude.{◌≡◌, ◌<◌, false, Some, IfOk};
 ghost use Rattle.roman_io.specs.Faults.{HasCause};
 ghost use Rattle.roman_io.specs.Sink.{Puts};
@@ -39,8 +39,9 @@ use roman_start::Seated;
 use std::alloc::Global;
 use std::sync::ledger::Ledger;
 
-/// Writes the least that so many requests cost at worst by the costs on the shelf, and how to come by
-/// it; or that the start pair isn't related, or that there are too many values.
+/// Writes the least worst cost of that many requests by the costs on the shelf, and the services to
+/// use. Writes `answer none` where the start pair isn't related, and the line of the limit where
+/// there are too many values.
 pub(crate) fn advise<F: Shelf, O: Sink, L: Ledger>(
     alloc: Global,
     system: &str,
@@ -62,7 +63,7 @@ pub(crate) fn advise<F: Shelf, O: Sink, L: Ledger>(
     tell_read(alloc, read, costs, seated, requests, out, steps)
 }
 
-/// Writes what costs that were read come to, or the line of their refusal.
+/// Writes the advice by costs that were accepted, or the refusal line of costs that were refused.
 fn tell_read<O: Sink, L: Ledger>(
     alloc: Global,
     read: Result<Costs, CostError>,
@@ -90,7 +91,7 @@ fn tell_read<O: Sink, L: Ledger>(
     }
 }
 
-/// Writes the line of a refusal of costs.
+/// Writes the refusal line of a text of costs.
 fn refuse<O: Sink>(
     alloc: Global,
     name: &str,
@@ -117,14 +118,14 @@ fn refuse<O: Sink>(
     finish(put_refusal(&refusal, out), Status::Refused)
 }
 
-/// The list in which a rule of costs is broken: the text as a whole, or its items.
+/// Returns the list that a refusal of costs names: the text as a whole, or its items.
 fn list_of(whole: bool) -> List
     ensures { result ≡ place_of_rule whole }
 {
     if whole { List::Whole } else { List::Steps }
 }
 
-/// Writes what costs come to on a system.
+/// Builds the relation of a system, and writes the advice by the costs.
 fn tell_costs<O: Sink, L: Ledger>(
     alloc: Global,
     costs: &Costs,
@@ -147,7 +148,7 @@ fn tell_costs<O: Sink, L: Ledger>(
     }
 }
 
-/// Writes what costs come to on a relation.
+/// Writes the advice by the costs for the pair `start` of a relation.
 fn tell_relation<O: Sink>(
     alloc: Global,
     relation: &Relation,
@@ -178,7 +179,7 @@ fn tell_relation<O: Sink>(
     }
 }
 
-/// Puts the line that says that the start pair isn't related.
+/// Writes the line `answer none`.
 fn put_unrelated<O: Sink>(out: &mut O) -> Result<(), Failed>
     ensures puts { Puts (O.written out.old) (O.written out.new) (line_text (line.Answer false)) result }
     ensures cause { HasCause (O.faults out.old) (O.faults out.new) result }

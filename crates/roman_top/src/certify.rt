@@ -1,4 +1,4 @@
-//! `certify SYSTEM`.
+//! The command `certify SYSTEM`.
 ghost use Rattle.std.specs.Prelude.{Some};
 ghost use Rattle.roman_joint.specs.NamedSys.{system_of};
 ghost use Rattle.roman_top.specs.Causes.{SinkCause};

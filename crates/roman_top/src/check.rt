@@ -1,4 +1,4 @@
-//! `check SYSTEM CERT`.
+//! The command `check SYSTEM CERT`.
 ghost use Rattle.std.specs.Prelude.{◌≡◌, ◌<◌, Some, IfSome};
 ghost use Rattle.roman_io.specs.Shelf.{shelf_text};
 ghost use Rattle.roman_model.specs.Numbers.{sizes_of, count, numbered};
@@ -20,7 +20,7 @@ use roman_start::Seated;
 use std::alloc::Global;
 use std::sync::ledger::Ledger;
 
-/// Checks the certificate on the shelf against the system, and writes the verdict.
+/// Checks a certificate on the shelf against the system, and writes the verdict.
 pub(crate) fn check_certificate<F: Shelf, O: Sink, L: Ledger>(
     alloc: Global,
     system: &str,
@@ -40,7 +40,7 @@ pub(crate) fn check_certificate<F: Shelf, O: Sink, L: Ledger>(
     tell(verdict_on(alloc, &seated, certificate, shelf, steps), out)
 }
 
-/// Writes the verdict, where there is one.
+/// Writes the verdict of a check, or returns the status of its error.
 fn tell<O: Sink>(checked: Result<Verdict, CheckError>, out: &mut O) -> Status
     ensures writes { Writes (JudgesCheck checked) (O.written out.old) (O.written out.new) result }
     ensures stops { EndsBare (O.written out.old) (O.written out.new) result }
@@ -69,7 +69,7 @@ fn tell_verdict<O: Sink>(verdict: Verdict, out: &mut O) -> Status
     }
 }
 
-/// The verdict on the certificate of that name.
+/// Returns the verdict on the certificate that stands on the shelf under `name`.
 fn verdict_on<F: Shelf, L: Ledger>(
     alloc: Global,
     seated: &Seated,

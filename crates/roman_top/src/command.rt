@@ -1,4 +1,4 @@
-//! The commands that words are.
+//! The commands, as they are read from words.
 ghost use Rattle.std.specs.Prelude.{◌≡◌};
 ghost use Rattle.std.specs.Option.{option_map};
 
@@ -6,14 +6,14 @@ use crate::requests::{Requests, requests_of};
 use crate::workers::{Workers, workers_of};
 use roman_io::Words;
 
-/// What words ask for.
+/// A command with its arguments.
 #[derive(Clone, Copy)]
 pub(crate) enum Command<'a> {
     /// `synth SYSTEM`: the report on the starting states.
     Synth(&'a str),
-    /// `run SYSTEM`: the session that comes from the input.
+    /// `run SYSTEM`: a session that is read from the input.
     Run(&'a str),
-    /// `run SYSTEM SESSION`: the session on the shelf.
+    /// `run SYSTEM SESSION`: a session that is read from the shelf.
     RunOnShelf {
         /// The system's name.
         system: &'a str,
@@ -22,7 +22,7 @@ pub(crate) enum Command<'a> {
     },
     /// `certify SYSTEM`: the certificate of the system.
     Certify(&'a str),
-    /// `check SYSTEM CERT`: the verdict on a certificate.
+    /// `check SYSTEM CERT`: the verdict on a certificate on the shelf.
     Check {
         /// The system's name.
         system: &'a str,
@@ -31,24 +31,24 @@ pub(crate) enum Command<'a> {
     },
     /// `shortest SYSTEM`: how many pairs have each depth, and the depth of the start pair.
     Shortest(&'a str),
-    /// `advise SYSTEM COSTS H`: the least that H requests cost at worst, and how to come by it.
+    /// `advise SYSTEM COSTS H`: the least worst cost of H requests, and the services to use.
     Advise {
         /// The system's name.
         system: &'a str,
-        /// The name of the costs.
+        /// The name of the text of costs.
         costs: &'a str,
-        /// For how many requests.
+        /// The number of requests.
         requests: Requests,
     },
-    /// `resilience SYSTEM`: what is left where services fail.
+    /// `resilience SYSTEM`: the outlook of the start pair, and its outlook where services fail.
     Resilience(&'a str),
-    /// `make N`: how a system of N workers stands while its script is run.
+    /// `make N`: a summary of the script's session on a system of N workers.
     Make(Workers),
 }
 
 ghost use Rattle.roman_top.specs.Command.{command_as, command_of, command_with_one, command_with_two, command_with_three};
 
-/// The command that the words are, where they have the shape of one.
+/// Returns the command that the words form, or `None` where they have the shape of no command.
 pub(crate) fn command_of(words: &Words) -> Option<Command<'_>>
     ensures { option_map command_as result ≡ command_of words.now }
 {
@@ -60,7 +60,7 @@ pub(crate) fn command_of(words: &Words) -> Option<Command<'_>>
     }
 }
 
-/// The command of a word and one more.
+/// Returns the command of a word and one argument.
 fn with_one<'a>(word: &str, name: &'a str) -> Option<Command<'a>>
     ensures { option_map command_as result ≡ command_with_one word.now name.now }
 {
@@ -75,7 +75,7 @@ fn with_one<'a>(word: &str, name: &'a str) -> Option<Command<'a>>
     }
 }
 
-/// The command of a word and two names.
+/// Returns the command of a word and two arguments.
 fn with_two<'a>(word: &str, name: &'a str, other: &'a str) -> Option<Command<'a>>
     ensures { option_map command_as result ≡ command_with_two word.now name.now other.now }
 {
@@ -92,7 +92,7 @@ fn with_two<'a>(word: &str, name: &'a str, other: &'a str) -> Option<Command<'a>
     }
 }
 
-/// The command of a word, two names and one more word.
+/// Returns the command of a word and three arguments.
 fn with_three<'a>(word: &str, name: &'a str, other: &'a str, third: &str) -> Option<Command<'a>>
     ensures { option_map command_as result ≡ command_with_three word.now name.now other.now third.now }
 {

@@ -1,4 +1,4 @@
-//! Laws over the definitions of runs, each the contract of a function with no body.
+//! Laws over the definitions of runs. Each is the contract of a function with an empty body.
 ghost use Rattle.roman_top.specs.Accepted.{StartsAreKnown};
 
 /// An accepted document within its limit starts a well-formed situation.

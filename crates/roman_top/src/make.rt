@@ -1,4 +1,4 @@
-//! `make N`.
+//! The command `make N`.
 ghost use Rattle.roman_make.specs.Made.{made};
 ghost use Rattle.roman_session.specs.Starts.{IsStart};
 ghost use Rattle.roman_hearing.specs.Known.{IsKnownSituation};
@@ -15,7 +15,7 @@ use roman_session::{BuildError, Session};
 use std::alloc::Global;
 use std::sync::ledger::Ledger;
 
-/// Makes a system, runs its script on it, and writes the summary.
+/// Makes a system of that many workers, runs the script on it, and writes the summary.
 pub(crate) fn summarise<O: Sink, L: Ledger>(
     alloc: Global,
     workers: Workers,
@@ -39,7 +39,7 @@ pub(crate) fn summarise<O: Sink, L: Ledger>(
     }
 }
 
-/// Runs the script on a session at its start, and writes the summary.
+/// Runs the script on a session that stands at its start, and writes the summary.
 fn summarise_session<O: Sink, L: Ledger>(
     session: Session,
     n: u8,

@@ -1,4 +1,4 @@
-//! Documents that are opened for a command.
+//! Opens the system document of a command.
 ghost use Rattle.std.specs.Prelude.{◌≤◌, length, IfOk};
 ghost use Rattle.roman_model.specs.declared.limits.TheConstants.{MAX_BEHAVIOURS};
 ghost use Rattle.roman_library.specs.Library.{PlainLibrary, IsLibrary, plain};
@@ -19,7 +19,8 @@ use roman_start::{Seated, seat_library};
 use std::alloc::Global;
 use std::sync::ledger::Ledger;
 
-/// The system of an accepted document within its limit, or how the run ends without one.
+/// Loads the document `name`, and builds the joint of its system with the start pair. Returns the
+/// status that ends the run where it can't. Writes the line of a refusal or of an exceeded limit.
 pub(crate) fn open_system<F: Shelf, O: Sink>(
     alloc: Global,
     name: &str,
@@ -44,7 +45,8 @@ pub(crate) fn open_system<F: Shelf, O: Sink>(
     }
 }
 
-/// The session that an accepted document within its limit begins, or how the run ends without one.
+/// Loads the document `name`, and begins a session of its system. Returns the status that ends the
+/// run where it can't. Writes the line of a refusal or of an exceeded limit.
 pub(crate) fn open_session<F: Shelf, O: Sink, L: Ledger>(
     alloc: Global,
     name: &str,
@@ -69,7 +71,8 @@ pub(crate) fn open_session<F: Shelf, O: Sink, L: Ledger>(
     }
 }
 
-/// The library that a document is, or how the run ends without one.
+/// Loads the library of the document `name`. Returns the status that ends the run where it can't.
+/// Writes the line of a refusal.
 fn read_library<F: Shelf, O: Sink>(
     alloc: Global,
     name: &str,

@@ -20,8 +20,8 @@ use roman_relation::Relation;
 use roman_text::{Page, Piece};
 use roman_whatif::{Losses, Outlook, Way, now};
 
-/// Puts what a pair of `base` can look forward to, and what is left of it where one service fails, or
-/// two.
+/// Writes the outlook of a pair of `base`, and its outlook without each one and each two of the
+/// services.
 pub(crate) fn put_outlooks<O: Sink>(
     base: &Relation,
     losses: &Losses,
@@ -41,7 +41,7 @@ pub(crate) fn put_outlooks<O: Sink>(
     page.flush(out)
 }
 
-/// Takes how many services there are, and what the pair can look forward to.
+/// Pushes the number of services, and the outlook of the pair `p`.
 fn push_head<O: Sink>(base: &Relation, p: u32, page: &mut Page, out: &mut O) -> Result<(), Failed>
     requires base { IsRelation base.now.joint base.now.order }
     requires pair { p < count (sizes_of (system_of base.now.joint)) }
@@ -54,7 +54,7 @@ fn push_head<O: Sink>(base: &Relation, p: u32, page: &mut Page, out: &mut O) -> 
     page.push(outlook_piece(&now(base, p)).bytes(), out)
 }
 
-/// Takes what is left where each service fails.
+/// Pushes the lines for the failure of each single service.
 fn push_ones<O: Sink>(
     joint: &Joint,
     losses: &Losses,
@@ -72,7 +72,7 @@ fn push_ones<O: Sink>(
     Ok(())
 }
 
-/// Takes what is left where each two services fail.
+/// Pushes the lines for the failure of each two services.
 fn push_twos<O: Sink>(
     joint: &Joint,
     losses: &Losses,
@@ -90,7 +90,7 @@ fn push_twos<O: Sink>(
     Ok(())
 }
 
-/// Takes what is left where the service at place k fails with one after it, for each of those.
+/// Pushes the lines for the failure of the service at place `k` with each service after it.
 fn push_twos_with<O: Sink>(
     joint: &Joint,
     losses: &Losses,
@@ -111,7 +111,7 @@ fn push_twos_with<O: Sink>(
     Ok(())
 }
 
-/// Takes what is left where one service freezes, or two, and where they die.
+/// Pushes two lines for one or two services: the outlook where they freeze, and where they die.
 fn push_lines<O: Sink>(
     joint: &Joint,
     losses: &Losses,
@@ -133,7 +133,7 @@ fn push_lines<O: Sink>(
     push_line(joint, first, second, Way::Die, &gone, page, out)
 }
 
-/// Takes the line that says what is left where one service, or two, fail.
+/// Pushes the line with the outlook `left` for the failure of one or two services.
 fn push_line<O: Sink>(
     joint: &Joint,
     first: u8,
@@ -154,7 +154,7 @@ fn push_line<O: Sink>(
     page.push(outlook_piece(left).bytes(), out)
 }
 
-/// The line of how many services there are, and the first word of the next line.
+/// Returns the line with the number of services, and the first word of the next line.
 fn services_piece(services: u8) -> Piece
     ensures { result ≡ codes "services " ++ decimal services ++ codes "\nstart" }
 {
@@ -164,7 +164,7 @@ fn services_piece(services: u8) -> Piece
         .text(b"\nstart")
 }
 
-/// The first word of a line, and the names of the services that fail.
+/// Returns the word `without` and the names of the services that fail.
 fn names_piece(joint: &Joint, first: u8, second: Option<u8>) -> Piece
     requires first { first < length joint.now.seats }
     requires second { IfSome second (λ j. j < length joint.now.seats) }
@@ -178,7 +178,7 @@ fn names_piece(joint: &Joint, first: u8, second: Option<u8>) -> Piece
     }
 }
 
-/// The word of how services fail.
+/// Returns the word for the way in which services fail, after a space.
 fn way_word(way: Way) -> &'static [u8]
     ensures word { result.now ≡ way_word way }
     ensures short { length result.now ≤ 16 }
@@ -189,7 +189,7 @@ fn way_word(way: Way) -> &'static [u8]
     }
 }
 
-/// What is told of an outlook, to the end of the line.
+/// Returns the words of an outlook, from the space before them to the end of the line.
 fn outlook_piece(outlook: &Outlook) -> Piece
     ensures { result ≡ outlook_words (told outlook.now) }
 {
@@ -201,7 +201,7 @@ fn outlook_piece(outlook: &Outlook) -> Piece
         .text(b"\n")
 }
 
-/// Whether a pair is related, up to the number of those that are.
+/// Returns the words that say whether the pair is related, up to the number of related pairs.
 fn answer_words(composes: bool) -> &'static [u8]
     ensures words { result.now ≡ (if composes then codes " composition related " else codes " none related ") }
     ensures short { length result.now ≤ 32 }

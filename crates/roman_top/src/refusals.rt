@@ -1,4 +1,4 @@
-//! The line that names a refusal.
+//! The line that reports a refusal.
 ghost use Rattle.std.specs.Prelude.{◌≡◌, ◌≤◌, length};
 ghost use Rattle.roman_io.specs.Faults.{HasCause};
 ghost use Rattle.roman_io.specs.Sink.{Puts};
@@ -10,8 +10,8 @@ use roman_parts::List;
 use roman_read::Kind;
 use roman_text::{Page, Piece};
 
-/// Puts `refused DOCUMENT KIND PART NUMBER LIST INDEX` and a newline; for a choice the earlier
-/// transition and the environment state stand before the newline.
+/// Writes `refused DOCUMENT KIND PART NUMBER LIST INDEX` and a newline. For a choice the number of
+/// the earlier transition and the name of the environment state stand before the newline.
 pub(crate) fn put_refusal<O: Sink>(refusal: &Refusal, out: &mut O) -> Result<(), Failed>
     ensures puts { Puts (O.written out.old) (O.written out.new) (refusal_line refusal.now) result }
     ensures cause { HasCause (O.faults out.old) (O.faults out.new) result }
@@ -23,7 +23,7 @@ pub(crate) fn put_refusal<O: Sink>(refusal: &Refusal, out: &mut O) -> Result<(),
     page.flush(out)
 }
 
-/// What the line says after the document's name: the rule, and where it is broken.
+/// Returns the text after the document's name: the rule, and the place where it is broken.
 fn rule_piece(refusal: &Refusal) -> Piece
     ensures { result ≡ rule_text refusal.now }
 {
@@ -35,7 +35,7 @@ fn rule_piece(refusal: &Refusal) -> Piece
     index.text(choice_piece(&refusal.kind).bytes()).text(b"\n")
 }
 
-/// What the line of a choice goes on with.
+/// Returns the words that only the line of a choice has. They are empty for other kinds.
 fn choice_piece(kind: &Kind) -> Piece
     ensures text { result ≡ choice_words kind.now }
     ensures short { length result ≤ 44 }
@@ -47,7 +47,7 @@ fn choice_piece(kind: &Kind) -> Piece
     }
 }
 
-/// The word for what is wrong.
+/// Returns the word for the kind of a refusal.
 fn word_of_kind(kind: &Kind) -> &'static [u8]
     ensures word { result.now ≡ kind_word kind.now }
     ensures short { length result.now ≤ 16 }
@@ -66,7 +66,7 @@ fn word_of_kind(kind: &Kind) -> &'static [u8]
     }
 }
 
-/// The word for the part of the document in which a rule is broken.
+/// Returns the word for the part of the document in which a rule is broken.
 fn word_of_part(part: &Part) -> &'static [u8]
     ensures word { result.now ≡ part_word part.now }
     ensures short { length result.now ≤ 16 }
@@ -81,7 +81,7 @@ fn word_of_part(part: &Part) -> &'static [u8]
     }
 }
 
-/// The number of that part among those with the same word, from 0.
+/// Returns the number of that part among the parts with the same word, counted from 0.
 fn number_of_part(part: &Part) -> u32
     ensures { result ≡ part_number part.now }
 {
@@ -95,7 +95,7 @@ fn number_of_part(part: &Part) -> u32
     }
 }
 
-/// The word for the list or member in which a rule is broken.
+/// Returns the word for the list or member in which a rule is broken.
 fn word_of_list(list: &List) -> &'static [u8]
     ensures word { result.now ≡ list_word list.now }
     ensures short { length result.now ≤ 16 }

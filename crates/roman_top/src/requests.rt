@@ -1,4 +1,4 @@
-//! For how many requests advice is asked for.
+//! The number of requests for which a command asks for advice.
 ghost use Rattle.std.specs.Prelude.{◌≡◌, ◌≤◌};
 ghost use Rattle.std.specs.Option.{option_map};
 ghost use Rattle.roman_cost.specs.declared.limits.TheConstants.{MAX_REQUESTS};
@@ -15,8 +15,8 @@ pub(crate) struct Requests {
     ghost few: { count ≤ MAX_REQUESTS },
 }
 
-/// The number of requests that a word is: a number from 1 to [`MAX_REQUESTS`], with no sign and no
-/// zero before it.
+/// Parses a number of requests from 1 to [`MAX_REQUESTS`], in decimal without a sign or a leading
+/// zero. Returns `None` for every other word.
 pub(crate) fn requests_of(word: &str) -> Option<Requests>
     ensures { option_map (λ requests. requests.count) result ≡ request_count_of word.now }
 {

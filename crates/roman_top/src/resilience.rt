@@ -1,4 +1,4 @@
-//! `resilience SYSTEM`.
+//! The command `resilience SYSTEM`.
 ghost use Rattle.std.specs.Prelude.{◌<◌, Some};
 ghost use Rattle.roman_model.specs.Numbers.{sizes_of, count, pair_at};
 ghost use Rattle.roman_joint.specs.NamedSys.{system_of};
@@ -22,8 +22,8 @@ use roman_whatif::Losses;
 use std::alloc::Global;
 use std::sync::ledger::Ledger;
 
-/// Writes what the starting states can look forward to, and what is left of it where one service
-/// fails, or two.
+/// Writes the outlook of the starting states, and their outlook without each one and each two of the
+/// services.
 pub(crate) fn foresee<F: Shelf, O: Sink, L: Ledger>(
     alloc: Global,
     system: &str,
@@ -41,8 +41,8 @@ pub(crate) fn foresee<F: Shelf, O: Sink, L: Ledger>(
     }
 }
 
-/// Writes what a pair of a joint can look forward to, and what is left of it where services fail.
-/// The memory is taken before anything is written.
+/// Writes the outlook of a pair of a joint, and its outlook without each one and each two of the
+/// services. Takes all memory before it writes anything.
 fn foresee_from<O: Sink, L: Ledger>(
     alloc: Global,
     joint: Joint,

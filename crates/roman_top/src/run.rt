@@ -1,4 +1,4 @@
-//! The top call.
+//! The top call of the program.
 ghost use Rattle.std.specs.Prelude.{◌≡◌, ◌⊎◌, Some};
 ghost use Rattle.roman_io.specs.Faults.{HasCause};
 ghost use Rattle.roman_io.specs.Sink.{Puts};
@@ -25,31 +25,32 @@ use roman_model::greatest_is_complete;
 use std::alloc::Global;
 use std::sync::ledger::Ledger;
 
-/// Does what the words, those after the program's name, ask for, and answers how it ended. All text
-/// goes to `out`; each [`Status`] says what stands there then.
+/// Runs the command that the words after the program's name form, and returns how it ended. Writes
+/// all text to `out`. Each [`Status`] says what was written by then.
 ///
-/// - `synth SYSTEM` writes the report on the starting states of the system document of that name on the
-///   shelf; the status says whether the start pair is related.
-/// - `run SYSTEM` answers a session of that system line by line, to its end or to its line `quit`; the
-///   lines come from `input`, and those of `run SYSTEM SESSION` from the shelf.
-/// - `certify SYSTEM` writes a certificate of which pairs are related, and `check SYSTEM CERT` the
-///   verdict on the certificate on the shelf.
-/// - `make N`, for N from 1 to 10, asks the shelf for nothing: it makes a system of N workers, runs its
-///   script on a session, and writes a summary of how the session stands at the start, after each of
-///   the script's first four lines, and at its end.
-/// - `resilience SYSTEM` writes how many services there are; then whether the start pair is
-///   related, how many pairs are, and how many services can serve an action, over all pairs,
-///   related or not, and all actions; and these three where one service freezes or dies, or two do.
-/// - `shortest SYSTEM` writes how many pairs there are, how many are related, and how many have
-///   each depth, the least number of requests within which the opponent wins there; and the depth
-///   of the start pair, or that it is related.
-/// - `advise SYSTEM COSTS H`, for H from 1 to 64, writes the least that H requests cost at worst by the
-///   costs on the shelf, for each action that is allowed at the start pair the service to take and
-///   what the H requests then cost at worst, and the least for 1 to H requests at each related
-///   pair; or that the start pair isn't related, or that there are more of these values, related
-///   pairs times H, than 1,048,576.
+/// - `synth SYSTEM` writes the report on the starting states of the system document that the shelf has
+///   under that name. The status says whether the start pair is related.
+/// - `run SYSTEM` answers the lines of a session of that system, to its end or to its line `quit`. It
+///   reads the lines from `input`. `run SYSTEM SESSION` reads them from the shelf.
+/// - `certify SYSTEM` writes a certificate of which pairs are related. `check SYSTEM CERT` writes the
+///   verdict on the certificate that the shelf has under that name.
+/// - `make N`, for N from 1 to 10, makes a system of N workers and runs a script on a session of it.
+///   It writes how many pairs there are, how many are related and whether the current one is: at the
+///   start, after each of the script's first four lines, and at its end. It asks the shelf for nothing.
+/// - `resilience SYSTEM` writes the number of services and the outlook of the start pair. An outlook
+///   says whether the pair is related, how many pairs are related, and how many services can serve an
+///   action, summed over all actions and all pairs, related or not. Then it writes the outlook where
+///   each one and each two of the services freeze, and where they die.
+/// - `shortest SYSTEM` writes how many pairs there are, how many are related, and how many have each
+///   depth. It writes the depth of the start pair, or that it is related. The depth of a pair is the
+///   least number of requests within which the opponent wins from it.
+/// - `advise SYSTEM COSTS H`, for H from 1 to 64, writes the least worst cost of H requests by the
+///   costs on the shelf. For each action that is allowed at the start pair it writes the service to
+///   use, and the worst cost of the H requests then. For each related pair it writes the least worst
+///   cost of 1 to H requests. It writes `answer none` where the start pair isn't related. It writes
+///   `limit 1048576` where there are more values, related pairs times H, than 1,048,576.
 ///
-/// The call returns on every input, and takes bytes from `input` for `run SYSTEM` alone.
+/// Returns on every input. Takes bytes from `input` for `run SYSTEM` alone.
 pub fn serve<F: Shelf, I: Source, O: Sink, L: Ledger>(
     alloc: Global,
     words: &Words,
@@ -58,27 +59,27 @@ pub fn serve<F: Shelf, I: Source, O: Sink, L: Ledger>(
     out: &mut O,
     steps: &mut Steps<L>,
 ) -> Status
-    // What was written and the status are a run, where neither a fault nor running out of memory ended
-    // it. `Served` also says what stands in the sink otherwise, and which count of faults rose.
+    // What was written and the status are those of a run, unless a fault or running out of memory ended
+    // it. `Served` also says what was written in these cases, and which count of faults rose.
     ensures served { Served (command_of words.now)
         (world (F.texts shelf.old) (F.faults shelf.old) (I.rest input.old) (I.faults input.old) (O.written out.old) (O.faults out.old))
         (world (F.texts shelf.new) (F.faults shelf.new) (I.rest input.new) (I.faults input.new) (O.written out.new) (O.faults out.new)) result }
 
-    // On its face, where neither a fault nor running out of memory ended the run: a session is a list of
-    // turns, each of which leads where its event does and keeps the event's word, and the report of
-    // `synth` and the texts of the other commands are right by the greatest ND-simulation.
+    // Unless a fault or running out of memory ended the run, a session is a list of turns. Each turn
+    // leads to the state of its line's event, and its text answers that event. These texts, the report
+    // of `synth` and the texts of the other commands are right by the greatest ND-simulation.
     ensures headline { HasHeadline (command_of words.now)
         (world (F.texts shelf.old) (F.faults shelf.old) (I.rest input.old) (I.faults input.old) (O.written out.old) (O.faults out.old))
         (world (F.texts shelf.new) (F.faults shelf.new) (I.rest input.new) (I.faults input.new) (O.written out.new) (O.faults out.new)) result }
 
-    // Where no count of faults rises, a command gets its answer, or there is no memory: with an
-    // accepted document within its limit, a session or certificate that isn't too long, and for
-    // `advise` costs that are accepted and come to no more values than there may be.
+    // Where no count of faults rises, a command is answered or runs out of memory. It needs an accepted
+    // document within its limit, and a session or certificate that isn't too long. `advise` also needs
+    // costs that are accepted, and no more than 1,048,576 values.
     ensures complete { AnswersWherePossible (command_of words.now)
         (world (F.texts shelf.old) (F.faults shelf.old) (I.rest input.old) (I.faults input.old) (O.written out.old) (O.faults out.old))
         (world (F.texts shelf.new) (F.faults shelf.new) (I.rest input.new) (I.faults input.new) (O.written out.new) (O.faults out.new)) result }
 
-    // The input stays as it is, but for a session that is read from it.
+    // Only a session that is read from the input changes it.
     ensures input { (input.new ≡ input.old) ⊎ TakesInput (command_of words.now)
         (world (F.texts shelf.old) (F.faults shelf.old) (I.rest input.old) (I.faults input.old) (O.written out.old) (O.faults out.old))
         (world (F.texts shelf.new) (F.faults shelf.new) (I.rest input.new) (I.faults input.new) (O.written out.new) (O.faults out.new)) result }
@@ -91,7 +92,7 @@ pub fn serve<F: Shelf, I: Source, O: Sink, L: Ledger>(
     }
 }
 
-/// Puts the line that tells which commands there are.
+/// Writes the usage line, which lists the commands.
 fn put_usage<O: Sink>(out: &mut O) -> Result<(), Failed>
     ensures puts { Puts (O.written out.old) (O.written out.new) usage_line result }
     ensures cause { HasCause (O.faults out.old) (O.faults out.new) result }
@@ -101,7 +102,7 @@ fn put_usage<O: Sink>(out: &mut O) -> Result<(), Failed>
     )
 }
 
-/// Does what a command asks for.
+/// Runs a command.
 fn obey<F: Shelf, I: Source, O: Sink, L: Ledger>(
     alloc: Global,
     command: Command<'_>,

@@ -1,4 +1,4 @@
-//! `shortest SYSTEM`.
+//! The command `shortest SYSTEM`.
 ghost use Rattle.std.specs.Prelude.{◌<◌, Some};
 ghost use Rattle.roman_model.specs.Numbers.{sizes_of, count, pair_at};
 ghost use Rattle.roman_joint.specs.NamedSys.{system_of};
@@ -19,8 +19,8 @@ use roman_start::Seated;
 use std::alloc::Global;
 use std::sync::ledger::Ledger;
 
-/// Writes how many pairs there are, are related and have each depth, and the depth of the start
-/// pair.
+/// Writes how many pairs there are, how many are related and how many have each depth, and the depth
+/// of the start pair.
 pub(crate) fn shortest<F: Shelf, O: Sink, L: Ledger>(
     alloc: Global,
     system: &str,
@@ -38,7 +38,8 @@ pub(crate) fn shortest<F: Shelf, O: Sink, L: Ledger>(
     }
 }
 
-/// Writes how many of a joint's pairs have each depth, and the depth of the pair `start`.
+/// Writes how many pairs of a joint there are, how many are related and how many have each depth, and
+/// the depth of the pair `start`.
 fn tell_depths<O: Sink, L: Ledger>(
     alloc: Global,
     joint: Joint,

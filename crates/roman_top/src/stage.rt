@@ -1,14 +1,14 @@
-//! How a session stands.
+//! What the summary of `make` says of a session at one stage.
 ghost use Rattle.std.specs.Prelude.{◌≤◌, length};
 
-/// How a session stands at its start, or after some lines of its script.
+/// The figures of a session at its start, or after some lines of its script.
 #[derive(Clone, Copy)]
 pub(crate) struct Stage {
-    /// The word of the stage: `start`, that of the last line, or `round` at the end.
+    /// The word of the stage: `start`, the first word of the last line, or `round` at the end.
     pub(crate) word: &'static [u8],
-    /// How many pairs there are.
+    /// The number of pairs.
     pub(crate) pairs: u32,
-    /// How many pairs are related.
+    /// The number of related pairs.
     pub(crate) related: u32,
     /// Whether the current pair is related.
     pub(crate) composes: bool,

@@ -1,4 +1,4 @@
-//! How a run ends.
+//! The statuses with which a run ends.
 ghost use Rattle.std.specs.Prelude.{◌≡◌};
 ghost use Rattle.roman_top.specs.Numbers.{status_number};
 ghost use Rattle.roman_top.specs.Endings.{Finishes};
@@ -8,42 +8,41 @@ use roman_io::Failed;
 /// How a run of the program ended. The variants are in the order of their exit statuses, from 0 to 9.
 #[derive(Clone, Copy, Debug, PartialEq, Eq)]
 pub enum Status {
-    /// 0: The whole text of the command was written. Of `synth` and `advise` it says that the start
-    /// pair is related, of `check` that the certificate is valid and complete, and of `run` that
-    /// the session was read to its end or to its line `quit`.
+    /// 0: The whole text of the command was written. For `synth` and `advise` the start pair is
+    /// related. For `check` the certificate is valid and complete. For `run` the session was read to
+    /// its end or to its line `quit`.
     Done,
-    /// 1: The start pair isn't related, with the report (`synth`) or the line `answer none` (`advise`)
-    /// in the sink; or the certificate is rejected, with the line that says so (`check`).
+    /// 1: The start pair isn't related, and the report (`synth`) or the line `answer none` (`advise`)
+    /// was written. Or the certificate is rejected, and the line that says so was written (`check`).
     No,
-    /// 2: The words have none of the shapes. The line that tells the shapes was written, and nothing
-    /// was read.
+    /// 2: The words have the shape of no command. The usage line was written, and nothing was read.
     Usage,
-    /// 3: The document, or the text of costs, isn't accepted. The line of the first rule that it breaks
-    /// was written.
+    /// 3: The document or the text of costs is refused. The line of the first rule that it breaks was
+    /// written.
     Refused,
-    /// 4: The cells of the system exceed the document's limit, or the values of `advise`, related
+    /// 4: The cells of the system exceed the document's limit. Or the values of `advise`, related
     /// pairs times H, exceed 1,048,576. The line `limit` with that limit was written.
     Limit,
-    /// 5: A call of the shelf failed, and its count of faults rose; never of `make` or of words without
-    /// a shape. Of a session on the shelf the replies to those lines stand in the sink that were read
-    /// whole, and else nothing was written. Nothing was taken from the input.
+    /// 5: A call of the shelf failed, and its count of faults rose. Never returned for `make` or for
+    /// words without a shape. For a session on the shelf the replies to all lines that were read
+    /// whole were written. Otherwise nothing was written. Nothing was taken from the input.
     ShelfFault,
-    /// 6: A take from the input failed, and its count of faults rose; only of `run SYSTEM`. The replies
-    /// to all lines that were taken whole stand in the sink.
+    /// 6: A take from the input failed, and its count of faults rose. Returned for `run SYSTEM`
+    /// alone. The replies to all lines that were taken whole were written.
     ReadFault,
     /// 7: A put into the sink failed, and its count of faults rose. A prefix of the text was written.
     WriteFault,
-    /// 8: The session has more than 16,777,216 bytes before a line `quit` ends, with the replies to the
-    /// lines that end within them in the sink; or the certificate has more than 268,435,456 before a
-    /// line at fault ends, and nothing was written.
+    /// 8: The session has more than 16,777,216 bytes before a line `quit` ends. The replies to the
+    /// lines that end within these bytes were written. Or the certificate has more than 268,435,456
+    /// bytes before a line at fault ends, and nothing was written.
     TooLong,
-    /// 9: There is no memory; never of words without a shape. Nothing was written, and nothing was
-    /// taken from the input.
+    /// 9: Out of memory. Never returned for words without a shape. Nothing was written, and nothing
+    /// was taken from the input.
     Memory,
 }
 
 impl Status {
-    /// The exit status of the program, from 0 to 9 in the order of the variants.
+    /// Returns the exit status of the program, from 0 to 9 in the order of the variants.
     pub fn number(&self) -> u8
         ensures number { result ≡ status_number self.now }
     {
@@ -62,7 +61,7 @@ impl Status {
     }
 }
 
-/// How a run ends after its text was put: with that status, or in a fault of the sink.
+/// Returns `status` where the text was put, and `WriteFault` where the sink failed.
 pub(crate) fn finish(put: Result<(), Failed>, status: Status) -> Status
     ensures { Finishes put status result }
 {

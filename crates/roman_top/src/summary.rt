@@ -1,4 +1,4 @@
-//! Made systems, and how they stand after the lines of their script.
+//! The script of a made system, and the summary of its session.
 ghost use Rattle.std.specs.Prelude.{◌≡◌, ◌-◌, ◌≤◌, ◌++◌, length, take, drop};
 ghost use Rattle.roman_io.specs.Faults.{HasCause};
 ghost use Rattle.roman_io.specs.Sink.{Puts};
@@ -14,7 +14,7 @@ use roman_session::Session;
 use roman_text::{Page, Piece};
 use std::sync::ledger::Ledger;
 
-/// How the session stands.
+/// Returns the figures of the session, under the word of a stage.
 fn stand(word: &'static [u8], session: &Session) -> Stage
     requires { length word.now ≤ 16 }
     ensures line { line_of_stage result ≡ standing word.now session.now }
@@ -28,7 +28,7 @@ fn stand(word: &'static [u8], session: &Session) -> Stage
     }
 }
 
-/// Gives the session the lines of the script from one place up to another. The replies are dropped.
+/// Answers the lines `from..to` of the script, and drops the replies.
 fn play<L: Ledger>(session: &mut Session, from: u8, to: u8, steps: &mut Steps<L>)
     requires order { from ≤ to }
     requires end { to ≤ 13 }
@@ -43,8 +43,8 @@ fn play<L: Ledger>(session: &mut Session, from: u8, to: u8, steps: &mut Steps<L>
     }
 }
 
-/// Gives the session its script, and tells how it stands at the start, after each change of the
-/// services, and at the end.
+/// Answers the whole script. Returns the figures of the session at the start, after each change of
+/// the services, and at the end.
 pub(crate) fn run_script<L: Ledger>(session: &mut Session, steps: &mut Steps<L>) -> [Stage; 6]
     ensures { Passes session.old stages (lines_of result) }
 {
@@ -62,7 +62,7 @@ pub(crate) fn run_script<L: Ledger>(session: &mut Session, steps: &mut Steps<L>)
     [start, freeze, thaw, die, join, round]
 }
 
-/// Puts `made N`, and how the session stood.
+/// Writes the summary: `made N`, the line of each stage, and `end`.
 pub(crate) fn put_summary<O: Sink>(n: u8, stages: &[Stage], out: &mut O) -> Result<(), Failed>
     ensures puts { Puts (O.written out.old) (O.written out.new) (made_line n ++ lines_of stages.now) result }
     ensures cause { HasCause (O.faults out.old) (O.faults out.new) result }
@@ -73,14 +73,14 @@ pub(crate) fn put_summary<O: Sink>(n: u8, stages: &[Stage], out: &mut O) -> Resu
     page.flush(out)
 }
 
-/// The first line of the summary.
+/// Returns the first line of the summary.
 fn made_piece(n: u8) -> Piece
     ensures { result ≡ made_line n }
 {
     Piece::new().text(b"made ").number(u32::from(n)).text(b"\n")
 }
 
-/// Takes the lines of the stages, and the last line of the summary.
+/// Pushes the lines of the stages, and the last line of the summary.
 fn push_stages<O: Sink>(stages: &[Stage], page: &mut Page, out: &mut O) -> Result<(), Failed>
     ensures gathers { Gathers (O.written out.old) (O.written out.new) page.new (page.old ++ lines_of stages.now) result }
     ensures cause { HasCause (O.faults out.old) (O.faults out.new) result }
@@ -91,7 +91,7 @@ fn push_stages<O: Sink>(stages: &[Stage], page: &mut Page, out: &mut O) -> Resul
     page.push(b"end\n", out)
 }
 
-/// The line of a stage.
+/// Returns the line of a stage.
 fn stage_piece(stage: &Stage) -> Piece
     ensures { result ≡ line_of_stage stage.now }
 {

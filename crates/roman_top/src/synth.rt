@@ -1,4 +1,4 @@
-//! `synth SYSTEM`.
+//! The command `synth SYSTEM`.
 ghost use Rattle.std.specs.Prelude.{◌≡◌, Some};
 ghost use Rattle.roman_top.specs.Causes.{SinkCause};
 ghost use Rattle.roman_top.specs.Command.{Synth, On};
@@ -13,7 +13,7 @@ use roman_session::Session;
 use std::alloc::Global;
 use std::sync::ledger::Ledger;
 
-/// Writes the report on the starting states, and answers whether the start pair is related.
+/// Writes the report on the starting states. The status says whether the start pair is related.
 pub(crate) fn synthesise<F: Shelf, O: Sink, L: Ledger>(
     alloc: Global,
     system: &str,
@@ -31,7 +31,7 @@ pub(crate) fn synthesise<F: Shelf, O: Sink, L: Ledger>(
     }
 }
 
-/// Writes the report, and answers whether the current pair is related.
+/// Writes the report of the session. The status says whether the current pair is related.
 fn report<O: Sink>(session: &Session, out: &mut O) -> Status
     ensures writes { Writes (Reports session.now) (O.written out.old) (O.written out.new) result }
     ensures told { IsTold result }
@@ -42,7 +42,7 @@ fn report<O: Sink>(session: &Session, out: &mut O) -> Status
     finish(session.report(out), status)
 }
 
-/// The status that says whether a pair is related.
+/// Returns `Done` for a related pair, and `No` for any other.
 fn status_of(related: bool) -> Status
     ensures { result ≡ status_of related }
 {

@@ -1,4 +1,4 @@
-//! `run SYSTEM` and `run SYSTEM SESSION`.
+//! The commands `run SYSTEM` and `run SYSTEM SESSION`.
 ghost use Rattle.std.specs.Prelude.{◌≡◌, ◌⊎◌, None, Some};
 ghost use Rattle.roman_io.specs.Shelf.{rest_from};
 ghost use Rattle.roman_hearing.specs.Hearing.{hall, spot, CausedBy};
@@ -16,7 +16,7 @@ use roman_session::Session;
 use std::alloc::Global;
 use std::sync::ledger::Ledger;
 
-/// Answers the session that comes from the input.
+/// Begins a session of the system, and answers the lines of the input.
 pub(crate) fn talk_input<F: Shelf, I: Source, O: Sink, L: Ledger>(
     alloc: Global,
     system: &str,
@@ -39,7 +39,7 @@ pub(crate) fn talk_input<F: Shelf, I: Source, O: Sink, L: Ledger>(
     status_after(hear(&mut session, input, out, steps), Status::ReadFault)
 }
 
-/// Answers the session on the shelf.
+/// Begins a session of the system, and answers the lines of a text on the shelf.
 pub(crate) fn talk_shelf<F: Shelf, O: Sink, L: Ledger>(
     alloc: Global,
     system: &str,
@@ -62,8 +62,7 @@ pub(crate) fn talk_shelf<F: Shelf, O: Sink, L: Ledger>(
     )
 }
 
-/// How the run ends after a session was heard, where that status stands for a fault of what it comes
-/// from.
+/// Returns the status of a run whose session ended so. `fault` is the status of a failed read.
 fn status_after(heard: Result<(), HearError>, fault: Status) -> Status
     ensures { result ≡ heard_status fault heard }
 {
@@ -75,7 +74,7 @@ fn status_after(heard: Result<(), HearError>, fault: Status) -> Status
     }
 }
 
-/// Hears the text of that name as a session.
+/// Answers the lines of the text that stands on the shelf under `name`.
 fn hear_text<F: Shelf, O: Sink, L: Ledger>(
     session: &mut Session,
     name: &str,

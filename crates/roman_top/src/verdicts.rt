@@ -1,4 +1,4 @@
-//! The lines that tell the verdict on a certificate.
+//! The lines that report the verdict on a certificate.
 ghost use Rattle.std.specs.Prelude.{◌≡◌, ◌≤◌, length};
 ghost use Rattle.roman_io.specs.Faults.{HasCause};
 ghost use Rattle.roman_io.specs.Sink.{Puts};
@@ -11,7 +11,7 @@ use roman_check::Why;
 use roman_io::{Failed, Sink};
 use roman_text::Piece;
 
-/// Puts `greatest R`, and whether the start pair is related.
+/// Writes the line `greatest R`, and the line that says whether the start pair is related.
 pub(crate) fn put_greatest<O: Sink>(related: u32, start: bool, out: &mut O) -> Result<(), Failed>
     ensures puts { Puts (O.written out.old) (O.written out.new) (greatest_text related start) result }
     ensures cause { HasCause (O.faults out.old) (O.faults out.new) result }
@@ -21,7 +21,7 @@ pub(crate) fn put_greatest<O: Sink>(related: u32, start: bool, out: &mut O) -> R
     out.put(text.bytes())
 }
 
-/// The line that says whether a pair is related.
+/// Returns the line that says whether a pair is related.
 pub(crate) fn answer_line(related: bool) -> &'static [u8]
     ensures line { result.now ≡ line_text (Answer related) }
     ensures short { length result.now ≤ 32 }
@@ -33,7 +33,7 @@ pub(crate) fn answer_line(related: bool) -> &'static [u8]
     }
 }
 
-/// Puts `rejected LINE WHY`.
+/// Writes the line `rejected LINE WHY`.
 pub(crate) fn put_rejected<O: Sink>(line: u32, why: Why, out: &mut O) -> Result<(), Failed>
     ensures puts { Puts (O.written out.old) (O.written out.new) (rejected_text line (fault_of why)) result }
     ensures cause { HasCause (O.faults out.old) (O.faults out.new) result }
@@ -43,7 +43,7 @@ pub(crate) fn put_rejected<O: Sink>(line: u32, why: Why, out: &mut O) -> Result<
     out.put(line.bytes())
 }
 
-/// The word of a fault; for a pair that is missing the pair follows.
+/// Returns the word of a fault. For a pair that is missing the pair's number follows.
 fn why_piece(why: Why) -> Piece
     ensures text { result ≡ why_text (fault_of why) }
     ensures short { length result ≤ 32 }

@@ -1,9 +1,9 @@
-//! How large a made system is.
+//! The number of workers of a made system.
 ghost use Rattle.std.specs.Prelude.{◌≡◌, ◌≤◌};
 ghost use Rattle.std.specs.Option.{option_map};
 ghost use Rattle.roman_top.specs.Workers.{workers_of};
 
-/// How many workers a made system has, from 1 to 10.
+/// A number of workers, from 1 to 10.
 #[derive(Clone, Copy)]
 pub(crate) struct Workers {
     /// The number.
@@ -12,7 +12,7 @@ pub(crate) struct Workers {
     ghost few: { count ≤ 10 },
 }
 
-/// The number of workers that a word is: `1` to `9`, or `10`.
+/// Parses a number of workers, `1` to `9` or `10`. Returns `None` for every other word.
 pub(crate) fn workers_of(word: &str) -> Option<Workers>
     ensures { option_map (λ workers. workers.count) result ≡ workers_of word.now }
 {

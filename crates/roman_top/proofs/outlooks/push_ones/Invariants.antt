@@ -7,7 +7,7 @@ use Rattle.roman_text.proofs.CallerLemmas.{IsFilling}
 use Rattle.roman_top.specs.Outlooks.{lines_without, ones}
 use Rattle.roman_top.proofs.outlooks.push_ones.Given as goal
 
--- the lines of the services so far are taken
+-- the lines of the services so far were pushed
 abbrev pub invariant-loop-k : goal.invariant-loop-k
 invariant-loop-k g l = record {
   filling : IsFilling (g.O.Sink.written l.fn.out) (g.O.Sink.written l.out) l.page

@@ -7,7 +7,7 @@ use Rattle.roman_text.proofs.CallerLemmas.{IsFilling}
 use Rattle.roman_top.specs.Outlooks.{lines_without}
 use Rattle.roman_top.proofs.outlooks.push_twos_with.Given as goal
 
--- the lines of the later services so far are taken
+-- the lines of the later services so far were pushed
 abbrev pub invariant-loop-j : goal.invariant-loop-j
 invariant-loop-j g l = record {
   filling : IsFilling (g.O.Sink.written l.fn.out) (g.O.Sink.written l.out) l.page

@@ -3,6 +3,6 @@ use Rattle.roman_make.specs.Script.{script_lines}
 use Rattle.roman_top.specs.Stages.{HasComeTo}
 use Rattle.roman_top.proofs.summary.play.Given as goal
 
--- the lines so far are answered
+-- the lines so far were answered
 abbrev pub invariant-loop-i : goal.invariant-loop-i
 invariant-loop-i g l = HasComeTo l.fn.session (take (l.i - l.from) (drop l.from script_lines)) l.session

@@ -3,7 +3,7 @@ use Rattle.roman_text.proofs.CallerLemmas.{IsFilling}
 use Rattle.roman_top.specs.Stages.{lines_of}
 use Rattle.roman_top.proofs.summary.push_stages.Given as goal
 
--- the lines of the stages so far are taken
+-- the lines of the stages so far were pushed
 abbrev pub invariant-loop-stage : goal.invariant-loop-stage
 invariant-loop-stage g l = record {
   filling : IsFilling (g.O.Sink.written l.fn.out) (g.O.Sink.written l.out) l.page (lines_of (drop l.stage-index l.stages)) (l.fn.page ++ lines_of l.stages);
