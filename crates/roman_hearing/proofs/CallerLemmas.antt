@@ -7,7 +7,7 @@ pub use Rattle.roman_hearing.proofs.KeepLemmas.{line_keeps}
 -- Each step is a turn, and reports are right by the greatest ND-simulation.
 pub use Rattle.roman_hearing.proofs.TurnLemmas.{steps_turns}
 pub use Rattle.roman_hearing.proofs.WordLemmas.{open_great, reports_great}
--- Which lines are answered.
+-- The lines that are answered.
 pub use Rattle.roman_hearing.proofs.HearingLines.{answered_heard}
--- How a session that is heard from a source ends.
+-- How a session that is read from a source ends.
 pub use Rattle.roman_hearing.proofs.HearingEnds.{short_out}

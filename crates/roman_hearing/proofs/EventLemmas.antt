@@ -1,4 +1,4 @@
--- Each line is what its shape says.
+-- Each line is read as its shape says.
 use Rattle.std.proofs.Common.{◌≡◌, ℕ, ◌≤◌, Bool, true, false, List, [], ◌∷◌, length, cond, codes, Result, Ok, Err, IsTrue, IsFalse, inl, inr, nat_lt, refl, sym, ◌∙◌, subst, ltb-true, ltb-false}
 use Rattle.std.specs.Str.{bytes_eq}
 use Rattle.std.specs.Str.Lines.{strip_carriage_return}
@@ -9,7 +9,7 @@ use Rattle.roman_text.specs.declared.errors.LineError.{LineError}
 use Rattle.roman_text.specs.declared.errors.LineError.TheVariants.{Form, TooLong}
 use Rattle.roman_hearing.specs.Events.{Reads, LinesAreRead}
 
--- words that aren't a comment aren't read as no event
+-- words that aren't a comment are read as some event or an error
 
 abbrev gives_nothing : Result LineShape LineError → Bool
 gives_nothing (Ok nothing) = true

@@ -1,4 +1,4 @@
--- How a session that is heard from a source ends.
+-- How a session that is read from a source ends.
 use Rattle.std.proofs.Common.{◌≡◌, ℕ, ◌+◌, ◌-◌, ◌<◌, ◌≤◌, false, List, [], ◌∷◌, ◌++◌, length, take, drop, nat_le, ltb, Option, Result, Ok, Err, OnOk, IsErrOf, IsTrue, inl, inr, refl, sym, ap, ◌∙◌, subst, arith, append_assoc, append-nil, length-append, length-take, take-append-drop, take_at, le-leb}
 use Rattle.std.proofs.Math.Seq.{take-append-add}
 use Rattle.std.proofs.lemmas.Bool.{cond-true, cond-false, or_from, or_left, or_right, lt-leb}
@@ -20,26 +20,26 @@ use Rattle.roman_hearing.proofs.HearingLines.{ended_more, lines_more, quit_left,
 use Rattle.roman_hearing.proofs.HearingSteps.{told_more}
 use Rattle.roman_hearing.proofs.HearingLemmas.{whole_told}
 
--- ---- as much as is ever heard
+-- ---- the limit of a session
 
--- of bytes whose first ones are few enough
+-- the first bytes of a session that begins with bytes within the limit
 prefix-append : (limit : ℕ) (heard rest : List ℕ) → length heard ≤ limit → take limit (heard ++ rest) ≡ heard ++ take (limit - length heard) rest
 prefix-append limit heard rest few =
     let whole : limit ≡ length heard + (limit - length heard) = omega arith in
     ap (λ (n : ℕ). take n (heard ++ rest)) whole ∙ take-append-add heard rest (limit - length heard)
 
--- a session that isn't longer is heard out
+-- a session within the limit isn't too long
 pub short_out : (session : List ℕ) → length session ≤ MAX_SESSION_BYTES → IsTrue (is_heard_out session)
 short_out session few = or_left (nat_le (length session) MAX_SESSION_BYTES) (has_quit (ended_lines (prefix_of session))) (le-leb (length session) MAX_SESSION_BYTES few)
 
--- so is one where a line `quit` ends in time
+-- a session with a line `quit` that ends within the limit isn't too long
 quit_out : (heard rest : List ℕ) → length heard ≤ MAX_SESSION_BYTES → IsTrue (has_quit (ended_lines heard)) → IsTrue (is_heard_out (heard ++ rest))
 quit_out heard rest few quit =
     let (more, e) = ended_more heard (take (MAX_SESSION_BYTES - length heard) rest) in
     or_right (nat_le (length (heard ++ rest)) MAX_SESSION_BYTES) (has_quit (ended_lines (prefix_of (heard ++ rest))))
     (ap (λ (bytes : List ℕ). has_quit (ended_lines bytes)) (prefix-append MAX_SESSION_BYTES heard rest few) ∙ ap has_quit e ∙ quit_left (ended_lines heard) more quit)
 
--- the lines that are answered begin with the whole ones of bytes that are few enough
+-- the answered lines begin with the whole lines of first bytes within the limit
 heard_more : (heard rest : List ℕ) → length heard ≤ MAX_SESSION_BYTES → (more : List (List ℕ)) × (heard_lines (heard ++ rest) ≡ ended_lines heard ++ more)
 heard_more heard rest few = by_test (is_heard_out (heard ++ rest))
     (λ out.
@@ -69,7 +69,7 @@ module _ (old new : Situation) (start mid : Option (List ℕ)) (taken : List ℕ
     tells = tells;
   }
 
-  -- the answer to the last isn't written whole
+  -- the reply to the last line wasn't written whole
   prefixes_rest : FallsShort (spot old before) (lines taken) (spot new now) → TellsPrefixOfAll (hall old start before) now
   prefixes_rest fails = record {
     session = taken;
@@ -78,7 +78,7 @@ module _ (old new : Situation) (start mid : Option (List ℕ)) (taken : List ℕ
     tells = subst (λ (ls : List (List ℕ)). TellsPrefix (spot old before) ls (spot new now)) (sym (cond-true (is_heard_out taken) (lines taken) (ended_lines (prefix_of taken)) (short_out taken few))) fails.tells;
   }
 
-  -- so by the answer of that call
+  -- both cases, by the result of the call
   pub rest_out : (r : Result (Unit {0}) HearError) → HearsRest (spot old before) taken (spot new now) r → OnOk r (IsHeardOut (hall old start before) (spot new now))
   rest_out (Ok x) tells = out_at_end tells
   rest_out (Err error) h = tt
@@ -89,7 +89,7 @@ module _ (old new : Situation) (start mid : Option (List ℕ)) (taken : List ℕ
   rest_prefixes (Err WriteFault) h is = prefixes_rest h
   rest_prefixes (Err TooLong) h is = absurd h
 
--- the last answer isn't written whole
+-- the last reply wasn't written whole
 pub rest_stops_short : (old new : Situation) (start mid has : Option (List ℕ)) (taken into : List ℕ) (n : ℕ) (before now : Option (List ℕ)) (r : Result (Unit {0}) HearError) → Gave start mid taken →
     Gave mid has (take n into) → EndsAt mid n → n ≡ 0 → length taken ≤ MAX_SESSION_BYTES → HearsRest (spot old before) taken (spot new now) r → IsErrOf r WriteFault → StopsShort (hall old start before) (hall new has now)
 rest_stops_short old new start mid has taken into n before now (Ok x) first second ends none few h is = absurd (let e : ⊥ = cc in e)
@@ -106,7 +106,7 @@ rest_stops_short old new start mid has taken into n before now (Err WriteFault) 
       tells = fails.tells;
     }
 
--- no other error comes of it
+-- no other error is returned
 pub rest_not_read : (old new : Situation) (taken : List ℕ) (before now : Option (List ℕ)) (r : Result (Unit {0}) HearError) → HearsRest (spot old before) taken (spot new now) r → IsErrOf r ReadFault → ⊥
 rest_not_read old new taken before now (Ok x) h is = cc
 rest_not_read old new taken before now (Err ReadFault) h is = h
@@ -121,7 +121,7 @@ rest_not_long old new taken before now (Err TooLong) h is = h
 
 -- ---- the whole lines of bytes, as a text
 
--- its lines are these, and they are whole
+-- the text of whole lines has these lines, and they are whole
 whole_lines : (bytes : List ℕ) → (ended_lines (text_of_lines (ended_lines bytes)) ≡ ended_lines bytes) × (lines (text_of_lines (ended_lines bytes)) ≡ ended_lines bytes)
 whole_lines bytes =
     let ls : List (List ℕ) = ended_lines bytes in
@@ -135,7 +135,7 @@ whole_lines bytes =
 quit_split : (taken part heard past : List ℕ) → part ≡ heard ++ 10 ∷ past → taken ++ part ≡ (taken ++ heard ++ 10 ∷ []) ++ past
 quit_split taken part heard past e = ap (λ (part : List ℕ). taken ++ part) e ∙ sym (append_assoc taken heard (10 ∷ past)) ∙ sym (append_assoc (taken ++ heard) (10 ∷ []) past)
 
--- what is told of lines with a `quit` among them is told of all
+-- the replies to lines with a `quit` among them are also the replies to these lines followed by others
 told_all : (old new : Situation) (heard rest text : List ℕ) → IsTrue (has_quit (ended_lines heard)) → Told old (ended_lines heard) text new → Told old (lines (heard ++ rest)) text new
 told_all old new heard rest text quit told =
     let (prefix, e) = ended_more heard rest in
@@ -145,7 +145,7 @@ told_all old new heard rest text quit told =
 
 module _ (old new : Situation) (start mid has : Option (List ℕ)) (taken got : List ℕ) (room : ℕ) (before now : Option (List ℕ)) (first : Gave start mid taken) (second : Gave mid has got)
     (fits : room + length taken ≡ MAX_SESSION_BYTES) where
-  -- what was taken, up to where the room ends and past it
+  -- the bytes that were taken, up to the limit and past it
   whole_part : (after : List ℕ) → (taken ++ got) ++ after ≡ (taken ++ take room got) ++ (drop room got ++ after)
   whole_part after =
       ap (λ (piece : List ℕ). (taken ++ piece) ++ after) (sym (take-append-drop room got)) ∙ ap (λ (bytes : List ℕ). bytes ++ after) (sym (append_assoc taken (take room got) (drop room got)))
@@ -154,14 +154,14 @@ module _ (old new : Situation) (start mid has : Option (List ℕ)) (taken got : 
   part_fits : length (taken ++ take room got) ≤ MAX_SESSION_BYTES
   part_fits = omega (arith, length-append taken (take room got), length-take room got)
 
-  -- the bytes that go on after a prefix of that
+  -- the bytes that follow a prefix of these
   part_split : (after heard past : List ℕ) → taken ++ take room got ≡ heard ++ past → (taken ++ got) ++ after ≡ heard ++ (past ++ (drop room got ++ after))
   part_split after heard past split = whole_part after ∙ ap (λ (bytes : List ℕ). bytes ++ (drop room got ++ after)) split ∙ append_assoc heard past (drop room got ++ after)
 
   had_after : (after : List ℕ) × Had start ((taken ++ got) ++ after)
   had_after = had_more start has (taken ++ got) (Gave-then start mid has taken got first second)
 
-  -- a line `quit` ends there
+  -- a line `quit` ends in the piece
   pub out_at_quit : StopsAtQuit (spot old before) taken (take room got) (spot new now) [] → IsHeardOut (hall old start before) (spot new now)
   out_at_quit stops =
       let (after, had) = had_after in
@@ -182,7 +182,7 @@ module _ (old new : Situation) (start mid has : Option (List ℕ)) (taken got : 
         };
       }
 
-  -- not many bytes follow its newline
+  -- less than a piece follows its newline
   pub gave_quit : (most : ℕ) → length got ≤ most + 1 → StopsAtQuit (spot old before) taken (take room got) (spot new now) [] → GaveQuit most start has
   gave_quit most l stops =
       let whole : taken ++ got ≡ (taken ++ stops.heard) ++ 10 ∷ (stops.past ++ drop room got) =
@@ -197,7 +197,7 @@ module _ (old new : Situation) (start mid has : Option (List ℕ)) (taken got : 
         few = omega (arith, ap length whole, length-append taken got, length-append taken stops.heard, length-append (taken ++ stops.heard) (10 ∷ (stops.past ++ drop room got)));
       }
 
-  -- there are more bytes than there is room for
+  -- the piece has more bytes than `room`
   pub cut_off : (held : List ℕ) → IsHearing (spot old before) (taken ++ take room got) (ear new now [] held) → room < length got → IsCutOff (hall old start before) (spot new now)
   cut_off held hearing more =
       let (after, had) = had_after in
@@ -213,7 +213,7 @@ module _ (old new : Situation) (start mid has : Option (List ℕ)) (taken got : 
         tells = subst (λ (bytes : List ℕ). Tells (spot old before) (ended_lines bytes) (spot new now)) (sym prefix) (whole_told (spot old before) (spot new now) (ended_lines (taken ++ take room got)) hearing.tells);
       }
 
-  -- the answer to a line isn't written whole
+  -- the reply to a line wasn't written whole
   stops_short : FailsIn (spot old before) (taken ++ take room got) (spot new now) → StopsShort (hall old start before) (hall new has now)
   stops_short fails =
       let rest : List ℕ = fails.past ++ (drop room got ++ []) in
@@ -251,7 +251,7 @@ module _ (old new : Situation) (start mid has : Option (List ℕ)) (taken got : 
         };
       }
 
-  -- by the error of a piece
+  -- all errors of a piece
   pub piece_cut_off : (held : List ℕ) (error : HearError) → HearsPiece room (spot old before) taken got (ear new now [] held) (Err error) → error ≡ TooLong → IsCutOff (hall old start before) (spot new now)
   piece_cut_off held ReadFault h is = absurd h
   piece_cut_off held WriteFault h is = absurd (let e : ⊥ = cc in e)

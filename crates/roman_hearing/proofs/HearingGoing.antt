@@ -37,7 +37,7 @@ use Rattle.roman_session.proofs.CallerLemmas.{seat_is, checked, asked_is, handed
 use Rattle.roman_hearing.specs.Known.{AreBehaviours}
 use Rattle.roman_hearing.proofs.WithinLemmas.{seat_within, joining_new, joining_beh}
 
--- ---- what a session needs to go on
+-- ---- situations from which a session can go on
 
 -- the target allows the request that is open
 abbrev pub IsAllowed : Situation → Phase → Type 0
@@ -51,7 +51,7 @@ pub record IsGoing (s : Situation) : Type 0 where
   pub list : IsComplete (present_system s) s.list
   pub phase : IsAllowed s s.phase
 
--- something can be answered, and the session can go on after it
+-- the line has an answer, and the session can go on after it
 pub record CanGo (Acts : List ℕ → Situation → Type 0) : Type 0 where
   pub text : List ℕ
   pub new : Situation
@@ -63,7 +63,7 @@ allowed_then s Idle h = tt
 allowed_then s (Offered a) h = h.1
 allowed_then s (Delegated a k) h = h.0.1
 
--- every situation whose behaviours are over its environment can go on
+-- every situation whose behaviours are well formed over its environment can go on
 pub can_go_on : (s : Situation) → IsSituation s → AreBehaviours s.parts → IsGoing s
 can_go_on s is behaviours = record { parts = is.parts; behaviours = behaviours; list = is.list; phase = allowed_then s s.phase is.phase }
 
@@ -106,9 +106,9 @@ aborts_there s x is = record {
   going = record { parts = is.parts; behaviours = is.behaviours; list = is.list; phase = tt };
 }
 
--- ---- what is seen
+-- ---- outcomes that are seen
 
--- an outcome shows it
+-- an outcome shows that the sight is possible
 shows : Situation → Sight → Pair → Bool
 shows s x q = (q.e == x.env) && same_numbers q.bs (slice_set s.here.bs x.seat x.state)
 
@@ -135,7 +135,7 @@ sight_there s x q is i shown =
       going = record { parts = is.parts; behaviours = is.behaviours; list = is.list; phase = tt };
     }
 
--- where none does it can't be
+-- a sight that no outcome shows is impossible
 never_seen : (s : Situation) (x : Sight) → IsGoing s → IsTrue (is_allowed (present_system s) s.here x.action) →
     IsFalse (list_any (shows s x) (outcomes (present_system s) s.here x.action x.seat)) → CanBe s x → ⊥
 unfolding shows
@@ -177,7 +177,7 @@ env_jumps_there s e is idle =
 
 -- ---- changes of the services
 
--- the replay goes on to a complete list of the new system
+-- the replay extends to a complete list of the new system
 changes_there : (s : Situation) (x : Changing) → IsGoing s → s.phase ≡ Idle → CanChange x.change (present_system s) → joint.system_of (parts_after s x) ≡ after x.change (present_system s) →
     IsNamedSys (parts_after s x) → CanGo (Changes s x)
 changes_there s x is idle can same known =

@@ -1,4 +1,4 @@
--- Bytes that are heard one after the other.
+-- Bytes that are read one after another.
 use Rattle.std.proofs.Common.{◌≡◌, ℕ, ◌+◌, ◌<◌, ◌≤◌, true, false, List, [], ◌∷◌, ◌++◌, length, take, drop, get_or, min, nat_lt, Option, Result, Ok, Err, IsTrue, IsFalse, refl, sym, ap, ◌∙◌, subst, arith, append_assoc, append-nil, eqb-true}
 use Rattle.std.proofs.lemmas.Bool.{cond-true, cond-false}
 use Rattle.std.proofs.lemmas.List.{take_all, take_min, take_more, take-append-drop}
@@ -27,7 +27,7 @@ step_alike : (old new : Situation) (line held text : List ℕ) → shape_of held
 unfolding Step
 step_alike old new line held text same step = rw (sym same) step
 
--- so it is answered by as much of it as tells its shape
+-- a truncated line gets the same answer
 pub answered_on_alike : {T E : Type 0} (old new : Situation) (line held : List ℕ) (before now : Option (List ℕ)) (page holds : List ℕ) (result : Result T E) → shape_of held ≡ shape_of line →
     AnsweredOn old held new before now page holds result → AnsweredOn old line new before now page holds result
 answered_on_alike old new line held before now page holds result same answered = record {
@@ -36,7 +36,7 @@ answered_on_alike old new line held before now page holds result same answered =
   gathers = answered.gathers;
 }
 
--- whether the session goes on
+-- the session goes on after a line that isn't `quit`
 next_more : (line : List ℕ) → More ≡ next_of line → IsFalse (ends_session line)
 next_more line e = by_test (ends_session line)
     (λ quit. let other : More ≡ Quit = e ∙ cond-true (ends_session line) Quit More quit in let h : ⊥ = cc in absurd h)
@@ -47,9 +47,9 @@ next_quit line e = by_test (ends_session line)
     (λ quit. quit)
     (λ other. let more : Quit ≡ More = e ∙ cond-false (ends_session line) Quit More other in let h : ⊥ = cc in absurd h)
 
--- ---- what is told of one line more
+-- ---- the reply to one more line
 
--- its answer is taken on the page
+-- the reply is pushed on the page
 takes_more : (old mid new : Situation) (ls : List (List ℕ)) (line more : List ℕ) (before wrote now : Option (List ℕ)) (page holds : List ℕ) → IsFalse (has_quit ls) →
     TellsOnPage (spot old before) ls (spot mid wrote) page → Step mid line more new → Gathered wrote now holds (page ++ more) → TellsOnPage (spot old before) (ls ++ line ∷ []) (spot new now) holds
 takes_more old mid new ls line more before wrote now page holds quitless takes step gathered = record {
@@ -58,7 +58,7 @@ takes_more old mid new ls line more before wrote now page holds quitless takes s
   gathered = Gathered-then before wrote now page holds takes.text more takes.gathered gathered;
 }
 
--- or isn't taken whole
+-- the reply isn't pushed whole
 takes_failed : (old mid new : Situation) (ls : List (List ℕ)) (line more : List ℕ) (before wrote now : Option (List ℕ)) (page : List ℕ) → IsFalse (has_quit ls) →
     TellsOnPage (spot old before) ls (spot mid wrote) page → Step mid line more new → WrotePrefix wrote now (page ++ more) → IsSituation new → FallsShort (spot old before) (ls ++ line ∷ []) (spot new now)
 takes_failed old mid new ls line more before wrote now page quitless takes step prefix known = record {
@@ -70,7 +70,7 @@ takes_failed old mid new ls line more before wrote now page quitless takes step 
   known = known;
 }
 
--- where a page holds nothing, all was written
+-- all was written where a page holds nothing
 pub whole_told : (old new : Spot) (ls : List (List ℕ)) → TellsOnPage old ls new [] → Tells old ls new
 whole_told old new ls takes = record {
   text = takes.text;
@@ -78,7 +78,7 @@ whole_told old new ls takes = record {
   wrote = subst (Wrote old.written new.written) (sym (takes.gathered.rest ∙ append-nil takes.gathered.prefix)) takes.gathered.wrote;
 }
 
--- what a page holds is put
+-- the page is flushed
 put_whole : (old : Spot) (mid : Situation) (wrote now : Option (List ℕ)) (ls : List (List ℕ)) (page : List ℕ) → TellsOnPage old ls (spot mid wrote) page → Wrote wrote now page → TellsOnPage old ls (spot mid now) []
 put_whole old mid wrote now ls page takes put = record {
   text = takes.text;
@@ -133,7 +133,7 @@ module _ (old : Situation) (before : Option (List ℕ)) (taken : List ℕ) (mid 
         tells = rw whole (takes_more old mid new (ended_lines taken) (unfinished taken) answered.text before wrote now page holds is.quitless is.tells answered.step answered.gathers);
       }
 
-  -- a newline, where the answer to its line isn't written whole
+  -- a newline, where the reply to its line isn't written whole
   pub hears_failed : (new : Situation) (now : Option (List ℕ)) (holds : List ℕ) (failed : Failed) → is_newline byte ≡ true → AnsweredOn {T = Next} mid (unfinished taken) new wrote now page holds (Err failed) → IsSituation new →
       FailsIn (spot old before) (taken ++ byte ∷ []) (spot new now)
   hears_failed new now holds failed newline answered known = record {
@@ -175,7 +175,7 @@ at_place bytes i l =
     ∙ append_assoc (take i bytes) (get_or bytes i 0 ∷ []) (drop (i + 1) bytes)
 
 module _ (old : Situation) (before : Option (List ℕ)) (taken bytes : List ℕ) (i : ℕ) (new : Situation) (now : Option (List ℕ)) (l : i < length bytes) where
-  -- the byte at place i was heard after those before it
+  -- the byte at place i was read after the bytes before it
   pub hears_at : (page held : List ℕ) → IsHearing (spot old before) (taken ++ take i bytes ++ get_or bytes i 0 ∷ []) (ear new now page held) → IsHearing (spot old before) (taken ++ take (i + 1) bytes) (ear new now page held)
   hears_at page held hearing =
       subst (λ (xs : List ℕ). IsHearing (spot old before) xs (ear new now page held))
@@ -185,7 +185,7 @@ module _ (old : Situation) (before : Option (List ℕ)) (taken bytes : List ℕ)
   pub stops_at : (page : List ℕ) → StopsAtQuit (spot old before) (taken ++ take i bytes) (get_or bytes i 0 ∷ []) (spot new now) page → StopsAtQuit (spot old before) taken bytes (spot new now) page
   stops_at page stops = stops_within old before taken (take i bytes) (get_or bytes i 0 ∷ []) (drop (i + 1) bytes) bytes new now page (at_place bytes i l) stops
 
-  -- it ends a line whose answer isn't written whole
+  -- the byte at place i ends a line whose reply isn't written whole
   pub fails_at : FailsIn (spot old before) (taken ++ take i bytes ++ get_or bytes i 0 ∷ []) (spot new now) → FailsIn (spot old before) (taken ++ bytes) (spot new now)
   fails_at fails = fails_within old before (taken ++ take i bytes ++ get_or bytes i 0 ∷ []) (drop (i + 1) bytes) (taken ++ bytes) new now
       (ap (λ (xs : List ℕ). taken ++ xs) (at_place bytes i l) ∙ sym (append_assoc taken (take i bytes) (get_or bytes i 0 ∷ [] ++ drop (i + 1) bytes))
@@ -194,7 +194,7 @@ module _ (old : Situation) (before : Option (List ℕ)) (taken bytes : List ℕ)
 
 -- ---- the last line
 
--- no bytes of it are left
+-- no bytes of the last line are held
 pub hears_no_rest : (old : Situation) (before : Option (List ℕ)) (taken : List ℕ) (mid : Situation) (wrote : Option (List ℕ)) (held : List ℕ) → IsHearing (spot old before) taken (ear mid wrote [] held) →
     nat_lt 0 (length held) ≡ false → Tells (spot old before) (lines taken) (spot mid wrote)
 hears_no_rest old before taken mid wrote held is none =
@@ -202,7 +202,7 @@ hears_no_rest old before taken mid wrote held is none =
 
 module _ (old : Situation) (before : Option (List ℕ)) (taken : List ℕ) (mid : Situation) (wrote : Option (List ℕ)) (page held : List ℕ) (is : IsHearing (spot old before) taken (ear mid wrote page held))
     (some : nat_lt 0 (length held) ≡ true) (new : Situation) (now : Option (List ℕ)) (holds : List ℕ) where
-  -- they are its line
+  -- the held bytes are the last line
   rest_line : ended_lines taken ++ unfinished taken ∷ [] ≡ lines taken
   rest_line = sym (lines_rest taken (subst (λ (held : List ℕ). nat_lt 0 (length held) ≡ true) is.rest some))
 
@@ -225,10 +225,10 @@ module _ (old : Situation) (before : Option (List ℕ)) (taken : List ℕ) (mid 
       subst (λ (ls : List (List ℕ)). FallsShort (spot old before) ls (spot new now)) rest_line
       (takes_failed old mid new (ended_lines taken) (unfinished taken) answered.text before wrote now page is.quitless is.tells answered.step answered.gathers.0 known)
 
--- ---- what a page holds at the end of a piece
+-- ---- the page at the end of a piece
 
 module _ (old : Situation) (before : Option (List ℕ)) (taken bytes : List ℕ) (new : Situation) (wrote now : Option (List ℕ)) (page held : List ℕ) where
-  -- it is put
+  -- the page was flushed
   pub put_hearing : IsHearing (spot old before) (taken ++ bytes) (ear new wrote page held) → Wrote wrote now page → IsHearing (spot old before) (taken ++ bytes) (ear new now [] held)
   put_hearing is put = record { quitless = is.quitless; tells = put_whole (spot old before) new wrote now (ended_lines (taken ++ bytes)) page is.tells put; rest = is.rest }
 
@@ -242,7 +242,7 @@ module _ (old : Situation) (before : Option (List ℕ)) (taken bytes : List ℕ)
     tells = put_whole (spot old before) new wrote now (ended_lines (taken ++ stops.heard ++ 10 ∷ [])) page stops.tells put;
   }
 
-  -- or that failed
+  -- the flush failed
   pub put_failed : (next : Next) → HearsBytes (spot old before) taken bytes (ear new wrote page held) (Ok next) → WrotePrefix wrote now page → IsSituation new → FailsIn (spot old before) (taken ++ bytes) (spot new now)
   put_failed More is prefix known = record {
     heard = taken ++ bytes;
@@ -257,12 +257,12 @@ module _ (old : Situation) (before : Option (List ℕ)) (taken bytes : List ℕ)
     fails = record { tells = put_prefix (spot old before) new wrote now (ended_lines (taken ++ stops.heard ++ 10 ∷ [])) page stops.tells prefix; known = known };
   }
 
--- ---- a piece, as far as there is room
+-- ---- the first `room` bytes of a piece
 
--- as much as is due is as much as there is room for
+-- the bytes that are due are the first `room` bytes
 pub due_part : (room due : ℕ) (piece : List ℕ) → due ≡ min (length piece) room → take due piece ≡ take room piece
 due_part room due piece e = ap (λ (n : ℕ). take n piece) (let same : due ≡ min room (length piece) = omega arith in same) ∙ take_min room piece
 
--- all of it is due
+-- all bytes of the piece are due
 pub due_whole : (room due : ℕ) (piece : List ℕ) → due ≡ min (length piece) room → length piece ≤ due → (take due piece ≡ piece) × (length piece ≤ room)
 due_whole room due piece e all = (take_all due piece all, omega arith)

@@ -1,4 +1,4 @@
--- What is told of lines that follow one another, up to the first that ends the session.
+-- The replies to consecutive lines, up to the first line that ends the session.
 use Rattle.std.proofs.Common.{◌≡◌, ℕ, false, List, [], ◌∷◌, ◌++◌, length, take, drop, nat_lt, nat_le, IsTrue, IsFalse, refl, sym, ap, ◌∙◌, subst, append_assoc, append-nil, take-append-drop, if◌then◌else◌}
 use Rattle.std.proofs.lemmas.Bool.{cond-true, cond-false, or_parts, or_from, or_left, or_right}
 use Rattle.std.proofs.lemmas.List.Folds.{list_any-append}
@@ -13,19 +13,19 @@ use Rattle.roman_hearing.specs.Told.{until_quit, Answers, Told}
 use Rattle.roman_model.specs.declared.limits.TheConstants.{MAX_SESSION_BYTES}
 use Rattle.roman_hearing.specs.Hearing.{ends_session, has_quit, is_heard_out, heard_lines}
 
--- ---- lines of bytes that go on
+-- ---- lines of bytes with more bytes after them
 
--- bytes that go on keep their whole lines
+-- more bytes after some bytes keep the whole lines of these
 pub ended_more : (xs ys : List ℕ) → (more : List (List ℕ)) × (ended_lines (xs ++ ys) ≡ ended_lines xs ++ more)
 ended_more xs ys = (ended_lines (unfinished xs ++ ys), ended_lines-append xs ys)
 
--- all lines of bytes begin with the whole ones
+-- the lines of some bytes begin with the whole ones
 pub lines_more : (bytes : List ℕ) → (more : List (List ℕ)) × (lines bytes ≡ ended_lines bytes ++ more)
 lines_more bytes = by_test (nat_lt 0 (length (kept (unfinished bytes))))
     (λ some. (unfinished bytes ∷ [], lines_rest bytes some))
     (λ none. ([], lines_none bytes none ∙ sym (append-nil (ended_lines bytes))))
 
--- ---- where lines end the session
+-- ---- lines that end the session
 
 pub quit_left : (ls ms : List (List ℕ)) → IsTrue (has_quit ls) → IsTrue (has_quit (ls ++ ms))
 quit_left ls ms h = list_any-append ends_session ls ms ∙ or_left (has_quit ls) (has_quit ms) h
@@ -39,14 +39,14 @@ quit_last ls line h = list_any-append ends_session ls (line ∷ []) ∙ or_right
 pub quitless_last : (ls : List (List ℕ)) (line : List ℕ) → IsFalse (has_quit ls) → IsFalse (ends_session line) → IsFalse (has_quit (ls ++ line ∷ []))
 quitless_last ls line h i = quitless_both ls (line ∷ []) h (or_from (ends_session line) false i refl)
 
--- lines go on after lines none of which ends the session
+-- more lines are answered after lines none of which ends the session
 goes_on : (ls ms : List (List ℕ)) → IsFalse (has_quit ls) → until_quit (ls ++ ms) ≡ ls ++ until_quit ms
 goes_on [] ms h = refl
 goes_on (line ∷ ls) ms h =
     let (first, others) = or_parts (ends_session line) (has_quit ls) h in
     cond-false (is_quit (shape_of line)) (line ∷ []) (line ∷ until_quit (ls ++ ms)) first ∙ ap (λ (rest : List (List ℕ)). line ∷ rest) (goes_on ls ms others)
 
--- and don't after others
+-- no more lines are answered after lines one of which ends the session
 stops : (ls ms : List (List ℕ)) → IsTrue (has_quit ls) → until_quit (ls ++ ms) ≡ until_quit ls
 stops [] ms h = absurd (let e : ⊥ = cc in e)
 stops (line ∷ ls) ms h = by_test (is_quit (shape_of line))
@@ -55,7 +55,7 @@ stops (line ∷ ls) ms h = by_test (is_quit (shape_of line))
     ∙ ap (λ (rest : List (List ℕ)). line ∷ rest) (stops ls ms (rw other at h))
     ∙ sym (cond-false (is_quit (shape_of line)) (line ∷ []) (line ∷ until_quit ls) other))
 
--- the lines that are heard are answered up to the first `quit`, wherever that is
+-- the lines that are read are answered up to the first `quit`
 pub answered_heard : (session : List ℕ) →
     until_quit (heard_lines session) ≡ until_quit (if nat_le (length session) MAX_SESSION_BYTES then lines session else ended_lines (take MAX_SESSION_BYTES session))
 answered_heard session =
@@ -74,7 +74,7 @@ answered_heard session =
     ∙ stops first (more ++ others) quit ∙ ap until_quit (sym (cond-false few all first long)))
     (λ quitless. ap until_quit (cond-false (is_heard_out session) all first (or_from few (has_quit first) long quitless) ∙ sym (cond-false few all first long))))
 
--- a last line is answered, whatever it is
+-- any last line is answered
 until_last : (line : List ℕ) → until_quit (line ∷ []) ≡ line ∷ []
 until_last line = by_test (is_quit (shape_of line))
     (λ quit. cond-true (is_quit (shape_of line)) (line ∷ []) (line ∷ []) quit)
@@ -83,28 +83,28 @@ until_last line = by_test (is_quit (shape_of line))
 all_lines : (ls : List (List ℕ)) → IsFalse (has_quit ls) → until_quit ls ≡ ls
 all_lines ls h = ap until_quit (sym (append-nil ls)) ∙ goes_on ls [] h ∙ append-nil ls
 
--- ---- what is told
+-- ---- replies
 
--- some lines, and then others
+-- the replies to some lines and then to others
 answers_then : (old mid new : Situation) (ls ms : List (List ℕ)) (text more : List ℕ) → Answers old ls text mid → Answers mid ms more new → Answers old (ls ++ ms) (text ++ more) new
 answers_then old mid new [] ms text more (none, same) rest =
     subst (λ (s : Situation). Answers s ms (text ++ more) new) same (subst (λ (prefix : List ℕ). Answers mid ms (prefix ++ more) new) (sym none) rest)
 answers_then old mid new (line ∷ ls) ms text more (said, later, next, split, step, answers) rest =
     (said, later ++ more, next, ap (λ (prefix : List ℕ). prefix ++ more) split ∙ append_assoc said later more, step, answers_then next mid new ls ms later more answers rest)
 
--- more lines
+-- the replies to more lines
 pub told_then : (old mid new : Situation) (ls ms : List (List ℕ)) (text more : List ℕ) → IsFalse (has_quit ls) → Told old ls text mid → Told mid ms more new → Told old (ls ++ ms) (text ++ more) new
 told_then old mid new ls ms text more quitless told rest =
     subst (λ (all : List (List ℕ)). Answers old all (text ++ more) new) (sym (goes_on ls ms quitless))
     (answers_then old mid new ls (until_quit ms) text more (subst (λ (prefix : List (List ℕ)). Answers old prefix text mid) (all_lines ls quitless) told) rest)
 
--- one line more
+-- the reply to one more line
 pub told_push : (old mid new : Situation) (ls : List (List ℕ)) (line text more : List ℕ) → IsFalse (has_quit ls) → Told old ls text mid → Step mid line more new →
     Told old (ls ++ line ∷ []) (text ++ more) new
 told_push old mid new ls line text more quitless told step =
     told_then old mid new ls (line ∷ []) text more quitless told
     (subst (λ (last : List (List ℕ)). Answers mid last more new) (sym (until_last line)) (more, [], new, sym (append-nil more), step, (refl, refl)))
 
--- nothing is told after a line that ends the session
+-- no reply follows a line that ends the session
 pub told_stops : (old new : Situation) (ls ms : List (List ℕ)) (text : List ℕ) → IsTrue (has_quit ls) → Told old ls text new → Told old (ls ++ ms) text new
 told_stops old new ls ms text quit told = subst (λ (rest : List (List ℕ)). Answers old rest text new) (sym (stops ls ms quit)) told

@@ -1,4 +1,4 @@
--- What is told of some lines can always go on.
+-- The replies to some lines can always be continued.
 use Rattle.std.proofs.Common.{ℕ, List, [], ◌∷◌, ◌++◌, refl, sym, subst, append-nil}
 use Rattle.roman_model.proofs.CallerLemmas.{by_test}
 use Rattle.roman_session.specs.Situations.{Situation, IsSituation}
@@ -9,7 +9,7 @@ use Rattle.roman_hearing.proofs.HearingGoing.{IsGoing, can_go_on, step_there}
 use Rattle.roman_hearing.proofs.HearingLines.{told_stops, told_then}
 use Rattle.roman_hearing.proofs.KeepLemmas.{answers_keep, behaviours_stay}
 
--- lines have their answers
+-- each list of lines has its replies
 answers_there : (s : Situation) (ls : List (List ℕ)) → IsGoing s → (text : List ℕ) × (new : Situation) × Answers s ls text new
 answers_there s [] is = ([], s, (refl, refl))
 answers_there s (line ∷ ls) is =
@@ -17,7 +17,7 @@ answers_there s (line ∷ ls) is =
     let (more, new, answers) = answers_there first.new ls first.going in
     (first.text ++ more, new, (first.text, more, first.new, refl, first.acts, answers))
 
--- what is told of some lines can be followed by what is told of more
+-- the replies to some lines can be followed by the replies to more
 pub told_more : (old mid : Situation) (ls ms : List (List ℕ)) (text : List ℕ) → AreBehaviours old.parts → IsSituation mid → Told old ls text mid →
     (more : List ℕ) × (last : Situation) × Told old (ls ++ ms) (text ++ more) last
 told_more old mid ls ms text behaviours known told = by_test (has_quit ls)

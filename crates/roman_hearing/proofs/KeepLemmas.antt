@@ -1,4 +1,4 @@
--- What no step of a session changes: all parts but the services.
+-- Steps of a session change no parts but the services.
 use Rattle.std.proofs.Common.{◌≡◌, ℕ, List, [], ◌∷◌, Result, Ok, Err, inl, inr, refl, sym, ap, ◌∙◌, subst}
 use Rattle.roman_text.specs.Shapes.{LineShape, nothing, ask, hand, saw, abort, freeze, thaw, die, join, jump, jump_env, report, explain, quit, shape_of}
 use Rattle.roman_text.specs.declared.errors.LineError.{LineError}
@@ -10,11 +10,11 @@ use Rattle.roman_session.specs.Steps.{Asks, Hands, Sees, Aborts, Jumps, EnvJumps
 use Rattle.roman_hearing.specs.Told.{Answers}
 use Rattle.roman_hearing.specs.Known.{AreBehaviours}
 
--- all parts but the services stay
+-- all parts but the services stay the same
 abbrev pub Keeps : Situation → Situation → Type 0
 Keeps old new = new.parts ≡ record old.parts { seats = new.parts.seats }
 
--- they are those of the situation that the new one is
+-- a situation that equals one with the same parts has these parts too
 keeps_by : (old new other : Situation) → new ≡ other → Keeps old other → Keeps old new
 keeps_by old new other same keeps = subst (Keeps old) (sym same) keeps
 
@@ -45,17 +45,17 @@ by_shape_keeps : (old new : Situation) (shape : Result LineShape LineError) (tex
 by_shape_keeps old new (Err why) text step = keeps_by old new old step.1 refl
 by_shape_keeps old new (Ok shape) text step = step_keeps old new shape text step
 
--- no line changes them
+-- no line changes these parts
 pub line_keeps : (old new : Situation) (line text : List ℕ) → Step old line text new → Keeps old new
 unfolding Step
 line_keeps old new line text step = by_shape_keeps old new (shape_of line) text step
 
--- nor do lines that are answered one after another
+-- no list of lines changes these parts
 pub answers_keep : (old new : Situation) (ls : List (List ℕ)) (text : List ℕ) → Answers old ls text new → Keeps old new
 answers_keep old new [] text (none, same) = keeps_by old new old same refl
 answers_keep old new (line ∷ ls) text (said, more, mid, split, step, answers) =
     answers_keep mid new ls more answers ∙ ap (λ (n : NamedSys). record n { seats = new.parts.seats }) (line_keeps old mid line said step)
 
--- so the behaviours stay over the environment
+-- the behaviours stay well formed over the environment
 pub behaviours_stay : (old new : Situation) → Keeps old new → AreBehaviours old.parts → AreBehaviours new.parts
 behaviours_stay old new keeps behaviours = subst AreBehaviours (sym keeps) behaviours

@@ -10,7 +10,7 @@ use Rattle.roman_model.specs.Offers.{is_related}
 use Rattle.roman_model.proofs.CallerLemmas.{by_test, empty_is, any_true, in_mask}
 use Rattle.roman_hearing.specs.Laws.{NotOfferedFails}
 
--- a seat that is beaten has no outcome, or one that isn't related
+-- a seat that is beaten has no outcome, or an outcome whose pair isn't related
 beaten_fails : (s : Sys) (p : Pair) (a k : ℕ) → IsTrue (is_beaten (arena s) (λ q. not (is_related s q)) p a k) →
     (outcomes s p a k ≡ []) ⊎ ((q : Pair) × IsIn q (outcomes s p a k) × IsFalse (is_related s q))
 beaten_fails s p a k beaten =

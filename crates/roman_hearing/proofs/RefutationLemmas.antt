@@ -1,4 +1,4 @@
--- What is told of a pair that isn't related is a removal list in the words of steps, and the opponent who plays by it wins.
+-- The explanation of a pair that isn't related is a removal list in terms of steps, and the opponent who plays by it wins.
 use Rattle.std.proofs.Common.{◌≡◌, ℕ, zero, suc, ◌+◌, ◌<◌, ◌==◌, Bool, true, false, not, ◌&&◌, ◌||◌, List, [], ◌∷◌, ◌++◌, length, codes, Option, None, Some, IsTrue, IsFalse, inl, inr, filter, find, slice_get, refl, sym, ap, ◌∙◌, subst, arith, append_assoc, eqb-true, eq-eqb}
 use Rattle.std.specs.List.{list_any}
 use Rattle.std.specs.Option.{option_to_list}
@@ -20,7 +20,7 @@ use Rattle.roman_hearing.specs.Known.{shown}
 use Rattle.roman_hearing.specs.Refutations.{MayAnswer, IsLost, AreLost, WinsBy}
 use Rattle.roman_hearing.specs.Words.{IsReady, lines_of_answers, Refutes}
 
--- the pairs of an arena are the same where their numbers are
+-- pairs of an arena with the same number are equal
 pub pairs_same : (s : Sys) → IsSame (arena s)
 pairs_same s = record {
   is = λ p q h.
@@ -38,7 +38,7 @@ pairs_same s = record {
 
 -- Losing more
 
--- what is lost where some pairs are gone is lost where more are
+-- a pair that is lost where some pairs are gone is lost where more pairs are gone
 lost_more : (s : Sys) (Gone More : Pair → Type 0) (answers : ℕ → Option Pair) (p : Pair) (r : Reason) → ((q : Pair) → Gone q → More q) → IsLost s Gone answers p r → IsLost s More answers p r
 lost_more s Gone More answers p Final more lost = lost
 lost_more s Gone More answers p (Act a) more lost = (lost.0, λ k l. more_answer k (answers k) (lost.1 k l))
@@ -57,7 +57,7 @@ module _ (s : Sys) (answers : Entry Pair → ℕ → Option Pair) (all : List (E
   wins_later zero n p wins = subst (λ (k : ℕ). WinsBy s answers all k p) (let e : n ≡ 0 + n = omega arith in e) wins
   wins_later (suc m) n p wins = subst (λ (k : ℕ). WinsBy s answers all k p) (let e : suc (m + n) ≡ suc m + n = omega arith in e) (wins_more (m + n) p (wins_later m n p wins))
 
-  -- who wins from the pairs before wins from the others, by as many entries more as there are
+  -- the opponent who wins from the earlier pairs wins from the others, by as many more entries as there are others
   wins_from : (n : ℕ) (before : List Pair) (rest : List (Entry Pair)) → ((q : Pair) → IsIn q before → WinsBy s answers all n q) → ((x : Entry Pair) → IsIn x rest → IsIn x all) →
       AreLost s answers before rest → (x : Entry Pair) → IsIn x rest → WinsBy s answers all (length rest + n) x.node
   wins_from n before [] wins within lost x none = absurd none
@@ -86,7 +86,7 @@ module _ (s : Sys) (ok : IsSys s) (L : List (Entry Pair)) (p : Pair) (order : Is
   abbrev answer_to : Entry Pair → ℕ → Option Pair
   answer_to x k = answer_by x.reason x.node k
 
-  -- an answer to an entry that is told is that of one told before
+  -- the answer of an explained entry is the pair of an entry that is explained before it
   answer_shown : (done : List (Entry Pair)) (x : Entry Pair) (rest : List (Entry Pair)) (a k : ℕ) (q : Pair) → L ≡ done ++ x ∷ rest → IsTrue (is_shown x) → x.reason ≡ Act a → k < length s.seats →
       IsTrue (is_listed (arena s) done q) → IsIn q (outcomes s x.node a k) → answer (arena s) L x.node a k ≡ Some q → (y : Entry Pair) × IsIn y done × IsTrue (is_shown y) × (q ≡ y.node)
   answer_shown done x rest a k q whole told act l there out is =
@@ -103,7 +103,7 @@ module _ (s : Sys) (ok : IsSys s) (L : List (Entry Pair)) (p : Pair) (order : Is
       let (y, j, here) = listed_in (arena s) (pairs_same s) done q there in
       (y, j, subst (λ (q : Pair). IsTrue (rests_on (arena s) L (length L) p q)) (sym same ∙ here) (filter_in is_shown z L i).1, here)
 
-  -- the answers of an entry that is told are those that its text tells
+  -- the answers of an explained entry are those that its text gives
   answers_lose : (done : List (Entry Pair)) (x : Entry Pair) (rest : List (Entry Pair)) (before : List Pair) (a k : ℕ) → L ≡ done ++ x ∷ rest → IsTrue (is_shown x) → x.reason ≡ Act a → k < length s.seats →
       ((y : Entry Pair) → IsIn y done → IsTrue (is_shown y) → IsIn y.node before) → IsTrue (is_beaten (arena s) (is_listed (arena s) done) x.node a k) →
       (o : Option Pair) → answer (arena s) L x.node a k ≡ o → find (is_listed (arena s) done) (outcomes s x.node a k) ≡ o → MayAnswer s (λ q. IsIn q before) x.node a k o

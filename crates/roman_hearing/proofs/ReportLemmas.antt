@@ -1,4 +1,4 @@
--- The report of a session is that of the library that begins where the session stands.
+-- The report of a session equals the report of the library that begins where the session stands.
 use Rattle.std.proofs.Common.{◌≡◌, ℕ, ◌<◌, List, [], ◌∷◌, map, refl, ap, sym, ◌∙◌, subst}
 use Rattle.std.specs.List.{AllZip}
 use Rattle.roman_parts.specs.Named.{NamedBeh}
@@ -12,14 +12,14 @@ use Rattle.roman_hearing.specs.Afresh.{services_in, afresh}
 use Rattle.roman_hearing.specs.Known.{shown}
 use Rattle.roman_hearing.specs.Laws.{ReportsAreAfresh}
 
--- the services that are present take the same seats again
+-- the present services give the same seats again
 seats_again : (catalogue : List NamedBeh) (seats : List Seat) (bs : List ℕ) → AllZip (λ seat b. b < seat.beh.states) (map (seat_of catalogue) seats) bs →
     map seat_of_service (services_in seats bs) ≡ seats
 seats_again catalogue [] bs zip = refl
 seats_again catalogue (seat ∷ seats) [] zip = absurd zip
 seats_again catalogue (seat ∷ seats) (b ∷ bs) zip = ap (λ (xs : List Seat). seat ∷ xs) (seats_again catalogue seats bs zip.1)
 
--- and begin in the same states
+-- the present services begin in the same states
 states_again : (catalogue : List NamedBeh) (seats : List Seat) (bs : List ℕ) → AllZip (λ seat b. b < seat.beh.states) (map (seat_of catalogue) seats) bs →
     map (λ x. x.state) (services_in seats bs) ≡ bs
 states_again catalogue [] [] zip = refl
@@ -27,7 +27,7 @@ states_again catalogue [] (b ∷ bs) zip = absurd zip
 states_again catalogue (seat ∷ seats) [] zip = absurd zip
 states_again catalogue (seat ∷ seats) (b ∷ bs) zip = ap (λ (xs : List ℕ). b ∷ xs) (states_again catalogue seats bs zip.1)
 
--- the parts that begin in these states, with those seats
+-- the parts that begin in these states, with these seats
 abbrev begun : Situation → List Seat → NamedSys
 begun s seats = record {
   environment = record s.parts.environment { env = record s.parts.environment.env { start = s.here.e } };
@@ -37,7 +37,7 @@ begun s seats = record {
   limit = s.parts.limit;
 }
 
--- where a library begins is no part of the report
+-- the report doesn't depend on the starting states of the parts
 start_unsaid : (s : Situation) → report_text s.parts s.here ≡ report_text (begun s s.parts.seats) s.here
 unfolding report_text lines_text
 start_unsaid s = refl
@@ -50,7 +50,7 @@ reports_afresh s is =
     ∙ ap (λ (seats : List Seat). report_text (begun s seats) s.here) (sym seats)
     ∙ ap (λ (bs : List ℕ). report_text (parts_of (afresh (shown s))) (record { t = s.here.t; e = s.here.e; bs = bs })) (sym bs)
 
--- Where a library begins is no part of its steps
+-- The steps don't depend on the starting states of the library
 
 beh_begun : (env : Env) (beh : Beh) (e b : ℕ) → IsBeh env beh → b < beh.states → IsBeh (record env { start = e }) (record beh { start = b })
 beh_begun env beh e b is within = record { states = is.states; start = within; finals = is.finals; steps = is.steps; guards = is.guards }
@@ -66,7 +66,7 @@ begun_known s is =
       few = sys.few;
     }
 
--- the library that begins where the session stands has a system, and begins at a pair of it
+-- the library that begins where the session stands has a well-formed system, and its start pair is one of the system
 pub afresh_known : (s : Situation) → IsSituation s → IsSys (system_of (parts_of (afresh (shown s)))) × IsPair (system_of (parts_of (afresh (shown s)))) (start_pair_of (afresh (shown s)))
 afresh_known s is =
     let seats = seats_again s.parts.catalogue s.parts.seats s.here.bs is.here.bs in

@@ -1,4 +1,4 @@
--- In a session of a document with several targets the present system combines them, whatever lines came.
+-- In a session of a document with several targets the present system combines them, after any lines.
 use Rattle.std.proofs.Common.{◌≡◌, ◌↔◌, ℕ, zero, suc, ◌<◌, List, [], ◌∷◌, map, length, get_or, All, refl, sym, ap, ap₂, ◌∙◌, subst, arith}
 use Rattle.std.proofs.lemmas.Bool.{ltb-false}
 use Rattle.std.proofs.lemmas.List.{length-map}
@@ -48,7 +48,7 @@ seats_combined env requests catalogue (seat ∷ seats) all =
 abbrev made_system : PlainCombined → List Seat → Sys
 made_system made seats = record { env = made.environment.env; target = made.target.beh; seats = map (seat_of made.catalogue) seats }
 
--- the targets with those seats
+-- the targets with these seats
 abbrev with_seats : PlainTargets → List Seat → Several
 with_seats said seats = record { env = said.environment.env; targets = machines said.targets; seats = map (seat_of said.catalogue) seats }
 

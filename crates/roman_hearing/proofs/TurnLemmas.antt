@@ -43,13 +43,13 @@ use Rattle.roman_hearing.proofs.WordLemmas.{offers_serving, lost_counted, report
 
 -- Names
 
--- the place of a name that stands among others
+-- the place of a name in a list that has it
 place_there : (names : List (List ℕ)) (name : List ℕ) (i : ℕ) → place_of names name ≡ Some i → slice_get names i ≡ Some name
 place_there names name i e =
     let (within, found, first) = position-Some (bytes_eq name) names i [] e in
     slice_get-get_or names i [] within ∙ ap Some (sym ((bytes_eq-Decides name (get_or names i [])).0 found))
 
--- a name that has no place among others
+-- a name that has no place in a list
 no_place : (names : List (List ℕ)) (name : List ℕ) → place_of names name ≡ None → IsIn name names → ⊥
 no_place names name e i = name_is_new names name (named names name) refl (ap (λ (o : Option ℕ). is_ok (ok_or o reply.ErrorName)) e) i
 
@@ -59,7 +59,7 @@ idle_is Idle h = refl
 idle_is (Offered a) h = absurd (false≢true h)
 idle_is (Delegated a k) h = absurd (false≢true h)
 
--- the service that joins, by all conditions in their order
+-- the service that joins, by all conditions in order
 abbrev joined_in_turn : Situation → List ℕ → List ℕ → List ℕ → Bool → Result Joining Reply
 joined_in_turn s service behaviour state loose = do
   _ ← demand (is_name service) reply.ErrorName
@@ -217,7 +217,7 @@ module _ (old new : Situation) (text : List ℕ) (Refused : Reply → Type 0) (L
       (λ idle. idle_is old.phase (not_false (is_idle old.phase) idle))
       (λ busy does. leads (record seen_state { phase = Idle }) (Replies reply.Aborted) (ap shown does.1) does.0)
 
-  -- a change of the services, after which as many pairs aren't related as are counted
+  -- a change of the services, after which the reply counts the pairs that aren't related
   changed : (x : Changing) → Changes old x text new →
       Leads (record { parts = parts_after old x; here = x.here; phase = old.phase }) (CountsLost (record { parts = parts_after old x; here = x.here; phase = old.phase }))
   changed x changes =
@@ -322,7 +322,7 @@ module _ (old new : Situation) (text : List ℕ) (Refused : Reply → Type 0) (L
   comes (Ok explain) step = explains step
   comes (Ok quit) step = leads seen_state (Replies reply.Bye) (ap shown step.1) step.0
 
--- A step leads from state to state, and its text keeps the word.
+-- A step leads from state to state, and its text answers the event.
 pub steps_turns : StepsAreTurns
 unfolding Step
 steps_turns old new line text known step = (

@@ -1,4 +1,4 @@
--- What an event names is there: a place of a service, a state or a behaviour.
+-- What an event names is in range: the place of a service, a state or a behaviour.
 use Rattle.std.proofs.Common.{◌≡◌, ℕ, ◌<◌, Bool, List, [], map, length, Option, None, Some, ok_or, is_none, is_ok, IfSome, false, Ok, IsTrue, slice_get, refl, sym, ap, ◌∙◌, subst, arith}
 use Rattle.std.specs.List.{position}
 use Rattle.std.specs.Str.{bytes_eq}
@@ -24,7 +24,7 @@ use Rattle.roman_session.specs.declared.events.Joining.{Joining}
 use Rattle.roman_session.proofs.CallerLemmas.{name_is_new, checked, mapped_at, states_named}
 use Rattle.roman_hearing.specs.Known.{AreBehaviours}
 
--- what is named is one of the names
+-- the number of a name is below the number of names
 pub named_within : (names : List (List ℕ)) (name : List ℕ) (i : ℕ) → named names name ≡ Ok i → i < length names
 named_within names name i h = (position-Some (bytes_eq name) names i [] (some_of (position (bytes_eq name) names) h)).0
   where
@@ -32,7 +32,7 @@ named_within names name i h = (position-Some (bytes_eq name) names i [] (some_of
     some_of None e = cc
     some_of (Some j) e = let same : j ≡ i = cc in ap Some same
 
--- a service that is named is present
+-- a named service is present
 pub seat_within : (s : Situation) (service : List ℕ) (k : ℕ) → service_named s service ≡ Ok k → k < length s.parts.seats
 seat_within s service k h = omega (arith, named_within (map seat_name s.parts.seats) service k h, length-map s.parts.seats seat_name)
 
@@ -48,7 +48,7 @@ states_counted s i behaviours l =
     ap (λ (names : List (List ℕ)). length names) (mapped_at beh_states s.parts.catalogue i y [] there)
     ∙ is.names ∙ ap (λ (b : Beh). b.states) (sym (beh_read s.parts.catalogue i y there))
 
--- a state that is named is one of the service's
+-- a named state is one of the service's behaviour
 pub state_within : (s : Situation) (k b : ℕ) (state : List ℕ) → IsSituation s → AreBehaviours s.parts → k < length s.parts.seats → state_named s k state ≡ Ok b →
     IfSome (slice_get (present_system s).seats k) (λ seat. b < seat.beh.states)
 state_within s k b state is behaviours l h =
@@ -88,7 +88,7 @@ joining_new s service behaviour state loose x behaviours h =
     not_ok None h = refl
     not_ok (Some k) h = absurd (let e : ⊥ = cc in e)
 
--- its behaviour is one over the environment
+-- its behaviour is well formed over the environment
 pub joining_beh : (s : Situation) (i : ℕ) → AreBehaviours s.parts → i < length s.parts.catalogue → IsBeh s.parts.environment.env (beh_at s.parts.catalogue i)
 joining_beh s i behaviours l =
     let (y, there, is) = placed_behaviour s i behaviours l in

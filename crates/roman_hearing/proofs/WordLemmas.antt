@@ -29,9 +29,9 @@ use Rattle.roman_hearing.specs.Words.{AreServing, Counts, ReportsGreat}
 use Rattle.roman_hearing.proofs.RefutationLemmas.{pairs_same}
 use Rattle.roman_hearing.proofs.ReportLemmas.{reports_afresh, afresh_known}
 
--- which services serve
+-- the services that serve
 
--- the numbers of a list below a bound, or none, stand in their order
+-- a filtered list of the numbers below a bound keeps their order
 picked_order : (b : Bool) (p : ℕ → Bool) (n : ℕ) → IsSublist (cond b (filter p (below n)) []) (below n)
 picked_order true p n = filter_sublist p (below n)
 picked_order false p n = sublist_none (below n)
@@ -54,13 +54,13 @@ open_by s (Delegated a k) is is_open = (
   (((offers_serving (shown s) a is.parts.system is.here is_open.0.1).exact k).0 is_open.1).1,
 )
 
--- Open requests are served by the greatest ND-simulation.
+-- The greatest ND-simulation serves open requests.
 pub open_great : OpenIsGreat
 open_great s is = open_by s s.phase is is.phase
 
 -- counts
 
--- the entries of a complete list are as many as the pairs that aren't related
+-- a complete list has as many entries as there are pairs that aren't related
 pub lost_counted : (s : Sys) (kept added : List (Entry Pair)) → IsComplete s (kept ++ added) → Counts s (λ p. Great s p → ⊥) (length kept + length added)
 lost_counted s kept added complete =
     let L = kept ++ added in
@@ -79,7 +79,7 @@ lost_counted s kept added complete =
       count = length-map L (λ (x : Entry Pair). x.node) ∙ length-append kept added;
     }
 
--- the related pairs are as many as are counted
+-- the count of related pairs is their number
 related_counted : (s : Sys) → IsSys s → Counts s (Great s) (related_count s)
 related_counted s sys = record {
   pairs = filter (is_related s) (pairs s);
@@ -96,7 +96,7 @@ related_counted s sys = record {
 
 -- reports
 
--- a list or none, gone over
+-- a flat map over a list or over none
 picked_lines : {X Y : Type 0} (b : Bool) (f : X → List Y) (xs : List X) → cond b (flat_map f xs) [] ≡ flat_map f (cond b xs [])
 picked_lines true f xs = refl
 picked_lines false f xs = refl
@@ -148,7 +148,7 @@ actions_order : (s : State) (b : Bool) → IsSublist (actions_offered s b) (belo
 unfolding actions_offered
 actions_order s b = picked_order b (is_allowed (system_of s.parts) s.here) s.parts.environment.env.actions
 
--- a report is right where its pair is one of a system
+-- a report is right for a pair of a well-formed system
 pub reports_great : (s : State) (text : List ℕ) → IsSys (system_of s.parts) → IsPair (system_of s.parts) s.here → text ≡ report_text s.parts s.here → ReportsGreat s text
 reports_great s text sys pair says =
     let related = is_related (system_of s.parts) s.here in
@@ -165,7 +165,7 @@ reports_great s text sys pair says =
       says = says ∙ report_says s;
     }
 
--- and so is that of the library which begins where the session stands
+-- the report of the library that begins where the session stands is right too
 pub reports_both : (s : Situation) (text : List ℕ) → IsSituation s → text ≡ report_text s.parts s.here → ReportsGreat (shown s) text × ReportsGreat (start_state (afresh (shown s))) text
 reports_both s text is says =
     let (sys, pair) = afresh_known s is in

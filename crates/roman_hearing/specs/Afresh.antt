@@ -1,4 +1,4 @@
--- What a library is that begins where a session stands.
+-- The library that begins where a session stands.
 use Rattle.std.specs.Prelude.{ℕ, List, [], ◌∷◌}
 use Rattle.roman_joint.specs.declared.seat.Seat.{Seat}
 use Rattle.roman_library.specs.Library.{PlainLibrary}
@@ -12,7 +12,7 @@ services_in (seat ∷ seats) [] = []
 services_in (seat ∷ seats) (b ∷ bs) =
     record { name = seat.name; behaviour = seat.behaviour; state = b; frozen = seat.frozen; rests = seat.rests } ∷ services_in seats bs
 
--- the library with the present services, that begins in the present states
+-- the library with the present services that begins in the present states
 abbrev pub afresh : State → PlainLibrary
 afresh s = record {
   environment = record s.parts.environment { env = record s.parts.environment.env { start = s.here.e } };

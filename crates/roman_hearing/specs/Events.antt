@@ -1,4 +1,4 @@
--- Which event a line is, by its words.
+-- The event as which a line is read, by its words.
 use Rattle.std.specs.Prelude.{◌≡◌, ℕ, ◌<◌, ◌≤◌, ◌⊎◌, List, [], ◌∷◌, length, nat_eq, codes, Result, Ok, Err, IsTrue}
 use Rattle.std.specs.List.{starts_with}
 use Rattle.std.specs.Str.Lines.{strip_carriage_return}
@@ -9,8 +9,8 @@ use Rattle.roman_text.specs.declared.errors.LineError.{LineError}
 abbrev pub IsComment : List (List ℕ) → Type 0
 IsComment words = (word : List ℕ) × (more : List (List ℕ)) × (words ≡ word ∷ more) × IsTrue (starts_with nat_eq word (codes "#"))
 
--- the line is that event, whose words it has, or no event, where it has no words or is a comment; and in an error it is neither, or
--- has more than 256 bytes
+-- a line is read as an event where it has the event's words, as no event where it has no words or is a comment, and as an error where
+-- it is neither or has more than 256 bytes
 abbrev pub Reads : List ℕ → Result LineShape LineError → Type 0
 Reads line (Err why) =
     (256 < length line)
@@ -18,6 +18,6 @@ Reads line (Err why) =
 Reads line (Ok nothing) = (length line ≤ 256) × ((words_of (strip_carriage_return line) ≡ []) ⊎ IsComment (words_of (strip_carriage_return line)))
 Reads line (Ok event) = (length line ≤ 256) × (words_of (strip_carriage_return line) ≡ spelling event)
 
--- each line is what its shape says
+-- each line is read as its shape says
 abbrev pub LinesAreRead : Type 0
 LinesAreRead = (line : List ℕ) → Reads line (shape_of line)

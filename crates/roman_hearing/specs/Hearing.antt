@@ -1,4 +1,4 @@
--- Sessions that are heard from a stream: which of its lines are answered, and what is written by then.
+-- Sessions that are read from a stream: which of its lines are answered, and what is written by then.
 use Rattle.std.specs.Prelude.{◌≡◌, ◌≢◌, ℕ, ◌≤◌, ◌⊎◌, Bool, ◌||◌, List, [], ◌∷◌, ◌++◌, length, take, nat_le, Option, Result, Err, IsErrOf, IsTrue, IsFalse, if◌then◌else◌}
 use Rattle.std.specs.List.{list_any}
 use Rattle.roman_io.specs.Faults.{Rose}
@@ -14,7 +14,7 @@ use Rattle.roman_hearing.specs.declared.hearing.HearError.{HearError}
 
 -- ---- which lines are answered
 
--- the line ends a session
+-- the line is a `quit`, which ends a session
 abbrev pub ends_session : List ℕ → Bool
 ends_session line = is_quit (shape_of line)
 
@@ -22,19 +22,19 @@ ends_session line = is_quit (shape_of line)
 abbrev pub has_quit : List (List ℕ) → Bool
 has_quit lines = list_any ends_session lines
 
--- as much of a session as is ever heard
+-- the first 16,777,216 bytes of a session, or all of a shorter one
 abbrev pub prefix_of : List ℕ → List ℕ
 prefix_of session = take MAX_SESSION_BYTES session
 
--- the session has at most the greatest number of bytes, or a line `quit` ends within that many
+-- the session isn't too long: it has at most 16,777,216 bytes, or a line `quit` ends within that many
 abbrev pub is_heard_out : List ℕ → Bool
 is_heard_out session = nat_le (length session) MAX_SESSION_BYTES || has_quit (ended_lines (prefix_of session))
 
--- the lines of a session that are answered, as far as no `quit` comes: all, or those that end within as much as is ever heard
+-- the lines that are answered up to the first `quit`: all lines, or of a session that is too long those that end within the limit
 abbrev pub heard_lines : List ℕ → List (List ℕ)
 heard_lines session = if is_heard_out session then lines session else ended_lines (prefix_of session)
 
--- the source gave a first line `quit`, and after its newline at most so many bytes
+-- the source gave a first line `quit`, and at most `most` bytes after its newline
 pub record GaveQuit (most : ℕ) (before now : Option (List ℕ)) : Type 0 where
   pub heard : List ℕ
   pub past : List ℕ
@@ -45,31 +45,31 @@ pub record GaveQuit (most : ℕ) (before now : Option (List ℕ)) : Type 0 where
 
 -- ---- a session, its source and its sink
 
--- where a session stands, and what was written by then, where that is told
+-- the situation of a session, and what was written by then, where that is known
 pub record Spot : Type 0 where
   pub situation : Situation
   pub written : Option (List ℕ)
 
--- the spot of a situation and of what was written
+-- a spot from its parts
 abbrev pub spot : Situation → Option (List ℕ) → Spot
 spot situation written = record { situation = situation; written = written }
 
--- where a session stands, what was written by then, and what its source has left, where these are told
+-- the situation of a session, what was written by then, and what its source has left, where these are known
 pub record Hall : Type 0 where
   pub spot : Spot
   pub rest : Option (List ℕ)
 
--- the hall of a situation, of what a source has left, and of what was written
+-- a hall from its parts
 abbrev pub hall : Situation → Option (List ℕ) → Option (List ℕ) → Hall
 hall situation rest written = record { spot = spot situation written; rest = rest }
 
--- what the session is told of those lines, where it stands there then, was written
+-- the replies to these lines were written, and they lead to the new situation
 pub record Tells (old : Spot) (lines : List (List ℕ)) (new : Spot) : Type 0 where
   pub text : List ℕ
   pub told : Told old.situation lines text new.situation
   pub wrote : Wrote old.written new.written text
 
--- a prefix of what the session is told of those lines, where it stands there then, was written
+-- a prefix of the replies to these lines was written, and the replies lead to the new situation
 pub record TellsPrefix (old : Spot) (lines : List (List ℕ)) (new : Spot) : Type 0 where
   pub text : List ℕ
   pub told : Told old.situation lines text new.situation
@@ -77,21 +77,21 @@ pub record TellsPrefix (old : Spot) (lines : List (List ℕ)) (new : Spot) : Typ
 
 -- ---- how a session ends
 
--- the session was heard to its end, or to `quit`, and all that it is told was written
+-- the session was read to its end or to `quit`, and all replies were written
 pub record IsHeardOut (old : Hall) (new : Spot) : Type 0 where
   pub session : List ℕ
   pub had : Had old.rest session
   pub out : IsTrue (is_heard_out session)
   pub tells : Tells old.spot (lines session) new
 
--- the session is too long, and what it is told of the lines that end within as much as is ever heard was written
+-- the session is too long, and the replies to the lines that end within the limit were written
 pub record IsCutOff (old : Hall) (new : Spot) : Type 0 where
   pub session : List ℕ
   pub had : Had old.rest session
   pub long : IsFalse (is_heard_out session)
   pub tells : Tells old.spot (ended_lines (prefix_of session)) new
 
--- the session would go on: the source gave not too many bytes, and their whole lines are answered, none of which is `quit`
+-- the session would go on: the source gave bytes within the limit, and their whole lines, none of which is `quit`, are answered
 pub record GoesOn (old new : Hall) : Type 0 where
   pub taken : List ℕ
   pub gave : Gave old.rest new.rest taken
@@ -99,12 +99,12 @@ pub record GoesOn (old new : Hall) : Type 0 where
   pub quitless : IsFalse (has_quit (ended_lines taken))
   pub tells : Tells old.spot (ended_lines taken) new.spot
 
--- the bytes are whole lines
+-- the bytes are whole lines: each line has its newline
 abbrev pub AreWhole : List ℕ → Type 0
 AreWhole bytes = bytes ≡ text_of_lines (ended_lines bytes)
 
--- the lines of the first bytes that the source gave are answered, and a prefix of the answers was written; these bytes are
--- whole lines, or all that the source had
+-- a prefix of the replies to the lines of the first bytes that the source gave was written; these bytes are whole lines, or
+-- all that the source had
 pub record StopsShort (old new : Hall) : Type 0 where
   pub heard : List ℕ
   pub past : List ℕ
@@ -113,14 +113,14 @@ pub record StopsShort (old new : Hall) : Type 0 where
   pub ends : AreWhole heard ⊎ Had old.rest heard
   pub tells : TellsPrefix old.spot (lines heard) new.spot
 
--- a prefix of what may be told of the whole session was written
+-- a prefix of possible replies to the whole session was written
 pub record TellsPrefixOfAll (old : Hall) (now : Option (List ℕ)) : Type 0 where
   pub session : List ℕ
   pub had : Had old.rest session
   pub last : Situation
   pub tells : TellsPrefix old.spot (heard_lines session) (spot last now)
 
--- a count of faults rose where that error is answered, and stayed elsewhere
+-- a count of faults rose where this error is returned, and stayed the same otherwise
 pub record CausedBy {T : Type 0} (fault : HearError) (old new : ℕ) (result : Result T HearError) : Type 0 where
   pub rose : IsErrOf result fault → Rose old new
   pub stayed : result ≢ Err fault → new ≡ old

@@ -1,4 +1,4 @@
--- How a session is heard byte by byte: what holds between two bytes of its stream.
+-- How a session is read byte by byte: what holds between two bytes of its stream.
 use Rattle.std.specs.Prelude.{◌≡◌, ℕ, ◌<◌, ◌≤◌, List, [], ◌∷◌, ◌++◌, length, take, Option, Result, Ok, Err, IsTrue, IsFalse}
 use Rattle.roman_io.specs.declared.failed.Failed.{Failed}
 use Rattle.roman_model.specs.Lines.{lines, ended_lines}
@@ -12,30 +12,30 @@ use Rattle.roman_hearing.specs.Hearing.{has_quit, Spot, spot, Tells, TellsPrefix
 use Rattle.roman_hearing.specs.declared.hearing.HearError.{HearError}
 use Rattle.roman_hearing.specs.declared.hearing.HearError.TheVariants.{ReadFault, WriteFault, TooLong}
 
--- where a session stands within a line: a page holds what isn't written of the answers, and as much of the line is held as
--- tells its shape
+-- reader state within a line: the page holds the replies that aren't written yet, and the bytes of the line are held, truncated
+-- once they can't parse
 pub record Ear : Type 0 where
   pub spot : Spot
   pub page : List ℕ
   pub held : List ℕ
 
--- the ear of a situation, of what was written, and of what a page and a line hold
+-- reader state from its parts
 abbrev pub ear : Situation → Option (List ℕ) → List ℕ → List ℕ → Ear
 ear situation written page held = record { spot = spot situation written; page = page; held = held }
 
--- of what the session is told of those lines, where it stands there then, a prefix was written, and the page holds the rest
+-- a prefix of the replies to these lines was written, and the page holds the rest
 pub record TellsOnPage (old : Spot) (lines : List (List ℕ)) (new : Spot) (page : List ℕ) : Type 0 where
   pub text : List ℕ
   pub told : Told old.situation lines text new.situation
   pub gathered : Gathered old.written new.written page text
 
--- the whole lines of those bytes are answered, none of which is `quit`, and as much of the next is held as tells its shape
+-- the whole lines of these bytes, none of which is `quit`, are answered, and the next line is held, truncated once it can't parse
 pub record IsHearing (old : Spot) (taken : List ℕ) (new : Ear) : Type 0 where
   pub quitless : IsFalse (has_quit (ended_lines taken))
   pub tells : TellsOnPage old (ended_lines taken) new.spot new.page
   pub rest : new.held ≡ kept (unfinished taken)
 
--- after those bytes a first line `quit` ends in the piece, and is answered
+-- a first line `quit` ends in the piece after these bytes, and it is answered
 pub record StopsAtQuit (old : Spot) (taken piece : List ℕ) (new : Spot) (page : List ℕ) : Type 0 where
   pub heard : List ℕ
   pub past : List ℕ
@@ -44,25 +44,25 @@ pub record StopsAtQuit (old : Spot) (taken piece : List ℕ) (new : Spot) (page 
   pub quit : IsTrue (has_quit (ended_lines (taken ++ heard ++ 10 ∷ [])))
   pub tells : TellsOnPage old (ended_lines (taken ++ heard ++ 10 ∷ [])) new page
 
--- a prefix of what the session is told of those lines was written, and its situation is well formed
+-- a prefix of the replies to these lines was written, and the session's situation is well formed
 pub record FallsShort (old : Spot) (lines : List (List ℕ)) (new : Spot) : Type 0 where
   pub tells : TellsPrefix old lines new
   pub known : IsSituation new.situation
 
--- a prefix was written of what the session is told of the whole lines of some first bytes, and its situation is well formed
+-- a prefix of the replies to the whole lines of some first bytes was written, and the session's situation is well formed
 pub record FailsIn (old : Spot) (bytes : List ℕ) (new : Spot) : Type 0 where
   pub heard : List ℕ
   pub past : List ℕ
   pub split : bytes ≡ heard ++ past
   pub fails : FallsShort old (ended_lines heard) new
 
--- the bytes were heard after what was taken before, up to a `quit` or to a fault of the sink
+-- the bytes were read after the bytes taken before, to their end, to a `quit` or to a fault of the sink
 abbrev pub HearsBytes : Spot → List ℕ → List ℕ → Ear → Result Next Failed → Type 0
 HearsBytes old taken bytes new (Ok More) = IsHearing old (taken ++ bytes) new
 HearsBytes old taken bytes new (Ok Quit) = StopsAtQuit old taken bytes new.spot new.page
 HearsBytes old taken bytes new (Err failed) = FailsIn old (taken ++ bytes) new.spot
 
--- as much of a piece was heard as there is room for; where there is too little, the session is too long
+-- the first `room` bytes of a piece were read; where it has more bytes, the session is too long
 abbrev pub HearsPiece : ℕ → Spot → List ℕ → List ℕ → Ear → Result Next HearError → Type 0
 HearsPiece room old taken piece new (Ok More) = IsHearing old (taken ++ piece) new × (length piece ≤ room)
 HearsPiece room old taken piece new (Ok Quit) = StopsAtQuit old taken (take room piece) new.spot new.page
@@ -70,7 +70,7 @@ HearsPiece room old taken piece new (Err ReadFault) = ⊥
 HearsPiece room old taken piece new (Err WriteFault) = FailsIn old (taken ++ take room piece) new.spot
 HearsPiece room old taken piece new (Err TooLong) = IsHearing old (taken ++ take room piece) new × (room < length piece)
 
--- the last line, where its newline is missing, was answered as well
+-- a last line without a newline was answered too
 abbrev pub HearsRest : Spot → List ℕ → Spot → Result (Unit {0}) HearError → Type 0
 HearsRest old taken new (Ok x) = Tells old (lines taken) new
 HearsRest old taken new (Err ReadFault) = ⊥

@@ -16,30 +16,30 @@ use Rattle.roman_hearing.specs.Known.{shown, IsKnownSituation}
 use Rattle.roman_hearing.specs.States.{IsOpenGreat}
 use Rattle.roman_hearing.specs.Turns.{TurnsInto, KeepsWord}
 
--- for a request that isn't refused some seat is offered
+-- some seat is offered for a request that isn't refused
 abbrev pub RequestsAreOffered : Type 0
 RequestsAreOffered = (s : Situation) (action : List ℕ) (a : ℕ) → IsSituation s → asked s action ≡ Ok a → offers (present_system s) s.here a ≢ []
 
--- after an outcome that is possible the current pair is related
+-- after a possible outcome the current pair is related
 abbrev pub OutcomesAreRelated : Type 0
 OutcomesAreRelated = (old new : Situation) (state env text : List ℕ) (x : Sight) → IsSituation old → seen old state env ≡ Ok x → Moves old x text new →
     IsTrue (is_related (present_system new) new.here)
 
--- a seat that isn't offered for an allowed action has no outcome, or one that isn't related
+-- a seat that isn't offered for an allowed action has no outcome, or an outcome whose pair isn't related
 abbrev pub NotOfferedFails : Type 0
 NotOfferedFails = (s : Sys) (p : Pair) (a k : ℕ) → k < length s.seats → IsTrue (is_allowed s p a) → (IsIn k (offers s p a) → ⊥) →
     (outcomes s p a k ≡ []) ⊎ ((q : Pair) × IsIn q (outcomes s p a k) × IsFalse (is_related s q))
 
--- the report is that of the library that begins where the session stands
+-- the report equals the report of the library that begins where the session stands
 abbrev pub ReportsAreAfresh : Type 0
 ReportsAreAfresh =
     (s : Situation) → IsSituation s → report_text s.parts s.here ≡ report_text (parts_of (afresh (shown s))) (start_pair_of (afresh (shown s)))
 
--- each step from a well-formed situation is a turn: it leads from what is seen of the one to what is seen of the other, and keeps its word
+-- each step from a well-formed situation is a turn: its states are those to which the event leads, and its text answers the event
 abbrev pub StepsAreTurns : Type 0
 StepsAreTurns = (old new : Situation) (line text : List ℕ) → IsKnownSituation old → Step old line text new →
     TurnsInto (shown old) (shape_of line) (shown new) × KeepsWord (shown old) (shape_of line) text
 
--- in a well-formed situation the open request can be served, and its delegate serves it
+-- in every situation the open request can be served, and its delegate serves it
 abbrev pub OpenIsGreat : Type 0
 OpenIsGreat = (s : Situation) → IsSituation s → IsOpenGreat (shown s) s.phase

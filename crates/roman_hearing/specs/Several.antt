@@ -1,4 +1,4 @@
--- Sessions of documents with several targets: what a related pair says of all of them.
+-- Sessions of documents with several targets: a related pair serves all of them.
 use Rattle.std.specs.Prelude.{◌≡◌, ◌↔◌, ℕ, List, map, Ok}
 use Rattle.roman_io.specs.Shelf.{Texts}
 use Rattle.roman_model.specs.System.{Pair, IsPair}
@@ -14,18 +14,18 @@ use Rattle.roman_session.specs.Situations.{Situation, IsSituation, present_syste
 use Rattle.roman_session.specs.Starts.{IsStart}
 use Rattle.roman_hearing.specs.Told.{Told}
 
--- the targets as the document names them, over its plain actions, with the services now present
+-- the targets over the plain actions of the document, with the services now present
 abbrev pub several_in : PlainTargets → Situation → Several
 several_in said s = record { env = said.environment.env; targets = machines said.targets; seats = map (seat_of said.catalogue) s.parts.seats }
 
--- the targets and services are in range, the present system is the one that stands for all of them, and a pair of it is related exactly where
--- some simulation of them all holds it
+-- the targets and services are in range, the present system is the combined system, and a pair of it is related exactly where it belongs
+-- to some simulation of all targets
 pub record MeansAll (said : PlainTargets) (s : Situation) : Type 0 where
   pub known : IsSeveral (several_in said s)
   pub system : present_system s ≡ combined (several_in said s)
   pub great : (p : Pair) → IsPair (present_system s) p → Great (present_system s) p ↔ GreatAll (several_in said s) (couple_all (several_in said s) p)
 
--- so it is in every session of an accepted document of several targets, after any lines
+-- this holds in every session of an accepted document with several targets, after any lines
 abbrev pub SeveralAreServed : Type 0
 SeveralAreServed =
     (texts : Texts) (document : List ℕ) (library : PlainLibrary) (said : PlainTargets) (start now : Situation) (lines : List (List ℕ)) (text : List ℕ) →

@@ -1,4 +1,4 @@
--- What is seen of a session between two lines: all but its removal list.
+-- The state of a session between two lines: all but its removal list.
 use Rattle.std.specs.Prelude.{◌≡◌, ℕ, map}
 use Rattle.roman_model.specs.Lists.{HasNoRepeats}
 use Rattle.roman_model.specs.System.{Pair, IsPair, Allows}
@@ -10,13 +10,13 @@ use Rattle.roman_start.specs.Starts.{parts_of, start_pair_of}
 use Rattle.roman_session.specs.declared.phase.Phase.{Phase}
 use Rattle.roman_session.specs.declared.phase.Phase.TheVariants.{Idle, Offered, Delegated}
 
--- the library with the services now present, the current pair, and the request that is open
+-- the library with the services now present, the current pair, and the phase with the open request
 pub record State : Type 0 where
   pub parts : NamedSys
   pub here : Pair
   pub phase : Phase
 
--- the state in which a session of the library begins
+-- the state in which a session of the library starts
 abbrev pub start_state : PlainLibrary → State
 start_state library = record { parts = parts_of library; here = start_pair_of library; phase = Idle }
 
@@ -24,21 +24,21 @@ start_state library = record { parts = parts_of library; here = start_pair_of li
 abbrev pub IsGreat : State → Type 0
 IsGreat s = Great (system_of s.parts) s.here
 
--- the target may ask for the action
+-- the target allows the action at the current pair
 abbrev pub MayAsk : State → ℕ → Type 0
 MayAsk s a = Allows (system_of s.parts) s.here.t s.here.e a
 
--- the service at place k serves the action: it may answer each of the target's steps, and whatever it does leads to related pairs
+-- the service at place k serves the action: it can answer each of the target's steps, and all its outcomes are related pairs
 abbrev pub ServesHere : State → ℕ → ℕ → Type 0
 ServesHere s a k = Serves (system_of s.parts) (GreatCouple (system_of s.parts)) (couple s.here) a k
 
--- a request is open only where it can be served, and is delegated only to a service that serves it
+-- an open request can be served, and its delegate is a service that serves it
 abbrev pub IsOpenGreat : State → Phase → Type 0
 IsOpenGreat s Idle = Unit {0}
 IsOpenGreat s (Offered a) = IsGreat s × MayAsk s a
 IsOpenGreat s (Delegated a k) = IsGreat s × MayAsk s a × ServesHere s a k
 
--- the parts are the library's but for the services, no two of which have one name; the pair is one of theirs, and an open request can be served
+-- all parts but the services are the library's; no two services share a name; the pair is one of the system's; an open request can be served
 pub record IsState (library : PlainLibrary) (s : State) : Type 0 where
   pub parts : s.parts ≡ record (parts_of library) { seats = s.parts.seats }
   pub names : HasNoRepeats (map seat_name s.parts.seats)

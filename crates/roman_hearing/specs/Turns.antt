@@ -1,4 +1,4 @@
--- Turns of a session: what an event leads to, and how it is answered, by the greatest ND-simulation, by steps and by names.
+-- Turns of a session: the state to which an event leads and its answer, by the greatest ND-simulation, by steps and by names.
 use Rattle.std.specs.Prelude.{◌≡◌, ℕ, ◌<◌, ◌≤◌, ◌⊎◌, true, false, not, List, [], ◌∷◌, ◌++◌, map, length, Result, Ok, Err, Some, IsTrue, slice_get, slice_set}
 use Rattle.std.specs.List.{remove}
 use Rattle.roman_model.specs.Lists.{IsIn}
@@ -21,26 +21,26 @@ use Rattle.roman_hearing.specs.Words.{Replies, OffersServing, CountsLost, Report
 
 -- ---- conditions
 
--- it holds, and then this; or it doesn't, and the event is refused
+-- the condition holds, and the rest follows; or it doesn't hold, and the event is refused
 abbrev pub Needs : (Holds : Type 0) → Type 0 → (Holds → Type 0) → Type 0
 Needs Holds Refused Then = ((holds : Holds) × Then holds) ⊎ ((Holds → ⊥) × Refused)
 
--- it holds, and the event is refused; or it doesn't, and then this
+-- the condition holds, and the event is refused; or it doesn't hold, and the rest follows
 abbrev pub Unless : Type 0 → Type 0 → Type 0 → Type 0
 Unless Holds Refused Then = (Holds × Refused) ⊎ ((Holds → ⊥) × Then)
 
--- a place at which the name stands
+-- a place at which the name stands in the list
 abbrev pub Place : List (List ℕ) → List ℕ → Type 0
 Place names name = (i : ℕ) × (slice_get names i ≡ Some name)
 
--- the state with other services, and states of theirs
+-- the state with other services and their states
 abbrev pub with_services : State → List Seat → List ℕ → State
 with_services s seats bs = record { parts = record s.parts { seats = seats }; here = record s.here { bs = bs }; phase = s.phase }
 
 -- ---- events
 
--- what an event comes to: its conditions in their order, each with the reply that refuses it; then the state to which it leads, and what
--- its answer says; a line that is none is refused
+-- what an event does: its conditions in order, each with the reply that refuses it; then the state to which it leads, and what its answer
+-- says; a line that is no event is refused
 abbrev pub ComesTo : State → Result LineShape LineError → (Reply → Type 0) → (State → (List ℕ → Type 0) → Type 0) → Type 0
 ComesTo s (Err why) Refused Leads = Refused reply.ErrorLine
 ComesTo s (Ok nothing) Refused Leads = Leads s (λ text. text ≡ [])
@@ -103,10 +103,10 @@ ComesTo s (Ok quit) Refused Leads = Leads s (Replies reply.Bye)
 
 -- ---- turns
 
--- the state after an event: that to which it leads; where it is refused, nothing changes
+-- the state after an event: the state to which it leads, or the same state where it is refused
 abbrev pub TurnsInto : State → Result LineShape LineError → State → Type 0
 TurnsInto s event new = ComesTo s event (λ refusal. new ≡ s) (λ next Says. new ≡ next)
 
--- the answer to an event: what it says; where it is refused, the reply of the first condition that doesn't hold
+-- the answer to an event: what its answer says, or the reply of the first condition that fails
 abbrev pub KeepsWord : State → Result LineShape LineError → List ℕ → Type 0
 KeepsWord s event text = ComesTo s event (λ refusal. Replies refusal text) (λ next Says. Says text)

@@ -1,4 +1,4 @@
-//! Sessions whose lines come from a stream.
+//! Sessions whose lines are read from a stream.
 ghost use Rattle.std.specs.Prelude.{◌≡◌, ℕ, ◌+◌, ◌-◌, ◌⊎◌, ◌∷◌, List, [], Option, IfOk, IsErrOf, OnOk};
 ghost use Rattle.roman_io.specs.Faults.{HasCause};
 ghost use Rattle.roman_io.specs.Source.{IsAtEnd, GaveAtMost};
@@ -16,52 +16,52 @@ use roman_text::{Page, Splitter, keep_shapes};
 use std::sync::ledger::Ledger;
 use thiserror::Error;
 
-/// Why a session isn't heard to its end.
+/// The reasons for which a session ends early.
 #[derive(Clone, Copy, Debug, PartialEq, Eq, Error)]
 pub enum HearError {
-    /// The source failed, and its count of faults rose. The replies to all lines that were taken whole
-    /// stand in the sink.
+    /// The source failed, and its count of faults rose. The replies to all lines that were taken
+    /// whole were written.
     #[error("the source of the session failed")]
     ReadFault,
-    /// The sink failed, and its count of faults rose. A prefix of the replies stands in it.
+    /// The sink failed, and its count of faults rose. A prefix of the replies was written.
     #[error("the sink of the session failed")]
     WriteFault,
-    /// The session has more than [`MAX_SESSION_BYTES`] bytes, and no line `quit` that ends within
-    /// the first so many. The replies to the lines that end within them stand in the sink.
+    /// The session has more than [`MAX_SESSION_BYTES`] bytes, and no line `quit` ends within that
+    /// many. The replies to the lines that end within them were written.
     #[error("the session is too long")]
     TooLong,
 }
 
-/// Hears a session line by line, to its end or to its first line `quit`, and writes the reply to each.
-/// It takes at most 4,096 bytes at a time, and answers the lines that end in them before it takes
-/// more. The last line may lack its newline.
+/// Reads the lines of a session from `source` and writes the reply to each, to the end of the source or
+/// to the first line `quit`. Takes at most 4,096 bytes at a time, and writes the replies to the lines
+/// that end in them before it takes more. The last line may lack its newline.
 ///
-/// The bytes may come in any pieces, and without an end: no more than the greatest number of a session
-/// is heard, and each variant of [`HearError`] says when it comes. No memory is taken. Where the source
-/// tells nothing of its bytes, the clauses speak of some bytes that it may have had.
+/// The source may split its bytes in any way, and may have no end: at most [`MAX_SESSION_BYTES`] bytes
+/// are read as lines. Takes no memory. Fails as [`HearError`] says. Where the source's bytes aren't
+/// known, the clauses hold for some bytes that it may have had.
 pub fn hear<S: Source, O: Sink, L: Ledger>(
     session: &mut Session,
     source: &mut S,
     out: &mut O,
     steps: &mut Steps<L>,
 ) -> Result<(), HearError>
-    // What is told of the whole session was written, and of a session that is too long what is
-    // told of the lines that end within the limit.
+    // The replies to the whole session were written. For a session that is too long, the replies to
+    // the lines that end within the limit were written.
     ensures ok { OnOk result (IsHeardOut (hall session.old (S.rest source.old) (O.written out.old)) (spot session.new (O.written out.new))) }
     ensures too_long { IsErrOf result HearError.TooLong → IsCutOff (hall session.old (S.rest source.old) (O.written out.old)) (spot session.new (O.written out.new)) }
 
-    // A fault has its cause. At one of the source each whole line that was taken has its answer. At
-    // one of the sink a prefix was written of the answers to some first lines that were taken, and
-    // so of what may be told of the whole session.
+    // Each error has its cause. After a fault of the source each whole line that was taken is
+    // answered. After a fault of the sink a prefix of the replies to the first taken lines was
+    // written. It is also a prefix of possible replies to the whole session.
     ensures read_fault { IsErrOf result HearError.ReadFault → GoesOn (hall session.old (S.rest source.old) (O.written out.old)) (hall session.new (S.rest source.new) (O.written out.new)) }
     ensures write_fault { IsErrOf result HearError.WriteFault → StopsShort (hall session.old (S.rest source.old) (O.written out.old)) (hall session.new (S.rest source.new) (O.written out.new)) }
     ensures prefix { IsErrOf result HearError.WriteFault → AreBehaviours session.old.parts → TellsPrefixOfAll (hall session.old (S.rest source.old) (O.written out.old)) (O.written out.new) }
     ensures reads { CausedBy HearError.ReadFault (S.faults source.old) (S.faults source.new) result }
     ensures writes { CausedBy HearError.WriteFault (O.faults out.old) (O.faults out.new) result }
 
-    // No more bytes are taken than a session may have and one piece. Once the session was heard,
-    // none are left or less than a piece was taken past its line `quit`. The source reads on from
-    // the same shelf, if it reads one, and the shelf's texts stay.
+    // At most one piece more is taken than a session may have. After success no bytes are left, or
+    // less than a piece was taken past the line `quit`. A source that reads from a shelf keeps that
+    // shelf, and the shelf's texts stay the same.
     ensures taken { GaveAtMost (MAX_SESSION_BYTES + PIECE_BYTES) (S.rest source.old) (S.rest source.new) }
     ensures past { OnOk result (IsAtEnd (S.rest source.new) ⊎ GaveQuit (PIECE_BYTES - 1) (S.rest source.old) (S.rest source.new)) }
     ensures borrowed { S.borrowed source.new ≡ S.borrowed source.old }
@@ -94,7 +94,9 @@ pub fn hear<S: Source, O: Sink, L: Ledger>(
     }
 }
 
-/// Hears a piece, as far as there is room for its bytes. The answers to its lines are put together.
+/// Reads the first `room` bytes of a piece, and writes the replies to all lines that end in them.
+/// Fails with `TooLong` where the piece has more bytes and no line `quit` ends in the first ones.
+/// Requires an empty page, and leaves it empty.
 fn hear_piece<O: Sink, L: Ledger>(
     session: &mut Session,
     splitter: &mut Splitter,
@@ -124,7 +126,7 @@ fn hear_piece<O: Sink, L: Ledger>(
     }
 }
 
-/// Hears bytes, up to the newline of a line `quit`.
+/// Reads bytes, to their end or to the end of a line `quit`, and pushes the replies on the page.
 fn hear_bytes<O: Sink, L: Ledger>(
     session: &mut Session,
     splitter: &mut Splitter,
@@ -145,7 +147,7 @@ fn hear_bytes<O: Sink, L: Ledger>(
     Ok(Next::More)
 }
 
-/// Hears a byte, and answers the line that it ends.
+/// Reads a byte. Where it ends a line, pushes the reply to the line on the page.
 fn hear_byte<O: Sink, L: Ledger>(
     session: &mut Session,
     splitter: &mut Splitter,
@@ -166,7 +168,8 @@ fn hear_byte<O: Sink, L: Ledger>(
     Ok(next)
 }
 
-/// Hears the last line, where bytes of it are left, and puts its answer.
+/// Answers a last line that has no newline, and writes the reply. Does nothing where no bytes are
+/// held. Requires an empty page.
 fn hear_rest<O: Sink, L: Ledger>(
     session: &mut Session,
     splitter: &Splitter,
@@ -191,7 +194,7 @@ fn hear_rest<O: Sink, L: Ledger>(
     Ok(())
 }
 
-/// Answers the line that is held, on a page. Of a long line as much is held as tells its shape.
+/// Pushes the reply to the held line on the page. Long lines are truncated once they can't parse.
 fn hear_line<O: Sink, L: Ledger>(
     session: &mut Session,
     splitter: &Splitter,

@@ -1,12 +1,12 @@
-//! Sessions that are heard line by line from a source, and what holds of every session, whatever is
-//! heard.
+//! Reads sessions line by line from a source, and states the laws that hold of every session, for any
+//! input.
 //!
-//! `specs/Hearing` says which lines of a stream are answered and what is written by then, and
-//! `specs/Told` what a session is told from line to line, by the steps of `roman_session`. The laws
-//! say of these steps that they lead from well-formed situations to well-formed ones
-//! (`specs/Known`), and that each is a turn (`specs/Turns`): what is seen of a session, its state
-//! (`specs/States`), goes where the line's event leads, and the answer keeps the event's word
-//! (`specs/Words`), by the greatest ND-simulation, by steps and by names alone.
+//! `specs/Hearing` defines which lines of a stream are answered and what is written by then.
+//! `specs/Told` defines the replies to a list of lines, by the steps of `roman_session`. The laws say
+//! that each step from a well-formed situation leads to a well-formed one (`specs/Known`), and that
+//! each step is a turn (`specs/Turns`). A turn leads to the state of the line's event
+//! (`specs/States`), and its text is right for that event (`specs/Words`). Both are said by the
+//! greatest ND-simulation, by steps and by names alone.
 #![tactic(auto)]
 
 mod hearing;
