@@ -22,24 +22,24 @@ offer_kept : (s : Situation) (phase : Phase) (a : ℕ) → offer_text (record s 
 unfolding offer_text
 offer_kept s phase a = refl
 
--- a request that isn't refused is answered by its offers
+-- the reply to a request that isn't refused is the line of its offers
 pub asks_said : (old new : Situation) (action : List ℕ) (a : ℕ) → asked old action ≡ Ok a → new ≡ record old { phase = Offered a } → StepOn old (ask action) (offer_text new a) new
 asks_said old new action a ok becomes =
     subst (λ (r : Result ℕ Reply). Does Asks old r (offer_text new a) new) (sym ok) (ap (λ (s : Situation). offer_text s a) becomes ∙ offer_kept old (Offered a) a, becomes)
 
--- ---- what a page takes
+-- ---- pages
 
--- an event was taken, and its answer was
+-- an event was answered, and its reply was pushed
 pub done : {T E : Type 0} (old new : Situation) (shape : LineShape) (before after : Option (List ℕ)) (held holds text : List ℕ) (result : Result T E) → Gathers before after holds (held ++ text) result → StepOn old shape text new →
     DoneOn old shape new before after held holds result
 done old new shape before after held holds text result gathers step = record { text = text; step = step; gathers = gathers }
 
--- bytes that were put where the page holds nothing
+-- bytes that were put while the page held nothing
 pub puts_gathered : {T E : Type 0} (old new : Option (List ℕ)) (held bytes : List ℕ) (result : Result T E) → held ≡ [] → Puts old new bytes result → Gathers old new held bytes result
 puts_gathered old new held bytes (Ok x) empty puts = subst (λ (xs : List ℕ). Gathered old new xs bytes) (sym empty) (Gathered-put old new bytes puts)
 puts_gathered old new held bytes (Err e) empty puts = (puts, empty)
 
--- an answer that was taken on an empty page, which is put then
+-- a reply that was pushed on an empty page, which was flushed then
 pub answered_whole : {T E T' E' : Type 0} (old new : Situation) (line : List ℕ) (before mid after : Option (List ℕ)) (held holds : List ℕ) (x : T) (result : Result T' E') → held ≡ [] →
     AnsweredOn {T = T} {E = E} old line new before mid held holds (Ok x) → Puts mid after holds result → Answered old line new before after result
 answered_whole old new line before mid after held holds x result empty a puts = record {
@@ -48,7 +48,7 @@ answered_whole old new line before mid after held holds x result empty a puts = 
   puts = subst (λ (bs : List ℕ). Puts before after bs result) (ap (λ (bs : List ℕ). bs ++ a.text) empty) (Puts-after_Gathered before mid after holds (held ++ a.text) result a.gathers puts);
 }
 
--- and one that wasn't taken whole
+-- a reply that wasn't pushed whole
 pub answered_prefix : {T E T' E' : Type 0} (old new : Situation) (line : List ℕ) (before after : Option (List ℕ)) (held holds : List ℕ) (e : E) (e' : E') → held ≡ [] → AnsweredOn {T = T} {E = E} old line new before after held holds (Err e) →
     Answered {T = T'} {E = E'} old line new before after (Err e')
 answered_prefix old new line before after held holds e e' empty a = record {
@@ -57,13 +57,13 @@ answered_prefix old new line before after held holds e e' empty a = record {
   puts = subst (λ (bs : List ℕ). WrotePrefix before after bs) (ap (λ (bs : List ℕ). bs ++ a.text) empty) a.gathers.0;
 }
 
--- ---- what the answer says
+-- ---- what the reply says
 
--- it names at least one service
+-- the reply to a request names at least one service
 pub names_some : (old : Situation) (line : List ℕ) → IsSituation old → NamesSome old line
 names_some old line is action a shape ok = requests_offered old action a is ok
 
--- the step of a line is that of its shape
+-- the step of a line is the step of its shape
 pub step_by_shape : (old new : Situation) (line text : List ℕ) (shape : LineShape) → shape_of line ≡ Ok shape → StepOn old shape text new → Step old line text new
 unfolding Step
 step_by_shape old new line text shape is by_shape = subst (λ (r : Result LineShape LineError). StepBy old r text new) (sym is) by_shape
@@ -73,7 +73,7 @@ pub step_unshaped : (old : Situation) (line : List ℕ) (why : LineError) → sh
 unfolding Step
 step_unshaped old line why is = subst (λ (r : Result LineShape LineError). StepBy old r (reply_text reply.ErrorLine) old) (sym is) (refl, refl)
 
--- after what is seen and possible, the pair is related
+-- after a possible outcome the pair is related
 pub stays_related : (old new : Situation) (line text : List ℕ) → IsSituation old → Step old line text new → SeenStaysRelated old line new
 unfolding Step
 stays_related old new line text is step state env x shape ok can =

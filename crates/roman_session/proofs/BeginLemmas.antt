@@ -1,4 +1,4 @@
--- A session begins where its library does.
+-- A session begins in the starting states of its library.
 use Rattle.std.proofs.Common.{◌≡◌, ℕ, ◌≤◌, List, length, refl, sym, ap₂, ◌∙◌, subst}
 use Rattle.roman_model.specs.System.{Pair, IsPair}
 use Rattle.roman_model.specs.Numbers.{sizes_of, number}
@@ -15,19 +15,19 @@ use Rattle.roman_session.specs.Layout.{situation_in, IsSession}
 use Rattle.roman_session.specs.declared.phase.Phase.TheVariants.{Idle}
 use Rattle.roman_session.specs.declared.session.Session.TheInside.{Inside}
 
--- the fields are those of a session at its start
+-- the fields hold a starting situation
 pub record HasBegun (library : PlainLibrary) (a : Inside) : Type 0 where
   pub session : IsSession a
   pub start : IsStart library (situation_in a)
 
--- the states are the library's
+-- the states are those of the library's services
 begins_at : (library : PlainLibrary) (x : Seated) (t e : ℕ) → IsSeated library x → t ≡ x.joint.target.beh.start → e ≡ x.joint.environment.env.start →
     ◌≡◌ {A = Pair} (record { t = t; e = e; bs = x.states.items }) (start_pair_of library)
 begins_at library x t e seated is_t is_e =
     ap₂ (λ (t e : ℕ). record { t = t; e = e; bs = x.states.items }) is_t is_e
     ∙ ap₂ (λ (n : NamedSys) (bs : List ℕ). starting n bs) seated.parts seated.states
 
--- they are a pair
+-- the starting states are a pair of the system
 abbrev pub first_pair : Seated → ℕ → ℕ → Pair
 first_pair x t e = record { t = t; e = e; bs = x.states.items }
 

@@ -1,9 +1,9 @@
 -- What the proofs of other crates may cite of this one. All else in proofs/ can be renamed freely.
 
--- What is known where an event isn't refused.
+-- What holds where an event isn't refused.
 pub use Rattle.roman_session.proofs.RulingLemmas.{asked_is, cells_with, checked, died_is, env_jumped_is, frozen_is, handed_is, joining_idle}
 pub use Rattle.roman_session.proofs.RulingLemmas.{jumped_is, seen_is, thawed_is}
--- What follows from offers and from outcomes.
+-- What follows from offers and outcomes.
 pub use Rattle.roman_session.proofs.StepLemmas.{moved_pair, outcomes_related, requests_offered}
 -- What the fields of a session and the calls of its parts say of the situation.
 pub use Rattle.roman_session.proofs.SituationLemmas.{jumped_pair, mapped_at, states_named}

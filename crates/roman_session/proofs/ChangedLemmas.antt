@@ -39,15 +39,15 @@ seat_is s k l =
     let (x, there) = there_is seats k (omega (arith, l, length-map s.parts.seats (joint.seat_of s.parts.catalogue))) in
     there ∙ ap Some (sym (get_or_from_slice_get seats k x _ there))
 
--- it is ready where it isn't frozen
+-- a seat is ready where it isn't frozen
 pub seat_ready : (s : Situation) (k : ℕ) → k < length s.parts.seats → IsFalse (seat_at s k).frozen → IsTrue (is_ready (slice_get (present_system s).seats k))
 seat_ready s k l ready = ap is_ready (seat_is s k l) ∙ ap not ready
 
--- and isn't where it is
+-- a seat isn't ready where it is frozen
 pub seat_unready : (s : Situation) (k : ℕ) → k < length s.parts.seats → IsTrue (seat_at s k).frozen → IsFalse (is_ready (slice_get (present_system s).seats k))
 seat_unready s k l frozen = ap is_ready (seat_is s k l) ∙ ap not frozen
 
--- a prefix of a list and the rest have as many entries as they are counted
+-- the list has k first entries, and n after them
 pub record IsSplit (k n : ℕ) (L : List (Entry Pair)) : Type 0 where
   pub prefix : length (take k L) ≡ k
   pub rest : length (drop k L) ≡ n
@@ -65,22 +65,22 @@ split s list k n sum =
 abbrev pub list_of : Inside → List (Entry Pair)
 list_of b = map (entry_at (joint.system_of b.relation.joint)) b.relation.order.list
 
--- it begins with the replay in the new system
+-- the list after a repair begins with the replay in the new system
 begins_with : (a b : Inside) (x : Changing) (tally : Tally) → IsRepaired x.change a.relation.joint a.relation.order b.relation.joint b.relation.order tally →
     take tally.kept (list_of b) ≡ replay (arena (joint.system_of b.relation.joint)) (rename x.change (list_of a))
 begins_with a b x tally repaired =
     subst (λ (s : Sys). take tally.kept (map (entry_at s) b.relation.order.list) ≡ replay (arena s) (rename x.change (list_of a))) (sym repaired.system) repaired.list.begins
 
--- where no request is open, no service is offered
+-- no service is offered where no request is open
 none_offered : {X : Type 0} (phase : Phase) (action : ℕ) → phase ≡ Idle → phase ≡ Offered action → X
 none_offered phase action idle offered = absurd (let h : ⊥ = cc in h)
 
--- the fields after a change are those of a session, and the step is made
+-- the fields after a change hold a session, and the session made the step of the change
 pub record HasChanged (a b : Inside) (x : Changing) (tally : Tally) : Type 0 where
   pub session : IsSession b
   pub changes : Changes (situation_in a) x (reply_text (reply.Kept tally.kept tally.added)) (situation_in b)
 
--- a situation in parts
+-- a situation from its parts
 situation_of : NamedSys → Pair → Phase → List (Entry Pair) → Situation
 situation_of parts here phase list = record { parts = parts; here = here; phase = phase; list = list }
 
@@ -125,7 +125,7 @@ changed a b x tally ok old_idle new_idle parts here repaired known pair counted 
 abbrev pub turned_fields : Inside → Relation → Inside
 turned_fields a relation = record { relation = relation; target = a.target; env = a.env; states = a.states; number = a.number; phase = a.phase; mask = a.mask }
 
--- the pair stays, and its number
+-- the pair and its number stay the same
 turned_pair : (a : Inside) (relation : Relation) (k : ℕ) (frozen : Bool) → IsSession a → joint.system_of relation.joint ≡ turned (joint.system_of a.relation.joint) k frozen →
     IsPair (joint.system_of relation.joint) (situation_in a).here × (a.number ≡ number (sizes_of (joint.system_of relation.joint)) (situation_in a).here)
 turned_pair a relation k frozen ok same =
@@ -157,7 +157,7 @@ moved_fields a relation states n = record { relation = relation; target = a.targ
 abbrev pub with_states : Inside → List ℕ → Pair
 with_states a bs = record { t = a.target; e = a.env; bs = bs }
 
--- its number, by the states as a slice
+-- the number of the pair with these states, given as a slice
 pub counted_now : (a : Inside) (relation : Relation) (states : Vec ℕ Global) (bs : List ℕ) (n : ℕ) → bs ≡ states.items → n ≡ number (sizes_of (joint.system_of relation.joint)) (with_states a bs) →
     n ≡ number (sizes_of (joint.system_of relation.joint)) (with_states a states.items)
 counted_now a relation states bs n same counted = counted ∙ ap (λ (bs : List ℕ). number (sizes_of (joint.system_of relation.joint)) (with_states a bs)) same
@@ -198,21 +198,21 @@ died_now a relation states n k tally ok idle l parts repaired known items counte
     changed a (moved_fields a relation states n) (dying s k) tally ok idle idle parts (ap (with_states a) items) (repaired (seat_at s k) (seat_is s k l)) known
     (died_pair a relation states.items k tally ok l repaired items) counted room
 
--- a service that isn't refused for want of places has one
+-- there is a place for a service where the number of services isn't the greatest one
 pub has_place : (a : Inside) → IsSession a → (length a.relation.joint.seats ≡ MAX_SERVICES → ⊥) → length a.relation.joint.seats < MAX_SERVICES
 has_place a ok not_full = omega (arith, not_full, ok.known.parts.system.few, length-map a.relation.joint.seats (joint.seat_of a.relation.joint.catalogue))
 
--- and there is room for its state
+-- there is room for the state of a service that joins
 pub has_room : (a : Inside) → IsSession a → length a.relation.joint.seats < MAX_SERVICES → vec_len a.states < vec_capacity a.states
 has_room a ok few =
     let s = situation_in a in
     omega (arith, few, ok.room, a.states.ok.0, states_long (present_system s) s.here ok.known.here, length-map a.relation.joint.seats (joint.seat_of a.relation.joint.catalogue))
 
--- a system that isn't past the limit is within it
+-- cells that don't exceed the limit are within it
 pub is_within : (cells limit : ℕ) → (limit < cells → ⊥) → cells ≤ limit
 is_within cells limit not_past = elim (cases_lt limit cells) [ inl past ↦ absurd (not_past past) | inr within ↦ within ]
 
--- the step of a service that joins, by what the fields show
+-- the step of a service that joins, from the fields
 pub joins_by : (a b : Inside) (s : Situation) (x : Joining) (tally : Tally) (said : Reply) → situation_in a ≡ s → length a.relation.joint.seats < MAX_SERVICES →
     cells_with (situation_in a) x ≤ a.relation.joint.limit → said ≡ reply.Kept tally.kept tally.added → HasChanged a b (growing (situation_in a) x) tally →
     Does Joins s (with_room s x) (reply_text said) (situation_in b)
@@ -224,7 +224,7 @@ joins_by a b s x tally said view few fits is done =
     subst (λ (said : Reply). Does Joins s (with_room s x) (reply_text said) new) (sym is)
     (subst (λ (s : Situation). Does Joins s (with_room s x) (reply_text kept) new) view joins)
 
--- and that of one for which the cells don't suffice
+-- the step of a service that is refused for the limit of cells
 pub limit_by : (a : Inside) (relation : Relation) (s : Situation) (x : Joining) → situation_in a ≡ s → length a.relation.joint.seats < MAX_SERVICES →
     a.relation.joint.limit < cells_with (situation_in a) x → relation ≡ a.relation →
     Does Joins s (with_room s x) (reply_text reply.ErrorLimit) (situation_in (turned_fields a relation))

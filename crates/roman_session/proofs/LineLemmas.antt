@@ -1,4 +1,4 @@
--- Report lines, one after the other.
+-- Report lines, one after another.
 use Rattle.std.proofs.Common.{◌≡◌, ℕ, suc, ◌<◌, ◌≤◌, ◌+◌, Bool, List, [], ◌∷◌, ◌++◌, Some, IsTrue, IsFalse, length, drop, map, get_or, not, slice_get, slice_index, refl, sym, ap, ap₂, ◌∙◌, subst, arith, add-one, append_assoc}
 use Rattle.std.specs.List.{filter, flat_map}
 use Rattle.std.proofs.Math.Seq.{drop-cons}
@@ -58,7 +58,7 @@ no_line lines i l = ap lines_text (drop_all i lines l) ∙ lines-nil
 
 -- ---- offers
 
--- the services that a line lists
+-- the services that a report line lists
 served_lines : (parts : NamedSys) (ks : List ℕ) → lines_text (map (λ k. line.Serves (name_at (map seat_name parts.seats) k)) ks) ≡ served_text parts ks
 unfolding lines_text served_text
 served_lines parts [] = refl
@@ -70,20 +70,20 @@ unfolding served_text
 served_replies s [] = refl
 served_replies s (k ∷ ks) = ap (λ (text : List ℕ). served s.parts k ++ text) (served_replies s ks)
 
--- the seats of a mask are those that are offered
+-- the seats of a mask are the offered seats
 mask_offers : (parts : NamedSys) (p : Pair) (a mask : ℕ) → IsTrue (is_allowed (system_of parts) p a) → length (system_of parts).seats ≤ 32 → HasBits mask (has (offers (system_of parts) p a)) →
     offers (system_of parts) p a ≡ seats_set mask (length parts.seats)
 mask_offers parts p a mask allowed few bits =
     sym (offers_set (system_of parts) p a mask allowed few bits) ∙ ap (seats_set mask) (length-map parts.seats (seat_of parts.catalogue))
 
--- the names of the seats of a mask, where it has the offers' bits
+-- the names of the seats of a mask that has the offers' bits
 mask_names : (parts n : NamedSys) (p : Pair) (a mask : ℕ) → IsNamedSys parts → n ≡ parts → IsTrue (is_allowed (system_of parts) p a) → HasBits mask (has (offers (system_of parts) p a)) →
     served_text n (seats_set mask (length n.seats)) ≡ served_text parts (offers (system_of parts) p a)
 mask_names parts n p a mask known same allowed bits =
     ap (λ (n : NamedSys). served_text n (seats_set mask (length n.seats))) same
     ∙ ap (served_text parts) (sym (mask_offers parts p a mask allowed known.system.few bits))
 
--- the line of an action, in the pieces in which it is taken
+-- the line of an action, in the pieces in which it is pushed
 pub offer_line_is : (parts n : NamedSys) (p : Pair) (a mask : ℕ) (name : List ℕ) → IsNamedSys parts → n ≡ parts → name ≡ name_at parts.environment.actions a →
     IsTrue (is_allowed (system_of parts) p a) → HasBits mask (has (offers (system_of parts) p a)) →
     line_text (line.Offer name) ++ (served_text n (seats_set mask (length n.seats)) ++ (line_text line.Stop ++ [])) ≡ lines_text (offer_line parts p a)
@@ -97,7 +97,7 @@ offer_line_is parts n p a mask name known same is allowed bits =
     ap (λ (name : List ℕ). line_text (line.Offer name) ++ (served_text n (seats_set mask (length n.seats)) ++ (line_text line.Stop ++ []))) is
     ∙ sym (lines-cons (line.Offer (name_at parts.environment.actions a)) (map serves ks ++ line.Stop ∷ []) ∙ ap (λ (text : List ℕ). line_text (line.Offer (name_at parts.environment.actions a)) ++ text) rest)
 
--- the reply to a request, in the pieces in which it is taken
+-- the reply to a request, in the pieces in which it is pushed
 pub offer_text_is : (s : Situation) (n : NamedSys) (a mask : ℕ) → IsNamedSys s.parts → n ≡ s.parts → IsTrue (is_allowed (situation.present_system s) s.here a) →
     HasBits mask (has (offers (situation.present_system s) s.here a)) →
     reply_text reply.Offer ++ (served_text n (seats_set mask (length n.seats)) ++ (reply_text reply.Stop ++ [])) ≡ offer_text s a
@@ -113,7 +113,7 @@ offer_text_is s n a mask known same allowed bits =
 pub lines_from : NamedSys → Pair → ℕ → List ℕ
 lines_from parts p a = lines_text (flat_map (offer_line parts p) (filter (is_allowed (system_of parts) p) (drop a (below (system_of parts).env.actions))))
 
--- an action that is allowed comes next
+-- an allowed action comes next
 pub next_offer : (parts : NamedSys) (p : Pair) (a : ℕ) → a < (system_of parts).env.actions → IsTrue (is_allowed (system_of parts) p a) →
     lines_from parts p a ≡ lines_text (offer_line parts p a) ++ lines_from parts p (a + 1)
 unfolding lines_from
@@ -125,7 +125,7 @@ next_offer parts p a l allowed =
     ∙ ap (λ (xs : List ℕ). lines_text (flat_map (offer_line parts p) xs)) (cond-true (test a) (a ∷ rest) rest allowed)
     ∙ lines-append (offer_line parts p a) (flat_map (offer_line parts p) rest)
 
--- another one is passed over
+-- an action that isn't allowed is passed over
 pub next_unallowed : (parts : NamedSys) (p : Pair) (a : ℕ) → a < (system_of parts).env.actions → IsFalse (is_allowed (system_of parts) p a) → lines_from parts p a ≡ lines_from parts p (a + 1)
 unfolding lines_from
 next_unallowed parts p a l unallowed =
@@ -141,13 +141,13 @@ unfolding lines_from
 no_offer parts p a l =
     ap (λ (xs : List ℕ). lines_text (flat_map (offer_line parts p) (filter (is_allowed (system_of parts) p) xs))) (from_end (system_of parts).env.actions a l) ∙ lines-nil
 
--- where the pair is related all actions are gone through
+-- where the pair is related the lines are those of all actions from 0 on
 pub offers_begin : (parts : NamedSys) (p : Pair) → IsTrue (is_related (system_of parts) p) → lines_from parts p 0 ≡ lines_text (offer_lines parts p)
 unfolding lines_from
 offers_begin parts p related =
     ap lines_text (sym (cond-true (is_related (system_of parts) p) (flat_map (offer_line parts p) (filter (is_allowed (system_of parts) p) (below (system_of parts).env.actions))) [] related))
 
--- where it isn't there are no such lines
+-- where the pair isn't related there are no such lines
 pub no_offers : (parts : NamedSys) (p : Pair) → IsFalse (is_related (system_of parts) p) → [] ≡ lines_text (offer_lines parts p)
 no_offers parts p unrelated =
     sym (ap lines_text (cond-false (is_related (system_of parts) p) (flat_map (offer_line parts p) (filter (is_allowed (system_of parts) p) (below (system_of parts).env.actions))) [] unrelated) ∙ lines-nil)
@@ -180,7 +180,7 @@ next_service parts p k seat seated l =
     ap₂ (λ (seats : List Seat) (bs : List ℕ). lines_text (service_lines parts.catalogue seats bs)) seats bs
     ∙ lines-cons (service_line parts.catalogue seat (slice_index p.bs k)) (service_lines parts.catalogue (drop (k + 1) parts.seats) (drop (k + 1) p.bs))
 
--- the same of a line that is that of the service, whatever it is
+-- the same for any line that equals the service's line
 pub service_next : (parts n : NamedSys) (p : Pair) (k b : ℕ) (x : ReportLine) → IsPair (system_of parts) p → n ≡ parts → k < length parts.seats → b ≡ slice_index p.bs k →
     ((seat : Seat) → slice_get n.seats k ≡ Some seat → x ≡ service_line n.catalogue seat b) → services_from parts p k ≡ line_text x ++ services_from parts p (k + 1)
 service_next parts n p k b x pair same l is by_seat =
@@ -196,7 +196,7 @@ pub no_service : (parts : NamedSys) (p : Pair) (k : ℕ) → length parts.seats 
 unfolding services_from
 no_service parts p k l = ap (λ (seats : List Seat). lines_text (service_lines parts.catalogue seats (drop k p.bs))) (drop_all k parts.seats l) ∙ lines-nil
 
--- all are gone through
+-- the lines of all services are those from 0 on
 pub services_begin : (parts : NamedSys) (p : Pair) → services_from parts p 0 ≡ lines_text (service_lines parts.catalogue parts.seats p.bs)
 unfolding services_from
 services_begin parts p = refl
@@ -224,7 +224,7 @@ report_pieces parts p =
     ∙ ap (λ (text : List ℕ). lines_text (report_head parts p) ++ text)
     (lines-append services (answer ∷ (offered ++ ends)) ∙ ap (λ (text : List ℕ). lines_text services ++ text) after_services))
 
--- the pieces in which the report is taken
+-- the pieces in which the report is pushed
 pub report_is : (parts : NamedSys) (p : Pair) (head : List ReportLine) (related : Bool) → head ≡ report_head parts p → related ≡ is_related (system_of parts) p →
     lines_text head
     ++ (lines_text (service_lines parts.catalogue parts.seats p.bs)

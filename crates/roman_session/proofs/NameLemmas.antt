@@ -19,7 +19,7 @@ use Rattle.roman_joint.specs.declared.seat.Seat.{Seat}
 use Rattle.roman_joint.specs.Names.{seat_name}
 use Rattle.roman_session.specs.Rulings.{named}
 
--- of two places, one may be before the other
+-- the first place at which a test passes is unique
 first_place : (p : List ℕ → Bool) (names : List (List ℕ)) (i k : ℕ) → p (get_or names i []) ≡ true → p (get_or names k []) ≡ true →
     ((j : ℕ) → j < i → p (get_or names j []) ≡ false) → ((j : ℕ) → j < k → p (get_or names j []) ≡ false) → i ≡ k
 first_place p names i k at_i at_k before_i before_k =
@@ -28,7 +28,7 @@ first_place p names i k at_i at_k before_i before_k =
       | inr more ↦ elim (cases_lt k i) [ inl less ↦ absurd (both_ways (p (get_or names k [])) (before_i k less) at_k) | inr same ↦ omega arith ]
     ]
 
--- a name that stands there
+-- the name at a place is in the list
 in_there : (names : List (List ℕ)) (k : ℕ) → k < length names → IsIn (get_or names k []) names
 in_there names k l = contains_in names (get_or names k []) (Contains-get_or names k [] l)
 
@@ -42,7 +42,7 @@ place_found names name k l at before =
     let first = position-Some p names i [] e in
     e ∙ ap Some (first_place p names i k first.1 at first.2 before)
 
--- no place at which it passes
+-- no place at which the test passes
 pub place_not_found : (names : List (List ℕ)) (name : List ℕ) → ((j : ℕ) → j < length names → bytes_eq name (get_or names j []) ≡ false) → place_of names name ≡ None
 place_not_found names name before =
     position-none (bytes_eq name) names (none_from (bytes_eq name) names (λ x i.
@@ -57,7 +57,7 @@ service_not_found seats name k l before =
     let none = place_not_found (map seat_name seats) name (λ j less. before j (omega (arith, length-map seats seat_name))) in
     ap (λ (o : Option ℕ). ok_or o reply.ErrorName) (sym none)
 
--- a name that has no place among others is none of them
+-- a name that has no place in a list isn't in it
 pub name_is_new : (names : List (List ℕ)) (name : List ℕ) (r : Result ℕ Reply) → r ≡ named names name → is_ok r ≡ false → IsIn name names → ⊥
 name_is_new names name r is not_ok i =
     let there : list_any (bytes_eq name) names ≡ true = any_from (bytes_eq name) name names i ((bytes_eq-Decides name name).1 refl) in

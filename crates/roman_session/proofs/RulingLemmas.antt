@@ -1,4 +1,4 @@
--- What is known where an event isn't refused.
+-- What holds where an event isn't refused.
 use Rattle.std.proofs.Common.{◌≡◌, ℕ, ◌<◌, ◌≤◌, Bool, true, false, not, leb, inl, inr, List, map, length, Result, Ok, Err, IsTrue, IsFalse, refl, ap, ap₂, subst, ◌∙◌, arith}
 use Rattle.std.proofs.lemmas.Bool.{not-true, lt-ltb, le-leb}
 use Rattle.std.proofs.lemmas.Bool.Decides.{leb_tells}
@@ -23,12 +23,12 @@ use Rattle.roman_generator.specs.declared.sight.Sight.{Sight}
 use Rattle.roman_session.specs.declared.phase.Phase.{Phase}
 use Rattle.roman_session.specs.declared.phase.Phase.TheVariants.{Idle, Offered, Delegated}
 
--- after a test that holds comes what follows
+-- a test that holds leads on to the checks that follow
 pub checked : {Y : Type 0} (test : Bool) (refusal : Reply) (f : Unit {0} → Result Y Reply) (y : Y) → (demand test refusal >>= f) ≡ Ok y → IsTrue test × (f tt ≡ Ok y)
 checked true refusal f y h = (refl, h)
 checked false refusal f y h = cc
 
--- a request that isn't refused comes at a related pair, where its action is allowed
+-- where a request isn't refused, the current pair is related and the action is allowed
 pub record IsAsked (s : Situation) (action : List ℕ) (a : ℕ) : Type 0 where
   pub named : named s.parts.environment.actions action ≡ Ok a
   pub idle : IsTrue (is_idle s.phase)
@@ -50,13 +50,13 @@ asked_is s action a h =
       allowed = subst (λ (a : ℕ). IsTrue (is_allowed (present_system s) s.here a)) same allowed;
     }
 
--- what was delegated, where something was
+-- the present delegation, where there is one
 delegation_is : (phase : Phase) (d : Handing) → delegation phase ≡ Ok d → phase ≡ Delegated d.action d.seat
 delegation_is Idle d h = cc
 delegation_is (Offered a) d h = cc
 delegation_is (Delegated a k) d h = cc
 
--- what is seen belongs to what was delegated
+-- an outcome that is seen belongs to the present delegation
 pub seen_is : (s : Situation) (state env : List ℕ) (x : Sight) → seen s state env ≡ Ok x → s.phase ≡ Delegated x.action x.seat
 unfolding seen
 seen_is s state env x h =
@@ -111,7 +111,7 @@ jumped_is s service state x h =
     let whole = same_ok _ x h3 in
     subst (IsJumping s service state) whole (record { seat = e; state = eb; idle = idle_is s.phase idle })
 
--- and a jump of the environment one of its states
+-- a jump of the environment that isn't refused names one of its states, where no request is open
 pub record IsEnvJumping (s : Situation) (env : List ℕ) (e : ℕ) : Type 0 where
   pub named : named s.parts.environment.states env ≡ Ok e
   pub idle : s.phase ≡ Idle
@@ -182,7 +182,7 @@ joining_idle s service behaviour state loose x h =
     let (b, e2, h3) = bind_ok (named (states_of_behaviour s.parts.catalogue i) state) _ x h2 in
     idle_is s.phase (checked (is_idle s.phase) reply.ErrorBusy _ x h3).0
 
--- the answer by the two tests of room
+-- the result of the two tests for room
 room_by : Joining → Bool → Bool → Result Joining Reply
 room_by x few fits = demand few reply.ErrorFull >>= (λ _. demand fits reply.ErrorLimit >>= (λ _. Ok x))
 
@@ -195,7 +195,7 @@ pub with_room_is : (s : Situation) (x : Joining) → length s.parts.seats < MAX_
 unfolding room_by
 with_room_is s x few fits = ap₂ (room_by x) (lt-ltb (length s.parts.seats) MAX_SERVICES few) (le-leb (cells_with s x) s.parts.limit fits)
 
--- where the cells exceed the limit it doesn't
+-- where the cells exceed the limit a service doesn't join
 pub no_room_is : (s : Situation) (x : Joining) → length s.parts.seats < MAX_SERVICES → s.parts.limit < cells_with s x → with_room s x ≡ Err reply.ErrorLimit
 unfolding room_by
 no_room_is s x few more =

@@ -1,4 +1,4 @@
--- The seats of a mask, one after the other.
+-- The seats of a mask, one after another.
 use Rattle.std.proofs.Common.{◌≡◌, ℕ, ◌<◌, ◌≤◌, ◌+◌, Bool, List, [], ◌∷◌, ◌++◌, Some, IsTrue, IsFalse, length, drop, slice_get, sym, ap, ◌∙◌, arith, codes, not, ◌&&◌}
 use Rattle.std.specs.List.{filter, flat_map}
 use Rattle.std.proofs.lemmas.Bool.{cond-true, cond-false}
@@ -16,7 +16,7 @@ use Rattle.roman_joint.specs.Names.{seat_name}
 use Rattle.roman_session.specs.Serving.{seats_set, served, served_text}
 use Rattle.roman_session.proofs.SituationLemmas.{mapped_at}
 
--- a seat that is set comes next
+-- a seat of the mask comes next
 pub next_set : (parts : NamedSys) (mask n k : ℕ) (seat : Seat) → k < n → IsTrue (has_seat mask k) → slice_get parts.seats k ≡ Some seat →
     served_text parts (filter (has_seat mask) (drop k (below n))) ≡ (codes " " ++ seat.name) ++ served_text parts (filter (has_seat mask) (drop (k + 1) (below n)))
 unfolding served_text
@@ -26,7 +26,7 @@ next_set parts mask n k seat l set seated =
     ∙ ap (flat_map (served parts)) (cond-true (has_seat mask k) (k ∷ rest) rest set)
     ∙ ap (λ (name : List ℕ). (codes " " ++ name) ++ flat_map (served parts) rest) (mapped_at seat_name parts.seats k seat [] seated)
 
--- a seat that isn't set is passed over
+-- a seat that the mask lacks is passed over
 pub next_unset : (parts : NamedSys) (mask n k : ℕ) → k < n → IsFalse (has_seat mask k) →
     served_text parts (filter (has_seat mask) (drop k (below n))) ≡ served_text parts (filter (has_seat mask) (drop (k + 1) (below n)))
 next_unset parts mask n k l unset =

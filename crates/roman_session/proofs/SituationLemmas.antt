@@ -28,11 +28,11 @@ use Rattle.roman_session.specs.declared.phase.Phase.{Phase}
 use Rattle.roman_session.specs.declared.phase.Phase.TheVariants.{Idle, Offered, Delegated}
 use Rattle.roman_session.specs.declared.session.Session.TheInside.{Inside}
 
--- the fields' situation is one
+-- the situation in the fields is well formed
 pub situation_known : (a : Inside) (s : Situation) → IsSession a → situation_in a ≡ s → IsSituation s
 situation_known a s ok view = subst IsSituation view ok.known
 
--- its parts are the joint's
+-- the situation's parts are the joint's
 pub parts_shown : (a : Inside) (s : Situation) → situation_in a ≡ s → a.relation.joint ≡ s.parts
 parts_shown a s view = ap (λ (s : Situation). s.parts) view
 
@@ -43,7 +43,7 @@ state_there a s k ok view l =
     let long = states_long (present_system t) t.here ok.known.here in
     omega (arith, l, long, length-map t.parts.seats (joint.seat_of t.parts.catalogue), ap (λ (s : Situation). length s.parts.seats) view)
 
--- a state to which a service goes is one of its behaviour
+-- a state to which a service moves is one of its behaviour's
 pub moved_within : (s : Sys) (p : Pair) (t e k b : ℕ) → IsPair s p → IsPair s (moved p t e k b) → k < length s.seats → b < slice_index (sizes_of s).seats k
 moved_within s p t e k b is ok l =
     let bs = slice_set p.bs k b in
@@ -55,12 +55,12 @@ moved_within s p t e k b is ok l =
 pub here_pair : (s : Situation) (p : ℕ) → IsSituation s → p ≡ number (sizes_of (present_system s)) s.here → pair_at (sizes_of (present_system s)) p ≡ s.here
 here_pair s p is h = ap (pair_at (sizes_of (present_system s))) h ∙ (numbers_are_pairs (present_system s)).back s.here is.here
 
--- what is found at that number is found at the current pair
+-- what holds at the number of a pair holds at the pair
 pub at_here : {X : Type 0} (F : Sys → Pair → X) (s : Situation) (n : NamedSys) (p : ℕ) → IsSituation s → n ≡ s.parts → p ≡ number (sizes_of (present_system s)) s.here →
     F (joint.system_of n) (pair_at (sizes_of (joint.system_of n)) p) ≡ F (present_system s) s.here
 at_here F s n p is same h = ap (λ (n : NamedSys). F (joint.system_of n) (pair_at (sizes_of (joint.system_of n)) p)) same ∙ ap (F (present_system s)) (here_pair s p is h)
 
--- what is mapped at a place
+-- the item of a mapped list at a place
 pub mapped_at : {X Y : Type 0} (f : X → Y) (xs : List X) (k : ℕ) (x : X) (d : Y) → slice_get xs k ≡ Some x → slice_index_or (map f xs) k d ≡ f x
 mapped_at f xs k x d h = get_or_from_slice_get (map f xs) k (f x) d (slice_get-map f xs k ∙ ap (option_map f) h)
 
@@ -70,7 +70,7 @@ states_named n k beh of =
     ap (λ (x : SeatNames). x.states) (mapped_at (names_of_seat n.catalogue) n.seats k of.seat (record { service = []; states = [] }) of.seated)
     ∙ mapped_at beh_states n.catalogue of.seat.behaviour beh [] of.placed
 
--- a seat that is offered is that of a present service
+-- an offered seat is the seat of a present service
 pub offered_within : (s : Situation) (a k : ℕ) → IsSituation s → IsIn k (offers (present_system s) s.here a) → k < length s.parts.seats
 offered_within s a k is i =
     let (allowed, l, some, all) = offer_is (present_system s) s.here a k is.parts.system is.here i in
@@ -82,7 +82,7 @@ pub holds_here : (P : Sys → Pair → Type 0) (s : Situation) (n : NamedSys) (p
 holds_here P s n p is same h there =
     subst (P (present_system s)) (here_pair s p is h) (subst (λ (n : NamedSys). P (joint.system_of n) (pair_at (sizes_of (joint.system_of n)) p)) same there)
 
--- a test that tells whether the current pair is related is the definition's
+-- a flag that is true exactly for a related current pair is the definition's test
 pub related_is : (s : Situation) (n : NamedSys) (p : ℕ) (r : Bool) → IsSituation s → n ≡ s.parts → p ≡ number (sizes_of (present_system s)) s.here →
     IsTrue r ↔ Great (joint.system_of n) (pair_at (sizes_of (joint.system_of n)) p) → r ≡ is_related (present_system s) s.here
 related_is s n p r is same h there =
@@ -101,14 +101,14 @@ unrelated_there s n p is same h unrelated great =
 pub delegated_is : (s : Situation) (a k : ℕ) → IsSituation s → s.phase ≡ Delegated a k → IsOpen s a × IsIn k (offers (present_system s) s.here a)
 delegated_is s a k is phase = subst (IsPhase s) phase is.phase
 
--- and is ready
+-- a delegate is ready
 pub delegate_ready : (s : Situation) (a k : ℕ) → IsSituation s → IsIn k (offers (present_system s) s.here a) → IsTrue (is_ready (slice_get (present_system s).seats k))
 delegate_ready s a k is i =
     let (allowed, l, some, all) = offer_is (present_system s) s.here a k is.parts.system is.here i in
     let (q, j) = not_empty_in (outcomes (present_system s) s.here a k) (ne_not_empty (outcomes (present_system s) s.here a k) some) in
     (outcome_seat (present_system s) s.here a k q j).1
 
--- a phase at the current pair is one, whatever the present phase
+-- a phase that is possible at the current pair stays possible for any present phase
 pub phase_kept : (s : Situation) (new phase : Phase) → IsPhase s phase → IsPhase (record s { phase = new }) phase
 phase_kept s new Idle h = tt
 phase_kept s new (Offered a) h = h
@@ -122,7 +122,7 @@ service_named_at n s k seat same h = sym (mapped_at seat_name s.parts.seats k se
 pub offered_open : (s : Situation) (a : ℕ) → IsSituation s → s.phase ≡ Offered a → IsOpen s a
 offered_open s a is phase = subst (IsPhase s) phase is.phase
 
--- with a service in another of its states the pair is one
+-- the pair with a service in another of its states is a pair of the system
 pub jumped_pair : (s : Situation) (k b : ℕ) → IsSituation s → k < length s.parts.seats → IfSome (slice_get (present_system s).seats k) (λ seat. b < seat.beh.states) →
     IsPair (present_system s) (record { t = s.here.t; e = s.here.e; bs = slice_set s.here.bs k b })
 jumped_pair s k b is l within =

@@ -1,4 +1,4 @@
--- What follows from offers and from outcomes.
+-- What follows from offers and outcomes.
 use Rattle.std.proofs.Common.{◌≡◌, ◌≢◌, ℕ, List, [], Ok, IsTrue, sym, subst}
 use Rattle.roman_model.specs.Lists.{IsIn}
 use Rattle.roman_model.specs.System.{IsPair}
@@ -11,7 +11,7 @@ use Rattle.roman_session.specs.Steps.{HasMoved, Moves, pair_after}
 use Rattle.roman_generator.specs.declared.sight.Sight.{Sight}
 use Rattle.roman_session.proofs.RulingLemmas.{asked_is, seen_is}
 
--- the current pair is related, where it is tested
+-- the current pair is related where the test holds
 here_great : (s : Situation) → IsSituation s → IsTrue (is_related (present_system s) s.here) → Great (present_system s) s.here
 here_great s is related = related_great (present_system s) s.here is.parts.system is.here related
 
@@ -21,7 +21,7 @@ requests_offered s action a is ok =
     let asked = asked_is s action a ok in
     related_offers (present_system s) s.here a is.parts.system (here_great s is asked.related) asked.allowed
 
--- where a sight is of a delegation, the pair after it is related
+-- the pair after an outcome of an offered seat is related
 pub moved_related : (old new : Situation) (x : Sight) (text : List ℕ) → IsSituation old → IsIn x.seat (offers (present_system old) old.here x.action) → Moves old x text new →
     IsTrue (is_related (present_system new) new.here)
 moved_related old new x text is offered moves =
@@ -32,14 +32,14 @@ moved_related old new x text is offered moves =
     subst (λ (s : Situation). IsTrue (is_related (present_system s) s.here)) (sym moves.becomes)
     (great_related s q is.parts.system (all q out))
 
--- so it is after an outcome that is possible
+-- the pair after a possible outcome is related
 pub outcomes_related : (old new : Situation) (state env text : List ℕ) (x : Sight) → IsSituation old → seen old state env ≡ Ok x → Moves old x text new →
     IsTrue (is_related (present_system new) new.here)
 outcomes_related old new state env text x is ok moves =
     let phase = subst (IsPhase old) (seen_is old state env x ok) is.phase in
     moved_related old new x text is phase.1 moves
 
--- the pair after a move is one
+-- the pair after a move is a pair of the system
 pub moved_pair : (s : Situation) (x : Sight) (to : ℕ) → IsSituation s → HasMoved s x to → IsPair (present_system s) (pair_after s x to)
 moved_pair s x to is moves =
     let q = pair_after s x to in

@@ -1,4 +1,4 @@
--- What the fields of a session are.
+-- The situation that the fields of a session hold.
 use Rattle.std.specs.Prelude.{◌≡◌, ℕ, ◌≤◌, length, map, vec_capacity}
 use Rattle.roman_model.specs.System.{has}
 use Rattle.roman_model.specs.Numbers.{sizes_of, number, entry_at}
@@ -11,7 +11,7 @@ use Rattle.roman_session.specs.Situations.{Situation, IsSituation}
 use Rattle.roman_session.specs.declared.phase.Phase.TheVariants.{Offered}
 use Rattle.roman_session.specs.declared.session.Session.TheInside.{Inside}
 
--- the situation that the fields show
+-- the situation that the fields hold
 abbrev pub situation_in : Inside → Situation
 situation_in a = record {
   parts = a.relation.joint;
@@ -20,8 +20,8 @@ situation_in a = record {
   list = map (entry_at (system_of a.relation.joint)) a.relation.order.list;
 }
 
--- the relation's list is complete, the situation is one, the catalogue has at most as many behaviours as a document, there is
--- room for the greatest number of services, the number is the current pair's, and the mask is of the services that are offered
+-- the relation's list is complete, the situation is well formed, the catalogue has at most as many behaviours as a document, there is
+-- room for the greatest number of services, the number is the current pair's, and the mask has exactly the offered services
 pub record IsSession (a : Inside) : Type 0 where
   pub relation : IsRelation a.relation.joint a.relation.order
   pub known : IsSituation (situation_in a)

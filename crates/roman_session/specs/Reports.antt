@@ -1,4 +1,4 @@
--- The report: the services now present, the present states, and what can be offered there.
+-- The report: the services now present, the present states, and the services that can be offered.
 use Rattle.std.specs.Prelude.{ℕ, not, List, [], ◌∷◌, ◌++◌, map, length, if◌then◌else◌}
 use Rattle.std.specs.List.{filter, flat_map}
 use Rattle.roman_model.specs.Lists.{below}
@@ -14,7 +14,7 @@ use Rattle.roman_joint.specs.NamedSys.{NamedSys, system_of}
 use Rattle.roman_joint.specs.declared.seat.Seat.{Seat}
 use Rattle.roman_joint.specs.Names.{seat_name, beh_name, states_of_behaviour}
 
--- the line of a service that is in state b
+-- the line of a service in state b
 abbrev pub service_line : List NamedBeh → Seat → ℕ → ReportLine
 service_line catalogue seat b =
     line.Service seat.name (name_at (map beh_name catalogue) seat.behaviour) (name_at (states_of_behaviour catalogue seat.behaviour) b) seat.frozen (not seat.rests)
@@ -31,14 +31,14 @@ offer_line parts p a =
     line.Offer (name_at parts.environment.actions a)
     ∷ (map (λ k. line.Serves (name_at (map seat_name parts.seats) k)) (offers (system_of parts) p a) ++ line.Stop ∷ [])
 
--- a line for each action that the target allows, where the pair is related
+-- a line for each action that the target allows, where the pair is related; no lines where it isn't
 abbrev pub offer_lines : NamedSys → Pair → List ReportLine
 offer_lines parts p =
     if is_related (system_of parts) p
     then flat_map (offer_line parts p) (filter (is_allowed (system_of parts) p) (below (system_of parts).env.actions))
     else []
 
--- the first lines
+-- the first four lines of the report
 abbrev pub report_head : NamedSys → Pair → List ReportLine
 report_head parts p =
     line.Pairs (length (pairs (system_of parts)))
@@ -59,6 +59,6 @@ report_lines parts p =
 unfoldable pub lines_text : List ReportLine → List ℕ
 lines_text lines = flat_map line_text lines
 
--- the report on the services now present, at these states
+-- the bytes of the report on the services now present, at these states
 unfoldable pub report_text : NamedSys → Pair → List ℕ
 report_text parts p = lines_text (report_lines parts p)

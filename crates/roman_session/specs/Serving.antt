@@ -7,7 +7,7 @@ use Rattle.roman_rules.specs.Bits.{has_seat}
 use Rattle.roman_joint.specs.NamedSys.{NamedSys}
 use Rattle.roman_joint.specs.Names.{seat_name}
 
--- the seats below n of a set
+-- the seats below n that the mask has
 abbrev pub seats_set : ℕ → ℕ → List ℕ
 seats_set mask n = filter (has_seat mask) (below n)
 

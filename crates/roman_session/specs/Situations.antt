@@ -11,8 +11,8 @@ use Rattle.roman_joint.specs.NamedSys as joint
 use Rattle.roman_session.specs.declared.phase.Phase.{Phase}
 use Rattle.roman_session.specs.declared.phase.Phase.TheVariants.{Idle, Offered, Delegated}
 
--- the library with the services now present; the target's state, the environment's and the services';
--- the request that is open; and a removal list
+-- the library with the services now present; the states of the target, the environment and the services; the phase with the open
+-- request; and a removal list
 pub record Situation : Type 0 where
   pub parts : NamedSys
   pub here : Pair
@@ -35,13 +35,13 @@ is_idle (Delegated a k) = false
 abbrev pub IsOpen : Situation → ℕ → Type 0
 IsOpen s a = IsTrue (is_related (present_system s) s.here) × IsTrue (is_allowed (present_system s) s.here a)
 
--- the request can be served, and its delegate is offered for it
+-- an open request can be served, and its delegate is offered for it
 abbrev pub IsPhase : Situation → Phase → Type 0
 IsPhase s Idle = Unit {0}
 IsPhase s (Offered a) = IsOpen s a
 IsPhase s (Delegated a k) = IsOpen s a × IsIn k (offers (present_system s) s.here a)
 
--- what holds between any two lines
+-- the situation is well formed, as between any two lines
 pub record IsSituation (s : Situation) : Type 0 where
   pub parts : IsNamedSys s.parts
   pub here : IsPair (present_system s) s.here

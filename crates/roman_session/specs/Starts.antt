@@ -6,7 +6,7 @@ use Rattle.roman_start.specs.Starts.{parts_of, start_pair_of}
 use Rattle.roman_session.specs.Situations.{Situation, present_system}
 use Rattle.roman_session.specs.declared.phase.Phase.TheVariants.{Idle}
 
--- a session of the library in its starting states: no request is open, and the list is any complete one
+-- a starting situation of the library: it has the starting states, no open request, and any complete list
 pub record IsStart (library : PlainLibrary) (s : Situation) : Type 0 where
   pub parts : s.parts ≡ parts_of library
   pub here : s.here ≡ start_pair_of library

@@ -1,9 +1,9 @@
-//! What events name, where they aren't refused. No call gives it out: the definitions of steps speak of
-//! it, and so do the laws on them.
+//! What accepted events name. No call returns these types: they are public because the definitions of
+//! steps and the laws on them speak of them.
 
 use roman_joint::Seat;
 
-/// An action, and the service to which it is delegated.
+/// A requested action, and the service to which it is delegated.
 #[derive(Clone, Copy)]
 pub struct Handing {
     /// The number of the action.
@@ -12,7 +12,7 @@ pub struct Handing {
     pub seat: u8,
 }
 
-/// A service, and the state that it is in.
+/// A service, and the state to which it is moved.
 #[derive(Clone, Copy)]
 pub struct Jump {
     /// The place of the service.
@@ -21,7 +21,7 @@ pub struct Jump {
     pub state: u8,
 }
 
-/// A service that joins, and the state that it is in.
+/// A service that joins, and the state in which it joins.
 #[derive(Clone, Copy)]
 pub struct Joining {
     /// The service, with its name and its behaviour.

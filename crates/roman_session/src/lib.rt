@@ -1,8 +1,8 @@
-//! Sessions: the events that come in, one line each, and what is answered.
+//! Sessions: each line is an event, and the session writes the reply to it.
 //!
 //! A session holds the services now present with the greatest relation of their system, the present
-//! states of the target, the environment and the services, and the request that is open. Contracts
-//! see it as a situation, and an answer as one step from a situation to another (`specs/Steps`).
+//! states of the target, the environment and the services, and the open request. Contracts see a
+//! session as a situation, and an answer as one step from a situation to another (`specs/Steps`).
 #![tactic(auto)]
 
 mod events;

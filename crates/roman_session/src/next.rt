@@ -1,10 +1,10 @@
-//! Whether a session goes on.
+//! Whether a session takes more lines.
 
-/// Whether a session goes on after a line.
+/// Whether a session takes more lines after the one that it answered.
 #[derive(Clone, Copy, Debug, PartialEq, Eq)]
 pub enum Next {
-    /// It takes more lines.
+    /// The session takes more lines.
     More,
-    /// It has ended.
+    /// The session has ended.
     Quit,
 }

@@ -1,4 +1,4 @@
-//! Sessions: what they are made of, and what is seen of them.
+//! Sessions: their parts, and the calls that read them.
 ghost use Rattle.std.specs.Prelude.{◌≡◌, ◌≢◌, ℕ, ◌<◌, length, Some, slice_get, slice_index};
 ghost use Rattle.roman_model.specs.System.{IsPair, has};
 ghost use Rattle.roman_model.specs.SystemArena.{pairs, is_allowed};
@@ -29,8 +29,8 @@ use roman_relation::Relation;
 use roman_rules::SeatSet;
 use std::marker::Model;
 
-/// One session: the services now present with the greatest relation of their system, the present
-/// states, and the request that is open. Contracts see it as a situation, whose removal list is
+/// One session. Holds the services now present with the greatest relation of their system, the
+/// present states, and the open request. Contracts see it as a situation, whose removal list is
 /// complete.
 #[derive(Drop)]
 pub struct Session {
@@ -38,12 +38,12 @@ pub struct Session {
     // the states of the target, of the environment and of the services
     target: u8,
     env: u8,
-    // There is room for the greatest number of services.
+    // Has room for the greatest number of services.
     states: Vec<u8>,
     // the number of the current pair
     number: u32,
     phase: Phase,
-    // the services that are offered, where a request is open that has no delegate
+    // the offered services, where an open request has no delegate yet
     mask: SeatSet,
 }
 
@@ -59,7 +59,7 @@ impl Model for Session {
     ghost invariant = { IsSession };
 }
 
-/// The number of a pair of the system.
+/// Returns the number of a pair of the system.
 fn number_of(joint: &Joint, t: u8, e: u8, states: &[u8]) -> u32
     requires { IsPair (named.system_of joint.now) (record { t = t; e = e; bs = states.now }) }
     ensures { result ≡ number (sizes_of (named.system_of joint.now)) (record { t = t; e = e; bs = states.now }) }
@@ -68,29 +68,29 @@ fn number_of(joint: &Joint, t: u8, e: u8, states: &[u8]) -> u32
 }
 
 impl Session {
-    /// The number of pairs of the system with the services now present.
+    /// Returns the number of pairs of the system with the services now present.
     pub fn pairs(&self) -> u32
         ensures { result ≡ length (pairs (present_system self.now)) }
     {
         self.relation.joint.shape().pairs()
     }
 
-    /// The number of related pairs of the system with the services now present.
+    /// Returns the number of related pairs of the system with the services now present.
     pub fn related(&self) -> u32
         ensures { result ≡ related_count (present_system self.now) }
     {
         self.relation.count()
     }
 
-    /// Whether a composition exists from the current pair: the pair is related.
+    /// Returns whether a composition exists from the current pair: whether the pair is related.
     pub fn composes(&self) -> bool
         ensures { result ≡ is_related (present_system self.now) self.now.here }
     {
         self.relation.related(self.here())
     }
 
-    /// What is waited for. Where a request is open, the current pair is related and the target allows
-    /// the action there; and a delegate is one of the services that are offered for it.
+    /// Returns the phase. Where a request is open, the current pair is related and the target allows
+    /// the action there. A delegate is one of the services that are offered for the action.
     pub fn phase(&self) -> Phase
         ensures phase { result ≡ self.now.phase }
         ensures holds { IsPhase self.now result }
@@ -98,14 +98,14 @@ impl Session {
         self.phase
     }
 
-    /// Tells a prover what holds of every session. It does nothing.
+    /// Does nothing. Its contract states what holds of every session.
     pub fn known(&self)
         ensures { IsSituation self.now }
     {
         let _phase = self.phase;
     }
 
-    /// The number of the current pair.
+    /// Returns the number of the current pair.
     fn here(&self) -> u32
         ensures number { result ≡ number (sizes_of (present_system self.now)) self.now.here }
         ensures below { result < count (sizes_of (present_system self.now)) }
@@ -113,7 +113,7 @@ impl Session {
         self.number
     }
 
-    /// The state of the service at place k.
+    /// Returns the state of the service at place `k`.
     fn state(&self, k: u8) -> u8
         requires { k < length self.now.parts.seats }
         ensures value { result ≡ slice_index self.now.here.bs k }
@@ -122,7 +122,7 @@ impl Session {
         self.states[k as usize]
     }
 
-    /// Whether the target allows the action at the current pair.
+    /// Returns whether the target allows the action `a` at the current pair.
     fn allows(&self, a: u8) -> bool
         requires { a < (present_system self.now).env.actions }
         ensures { result ≡ is_allowed (present_system self.now) self.now.here a }
@@ -130,7 +130,8 @@ impl Session {
         self.relation.joint.allowed(self.here(), a)
     }
 
-    /// The services that may be offered for the action.
+    /// Returns the services that can be offered for the action `a`. Requires a related current pair
+    /// at which the target allows the action.
     fn offers(&self, a: u8) -> SeatSet
         requires { IsOpen self.now a }
         ensures { HasBits result (has (offers (present_system self.now) self.now.here a)) }
@@ -138,7 +139,7 @@ impl Session {
         offers(&self.relation, self.here(), a)
     }
 
-    /// The services that are offered for the action that is asked for.
+    /// Returns the services that are offered for the requested action `a`.
     fn offered(&self, a: u8) -> SeatSet
         requires { self.now.phase ≡ Phase.Offered a }
         ensures { HasBits result (has (offers (present_system self.now) self.now.here a)) }
@@ -146,14 +147,14 @@ impl Session {
         self.mask
     }
 
-    /// Whether no request is open.
+    /// Returns whether no request is open.
     fn is_idle(&self) -> bool
         ensures { result ≡ is_idle self.now.phase }
     {
         matches!(self.phase, Phase::Idle)
     }
 
-    /// Whether the service at place k is offered for the action that is asked for.
+    /// Returns whether the service at place `k` is offered for the requested action `a`.
     fn is_offered(&self, a: u8, k: u8) -> bool
         requires asked { self.now.phase ≡ Phase.Offered a }
         requires seat { k < length self.now.parts.seats }
@@ -163,22 +164,21 @@ impl Session {
         self.offered(a).has(k)
     }
 
-    /// The name of the target's present state.
+    /// Returns the name of the target's present state.
     fn target_name(&self) -> &Name
         ensures { result.now ≡ name_at self.now.parts.target.states self.now.here.t }
     {
         self.relation.joint.target_name(self.target)
     }
 
-    /// The name of the environment's present state.
+    /// Returns the name of the environment's present state.
     fn env_name(&self) -> &Name
         ensures { result.now ≡ name_at self.now.parts.environment.states self.now.here.e }
     {
         self.relation.joint.env_name(self.env)
     }
 
-    /// Goes on to another phase, which is one at the current pair, and in which no service is to be
-    /// chosen.
+    /// Sets the phase. Requires a phase that is possible at the current pair, and isn't `Offered`.
     fn set_phase(&mut self, phase: Phase)
         requires phase { IsPhase self.old phase }
         requires chosen { (a : ℕ) → phase ≢ Phase.Offered a }
@@ -187,7 +187,8 @@ impl Session {
         self.phase = phase;
     }
 
-    /// Offers services for the action from now on.
+    /// Sets the phase to `Offered` for the action `a`, and keeps the services that are offered for
+    /// it.
     fn offer(&mut self, a: u8)
         requires { IsOpen self.old a }
         ensures { self.new ≡ record self.old { phase = Phase.Offered a } }
@@ -196,8 +197,8 @@ impl Session {
         self.phase = Phase::Offered(a);
     }
 
-    /// Moves the target, the environment and the service at place k to other states. No request is
-    /// open then.
+    /// Moves the target, the environment and the service at place `k` to the given states. Sets the
+    /// phase to `Idle`.
     fn move_to(&mut self, t: u8, e: u8, k: u8, b: u8)
         requires pair { IsPair (present_system self.old) (moved self.old.here t e k b) }
         requires seat { k < length self.old.parts.seats }
@@ -210,7 +211,7 @@ impl Session {
         self.phase = Phase::Idle;
     }
 
-    /// Moves the environment to another state, where no request is open.
+    /// Moves the environment to the given state. Requires the phase `Idle`.
     fn move_env(&mut self, e: u8)
         requires state { e < (present_system self.old).env.states }
         requires idle { self.old.phase ≡ Phase.Idle }

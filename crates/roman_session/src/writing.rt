@@ -1,4 +1,4 @@
-//! Names and lines, written one after the other.
+//! Pushes names and report lines on a page.
 ghost use Rattle.std.specs.Prelude.{◌≡◌, ◌<◌, ◌++◌, length, Some, slice_get};
 ghost use Rattle.roman_model.specs.System as model;
 ghost use Rattle.roman_io.specs.Faults.{HasCause};
@@ -13,7 +13,7 @@ use roman_joint::Joint;
 use roman_rules::SeatSet;
 use roman_text::{Page, ReportLine};
 
-/// Takes the names of the services of a set, each after a space.
+/// Pushes the names of the services of a set, each after a space.
 pub(crate) fn push_served<O: Sink>(
     joint: &Joint,
     mask: SeatSet,
@@ -32,7 +32,7 @@ pub(crate) fn push_served<O: Sink>(
     Ok(())
 }
 
-/// The report line of the service at place k, which is in that state.
+/// Returns the report line of the service at place `k` in the given state.
 pub(crate) fn service_line(joint: &Joint, k: u8, state: u8) -> ReportLine
     requires seat { k < length joint.now.seats }
     requires state { (seat : model.Seat) → slice_get (system_of joint.now).seats k ≡ Some seat → state < seat.beh.states }
@@ -50,7 +50,7 @@ pub(crate) fn service_line(joint: &Joint, k: u8, state: u8) -> ReportLine
     }
 }
 
-/// Takes report lines.
+/// Pushes report lines.
 pub(crate) fn push_lines<O: Sink>(
     lines: &[ReportLine],
     page: &mut Page,

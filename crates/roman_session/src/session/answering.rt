@@ -1,4 +1,4 @@
-//! Answers to lines.
+//! The replies to lines.
 ghost use Rattle.std.specs.Prelude.{◌≡◌, ◌++◌, Ok, IsFalse, IfOk};
 ghost use Rattle.roman_io.specs.Faults.{HasCause};
 ghost use Rattle.roman_text.specs.Pages.{Gathers};
@@ -16,7 +16,7 @@ use roman_io::{Failed, Sink, Steps};
 use roman_text::{Event, Page, Reply, parse_line};
 use std::sync::ledger::Ledger;
 
-/// Whether the session goes on after an event.
+/// Returns whether the session takes more lines after an event.
 fn next_after(event: Event<'_>) -> Next
     ensures { result ≡ next_after (Ok (shape_of_event event.entry)) }
 {
@@ -27,12 +27,12 @@ fn next_after(event: Event<'_>) -> Next
 }
 
 impl Session {
-    /// Answers a line, which comes without its newline: the session takes its event, and the answer is
-    /// written before the call returns. Any bytes are a line; one that is refused changes nothing.
-    /// `Quit` comes exactly at `quit`. No memory is taken.
+    /// Answers a line, given without its newline. Changes the session by the line's event, and writes
+    /// the whole reply before it returns. Any bytes are a line. A refused line changes nothing.
+    /// Returns `Quit` exactly for a line `quit`. Takes no memory.
     ///
-    /// The error comes only where the sink's count of faults rose. The event was then taken all the
-    /// same, and a prefix of the answer was written.
+    /// Fails only where the sink's count of faults rose. The session has then changed all the same,
+    /// and a prefix of the reply was written.
     pub fn answer<O: Sink, L: Ledger>(
         &mut self,
         line: &[u8],
@@ -43,7 +43,7 @@ impl Session {
         ensures next { IfOk result (λ next. next ≡ next_of line.now) }
         ensures cause { HasCause (O.faults out.old) (O.faults out.new) result }
 
-        // What the answer says can be relied on.
+        // An `offer` names a service, and after a possible outcome the current pair is related.
         ensures offered { NamesSome self.old line.now }
         ensures related { SeenStaysRelated self.old line.now self.new }
         ensures phase { IsPhase self.new self.new.phase }
@@ -57,11 +57,11 @@ impl Session {
         Ok(next)
     }
 
-    /// Answers a line as [`Session::answer`] does, but on a page: the answer is taken behind what
-    /// it holds, and what has no room on it is written. No memory is taken.
+    /// Answers a line as [`Session::answer`] does, but pushes the reply on a page. Writes out what the
+    /// page has no room for. Takes no memory.
     ///
-    /// The error comes only where the sink's count of faults rose. The event was then taken all the
-    /// same, a prefix of what the page held and of the answer was written, and the page is empty.
+    /// Fails only where the sink's count of faults rose. The session has then changed all the same. A
+    /// prefix of the page's bytes and the reply was written, and the page is empty.
     pub fn answer_on<O: Sink, L: Ledger>(
         &mut self,
         line: &[u8],
@@ -84,7 +84,7 @@ impl Session {
         Ok(next_after(event))
     }
 
-    /// Answers an event, on a page.
+    /// Changes the session by an event, and pushes the reply on a page.
     #[tactic(auto, using(crate::proofs::AnswerLemmas::done))]
     fn answer_event<O: Sink, L: Ledger>(
         &mut self,
@@ -119,7 +119,7 @@ impl Session {
         }
     }
 
-    /// Answers a request, on a page.
+    /// Answers `do`, and pushes the reply on a page.
     fn answer_request<O: Sink>(
         &mut self,
         action: &[u8],
@@ -135,8 +135,8 @@ impl Session {
         }
     }
 
-    /// Answers `explain`: a refusal is taken on the page, and an explanation is written behind what
-    /// that held.
+    /// Answers `explain`. Pushes a refusal on the page. Writes an explanation to the sink, after the
+    /// bytes that the page held.
     fn answer_question<O: Sink, L: Ledger>(
         &mut self,
         page: &mut Page,
@@ -152,7 +152,8 @@ impl Session {
         self.explain(page, out, steps)
     }
 
-    /// Writes what the page holds, and then the explanation of the current pair, which isn't related.
+    /// Writes the bytes of the page, and then the explanation of the current pair. Requires a current
+    /// pair that isn't related.
     fn explain<O: Sink, L: Ledger>(
         &mut self,
         page: &mut Page,

@@ -1,4 +1,4 @@
-//! How a session begins.
+//! Begins a session.
 ghost use Rattle.std.specs.Prelude.{IfOk};
 ghost use Rattle.roman_library.specs.Library.{IsLibrary, plain};
 ghost use Rattle.roman_start.specs.Starts.{parts_of};
@@ -17,10 +17,10 @@ use std::alloc::Global;
 use std::sync::ledger::Ledger;
 
 impl Session {
-    /// The session of a library, at its start. No other call of a session takes memory.
+    /// Begins a session of a library, in its starting states. No other call of a session takes memory.
     ///
-    /// `Limit` comes exactly where the system has more cells, pairs times actions, than the library's
-    /// limit, and `Memory` only where there is none.
+    /// Fails with `Limit` exactly where the system has more cells, pairs times actions, than the
+    /// library's limit. Fails with `Memory` only when out of memory.
     pub fn build<L: Ledger>(
         alloc: Global,
         library: Library,

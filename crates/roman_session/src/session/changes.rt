@@ -1,4 +1,4 @@
-//! Changes of the services.
+//! Freezes, thaws, removes and adds services.
 ghost use Rattle.std.specs.Prelude.{◌≡◌, ◌<◌, length, slice_get, IsTrue, IsFalse};
 ghost use Rattle.roman_model.specs.SystemArena.{is_ready};
 ghost use Rattle.roman_text.specs.Replies.{reply_text};
@@ -16,7 +16,7 @@ use roman_repair::{JoinError, Tally, die, freeze, join, thaw};
 use roman_text::Reply;
 use std::sync::ledger::Ledger;
 
-/// The reply that tells what a repair has done.
+/// Returns the reply that counts the entries that a repair kept and added.
 fn kept(tally: Tally) -> Reply
     ensures { result ≡ Reply.Kept tally.kept tally.added }
 {
@@ -27,7 +27,7 @@ fn kept(tally: Tally) -> Reply
 }
 
 impl Session {
-    /// Does `freeze S`, or refuses it.
+    /// Applies `freeze S`, and returns the reply. A refusal changes nothing.
     pub(super) fn freeze<L: Ledger>(&mut self, service: &[u8], steps: &mut Steps<L>) -> Reply
         ensures { StepOn self.old (freeze service.now) (reply_text result) self.new }
     {
@@ -37,7 +37,7 @@ impl Session {
         }
     }
 
-    /// Does `thaw S`, or refuses it.
+    /// Applies `thaw S`, and returns the reply. A refusal changes nothing.
     pub(super) fn thaw<L: Ledger>(&mut self, service: &[u8], steps: &mut Steps<L>) -> Reply
         ensures { StepOn self.old (thaw service.now) (reply_text result) self.new }
     {
@@ -47,7 +47,7 @@ impl Session {
         }
     }
 
-    /// Does `die S`, or refuses it.
+    /// Applies `die S`, and returns the reply. A refusal changes nothing.
     pub(super) fn die<L: Ledger>(&mut self, service: &[u8], steps: &mut Steps<L>) -> Reply
         ensures { StepOn self.old (die service.now) (reply_text result) self.new }
     {
@@ -57,7 +57,8 @@ impl Session {
         }
     }
 
-    /// Does `join S B STATE`, or `join S B STATE loose`, or refuses it.
+    /// Applies `join S B STATE` or `join S B STATE loose`, and returns the reply. A refusal changes
+    /// nothing.
     pub(super) fn join<L: Ledger>(
         &mut self,
         service: &[u8],
@@ -74,7 +75,7 @@ impl Session {
         }
     }
 
-    /// Freezes the service at place k, which is ready.
+    /// Freezes the service at place `k`. Requires a ready service and the phase `Idle`.
     fn freeze_seat<L: Ledger>(&mut self, k: u8, steps: &mut Steps<L>) -> Reply
         requires idle { self.old.phase ≡ Phase.Idle }
         requires ready { IsTrue (is_ready (slice_get (present_system self.old).seats k)) }
@@ -85,7 +86,7 @@ impl Session {
         kept(tally)
     }
 
-    /// Makes the service at place k ready, which is frozen.
+    /// Makes the service at place `k` ready. Requires a frozen service and the phase `Idle`.
     fn thaw_seat<L: Ledger>(&mut self, k: u8, steps: &mut Steps<L>) -> Reply
         requires idle { self.old.phase ≡ Phase.Idle }
         requires seat { k < length self.old.parts.seats }
@@ -97,7 +98,7 @@ impl Session {
         kept(tally)
     }
 
-    /// Takes the service at place k out.
+    /// Removes the service at place `k`. Requires the phase `Idle`.
     fn die_seat<L: Ledger>(&mut self, k: u8, steps: &mut Steps<L>) -> Reply
         requires idle { self.old.phase ≡ Phase.Idle }
         requires seat { k < length self.old.parts.seats }
@@ -110,7 +111,8 @@ impl Session {
         kept(tally)
     }
 
-    /// Adds a service, where there is room for it.
+    /// Adds a service, or returns the refusal where there are too many services or cells. Requires
+    /// the phase `Idle`.
     fn join_seat<L: Ledger>(&mut self, joining: Joining, steps: &mut Steps<L>) -> Reply
         requires idle { self.old.phase ≡ Phase.Idle }
         requires can { CanJoin self.old.parts joining }

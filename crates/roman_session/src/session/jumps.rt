@@ -1,4 +1,4 @@
-//! Jumps of services and of the environment.
+//! Moves services and the environment to named states.
 ghost use Rattle.roman_text.specs.Replies.{reply_text};
 ghost use Rattle.roman_text.specs.Shapes.{jump, jump_env};
 ghost use Rattle.roman_session.specs.Steps.{StepOn};
@@ -8,7 +8,7 @@ use crate::events::Jump;
 use roman_text::Reply;
 
 impl Session {
-    /// Does `jump S STATE`, or refuses it.
+    /// Applies `jump S STATE`, and returns the reply. A refusal changes nothing.
     pub(super) fn jump(&mut self, service: &[u8], state: &[u8]) -> Reply
         ensures { StepOn self.old (jump service.now state.now) (reply_text result) self.new }
     {
@@ -20,7 +20,7 @@ impl Session {
         Reply::Jumped
     }
 
-    /// Does `jumpenv E`, or refuses it.
+    /// Applies `jumpenv E`, and returns the reply. A refusal changes nothing.
     pub(super) fn jump_env(&mut self, env: &[u8]) -> Reply
         ensures { StepOn self.old (jump_env env.now) (reply_text result) self.new }
     {

@@ -1,4 +1,4 @@
-//! What names stand for.
+//! Finds what names stand for.
 ghost use Rattle.std.specs.Prelude.{◌≡◌, ◌<◌, ◌≤◌, length, IfOk, IfSome, slice_get};
 ghost use Rattle.std.specs.Str.{bytes_eq};
 ghost use Rattle.roman_session.specs.Situations.{present_system};
@@ -9,7 +9,7 @@ use super::Session;
 use roman_read::NameTable;
 use roman_text::Reply;
 
-/// The number of a name, where the table has it.
+/// Returns the number of a name in the table, or `ErrorName` where the table lacks it.
 pub(super) fn place(names: &NameTable, name: &[u8]) -> Result<u8, Reply>
     requires { length names.now ≤ 64 }
     ensures place { result ≡ named names.now name.now }
@@ -22,7 +22,8 @@ pub(super) fn place(names: &NameTable, name: &[u8]) -> Result<u8, Reply>
 }
 
 impl Session {
-    /// The state of the environment with this name.
+    /// Returns the number of the environment state with this name, or `ErrorName` where there is
+    /// none.
     pub(super) fn env_place(&self, name: &[u8]) -> Result<u8, Reply>
         ensures place { result ≡ named self.now.parts.environment.states name.now }
         ensures within { IfOk result (λ e. e < (present_system self.now).env.states) }
@@ -30,7 +31,7 @@ impl Session {
         place(self.relation.joint.environment().states(), name)
     }
 
-    /// Whether the service at place k has this name.
+    /// Returns whether the service at place `k` has this name.
     fn has_name(&self, k: u8, name: &[u8]) -> bool
         requires { k < length self.now.parts.seats }
         ensures { result ≡ bytes_eq name.now (service_at self.now k) }
@@ -38,7 +39,7 @@ impl Session {
         name == self.relation.joint.seat(k).name.bytes()
     }
 
-    /// The place of the service with this name, where one is present.
+    /// Returns the place of the present service with this name, or `ErrorName` where there is none.
     pub(super) fn service_place(&self, name: &[u8]) -> Result<u8, Reply>
         ensures place { result ≡ service_named self.now name.now }
         ensures within { IfOk result (λ k. k < length self.now.parts.seats) }
@@ -51,7 +52,8 @@ impl Session {
         Err(Reply::ErrorName)
     }
 
-    /// The state with this name of the service at place k.
+    /// Returns the number of the state with this name of the service at place `k`, or `ErrorName`
+    /// where there is none.
     pub(super) fn state_place(&self, k: u8, name: &[u8]) -> Result<u8, Reply>
         requires { k < length self.now.parts.seats }
         ensures place { result ≡ state_named self.now k name.now }

@@ -1,5 +1,5 @@
-//! Events that are answered by one reply. Each has a function of its own: a reply is large, and a
-//! function clears the places of all replies that it may hold.
+//! Answers the events that have a single reply. Each event has its own function, because a reply is
+//! large and a function clears the places of all replies that it may hold.
 ghost use Rattle.roman_io.specs.Faults.{HasCause};
 ghost use Rattle.roman_text.specs.Shapes.{hand, saw, abort, jump, jump_env, freeze, thaw, die, join};
 ghost use Rattle.roman_session.specs.Answering.{DoneOn};
@@ -11,7 +11,7 @@ use std::sync::ledger::Ledger;
 
 #[tactic(auto, using(crate::proofs::AnswerLemmas::done))]
 impl Session {
-    /// Answers `use`, on a page.
+    /// Answers `use`, and pushes the reply on a page.
     pub(super) fn answer_hand<O: Sink>(
         &mut self,
         service: &[u8],
@@ -24,7 +24,7 @@ impl Session {
         page.push_reply(&self.hand(service), out)
     }
 
-    /// Answers `saw`, on a page.
+    /// Answers `saw`, and pushes the reply on a page.
     pub(super) fn answer_sight<O: Sink>(
         &mut self,
         state: &[u8],
@@ -38,7 +38,7 @@ impl Session {
         page.push_reply(&self.see(state, env), out)
     }
 
-    /// Answers `abort`, on a page.
+    /// Answers `abort`, and pushes the reply on a page.
     pub(super) fn answer_abort<O: Sink>(
         &mut self,
         page: &mut Page,
@@ -50,7 +50,7 @@ impl Session {
         page.push_reply(&self.abort(), out)
     }
 
-    /// Answers `jump`, on a page.
+    /// Answers `jump`, and pushes the reply on a page.
     pub(super) fn answer_jump<O: Sink>(
         &mut self,
         service: &[u8],
@@ -64,7 +64,7 @@ impl Session {
         page.push_reply(&self.jump(service, state), out)
     }
 
-    /// Answers `jumpenv`, on a page.
+    /// Answers `jumpenv`, and pushes the reply on a page.
     pub(super) fn answer_jump_env<O: Sink>(
         &mut self,
         env: &[u8],
@@ -77,7 +77,7 @@ impl Session {
         page.push_reply(&self.jump_env(env), out)
     }
 
-    /// Answers `freeze`, on a page.
+    /// Answers `freeze`, and pushes the reply on a page.
     pub(super) fn answer_freeze<O: Sink, L: Ledger>(
         &mut self,
         service: &[u8],
@@ -91,7 +91,7 @@ impl Session {
         page.push_reply(&self.freeze(service, steps), out)
     }
 
-    /// Answers `thaw`, on a page.
+    /// Answers `thaw`, and pushes the reply on a page.
     pub(super) fn answer_thaw<O: Sink, L: Ledger>(
         &mut self,
         service: &[u8],
@@ -105,7 +105,7 @@ impl Session {
         page.push_reply(&self.thaw(service, steps), out)
     }
 
-    /// Answers `die`, on a page.
+    /// Answers `die`, and pushes the reply on a page.
     pub(super) fn answer_die<O: Sink, L: Ledger>(
         &mut self,
         service: &[u8],
@@ -119,7 +119,7 @@ impl Session {
         page.push_reply(&self.die(service, steps), out)
     }
 
-    /// Answers `join`, on a page.
+    /// Answers `join`, and pushes the reply on a page.
     pub(super) fn answer_join<O: Sink, L: Ledger>(
         &mut self,
         service: &[u8],

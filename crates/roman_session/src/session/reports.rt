@@ -1,4 +1,4 @@
-//! Offers and reports, written.
+//! Writes offers and reports.
 ghost use Rattle.std.specs.Prelude.{◌≡◌, ◌++◌};
 ghost use Rattle.roman_io.specs.Faults.{HasCause};
 ghost use Rattle.roman_io.specs.Sink.{Puts};
@@ -14,9 +14,9 @@ use roman_io::{Failed, Sink};
 use roman_text::{Page, ReportLine};
 
 impl Session {
-    /// Writes the report: the services now present, the present states, and what may be offered there.
-    /// The error comes only where the sink's count of faults rose; a prefix of the report was then
-    /// written.
+    /// Writes the report: the numbers of pairs and of related pairs, the services now present, the
+    /// present states, and the services that can be offered for each action. Fails only where the
+    /// sink's count of faults rose. A prefix of the report was then written.
     pub fn report<O: Sink>(&self, out: &mut O) -> Result<(), Failed>
         ensures report { Puts (O.written out.old) (O.written out.new) (report_text self.now.parts self.now.here) result }
         ensures cause { HasCause (O.faults out.old) (O.faults out.new) result }
@@ -26,8 +26,8 @@ impl Session {
         page.flush(out)
     }
 
-    /// Takes the services that are offered for the action that is asked for, as the reply to its
-    /// request.
+    /// Pushes the reply to a request: the line that names the services that are offered for the
+    /// requested action `a`.
     pub(super) fn push_offered<O: Sink>(
         &self,
         a: u8,
@@ -45,7 +45,7 @@ impl Session {
         page.push(b"\n", out)
     }
 
-    /// Takes all lines of the report.
+    /// Pushes all lines of the report.
     pub(super) fn push_report<O: Sink>(&self, page: &mut Page, out: &mut O) -> Result<(), Failed>
         ensures gathers { Gathers (O.written out.old) (O.written out.new) page.new (page.old ++ report_text self.now.parts self.now.here) result }
         ensures cause { HasCause (O.faults out.old) (O.faults out.new) result }
@@ -57,7 +57,7 @@ impl Session {
         push_lines(&[ReportLine::End], page, out)
     }
 
-    /// The first lines of the report.
+    /// Returns the first four lines of the report.
     fn head_lines(&self) -> [ReportLine; 4]
         ensures { result ≡ report_head self.now.parts self.now.here }
     {
@@ -73,7 +73,7 @@ impl Session {
         ]
     }
 
-    /// Takes the lines of the services.
+    /// Pushes the lines of the services.
     fn push_services<O: Sink>(&self, page: &mut Page, out: &mut O) -> Result<(), Failed>
         ensures gathers { Gathers (O.written out.old) (O.written out.new) page.new
             (page.old ++ lines_text (service_lines self.now.parts.catalogue self.now.parts.seats self.now.here.bs)) result }
@@ -86,7 +86,8 @@ impl Session {
         Ok(())
     }
 
-    /// Takes a line for each action that the target allows, where the current pair is related.
+    /// Pushes a line for each action that the target allows, where the current pair is related.
+    /// Pushes nothing for any other pair.
     fn push_offers<O: Sink>(&self, page: &mut Page, out: &mut O) -> Result<(), Failed>
         ensures gathers { Gathers (O.written out.old) (O.written out.new) page.new (page.old ++ lines_text (offer_lines self.now.parts self.now.here)) result }
         ensures cause { HasCause (O.faults out.old) (O.faults out.new) result }
@@ -104,7 +105,7 @@ impl Session {
         Ok(())
     }
 
-    /// Takes the line of an action, with the services that are offered for it.
+    /// Pushes the line of the action `a`, with the services that are offered for it.
     fn push_offer<O: Sink>(&self, a: u8, page: &mut Page, out: &mut O) -> Result<(), Failed>
         requires { IsOpen self.now a }
         ensures gathers { Gathers (O.written out.old) (O.written out.new) page.new (page.old ++ lines_text (offer_line self.now.parts self.now.here a)) result }

@@ -1,4 +1,4 @@
-//! Requests, and what comes of them.
+//! Requests, delegations and their outcomes.
 ghost use Rattle.std.specs.Prelude.{◌≡◌, MatchResult, Ok, Err};
 ghost use Rattle.roman_text.specs.Replies.{reply_text};
 ghost use Rattle.roman_text.specs.Shapes.{hand, saw, abort};
@@ -13,7 +13,8 @@ use roman_read::Name;
 use roman_text::Reply;
 
 impl Session {
-    /// `do A`: the action for which services are offered from now on.
+    /// Applies `do A`, and returns the action for which services are now offered. A refusal changes
+    /// nothing.
     pub(super) fn ask(&mut self, action: &[u8]) -> Result<u8, Reply>
         ensures { MatchResult result
             (λ a. (asked self.old action.now ≡ Ok a) × (self.new ≡ record self.old { phase = Phase.Offered a }))
@@ -24,7 +25,7 @@ impl Session {
         Ok(a)
     }
 
-    /// Does `use S`, or refuses it.
+    /// Applies `use S`, and returns the reply. A refusal changes nothing.
     pub(super) fn hand(&mut self, service: &[u8]) -> Reply
         ensures { StepOn self.old (hand service.now) (reply_text result) self.new }
     {
@@ -37,7 +38,7 @@ impl Session {
         Reply::Using(name)
     }
 
-    /// Does `abort`, or refuses it.
+    /// Applies `abort`, and returns the reply. A refusal changes nothing.
     pub(super) fn abort(&mut self) -> Reply
         ensures { StepOn self.old abort (reply_text result) self.new }
     {
@@ -48,7 +49,7 @@ impl Session {
         Reply::Aborted
     }
 
-    /// Does `saw B E`, or refuses it.
+    /// Applies `saw B E`, and returns the reply. A refusal changes nothing.
     pub(super) fn see(&mut self, state: &[u8], env: &[u8]) -> Reply
         ensures { StepOn self.old (saw state.now env.now) (reply_text result) self.new }
     {

@@ -1,4 +1,4 @@
-//! What events name, or the first refusal of their row.
+//! Checks events. Each call returns what its event names, or the first refusal that applies.
 ghost use Rattle.std.specs.Prelude.{◌≡◌, ◌<◌, length, IfOk, IfSome, slice_get};
 ghost use Rattle.roman_session.specs.Joins.{CanJoin};
 ghost use Rattle.roman_session.specs.Situations.{present_system};
@@ -15,7 +15,7 @@ use roman_read::Name;
 use roman_text::Reply;
 
 impl Session {
-    /// What `do` asks for.
+    /// Returns the action that `do` requests, or its first refusal.
     #[tactic(auto, unfolding(crate::specs::Rulings::asked))]
     pub(super) fn asked(&self, action: &[u8]) -> Result<u8, Reply>
         ensures { result ≡ asked self.now action.now }
@@ -33,7 +33,7 @@ impl Session {
         Ok(a)
     }
 
-    /// What `use` delegates, and to which service.
+    /// Returns the action that `use` delegates and the service that it names, or its first refusal.
     #[tactic(auto, unfolding(crate::specs::Rulings::handed))]
     pub(super) fn handed(&self, service: &[u8]) -> Result<Handing, Reply>
         ensures { result ≡ handed self.now service.now }
@@ -48,7 +48,8 @@ impl Session {
         Ok(Handing { action, seat })
     }
 
-    /// What `saw` sees, and of which delegation.
+    /// Returns the delegation and the states that `saw` names, or its first refusal. Doesn't check
+    /// whether the outcome is possible.
     #[tactic(auto, unfolding(crate::specs::Rulings::seen))]
     pub(super) fn seen(&self, state: &[u8], env: &[u8]) -> Result<Sight, Reply>
         ensures { result ≡ seen self.now state.now env.now }
@@ -66,7 +67,7 @@ impl Session {
         })
     }
 
-    /// Whether there is a request that `abort` gives up.
+    /// Succeeds where a request is open that `abort` gives up, and returns the refusal otherwise.
     #[tactic(auto, unfolding(crate::specs::Rulings::aborted))]
     pub(super) fn aborted(&self) -> Result<(), Reply>
         ensures { result ≡ aborted self.now }
@@ -77,7 +78,7 @@ impl Session {
         Ok(())
     }
 
-    /// The service that `jump` moves, and the state to which it does.
+    /// Returns the service and the state that `jump` names, or its first refusal.
     #[tactic(auto, unfolding(crate::specs::Rulings::jumped))]
     pub(super) fn jumped(&self, service: &[u8], state: &[u8]) -> Result<Jump, Reply>
         ensures jumped { result ≡ jumped self.now service.now state.now }
@@ -92,7 +93,7 @@ impl Session {
         Ok(Jump { seat, state })
     }
 
-    /// The state to which `jumpenv` moves the environment.
+    /// Returns the environment state that `jumpenv` names, or its first refusal.
     #[tactic(auto, unfolding(crate::specs::Rulings::env_jumped))]
     pub(super) fn env_jumped(&self, env: &[u8]) -> Result<u8, Reply>
         ensures jumped { result ≡ env_jumped self.now env.now }
@@ -105,7 +106,7 @@ impl Session {
         Ok(env)
     }
 
-    /// Whether the service at place k takes no delegations.
+    /// Returns whether the service at place `k` is frozen.
     fn is_frozen(&self, k: u8) -> bool
         requires { k < length self.now.parts.seats }
         ensures { result ≡ (seat_at self.now k).frozen }
@@ -113,7 +114,7 @@ impl Session {
         self.relation.joint.seat(k).frozen
     }
 
-    /// The service that `freeze` freezes.
+    /// Returns the place of the service that `freeze` names, or its first refusal.
     #[tactic(auto, unfolding(crate::specs::Rulings::frozen))]
     pub(super) fn frozen(&self, service: &[u8]) -> Result<u8, Reply>
         ensures frozen { result ≡ frozen self.now service.now }
@@ -129,7 +130,7 @@ impl Session {
         Ok(seat)
     }
 
-    /// The service that `thaw` makes ready.
+    /// Returns the place of the service that `thaw` names, or its first refusal.
     #[tactic(auto, unfolding(crate::specs::Rulings::thawed))]
     pub(super) fn thawed(&self, service: &[u8]) -> Result<u8, Reply>
         ensures thawed { result ≡ thawed self.now service.now }
@@ -145,7 +146,7 @@ impl Session {
         Ok(seat)
     }
 
-    /// The service that `die` takes out.
+    /// Returns the place of the service that `die` names, or its first refusal.
     #[tactic(auto, unfolding(crate::specs::Rulings::died))]
     pub(super) fn died(&self, service: &[u8]) -> Result<u8, Reply>
         ensures died { result ≡ died self.now service.now }
@@ -158,7 +159,8 @@ impl Session {
         Ok(seat)
     }
 
-    /// The service that `join` adds, and the state that it is in.
+    /// Returns the service that `join` adds with its state, or its first refusal. Doesn't check
+    /// whether there is room for it.
     #[tactic(auto, unfolding(crate::specs::Rulings::joining))]
     pub(super) fn joining(
         &self,

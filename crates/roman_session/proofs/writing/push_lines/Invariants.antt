@@ -3,7 +3,7 @@ use Rattle.roman_session.specs.Reports.{lines_text}
 use Rattle.roman_text.proofs.CallerLemmas.{IsFilling}
 use Rattle.roman_session.proofs.writing.push_lines.Given as goal
 
--- the lines so far are taken
+-- the lines so far were pushed
 abbrev pub invariant-loop-line : goal.invariant-loop-line
 invariant-loop-line g l = record {
   filling : IsFilling (g.O.Sink.written l.fn.out) (g.O.Sink.written l.out) l.page (lines_text (drop l.line-index l.lines)) (l.fn.page ++ lines_text l.lines);

@@ -6,7 +6,7 @@ use Rattle.roman_session.specs.Serving.{seats_set, served_text}
 use Rattle.roman_text.proofs.CallerLemmas.{IsFilling}
 use Rattle.roman_session.proofs.writing.push_served.Given as goal
 
--- the names of the seats so far are taken
+-- the names of the seats so far were pushed
 abbrev pub invariant-loop-k : goal.invariant-loop-k
 invariant-loop-k g l =
     let n = length l.joint.seats in

@@ -4,7 +4,7 @@ use Rattle.roman_text.proofs.CallerLemmas.{IsFilling}
 use Rattle.roman_session.proofs.LineLemmas.{lines_from}
 use Rattle.roman_session.proofs.session.Session.push_offers.Given as goal
 
--- the lines of the actions so far are taken
+-- the lines of the actions so far were pushed
 abbrev pub invariant-loop-a : goal.invariant-loop-a
 invariant-loop-a g l =
     let s = l.self in

@@ -4,7 +4,7 @@ use Rattle.roman_text.proofs.CallerLemmas.{IsFilling}
 use Rattle.roman_session.proofs.LineLemmas.{services_from}
 use Rattle.roman_session.proofs.session.Session.push_services.Given as goal
 
--- the lines of the services so far are taken
+-- the lines of the services so far were pushed
 abbrev pub invariant-loop-k : goal.invariant-loop-k
 invariant-loop-k g l =
     let s = l.self in
