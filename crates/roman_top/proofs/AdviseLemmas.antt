@@ -142,7 +142,7 @@ advise_served system name requests seated told told_mid told_now shelf shelf_mid
 
 -- ---- completeness
 
--- advice without too many values answers
+-- advice without too many values is answered
 advising_answered : (advising : Advising) (text : List ℕ) (result : Status) → advising ≢ TooMany → SaysAdvice advising text result → IsAnswered result
 advising_answered Unrelated text result few says = subst IsAnswered (sym says.1) tt
 advising_answered TooMany text result few says = absurd (few refl)
@@ -154,7 +154,7 @@ few_advised n listed h p few many = by_test (is_related (system_of n) p)
     (λ related. let e : TooMany ≡ Told (advice_text n listed h p) = sym many ∙ advised_told n listed h p related few in absurd (let f : ⊥ = cc in f))
     (λ unrelated. let e : TooMany ≡ Unrelated = sym many ∙ advised_unrelated n listed h p unrelated in absurd (let f : ⊥ = cc in f))
 
--- where the costs are read and the values are few, advice answers
+-- where the costs are accepted and the values are few, advice is answered
 pub advice_answered : (name : List ℕ) (requests : ℕ) (texts : Texts) (library : PlainLibrary) (text : List ℕ) (result : Status) → Affords name requests texts library → GivesAdvice name requests texts library text result → IsAnswered result
 advice_answered name requests texts library text result affords gives =
     let n = parts_of library in

@@ -84,7 +84,7 @@ writes_weaker One Other old new status.WriteFault weaker w = record { text = w.t
 writes_weaker One Other old new status.Memory weaker w = tt
 writes_weaker One Other old new result weaker w = record { text = w.text; run = weaker w.text result w.run; wrote = w.wrote }
 
--- after a put
+-- the status after a put
 pub finished_spoken : {T E : Type 0} (ends : Status) (old new : Option (List ℕ)) (result : Status) (r : Result T E) → IsSpoken old new ends → Finishes r ends result → IsSpoken old new result
 finished_spoken ends old new result (Ok x) spoken finishes = subst (IsSpoken old new) (sym finishes) spoken
 finished_spoken ends old new result (Err e) spoken finishes = subst (IsSpoken old new) (sym finishes) tt

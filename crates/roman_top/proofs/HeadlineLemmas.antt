@@ -43,7 +43,7 @@ means_accepted texts system library (is, fits) =
     (λ past. absurd (let more : library.limit < cells (library_system library) = ltb-true library.limit (cells (library_system library)) past in omega (arith, more, fits))) (λ within. within) in
     ap opening_of is ∙ cond-false (is_past_limit library) (Past library) (Accepted library) within
 
--- the replies to the lines that are heard
+-- the replies to the lines that are read
 heard_tells : (b : Bool) (library : PlainLibrary) (ls ms : List (List ℕ)) (text : List ℕ) (P Q : Type 0) → MatchBool b (ToldFromStart library ls text × P) (ToldFromStart library ms text × Q) → ToldFromStart library (cond b ls ms) text
 heard_tells true library ls ms text P Q tells = tells.0
 heard_tells false library ls ms text P Q tells = tells.0

@@ -172,7 +172,7 @@ opened_served Holds x Work system job told told_now shelf shelf_now old mid new 
 
 -- Made systems
 
--- no other fault comes
+-- no other fault ends it
 spoken_at : (old new : Option (List ℕ)) (result ends : Status) → IsSpoken old new result → result ≡ ends → IsSpoken old new ends
 spoken_at old new result ends spoken is = subst (IsSpoken old new) is spoken
 

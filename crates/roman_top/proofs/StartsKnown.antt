@@ -62,7 +62,7 @@ library_parts library is within = record {
   target = (is.target.env_states, is.target.actions);
 }
 
--- a library within its limit starts a well-formed situation
+-- a session of a library within its limit starts in a well-formed situation
 pub start_known : (library : PlainLibrary) (s : Situation) → IsKnownLibrary library → IsFalse (is_past_limit library) → IsStart library s → IsKnownSituation s
 start_known library s is within start = record {
   situation = record {

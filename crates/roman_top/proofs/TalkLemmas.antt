@@ -56,7 +56,7 @@ module _ (texts : Texts) (system : List ℕ) (start : Situation) (accepts : Acce
   talks_prefix session text now long told = match_false (is_heard_out session) _ _ long (record { start = start; now = now; begins = accepts.holds; told = told }, refl)
 
   module _ (name : Option (List ℕ)) (old new : World) (from : Option (List ℕ)) (now : Situation) (given : (session : List ℕ) → Had from session → IsSessionText (Some (On system (Run name))) texts old.rest session) where
-    -- the session was heard to its end, or to `quit`
+    -- the session was read to its end, or to `quit`
     runs_out : IsHeardOut (hall start from old.written) (spot now new.written) → HasRun (Some (On system (Run name))) texts old new status.Done
     runs_out h = record {
       session = h.session;

@@ -29,7 +29,7 @@ pub(crate) enum Command<'a> {
         /// The certificate's name.
         certificate: &'a str,
     },
-    /// `shortest SYSTEM`: how many pairs have each depth, and the depth of the start pair.
+    /// `shortest SYSTEM`: the number of pairs of each depth, and the depth of the start pair.
     Shortest(&'a str),
     /// `advise SYSTEM COSTS H`: the least worst cost of H requests, and the services to use.
     Advise {

@@ -1,4 +1,4 @@
-//! The text of `resilience`.
+//! Writes the text of `resilience`.
 ghost use Rattle.std.specs.Prelude.{◌≡◌, ◌+◌, ◌<◌, ◌≤◌, [], ◌∷◌, ◌++◌, map, length, drop, IfSome, if◌then◌else◌, codes, decimal};
 ghost use Rattle.std.specs.List.{flat_map};
 ghost use Rattle.roman_io.specs.Faults.{HasCause};

@@ -9,7 +9,7 @@ use roman_cost::MAX_REQUESTS;
 /// A number of requests, from 1 to [`MAX_REQUESTS`].
 #[derive(Clone, Copy)]
 pub(crate) struct Requests {
-    /// The number.
+    /// The number of requests.
     pub(crate) count: u8,
     ghost some: { 1 ≤ count },
     ghost few: { count ≤ MAX_REQUESTS },

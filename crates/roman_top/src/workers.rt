@@ -6,7 +6,7 @@ ghost use Rattle.roman_top.specs.Workers.{workers_of};
 /// A number of workers, from 1 to 10.
 #[derive(Clone, Copy)]
 pub(crate) struct Workers {
-    /// The number.
+    /// The number of workers.
     pub(crate) count: u8,
     ghost some: { 1 ≤ count },
     ghost few: { count ≤ 10 },
