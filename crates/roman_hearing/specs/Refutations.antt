@@ -15,7 +15,8 @@ abbrev pub MayAnswer : Sys → (Pair → Type 0) → Pair → ℕ → ℕ → Op
 MayAnswer s Gone p a k None = (q : Pair) → Goes s p a k q → ⊥
 MayAnswer s Gone p a k (Some q) = Goes s p a k q × Gone q
 
--- the pair is lost for the reason: the target is final and the system isn't, or each seat has no outcome on the request or one that is gone
+-- the pair is lost for the reason: the target is final and the system isn't; or the target allows the request, and each seat has
+-- no outcome on it or one that is gone
 abbrev pub IsLost : Sys → (Pair → Type 0) → (ℕ → Option Pair) → Pair → Reason → Type 0
 IsLost s Gone answers p Final = IsTrue (is_final s.target p.t) × IsFalse (all_final s.seats p.bs)
 IsLost s Gone answers p (Act a) = Allows s p.t p.e a × ((k : ℕ) → k < length s.seats → MayAnswer s Gone p a k (answers k))
