@@ -210,13 +210,15 @@ row_next n x word i w reason few =
     (λ a h. ap (λ p. as_entry (p, reason)) (let place : x * n + (i * w + a) ≡ x * n + i * w + a = omega arith in place))
     ∙ ap (map (λ a. as_entry (x * n + i * w + a, reason))) (sym (part_lanes word (i * w) w few))))
 
-pub row_whole : (n x word : ℕ) (reason : Reason) → n ≤ 64 → ((lane : ℕ) → is_on word lane ≡ true → lane < n) → entries_below n x word n reason ≡ entries_in n x word reason
+pub lanes_below : (word n : ℕ) → n ≤ 64 → ((lane : ℕ) → is_on word lane ≡ true → lane < n) → filter (is_on word) (below n) ≡ set_lanes word
 unfolding set_lanes
-row_whole n x word reason few within =
+lanes_below word n few within =
     let whole : 64 ≡ n + (64 - n) = omega arith in
-    ap (map (λ lane. as_entry (x * n + lane, reason)))
-    (sym (ap (λ m. filter (is_on word) (below m)) whole
-    ∙ only_so_far (is_on word) n (64 - n) (λ i l. false_else (is_on word (n + i)) (λ t. let past : n + i < n = within (n + i) t in omega (arith, past)))))
+    sym (ap (λ m. filter (is_on word) (below m)) whole
+    ∙ only_so_far (is_on word) n (64 - n) (λ i l. false_else (is_on word (n + i)) (λ t. let past : n + i < n = within (n + i) t in omega (arith, past))))
+
+pub row_whole : (n x word : ℕ) (reason : Reason) → n ≤ 64 → ((lane : ℕ) → is_on word lane ≡ true → lane < n) → entries_below n x word n reason ≡ entries_in n x word reason
+row_whole n x word reason few within = ap (map (λ lane. as_entry (x * n + lane, reason))) (lanes_below word n few within)
 
 -- The pairs of an event that waits are in range.
 

@@ -2,7 +2,7 @@
 use Rattle.std.proofs.Common.{◌≡◌, ℕ, zero, suc, ◌+◌, ◌-◌, ◌*◌, ◌/◌, ◌%◌, ◌^◌, ◌<◌, ◌≤◌, Bool, true, false, ◌&&◌, List, [], ◌∷◌, map, length, drop, filter, cond, eqb, remove, slice_index, inl, inr, refl, sym, ap, ap₂, ◌∙◌, subst, arith, bit_and}
 use Rattle.std.specs.Int.{bit_at}
 use Rattle.std.proofs.Math.Nat.{mul-le-mul_left}
-use Rattle.std.proofs.lemmas.Bool.{cases_lt, both_ways, lt-ltb, le-ltb}
+use Rattle.std.proofs.lemmas.Bool.{cases_lt, both_ways}
 use Rattle.std.proofs.lemmas.Nat.{shr-shr, pow_pos, mul-le, div-add-mod'}
 use Rattle.std.proofs.lemmas.Nat.Bits.{bit_at-zero, bit_at_cat_low, bit_at_cat_high, shr_and_one}
 use Rattle.roman_model.specs.Lists.{below, product_of}
@@ -16,37 +16,10 @@ use Rattle.roman_radix.specs.Rows.{low_of, lanes_of}
 use Rattle.roman_radix.proofs.CallerLemmas.{tails_from, row_div, row_mod, row_below, rows_are, lanes_few, lanes_positive}
 use Rattle.roman_order.specs.Board.{set_lanes}
 use Rattle.roman_repair.specs.Deaths.{IsPart}
-use Rattle.roman_repair.proofs.Joined.{positive, grown_within}
+use Rattle.roman_repair.proofs.Joined.{positive, grown_within, whole_row, shorter_row, few_behind, part_of_more}
 use Rattle.roman_repair.proofs.Fronts.{moved_so_far, same_so_far, only_so_far}
 
 -- ---- how wide the parts are
-
--- where the states of all components fit into a row
-whole_row : (ns : List ℕ) → product_of ns ≤ 64 → (low_of ns ≡ 0) × (lanes_of ns ≡ product_of ns)
-whole_row [] few = (refl, refl)
-whole_row (n ∷ ns) few = (
-  ap (λ b. cond b (suc (low_of ns)) 0) (le-ltb 64 (product_of (n ∷ ns)) few),
-  ap (λ b. product_of (drop (cond b (suc (low_of ns)) 0) (n ∷ ns))) (le-ltb 64 (product_of (n ∷ ns)) few),
-)
-
--- and where those of the first don't
-shorter_row : (n : ℕ) (ns : List ℕ) → 64 < product_of (n ∷ ns) → (low_of (n ∷ ns) ≡ suc (low_of ns)) × (lanes_of (n ∷ ns) ≡ lanes_of ns)
-shorter_row n ns more = (
-  ap (λ b. cond b (suc (low_of ns)) 0) (lt-ltb 64 (product_of (n ∷ ns)) more),
-  ap (λ b. product_of (drop (cond b (suc (low_of ns)) 0) (n ∷ ns))) (lt-ltb 64 (product_of (n ∷ ns)) more),
-)
-
-few_behind : (n : ℕ) (ns : List ℕ) → 0 < n → product_of (n ∷ ns) ≤ 64 → product_of ns ≤ 64
-few_behind n ns some few = let less : product_of ns * 1 ≤ product_of ns * n = mul-le-mul_left (product_of ns) some in omega (arith, less, few)
-
--- what goes into a row goes into one of a component more
-part_of_more : (n : ℕ) (ns : List ℕ) (w : ℕ) → 0 < n → (c : ℕ) × (lanes_of ns ≡ c * w) → (c : ℕ) × (lanes_of (n ∷ ns) ≡ c * w)
-part_of_more n ns w some (c, is) = elim (cases_lt 64 (product_of (n ∷ ns))) [
-  | inl more ↦ (c, (shorter_row n ns more).1 ∙ is)
-  | inr few ↦
-      let those : n * product_of ns ≡ n * (c * w) = ap (λ m. n * m) (sym (whole_row ns (few_behind n ns some few)).1 ∙ is) in
-      (n * c, (whole_row (n ∷ ns) few).1 ∙ those ∙ omega arith)
-]
 
 part_first_seat : (n : ℕ) (ns : List ℕ) (w : ℕ) → 0 < n → (c : ℕ) × (product_of ns ≡ c * w) → (c : ℕ) × (lanes_of ns ≡ c * w) → IsPart (n ∷ ns) 0 w
 part_first_seat n ns w some stride lanes = record { stride = stride; lanes = part_of_more n ns w some lanes; left = lanes }

@@ -1,26 +1,27 @@
 -- The candidates for a system that a service has joined.
-use Rattle.std.proofs.Common.{◌≡◌, ℕ, ◌+◌, ◌-◌, ◌*◌, ◌/◌, ◌%◌, ◌<◌, ◌≤◌, List, [], ◌∷◌, ◌++◌, map, flat_map, length, drop, cond, zero, suc, IsTrue, inl, inr, refl, sym, ap, ap₂, ◌∙◌, subst, arith}
+use Rattle.std.proofs.Common.{◌≡◌, ℕ, ◌+◌, ◌*◌, ◌%◌, ◌<◌, ◌≤◌, List, [], ◌∷◌, ◌++◌, map, flat_map, drop, cond, zero, suc, IsTrue, inl, inr, refl, sym, ap, ap₂, ◌∙◌, subst, arith}
 use Rattle.std.proofs.Math.Nat.{mul-le-mul_left}
 use Rattle.std.proofs.lemmas.Bool.{cases_lt, lt-ltb, le-ltb}
-use Rattle.std.proofs.lemmas.Nat.{same_from_place, mod_below, div-add-mod'}
+use Rattle.std.proofs.lemmas.Nat.{same_from_place, mod_below}
 use Rattle.std.proofs.lemmas.List.{length_push}
 use Rattle.std.proofs.lemmas.List.Folds.{flat_map-map}
 use Rattle.roman_model.specs.Lists.{IsIn, HasNoRepeats, below, product_of}
 use Rattle.roman_model.specs.System.{Sys, Seat, IsSys}
 use Rattle.roman_model.specs.SystemArena.{is_allowed}
-use Rattle.roman_model.specs.Arena.{Arena, Entry}
+use Rattle.roman_model.specs.Arena.{Entry}
 use Rattle.roman_model.specs.Change.{Join, after, CanChange}
 use Rattle.roman_model.specs.Numbers.{Sizes, sizes_of, count, pair_at, numbered}
 use Rattle.roman_model.specs.declared.reason.Reason.{Reason}
 use Rattle.roman_model.specs.declared.reason.Reason.TheVariants.{Final, Act}
 use Rattle.roman_model.specs.NumberedChange.{grown_numbers}
-use Rattle.roman_model.proofs.CallerLemmas.{in_map, in_below, from_map, from_flat_map, from_below, in_append_right, length-below, HasNoRepeats-map, HasNoRepeats-flat_map, HasNoRepeats-below, map-map, map-flat_map, flat_map_same, pair_at-grown, sizes-joined, NumbersReplay}
+use Rattle.roman_model.proofs.CallerLemmas.{from_map, from_flat_map, from_below, in_append_right, length-below, HasNoRepeats-map, HasNoRepeats-flat_map, HasNoRepeats-below, map-map, map-flat_map, flat_map_same, pair_at-grown, sizes-joined, NumbersReplay}
+use Rattle.roman_radix.specs.Radix.{AreSizes}
 use Rattle.roman_radix.specs.Rows.{low_of, lanes_of}
-use Rattle.roman_radix.proofs.CallerLemmas.{row_mod}
+use Rattle.roman_radix.proofs.CallerLemmas.{row_mod, lanes_few}
 use Rattle.roman_joint.specs.Rows.{lanes_in}
 use Rattle.roman_joint.specs.NamedSys.{NamedSys, system_of, IsNamedSys}
 use Rattle.roman_order.specs.Board.{nodes_of, as_entry, set_lanes, entries_in}
-use Rattle.roman_repair.specs.Replays.{is_possible, AreCandidates}
+use Rattle.roman_repair.specs.Replays.{is_possible, AreCandidates, AreSlices}
 use Rattle.roman_repair.proofs.Keeping.{grown_number}
 
 -- the new system tells that the service could join
@@ -78,37 +79,74 @@ product_last : (ns : List ℕ) (n : ℕ) → product_of (ns ++ n ∷ []) ≡ pro
 product_last [] n = omega arith
 product_last (x ∷ ns) n = ap (λ p. x * p) (product_last ns n) ∙ (let same : x * (product_of ns * n) ≡ x * product_of ns * n = omega arith in same)
 
--- a row of pairs whose last seat has so many states is of whole slices
-lanes_last : (ns : List ℕ) (n : ℕ) → n ≤ 64 → (m : ℕ) × (lanes_of (ns ++ n ∷ []) ≡ m * n)
-lanes_last [] n few = (1, ap (λ b. product_of (drop (cond b 1 0) (n ∷ []))) (le-ltb 64 (n * 1) (omega arith)) ∙ omega arith)
-lanes_last (x ∷ ns) n few = elim (cases_lt 64 (product_of (x ∷ (ns ++ n ∷ [])))) [
-  | inl more ↦
-      let (m, is) = lanes_last ns n few in
-      (m, ap (λ b. product_of (drop (cond b (suc (low_of (ns ++ n ∷ []))) 0) (x ∷ (ns ++ n ∷ [])))) (lt-ltb 64 (product_of (x ∷ (ns ++ n ∷ []))) more) ∙ is)
-  | inr less ↦ (
-    product_of (x ∷ ns),
-    ap (λ b. product_of (drop (cond b (suc (low_of (ns ++ n ∷ []))) 0) (x ∷ (ns ++ n ∷ [])))) (le-ltb 64 (product_of (x ∷ (ns ++ n ∷ []))) less) ∙ product_last (x ∷ ns) n,
-  )
+-- where the states of all components fit into a row
+pub whole_row : (ns : List ℕ) → product_of ns ≤ 64 → (low_of ns ≡ 0) × (lanes_of ns ≡ product_of ns)
+whole_row [] few = (refl, refl)
+whole_row (n ∷ ns) few = (
+  ap (λ b. cond b (suc (low_of ns)) 0) (le-ltb 64 (product_of (n ∷ ns)) few),
+  ap (λ b. product_of (drop (cond b (suc (low_of ns)) 0) (n ∷ ns))) (le-ltb 64 (product_of (n ∷ ns)) few),
+)
+
+-- and where those of the first don't
+pub shorter_row : (n : ℕ) (ns : List ℕ) → 64 < product_of (n ∷ ns) → (low_of (n ∷ ns) ≡ suc (low_of ns)) × (lanes_of (n ∷ ns) ≡ lanes_of ns)
+shorter_row n ns more = (
+  ap (λ b. cond b (suc (low_of ns)) 0) (lt-ltb 64 (product_of (n ∷ ns)) more),
+  ap (λ b. product_of (drop (cond b (suc (low_of ns)) 0) (n ∷ ns))) (lt-ltb 64 (product_of (n ∷ ns)) more),
+)
+
+pub few_behind : (n : ℕ) (ns : List ℕ) → 0 < n → product_of (n ∷ ns) ≤ 64 → product_of ns ≤ 64
+few_behind n ns some few = let less : product_of ns * 1 ≤ product_of ns * n = mul-le-mul_left (product_of ns) some in omega (arith, less, few)
+
+-- what goes into a row goes into one of a component more
+pub part_of_more : (n : ℕ) (ns : List ℕ) (w : ℕ) → 0 < n → (c : ℕ) × (lanes_of ns ≡ c * w) → (c : ℕ) × (lanes_of (n ∷ ns) ≡ c * w)
+part_of_more n ns w some (c, is) = elim (cases_lt 64 (product_of (n ∷ ns))) [
+  | inl more ↦ (c, (shorter_row n ns more).1 ∙ is)
+  | inr few ↦
+      let those : n * product_of ns ≡ n * (c * w) = ap (λ m. n * m) (sym (whole_row ns (few_behind n ns some few)).1 ∙ is) in
+      (n * c, (whole_row (n ∷ ns) few).1 ∙ those ∙ omega arith)
 ]
 
-pub joined_lanes : (s : Sys) (seat : Seat) → CanChange (Join seat) s → (m : ℕ) × (lanes_in (after (Join seat) s) ≡ m * seat.beh.states)
-joined_lanes s seat can =
-    let (m, is) = lanes_last (sizes_of s).seats seat.beh.states can.0.states.1 in
-    (m, ap (λ (n : Sizes). lanes_of n.seats) (sizes-joined s seat) ∙ is)
+-- a row of pairs whose last seat has so many states is of whole slices, and as many go into a row without that seat
+lanes_last : (ns : List ℕ) (n : ℕ) → AreSizes ns → 0 < n → n ≤ 64 → (m : ℕ) × (lanes_of (ns ++ n ∷ []) ≡ m * n) × (d : ℕ) × (lanes_of ns ≡ d * m)
+lanes_last [] n h some few = (1, ap (λ b. product_of (drop (cond b 1 0) (n ∷ []))) (le-ltb 64 (n * 1) (omega arith)) ∙ omega arith, 1, omega arith)
+lanes_last (x ∷ ns) n h some few = elim (cases_lt 64 (product_of (x ∷ (ns ++ n ∷ [])))) [
+  | inl more ↦
+      let (m, is, d, part) = lanes_last ns n h.2 some few in
+      let (e, more_part) = part_of_more x ns m h.0 (d, part) in
+      (m, ap (λ b. product_of (drop (cond b (suc (low_of (ns ++ n ∷ []))) 0) (x ∷ (ns ++ n ∷ [])))) (lt-ltb 64 (product_of (x ∷ (ns ++ n ∷ []))) more) ∙ is, e, more_part)
+  | inr less ↦
+      let whole = product_last (x ∷ ns) n in
+      let most : product_of (x ∷ ns) * 1 ≤ product_of (x ∷ ns) * n = mul-le-mul_left (product_of (x ∷ ns)) some in
+      let same = (whole_row (x ∷ ns) (omega (arith, most, whole, less))).1 in
+      (product_of (x ∷ ns), ap (λ b. product_of (drop (cond b (suc (low_of (ns ++ n ∷ []))) 0) (x ∷ (ns ++ n ∷ [])))) (le-ltb 64 (product_of (x ∷ (ns ++ n ∷ []))) less) ∙ whole, 1, omega (arith, same))
+]
+
+pub joined_lanes : (s : Sys) (seat : Seat) → CanChange (Join seat) s → AreSizes (sizes_of s).seats → AreSlices (lanes_in (after (Join seat) s)) (lanes_in s) seat.beh.states
+joined_lanes s seat can sizes =
+    let (m, is, d, part) = lanes_last (sizes_of s).seats seat.beh.states sizes can.0.states.0 can.0.states.1 in
+    record { few = lanes_few (sizes_of s).seats; slices = (m, ap (λ (n : Sizes). lanes_of n.seats) (sizes-joined s seat) ∙ is, d, part) }
 
 pub map_as : {X Y : Type 0} (f g : X → Y) (xs : List X) → ((x : X) → IsIn x xs → f x ≡ g x) → map f xs ≡ map g xs
 map_as f g [] same = refl
 map_as f g (x ∷ xs) same = ap₂ (λ y ys. y ∷ ys) (same x (inl refl)) (map_as f g xs (λ y i. same y (inr i)))
 
--- the entries of neighbouring pairs are those of a word of neighbouring lanes
-pub grown_entries : (n m states pair word : ℕ) (reason : Reason) → n ≡ m * states → set_lanes word ≡ map (λ i. pair * states % n + i) (below states) →
-    entries_in n (pair * states / n) word reason ≡ grown_numbers states (as_entry (pair, reason))
-grown_entries n m states pair word reason is lanes =
-    ap (map (λ lane. as_entry (pair * states / n * n + lane, reason))) lanes
-    ∙ map-map (λ lane. as_entry (pair * states / n * n + lane, reason)) (λ i. pair * states % n + i) (below states)
-    ∙ map_as (λ i. as_entry (pair * states / n * n + (pair * states % n + i), reason)) (grown_number states (as_entry (pair, reason))) (below states)
-    (λ i j. ap (λ p. as_entry (p, reason)) (let whole : pair * states / n * n + pair * states % n ≡ pair * states = div-add-mod' (pair * states) n in
-    let place : pair * states / n * n + (pair * states % n + i) ≡ pair * states + i = omega arith in place))
+-- the entries of a part of a row are grown to those of a row
+pub grown_part : (n m d states lanes x i word : ℕ) (reason : Reason) (L : List ℕ) → n ≡ m * states → lanes ≡ d * m → set_lanes word ≡ flat_map (λ lane. map (λ b. lane * states + b) (below states)) L →
+    entries_in n (x * d + i) word reason ≡ flat_map (grown_numbers states) (map (λ lane. as_entry (x * lanes + i * m + lane, reason)) L)
+grown_part n m d states lanes x i word reason L whole parts spread =
+    ap (map (λ lane. as_entry ((x * d + i) * n + lane, reason))) spread
+    ∙ map-flat_map (λ lane. as_entry ((x * d + i) * n + lane, reason)) (λ lane. map (λ b. lane * states + b) (below states)) L
+    ∙ flat_map_same (λ lane. map (λ lane. as_entry ((x * d + i) * n + lane, reason)) (map (λ b. lane * states + b) (below states))) (λ lane. grown_numbers states (as_entry (x * lanes + i * m + lane, reason))) L (λ lane.
+    map-map (λ lane. as_entry ((x * d + i) * n + lane, reason)) (λ b. lane * states + b) (below states)
+    ∙ map_as (λ b. as_entry ((x * d + i) * n + (lane * states + b), reason)) (grown_number states (as_entry (x * lanes + i * m + lane, reason))) (below states) (λ b j. ap (λ p. as_entry (p, reason)) (place lane b)))
+    ∙ sym (flat_map-map (grown_numbers states) (λ lane. as_entry (x * lanes + i * m + lane, reason)) L)
+  where
+    place : (lane b : ℕ) → (x * d + i) * n + (lane * states + b) ≡ (x * lanes + i * m + lane) * states + b
+    place lane b =
+        let row : (x * d + i) * n ≡ (x * d + i) * (m * states) = ap (λ k. (x * d + i) * k) whole in
+        let first : x * lanes ≡ x * (d * m) = ap (λ k. x * k) parts in
+        let times : (x * lanes + i * m + lane) * states ≡ (x * (d * m) + i * m + lane) * states = ap (λ k. (k + i * m + lane) * states) first in
+        omega (arith, row, times)
 
 pub positive : (m n : ℕ) → 0 < m * n → (0 < m) × (0 < n)
 positive zero n some = absurd (let none : zero * n ≡ 0 = omega arith in omega (arith, none, some))
@@ -126,19 +164,3 @@ grown_within n m states pair is some =
     let below : pair % m < m = mod_below pair m both.0 in
     let slices : states * (pair % m + 1) ≤ states * m = mul-le-mul_left states (omega arith) in
     omega (arith, is, ap (λ k. pair * states % k) is, place, slices)
-
--- an entry stands for some pair, so that its number is one of the system
-pub first_candidate : (A : Arena ℕ) (kept : List (Entry ℕ)) (n m states pair : ℕ) (reason : Reason) → AreCandidates A kept (grown_numbers states (as_entry (pair, reason))) → n ≡ m * states → 0 < n →
-    pair * states < length A.nodes
-first_candidate A kept n m states pair reason are is some =
-    let first = are.nodes (as_entry (pair * states + 0, reason)) (in_map (grown_number states (as_entry (pair, reason))) 0 (below states) (in_below states 0 (positive m states (omega (arith, is, some))).1)) in
-    omega (arith, first)
-
--- those entries, as they are computed
-pub grown_word : (n m states pair width lanes word : ℕ) (reason : Reason) → n ≡ m * states → width ≡ states → lanes ≡ n →
-    set_lanes word ≡ map (λ i. pair * width % lanes + i) (below (pair * width % lanes + width - pair * width % lanes)) → entries_in n (pair * width / lanes) word reason ≡ grown_numbers states (as_entry (pair, reason))
-grown_word n m states pair width lanes word reason is wide rows of =
-    let slices : pair * width % lanes + width - pair * width % lanes ≡ width = omega arith in
-    let those : set_lanes word ≡ map (λ i. pair * states % n + i) (below states) =
-    of ∙ ap (λ k. map (λ i. pair * width % lanes + i) (below k)) slices ∙ ap₂ (λ w l. map (λ i. pair * w % l + i) (below w)) wide rows in
-    ap₂ (λ w l. entries_in n (pair * w / l) word reason) wide rows ∙ grown_entries n m states pair word reason is those

@@ -3,6 +3,7 @@ use Rattle.std.proofs.Common.{◌≡◌, ℕ, ◌+◌, ◌*◌, ◌<◌, ◌≤�
 use Rattle.std.proofs.lemmas.Bool.{or_from, false_from_ne_true, eqb-true}
 use Rattle.std.proofs.lemmas.List.{map-append}
 use Rattle.std.proofs.lemmas.List.Sums.{sum_by-cons, sum_by-append}
+use Rattle.std.proofs.lemmas.List.Concat.{flat_map-append}
 use Rattle.std.proofs.lemmas.List.Folds.{list_any-append}
 use Rattle.roman_model.specs.Lists.{IsIn, HasNoRepeats, below}
 use Rattle.roman_model.specs.Arena.{Arena, Entry, is_among, is_listed, is_justified, replay_from, readings}
@@ -127,27 +128,28 @@ grown_once states x one =
     let same : x.node * 1 + 0 ≡ x.node = omega arith in
     ap (λ n. grown_numbers n x) one ∙ ap (λ p. as_entry (p, x.reason) ∷ []) same
 
--- Those of all entries that wait.
+-- Those of all entries that wait, some of them first.
 
-pub entry_first : (A : Arena ℕ) (start now next : Board) (states : ℕ) (all : List (Entry ℕ)) (x : Entry ℕ) → IsReplaying A start now all (flat_map (grown_numbers states) now.waiting) →
-    now.waiting ≡ x ∷ next.waiting → next ≡ record now { waiting = next.waiting } → IsReplaying A start next all (grown_numbers states x ++ flat_map (grown_numbers states) next.waiting)
-entry_first A start now next states all x so_far first rest =
-    replaying_still A start now next all (grown_numbers states x ++ flat_map (grown_numbers states) next.waiting)
-    (subst (λ L. IsReplaying A start now all (flat_map (grown_numbers states) L)) first so_far) rest
+pub grown_first : (A : Arena ℕ) (start now next : Board) (states : ℕ) (all part : List (Entry ℕ)) → IsReplaying A start now all (flat_map (grown_numbers states) now.waiting) →
+    now.waiting ≡ part ++ next.waiting → next ≡ record now { waiting = next.waiting } → IsReplaying A start next all (flat_map (grown_numbers states) part ++ flat_map (grown_numbers states) next.waiting)
+grown_first A start now next states all part so_far first rest =
+    replaying_still A start now next all (flat_map (grown_numbers states) part ++ flat_map (grown_numbers states) next.waiting)
+    (subst (IsReplaying A start now all) (ap (flat_map (grown_numbers states)) first ∙ flat_map-append (grown_numbers states) part next.waiting) so_far) rest
 
-pub entry_turn : (A : Arena ℕ) (start now next new : Board) (states : ℕ) (all : List (Entry ℕ)) (x : Entry ℕ) → IsReplaying A start now all (flat_map (grown_numbers states) now.waiting) →
-    now.waiting ≡ x ∷ next.waiting → next ≡ record now { waiting = next.waiting } → new.list ≡ with_replay A next.list (grown_numbers states x) → new ≡ record next { list = new.list } →
+pub grown_turn : (A : Arena ℕ) (start now next new : Board) (states : ℕ) (all part : List (Entry ℕ)) → IsReplaying A start now all (flat_map (grown_numbers states) now.waiting) →
+    now.waiting ≡ part ++ next.waiting → next ≡ record now { waiting = next.waiting } → new.list ≡ with_replay A next.list (flat_map (grown_numbers states) part) → new ≡ record next { list = new.list } →
     IsReplaying A start new all (flat_map (grown_numbers states) new.waiting)
-entry_turn A start now next new states all x so_far first rest list kept =
+grown_turn A start now next new states all part so_far first rest list kept =
     subst (λ L. IsReplaying A start new all (flat_map (grown_numbers states) L)) (sym (ap (λ (b : Board). b.waiting) kept))
-    (replaying_part A start next new all (grown_numbers states x) (flat_map (grown_numbers states) next.waiting) (entry_first A start now next states all x so_far first rest) list kept)
+    (replaying_part A start next new all (flat_map (grown_numbers states) part) (flat_map (grown_numbers states) next.waiting) (grown_first A start now next states all part so_far first rest) list kept)
 
-pub entry_cost : (A : Arena ℕ) (now next new : Board) (states : ℕ) (x : Entry ℕ) → now.waiting ≡ x ∷ next.waiting → new ≡ record next { list = new.list } →
-    readings_of_entries A (flat_map (grown_numbers states) now.waiting) ≡ readings_of_entries A (grown_numbers states x) + readings_of_entries A (flat_map (grown_numbers states) new.waiting)
-entry_cost A now next new states x first kept =
+pub grown_cost : (A : Arena ℕ) (now next new : Board) (states : ℕ) (part : List (Entry ℕ)) → now.waiting ≡ part ++ next.waiting → new ≡ record next { list = new.list } →
+    readings_of_entries A (flat_map (grown_numbers states) now.waiting) ≡ readings_of_entries A (flat_map (grown_numbers states) part) + readings_of_entries A (flat_map (grown_numbers states) new.waiting)
+grown_cost A now next new states part first kept =
     ap (λ W. readings_of_entries A (flat_map (grown_numbers states) W)) first
-    ∙ sum_by-append (λ (y : Entry ℕ). readings_of_reason A y.node y.reason) (grown_numbers states x) (flat_map (grown_numbers states) next.waiting)
-    ∙ ap (λ W. readings_of_entries A (grown_numbers states x) + readings_of_entries A (flat_map (grown_numbers states) W)) (sym (ap (λ (b : Board). b.waiting) kept))
+    ∙ ap (readings_of_entries A) (flat_map-append (grown_numbers states) part next.waiting)
+    ∙ sum_by-append (λ (y : Entry ℕ). readings_of_reason A y.node y.reason) (flat_map (grown_numbers states) part) (flat_map (grown_numbers states) next.waiting)
+    ∙ ap (λ W. readings_of_entries A (flat_map (grown_numbers states) part) + readings_of_entries A (flat_map (grown_numbers states) W)) (sym (ap (λ (b : Board). b.waiting) kept))
 
 -- Readings.
 

@@ -7,3 +7,4 @@ pub mod DeathParts
 pub mod DeathEntries
 pub mod Whole
 pub mod Fronts
+pub mod Growing

@@ -1,5 +1,5 @@
 -- What a replay goes over, and what it adds to a list.
-use Rattle.std.specs.Prelude.{◌≡◌, ℕ, ◌<◌, Bool, true, List, [], ◌++◌, flat_map, length, sum_by, IsTrue, IsFalse}
+use Rattle.std.specs.Prelude.{◌≡◌, ℕ, ◌<◌, ◌≤◌, Bool, true, List, [], ◌++◌, ◌*◌, flat_map, length, sum_by, IsTrue, IsFalse}
 use Rattle.roman_model.specs.Lists.{IsIn, HasNoRepeats}
 use Rattle.roman_model.specs.Arena.{Arena, Entry, IsOrder, replay, replay_from}
 use Rattle.roman_model.specs.NumberedChange.{grown_numbers}
@@ -43,3 +43,8 @@ pub record IsReplayable (joint : NamedSys) (states : ℕ) (board : Board) : Type
   pub empty : board.list ≡ []
   pub may : AreCandidates (arena_of joint) [] (candidates states board)
   pub valid : IsOrder (arena_of joint) (replay (arena_of joint) (candidates states board))
+
+-- a row has whole slices of so many states, and one of so many lanes becomes whole rows where each lane becomes a slice
+pub record AreSlices (row lanes states : ℕ) : Type 0 where
+  pub few : lanes ≤ 64
+  pub slices : (m : ℕ) × (row ≡ m * states) × (d : ℕ) × (lanes ≡ d * m)

@@ -44,10 +44,13 @@ pub fn join<L: Ledger>(
     relation.joint.known();
     relation.order.known();
     let states = states_of(&relation.joint, &seat);
+    let shape = relation.joint.shape();
+    shape.known();
+    let lanes = shape.lanes();
     relation.joint.push_seat(seat)?;
     relation.joint.known();
     reopen(relation);
-    Ok(replay_and_settle_on(relation, states, steps))
+    Ok(replay_and_settle_on(relation, states, lanes, steps))
 }
 
 /// How many states the service may be in.

@@ -1,5 +1,6 @@
 //! Words of lanes, cut in two or made.
-ghost use Rattle.std.specs.Prelude.{◌≡◌, ◌≢◌, ℕ, ◌+◌, ◌-◌, ◌<◌, ◌≤◌, ◌++◌, true, false, length, map};
+ghost use Rattle.std.specs.Prelude.{◌≡◌, ◌≢◌, ℕ, ◌+◌, ◌-◌, ◌*◌, ◌<◌, ◌≤◌, ◌++◌, [], true, false, cond, length, map, flat_map};
+ghost use Rattle.std.specs.List.{filter};
 ghost use Rattle.roman_model.specs.Lists.{below};
 ghost use Rattle.roman_lanes.specs.Rows.{is_on};
 ghost use Rattle.roman_order.specs.Board.{set_lanes};
@@ -27,7 +28,33 @@ pub(crate) fn split_lanes(word: u64, end: u64) -> (u64, u64)
 pub(crate) fn lanes_between(begin: u32, end: u32) -> u64
     requires { (begin < end) × (end ≤ 64) }
     ensures lanes { set_lanes result ≡ map (λ i. begin + i) (below (end - begin)) }
-    ensures within { (lane : ℕ) → is_on result lane ≡ true → lane < end }
+    ensures within { (lane : ℕ) → is_on result lane ≡ true → (begin ≤ lane) × (lane < end) }
 {
     (u64::MAX >> (64 - end)) & !((1 << begin) - 1)
+}
+
+/// Where a lane is one of a word's, the word of as many neighbours as `width` from the place on to which
+/// it is spread; else a word of none.
+fn spread_lane(word: u64, lane: u32, width: u32) -> u64
+    requires { (0 < width) × (lane * width + width ≤ 64) }
+    ensures lanes { set_lanes result ≡ cond (is_on word lane) (map (λ i. lane * width + i) (below width)) [] }
+    ensures within { (bit : ℕ) → is_on result bit ≡ true → (lane * width ≤ bit) × (bit < lane * width + width) }
+{
+    if (word >> lane) & 1 == 0 {
+        return 0;
+    }
+    lanes_between(lane * width, lane * width + width)
+}
+
+/// The first lanes of a word, each spread to as many neighbours as `width`.
+pub(crate) fn spread_lanes(word: u64, lanes: u32, width: u32) -> u64
+    requires { (0 < width) × (lanes * width ≤ 64) }
+    ensures lanes { set_lanes result ≡ flat_map (λ lane. map (λ i. lane * width + i) (below width)) (filter (is_on word) (below lanes)) }
+    ensures within { (bit : ℕ) → is_on result bit ≡ true → bit < lanes * width }
+{
+    let mut spread = 0;
+    for lane in 0..lanes {
+        spread |= spread_lane(word, lane, width);
+    }
+    spread
 }

@@ -1,58 +1,97 @@
 //! The replay of entries that stand for several pairs each.
-ghost use Rattle.std.specs.Prelude.{◌≡◌, ℕ, ◌+◌, ◌*◌, ◌≤◌, [], flat_map};
+ghost use Rattle.std.specs.Prelude.{◌≡◌, ℕ, ◌+◌, ◌*◌, ◌<◌, ◌≤◌, true, [], flat_map};
 ghost use Rattle.roman_model.specs.Arena.{is_listed};
 ghost use Rattle.roman_model.specs.NumberedChange.{grown_numbers};
+ghost use Rattle.roman_lanes.specs.Rows.{is_on};
 ghost use Rattle.roman_rules.specs.Asked.{HoldsWhereKept};
-ghost use Rattle.roman_order.specs.Board.{as_entry};
+ghost use Rattle.roman_order.specs.Board.{entries_in};
 ghost use Rattle.roman_relation.specs.Shaped.{IsShaped};
-ghost use Rattle.roman_repair.specs.Replays.{AreCandidates, with_replay, readings_of_entries};
+ghost use Rattle.roman_repair.specs.Replays.{AreCandidates, AreSlices, with_replay, readings_of_entries};
 
 use crate::events::keep_lanes;
-use crate::lanes::lanes_between;
+use crate::lanes::spread_lanes;
 use roman_io::Steps;
 use roman_model::Reason;
 use roman_order::Order;
 use roman_rules::{Asked, Rules};
 use std::sync::ledger::Ledger;
 
-/// Replays the `states` neighbouring pairs that an entry stands for, which lie in one row.
+/// Replays the entries for some lanes of one of the rows that a row becomes, of so `many` the one at
+/// place `i`.
+fn keep_part<J: Rules, L: Ledger>(
+    joint: &J,
+    order: &mut Order,
+    asked: &mut Asked,
+    x: u32,
+    many: u32,
+    i: u32,
+    word: u64,
+    reason: Reason,
+    steps: &mut Steps<L>,
+)
+    requires shaped { IsShaped (J.arena joint.now) (J.lanes joint.now) order.old }
+    requires within { (lane : ℕ) → is_on word lane ≡ true → lane < J.lanes joint.now }
+    requires candidates { AreCandidates (J.arena joint.now) order.old.list (entries_in (J.lanes joint.now) (x * many + i) word reason) }
+    requires known { HoldsWhereKept (J.arena joint.now) (J.lanes joint.now) (is_listed (J.arena joint.now) order.old.list) asked.old }
+    ensures list { order.new.list ≡ with_replay (J.arena joint.now) order.old.list (entries_in (J.lanes joint.now) (x * many + i) word reason) }
+    ensures known { HoldsWhereKept (J.arena joint.now) (J.lanes joint.now) (is_listed (J.arena joint.now) order.new.list) asked.new }
+    ensures rest { order.new ≡ record order.old { list = order.new.list } }
+    ensures cost { steps.new ≤ steps.old + readings_of_entries (J.arena joint.now) (entries_in (J.lanes joint.now) (x * many + i) word reason) }
+{
+    joint.known();
+    if word == 0 {
+        return;
+    }
+    keep_lanes(joint, order, asked, x * many + i, word, reason, steps);
+}
+
+/// Replays the pairs that the entries for some lanes of the row `x` stand for, where a row had so many
+/// `lanes`. The row becomes several, one for each part of it that makes a whole row when each lane is
+/// spread to as many neighbours as the newcomer has `states`.
 fn keep_grown<J: Rules, L: Ledger>(
     joint: &J,
     order: &mut Order,
     asked: &mut Asked,
     states: u8,
-    entry: (u32, Reason),
+    lanes: u32,
+    x: u32,
+    word: u64,
+    reason: Reason,
     steps: &mut Steps<L>,
 )
     requires shaped { IsShaped (J.arena joint.now) (J.lanes joint.now) order.old }
-    requires whole { (m : ℕ) × (J.lanes joint.now ≡ m * states) }
-    requires candidates { AreCandidates (J.arena joint.now) order.old.list (grown_numbers states (as_entry entry)) }
+    requires slices { AreSlices (J.lanes joint.now) lanes states }
+    requires within { (lane : ℕ) → is_on word lane ≡ true → lane < lanes }
+    requires candidates { AreCandidates (J.arena joint.now) order.old.list (flat_map (grown_numbers states) (entries_in lanes x word reason)) }
     requires known { HoldsWhereKept (J.arena joint.now) (J.lanes joint.now) (is_listed (J.arena joint.now) order.old.list) asked.old }
-    ensures list { order.new.list ≡ with_replay (J.arena joint.now) order.old.list (grown_numbers states (as_entry entry)) }
+    ensures list { order.new.list ≡ with_replay (J.arena joint.now) order.old.list (flat_map (grown_numbers states) (entries_in lanes x word reason)) }
     ensures known { HoldsWhereKept (J.arena joint.now) (J.lanes joint.now) (is_listed (J.arena joint.now) order.new.list) asked.new }
     ensures rest { order.new ≡ record order.old { list = order.new.list } }
-    ensures cost { steps.new ≤ steps.old + readings_of_entries (J.arena joint.now) (grown_numbers states (as_entry entry)) }
+    ensures cost { steps.new ≤ steps.old + readings_of_entries (J.arena joint.now) (flat_map (grown_numbers states) (entries_in lanes x word reason)) }
 {
     joint.known();
-    let (pair, reason) = entry;
-    let lanes = joint.lanes();
     let width = u32::from(states);
-    let first = pair * width;
-    let begin = first % lanes;
-    let word = lanes_between(begin, begin + width);
-    keep_lanes(joint, order, asked, first / lanes, word, reason, steps);
+    let slices = joint.lanes() / width;
+    let many = lanes / slices;
+    for i in 0..many {
+        let part = (word >> (i * slices)) & (u64::MAX >> (64 - slices));
+        let grown = spread_lanes(part, slices, width);
+        keep_part(joint, order, asked, x, many, i, grown, reason, steps);
+    }
 }
 
-/// Replays the entries that wait, after those of the list. Each stands for the pairs to which its own
-/// is grown where a service with so many states comes last.
+/// Replays the entries that wait, of rows of so many `lanes`, after those of the list. Each stands for
+/// the pairs to which its own is grown where a service with so many states comes last.
 pub(crate) fn replay<J: Rules, L: Ledger>(
     joint: &J,
     order: &mut Order,
     states: u8,
+    lanes: u32,
     steps: &mut Steps<L>,
 )
     requires shaped { IsShaped (J.arena joint.now) (J.lanes joint.now) order.old }
-    requires whole { (m : ℕ) × (J.lanes joint.now ≡ m * states) }
+    requires slices { AreSlices (J.lanes joint.now) lanes states }
+    requires lanes { order.old.waiting_lanes ≡ lanes }
     requires candidates { AreCandidates (J.arena joint.now) order.old.list (flat_map (grown_numbers states) order.old.waiting) }
     ensures list { order.new.list ≡ with_replay (J.arena joint.now) order.old.list (flat_map (grown_numbers states) order.old.waiting) }
     ensures rest { order.new ≡ record order.old { list = order.new.list; waiting = [] } }
@@ -60,7 +99,17 @@ pub(crate) fn replay<J: Rules, L: Ledger>(
 {
     joint.known();
     let mut asked = Asked::nothing();
-    'replay: while let Some(entry) = order.next_waiting() {
-        keep_grown(joint, order, &mut asked, states, entry, steps);
+    'replay: while let Some(event) = order.next_waiting_event() {
+        keep_grown(
+            joint,
+            order,
+            &mut asked,
+            states,
+            lanes,
+            event.row,
+            event.lanes,
+            event.reason,
+            steps,
+        );
     }
 }

@@ -1,12 +1,12 @@
 //! The end of every repair: the list is completed, and counted.
-ghost use Rattle.std.specs.Prelude.{◌≡◌, ℕ, ◌+◌, ◌*◌, ◌≤◌, length};
+ghost use Rattle.std.specs.Prelude.{◌≡◌, ◌+◌, ◌≤◌, length};
 ghost use Rattle.roman_model.specs.Arena.{replay as replay_of};
 ghost use Rattle.roman_joint.specs.NamedSys.{system_of};
 ghost use Rattle.roman_joint.specs.Rows.{lanes_in};
 ghost use Rattle.roman_relation.specs.Settled.{Begins};
 ghost use Rattle.roman_relation.specs.Greatest.{arena_of, IsRelation};
 ghost use Rattle.roman_repair.specs.Repairs.{IsBegun, IsWithinReading, fall_of};
-ghost use Rattle.roman_repair.specs.Replays.{candidates, IsReplayable};
+ghost use Rattle.roman_repair.specs.Replays.{candidates, AreSlices, IsReplayable};
 
 use crate::events::replay_events;
 use crate::replaying::replay;
@@ -33,16 +33,18 @@ pub(crate) fn settle_on<L: Ledger>(relation: &mut Relation, steps: &mut Steps<L>
     }
 }
 
-/// Replays the list that waits, each entry for so many pairs, and goes on to a complete one. At most
+/// Replays the list that waits, of rows of so many lanes, each entry for so many pairs, and goes on to a complete one. At most
 /// as many steps go into the replay as there are delegations of an allowed action to a ready
 /// service.
 pub(crate) fn replay_and_settle_on<L: Ledger>(
     relation: &mut Relation,
     states: u8,
+    lanes: u32,
     steps: &mut Steps<L>,
 ) -> Tally
     requires replayable { IsReplayable relation.old.joint states relation.old.order }
-    requires whole { (m : ℕ) × (lanes_in (system_of relation.old.joint) ≡ m * states) }
+    requires slices { AreSlices (lanes_in (system_of relation.old.joint)) lanes states }
+    requires lanes { relation.old.order.waiting_lanes ≡ lanes }
     ensures joint { relation.new.joint ≡ relation.old.joint }
     ensures relation { IsRelation relation.new.joint relation.new.order }
     ensures begins { Begins (replay_of (arena_of relation.old.joint) (candidates states relation.old.order)) relation.new.order.list }
@@ -51,7 +53,7 @@ pub(crate) fn replay_and_settle_on<L: Ledger>(
     ensures cost { IsWithinReading relation.new.joint relation.new.order result steps.old steps.new }
 {
     relation.joint.known();
-    replay(&relation.joint, &mut relation.order, states, steps);
+    replay(&relation.joint, &mut relation.order, states, lanes, steps);
     settle_on(relation, steps)
 }
 

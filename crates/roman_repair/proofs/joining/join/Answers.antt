@@ -1,6 +1,10 @@
-use Rattle.std.proofs.Common.{flat_map, ◌*◌, sym, ap, ◌∙◌}
+use Rattle.std.proofs.Common.{◌≡◌, flat_map, sym, ap, ◌∙◌, subst}
 use Rattle.roman_model.specs.System.{Seat}
-use Rattle.roman_model.specs.Change.{Join}
+use Rattle.roman_model.specs.Change.{Join, after}
+use Rattle.roman_model.specs.Numbers.{Sizes}
+use Rattle.roman_radix.specs.Radix.{AreSizes}
+use Rattle.roman_radix.specs.Rows.{lanes_of}
+use Rattle.roman_repair.specs.Replays.{AreSlices}
 use Rattle.roman_model.specs.NumberedChange.{grown_numbers}
 use Rattle.roman_joint.specs.NamedSys.{NamedSys, system_of, seat_of}
 use Rattle.roman_joint.specs.Rows.{lanes_in}
@@ -14,7 +18,7 @@ replay_and_settle_on-requires-clause-replayable g c =
     let n = c.args.relation.now.joint in
     let old = c.args.relation.now.order in
     let seat : Seat = seat_of n.catalogue c.args.seat in
-    let can = joined_can c.push_seat.new.self (system_of n) seat c.known-3.ensures c.in_ok-push_seat.ensures.system in
+    let can = joined_can c.push_seat.new.self (system_of n) seat c.known-4.ensures c.in_ok-push_seat.ensures.system in
     let is : IsReopened (Join seat) (system_of n) c.reopen.new.relation.joint c.states_of-states.result old.list c.reopen.new.relation.order = record {
       replays = relation_replays (Join seat) n old c.known.ensures c.requires.relation c.known-2.ensures.in_range can;
       system = ap system_of c.reopen.ensures.joint ∙ c.in_ok-push_seat.ensures.system;
@@ -24,20 +28,29 @@ replay_and_settle_on-requires-clause-replayable g c =
     (joined_candidates (system_of n) seat old.list (relation_candidates n old c.known.ensures c.requires.relation c.known-2.ensures.in_range) is.replays)
     c.reopen.ensures.list c.reopen.ensures.shaped c.reopen.ensures.caps
 
-pub replay_and_settle_on-requires-clause-whole : goal.replay_and_settle_on-requires-clause-whole
-replay_and_settle_on-requires-clause-whole g c =
+pub replay_and_settle_on-requires-clause-slices : goal.replay_and_settle_on-requires-clause-slices
+replay_and_settle_on-requires-clause-slices g c =
     let n = c.args.relation.now.joint in
     let seat : Seat = seat_of n.catalogue c.args.seat in
-    let can = joined_can c.push_seat.new.self (system_of n) seat c.known-3.ensures c.in_ok-push_seat.ensures.system in
-    let (m, is) = joined_lanes (system_of n) seat can in
-    (m, ap (λ (j : NamedSys). lanes_in (system_of j)) c.reopen.ensures.joint ∙ (ap lanes_in c.in_ok-push_seat.ensures.system ∙ (is ∙ ap (λ k. m * k) (sym c.states_of-states.ensures))))
+    let can = joined_can c.push_seat.new.self (system_of n) seat c.known-4.ensures c.in_ok-push_seat.ensures.system in
+    let wide : c.lanes-lanes.result ≡ lanes_in (system_of n) = c.lanes-lanes.ensures.value ∙ ap (λ (m : Sizes). lanes_of m.seats) c.shape-shape.ensures in
+    let row : lanes_in (system_of c.reopen.new.relation.joint) ≡ lanes_in (after (Join seat) (system_of n)) =
+    ap (λ (j : NamedSys). lanes_in (system_of j)) c.reopen.ensures.joint ∙ ap lanes_in c.in_ok-push_seat.ensures.system in
+    subst (λ r. AreSlices r c.lanes-lanes.result c.states_of-states.result) (sym row)
+    (subst (λ l. AreSlices (lanes_in (after (Join seat) (system_of n))) l c.states_of-states.result) (sym wide)
+    (subst (AreSlices (lanes_in (after (Join seat) (system_of n))) (lanes_in (system_of n))) (sym c.states_of-states.ensures)
+    (joined_lanes (system_of n) seat can (subst (λ (m : Sizes). AreSizes m.seats) c.shape-shape.ensures c.known-3.ensures.seats))))
+
+pub replay_and_settle_on-requires-clause-lanes : goal.replay_and_settle_on-requires-clause-lanes
+replay_and_settle_on-requires-clause-lanes g c =
+    c.reopen.ensures.wide ∙ c.requires.relation.shaped.lanes ∙ sym (c.lanes-lanes.ensures.value ∙ ap (λ (m : Sizes). lanes_of m.seats) c.shape-shape.ensures)
 
 pub returns-clause-repaired : goal.returns-clause-repaired
 returns-clause-repaired g c =
     let n = c.args.relation.now.joint in
     let old = c.args.relation.now.order in
     let seat : Seat = seat_of n.catalogue c.args.seat in
-    let can = joined_can c.push_seat.new.self (system_of n) seat c.known-3.ensures c.in_ok-push_seat.ensures.system in
+    let can = joined_can c.push_seat.new.self (system_of n) seat c.known-4.ensures c.in_ok-push_seat.ensures.system in
     let new = c.replay_and_settle_on in
     reopened_repaired (Join seat) n c.reopen.new.relation.joint new.new.relation.joint c.states_of-states.result old
     c.reopen.new.relation.order new.new.relation.order new.result (record {

@@ -1,4 +1,4 @@
-use Rattle.std.proofs.Common.{inl, inr}
+use Rattle.std.proofs.Common.{◌≤◌, inl, inr}
 use Rattle.std.proofs.lemmas.Bool.{cases_lt, both_ways}
 use Rattle.roman_repair.proofs.Fronts.{lanes_from_to, is_between}
 use Rattle.roman_repair.proofs.lanes.lanes_between.Goals as goal
@@ -11,4 +11,5 @@ returns-clause-lanes c =
 pub returns-clause-within : goal.returns-clause-within
 returns-clause-within c lane on =
     let is = is_between c.args.begin c.args.end c.requires.0 c.requires.1 in
-    elim (cases_lt lane c.args.end) [ inl l ↦ l | inr past ↦ absurd (both_ways _ (is.high lane past) on) ]
+    let begun : c.args.begin ≤ lane = elim (cases_lt lane c.args.begin) [ inl l ↦ absurd (both_ways _ (is.low lane l) on) | inr past ↦ past ] in
+    elim (cases_lt lane c.args.end) [ inl l ↦ (begun, l) | inr past ↦ absurd (both_ways _ (is.high lane past) on) ]

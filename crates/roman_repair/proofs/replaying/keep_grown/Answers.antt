@@ -1,49 +1,79 @@
-use Rattle.std.proofs.Common.{◌*◌, ◌%◌, sym, ap, ap₂, ◌∙◌, subst, arith}
+use Rattle.std.proofs.Common.{◌≡◌, ◌+◌, ◌*◌, ◌/◌, sym, ap, ap₂, ◌∙◌, subst, arith}
+use Rattle.roman_order.specs.Board.{Board, entries_in}
 use Rattle.roman_repair.specs.Replays.{AreCandidates, with_replay, readings_of_entries}
-use Rattle.roman_repair.proofs.Joined.{grown_word, grown_within, states_some, first_candidate}
+use Rattle.roman_repair.proofs.Keeping.{with_replay_append}
+use Rattle.roman_repair.proofs.DeathParts.{part_word, part_end}
+use Rattle.roman_repair.proofs.Growing.{sliced, grown_below, grown_from, grown_next, grown_whole, part_entries, part_candidates, readings_both}
 use Rattle.roman_repair.proofs.replaying.keep_grown.Goals as goal
 
-pub overflow_mul-first : goal.overflow_mul-first
-overflow_mul-first g c =
-    let n = g.J.Rules.lanes c.args.joint.now in
-    let (m, is) = c.requires.whole in
-    let small = first_candidate (g.J.Rules.arena c.args.joint.now) c.args.order.now.list n m c.args.states c.args.entry.0 c.args.entry.1 c.requires.candidates is c.known.ensures.lanes.0 in
-    omega (arith, small, ap (λ w. c.args.entry.0 * w) c.from-width.ensures, c.known.ensures.numbered.few_nodes)
+pub nonzero_div-many : goal.nonzero_div-many
+nonzero_div-many g c =
+    (sliced (g.J.Rules.lanes c.args.joint.now) c.args.lanes c.args.states c.lanes.result c.from-width.result c.lanes.ensures.value c.from-width.ensures c.requires.slices c.known.ensures.lanes.0 c.known.ensures.lanes.1).some
 
-pub lanes_between-word-requires : goal.lanes_between-word-requires
-lanes_between-word-requires g c =
+pub keep_part-requires-clause-candidates : goal.keep_part-requires-clause-candidates
+keep_part-requires-clause-candidates g c =
+    let A = g.J.Rules.arena c.args.joint.now in
     let n = g.J.Rules.lanes c.args.joint.now in
-    let (m, is) = c.requires.whole in
-    let within = grown_within n m c.args.states c.args.entry.0 is c.known.ensures.lanes.0 in
-    let place = ap₂ (λ w l. c.args.entry.0 * w % l) c.from-width.ensures c.lanes-lanes.ensures.value in
-    let some = states_some n m c.args.states is c.known.ensures.lanes.0 in
-    (omega (arith, some, c.from-width.ensures), omega (arith, within, place, c.from-width.ensures, c.known.ensures.lanes.1))
+    let lanes = c.args.lanes in
+    let states = c.args.states in
+    let word = c.args.word in
+    let i = c.loop-i.i in
+    let m = c.lanes.result / c.from-width.result in
+    let L = c.args.order.now.list in
+    let is = sliced n lanes states c.lanes.result c.from-width.result c.lanes.ensures.value c.from-width.ensures c.requires.slices c.known.ensures.lanes.0 c.known.ensures.lanes.1 in
+    let all = subst (AreCandidates A L) (sym (grown_whole states lanes c.args.x word c.args.reason c.requires.slices.few c.requires.within)) c.requires.candidates in
+    let part = part_candidates A L states lanes c.args.x word i m c.args.reason is.few (part_end i m lanes c.loop-i-test.true) all in
+    let before = with_replay A L (grown_below states lanes c.args.x word (i * m) c.args.reason) in
+    let those = entries_in n (c.args.x * (lanes / m) + i) c.spread_lanes-grown.result c.args.reason in
+    subst (λ K. AreCandidates A K those) (sym c.loop-i.invariant.list)
+    (subst (AreCandidates A before) (sym (part_entries n lanes states m (lanes / m) c.args.x word i c.from-width.result c.spread_lanes-grown.result c.args.reason is c.from-width.ensures c.spread_lanes-grown.ensures.lanes)) part)
 
-pub keep_lanes-requires-clause-within : goal.keep_lanes-requires-clause-within
-keep_lanes-requires-clause-within g c lane on =
+pub loop-i-preserved : goal.loop-i-preserved
+loop-i-preserved g c =
+    let A = g.J.Rules.arena c.args.joint.now in
     let n = g.J.Rules.lanes c.args.joint.now in
-    let (m, is) = c.requires.whole in
-    let within = grown_within n m c.args.states c.args.entry.0 is c.known.ensures.lanes.0 in
-    let place = ap₂ (λ w l. c.args.entry.0 * w % l) c.from-width.ensures c.lanes-lanes.ensures.value in
-    omega (arith, within, place, c.from-width.ensures, c.lanes_between-word.ensures.within lane on)
-
-pub keep_lanes-requires-clause-candidates : goal.keep_lanes-requires-clause-candidates
-keep_lanes-requires-clause-candidates g c =
-    let (m, is) = c.requires.whole in
-    let same = grown_word (g.J.Rules.lanes c.args.joint.now) m c.args.states c.args.entry.0 c.from-width.result c.lanes-lanes.result c.lanes_between-word.result c.args.entry.1 is c.from-width.ensures
-    c.lanes-lanes.ensures.value c.lanes_between-word.ensures.lanes in
-    subst (AreCandidates (g.J.Rules.arena c.args.joint.now) c.args.order.now.list) (sym same) c.requires.candidates
+    let lanes = c.args.lanes in
+    let states = c.args.states in
+    let word = c.args.word in
+    let i = c.loop-i.i in
+    let m = c.lanes.result / c.from-width.result in
+    let L = c.args.order.now.list in
+    let new = c.keep_part.new.order in
+    let is = sliced n lanes states c.lanes.result c.from-width.result c.lanes.ensures.value c.from-width.ensures c.requires.slices c.known.ensures.lanes.0 c.known.ensures.lanes.1 in
+    let before = grown_below states lanes c.args.x word (i * m) c.args.reason in
+    let those = grown_from states (c.args.x * lanes + i * m) (part_word word (i * m) m) c.args.reason in
+    let part = part_entries n lanes states m (lanes / m) c.args.x word i c.from-width.result c.spread_lanes-grown.result c.args.reason is c.from-width.ensures c.spread_lanes-grown.ensures.lanes in
+    let next = grown_next states lanes c.args.x word i m c.args.reason is.few in
+    record {
+      list = c.keep_part.ensures.list
+          ∙ ap₂ (with_replay A) c.loop-i.invariant.list part
+          ∙ sym (with_replay_append A L before those)
+          ∙ ap (with_replay A L) next;
+      known = c.keep_part.ensures.known;
+      rest = c.keep_part.ensures.rest ∙ ap (λ (b : Board). record b { list = new.list }) c.loop-i.invariant.rest;
+      cost = omega (arith, c.keep_part.ensures.cost, ap (readings_of_entries A) part, readings_both A before those, ap (readings_of_entries A) next, c.loop-i.invariant.cost);
+    }
 
 pub returns-clause-list : goal.returns-clause-list
 returns-clause-list g c =
-    let (m, is) = c.requires.whole in
-    let same = grown_word (g.J.Rules.lanes c.args.joint.now) m c.args.states c.args.entry.0 c.from-width.result c.lanes-lanes.result c.lanes_between-word.result c.args.entry.1 is c.from-width.ensures
-    c.lanes-lanes.ensures.value c.lanes_between-word.ensures.lanes in
-    c.keep_lanes.ensures.list ∙ ap (with_replay (g.J.Rules.arena c.args.joint.now) c.args.order.now.list) same
+    let A = g.J.Rules.arena c.args.joint.now in
+    let lanes = c.args.lanes in
+    let states = c.args.states in
+    let m = c.lanes.result / c.from-width.result in
+    let is = sliced (g.J.Rules.lanes c.args.joint.now) lanes states c.lanes.result c.from-width.result c.lanes.ensures.value c.from-width.ensures c.requires.slices c.known.ensures.lanes.0 c.known.ensures.lanes.1 in
+    let end : c.loop-i.i ≡ lanes / m = omega (arith, c.loop-i-test.false, c.loop-i.auto.i-end) in
+    let whole : c.loop-i.i * m ≡ lanes = ap (λ i. i * m) end ∙ sym is.parts in
+    c.loop-i.invariant.list
+    ∙ ap (with_replay A c.args.order.now.list) (ap (λ b. grown_below states lanes c.args.x c.args.word b c.args.reason) whole ∙ grown_whole states lanes c.args.x c.args.word c.args.reason c.requires.slices.few c.requires.within)
 
 pub returns-clause-cost : goal.returns-clause-cost
 returns-clause-cost g c =
-    let (m, is) = c.requires.whole in
-    let same = grown_word (g.J.Rules.lanes c.args.joint.now) m c.args.states c.args.entry.0 c.from-width.result c.lanes-lanes.result c.lanes_between-word.result c.args.entry.1 is c.from-width.ensures
-    c.lanes-lanes.ensures.value c.lanes_between-word.ensures.lanes in
-    omega (arith, c.keep_lanes.ensures.cost, ap (readings_of_entries (g.J.Rules.arena c.args.joint.now)) same)
+    let A = g.J.Rules.arena c.args.joint.now in
+    let lanes = c.args.lanes in
+    let states = c.args.states in
+    let m = c.lanes.result / c.from-width.result in
+    let is = sliced (g.J.Rules.lanes c.args.joint.now) lanes states c.lanes.result c.from-width.result c.lanes.ensures.value c.from-width.ensures c.requires.slices c.known.ensures.lanes.0 c.known.ensures.lanes.1 in
+    let end : c.loop-i.i ≡ lanes / m = omega (arith, c.loop-i-test.false, c.loop-i.auto.i-end) in
+    let whole : c.loop-i.i * m ≡ lanes = ap (λ i. i * m) end ∙ sym is.parts in
+    let same = ap (readings_of_entries A) (ap (λ b. grown_below states lanes c.args.x c.args.word b c.args.reason) whole ∙ grown_whole states lanes c.args.x c.args.word c.args.reason c.requires.slices.few c.requires.within) in
+    omega (arith, same, c.loop-i.invariant.cost)

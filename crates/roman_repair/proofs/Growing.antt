@@ -1,0 +1,132 @@
+-- The replay of a row's entries that stand for several pairs each, part by part.
+use Rattle.std.proofs.Common.{◌≡◌, ℕ, suc, ◌+◌, ◌-◌, ◌*◌, ◌/◌, ◌<◌, ◌≤◌, Bool, true, false, ◌||◌, append-nil, List, [], ◌∷◌, ◌++◌, map, flat_map, filter, cond, refl, sym, ap, ap₂, ◌∙◌, subst, arith, bit_or}
+use Rattle.std.proofs.Math.Nat.{mul-le-mul_left}
+use Rattle.std.proofs.lemmas.Nat.{div-mul-add}
+use Rattle.std.proofs.lemmas.List.{map-append}
+use Rattle.std.proofs.lemmas.List.Concat.{flat_map-append}
+use Rattle.std.proofs.lemmas.List.Sums.{sum_by-append}
+use Rattle.roman_model.specs.Lists.{below}
+use Rattle.roman_model.specs.Arena.{Arena, Entry}
+use Rattle.roman_model.specs.NumberedChange.{grown_numbers}
+use Rattle.roman_model.specs.declared.reason.Reason.{Reason}
+use Rattle.roman_model.proofs.CallerLemmas.{filter_below_more}
+use Rattle.roman_lanes.specs.Rows.{is_on}
+use Rattle.roman_lanes.proofs.CallerLemmas.{on_or}
+use Rattle.roman_rules.specs.Asked.{readings_of_reason}
+use Rattle.roman_order.specs.Board.{as_entry, set_lanes, entries_in}
+use Rattle.roman_repair.specs.Deaths.{entries_from}
+use Rattle.roman_repair.specs.Replays.{AreCandidates, AreSlices, with_replay, readings_of_entries}
+use Rattle.roman_repair.proofs.Keeping.{candidates_left, candidates_replayed}
+use Rattle.roman_repair.proofs.Joined.{positive, grown_part}
+use Rattle.roman_repair.proofs.DeathParts.{part_word, part_in}
+use Rattle.roman_repair.proofs.DeathEntries.{entries_below, row_next, row_whole, lanes_below}
+use Rattle.roman_repair.proofs.Fronts.{cut_lanes, filter_split, false_else}
+
+-- ---- spread lanes
+
+-- lanes that stand past all others come last
+pub lanes_joined : (word more cut : ℕ) → ((bit : ℕ) → is_on word bit ≡ true → bit < cut) → ((bit : ℕ) → is_on more bit ≡ true → cut ≤ bit) → set_lanes (bit_or word more) ≡ set_lanes word ++ set_lanes more
+lanes_joined word more cut low high = cut_lanes (bit_or word more) word more cut (record {
+  low = λ lane l under.
+      let off : is_on more lane ≡ false = false_else (is_on more lane) (λ t. let past : cut ≤ lane = high lane t in omega (arith, past, under)) in
+      (sym (on_or word more lane ∙ ap (λ b. is_on word lane || b) off ∙ or_off (is_on word lane)), off);
+  high = λ lane l past.
+      let off : is_on word lane ≡ false = false_else (is_on word lane) (λ t. let under : lane < cut = low lane t in omega (arith, past, under)) in
+      (off, sym (on_or word more lane ∙ ap (λ b. b || is_on more lane) off));
+})
+  where
+    or_off : (b : Bool) → (b || false) ≡ b
+    or_off true = refl
+    or_off false = refl
+
+pub joined_within : (word more cut end bit : ℕ) → ((bit : ℕ) → is_on word bit ≡ true → bit < cut) → cut ≤ end → (is_on more bit ≡ true → bit < end) → is_on (bit_or word more) bit ≡ true → bit < end
+joined_within word more cut end bit low less high on = by_answer (is_on word bit) refl
+  where
+    by_answer : (b : Bool) → is_on word bit ≡ b → bit < end
+    by_answer true e = omega (arith, low bit e, less)
+    by_answer false e = high (sym (ap (λ b. b || is_on more bit) e) ∙ sym (on_or word more bit) ∙ on)
+
+-- the lanes of a word below a bound, each spread
+abbrev pub spread_below : ℕ → ℕ → ℕ → List ℕ
+spread_below word lanes width = flat_map (λ lane. map (λ i. lane * width + i) (below width)) (filter (is_on word) (below lanes))
+
+pub spread_more : (word lane width : ℕ) → spread_below word lane width ++ cond (is_on word lane) (map (λ i. lane * width + i) (below width)) [] ≡ spread_below word (lane + 1) width
+spread_more word lane width =
+    let next : lane + 1 ≡ suc lane = omega arith in
+    let f = λ (l : ℕ). map (λ i. l * width + i) (below width) in
+    sym (ap (λ n. flat_map f (filter (is_on word) (below n))) next
+    ∙ ap (flat_map f) (filter_below_more (is_on word) lane)
+    ∙ flat_map-append f (filter (is_on word) (below lane)) (cond (is_on word lane) (lane ∷ []) [])
+    ∙ ap (λ L. spread_below word lane width ++ L) (by_answer (is_on word lane)))
+  where
+    by_answer : (b : Bool) → flat_map (λ l. map (λ i. l * width + i) (below width)) (cond b (lane ∷ []) []) ≡ cond b (map (λ i. lane * width + i) (below width)) []
+    by_answer true = append-nil (map (λ i. lane * width + i) (below width))
+    by_answer false = refl
+
+-- ---- parts of a row
+
+pub record IsSliced (n lanes states slices many : ℕ) : Type 0 where
+  pub whole : n ≡ slices * states
+  pub parts : lanes ≡ many * slices
+  pub some_states : 0 < states
+  pub some : 0 < slices
+  pub few : slices ≤ 64
+  pub fits : slices * states ≤ 64
+
+slices_are : (n lanes states : ℕ) → AreSlices n lanes states → 0 < n → n ≤ 64 → IsSliced n lanes states (n / states) (lanes / (n / states))
+slices_are n lanes states is some few =
+    let (m, whole, d, parts) = is.slices in
+    let (pos, states_pos) = positive m states (omega (arith, some, whole)) in
+    let less : m * 1 ≤ m * states = mul-le-mul_left m states_pos in
+    let slices : n / states ≡ m = (let same : m * states ≡ m * states + 0 = omega arith in ap (λ k. k / states) (whole ∙ same) ∙ div-mul-add m states 0 states_pos) in
+    let many : lanes / (n / states) ≡ d = (let same : d * m ≡ d * m + 0 = omega arith in ap₂ (λ a b. a / b) (parts ∙ same) slices ∙ div-mul-add d m 0 pos) in
+    subst (λ s. IsSliced n lanes states s (lanes / (n / states))) (sym slices) (subst (IsSliced n lanes states m) (sym many)
+    (record { whole = whole; parts = parts; some_states = states_pos; some = pos; few = omega (arith, less, whole, few); fits = omega (arith, whole, few) }))
+
+-- as they are computed
+pub sliced : (n lanes states row width : ℕ) → row ≡ n → width ≡ states → AreSlices n lanes states → 0 < n → n ≤ 64 → IsSliced n lanes states (row / width) (lanes / (row / width))
+sliced n lanes states row width same wide is some few = subst (λ k. IsSliced n lanes states k (lanes / k)) (sym (ap₂ (λ a b. a / b) same wide)) (slices_are n lanes states is some few)
+
+-- what the entries of some lanes stand for, below a bound
+abbrev pub grown_below : ℕ → ℕ → ℕ → ℕ → ℕ → Reason → List (Entry ℕ)
+grown_below states lanes x word bound reason = flat_map (grown_numbers states) (entries_below lanes x word bound reason)
+
+abbrev pub grown_from : ℕ → ℕ → ℕ → Reason → List (Entry ℕ)
+grown_from states first part reason = flat_map (grown_numbers states) (entries_from first part reason)
+
+pub grown_next : (states lanes x word i m : ℕ) (reason : Reason) → m ≤ 64 →
+    grown_below states lanes x word (i * m) reason ++ grown_from states (x * lanes + i * m) (part_word word (i * m) m) reason ≡ grown_below states lanes x word ((i + 1) * m) reason
+grown_next states lanes x word i m reason few =
+    sym (flat_map-append (grown_numbers states) (entries_below lanes x word (i * m) reason) (entries_from (x * lanes + i * m) (part_word word (i * m) m) reason))
+    ∙ ap (flat_map (grown_numbers states)) (row_next lanes x word i m reason few)
+
+pub grown_whole : (states lanes x word : ℕ) (reason : Reason) → lanes ≤ 64 → ((lane : ℕ) → is_on word lane ≡ true → lane < lanes) → grown_below states lanes x word lanes reason ≡ flat_map (grown_numbers states) (entries_in lanes x word reason)
+grown_whole states lanes x word reason few within = ap (flat_map (grown_numbers states)) (row_whole lanes x word reason few within)
+
+-- the entries of the row that a part becomes
+pub part_entries : (n lanes states slices many x word i width grown : ℕ) (reason : Reason) → IsSliced n lanes states slices many → width ≡ states →
+    set_lanes grown ≡ spread_below (part_word word (i * slices) slices) slices width → entries_in n (x * many + i) grown reason ≡ grown_from states (x * lanes + i * slices) (part_word word (i * slices) slices) reason
+part_entries n lanes states slices many x word i width grown reason is wide spread =
+    let part = part_word word (i * slices) slices in
+    grown_part n slices many states lanes x i grown reason (filter (is_on part) (below slices)) is.whole is.parts (spread ∙ ap (spread_below part slices) wide)
+    ∙ ap (λ L. flat_map (grown_numbers states) (map (λ lane. as_entry (x * lanes + i * slices + lane, reason)) L)) (lanes_below part slices is.few (λ lane on. (part_in word (i * slices) slices lane is.few on).0))
+
+-- the candidates of the next part
+pub part_candidates : (A : Arena ℕ) (kept : List (Entry ℕ)) (states lanes x word i m : ℕ) (reason : Reason) → m ≤ 64 → (i + 1) * m ≤ lanes → AreCandidates A kept (grown_below states lanes x word lanes reason) →
+    AreCandidates A (with_replay A kept (grown_below states lanes x word (i * m) reason)) (grown_from states (x * lanes + i * m) (part_word word (i * m) m) reason)
+part_candidates A kept states lanes x word i m reason few end are =
+    let f = λ (lane : ℕ). as_entry (x * lanes + lane, reason) in
+    let whole : lanes ≡ (i + 1) * m + (lanes - (i + 1) * m) = omega (arith, end) in
+    let after = map (λ a. (i + 1) * m + a) (filter (λ a. is_on word ((i + 1) * m + a)) (below (lanes - (i + 1) * m))) in
+    let split : grown_below states lanes x word lanes reason ≡ grown_below states lanes x word ((i + 1) * m) reason ++ flat_map (grown_numbers states) (map f after) =
+    ap (λ b. flat_map (grown_numbers states) (map f (filter (is_on word) (below b)))) whole
+    ∙ ap (λ L. flat_map (grown_numbers states) (map f L)) (filter_split (is_on word) ((i + 1) * m) (lanes - (i + 1) * m))
+    ∙ ap (flat_map (grown_numbers states)) (map-append f (filter (is_on word) (below ((i + 1) * m))) after)
+    ∙ flat_map-append (grown_numbers states) (entries_below lanes x word ((i + 1) * m) reason) (map f after) in
+    candidates_replayed A kept (grown_below states lanes x word (i * m) reason) (grown_from states (x * lanes + i * m) (part_word word (i * m) m) reason)
+    (subst (AreCandidates A kept) (sym (grown_next states lanes x word i m reason few))
+    (candidates_left A kept (grown_below states lanes x word ((i + 1) * m) reason) (flat_map (grown_numbers states) (map f after)) (subst (AreCandidates A kept) split are)))
+
+-- readings of both
+pub readings_both : (A : Arena ℕ) (L M : List (Entry ℕ)) → readings_of_entries A (L ++ M) ≡ readings_of_entries A L + readings_of_entries A M
+readings_both A L M = sum_by-append (λ (y : Entry ℕ). readings_of_reason A y.node y.reason) L M
