@@ -1,10 +1,10 @@
 -- The text of advice, one line after the other.
-use Rattle.std.proofs.Common.{◌≡◌, ℕ, suc, ◌+◌, ◌-◌, ◌<◌, ◌≤◌, List, [], ◌∷◌, ◌++◌, IsTrue, IsFalse, codes, length, drop, map, get_or, slice_get, Option, Some, refl, sym, ap, ap₂, ◌∙◌, subst, arith, add-one, append_assoc}
+use Rattle.std.proofs.Common.{◌≡◌, ℕ, suc, ◌+◌, ◌-◌, ◌<◌, ◌≤◌, List, [], ◌∷◌, ◌++◌, IsTrue, IsFalse, codes, decimal, length, drop, map, get_or, slice_get, Option, Some, refl, sym, ap, ap₂, ◌∙◌, subst, arith, add-one, append_assoc}
 use Rattle.std.specs.List.{filter, flat_map}
 use Rattle.std.specs.Option.{option_map}
 use Rattle.std.proofs.Math.Seq.{drop-cons}
 use Rattle.std.proofs.lemmas.Bool.{cond-true, cond-false}
-use Rattle.std.proofs.lemmas.List.{append-nil, drop_all, length-map}
+use Rattle.std.proofs.lemmas.List.{append-nil, drop_all, length-map, get_or-map}
 use Rattle.std.proofs.lemmas.Option.{slice_get-map, get_or_from_slice_get}
 use Rattle.roman_model.specs.Lists.{below}
 use Rattle.roman_model.specs.System.{Sys, Pair, IsSys}
@@ -18,7 +18,7 @@ use Rattle.roman_text.proofs.CallerLemmas.{IsFilling, fill_whole}
 use Rattle.roman_joint.specs.NamedSys.{NamedSys, system_of, seat_of}
 use Rattle.roman_joint.specs.Names.{seat_name}
 use Rattle.roman_joint.specs.declared.seat.Seat.{Seat}
-use Rattle.roman_cost.specs.AdviceText.{worst_line, choice_line, value_line, value_lines, certificate_text, advice_text, service_text}
+use Rattle.roman_cost.specs.AdviceText.{worst_line, choice_line, value_line, value_head, value_tail, value_lines, certificate_text, advice_text, service_text}
 use Rattle.roman_cost.specs.Tables.{seat_costs}
 use Rattle.roman_cost.specs.declared.costs.Listed.{Listed}
 use Rattle.roman_cost.proofs.OfferedSeats.{offered}
@@ -47,15 +47,23 @@ as_taken whole text rest piece next is = next ∙ ap (λ (t : List ℕ). t ++ re
 next_text : (f : ℕ → List ℕ) (xs : List ℕ) (i : ℕ) → i < length xs → flat_map f (drop i xs) ≡ f (get_or xs i 0) ++ flat_map f (drop (i + 1) xs)
 next_text f xs i l = ap (flat_map f) (drop-cons xs i 0 l) ∙ ap (λ (j : ℕ). f (get_or xs i 0) ++ flat_map f (drop j xs)) (sym (add-one i))
 
+-- a line in its two parts
+in_parts : (a b c d e f g : List ℕ) → (a ++ b ++ c) ++ ((d ++ e) ++ (f ++ g)) ≡ a ++ b ++ c ++ d ++ e ++ f ++ g
+in_parts a b c d e f g = simp (append_assoc)
+
+value_parts : (h p value : ℕ) → value_head h ++ value_tail p value ≡ value_line h p value
+value_parts h p value = in_parts (codes "value ") (decimal h) (codes " ") (decimal p) (codes " ") (decimal value) (codes "\n")
+
 -- the value of the pair at a place
-pub next_value : (s : Sys) (C : Costs) (h : ℕ) (items pairs : List ℕ) (i value : ℕ) (piece : List ℕ) → items ≡ pairs → i < length items → value ≡ least_at s C h (get_or items i 0) →
-    piece ≡ value_line h (get_or items i 0) value →
-    flat_map (λ p. value_line h p (least_at s C h p)) (drop i pairs) ≡ piece ++ flat_map (λ p. value_line h p (least_at s C h p)) (drop (i + 1) pairs)
-next_value s C h items pairs i value piece same l is line =
+pub next_value : (s : Sys) (C : Costs) (h : ℕ) (items pairs row : List ℕ) (i p value : ℕ) (head : List ℕ) → items ≡ pairs → i < length items → p ≡ get_or items i 0 → row ≡ map (least_at s C h) pairs →
+    value ≡ get_or row i 0 → head ≡ value_head h →
+    flat_map (λ p. value_line h p (least_at s C h p)) (drop i pairs) ≡ (head ++ value_tail p value) ++ flat_map (λ p. value_line h p (least_at s C h p)) (drop (i + 1) pairs)
+next_value s C h items pairs row i p value head same l at is told begins =
     let F : ℕ → List ℕ = λ p. value_line h p (least_at s C h p) in
-    subst (λ (ps : List ℕ). flat_map F (drop i ps) ≡ piece ++ flat_map F (drop (i + 1) ps)) same
-    (as_taken (flat_map F (drop i items)) (F (get_or items i 0)) (flat_map F (drop (i + 1) items)) piece (next_text F items i l)
-    (line ∙ ap (value_line h (get_or items i 0)) is))
+    let least_is : value ≡ least_at s C h (get_or pairs i 0) = told ∙ ap (λ (xs : List ℕ). get_or xs i 0) is ∙ get_or-map (least_at s C h) pairs i 0 0 (subst (λ (ps : List ℕ). i < length ps) same l) in
+    let here : p ≡ get_or pairs i 0 = at ∙ ap (λ (ps : List ℕ). get_or ps i 0) same in
+    as_taken (flat_map F (drop i pairs)) (F (get_or pairs i 0)) (flat_map F (drop (i + 1) pairs)) (head ++ value_tail p value) (next_text F pairs i (subst (λ (ps : List ℕ). i < length ps) same l))
+    (ap (λ (xs : List ℕ). xs ++ value_tail p value) begins ∙ value_parts h p value ∙ ap₂ (value_line h) here least_is)
 
 -- the values of the next number of requests
 pub next_row : (s : Sys) (C : Costs) (n h : ℕ) → h < n →

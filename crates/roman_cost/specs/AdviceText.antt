@@ -31,6 +31,13 @@ choice_line n C h p a =
 abbrev pub value_line : ℕ → ℕ → ℕ → List ℕ
 value_line h p value = codes "value " ++ decimal h ++ codes " " ++ decimal p ++ codes " " ++ decimal value ++ codes "\n"
 
+-- the two parts of that line, before the pair's number and from there on
+abbrev pub value_head : ℕ → List ℕ
+value_head h = codes "value " ++ decimal h ++ codes " "
+
+abbrev pub value_tail : ℕ → ℕ → List ℕ
+value_tail p value = (decimal p ++ codes " ") ++ (decimal value ++ codes "\n")
+
 -- the values of so many requests, at each related pair
 abbrev pub value_lines : Sys → Costs → ℕ → List ℕ
 value_lines s C h = flat_map (λ p. value_line h p (least_at s C h p)) (related_pairs s)

@@ -1,5 +1,5 @@
 //! Advice: the least that requests cost at worst.
-ghost use Rattle.std.specs.Prelude.{◌≡◌, ◌+◌, ◌-◌, ◌*◌, ◌<◌, ◌≤◌, ◌↔◌, Err, IfOk, IsTrue};
+ghost use Rattle.std.specs.Prelude.{◌≡◌, ◌+◌, ◌-◌, ◌*◌, ◌<◌, ◌≤◌, ◌↔◌, map, length, Err, IfOk, IsTrue};
 ghost use Rattle.roman_model.specs.Lists.{IsIn};
 ghost use Rattle.roman_model.specs.System.{Sys};
 ghost use Rattle.roman_model.specs.SystemArena.{is_allowed};
@@ -10,6 +10,7 @@ ghost use Rattle.roman_model.specs.Plans as plans;
 ghost use Rattle.roman_joint.specs.NamedSys.{system_of};
 ghost use Rattle.roman_relation.specs.Greatest.{IsRelation};
 ghost use Rattle.roman_cost.specs.Advised.{Advises};
+ghost use Rattle.roman_cost.specs.Filling.{AreSmall};
 ghost use Rattle.roman_cost.specs.Tables.{seat_costs, AreOf};
 ghost use Rattle.roman_cost.specs.declared.error.AdviceError.TheVariants as error;
 
@@ -124,6 +125,16 @@ impl Advice {
         self.values[h as usize * self.pairs.len() + rank as usize]
     }
 
+    // What so many requests cost at worst at each of the pairs.
+    pub(crate) fn row(&self, h: u8) -> &[u32]
+        requires { h ≤ self.now.requests }
+        ensures row { (s : Sys) (C : plans.Costs) → Advises s C self.now → result.now ≡ map (least_at s C h) self.now.pairs }
+        ensures len { length result.now ≡ length self.now.pairs }
+        ensures small { AreSmall result.now }
+    {
+        row_of(&self.values, h as usize, self.pairs.len())
+    }
+
     /// Of the services that may be offered for the action `a`, which the target allows at the
     /// related pair `p`, the least one through which it costs least, with `h - 1` requests after
     /// it, and that cost. The relation and the costs are those of [`build`](Advice::build), and `h`
@@ -144,7 +155,7 @@ impl Advice {
             result.1 ≡ through s C (least s C (h - 1)) (pair_at (sizes_of s) p) a result.0 }
     {
         costs.known();
-        let row = row_of(&self.values, (h - 1) as usize, self.pairs.len());
+        let row = self.row(h - 1);
         let offered = offers(relation, p, a);
         cheapest(&relation.joint, costs, &self.ranks, row, p, a, offered)
     }

@@ -12,7 +12,7 @@ ghost use Rattle.roman_model.specs.SystemArena.{is_allowed};
 ghost use Rattle.roman_text.specs.Pages.{Gathers};
 ghost use Rattle.roman_joint.specs.NamedSys.{system_of};
 ghost use Rattle.roman_relation.specs.Greatest.{IsRelation};
-ghost use Rattle.roman_cost.specs.AdviceText.{advice_text, worst_line, choice_line, value_line, value_lines, certificate_text, service_text};
+ghost use Rattle.roman_cost.specs.AdviceText.{advice_text, worst_line, choice_line, value_head, value_tail, value_lines, certificate_text, service_text};
 ghost use Rattle.roman_cost.specs.Advised.{Advises};
 ghost use Rattle.roman_cost.specs.Tables.{seat_costs, AreOf};
 
@@ -142,17 +142,34 @@ fn push_row<O: Sink>(advice: &Advice, h: u8, page: &mut Page, out: &mut O) -> Re
         → Gathers (O.written out.old) (O.written out.new) page.new (page.old ++ value_lines s C h) result }
     ensures cause { HasCause (O.faults out.old) (O.faults out.new) result }
 {
-    for p in advice.pairs() {
-        let line = value_piece(h, *p, advice.value(h, *p));
-        page.push(line.bytes(), out)?;
+    let head = head_piece(h);
+    let row = advice.row(h);
+    for (i, p) in advice.pairs().iter().enumerate() {
+        push_value(head.bytes(), *p, row[i], page, out)?;
     }
     Ok(())
 }
 
-/// `value H P W`.
-fn value_piece(h: u8, p: u32, value: u32) -> Piece
-    ensures { result ≡ value_line h p value }
+/// `value H `, with which the lines of the values of so many requests begin.
+fn head_piece(h: u8) -> Piece
+    ensures { result ≡ value_head h }
 {
-    let place = Piece::new().text(b"value ").number(u32::from(h)).text(b" ");
-    place.number(p).text(b" ").number(value).text(b"\n")
+    Piece::new().text(b"value ").number(u32::from(h)).text(b" ")
+}
+
+/// Takes the line of a value, which begins by `head`.
+fn push_value<O: Sink>(
+    head: &[u8],
+    p: u32,
+    value: u32,
+    page: &mut Page,
+    out: &mut O,
+) -> Result<(), Failed>
+    ensures gathers { Gathers (O.written out.old) (O.written out.new) page.new
+        (page.old ++ (head.now ++ value_tail p value)) result }
+    ensures cause { HasCause (O.faults out.old) (O.faults out.new) result }
+{
+    page.push(head, out)?;
+    page.push_number_then(p, b" ", out)?;
+    page.push_number_then(value, b"\n", out)
 }
