@@ -5,7 +5,7 @@ mod Best
 mod Rows
 mod Ranks
 mod OfferedSeats
-mod OfferTables
+mod TermLemmas
 mod Lines
 mod PlanningLemmas
 mod LawLemmas

@@ -7,14 +7,20 @@ use Rattle.roman_model.specs.Arena.{is_beaten}
 use Rattle.roman_model.specs.Numbers.{sizes_of, count, pair_at, number, numbered}
 use Rattle.roman_model.specs.Offers.{is_related, offers}
 use Rattle.roman_model.specs.Plans.{Costs, max_over, first_least, least, least_at, choice, through}
-use Rattle.roman_model.proofs.CallerLemmas.{from_map, in_map, not_empty_in, ne_not_empty, not_empty_ne, in_not_empty, outcome_pair, outcome_seat, great_related, offer_is, numbers_are_pairs, through_numbered, max_over_same, max_over_le}
+use Rattle.roman_model.proofs.CallerLemmas.{from_map, in_map, not_empty_in, ne_not_empty, not_empty_ne, in_not_empty, outcome_pair, outcome_seat, great_related, offer_is, numbers_are_pairs, through_numbered, max_over_same, max_over_le, number_listed}
 use Rattle.std.proofs.lemmas.Bool.{cond-true}
+use Rattle.roman_rules.specs.Bits.{HasBits, has_seat}
+use Rattle.roman_rules.proofs.CallerLemmas.{has_seat_is}
 use Rattle.roman_cost.specs.Advised.{related_pairs, HavePlaces}
 use Rattle.roman_cost.specs.Filling.{ranked, IsRanked, AreSmall}
 use Rattle.roman_cost.specs.declared.limits.TheConstants.{MAX_COST, MAX_REQUESTS}
 use Rattle.roman_cost.proofs.Best.{filter_has, first_least_same}
 use Rattle.roman_cost.proofs.Rows.{all_from}
 use Rattle.roman_cost.proofs.Ranks.{in_related, ranked_value}
+
+-- a seat of the offered ones is offered
+pub seat_in : (seats : List ℕ) (bits k : ℕ) (has_it : Bool) → HasBits bits (has seats) → k < 32 → has_it ≡ has_seat bits k → IsTrue has_it → IsIn k seats
+seat_in seats bits k has_it tell l is it = number_listed seats k (sym (has_seat_is bits (has seats) k tell l) ∙ (sym is ∙ it))
 
 -- what is known of a seat that is offered for a at the pair of number p
 pub record IsOffered (s : Sys) (p a k : ℕ) : Type 0 where

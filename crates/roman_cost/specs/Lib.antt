@@ -4,6 +4,7 @@ pub mod Errors
 pub mod Refusals
 pub mod Advised
 pub mod Filling
+pub mod Terms
 pub mod AdviceText
 pub mod ServingPlans
 pub mod Laws

@@ -16,9 +16,8 @@ ghost use Rattle.roman_cost.specs.declared.error.AdviceError.TheVariants as erro
 
 use crate::costs::Costs;
 use crate::error::AdviceError;
-use crate::filling::{push_row, ranked_pairs, row_of};
+use crate::filling::{first_terms, push_row, ranked_pairs, row_of};
 use crate::limits::{MAX_REQUESTS, MAX_VALUES};
-use crate::offering::offered_seats;
 use crate::seats::cheapest;
 use roman_generator::offers;
 use roman_relation::Relation;
@@ -80,15 +79,20 @@ impl Advice {
         let (pairs, ranks) = ranked_pairs(alloc, relation, count as usize)?;
         let mut values = Vec::with_capacity(alloc, count as usize * (h as usize + 1))?;
         values.resize(pairs.len(), 0)?;
-        let offered = offered_seats(alloc, relation, &pairs)?;
+        let (terms, told) = first_terms(alloc, relation, costs, &pairs, &ranks)?;
+        let mut next = Vec::with_capacity(alloc, pairs.len())?;
+        let mut spare = Vec::new(alloc);
         for done in 0..h {
             push_row(
                 &mut values,
-                &relation.joint,
+                relation,
                 costs,
                 &pairs,
                 &ranks,
-                &offered,
+                &terms,
+                told,
+                &mut next,
+                &mut spare,
                 done,
             )?;
         }

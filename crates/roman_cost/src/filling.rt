@@ -1,22 +1,23 @@
 //! The tables of advice.
-ghost use Rattle.std.specs.Prelude.{◌≡◌, ℕ, suc, ◌+◌, ◌*◌, ◌<◌, ◌≤◌, map, length, slice_range, IsTrue, IfOk, OnOk};
-ghost use Rattle.roman_model.specs.Numbers.{sizes_of, count, pair_at};
-ghost use Rattle.roman_model.specs.Offers.{is_related};
+ghost use Rattle.std.specs.Prelude.{◌≡◌, ℕ, suc, ◌+◌, ◌*◌, ◌<◌, ◌≤◌, ◌++◌, map, take, length, slice_range, IfOk, OnOk};
+ghost use Rattle.std.specs.List.{flat_map};
+ghost use Rattle.roman_model.specs.Lists.{IsIn};
 ghost use Rattle.roman_model.specs.Plans.{least_at};
 ghost use Rattle.roman_joint.specs.NamedSys.{system_of};
 ghost use Rattle.roman_relation.specs.Greatest.{IsRelation};
 ghost use Rattle.roman_cost.specs.Advised.{related_pairs, value_rows, HavePlaces};
-ghost use Rattle.roman_cost.specs.Filling.{AreSmall, AreOffers, HasOffers};
+ghost use Rattle.roman_cost.specs.Filling.{AreSmall};
 ghost use Rattle.roman_cost.specs.Tables.{seat_costs, AreOf};
+ghost use Rattle.roman_cost.specs.Terms.{pair_terms};
 ghost use Rattle.roman_cost.specs.declared.limits.TheConstants.{MAX_REQUESTS};
 
 use crate::costs::Costs;
-use crate::outcomes::greater;
-use crate::seats::cheapest;
-use roman_joint::Joint;
+use crate::terms::{Term, push_pair, work_out};
 use roman_relation::Relation;
-use roman_rules::{Rules, SeatSet};
 use std::alloc::{AllocError, Global};
+
+/// About how many terms are kept from row to row.
+const MAX_TERMS: usize = 1_048_576;
 
 /// The related pairs, rising, and for each pair how many related pairs come before it.
 pub(crate) fn ranked_pairs(
@@ -41,33 +42,94 @@ pub(crate) fn ranked_pairs(
     Ok((pairs, ranks))
 }
 
-/// Puts behind the rows of values the next one, for one request more.
-pub(crate) fn push_row(
-    values: &mut Vec<u32>,
-    joint: &Joint,
+/// The terms of as many of the first related pairs as come to about [`MAX_TERMS`], and how many these are.
+pub(crate) fn first_terms(
+    alloc: Global,
+    relation: &Relation,
     costs: &Costs,
     pairs: &[u32],
     ranks: &[u32],
-    offered: &[SeatSet],
+) -> Result<(Vec<Term>, usize), AllocError>
+    requires relation { IsRelation relation.now.joint relation.now.order }
+    requires costs { AreOf relation.now.joint costs.now }
+    requires pairs { pairs.now ≡ related_pairs (system_of relation.now.joint) }
+    requires ranks { HavePlaces pairs.now ranks.now }
+    ensures within { IfOk result (λ made. made.1 ≤ length pairs.now) }
+    ensures terms { let n = relation.now.joint in IfOk result (λ made. made.0.items
+        ≡ flat_map (pair_terms (system_of n) (seat_costs n costs.now.listed) ranks.now) (take made.1 pairs.now)) }
+{
+    let mut terms = Vec::new(alloc);
+    for (i, p) in pairs.iter().enumerate() {
+        if terms.len() >= MAX_TERMS {
+            return Ok((terms, i));
+        }
+        push_pair(&mut terms, relation, costs, ranks, *p)?;
+    }
+    Ok((terms, pairs.len()))
+}
+
+/// Puts behind the rows of values the next one, for one request more, from the terms of the first pairs.
+/// Those of the others are made again, on `spare`.
+pub(crate) fn push_row(
+    values: &mut Vec<u32>,
+    relation: &Relation,
+    costs: &Costs,
+    pairs: &[u32],
+    ranks: &[u32],
+    terms: &[Term],
+    told: usize,
+    next: &mut Vec<u32>,
+    spare: &mut Vec<Term>,
     h: u8,
 ) -> Result<(), AllocError>
-    requires costs { AreOf joint.now costs.now }
-    requires pairs { pairs.now ≡ related_pairs (system_of joint.now) }
+    requires relation { IsRelation relation.now.joint relation.now.order }
+    requires costs { AreOf relation.now.joint costs.now }
+    requires pairs { pairs.now ≡ related_pairs (system_of relation.now.joint) }
     requires ranks { HavePlaces pairs.now ranks.now }
-    requires offered { HasOffers (system_of joint.now) pairs.now offered.now }
+    requires told { told ≤ length pairs.now }
+    requires terms { let n = relation.now.joint in terms.now
+        ≡ flat_map (pair_terms (system_of n) (seat_costs n costs.now.listed) ranks.now) (take told pairs.now) }
     requires few { h < MAX_REQUESTS }
-    requires rows { values.old.items
-        ≡ value_rows (system_of joint.now) (seat_costs joint.now costs.now.listed) pairs.now (suc h) }
-    ensures rows { OnOk result (values.new.items
-        ≡ value_rows (system_of joint.now) (seat_costs joint.now costs.now.listed) pairs.now (suc (suc h))) }
+    requires rows { let n = relation.now.joint in values.old.items
+        ≡ value_rows (system_of n) (seat_costs n costs.now.listed) pairs.now (suc h) }
+    ensures rows { let n = relation.now.joint in OnOk result (values.new.items
+        ≡ value_rows (system_of n) (seat_costs n costs.now.listed) pairs.now (suc (suc h))) }
 {
     costs.known();
-    let actions = joint.actions() as usize;
-    for (i, p) in pairs.iter().enumerate() {
-        let row = row_of(values, h as usize, pairs.len());
-        let seats = row_of(offered, i, actions);
-        let value = dearest(joint, costs, ranks, row, *p, seats);
-        values.push(value)?;
+    relation.joint.known();
+    let row = row_of(values, h as usize, pairs.len());
+    next.clear();
+    work_out(terms, row, next)?;
+    work_out_others(relation, costs, &pairs[told..], ranks, row, next, spare)?;
+    values.extend_from_slice(next)?;
+    Ok(())
+}
+
+/// Puts behind the values those of related pairs for one request more than the row has.
+fn work_out_others(
+    relation: &Relation,
+    costs: &Costs,
+    others: &[u32],
+    ranks: &[u32],
+    row: &[u32],
+    values: &mut Vec<u32>,
+    spare: &mut Vec<Term>,
+) -> Result<(), AllocError>
+    requires relation { IsRelation relation.now.joint relation.now.order }
+    requires costs { AreOf relation.now.joint costs.now }
+    requires others { (p : ℕ) → IsIn p others.now → IsIn p (related_pairs (system_of relation.now.joint)) }
+    requires ranks { HavePlaces (related_pairs (system_of relation.now.joint)) ranks.now }
+    requires small { AreSmall row.now }
+    ensures { let n = relation.now.joint in let s = system_of n in let C = seat_costs n costs.now.listed in
+        (h : ℕ) → row.now ≡ map (least_at s C h) (related_pairs s) →
+        OnOk result (values.new.items ≡ values.old.items ++ map (least_at s C (suc h)) others.now) }
+{
+    costs.known();
+    relation.joint.known();
+    for p in others {
+        spare.clear();
+        push_pair(spare, relation, costs, ranks, *p)?;
+        work_out(spare, row, values)?;
     }
     Ok(())
 }
@@ -79,36 +141,4 @@ pub(crate) fn row_of<T>(table: &[T], i: usize, n: usize) -> &[T]
 {
     let from = i * n;
     &table[from..from + n]
-}
-
-/// What a related pair costs at worst for one request more than the row has.
-fn dearest(
-    joint: &Joint,
-    costs: &Costs,
-    ranks: &[u32],
-    row: &[u32],
-    p: u32,
-    offered: &[SeatSet],
-) -> u32
-    requires costs { AreOf joint.now costs.now }
-    requires pair { p < count (sizes_of (system_of joint.now)) }
-    requires related { IsTrue (is_related (system_of joint.now) (pair_at (sizes_of (system_of joint.now)) p)) }
-    requires ranks { HavePlaces (related_pairs (system_of joint.now)) ranks.now }
-    requires row { length row.now ≡ length (related_pairs (system_of joint.now)) }
-    requires small { AreSmall row.now }
-    requires offered { AreOffers (system_of joint.now) p offered.now }
-    ensures { let s = system_of joint.now in
-        let C = seat_costs joint.now costs.now.listed in
-        (h : ℕ) → row.now ≡ map (least_at s C h) (related_pairs s) → result ≡ least_at s C (suc h) p }
-{
-    joint.known();
-    let mut worst = 0;
-    for a in 0..joint.actions() {
-        let seats = offered[a as usize];
-        if !seats.is_empty() {
-            let (_, cost) = cheapest(joint, costs, ranks, row, p, a, seats);
-            worst = greater(worst, cost);
-        }
-    }
-    worst
 }

@@ -15,10 +15,10 @@ mod filling;
 mod laws;
 mod limits;
 mod looks;
-mod offering;
 mod outcomes;
 mod reading;
 mod seats;
+mod terms;
 mod writing;
 
 pub use advice::Advice;

@@ -5,16 +5,15 @@ use Rattle.roman_model.specs.Lists.{IsIn, below}
 use Rattle.roman_model.specs.Numbers.{sizes_of, count, pair_at}
 use Rattle.roman_model.specs.Offers.{is_related, offers}
 use Rattle.roman_model.specs.Plans.{first_least, least, choice, through}
-use Rattle.roman_model.proofs.CallerLemmas.{choice_is, number_listed, related_great, numbers_are_pairs, related_offers}
+use Rattle.roman_model.proofs.CallerLemmas.{choice_is, related_great, numbers_are_pairs, related_offers}
 use Rattle.roman_model.specs.System.{has, Sys, Pair}
 use Rattle.roman_model.specs.SystemArena.{is_allowed}
-use Rattle.roman_rules.specs.Bits.{HasBits, has_seat}
 use Rattle.roman_rules.proofs.CallerLemmas.{has_seat_is}
 use Rattle.roman_joint.specs.NamedSys.{NamedSys, IsNamedSys, system_of, seat_of}
 use Rattle.roman_cost.specs.Tables.{seat_costs}
 use Rattle.roman_cost.specs.declared.costs.Listed.{Listed}
 use Rattle.roman_cost.proofs.Best.{best_of, best_of-taken, best_of-passed, best_of-first}
-use Rattle.roman_cost.proofs.OfferedSeats.{offered, offered_ranked, offers_among, cost_by, cost_is, best_is_choice}
+use Rattle.roman_cost.proofs.OfferedSeats.{seat_in, offered, offered_ranked, offers_among, cost_by, cost_is, best_is_choice}
 use Rattle.roman_cost.proofs.seats.cheapest.Goals as goal
 use Rattle.roman_cost.proofs.seats.cheapest.Goals.{then-has, else-has}
 
@@ -24,10 +23,6 @@ pairs_of n = count (sizes_of (system_of n))
 
 abbrev at : NamedSys → ℕ → Pair
 at n p = pair_at (sizes_of (system_of n)) p
-
--- a seat of the offered ones is offered
-seat_in : (seats : List ℕ) (bits k : ℕ) (has_it : Bool) → HasBits bits (has seats) → k < 32 → has_it ≡ has_seat bits k → IsTrue has_it → IsIn k seats
-seat_in seats bits k has_it tell l is it = number_listed seats k (sym (has_seat_is bits (has seats) k tell l) ∙ (sym is ∙ it))
 
 pub cost_through-cost-requires-clause-ready : goal.cost_through-cost-requires-clause-ready
 cost_through-cost-requires-clause-ready c =

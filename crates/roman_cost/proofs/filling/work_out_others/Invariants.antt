@@ -1,0 +1,14 @@
+use Rattle.std.proofs.Common.{◌≡◌, ℕ, suc, ◌++◌, map, take}
+use Rattle.roman_model.specs.Plans.{least_at}
+use Rattle.roman_joint.specs.NamedSys.{system_of}
+use Rattle.roman_cost.specs.Advised.{related_pairs}
+use Rattle.roman_cost.specs.Tables.{seat_costs}
+use Rattle.roman_cost.proofs.filling.work_out_others.Given as goal
+
+-- the values of the pairs so far
+abbrev pub invariant-loop-p : goal.invariant-loop-p
+invariant-loop-p l =
+    let n = l.relation.joint in
+    let s = system_of n in
+    let C = seat_costs n l.costs.listed in
+    (h : ℕ) → l.row ≡ map (least_at s C h) (related_pairs s) → l.values.items ≡ l.initial.values.items ++ map (least_at s C (suc h)) (take l.p-index l.others)

@@ -1,0 +1,14 @@
+use Rattle.std.proofs.Common.{◌+◌, ◌*◌, ◌++◌, ℕ, List, map, ap, ◌∙◌}
+use Rattle.std.specs.List.{flat_map}
+use Rattle.std.proofs.lemmas.List.{take_all}
+use Rattle.roman_cost.specs.Terms.{outcome_terms}
+use Rattle.roman_cost.specs.declared.terms.Term.{Term}
+use Rattle.roman_cost.proofs.TermLemmas.{outcomes_flat}
+use Rattle.roman_cost.proofs.terms.push_outcomes.Goals as goal
+
+pub returns : goal.returns
+returns c =
+    let o = c.args.outcomes in
+    let g : ℕ → List ℕ = λ e. map (λ b. o.base + e * o.env_stride + b * o.stride) o.states.now in
+    c.loop-env.invariant ∙ ap (λ (es : List ℕ). c.args.terms.now.items ++ flat_map (λ e. outcome_terms c.args.ranks.now (g e)) es) (take_all c.loop-env.env-index o.envs.now c.loop-env-test.false)
+    ∙ ap (λ (ts : List Term). c.args.terms.now.items ++ ts) (outcomes_flat c.args.ranks.now g o.envs.now)

@@ -1,0 +1,22 @@
+use Rattle.std.proofs.Common.{ℕ, Bool, List, Vec, Global, sym, ap, ◌∙◌}
+use Rattle.roman_model.specs.Numbers.{sizes_of, pair_at}
+use Rattle.roman_model.specs.SystemArena.{is_allowed}
+use Rattle.roman_joint.specs.NamedSys.{system_of}
+use Rattle.roman_cost.specs.Tables.{seat_costs}
+use Rattle.roman_cost.specs.Terms.{action_terms}
+use Rattle.roman_cost.specs.declared.terms.Term.{Term}
+use Rattle.roman_cost.proofs.TermLemmas.{flat_taken, flat_passed}
+use Rattle.roman_cost.proofs.terms.push_pair.Goals as goal
+use Rattle.roman_cost.proofs.terms.push_pair.Goals.{then-allowed+in_ok-push_action, else-allowed}
+
+pub loop-a-preserved : goal.loop-a-preserved
+loop-a-preserved c =
+    let n = c.args.relation.now.joint in
+    let s = system_of n in
+    let test : ℕ → Bool = is_allowed s (pair_at (sizes_of s) c.args.p) in
+    let f : ℕ → List Term = action_terms s (seat_costs n c.args.costs.now.listed) c.args.ranks.now c.args.p in
+    elim c.if-allowed.branch [
+      | then-allowed+in_ok-push_action w ↦
+          ap (λ (v : Vec Term Global). v.items) w.terms-is ∙ flat_taken f test c.loop-a.a c.args.terms.now.items c.loop-a.terms.items _ (sym c.allowed.ensures ∙ w.if-allowed.true) c.loop-a.invariant w.in_ok-push_action.ensures
+      | else-allowed w ↦ ap (λ (v : Vec Term Global). v.items) w.terms-is ∙ flat_passed f test c.loop-a.a c.args.terms.now.items c.loop-a.terms.items (sym c.allowed.ensures ∙ w.if-allowed.false) c.loop-a.invariant
+    ]

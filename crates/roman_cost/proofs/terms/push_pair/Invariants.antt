@@ -1,0 +1,16 @@
+use Rattle.std.proofs.Common.{◌≡◌, ◌++◌, filter}
+use Rattle.std.specs.List.{flat_map}
+use Rattle.roman_model.specs.Lists.{below}
+use Rattle.roman_model.specs.Numbers.{sizes_of, pair_at}
+use Rattle.roman_model.specs.SystemArena.{is_allowed}
+use Rattle.roman_joint.specs.NamedSys.{system_of}
+use Rattle.roman_cost.specs.Tables.{seat_costs}
+use Rattle.roman_cost.specs.Terms.{action_terms}
+use Rattle.roman_cost.proofs.terms.push_pair.Given as goal
+
+-- the terms of the allowed actions so far
+abbrev pub invariant-loop-a : goal.invariant-loop-a
+invariant-loop-a l =
+    let n = l.relation.joint in
+    let s = system_of n in
+    l.terms.items ≡ l.initial.terms.items ++ flat_map (action_terms s (seat_costs n l.costs.listed) l.ranks l.p) (filter (is_allowed s (pair_at (sizes_of s) l.p)) (below l.a))

@@ -1,0 +1,241 @@
+//! The values of related pairs as terms, so that each row of values is worked out by one look at them.
+ghost use Rattle.std.specs.Prelude.{◌≡◌, ◌≢◌, ◌+◌, ◌*◌, ◌^◌, ◌<◌, ◌++◌, [], All, length, map, slice_index, IsTrue, OnOk};
+ghost use Rattle.roman_model.specs.SystemArena.{is_allowed};
+ghost use Rattle.roman_model.specs.Numbers.{sizes_of, count, pair_at, numbered};
+ghost use Rattle.roman_model.specs.Offers.{is_related};
+ghost use Rattle.roman_joint.specs.NamedSys.{system_of};
+ghost use Rattle.roman_joint.specs.Outcomes.{outcome_number, outcome_numbers};
+ghost use Rattle.roman_relation.specs.Greatest.{IsRelation};
+ghost use Rattle.roman_cost.specs.Advised.{related_pairs, HavePlaces};
+ghost use Rattle.roman_cost.specs.Tables.{seat_costs, AreOf};
+ghost use Rattle.roman_cost.specs.Terms.{nothing_yet, cheaper_of, stepped, worked_out, outcome_terms, service_terms, action_terms, pair_terms};
+
+use crate::costs::Costs;
+use crate::outcomes::greater;
+use roman_generator::offers;
+use roman_joint::{Joint, Outcomes};
+use roman_relation::Relation;
+use roman_rules::Rules;
+use std::alloc::AllocError;
+
+/// A term of what related pairs cost. Those of the outcomes of a delegation stand before the one that
+/// ends it, these before the one that ends their action, and these before the one that ends their pair.
+#[derive(Clone, Copy, Debug, PartialEq, Eq)]
+pub(crate) enum Term {
+    /// An outcome of a delegation: the rank of its pair.
+    Outcome(u32),
+    /// The end of a delegation: what the service costs for the action.
+    Service(u32),
+    /// The end of an action that the target allows.
+    Action,
+    /// The end of a pair.
+    Pair,
+}
+
+/// How far a pair is worked out.
+#[derive(Clone, Copy, Debug, PartialEq, Eq)]
+pub(crate) struct Standing {
+    /// What the dearest action so far costs.
+    pub worst: u32,
+    /// What the action costs through the cheapest service so far.
+    pub cheapest: Option<u32>,
+    /// The greatest value of the outcomes so far.
+    pub dearest: u32,
+}
+
+/// The lesser of the cost so far, if there is one, and another.
+fn cheaper(best: Option<u32>, cost: u32) -> u32
+    ensures { result ≡ cheaper_of best cost }
+{
+    match best {
+        Some(found) if found <= cost => found,
+        _ => cost,
+    }
+}
+
+impl Standing {
+    /// Nothing is worked out.
+    fn nothing() -> Standing
+        ensures { result ≡ nothing_yet }
+    {
+        Standing {
+            worst: 0,
+            cheapest: None,
+            dearest: 0,
+        }
+    }
+
+    /// How far the pair is worked out after one term more, by the row of values for one request less.
+    #[inline(always)]
+    fn after(self, term: Term, row: &[u32]) -> Standing
+        ensures { result ≡ stepped row.now term self }
+    {
+        match term {
+            Term::Outcome(rank) => Standing {
+                worst: self.worst,
+                cheapest: self.cheapest,
+                dearest: greater(self.dearest, value_in(row, rank)),
+            },
+            Term::Service(cost) => Standing {
+                worst: self.worst,
+                cheapest: Some(cheaper(self.cheapest, cost.saturating_add(self.dearest))),
+                dearest: 0,
+            },
+            Term::Action => Standing {
+                worst: greater(self.worst, self.cheapest.unwrap_or(0)),
+                cheapest: None,
+                dearest: 0,
+            },
+            Term::Pair => Standing::nothing(),
+        }
+    }
+}
+
+/// The value of that rank in a row; 0 past its end.
+fn value_in(row: &[u32], rank: u32) -> u32
+    ensures { result ≡ slice_index row.now rank }
+{
+    let i = rank as usize;
+    if i < row.len() { row[i] } else { 0 }
+}
+
+/// Puts behind the values those to which terms come, by the row of values for one request less.
+pub(crate) fn work_out(terms: &[Term], row: &[u32], values: &mut Vec<u32>) -> Result<(), AllocError>
+    ensures { OnOk result (values.new.items ≡ values.old.items ++ worked_out row.now terms.now nothing_yet) }
+{
+    let mut standing = Standing::nothing();
+    for term in terms {
+        if *term == Term::Pair {
+            values.push(standing.worst)?;
+        }
+        standing = standing.after(*term, row);
+    }
+    Ok(())
+}
+
+/// Puts behind the terms those of a related pair.
+pub(crate) fn push_pair(
+    terms: &mut Vec<Term>,
+    relation: &Relation,
+    costs: &Costs,
+    ranks: &[u32],
+    p: u32,
+) -> Result<(), AllocError>
+    requires relation { IsRelation relation.now.joint relation.now.order }
+    requires costs { AreOf relation.now.joint costs.now }
+    requires pair { p < count (sizes_of (system_of relation.now.joint)) }
+    requires related { IsTrue (is_related (system_of relation.now.joint) (pair_at (sizes_of (system_of relation.now.joint)) p)) }
+    requires ranks { HavePlaces (related_pairs (system_of relation.now.joint)) ranks.now }
+    ensures { let n = relation.now.joint in
+        OnOk result (terms.new.items ≡ terms.old.items ++ pair_terms (system_of n) (seat_costs n costs.now.listed) ranks.now p) }
+{
+    relation.joint.known();
+    for a in 0..relation.joint.actions() {
+        if relation.joint.allowed(p, a) {
+            push_action(terms, relation, costs, ranks, p, a)?;
+        }
+    }
+    terms.push(Term::Pair)?;
+    Ok(())
+}
+
+/// Puts behind the terms those of an action at a related pair.
+fn push_action(
+    terms: &mut Vec<Term>,
+    relation: &Relation,
+    costs: &Costs,
+    ranks: &[u32],
+    p: u32,
+    a: u8,
+) -> Result<(), AllocError>
+    requires relation { IsRelation relation.now.joint relation.now.order }
+    requires costs { AreOf relation.now.joint costs.now }
+    requires pair { p < count (sizes_of (system_of relation.now.joint)) }
+    requires related { IsTrue (is_related (system_of relation.now.joint) (pair_at (sizes_of (system_of relation.now.joint)) p)) }
+    requires allowed { IsTrue (is_allowed (system_of relation.now.joint) (pair_at (sizes_of (system_of relation.now.joint)) p) a) }
+    requires ranks { HavePlaces (related_pairs (system_of relation.now.joint)) ranks.now }
+    ensures { let n = relation.now.joint in
+        OnOk result (terms.new.items ≡ terms.old.items ++ action_terms (system_of n) (seat_costs n costs.now.listed) ranks.now p a) }
+{
+    relation.joint.known();
+    let offered = offers(relation, p, a);
+    for k in 0..relation.joint.seats() {
+        if offered.has(k) {
+            push_service(terms, &relation.joint, costs, ranks, p, a, k)?;
+        }
+    }
+    terms.push(Term::Action)?;
+    Ok(())
+}
+
+/// Puts behind the terms those of an action that is delegated to a service.
+fn push_service(
+    terms: &mut Vec<Term>,
+    joint: &Joint,
+    costs: &Costs,
+    ranks: &[u32],
+    p: u32,
+    a: u8,
+    k: u8,
+) -> Result<(), AllocError>
+    requires costs { AreOf joint.now costs.now }
+    requires pair { p < count (sizes_of (system_of joint.now)) }
+    requires seat { k < length joint.now.seats }
+    requires allowed { IsTrue ((numbered (system_of joint.now)).allows p a) }
+    requires ready { IsTrue ((numbered (system_of joint.now)).ready k) }
+    requires some { (numbered (system_of joint.now)).outcomes p a k ≢ [] }
+    requires ranked { All (λ q. q < length ranks.now) ((numbered (system_of joint.now)).outcomes p a k) }
+    ensures { OnOk result (terms.new.items
+        ≡ terms.old.items ++ service_terms (system_of joint.now) (seat_costs joint.now costs.now.listed) ranks.now p a k) }
+{
+    joint.known();
+    let cost = costs.cost(joint.seat(k).behaviour, a);
+    let outcomes = joint.outcomes(p, a, k);
+    push_outcomes(terms, ranks, outcomes)?;
+    terms.push(Term::Service(cost))?;
+    Ok(())
+}
+
+/// Puts behind the terms those of the outcomes of a delegation.
+fn push_outcomes(
+    terms: &mut Vec<Term>,
+    ranks: &[u32],
+    outcomes: Outcomes<'_>,
+) -> Result<(), AllocError>
+    requires envs { All (λ e. outcomes.base + e * outcomes.env_stride < 2 ^ 32) outcomes.envs.now }
+    requires ranked { All (λ e. All (λ b. outcome_number outcomes e b < length ranks.now) outcomes.states.now) outcomes.envs.now }
+    requires fits { All (λ e. All (λ b. outcome_number outcomes e b < 2 ^ 32) outcomes.states.now) outcomes.envs.now }
+    ensures { OnOk result (terms.new.items ≡ terms.old.items ++ outcome_terms ranks.now (outcome_numbers outcomes.entry)) }
+{
+    let Outcomes {
+        base,
+        envs,
+        env_stride,
+        states,
+        stride,
+    } = outcomes;
+    for env in envs {
+        let from = base + u32::from(*env) * env_stride;
+        push_states(terms, ranks, from, states, stride)?;
+    }
+    Ok(())
+}
+
+/// Puts behind the terms those of the outcomes with one environment state.
+fn push_states(
+    terms: &mut Vec<Term>,
+    ranks: &[u32],
+    from: u32,
+    states: &[u8],
+    stride: u32,
+) -> Result<(), AllocError>
+    requires ranked { All (λ b. from + b * stride < length ranks.now) states.now }
+    requires fits { All (λ b. from + b * stride < 2 ^ 32) states.now }
+    ensures { OnOk result (terms.new.items ≡ terms.old.items ++ outcome_terms ranks.now (map (λ b. from + b * stride) states.now)) }
+{
+    for state in states {
+        let pair = from + u32::from(*state) * stride;
+        terms.push(Term::Outcome(ranks[pair as usize]))?;
+    }
+    Ok(())
+}
