@@ -1,8 +1,8 @@
 -- What the terms of related pairs come to.
-use Rattle.std.proofs.Common.{◌≡◌, ◌≢◌, ℕ, zero, suc, ◌+◌, ◌-◌, ◌*◌, ◌<◌, ◌≤◌, Bool, true, false, cond, List, [], ◌∷◌, ◌++◌, map, length, get_or, take, drop, filter, Option, Some, None, unwrap_or, nat_le, slice_index, IsTrue, refl, sym, ap, ap₂, ◌∙◌, inl, inr, subst, arith, append_assoc, append-nil, add-one}
+use Rattle.std.proofs.Common.{◌≡◌, ◌≢◌, ℕ, zero, suc, ◌+◌, ◌-◌, ◌*◌, ◌<◌, ◌≤◌, Bool, true, false, cond, List, [], ◌∷◌, ◌++◌, map, length, take, drop, filter, Option, Some, None, unwrap_or, nat_le, slice_index, IsTrue, refl, sym, ap, ap₂, ◌∙◌, inl, inr, subst, arith, append_assoc, append-nil, add-one}
 use Rattle.std.specs.Prelude.{max, min}
 use Rattle.std.specs.List.{flat_map}
-use Rattle.std.proofs.lemmas.List.{take_more, take_all, take-append-drop, length-drop, map-append}
+use Rattle.std.proofs.lemmas.List.{take_all, take-append-drop, length-drop, map-append}
 use Rattle.std.proofs.lemmas.Grind.{flat_map-append}
 use Rattle.roman_model.specs.Lists.{IsIn, below}
 use Rattle.roman_model.specs.System.{Sys, Pair, IsSys}
@@ -39,17 +39,9 @@ flat_passed f p k old terms fails before =
     (ap (flat_map f) (sym (append-nil (filter p (below k)))) ∙ ap (λ b. flat_map f (filter p (below k) ++ cond b (k ∷ []) [])) (sym fails) ∙ ap (flat_map f) (sym (filter_below_more p k))
     ∙ ap (λ n. flat_map f (filter p (below n))) (sym (add-one k)))
 
--- an item more of a list
-pub flat_more : {X : Type 0} (f : ℕ → List X) (xs : List ℕ) (i : ℕ) (old terms new : List X) → i < length xs → terms ≡ old ++ flat_map f (take i xs) → new ≡ terms ++ f (get_or xs i 0) →
-    new ≡ old ++ flat_map f (take (i + 1) xs)
-flat_more f xs i old terms new l before is =
-    is ∙ ap (λ ys. ys ++ f (get_or xs i 0)) before ∙ append_assoc old (flat_map f (take i xs)) (f (get_or xs i 0))
-    ∙ ap (λ ys. old ++ ys)
-    (ap (λ ys. flat_map f (take i xs) ++ ys) (sym (append-nil (f (get_or xs i 0)))) ∙ sym (flat_map-append f (take i xs) (get_or xs i 0 ∷ [])) ∙ ap (flat_map f) (sym (take_more xs i 0 l)))
-
 -- Values.
 
--- the values of some terms come before those of the rest
+-- outcomes raise the greatest value so far
 worked_outcomes : (ranks row qs : List ℕ) (rest : List Term) (w : ℕ) (c : Option ℕ) (d : ℕ) →
     worked_out row (outcome_terms ranks qs ++ rest) (record { worst = w; cheapest = c; dearest = d })
     ≡ worked_out row rest (record { worst = w; cheapest = c; dearest = max d (max_over (ranked ranks row) qs) })
