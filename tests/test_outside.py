@@ -527,6 +527,7 @@ class Gate(unittest.TestCase):
                      "rt: must-fail a/b.edit: refused, as it must be (only by a limit of the prover, which gave no verdict)"):
             with self.subTest(said):
                 done = self.gate(f"echo '{said}'; echo '7 passed, 0 failed'")
+                self.assertEqual(self.last(done), (1, "12 passed, 1 failed"))
                 self.assertIn("these must-fail edits say little of a contract", done.stdout)
         fine = "rt: must-fail a/b.edit: refused, as it must be: src/lib.rt:3:4: error"
         done = self.gate(f"echo '{fine}'; echo '7 passed, 0 failed'")
