@@ -28,7 +28,12 @@ RANDOM = "tests.test_random.Random.test_the_fixed_seed_and_a_fresh_one"
 CORPUS = "tests.test_random.Random.test_what_failed_once"
 SPEED = "tests.test_speed.Speed"
 FAULTS = "tests.test_faults.Faults"
+FEW_BYTES = FAULTS + ".test_calls_that_move_few_bytes"
+TRIED = FAULTS + ".test_what_is_tried_is_right"
 ENDS = "tests.test_outside.Ends"
+EVENTS = CLIENT + "tests.test_session.Events"
+DISPATCHING = CLIENT + "tests.test_dispatcher.Dispatching"
+STATES = CLIENT + "tests.test_documents.Writing.test_a_document_with_the_states_of_a_report"
 OTHER_SAMPLES = CLIENT + "tests.test_dispatcher.Demonstration.test_the_other_samples"
 LONG = (RANDOM, SPEED, FAULTS)
 """Tests that take long, or look at the process itself."""
@@ -42,6 +47,7 @@ class Wrong:
     text: str
     tests: Sequence[str]
     is_c: bool = False
+    is_static: bool = True
 
     def write(self, folder: Path) -> Path:
         """Writes the program, and says where it is."""
@@ -52,8 +58,8 @@ class Wrong:
             return file
         source = file.with_suffix(".c")
         source.write_text(self.text.replace("@ROMAN@", PROGRAM), encoding="utf-8")
-        # Linked with no library that a test could put another one before: a fault is for the program alone.
-        subprocess.run(["cc", "-O1", "-static", "-o", file, source], check=True)
+        # Mostly linked with no library that a test could put another one before: a fault is for the program alone.
+        subprocess.run(["cc", "-O1", *(["-static"] if self.is_static else []), "-o", file, source], check=True)
         return file
 
 
@@ -74,6 +80,47 @@ int main(int count, char **words)
 """
 
 
+TAKES_MEMORY = """#include <unistd.h>
+static volatile char taken[64 << 20];
+int main(int count, char **words)
+{
+    for (unsigned at = 0; at < sizeof taken; at += 1024)
+        taken[at] = 1;
+    execv("@ROMAN@", words);
+    return 127 + 0 * count;
+}
+"""
+"""A program in C that has 64 MB before it becomes the right one."""
+
+ONE_WRITE = """#include <stdlib.h>
+#include <sys/wait.h>
+#include <unistd.h>
+int main(int count, char **words)
+{
+    static char text[1 << 20];
+    int ends[2], status = 0 * count;
+    ssize_t size = 0, more;
+    if (pipe(ends) != 0)
+        return 127;
+    if (fork() == 0) {
+        unsetenv("LD_PRELOAD");
+        dup2(ends[1], 1);
+        close(ends[0]);
+        close(ends[1]);
+        execv("@ROMAN@", words);
+        _exit(127);
+    }
+    close(ends[1]);
+    while ((more = read(ends[0], text + size, sizeof text - size)) > 0)
+        size += more;
+    wait(&status);
+    more = write(1, text, size);
+    return WEXITSTATUS(status);
+}
+"""
+"""A program in C that writes all that the right one writes by one call, however many bytes that call took, and that
+takes a read that is interrupted for the last."""
+
 RUN = '"@ROMAN@" "$@"'
 """Runs the right program."""
 ENDED = "\nexit ${PIPESTATUS[0]}\n"
@@ -81,31 +128,39 @@ ENDED = "\nexit ${PIPESTATUS[0]}\n"
 WRONG = [
     Wrong("does nothing", "exit 0\n", [
         LATE, EACH_BLOCK, TABLES, ACCEPTED, RANDOM, CORPUS, OTHER_SAMPLES, SAMPLES, f"{SPEED}.test_what_is_measured_is_right",
-        f"{FAULTS}.test_memory", f"{FAULTS}.test_reads", f"{FAULTS}.test_writes", f"{ENDS}.test_a_file_that_can_not_be_read",
-        "tests.test_schema.Schemas.test_parts_by_file", "tests.test_edges.Outside.test_input_in_odd_pieces"]),
-    Wrong("always out of memory", "exit 9\n", [ACCEPTED, EACH_BLOCK, OTHER_SAMPLES, SAMPLES, CORPUS, f"{FAULTS}.test_memory"]),
+        f"{FAULTS}.test_memory", f"{FAULTS}.test_reads", f"{FAULTS}.test_writes", FEW_BYTES, TRIED,
+        f"{ENDS}.test_a_file_that_can_not_be_read", "tests.test_schema.Schemas.test_parts_by_file",
+        "tests.test_edges.Outside.test_input_in_odd_pieces", f"{EVENTS}.test_each_refusal",
+        f"{DISPATCHING}.test_a_failure_goes_to_another", STATES]),
+    Wrong("always out of memory", "exit 9\n", [
+        ACCEPTED, EACH_BLOCK, RANDOM, OTHER_SAMPLES, SAMPLES, CORPUS, f"{FAULTS}.test_memory", FEW_BYTES, TRIED,
+        f"{EVENTS}.test_an_explanation"]),
     Wrong("no composition to each do", f"{RUN} | sed -u 's/^offer [^:]*$/no composition/'{ENDED}", [
-        TABLES, EACH_BLOCK, RANDOM, SAMPLES, OTHER_SAMPLES,
+        TABLES, EACH_BLOCK, RANDOM, SAMPLES, OTHER_SAMPLES, TRIED, f"{DISPATCHING}.test_services_come_back",
         "tests.test_edges.Outside.test_each_reply_comes_before_the_next_line_is_asked_for"]),
     Wrong("the first offer alone", f"{RUN} | sed -u -E 's/^(offer [^ :]+|offer [^ ]+: [^ ]+) .*/\\1/'{ENDED}", [
-        TABLES, EACH_BLOCK, RANDOM, SAMPLES]),
+        TABLES, EACH_BLOCK, RANDOM, SAMPLES, f"{EVENTS}.test_a_request", f"{DISPATCHING}.test_the_least_cost"]),
     Wrong("all services are offered",
           'names=$("@ROMAN@" synth "$2" | sed -n "s/^service \\([^ ]*\\).*/ \\1/p" | tr -d "\\n")\n'
-          f'{RUN} | sed -u "s/^offer [^:]*$/offer$names/"{ENDED}', [TABLES, RANDOM, SAMPLES]),
+          f'{RUN} | sed -u "s/^offer [^:]*$/offer$names/"{ENDED}', [
+              TABLES, RANDOM, SAMPLES, OTHER_SAMPLES, f"{DISPATCHING}.test_a_failure_goes_to_another"]),
     Wrong("replies only at the end", f'kept=$(mktemp)\n{RUN} >"$kept"\nended=$?\ncat "$kept"\nrm "$kept"\nexit $ended\n', [
         "tests.test_edges.Outside.test_each_reply_comes_before_the_next_line_is_asked_for"]),
     Wrong("a report of the start after a jump",
           'start=$("@ROMAN@" synth "$2")\n'
-          f"{RUN} | awk -v start=\"$start\" '/^jumped$/ {{ jumped = 1 }} /^pairs / && jumped {{ print start; skips = 1 }}"
-          f" !skips {{ print; fflush() }} /^end$/ {{ skips = 0 }}'{ENDED}", [SAMPLES, RANDOM]),
+          f'{RUN} | while IFS= read -r line; do\n'
+          '[ "$line" != jumped ] || jumped=1\n'
+          'case $line in "pairs "*) [ -z "$jumped" ] || { echo "$start"; skips=1; } ;; esac\n'
+          '[ -n "$skips" ] || echo "$line"\n'
+          f'[ "$line" != end ] || skips=\ndone{ENDED}', [SAMPLES, RANDOM, STATES, TRIED]),
     Wrong("a certificate without its last line", f'{RUN} | if [ "$1" = certify ]; then head -n -1; else cat; fi{ENDED}', [
         EACH_BLOCK, RANDOM]),
     Wrong("half of a page is lost", f"{RUN} | {{ head -c 2048; head -c 2048 >/dev/null; cat; }}{ENDED}", [LATE, RANDOM]),
     Wrong("the replies turned round by one", f"{RUN} | sed '1{{h;d}};${{p;x}}'{ENDED}", [TABLES, SAMPLES, RANDOM, EACH_BLOCK]),
     Wrong("kept and added are swapped", f"{RUN} | sed -u -E 's/^kept (.*) added (.*)/kept \\2 added \\1/'{ENDED}", [
-        TABLES, RANDOM, SAMPLES, EACH_BLOCK]),
-    Wrong("an explanation without its first line", f"{RUN} | awk '/^lost / && !seen++ {{ next }} {{ print; fflush() }}'{ENDED}", [
-        EACH_BLOCK, RANDOM]),
+        TABLES, RANDOM, SAMPLES, EACH_BLOCK, TRIED, f"{EVENTS}.test_changes"]),
+    Wrong("an explanation without its first line", f"{RUN} | sed -u '0,/^lost /{{/^lost /d}}'{ENDED}", [
+        EACH_BLOCK, RANDOM, TRIED, f"{EVENTS}.test_an_explanation", f"{DISPATCHING}.test_no_composition_has_its_explanation"]),
     Wrong("a rejected certificate is fine", f'{RUN}\nended=$?\n[ "$1" = check ] && exit 0\nexit $ended\n', [
         RANDOM, "tests.test_guide.Guide.test_the_rejections_of_certificates"]),
     Wrong("nothing on the standard error", f"exec {RUN} 2>/dev/null\n", [
@@ -114,9 +169,13 @@ WRONG = [
         f"{ENDS}.test_a_system_past_its_limit", f"{ENDS}.test_advice_with_too_many_values"]),
     Wrong("ten times the work",
           f"for time in 1 2 3 4 5 6 7 8 9; do {RUN} </dev/null >/dev/null; done\nexec {RUN}\n", [f"{SPEED}.test_instructions"]),
+    Wrong("64 MB that nothing needs", TAKES_MEMORY, [f"{SPEED}.test_memory"], is_c=True),
+    Wrong("one write for all", ONE_WRITE, [
+        FEW_BYTES, f"{FAULTS}.test_calls_that_are_interrupted"], is_c=True, is_static=False),
     Wrong("done where memory ran out", ends_well(9), [f"{FAULTS}.test_memory"], is_c=True),
     Wrong("done where nothing could be read", ends_well(5, 6), [
-        f"{FAULTS}.test_reads", "tests.test_edges.Outside.test_folders_and_files_that_are_not_there"], is_c=True),
+        f"{FAULTS}.test_reads", "tests.test_edges.Outside.test_folders_and_files_that_are_not_there",
+        CLIENT + "tests.test_session.Ends.test_a_document_that_is_not_there"], is_c=True),
     Wrong("done where nothing could be written", ends_well(7), [
         f"{FAULTS}.test_writes", "tests.test_edges.Outside.test_output_that_is_closed"], is_c=True),
 ]
