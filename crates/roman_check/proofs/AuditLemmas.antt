@@ -35,7 +35,7 @@ few_numbered A ok =
     let actions : A.actions ≤ 32 = ok.few_actions in
     record { pairs_fit = omega arith; actions_fit = omega arith }
 
--- what a line is read as is in range
+-- the entry read off a line is in range
 pub entry_given : (pairs actions : ℕ) (line : List ℕ) (x : Entry ℕ) → Some x ≡ entry_of pairs actions line → (x.node < pairs) × IsIn x.reason (reasons actions)
 entry_given pairs actions line x e = from_possible pairs actions x (entry_of-is pairs actions line x (sym e)).0
 
@@ -59,7 +59,7 @@ module _ (A : Arena ℕ) (L : List (Entry ℕ)) (x : Entry ℕ) where
 listed_more : (A : Arena ℕ) → IsNumbered A → (L : List (Entry ℕ)) (x : Entry ℕ) (q : ℕ) → is_listed A (L ++ x ∷ []) q ≡ (is_listed A L q || q == x.node)
 listed_more A ok L x q = list_any-append (λ y. A.same q y.node) L (x ∷ []) ∙ ap (λ b. is_listed A L q || b) (or-false (A.same q x.node) ∙ ok.same q x.node)
 
--- an entry was read: its pair is taken out, and what was known of the row that was asked is known still
+-- an entry was read: its pair is removed, and the stored answer of the row stays right
 pub entry_listed : (A : Arena ℕ) → IsNumbered A → (L : List (Entry ℕ)) (x : Entry ℕ) (new : Audit) →
     (((q : ℕ) → is_listed A (L ++ x ∷ []) q ≡ (is_listed A L q || q == x.node)) → Remain (length A.nodes) (is_listed A (L ++ x ∷ [])) new.left) →
     HoldsWhereKept A new.left.lanes (is_listed A L) new.asked → HasListed A (L ++ x ∷ []) new
@@ -68,7 +68,7 @@ entry_listed A ok L x new left known = record {
   known = known_more A new.left.lanes (is_listed A L) (is_listed A (L ++ x ∷ [])) new.asked (λ q t. listed_more A ok L x q ∙ ap (λ b. b || q == x.node) t) known;
 }
 
--- what an audit has, by the lanes of the system
+-- what an audit holds, by the lanes of the system
 pub listed_rows : (A : Arena ℕ) (L : List (Entry ℕ)) (audit : Audit) (lanes : ℕ) → HasListed A L audit → audit.left.lanes ≡ lanes → (words : List ℕ) → words ≡ audit.left.words.items → AreRows lanes (λ q. not (is_listed A L q)) words
 listed_rows A L audit lanes has shaped words same = subst (AreRows lanes (λ q. not (is_listed A L q))) (sym same) (subst (λ m. AreRows m (λ q. not (is_listed A L q)) audit.left.words.items) shaped has.left.rows)
 
@@ -83,16 +83,16 @@ pair_within lanes pairs audit shaped p row lane e l =
     row_within row lane audit.left.lanes (length audit.left.words.items) p e
     (subst (λ m. p < length audit.left.words.items * m) (sym shaped.in_rows) (subst (λ n. p < n) (sym shaped.room) l))
 
--- the last line, where that pair is missing or none is
+-- the last line, where this pair or no pair is missing
 pub end_judged : (A : Arena ℕ) (L : List (Entry ℕ)) (line : List ℕ) (found : Option ℕ) → found ≡ find (could_be_listed A L) A.nodes → IsTrue (same_numbers end_line line) → option_map text.Unlisted found ≡ body_fault A L (Some line)
 end_judged A L line found e is =
     ap (option_map text.Unlisted) e ∙ sym (cond-true (same_numbers end_line line) (end_fault A L) (entry_fault A L (entry_of (length A.nodes) A.actions line)) is)
 
--- any other line is an entry's
+-- any other line is judged as an entry
 pub entry_judged : (A : Arena ℕ) (L : List (Entry ℕ)) (line : List ℕ) (fault : Option text.Why) → fault ≡ entry_fault A L (entry_of (length A.nodes) A.actions line) → IsFalse (same_numbers end_line line) → fault ≡ body_fault A L (Some line)
 entry_judged A L line fault e other = e ∙ sym (cond-false (same_numbers end_line line) (end_fault A L) (entry_fault A L (entry_of (length A.nodes) A.actions line)) other)
 
--- the last line is no entry's
+-- the last line isn't the line of an entry
 pub end_is_no_entry : (pairs actions : ℕ) (line : List ℕ) → AreFew pairs actions → IsTrue (same_numbers end_line line) → entry_of pairs actions line ≡ None
 end_is_no_entry pairs actions line few is =
     subst (λ bs. entry_of pairs actions bs ≡ None) (same_numbers_is end_line line is) (entry_of_other pairs actions 101 (110 ∷ 100 ∷ []) few (omega arith))
@@ -141,7 +141,7 @@ after_end (head ∷ size ∷ body) e = (head, size, body, refl, has_ended (list_
 
 -- The first two lines
 
--- what line is due next says nothing of the list
+-- a change of the line that is due doesn't change the list
 pub same_listed : (A : Arena ℕ) (L : List (Entry ℕ)) (old new : Audit) → new.left ≡ old.left → new.asked ≡ old.asked → HasListed A L old → HasListed A L new
 same_listed A L old new left asked has = record {
   left = subst (Remain (length A.nodes) (is_listed A L)) (sym left) has.left;

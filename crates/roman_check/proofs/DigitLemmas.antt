@@ -14,7 +14,7 @@ use Rattle.std.proofs.lemmas.Fmt.{decimal_is_IsNumeral, length-decimal-le, first
 own : IsNumeralModel (AllDigits 10) (digits_value 10)
 own = numerals_by_value (AllDigits 10) tells_digits
 
--- a byte that is no digit
+-- a byte that isn't a digit
 pub no_digit : (ds : List ℕ) (i : ℕ) → i < length ds → IsOutOfRange 48 57 (get_or ds i 0) → AllDigits 10 ds → ⊥
 no_digit ds i l out all =
     let digit = digit_at ds i all l in
@@ -35,11 +35,11 @@ digits_step ds i d l digit is all =
 pub digits_room : (ds : List ℕ) (i : ℕ) → i < length ds → length ds ≤ 10 → AllDigits 10 (take i ds) → digits_value 10 (take i ds) < 10 ^ 9
 digits_room ds i l few all = digits_value_short own (take i ds) 9 all (omega (arith, length-take-le i ds))
 
--- at most ten digits are a number of eleven at most
+-- the value of at most ten digits is below 10 ^ 10
 pub digits_below : (ds : List ℕ) (i : ℕ) → i ≤ length ds → i ≤ 10 → AllDigits 10 (take i ds) → digits_value 10 (take i ds) < 10 ^ 10
 digits_below ds i l few all = digits_value_short own (take i ds) 10 all (omega (arith, length-take-le i ds))
 
--- a byte below the digits is none
+-- none of the first digits is a stop byte below the digits
 pub no_stop_digit : (stop : ℕ) (line : List ℕ) (i k : ℕ) → stop < 48 → i ≤ length line → AllDigits 10 (take i line) → k < i → get_or line k 0 ≢ stop
 no_stop_digit stop line i k low_stop within all l stops =
     let short : length (take i line) ≡ i = length-take-le i line within in
@@ -48,7 +48,7 @@ no_stop_digit stop line i k low_stop within all l stops =
     let same : get_or (take i line) k 0 ≡ get_or line k 0 = get_or-take i line k 0 l in
     omega arith
 
--- where a byte is no digit and not the one that stops, none of at most ten digits follow each other up to that one
+-- where a byte is neither a digit nor the stop byte, the bytes don't begin with at most ten digits and the stop byte
 pub no_number_past : (stop : ℕ) (line : List ℕ) (i j : ℕ) → stop < 48 → i < length line → AllDigits 10 (take i line) → get_or line i 0 ≢ stop → IsOutOfRange 48 57 (get_or line i 0) → IsNumberTo stop line j → ⊥
 no_number_past stop line i j low within all other out number = elim (cases_order i j) [
   | inl same ↦ other (ap (λ k. get_or line k 0) same ∙ number.stops)
@@ -58,13 +58,13 @@ no_number_past stop line i j low within all other out number = elim (cases_order
   | inr (inr more) ↦ no_stop_digit stop line i j low (omega arith) all more number.stops
 ]
 
--- nor where that many bytes are digits, and there is no eleventh
+-- where all bytes in reach are digits, the bytes don't begin with at most ten digits and the stop byte
 pub no_number_within : (stop : ℕ) (line : List ℕ) (i : ℕ) → stop < 48 → i ≤ length line → AllDigits 10 (take i line) → ((j : ℕ) → j ≤ 10 → j < length line → j < i) → (j : ℕ) → IsNumberTo stop line j → ⊥
 no_number_within stop line i low within all reach j number = no_stop_digit stop line i j low within all (reach j number.few number.within) number.stops
 
 -- A whole number
 
--- what a decimal text is made of
+-- the digits of a decimal text
 pub decimal_shape : (n : ℕ) (ds : List ℕ) → n < 2 ^ 32 → decimal n ≡ ds → AllDigits 10 ds × IsTrim ds × (digits_value 10 ds ≡ n)
 decimal_shape n ds small e =
     let wide : n < 2 ^ 64 = omega arith in
@@ -87,7 +87,7 @@ decimal_from_digits ds n all trim is =
     one : get_or ds 0 0 ≡ 48 → length ds ≡ 1
     one zero = elim (cases_lt 1 (length ds)) [ inl more ↦ absurd (trim.first more zero) | inr less ↦ (let some : 0 < length ds = trim.some in omega arith) ]
 
--- the digits of a text whose value is too great, or that isn't trim, are no number's below the bound
+-- digits whose value is too great, or that aren't trim, aren't the decimal text of a number below the bound
 pub no_small_number : (ds : List ℕ) (value bound n : ℕ) → value ≡ digits_value 10 ds → bound < 2 ^ 32 → bound ≤ value → n < bound → decimal n ≢ ds
 no_small_number ds value bound n is small large l e =
     let (all, trim, same) = decimal_shape n ds (omega arith) e in

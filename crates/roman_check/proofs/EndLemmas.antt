@@ -62,7 +62,7 @@ opening_unread A ok ls head size body e clean =
     second = subst (λ l. entry_of (length A.nodes) A.actions l ≡ None) (sym (due_is (count_line (length A.nodes)) size (cleaned 1 (omega arith))))
         (entry_of_other (length A.nodes) A.actions 112 (codes "airs " ++ decimal (length A.nodes)) few (omega arith))
 
--- how many pairs remain, as they are counted
+-- the number of remaining pairs is their count
 counted_unlisted : (A : Arena ℕ) → IsNumbered A → (start : ℕ) (L : List (Entry ℕ)) (related : ℕ) (alive : Bool) → related ≡ count_by (λ p. not (is_listed A L p)) (below (length A.nodes)) → alive ≡ not (is_listed A L start) →
     unlisted A start L ≡ text.Greatest related alive
 counted_unlisted A ok start L related alive count starts =

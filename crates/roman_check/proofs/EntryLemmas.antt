@@ -49,16 +49,16 @@ action_text actions a text l e = record { is = (act_reason actions a l, e) }
 pub few_of : (pairs actions : ℕ) → pairs < 2 ^ 32 → actions < 2 ^ 8 → AreFew pairs actions
 few_of pairs actions h g = record { pairs_fit = omega arith; actions_fit = omega arith }
 
--- a line at its first space
+-- a line is split at its first space
 pub record IsCut (line front back : List ℕ) : Type 0 where
   pub whole : line ≡ front ++ 32 ∷ back
   pub clear : IsFalse (has front 32)
 
--- what follows a place, as a slice of it is read
+-- the bytes of a line after place i
 abbrev pub after : List ℕ → ℕ → List ℕ
 after line i = take (length line - (i + 1)) (drop (i + 1) line)
 
--- a space behind digits cuts a line, wherever it ends
+-- a space after digits splits the line there
 pub cut_to : (bytes : List ℕ) (i n : ℕ) → IsNumberTo 32 bytes i → IsCut (take (i + 1 + n) bytes) (take i bytes) (take n (drop (i + 1) bytes))
 cut_to bytes i n number =
     let l : i < length bytes = number.within in
@@ -78,7 +78,7 @@ entry_parts : (line front back : List ℕ) (x : Entry ℕ) → IsCut line front 
 entry_parts line front back x cut small e =
     cut_at 32 (decimal x.node) front (reason_text x.reason) back (decimal_without x.node 32 small.0 (inl (omega arith))) cut.clear (e ∙ cut.whole)
 
--- a line that doesn't begin with digits and a space is no entry's
+-- a line that doesn't begin with digits and a space isn't the line of an entry
 pub no_number : (pairs actions : ℕ) (line : List ℕ) → pairs < 2 ^ 32 → ((i : ℕ) → IsNumberTo 32 line i → ⊥) → entry_of pairs actions line ≡ None
 no_number pairs actions line few none = entry_of_none pairs actions line (λ x i e.
     let l : x.node < pairs = (from_possible pairs actions x i).0 in
@@ -95,12 +95,12 @@ no_number pairs actions line few none = entry_of_none pairs actions line (λ x i
           stops = get_or_at ds 32 (reason_text x.reason) 0 (length ds) refl;
         }
 
--- nor is one whose first part is no pair's number
+-- a line whose first part isn't the number of a pair isn't the line of an entry
 pub no_pair : (pairs actions : ℕ) (line front back : List ℕ) → AreFew pairs actions → IsCut line front back → ((n : ℕ) → n < pairs → decimal n ≢ front) → entry_of pairs actions line ≡ None
 no_pair pairs actions line front back few cut none = entry_of_none pairs actions line (λ x i e.
     none x.node (from_possible pairs actions x i).0 (entry_parts line front back x cut (possible_small pairs actions x few i) e).0)
 
--- nor is one whose second part is no reason's text
+-- a line whose second part isn't the text of a reason isn't the line of an entry
 pub no_reason : (pairs actions : ℕ) (line front back : List ℕ) → AreFew pairs actions → IsCut line front back → ((r : Reason) → IsIn r (reasons actions) → reason_text r ≢ back) → entry_of pairs actions line ≡ None
 no_reason pairs actions line front back few cut none = entry_of_none pairs actions line (λ x i e.
     none x.reason (from_possible pairs actions x i).1 (entry_parts line front back x cut (possible_small pairs actions x few i) e).1)
@@ -112,9 +112,9 @@ some_entry pairs actions line front back n r few cut l e i same =
     ap (entry_of pairs actions) (cut.whole ∙ ap₂ (λ bs cs. bs ++ 32 ∷ cs) (sym e) (sym same))
     ∙ entry_of-line pairs actions (record { node = n; reason = r }) few (in_possible pairs actions (record { node = n; reason = r }) l i)
 
--- Lines with which more bytes begin
+-- Lines at the start of more bytes
 
--- an entry's line from a place on
+-- the line of an entry from a place on
 pub entry_at : (pairs actions : ℕ) (piece : List ℕ) (start len : ℕ) (x : Entry ℕ) → AreFew pairs actions → IsEndedAt (take (length piece - start) (drop start piece)) len →
     entry_of pairs actions (take len (take (length piece - start) (drop start piece))) ≡ Some x → (start ≤ start + len) × (start + len < length piece) × IsLine (take (start + len - start) (drop start piece)) ×
     (get_or piece (start + len) 0 ≡ 10) × (entry_of pairs actions (take (start + len - start) (drop start piece)) ≡ Some x)

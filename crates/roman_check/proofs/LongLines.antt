@@ -48,7 +48,7 @@ no_entry pairs actions line small few long = entry_of_none pairs actions line (�
     let same : length (entry_line x) ≡ length line = ap length e in
     omega arith)
 
--- such a line is at fault by its form
+-- a line that is too long is at fault by its form
 pub long_line : (A : Arena ℕ) → IsNumbered A → (text : List (List ℕ)) (line : List ℕ) → 32 < length line → line_fault A text (Some line) ≡ Some Form
 long_line A ok [] line long = not_due head_line line (omega arith) long
 long_line A ok (head ∷ []) line long =

@@ -30,7 +30,7 @@ front_parts bytes space end n r number stop ended text =
       ended = record { within = omega (arith, at.within, length-drop (space + 1) bytes); newline = sym (get_or-drop (space + 1) bytes end 0) ∙ at.newline };
     }
 
--- they are the line of an entry
+-- these parts are the line of an entry
 pub parts_entry : (pairs actions : ℕ) (bytes : List ℕ) (n space end : ℕ) (r : Reason) → AreFew pairs actions → pairs < 2 ^ 32 → HasParts bytes n r space end → n < pairs → IsIn r (reasons actions) →
     IsEndedAt bytes end × (entry_of pairs actions (take end bytes) ≡ Some (record { node = n; reason = r }))
 parts_entry pairs actions bytes n space end r few small parts l given =
@@ -101,7 +101,7 @@ two_digits q a b some tens ones small =
     low : (q * 100 + a * 10 + b) % 10 ≡ b
     low = omega arith
 
--- what stands before the last two digits
+-- the digits before the last two
 front_digits : (text : List ℕ) (pair place : ℕ) → 100 ≤ pair → pair < 8589934592 → place + 2 ≤ length text → decimal pair ≡ take (place + 2) text → take place text ≡ decimal (pair / 100)
 front_digits text pair place large small within number =
     let q = pair / 100 in
@@ -115,7 +115,7 @@ front_digits text pair place large small within number =
     let both : length (decimal pair) ≡ length (decimal q ++ (48 + a) ∷ (48 + b) ∷ []) = ap length split in
     sym (take-take place (place + 2) text (omega arith)) ∙ ap (take place) (sym number ∙ split) ∙ take_at (decimal q) ((48 + a) ∷ (48 + b) ∷ []) place (omega arith)
 
--- a number from 100 on has more than two
+-- a number from 100 on has more than two digits
 pub large_number : (bytes : List ℕ) (pair space : ℕ) → 100 ≤ pair → pair < 2 ^ 32 → space ≤ length bytes → decimal pair ≡ take space bytes → 2 ≤ space
 large_number bytes pair space large small within number = elim (cases_lt space 2) [
   | inl less ↦

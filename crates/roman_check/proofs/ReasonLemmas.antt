@@ -73,7 +73,7 @@ lowest word some small =
     let (within, one, none) = bit_at-trailing_zeros w64 word (omega arith) small in
     record { on = eq-eqb (bit_at word (trailing_zeros w64 word)) 1 one; before = λ i l. ap (λ b. eqb b 1) (none i l) }
 
--- it is a lane of the row, where no other is on
+-- the lowest lane is a lane of the row, where no lane past the row is on
 pub lowest_within : (word lane lanes : ℕ) → IsLowest word lane → ((i : ℕ) → lanes ≤ i → is_on word i ≡ false) → lane < lanes
 lowest_within word lane lanes first off = elim (cases_lt lane lanes) [ inl less ↦ less | inr more ↦ absurd (false≢true (sym (off lane more) ∙ first.on)) ]
 
@@ -98,14 +98,14 @@ row_ends x rows lanes n l e = omega (arith, row_fits x lanes rows lanes l (le_it
     le_itself : (k : ℕ) → k ≤ k
     le_itself k = omega arith
 
--- as many rows as words
+-- there are as many rows as words
 pub same_rows : (rows words lanes : ℕ) → 0 < lanes → rows * lanes ≡ words * lanes → rows ≡ words
 same_rows rows words lanes some e = (same_from_place rows 0 words 0 lanes some some (ap (λ n. n + 0) e)).0
 
 pub row_among : (x rows words lanes : ℕ) → x < rows → 0 < lanes → rows * lanes ≡ words * lanes → x < words
 row_among x rows words lanes l some e = let same = same_rows rows words lanes some e in omega arith
 
--- a band ends within as many as there are
+-- each band ends within the rows
 pub band_ends : (band y bands : ℕ) → y < bands → y * band + band ≤ bands * band
 band_ends band y bands l = row_ends y bands band (bands * band) l refl
 
@@ -122,7 +122,7 @@ before_row lanes x P some each q l =
     let whole : q / lanes * lanes + q % lanes ≡ q = div-add-mod' q lanes in
     subst P whole (each (q / lanes) (q % lanes) (div_below q lanes x some l) (omega arith))
 
--- and where it also holds at the first lanes of that row, at each number before the next lane
+-- what also holds at the first lanes of that row holds at each number before the next lane
 pub before_lane : (lanes x first : ℕ) (P : ℕ → Type 0) → 0 < lanes → ((y lane : ℕ) → y < x → lane < lanes → P (y * lanes + lane)) → ((lane : ℕ) → lane < first → P (x * lanes + lane)) → (q : ℕ) → q < x * lanes + first → P q
 before_lane lanes x first P some rows here q l = elim (split q) [ inl less ↦ before_row lanes x P some rows q less | inr (d, e) ↦ subst P (sym e) (here d (omega arith)) ]
   where

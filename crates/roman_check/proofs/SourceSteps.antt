@@ -37,7 +37,7 @@ failed_clean A before mid now taken reader r first second = record {
 
 -- Pieces
 
--- what was given, up to where the limit is and past it
+-- a piece is its bytes up to the limit and those past it
 pub cut_piece : (into : List ℕ) (due count : ℕ) → due ≤ count → take count into ≡ take due into ++ drop due (take count into)
 cut_piece into due count l = sym (take-append-drop due (take count into)) ∙ ap (λ bs. bs ++ drop due (take count into)) (take-take due count into l)
 

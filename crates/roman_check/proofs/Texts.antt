@@ -13,7 +13,7 @@ use Rattle.roman_model.specs.System.{has}
 use Rattle.roman_model.specs.SystemArena.{same_numbers}
 use Rattle.roman_model.proofs.CallerLemmas.{same_test, same_numbers_is, same_numbers_itself}
 
--- a test of whether two texts are equal is the model's
+-- a test that is true exactly for equal texts is the model's test
 pub same_from : (b : Bool) (xs ys : List ℕ) → (IsTrue b → xs ≡ ys) → (xs ≡ ys → IsTrue b) → b ≡ same_numbers xs ys
 same_from b xs ys to from =
     same_test b (same_numbers xs ys)
@@ -30,7 +30,7 @@ same_as_eq xs ys zs r e same =
 pub taken_more : (xs : List ℕ) (n m : ℕ) → take n xs ++ take m (drop n xs) ≡ take (n + m) xs
 taken_more xs n m = ap₂ (λ a b. a ++ b) (sym (take-take n (n + m) xs (omega arith))) (sym (drop-take n m xs)) ∙ take-append-drop n (take (n + m) xs)
 
--- a prefix of a text in which no byte is that one
+-- a prefix of a text that doesn't have the byte
 pub clear_before : (b : ℕ) (xs : List ℕ) (i : ℕ) → ((k : ℕ) → k < i → IsFalse (get_or xs k 0 == b)) → IsFalse (has (take i xs) b)
 clear_before b xs zero none = refl
 clear_before b [] (suc i) none = refl
@@ -42,7 +42,7 @@ found_before b xs i e =
     let (l, here, before) = position-Some (λ x. x == b) xs i 0 e in
     (l, clear_before b xs i before, eqb-true (get_or xs i 0) b here)
 
--- it is nowhere
+-- the byte has no place in the text
 pub found_nowhere : (b : ℕ) (xs : List ℕ) → position (λ x. x == b) xs ≡ None → IsFalse (has xs b)
 found_nowhere b xs e = elim (cases_lt (position_or_len (λ x. x == b) xs) (length xs)) [
   | inl less ↦ absurd (none-some (position_or_len (λ x. x == b) xs) (sym e ∙ cond-true (nat_lt (position_or_len (λ x. x == b) xs) (length xs)) (Some (position_or_len (λ x. x == b) xs)) None (lt-ltb (position_or_len (λ x. x == b) xs) (length xs) less)))

@@ -1,4 +1,4 @@
--- What a checker knows of the lines that it has read.
+-- The state of a check after the lines read so far.
 use Rattle.std.specs.Prelude.{◌≡◌, ℕ, ◌*◌, Bool, not, List, [], ◌∷◌, ◌++◌, drop, length, Option, None, Some, if◌then◌else◌}
 use Rattle.std.specs.List.{list_any}
 use Rattle.std.specs.Option.{option_map}
@@ -17,33 +17,33 @@ use Rattle.roman_check.specs.declared.verdict.Why.{Why}
 use Rattle.roman_check.specs.Verdicts.{fault_of}
 use Rattle.roman_check.specs.Remain.{Remain}
 
--- the line that is due after those
+-- the line that is due after the lines of the text
 abbrev pub due_after : List (List ℕ) → Due
 due_after [] = Head
 due_after (head ∷ []) = Count
 due_after (head ∷ size ∷ body) = if list_any (same_numbers end_line) body then Nothing else Body
 
--- there is a bit for each of so many pairs, in rows of so many
+-- the table has one bit for each of the pairs, in rows of this number of lanes
 pub record IsInRows (lanes pairs : ℕ) (audit : Audit) : Type 0 where
   pub in_rows : audit.left.lanes ≡ lanes
   pub room : length audit.left.words.items * lanes ≡ pairs
 
--- where those pairs are left and the others gone, the answer is whether the reason holds at the pair, and what a row was known to have answered holds still
+-- where the stored answer of a row is right, the result is whether the reason holds at the pair with the table's pairs left, and the new stored answer is right
 pub record AnswersReason (A : Arena ℕ) (left : Remaining) (p : ℕ) (reason : Reason) (old new : Asked) (result : Bool) : Type 0 where
   pub justified : (gone : ℕ → Bool) → AreRows left.lanes (λ q. not (gone q)) left.words.items → HoldsWhereKept A left.lanes gone old → result ≡ is_justified A gone p reason
   pub known : (gone : ℕ → Bool) → AreRows left.lanes (λ q. not (gone q)) left.words.items → HoldsWhereKept A left.lanes gone old → HoldsWhereKept A left.lanes gone new
 
--- the entries that were read are those of the list
+-- the entries read so far are those of the list
 pub record HasListed (A : Arena ℕ) (L : List (Entry ℕ)) (audit : Audit) : Type 0 where
   pub left : Remain (length A.nodes) (is_listed A L) audit.left
   pub known : HoldsWhereKept A audit.left.lanes (is_listed A L) audit.asked
 
--- those are the lines that were read
+-- the lines read so far are those of the text
 pub record HasRead (A : Arena ℕ) (text : List (List ℕ)) (audit : Audit) : Type 0 where
   pub due : audit.due ≡ due_after text
   pub list : HasListed A (entries_on A (drop 2 text)) audit
 
--- the fault of the line that follows is named, and where it has none it was read
+-- the next line's fault is returned, and a line without a fault is read
 pub record Judges (A : Arena ℕ) (old new : Audit) (line : List ℕ) (fault : Option Why) : Type 0 where
   pub named : (text : List (List ℕ)) → HasRead A text old → option_map fault_of fault ≡ line_fault A text (Some line)
   pub read : (text : List (List ℕ)) → HasRead A text old → fault ≡ None → HasRead A (text ++ line ∷ []) new

@@ -7,7 +7,7 @@ use Rattle.roman_check.specs.Readings.{HasParts}
 abbrev pub eight : List ℕ → List ℕ
 eight bs = slice_index bs 0 ∷ slice_index bs 1 ∷ slice_index bs 2 ∷ slice_index bs 3 ∷ slice_index bs 4 ∷ slice_index bs 5 ∷ slice_index bs 6 ∷ slice_index bs 7 ∷ []
 
--- the text begins with the line of an entry, whose pair has three digits or more
+-- the pattern's text begins with the line of an entry whose pair has at least three digits
 pub record IsPattern (p : Pattern) : Type 0 where
   pub pair : ℕ
   pub large : 100 ≤ pair

@@ -1,4 +1,4 @@
--- What was read of a text, byte by byte.
+-- What is known of the part of a text that was read.
 use Rattle.std.specs.Prelude.{◌≡◌, ℕ, List, [], ◌∷◌, ◌++◌, length, take, Option, None, Some}
 use Rattle.roman_model.specs.Lines.{lines, text_of_lines, IsLine, AreLines}
 use Rattle.roman_model.specs.Arena.{Arena}
@@ -9,13 +9,13 @@ use Rattle.roman_check.specs.Verdicts.{fault_of}
 use Rattle.roman_check.specs.Lines.{Holds}
 use Rattle.roman_check.specs.Audits.{HasRead}
 
--- those lines were read, and none of them is at fault
+-- the lines of the text were read, and none of them is at fault
 pub record HasLines (A : Arena ℕ) (text : List (List ℕ)) (reader : Reader) : Type 0 where
   pub clean : IsClean A text (length text)
   pub read : HasRead A text reader.audit
   pub counted : reader.lines ≡ length text
 
--- those bytes were read: whole lines, none of them at fault, and the bytes of the next
+-- the bytes taken were read: whole lines without a fault, and the first bytes of the next line
 pub record IsReading (A : Arena ℕ) (taken : List ℕ) (reader : Reader) : Type 0 where
   pub text : List (List ℕ)
   pub partial : List ℕ
@@ -25,11 +25,11 @@ pub record IsReading (A : Arena ℕ) (taken : List ℕ) (reader : Reader) : Type
   pub has : HasLines A text reader
   pub held : Holds reader.line partial
 
--- the bytes of the piece up to that place were read after what was read before them
+-- the reader has read the first bytes of the piece, up to a place, after all that it had read before
 abbrev pub IsReadTo : Arena ℕ → Reader → Reader → List ℕ → ℕ → Type 0
 IsReadTo A before now piece at = (taken : List ℕ) → IsReading A taken before → IsReading A (taken ++ take at piece) now
 
--- the text has a whole line at fault after so many clean ones
+-- the text has a whole line at fault after this number of clean lines
 pub record IsAtFault (A : Arena ℕ) (bytes : List ℕ) (clean_lines : ℕ) (why : Why) : Type 0 where
   pub text : List (List ℕ)
   pub line : List ℕ
@@ -40,12 +40,12 @@ pub record IsAtFault (A : Arena ℕ) (bytes : List ℕ) (clean_lines : ℕ) (why
   pub fault : line_fault A text (Some line) ≡ Some (fault_of why)
   pub counted : clean_lines ≡ length text
 
--- the piece was read after what was read before it, or a line that ends in it is at fault
+-- the whole piece was read after all that was read before, or a line that ends in it is at fault
 pub record Feeds (A : Arena ℕ) (old new : Reader) (piece : List ℕ) (fault : Option Why) : Type 0 where
   pub reads : (taken : List ℕ) → IsReading A taken old → fault ≡ None → IsReading A (taken ++ piece) new
   pub stops : (taken : List ℕ) (why : Why) → IsReading A taken old → fault ≡ Some why → IsAtFault A (taken ++ piece) new.lines why
 
--- the last line of the text is at fault after so many clean ones
+-- the last line of the text is at fault after this number of clean lines
 pub record EndsAtFault (A : Arena ℕ) (bytes : List ℕ) (clean_lines : ℕ) (why : Why) : Type 0 where
   pub text : List (List ℕ)
   pub line : List ℕ
@@ -54,7 +54,7 @@ pub record EndsAtFault (A : Arena ℕ) (bytes : List ℕ) (clean_lines : ℕ) (w
   pub fault : line_fault A text (Some line) ≡ Some (fault_of why)
   pub counted : clean_lines ≡ length text
 
--- all lines were read where the text ends, or the last is at fault
+-- all lines of the ended text were read, or its last line is at fault
 pub record Closes (A : Arena ℕ) (old new : Reader) (fault : Option Why) : Type 0 where
   pub reads : (bytes : List ℕ) → IsReading A bytes old → fault ≡ None → HasLines A (lines bytes) new
   pub stops : (bytes : List ℕ) (why : Why) → IsReading A bytes old → fault ≡ Some why → EndsAtFault A bytes new.lines why

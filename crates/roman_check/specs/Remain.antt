@@ -4,7 +4,7 @@ use Rattle.roman_model.specs.Lists.{below}
 use Rattle.roman_lanes.specs.Rows.{AreRows}
 use Rattle.roman_check.specs.declared.table.Remaining.{Remaining}
 
--- the table has the bits of those pairs that aren't gone, and their number, where there are so many pairs
+-- the table has the bits of the pairs that aren't gone, and their number
 pub record Remain (pairs : ℕ) (gone : ℕ → Bool) (table : Remaining) : Type 0 where
   pub rows : AreRows table.lanes (λ p. not (gone p)) table.words.items
   pub counted : table.count ≡ count_by (λ p. not (gone p)) (below pairs)

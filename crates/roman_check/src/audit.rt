@@ -1,4 +1,4 @@
-//! What was read of a certificate, and the next line judged by it.
+//! Judges each line of a certificate by the lines read before it.
 ghost use Rattle.std.specs.Prelude.{◌≡◌, ℕ, ◌+◌, ◌*◌, ◌<◌, ◌++◌, false, not, IsTrue, List, [], ◌∷◌, None, Some, length, IfOk, if◌then◌else◌};
 ghost use Rattle.std.specs.Option.{option_map};
 ghost use Rattle.roman_model.specs.SystemArena.{same_numbers};
@@ -29,21 +29,21 @@ pub(crate) enum Due {
     Count,
     /// An entry, or the line `end`.
     Body,
-    /// None: the line `end` was read.
+    /// No line: the line `end` was read.
     Nothing,
 }
 
-/// What the lines of a certificate that were read come to.
+/// The state of a check after the lines read so far.
 #[derive(Drop)]
 pub(crate) struct Audit {
     pub(crate) due: Due,
     // the pairs that no entry names
     pub(crate) left: Remaining,
-    // what a row answered about the reason of an entry
+    // the last answer of a row about the reason of an entry
     pub(crate) asked: Asked,
 }
 
-/// Whether a reason holds at the pair `p`, where those pairs are left.
+/// Asks a row whether a reason holds at the pair `p`, where the pairs `left` remain.
 #[cold]
 #[inline(never)]
 fn ask<J: Rules, L: Ledger>(
@@ -63,8 +63,8 @@ fn ask<J: Rules, L: Ledger>(
     asked.holds(joint, left.words(), p, reason, steps)
 }
 
-/// Whether a reason holds at the pair `p`, which lies at that row and lane, where those pairs are left.
-/// Nothing is asked where that is known.
+/// Returns whether a reason holds at the pair `p`, where the pairs `left` remain. `place` is the row
+/// and lane of `p`. Asks no row where the answer is known.
 #[inline(always)]
 fn holds<J: Rules, L: Ledger>(
     asked: &mut Asked,
@@ -91,7 +91,7 @@ fn holds<J: Rules, L: Ledger>(
 }
 
 impl Audit {
-    /// No line was read.
+    /// Begins an audit, before the first line. Fails only when out of memory.
     pub(crate) fn build<J: Rules>(alloc: Global, joint: &J) -> Result<Audit, AllocError>
         ensures due { IfOk result (λ audit. audit.due ≡ Due.Head) }
         ensures list { IfOk result (HasListed (J.arena joint.now) []) }
@@ -104,7 +104,8 @@ impl Audit {
         })
     }
 
-    /// Judges one of the first two lines: whether it is the one that is due.
+    /// Judges one of the first two lines. Returns the fault `Form` where it isn't the line that is due,
+    /// and makes `next` due otherwise.
     fn judge_opening(&mut self, is_due: bool, next: Due) -> Option<Why>
         ensures fault { result ≡ (if is_due then None else Some Why.Form) }
         ensures read { result ≡ None → self.new.due ≡ next }
@@ -117,8 +118,8 @@ impl Audit {
         None
     }
 
-    /// Judges an entry of a pair of the system and one of its reasons, and takes out the pair where it
-    /// has no fault.
+    /// Judges the entry of a pair and a reason. Removes the pair from `left` where the entry has no
+    /// fault, and returns the fault otherwise.
     #[inline(always)]
     pub(crate) fn take_entry<J: Rules, L: Ledger>(
         &mut self,
@@ -150,8 +151,8 @@ impl Audit {
         None
     }
 
-    /// Takes out a pair of the system for the reason that was asked about last, where it lies in the row
-    /// that was asked and the reason is known to hold there. Whether that is so.
+    /// Removes a pair for the reason that was asked about last, where the pair lies in the row that was
+    /// asked and the reason is known to hold there. Returns whether it did. Changes nothing otherwise.
     #[inline(always)]
     pub(crate) fn take_known<J: Rules>(&mut self, joint: &J, pair: u32) -> bool
         requires shaped { IsInRows (J.lanes joint.now) (length (J.arena joint.now).nodes) self.old }
@@ -177,7 +178,7 @@ impl Audit {
         true
     }
 
-    /// Judges a line as an entry.
+    /// Judges a line as an entry. Reads it where it has no fault, and returns the fault otherwise.
     fn judge_entry<J: Rules, L: Ledger>(
         &mut self,
         joint: &J,
@@ -199,7 +200,7 @@ impl Audit {
         }
     }
 
-    /// Judges a line after the first two.
+    /// Judges a line after the first two: an entry, or the line `end`.
     fn judge_body<J: Rules, L: Ledger>(
         &mut self,
         joint: &J,
@@ -225,7 +226,7 @@ impl Audit {
         }
     }
 
-    /// Judges the next line, and reads it where it has no fault.
+    /// Judges the next line. Reads it where it has no fault, and returns the fault otherwise.
     pub(crate) fn judge<J: Rules, L: Ledger>(
         &mut self,
         joint: &J,
@@ -244,7 +245,7 @@ impl Audit {
         }
     }
 
-    /// Whether no entry names the pair `p`.
+    /// Returns whether no entry read so far names the pair `p`.
     pub(crate) fn is_left(&self, p: u32) -> bool
         requires { p < length self.now.left.words.items * self.now.left.lanes }
         ensures { (A : Arena ℕ) (L : List (Entry ℕ)) → HasListed A L self.now → result ≡ not (is_listed A L p) }

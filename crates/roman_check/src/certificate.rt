@@ -1,4 +1,4 @@
-//! The check of a certificate.
+//! Checks certificates.
 ghost use Rattle.std.specs.Prelude.{◌≡◌, ◌≢◌, ◌+◌, ◌<◌, [], length, Err, IfOk, IsErrOf};
 ghost use Rattle.roman_io.specs.Faults.{Rose};
 ghost use Rattle.roman_io.specs.Source.{IsAtEnd, GaveAtMost};
@@ -54,17 +54,19 @@ fn read<J: Rules, S: Source, L: Ledger>(
     }
 }
 
-/// Checks a certificate against a system, where `start` is the number of the start pair: the verdict
-/// says whether it is the certificate of a complete removal list, and how many pairs are then related.
+/// Checks a certificate against a system. `start` is the number of the start pair. The verdict says
+/// whether the text is the certificate of a complete removal list, and if so how many pairs are
+/// related.
 ///
-/// The certificate is read line by line in pieces of 4,096 bytes, in whatever pieces it comes, and
-/// nothing past the first line at fault but the rest of one piece. `Fault` comes only where the
-/// source's count of faults rose, and then no line that was read whole is at fault. `TooLong` comes
-/// exactly where the certificate gave byte 268,435,457 before a line at fault. `Memory` comes only
-/// where there is none; nothing was then taken from the source. A word for each row of pairs is
-/// taken at the start, and no other memory.
+/// Takes the text in pieces of at most 4,096 bytes, and judges it line by line. Takes no piece after
+/// the one in which the first line at fault ends. Allocates one word for each row of pairs at the
+/// start, and no other memory. Fails with `Fault` only where the source's count of faults rose; no line
+/// read whole is then at fault. Fails with `TooLong` exactly where the source gave more than
+/// 268,435,456 bytes, and no line that ends within them is at fault. Fails with `Memory` only when out
+/// of memory; nothing was then taken from the source.
 ///
-/// Where the source tells nothing of its bytes, the clauses speak of some bytes that it may have had.
+/// Where the source's contract doesn't state its bytes, the clauses speak of some bytes that the source
+/// could have had.
 pub fn check<J: Rules, S: Source, L: Ledger>(
     alloc: Global,
     joint: &J,
@@ -74,12 +76,12 @@ pub fn check<J: Rules, S: Source, L: Ledger>(
 ) -> Result<Verdict, CheckError>
     requires { start < length (J.arena joint.now).nodes }
 
-    // The answer is the verdict that the format gives on all that the source had.
+    // The verdict is the one that the format gives on all bytes of the source.
     ensures verdict { IfOk result (λ verdict. HaveVerdict (J.arena joint.now) start (S.rest source.old) (verdict_of verdict)) }
     ensures too_long { IsErrOf result CheckError.TooLong → HaveVerdict (J.arena joint.now) start (S.rest source.old) TooLong }
     ensures whole { IfOk result (λ verdict. SaysGreatest verdict → IsAtEnd (S.rest source.new)) }
 
-    // A fault has its cause, and hides no line at fault.
+    // `Fault` follows only a failure of the source, and no whole line before it is at fault.
     ensures fault { IsErrOf result CheckError.Fault → Rose (S.faults source.old) (S.faults source.new) }
     ensures none_at_fault { IsErrOf result CheckError.Fault → NoneAtFault (J.arena joint.now) (S.rest source.old) (S.rest source.new) }
     ensures counts { result ≢ Err CheckError.Fault → S.faults source.new ≡ S.faults source.old }

@@ -1,4 +1,4 @@
-//! The lines of a certificate.
+//! Reads the lines of a certificate.
 ghost use Rattle.std.specs.Prelude.{◌≡◌, ◌<◌, ◌≤◌, [], ◌∷◌, Some, IfSome, length, take};
 ghost use Rattle.std.specs.Option.{option_map};
 ghost use Rattle.roman_model.specs.Lists.{IsIn};
@@ -9,18 +9,18 @@ ghost use Rattle.roman_check.specs.Readings.{entry_with, HasParts, IsEndedAt, Re
 use crate::numbers::{is_number, number_below, number_to, trim_below};
 use roman_model::Reason;
 
-/// No fewer bytes than are looked at for one entry, which are eleven for each of its two numbers:
-/// where so many follow, no test of an index is needed.
+/// The number of bytes that must follow for an entry to be read in one pass. Reading an entry looks at
+/// eleven bytes at most for each of its two numbers, so no index needs a test.
 pub(crate) const ROOM: usize = 24;
 
-/// Whether that is the first line of a certificate.
+/// Returns whether the line is the first line of a certificate.
 pub(crate) fn is_head(line: &[u8]) -> bool
     ensures { result ≡ same_numbers head_line line.now }
 {
     line == b"roman-order 1".as_slice()
 }
 
-/// Whether that is the second line of a certificate, where there are so many pairs.
+/// Returns whether the line is the second line of a certificate for `pairs` pairs.
 pub(crate) fn is_count(line: &[u8], pairs: u32) -> bool
     ensures { result ≡ same_numbers (count_line pairs) line.now }
 {
@@ -30,21 +30,21 @@ pub(crate) fn is_count(line: &[u8], pairs: u32) -> bool
     }
 }
 
-/// Whether that is the last line of a certificate.
+/// Returns whether the line is the last line of a certificate.
 pub(crate) fn is_end(line: &[u8]) -> bool
     ensures { result ≡ same_numbers end_line line.now }
 {
     line == b"end".as_slice()
 }
 
-/// Whether that is the letter for clause 2.
+/// Returns whether the text is the letter for clause 2.
 fn is_final(text: &[u8]) -> bool
     ensures { result ≡ same_numbers (reason_text Reason.Final) text.now }
 {
     text == b"f".as_slice()
 }
 
-/// The reason whose text that is, where there are so many actions.
+/// Returns the reason that has this text, or `None` where none of the `actions` actions has it.
 fn reason(text: &[u8], actions: u8) -> Option<Reason>
     ensures { ReadsOff (reasons actions) reason_text text.now result }
 {
@@ -55,7 +55,7 @@ fn reason(text: &[u8], actions: u8) -> Option<Reason>
     Some(Reason::Act(action as u8))
 }
 
-/// The entry whose line that is, where there are so many pairs and actions.
+/// Returns the entry on the line, or `None` where it is no entry for this number of pairs and actions.
 pub(crate) fn entry(line: &[u8], pairs: u32, actions: u8) -> Option<(u32, Reason)>
     ensures { option_map entry_with result ≡ entry_of pairs actions line.now }
 {
@@ -65,7 +65,7 @@ pub(crate) fn entry(line: &[u8], pairs: u32, actions: u8) -> Option<(u32, Reason
     Some((pair, reason))
 }
 
-/// The reason whose text is that byte, where there are so many actions.
+/// Returns the reason that has this byte as its text, or `None` where there is none among the actions.
 #[inline]
 fn reason_of(byte: u8, actions: u8) -> Option<Reason>
     ensures { IfSome result (λ reason. IsIn reason (reasons actions) × (reason_text reason ≡ byte ∷ [])) }
@@ -80,8 +80,8 @@ fn reason_of(byte: u8, actions: u8) -> Option<Reason>
     Some(Reason::Act(action))
 }
 
-/// The reason with which the bytes begin, and how long its text is, where a newline ends it there;
-/// `None` says nothing.
+/// Returns the reason at the start of the bytes and the length of its text, up to a newline. May return
+/// `None` for a valid reason.
 #[inline]
 fn front_reason(bytes: &[u8], actions: u8) -> Option<(Reason, usize)>
     ensures { IfSome result (λ r. IsIn r.0 (reasons actions) × IsEndedAt bytes.now r.1 × (reason_text r.0 ≡ take r.1 bytes.now)) }
@@ -95,9 +95,8 @@ fn front_reason(bytes: &[u8], actions: u8) -> Option<(Reason, usize)>
     Some((Reason::Act(action as u8), end))
 }
 
-/// The entry on the line with which the bytes begin, where its pair's number ends, and how long the line
-/// is, read in one pass; `None` says nothing. With the first digit known, its number needs no look at
-/// leading zeros.
+/// Reads the first line of the bytes in one pass. Returns its pair, its reason, the place where the
+/// pair's number ends, and the length of the line. May return `None` for a valid entry.
 #[inline]
 pub(crate) fn front_entry(
     bytes: &[u8],

@@ -1,4 +1,4 @@
-//! Why a check comes to no verdict.
+//! Errors of a check.
 ghost use Rattle.std.specs.Prelude.{◌≡◌};
 ghost use Rattle.roman_check.specs.Verdicts.{error_number};
 ghost use Rattle.roman_check.specs.declared.error.CheckError.TheVariants.{Fault, Memory};
@@ -7,24 +7,23 @@ use roman_io::Failed;
 use std::alloc::AllocError;
 use thiserror::Error;
 
-/// Why a check comes to no verdict.
+/// Errors of a check.
 #[derive(Clone, Copy, Debug, PartialEq, Eq, Error)]
 pub enum CheckError {
     /// The source of the certificate failed, and its count of faults rose.
     #[error("the source of the certificate failed")]
     Fault,
-    /// The certificate has more than
-    /// [`MAX_CERTIFICATE_BYTES`](roman_model::MAX_CERTIFICATE_BYTES), and no line that ends within
-    /// them is at fault.
+    /// The certificate has more than [`MAX_CERTIFICATE_BYTES`](roman_model::MAX_CERTIFICATE_BYTES)
+    /// bytes, and no line that ends within them is at fault.
     #[error("the certificate is too long")]
     TooLong,
-    /// There is no memory.
+    /// Out of memory.
     #[error("there is no memory")]
     Memory,
 }
 
 impl CheckError {
-    /// The number of the error, from 1 to 3 in the order of the variants.
+    /// Returns the number of the error, from 1 to 3 in the order of the variants.
     pub fn number(&self) -> u8
         ensures number { result ≡ error_number self.now }
     {

@@ -1,8 +1,8 @@
-//! A checker of certificates, for certificates that anyone may have written.
+//! A checker of certificates from any author.
 //!
-//! [`check`] reads a certificate line by line from a source, and answers the verdict on it. It
-//! trusts nothing but the transitions of the system: each entry must be justified by those before
-//! it, and at the end no pair may be missing.
+//! [`check`] reads a certificate line by line from a source, and returns the verdict on it. It trusts
+//! only the transitions of the system: the earlier entries must justify each entry, and at the end no
+//! pair may be missing.
 #![tactic(auto)]
 
 mod audit;

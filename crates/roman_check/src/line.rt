@@ -1,20 +1,20 @@
-//! A line that isn't read to its end yet.
+//! Buffers a line until its end is read.
 ghost use Rattle.std.specs.Prelude.{ℕ, ◌≡◌, ◌<◌, [], ◌++◌, List, length, IsTrue, ◌↔◌, MatchOption};
 ghost use Rattle.roman_check.specs.Lines.{Holds};
 
-/// As many bytes as each line has that isn't at fault, and some more.
+/// The capacity of a line in bytes. Each line without a fault is shorter.
 pub(crate) const ROOM: usize = 32;
 
-/// The bytes of a line so far. Where they are more than [`ROOM`] it is only known that they are.
+/// The bytes of a line so far. Beyond [`ROOM`] bytes, only the fact that the line is too long is kept.
 #[derive(Drop)]
 pub(crate) struct Line {
     pub(crate) bytes: [u8; ROOM],
-    // how many bytes there are, or one more than fit
+    // the number of bytes, or `ROOM + 1` where they don't fit
     pub(crate) len: usize,
 }
 
 impl Line {
-    /// No bytes.
+    /// Returns a line without bytes.
     pub(crate) fn new() -> Line
         ensures { Holds result [] }
     {
@@ -24,7 +24,7 @@ impl Line {
         }
     }
 
-    /// Adds bytes.
+    /// Appends bytes.
     pub(crate) fn extend(&mut self, more: &[u8])
         ensures { (bytes : List ℕ) → Holds self.old bytes → Holds self.new (bytes ++ more.now) }
     {
@@ -37,14 +37,14 @@ impl Line {
         self.len = end;
     }
 
-    /// Forgets all bytes.
+    /// Removes all bytes.
     pub(crate) fn clear(&mut self)
         ensures { Holds self.new [] }
     {
         self.len = 0;
     }
 
-    /// Whether there is no byte.
+    /// Returns whether the line has no bytes.
     pub(crate) fn is_empty(&self) -> bool
         ensures told { (bytes : List ℕ) → Holds self.now bytes → IsTrue result ↔ (bytes ≡ []) }
         ensures none { IsTrue result → Holds self.now [] }
@@ -52,7 +52,7 @@ impl Line {
         self.len == 0
     }
 
-    /// The bytes, or `None` where there are more than [`ROOM`].
+    /// Returns the bytes, or `None` where there are more than [`ROOM`].
     pub(crate) fn text(&self) -> Option<&[u8]>
         ensures { (bytes : List ℕ) → Holds self.now bytes → MatchOption result (ROOM < length bytes) (λ text. text.now ≡ bytes) }
     {

@@ -1,4 +1,4 @@
-//! Which pairs are missing in a list: they aren't listed, and a reason holds there.
+//! Finds the pairs missing from a list: those that aren't listed, and at which a reason holds.
 ghost use Rattle.std.specs.Prelude.{◌≡◌, ℕ, ◌+◌, ◌*◌, ◌<◌, ◌≤◌, Bool, false, not, ◌&&◌, List, length};
 ghost use Rattle.std.specs.List.{find, list_any};
 ghost use Rattle.roman_model.specs.Arena.{Entry, is_listed, is_justified};
@@ -10,8 +10,8 @@ use roman_rules::{Rules, are_clear, copy_rows};
 /// The greatest number of rows in a band.
 const BAND: usize = 64;
 
-/// Those of the pairs `left` of a row at which a reason holds, where the words tell the pairs that
-/// aren't gone.
+/// Returns the pairs among `left`, in one row, at which a reason holds. `words` has the bits of the
+/// pairs that aren't gone.
 fn missing_among<J: Rules>(joint: &J, row: &J::Row, words: &[u64], left: u64) -> u64
     requires row { (x : ℕ) × J.is_row joint.now x row.now }
     requires room { length words.now * J.lanes joint.now ≡ length (J.arena joint.now).nodes }
@@ -29,7 +29,7 @@ fn missing_among<J: Rules>(joint: &J, row: &J::Row, words: &[u64], left: u64) ->
     missing
 }
 
-/// The pairs of the row `x` that aren't gone and at which a reason holds.
+/// Returns the missing pairs of the row `x`. `words` has the bits of the pairs that aren't listed.
 fn missing_in<J: Rules>(joint: &J, words: &[u64], x: u32) -> u64
     requires row { x < length words.now }
     requires room { length words.now * J.lanes joint.now ≡ length (J.arena joint.now).nodes }
@@ -47,8 +47,8 @@ fn missing_in<J: Rules>(joint: &J, words: &[u64], x: u32) -> u64
     missing_among(joint, &row, words, left)
 }
 
-/// Whether some pair of the band `y` is missing, where the words tell the pairs that aren't listed. What
-/// `left` holds before and after doesn't matter.
+/// Returns false only where no pair of the band `y` is missing. `words` has the bits of the pairs that
+/// aren't listed. `left` is working space for the rows of one band.
 fn misses_some<J: Rules>(joint: &J, words: &[u64], y: u32, left: &mut [u64]) -> bool
     requires band { y * J.band joint.now + J.band joint.now ≤ length words.now }
     requires room { length words.now * J.lanes joint.now ≡ length (J.arena joint.now).nodes }
@@ -76,8 +76,8 @@ fn misses_some<J: Rules>(joint: &J, words: &[u64], y: u32, left: &mut [u64]) -> 
     false
 }
 
-/// How many rows there are before the first band in which a pair is missing, where the words tell the
-/// pairs that aren't listed: all of them where there is no such band.
+/// Returns a number of rows, from the first row on, that miss no pair. `words` has the bits of the
+/// pairs that aren't listed. Searches band by band, and stops at the first band that may miss a pair.
 fn rows_before<J: Rules>(joint: &J, words: &[u64]) -> u32
     requires { length words.now * J.lanes joint.now ≡ length (J.arena joint.now).nodes }
     ensures within { result ≤ length words.now }
@@ -97,8 +97,8 @@ fn rows_before<J: Rules>(joint: &J, words: &[u64]) -> u32
     joint.rows()
 }
 
-/// The least pair that isn't listed and at which a reason holds, where the words tell the pairs that
-/// aren't listed.
+/// Returns the least missing pair: it isn't listed, and a reason holds at it. `words` has the bits of
+/// the pairs that aren't listed. Returns `None` where no pair is missing.
 pub(crate) fn first_missing<J: Rules>(joint: &J, words: &[u64]) -> Option<u32>
     requires { length words.now * J.lanes joint.now ≡ length (J.arena joint.now).nodes }
     ensures { let A = J.arena joint.now in

@@ -1,4 +1,4 @@
-//! Decimal numbers.
+//! Reads decimal numbers.
 ghost use Rattle.std.specs.Prelude.{◌≡◌, ◌≢◌, ℕ, ◌-◌, ◌<◌, ◌≤◌, length, take, decimal, MatchOption, IsTrue, ◌↔◌};
 ghost use Rattle.std.specs.Int.{IsInRange, IsOutOfRange};
 ghost use Rattle.std.specs.Str.Parse.{AllDigits, digits_value};
@@ -7,8 +7,8 @@ ghost use Rattle.roman_check.specs.Decimals.{IsTrim, IsNumberTo};
 /// The greatest number of digits that a `u32` has.
 const MOST_DIGITS: usize = 10;
 
-/// The number that at most so many digits are, also where zeros lead; `None` exactly where some byte
-/// is no digit.
+/// Returns the value of a text of digits, leading zeros included. Requires at most ten bytes. Returns
+/// `None` exactly where some byte isn't a digit.
 fn digits(text: &[u8]) -> Option<u64>
     requires { length text.now ≤ MOST_DIGITS }
     ensures { MatchOption result (AllDigits 10 text.now → ⊥)
@@ -24,7 +24,7 @@ fn digits(text: &[u8]) -> Option<u64>
     Some(value)
 }
 
-/// The value of a digit, or more than 9 where the byte is none.
+/// Returns the value of a digit, or more than 9 where the byte isn't a digit.
 pub(crate) fn digit(byte: u8) -> u64
     ensures digit { result ≤ 9 → IsInRange 48 57 byte × (result ≡ byte - 48) }
     ensures other { 9 < result → IsOutOfRange 48 57 byte }
@@ -32,8 +32,9 @@ pub(crate) fn digit(byte: u8) -> u64
     u64::from(byte).wrapping_sub(u64::from(b'0'))
 }
 
-/// The number of the digits with which the bytes begin, also where zeros lead, and how many they
-/// are; `None` exactly where the byte `stop` doesn't follow at most ten digits.
+/// Reads the digits at the start of the bytes, up to the byte `stop`. Returns their value, leading
+/// zeros included, and how many they are. Returns `None` exactly where the bytes don't begin with at
+/// most ten digits followed by `stop`.
 #[inline]
 pub(crate) fn number_to(bytes: &[u8], stop: u8) -> Option<(u64, usize)>
     requires { stop < 48 }
@@ -55,14 +56,15 @@ pub(crate) fn number_to(bytes: &[u8], stop: u8) -> Option<(u64, usize)>
     None
 }
 
-/// Whether the text is as long as that of a `u32`, and no zero leads.
+/// Returns whether the text has one to ten bytes and no leading zero.
 fn is_trim(text: &[u8]) -> bool
     ensures { IsTrue result ↔ IsTrim text.now }
 {
     !text.is_empty() && text.len() <= MOST_DIGITS && (text[0] != b'0' || text.len() == 1)
 }
 
-/// The value of the digits of a text, where it is below the bound and they are its decimal text.
+/// Returns the number below the bound that has this decimal text, or `None` where there is none.
+/// Requires a text of digits with the value `value`.
 pub(crate) fn trim_below(value: u64, text: &[u8], bound: u32) -> Option<u32>
     requires digits { AllDigits 10 text.now }
     requires value { value ≡ digits_value 10 text.now }
@@ -76,7 +78,7 @@ pub(crate) fn trim_below(value: u64, text: &[u8], bound: u32) -> Option<u32>
     Some(value as u32)
 }
 
-/// The number below the bound whose decimal text that is.
+/// Returns the number below the bound that has this decimal text, or `None` where there is none.
 pub(crate) fn number_below(text: &[u8], bound: u32) -> Option<u32>
     ensures { MatchOption result
         ((n : ℕ) → n < bound → decimal n ≢ text.now)
@@ -89,7 +91,7 @@ pub(crate) fn number_below(text: &[u8], bound: u32) -> Option<u32>
     trim_below(value, text, bound)
 }
 
-/// Whether that is the decimal text of the number.
+/// Returns whether the text is the decimal text of the number.
 pub(crate) fn is_number(text: &[u8], n: u32) -> bool
     ensures { IsTrue result ↔ (decimal n ≡ text.now) }
 {

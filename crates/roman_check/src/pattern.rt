@@ -1,4 +1,4 @@
-//! Lines of a certificate that differ in the last two digits of the pair alone.
+//! Reads lines of a certificate that differ only in the last two digits of the pair.
 ghost use Rattle.std.specs.Prelude.{◌≡◌, ℕ, ◌+◌, ◌*◌, ◌<◌, ◌≤◌, length, take, Some, IfSome, IsTrue, slice_index};
 ghost use Rattle.std.specs.Int.{from_le_bytes, w64};
 ghost use Rattle.roman_model.specs.Lists.{IsIn};
@@ -10,27 +10,27 @@ use crate::entries::{ROOM, front_entry};
 use crate::numbers::digit;
 use roman_model::Reason;
 
-/// The greatest number of bytes that a line has in a pattern, its newline among them.
+/// The greatest length of a pattern's line in bytes, with its newline.
 const WIDTH: usize = 16;
 
-/// The line of an entry, with its newline. Where other digits stand as the last two of the pair, it is
-/// the line of another entry with the same reason.
+/// The line of an entry, with its newline. Other last two digits of the pair make it the line of
+/// another entry with the same reason.
 ///
-/// Neighbouring lines of a certificate mostly differ in these two digits. Two comparisons of eight bytes
-/// then take the place of reading the rest.
+/// Neighbouring lines of a certificate mostly differ only in these two digits. Two comparisons of eight
+/// bytes each then replace reading the rest of the line.
 #[derive(Drop)]
 pub(crate) struct Pattern {
     pub(crate) text: [u8; WIDTH],
-    // how long the line is, without its newline
+    // the length of the line, without its newline
     pub(crate) len: usize,
-    // where the last two digits of the pair stand
+    // the place of the last two digits of the pair
     pub(crate) place: usize,
-    // the pair, where these are zeros
+    // the pair, with zeros for these two digits
     pub(crate) base: u64,
     pub(crate) reason: Reason,
 }
 
-/// The first eight bytes as a number.
+/// Returns the first eight bytes as a little-endian number.
 #[inline(always)]
 fn word(bytes: &[u8]) -> u64
     requires { 8 ≤ length bytes.now }
@@ -41,7 +41,7 @@ fn word(bytes: &[u8]) -> u64
     ])
 }
 
-/// Whether the first eight bytes are the same.
+/// Returns whether the first eight bytes are equal.
 #[inline(always)]
 fn begin_alike(a: &[u8], b: &[u8]) -> bool
     requires left { 8 ≤ length a.now }
@@ -52,7 +52,7 @@ fn begin_alike(a: &[u8], b: &[u8]) -> bool
 }
 
 impl Pattern {
-    /// The line of pair 10,000 and clause 2.
+    /// Returns the pattern with the line of pair 10,000 and clause 2.
     pub(crate) fn new() -> Pattern
         ensures pattern { IsPattern result }
         ensures reason { result.reason ≡ Reason.Final }
@@ -68,7 +68,7 @@ impl Pattern {
         }
     }
 
-    /// Puts the last two digits of the pair.
+    /// Sets the last two digits of the pair.
     #[inline(always)]
     fn put_digits(&mut self, tens: u8, ones: u8)
         requires pattern { IsPattern self.old }
@@ -83,7 +83,7 @@ impl Pattern {
         self.text[place + 1] = ones;
     }
 
-    /// Whether the bytes begin with the line.
+    /// Returns whether the bytes begin with the line.
     #[inline(always)]
     fn begins(&self, bytes: &[u8]) -> bool
         requires long { 7 ≤ self.now.len }
@@ -95,8 +95,9 @@ impl Pattern {
         begin_alike(&self.text, bytes) && begin_alike(&self.text[last..], &bytes[last..])
     }
 
-    /// The pair of the entry on the line with which the bytes begin, where only the last two digits may
-    /// differ from the pattern, and where the pair is below the bound. They become the pattern's.
+    /// Returns the pair of the first line of the bytes, where that line differs from the pattern at
+    /// most in the last two digits of the pair, and the pair is below `pairs`. Sets the pattern's
+    /// digits to those of the bytes.
     #[inline(always)]
     pub(crate) fn fit(&mut self, bytes: &[u8], pairs: u32) -> Option<u32>
         requires pattern { IsPattern self.old }
@@ -122,8 +123,9 @@ impl Pattern {
         Some(pair as u32)
     }
 
-    /// Takes the line of an entry, with which the bytes begin, as the pattern, where it is neither too
-    /// short nor too long. The number of the pair ends at `space`.
+    /// Makes the first line of the bytes the pattern. Changes nothing where the line is too short or
+    /// too long. Requires that the line is the entry of the pair and the reason, whose number of the
+    /// pair ends at `space`.
     fn learn(&mut self, bytes: &[u8], pair: u32, reason: Reason, space: usize, len: usize)
         requires pattern { IsPattern self.old }
         requires room { 16 ≤ length bytes.now }
@@ -141,8 +143,8 @@ impl Pattern {
         self.reason = reason;
     }
 
-    /// The entry on the line with which the bytes begin, and how long the line is. The line becomes the
-    /// pattern.
+    /// Reads the first line of the bytes without the pattern. Returns its entry and its length, and
+    /// makes it the pattern where it fits. May return `None` for a valid entry.
     #[inline(never)]
     fn read_anew(&mut self, bytes: &[u8], pairs: u32, actions: u8) -> Option<(u32, Reason, usize)>
         requires pattern { IsPattern self.old }
@@ -156,8 +158,8 @@ impl Pattern {
         Some((pair, reason, len))
     }
 
-    /// The entry on the line with which the bytes begin, and how long the line is; `None` says nothing.
-    /// The line becomes the pattern.
+    /// Reads the first line of the bytes. Returns its entry and its length, and makes it the pattern
+    /// where it fits. May return `None` for a valid entry.
     #[inline(always)]
     pub(crate) fn read(
         &mut self,

@@ -1,4 +1,4 @@
-//! A certificate that is read line by line, in whatever pieces it comes.
+//! Reads a certificate line by line, from pieces of any length.
 ghost use Rattle.std.specs.Prelude.{◌≡◌, ℕ, ◌+◌, ◌-◌, ◌*◌, ◌<◌, ◌≤◌, ◌++◌, List, [], ◌∷◌, length, take, drop, slice_index, position, ◌==◌, Some, IfOk, IfErr, MatchOption};
 ghost use Rattle.roman_model.specs.Lists.{IsIn};
 ghost use Rattle.roman_model.specs.Lines.{lines, IsLine};
@@ -22,23 +22,23 @@ use roman_rules::Rules;
 use std::alloc::{AllocError, Global};
 use std::sync::ledger::Ledger;
 
-/// The lines of a certificate that were read, and the bytes of the next one so far.
+/// The state of a check: the lines read so far, and the bytes so far of the next line.
 #[derive(Drop)]
 pub(crate) struct Reader {
     pub(crate) audit: Audit,
     pub(crate) line: Line,
-    // how many lines were read
+    // the number of lines read
     pub(crate) lines: u32,
 }
 
-/// Where the first newline stands.
+/// Returns the place of the first newline.
 fn first_newline(bytes: &[u8]) -> Option<usize>
     ensures { result ≡ position (λ byte. byte == 10) bytes.now }
 {
     bytes.iter().position(|byte| *byte == b'\n')
 }
 
-/// Where the first newline stands, from a place on.
+/// Returns the place of the first newline from `start` on.
 fn next_newline(piece: &[u8], start: usize) -> Option<usize>
     requires { start ≤ length piece.now }
     ensures { MatchOption result (IsLine (drop start piece.now))
@@ -51,7 +51,7 @@ fn next_newline(piece: &[u8], start: usize) -> Option<usize>
 }
 
 impl Reader {
-    /// Nothing was read.
+    /// Begins a check, before the first byte. Fails only when out of memory.
     pub(crate) fn build<J: Rules>(alloc: Global, joint: &J) -> Result<Reader, AllocError>
         ensures reading { IfOk result (IsReading (J.arena joint.now) []) }
         ensures shaped { IfOk result (λ reader. IsInRows (J.lanes joint.now) (length (J.arena joint.now).nodes) reader.audit) }
@@ -64,7 +64,7 @@ impl Reader {
         })
     }
 
-    /// Judges the line that was read so far.
+    /// Judges the buffered line.
     fn judge<J: Rules, L: Ledger>(&mut self, joint: &J, steps: &mut Steps<L>) -> Option<Why>
         requires shaped { IsInRows (J.lanes joint.now) (length (J.arena joint.now).nodes) self.old.audit }
         ensures judged { (bytes : List ℕ) → Holds self.old.line bytes →
@@ -79,7 +79,7 @@ impl Reader {
         }
     }
 
-    /// Judges the line that ends with those bytes.
+    /// Judges the line that the buffered bytes and the bytes `last` make up.
     fn judge_end<J: Rules, L: Ledger>(
         &mut self,
         joint: &J,
@@ -99,7 +99,7 @@ impl Reader {
         self.judge(joint, steps)
     }
 
-    /// Reads the bytes with which a line ends and its newline, and names its fault.
+    /// Reads the last bytes of a line and its newline. Returns the line's fault, if it has one.
     fn end_line<J: Rules, L: Ledger>(
         &mut self,
         joint: &J,
@@ -121,8 +121,8 @@ impl Reader {
         None
     }
 
-    /// Reads entries from a place on that differ from the pattern in two digits alone, and whose reason is
-    /// known to hold. Tells the place behind them.
+    /// Reads entries from the place `from` on, while they differ from the pattern only in two digits
+    /// and their reason is known to hold. Returns the place after them.
     fn read_alike<J: Rules>(
         &mut self,
         joint: &J,
@@ -165,8 +165,8 @@ impl Reader {
         start
     }
 
-    /// Reads entries from a place on, one after the other, as long as each is read in one pass. Tells
-    /// the place behind them, or names the fault of the last one.
+    /// Reads entries from the place `from` on, while each can be read in one pass. Returns the place
+    /// after them, or the fault of the last one.
     fn read_entries<J: Rules, L: Ledger>(
         &mut self,
         joint: &J,
@@ -206,7 +206,8 @@ impl Reader {
         Ok(start)
     }
 
-    /// Reads a piece up to the first line at fault that ends in it, and names that fault.
+    /// Reads a piece, up to the first line at fault that ends in it. Returns that fault, if there is
+    /// one.
     pub(crate) fn feed<J: Rules, L: Ledger>(
         &mut self,
         joint: &J,
@@ -236,7 +237,7 @@ impl Reader {
         }
     }
 
-    /// Reads the last line where its newline is missing, and names its fault.
+    /// Reads the last line where its newline is missing. Returns its fault, if it has one.
     fn close<J: Rules, L: Ledger>(&mut self, joint: &J, steps: &mut Steps<L>) -> Option<Why>
         requires shaped { IsInRows (J.lanes joint.now) (length (J.arena joint.now).nodes) self.old.audit }
         requires room { self.old.lines ≤ MAX_CERTIFICATE_BYTES }
@@ -254,7 +255,8 @@ impl Reader {
         None
     }
 
-    /// The verdict where no line is at fault and none follows.
+    /// Returns the verdict where all lines were read and none is at fault. It rejects the text where
+    /// the line `end` is missing.
     fn conclude(&self, start: u32) -> Verdict
         requires start { start < length self.now.audit.left.words.items * self.now.audit.left.lanes }
         requires room { self.now.lines ≤ MAX_CERTIFICATE_BYTES + 1 }
@@ -273,7 +275,7 @@ impl Reader {
         }
     }
 
-    /// The verdict where the certificate ends.
+    /// Reads the rest of the last line, and returns the verdict on the whole certificate.
     pub(crate) fn finish<J: Rules, L: Ledger>(
         &mut self,
         joint: &J,

@@ -1,4 +1,4 @@
-//! The pairs that no entry names yet, row by row.
+//! The remaining pairs, row by row: those that no entry names yet.
 ghost use Rattle.std.specs.Prelude.{◌≡◌, ◌≢◌, ℕ, ◌+◌, ◌*◌, ◌<◌, ◌≤◌, ◌==◌, Bool, false, not, ◌||◌, length, IfOk, IfSome, IsFalse};
 ghost use Rattle.roman_lanes.specs.Rows.{is_on};
 ghost use Rattle.roman_check.specs.Remain.{Remain};
@@ -6,7 +6,7 @@ ghost use Rattle.roman_check.specs.Remain.{Remain};
 use crate::table::Remaining;
 use std::alloc::{AllocError, Global};
 
-/// Whether the bit of a lane is set.
+/// Returns whether the bit of a lane is set.
 pub(crate) fn has_lane(word: u64, lane: u32) -> bool
     requires { lane < 64 }
     ensures { result ≡ is_on word lane }
@@ -14,7 +14,7 @@ pub(crate) fn has_lane(word: u64, lane: u32) -> bool
     (word >> lane) & 1 == 1
 }
 
-/// The word without the bit of a lane.
+/// Returns the word with the bit of a lane cleared.
 fn without_lane(word: u64, lane: u32) -> u64
     requires { lane < 64 }
     ensures own { is_on result lane ≡ false }
@@ -25,7 +25,7 @@ fn without_lane(word: u64, lane: u32) -> u64
 }
 
 impl Remaining {
-    /// All pairs of so many rows.
+    /// Returns the table in which all pairs remain. Fails only when out of memory.
     pub(crate) fn build(
         alloc: Global,
         rows: u32,
@@ -46,7 +46,7 @@ impl Remaining {
         })
     }
 
-    /// The lane of the pair `p`, where it lies in the row.
+    /// Returns the lane of the pair `p`, or `None` where `p` doesn't lie in the row.
     #[inline(always)]
     pub(crate) fn lane_in(&self, row: u32, p: u32) -> Option<u32>
         ensures { IfSome result (λ lane. (row * self.now.lanes + lane ≡ p) × (lane < self.now.lanes)) }
@@ -59,7 +59,7 @@ impl Remaining {
         Some(lane as u32)
     }
 
-    /// The row and the lane of the pair `p`, which may well be in the row `near`.
+    /// Returns the row and the lane of the pair `p`. Tries the row `near` first.
     pub(crate) fn place(&self, near: u32, p: u32) -> (u32, u32)
         ensures pair { result.0 * self.now.lanes + result.1 ≡ p }
         ensures lane { result.1 < self.now.lanes }
@@ -70,7 +70,7 @@ impl Remaining {
         (p / self.lanes, p % self.lanes)
     }
 
-    /// Whether no entry names the pair at that lane of that row.
+    /// Returns whether the pair at this row and lane remains.
     pub(crate) fn has(&self, row: u32, lane: u32) -> bool
         requires row { row < length self.now.words.items }
         requires lane { lane < self.now.lanes }
@@ -79,7 +79,8 @@ impl Remaining {
         has_lane(self.words[row as usize], lane)
     }
 
-    /// Takes out the pair at that lane of that row.
+    /// Removes the pair at this row and lane. The table stays right only where the pair remained
+    /// before.
     pub(crate) fn remove(&mut self, row: u32, lane: u32)
         requires row { row < length self.old.words.items }
         requires lane { lane < self.old.lanes }
@@ -94,7 +95,7 @@ impl Remaining {
         self.count = self.count.wrapping_sub(1);
     }
 
-    /// A word for each row, with the bits of those pairs.
+    /// Returns one word for each row, with the bits of the remaining pairs.
     pub(crate) fn words(&self) -> &[u64]
         ensures { result.now ≡ self.now.words.items }
     {

@@ -1,10 +1,10 @@
 //! Tables with a bit for each pair.
 ghost use Rattle.std.specs.Prelude.{◌<◌, ◌≤◌};
 
-/// The pairs that no entry names yet: a bit for each, and how many there are.
+/// The pairs that no entry names yet: a bit for each pair, and the number of set bits.
 #[derive(Drop)]
 pub(crate) struct Remaining {
-    // how many pairs a row has
+    // the number of pairs in a row
     pub(crate) lanes: u32,
     pub(crate) words: Vec<u64>,
     pub(crate) count: u32,

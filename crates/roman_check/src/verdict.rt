@@ -1,41 +1,42 @@
-//! What a check comes to.
+//! Verdicts on certificates, and the faults of lines.
 ghost use Rattle.std.specs.Prelude.{◌≡◌};
 ghost use Rattle.roman_check.specs.Verdicts.{why_number};
 
 /// The verdict on a certificate, exactly as the certificate format gives it.
 #[derive(Clone, Copy, Debug, PartialEq, Eq)]
 pub enum Verdict {
-    /// The certificate was read to its end, and its list is complete.
+    /// The certificate is accepted: it was read to its end, and its list is complete.
     Greatest {
-        /// How many pairs are related: those that aren't listed.
+        /// The number of related pairs: those that aren't listed.
         related: u32,
         /// Whether the start pair is related.
         start: bool,
     },
-    /// A line is at fault, and none before it.
+    /// The certificate is rejected: a line is at fault, and none before it.
     Rejected {
-        /// The number of the line, from 1.
+        /// The number of the line at fault, from 1.
         line: u32,
-        /// What is wrong with it.
+        /// The fault of the line.
         why: Why,
     },
 }
 
-/// What is wrong with a line of a certificate. The line of the verdict names it.
+/// The fault of a line of a certificate.
 #[derive(Clone, Copy, Debug, PartialEq, Eq)]
 pub enum Why {
-    /// It isn't the line that is due there, or it is missing.
+    /// The line isn't the one that is due, or is missing.
     Form,
-    /// The pair of the entry stands in an earlier line.
+    /// An earlier line names the pair of the entry.
     Repeated,
-    /// The reason of the entry doesn't hold with the pairs of the earlier entries.
+    /// The earlier entries don't justify the entry: its reason doesn't hold with their pairs removed.
     Unjustified,
-    /// At the end this pair isn't listed, and a reason holds there: the least such pair.
+    /// The list isn't complete. The value is the least pair that isn't listed and at which a reason
+    /// holds.
     Unlisted(u32),
 }
 
 impl Why {
-    /// The number of the fault, from 1 to 4 in the order of the variants.
+    /// Returns the number of the fault, from 1 to 4 in the order of the variants.
     pub fn number(&self) -> u8
         ensures number { result ≡ why_number self.now }
     {

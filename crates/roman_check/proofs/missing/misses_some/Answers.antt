@@ -30,7 +30,7 @@ first_row-row-requires g c =
     let next : (first + 1) * n ≡ first * n + n = omega arith in
     omega (arith, h, next, c.requires.room, c.known.ensures.lanes.0)
 
--- a lane that is off where the pair is left passes no test
+-- where no lane is on, no pair is both left and passes the test
 is_off : (word lane : ℕ) (left test : Bool) → word ≡ 0 → is_on word lane ≡ (left && test) → left && test ≡ false
 is_off word lane left test none is = sym is ∙ (ap (λ w. is_on w lane) none ∙ on_zero lane)
 

@@ -5,7 +5,7 @@ use Rattle.roman_model.specs.Certificate.{reasons}
 use Rattle.roman_lanes.specs.Rows.{AreRows}
 use Rattle.roman_check.proofs.missing.misses_some.Given as goal
 
--- of the band's pairs that aren't listed, clause 2 and the actions so far are no reason
+-- clause 2 and the actions so far aren't reasons at the band's pairs that aren't listed
 abbrev pub invariant-loop-a : goal.invariant-loop-a
 invariant-loop-a g l =
     let A = g.J.Rules.arena l.joint in
