@@ -1,4 +1,4 @@
--- The lines of the services that may answer to an entry, one after the other.
+-- The lines of the services that may answer an entry, one after the other.
 use Rattle.std.proofs.Common.{◌≡◌, ℕ, ◌+◌, ◌<◌, ◌≤◌, true, List, [], ◌∷◌, ◌++◌, map, length, drop, filter, Option, Some, slice_get, IsTrue, IsFalse, refl, sym, ap, ap₂, ◌∙◌, arith, add-one, drop-cons}
 use Rattle.std.specs.Option.{option_map}
 use Rattle.std.proofs.lemmas.List.{drop_all, length-map}
@@ -31,12 +31,12 @@ answers_from n L p a k =
     let s = system_of n in
     text_of_lines (map (λ j. answer_line (names_in n) j (answer (arena s) (map (entry_at s) L) (pair_at (sizes_of s) p) a j)) (filter (λ j. is_ready (slice_get s.seats j)) (drop k (below (length s.seats)))))
 
--- from the first place on they are those of the entry
+-- the lines from the first place on are those of the entry
 pub answers_begin : (n : NamedSys) (L : List (Entry ℕ)) (p a : ℕ) → answers_from n L p a 0 ≡ answers_text n L (as_entry (p, Act a))
 unfolding answers_from answers_text
 answers_begin n L p a = refl
 
--- there are none where clause 2 fails
+-- there are no such lines where clause 2 fails
 pub no_answers : (n : NamedSys) (L : List (Entry ℕ)) (p : ℕ) → answers_text n L (as_entry (p, Final)) ≡ []
 unfolding answers_text
 no_answers n L p = refl
@@ -65,7 +65,7 @@ answers_next n board i p a k found bytes known shaped in_range e within ready is
     let are : AreNumbers (system_of n) board.list = listed_numbers (system_of n) board shaped in_range in
     ready_next n board.list p a k found bytes known.system are (are (as_entry (p, Act a)) (get_in board.list i (as_entry (p, Act a)) e)) within ready is said
 
--- a seat that isn't ready is passed over
+-- a seat that isn't ready is skipped
 pub answers_skip : (n : NamedSys) (L : List (Entry ℕ)) (p a k : ℕ) → k < length n.seats → IsFalse ((numbered (system_of n)).ready k) → answers_from n L p a k ≡ answers_from n L p a (k + 1)
 unfolding answers_from
 answers_skip n L p a k within frozen =

@@ -43,13 +43,13 @@ position_among test d (suc i) (x ∷ xs) m e = elim (cases_Bool (test x)) [
       rw f (position_among test (d + 1) i xs m later ∙ ap (ltb m) shifted)
 ]
 
--- a listed pair stands before a place exactly where its own is smaller
+-- a listed pair stands before a place exactly where its own place is smaller
 pub place_before : (L : List (Entry ℕ)) (q i m : ℕ) → place_in_list L q ≡ Some m → ltb m i ≡ has_entry (take i L) q
 place_before L q i m e =
     let whole : 0 + i ≡ i = omega arith in
     sym (position_among (λ (x : Entry ℕ). eqb q x.node) 0 i L m e ∙ ap (ltb m) whole)
 
--- a pair that isn't listed stands nowhere
+-- a pair that isn't listed has no place
 pub no_place_before : (L : List (Entry ℕ)) (q i : ℕ) → place_in_list L q ≡ None → false ≡ has_entry (take i L) q
 no_place_before L q i e =
     let test : Entry ℕ → Bool = λ x. eqb q x.node in
@@ -70,7 +70,7 @@ pub entry_holds : {N : Type 0} (A : Arena N) (L : List (Entry N)) (i : ℕ) (x :
     IsFalse (is_listed A (take i L) x.node) × IsTrue (is_justified A (is_listed A (take i L)) x.node x.reason)
 entry_holds A L i x order e = order_middle A (take i L) (drop (i + 1) L) x (subst (IsOrder A) (entry_split L i x e) order)
 
--- the entries before that of the node are those before its place
+-- the entries before the node's entry are those before its place
 pub entries_at : {N : Type 0} (A : Arena N) → IsSame A → (L : List (Entry N)) (i : ℕ) (x : Entry N) → IsOrder A L → slice_get L i ≡ Some x → entries_before A L x.node ≡ take i L
 entries_at A same L i x order e =
     ap (λ M. entries_before A M x.node) (entry_split L i x e) ∙ before_is A (take i L) x (drop (i + 1) L) (same.itself x.node) (entry_holds A L i x order e).0
@@ -91,7 +91,7 @@ pub no_pair : (f : Finding) → (f ≡ Good) ⊎ (f ≡ NoOutcome) → pair_of f
 no_pair f (inl e) = ap pair_of e
 no_pair f (inr e) = ap pair_of e
 
--- tests that agree find the same
+-- two tests that agree find the same outcome
 find_alike : {X : Type 0} (p q : X → Bool) (xs : List X) → ((x : X) → p x ≡ q x) → find p xs ≡ find q xs
 find_alike p q [] same = refl
 find_alike p q (x ∷ xs) same = ap₂ (λ b o. cond b (Some x) o) (same x) (find_alike p q xs same)
@@ -112,11 +112,11 @@ answer_found A ok n L i p a k finding order e found = named finding found.is ∙
     named NoOutcome h = ap (find (has_entry (take i L))) (sym h)
     named (Leaves env state pair) h = sym h.0
 
--- it is a pair of the arena
+-- the defeating answer is a pair of the arena
 pub answer_within : (A : Arena ℕ) → IsNumbered A → (L : List (Entry ℕ)) (p a k q : ℕ) → p < length A.nodes → Some q ≡ answer A L p a k → q < length A.nodes
 answer_within A ok L p a k q l e = ok.closed p a k q l (find_some (is_listed A (entries_before A L p)) (A.outcomes p a k) q (sym e)).0
 
--- a seat that isn't ready has none
+-- a seat that isn't ready has no answer
 pub unready_answer : (A : Arena ℕ) → IsNumbered A → (L : List (Entry ℕ)) (p a k : ℕ) → IsFalse (A.ready k) → answer A L p a k ≡ None
 unready_answer A ok L p a k frozen = by_test (is_empty (A.outcomes p a k))
     (λ t. ap (find (is_listed A (entries_before A L p))) (empty_is (A.outcomes p a k) t))

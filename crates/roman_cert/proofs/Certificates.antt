@@ -36,7 +36,7 @@ entry_parts x = sym (append-nil (entry_line x ++ 10 ∷ []) ∙ append_assoc (de
 pub cert_ends : (L : List (Entry ℕ)) (i : ℕ) → length L ≤ i → rest_from L i ≡ codes "end\n" ++ []
 cert_ends L i past = ap (λ M. text_of_lines (map entry_line M ++ end_line ∷ [])) (drop_all i L past)
 
--- What a checker says
+-- The verdict of a checker
 
 -- each seat has states
 seats_positive : (seats : List Seat) → ((x : Seat) → IsIn x seats → 0 < x.beh.states) → 0 < product_of (map (λ x. x.beh.states) seats)

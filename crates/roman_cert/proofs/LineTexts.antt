@@ -1,4 +1,4 @@
--- The lines of an explanation, in the parts in which they are taken.
+-- The lines of an explanation, in the parts in which they are pushed.
 use Rattle.std.proofs.Common.{◌≡◌, ℕ, ◌+◌, ◌<◌, ◌≤◌, ◌%◌, List, [], ◌∷◌, ◌++◌, length, drop, codes, Option, Some, slice_index, slice_index_or, sym, ap, ap₂, ◌∙◌, arith, append-nil, append_assoc, add-one, drop-cons}
 use Rattle.std.specs.List.{flat_map, join_with_byte}
 use Rattle.std.proofs.lemmas.List.{drop_all, length-map}

@@ -1,4 +1,4 @@
--- Marks that go through a removal list from its end: each entry on which p's rests is marked before it is reached.
+-- Marks that are set from the end of a removal list: each entry on which p's entry rests is marked before it is reached.
 use Rattle.std.proofs.Common.{◌≡◌, ◌≢◌, ℕ, ◌+◌, ◌<◌, ◌≤◌, Bool, true, false, ◌-◌, ◌&&◌, ◌||◌, ◌⊎◌, List, [], ◌∷◌, ◌++◌, length, take, drop, Option, Some, IsTrue, IsFalse, filter, refl, sym, ap, ap₂, ◌∙◌, subst, inl, inr, arith, add-one, append_assoc, length-append, length-take, take-append-drop}
 use Rattle.std.specs.List.{list_any, slice_get}
 use Rattle.std.specs.Option.{option_to_list}
@@ -20,7 +20,7 @@ use Rattle.roman_cert.proofs.Answering.{entries_at, unready_answer}
 abbrev pub leads_to : {N : Type 0} → Arena N → List (Entry N) → N → N → Entry N → Bool
 leads_to A L p q x = rests_on A L (length L) p x.node && is_among A (answers A L x.node x.reason) q
 
--- q is p, or an answer to an entry from place i on, on which p's rests
+-- q is p, or an answer to an entry from place i on, on which p's entry rests
 abbrev pub rests_from : {N : Type 0} → Arena N → List (Entry N) → N → ℕ → N → Bool
 rests_from A L p i q = A.same q p || list_any (leads_to A L p q) (drop i L)
 
@@ -43,7 +43,7 @@ module _ {N : Type 0} (A : Arena N) (same : IsSame A) (L : List (Entry N)) (orde
       let short : length (take (i + 1) L) ≡ length (before ++ y ∷ after) = ap length cut in
       omega (arith, length-take i L, length-take (i + 1) L, length-append before (y ∷ after))
 
-  -- so whether p's entry rests on x's is settled behind it
+  -- so the entries after x's decide whether p's entry rests on x's
   pub rests_settled : (i : ℕ) (x : Entry N) → slice_get L i ≡ Some x → rests_from A L p (i + 1) x.node ≡ rests_on A L (length L) p x.node
   rests_settled i x e = same_test (rests_from A L p (i + 1) x.node) (rests_on A L (length L) p x.node)
       (λ t. rests_is A L p x.node same ∙ back (or_cases (A.same x.node p) (list_any (leads_to A L p x.node) (drop (i + 1) L)) t))
@@ -107,7 +107,7 @@ answers_all A ok L p a q =
         (λ f. ap (λ (o : Option ℕ). is_among A (option_to_list o) q || list_any (λ k. is_among A (option_to_list (answer A L p a k)) q) ks) (unready_answer A ok L p a k f)
         ∙ each ks ∙ sym (ap (list_any (λ k. is_among A (option_to_list (answer A L p a k)) q)) (cond-false (A.ready k) (k ∷ filter A.ready ks) (filter A.ready ks) f)))
 
--- where the answers of all seats are marked, those to the request are
+-- where the answers of all seats are marked, all answers to the request are marked
 pub answers_marked : (A : Arena ℕ) → IsNumbered A → (L : List (Entry ℕ)) (p a n q : ℕ) (old new : Bool) → n ≡ A.seats → new ≡ (old || answers_up_to A L p a n q) → new ≡ (old || is_among A (answers A L p (Act a)) q)
 answers_marked A ok L p a n q old new seats is = is ∙ ap (λ (b : Bool). old || b) (ap (λ m. answers_up_to A L p a m q) seats ∙ answers_all A ok L p a q)
 
@@ -124,7 +124,7 @@ seats_more A L p a k q first old now found is before after =
     regroup true y z = refl
     regroup false y z = refl
 
--- a mark is one pair's
+-- each pair has its own mark
 pub marks_one : (A : Arena ℕ) → IsSame A → (old now : Board) (r q : ℕ) → IsTrue (is_marked now r) →
     ((x : ℕ) → x ≢ r → is_marked now x ≡ is_marked old x) → is_marked now q ≡ (is_marked old q || is_among A (r ∷ []) q)
 marks_one A same old now r q marked others = by_test (A.same q r)

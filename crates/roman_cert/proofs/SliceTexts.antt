@@ -31,7 +31,7 @@ entry_reason n L i x known order e = by_reason x.reason e
     by_reason Final f = tt
     by_reason (Act a) f = (numbered_is_arena (system_of n) known.system).allowed x.node a (entry_allowed (arena_of n) L i x.node a order f)
 
--- its lines are the line of its pair and those of the services
+-- the lines of an entry are the line of its pair and those of the services
 pub entry_lines_are : (n : NamedSys) (L : List (Entry ℕ)) (x : Entry ℕ) → lost_text n x ++ answers_text n L x ≡ entry_text n L x
 unfolding entry_text
 entry_lines_are n L x = refl

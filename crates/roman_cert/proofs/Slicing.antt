@@ -18,7 +18,7 @@ use Rattle.roman_cert.proofs.Texts.{text_of_lines-append}
 
 -- What is printed
 
--- where the marks are those of the entries on which p's rests, the marked entries are p's explanation
+-- where exactly the entries on which p's entry rests are marked, the marked entries are p's explanation
 marked_explanation : (n : NamedSys) (board : Board) (L : List (Entry ℕ)) (p : ℕ) → board.list ≡ L → ((q : ℕ) → is_marked board q ≡ rests_on (arena_of n) L (length L) p q) → marked_entries board ≡ explanation (arena_of n) L p
 unfolding marked_entries
 marked_explanation n board L p same marked =
@@ -50,7 +50,7 @@ slice_text_is n L p known are l =
     ∙ sym (text_of_lines-append (flat_map lines (map (entry_at s) (explanation (arena_of n) L p))) (codes "end" ∷ []))
     ∙ ap (λ M. text_of_lines (flat_map lines M ++ codes "end" ∷ [])) (explanation_at s known.system L are p l)
 
--- what was written of the marked entries was the explanation
+-- the text written for the marked entries is the explanation
 pub explanation_written : {T E : Type 0} (n : NamedSys) (board : Board) (L : List (Entry ℕ)) (p : ℕ) (before now : Option (List ℕ)) (result : Result T E) → IsNamedSys n → AreNumbers (system_of n) L → p < count (sizes_of (system_of n)) → board.list ≡ L →
     ((q : ℕ) → is_marked board q ≡ rests_on (arena_of n) L (length L) p q) → Puts before now (slice_text n board.list (marked_entries board)) result →
     Puts before now (explain_text (system_of n) (names_in n) (map (entry_at (system_of n)) L) (pair_at (sizes_of (system_of n)) p)) result
@@ -81,7 +81,7 @@ unrelated_wins n L p known complete l unrelated =
 
 -- What stays
 
--- a relation is one whatever its marks
+-- a relation stays one when its marks change
 pub marks_keep : (n : NamedSys) (board : Board) (marks : List ℕ) → IsRelation n board → IsRelation n (record board { marks = marks })
 marks_keep n board marks relation = record {
   complete = record { list = relation.complete.list; idle = relation.complete.idle; levels = relation.complete.levels };

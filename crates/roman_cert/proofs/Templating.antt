@@ -1,4 +1,4 @@
--- Lines that are made one from the other.
+-- Lines that are made from the line before.
 use Rattle.std.proofs.Common.{◌≡◌, ℕ, suc, ◌+◌, ◌*◌, ◌/◌, ◌%◌, ◌^◌, ◌<◌, ◌≤◌, List, [], ◌∷◌, ◌++◌, length, take, drop, get_or, set, decimal, refl, sym, ap, ap₂, ◌∙◌, arith, append_assoc}
 use Rattle.std.proofs.lemmas.Fmt.{decimal_step}
 use Rattle.std.proofs.lemmas.List.{take-take, drop-take, take-append-drop, take_more, drop_more, take-set-le, get_or-set_same, get_or-set_other, length-set}
@@ -34,7 +34,7 @@ five_behind text p a b c d e room is_a is_b is_c is_d is_e =
     next : (i j x m : ℕ) → j ≡ i + 1 → i < length text → get_or text i 0 ≡ x → take (suc m) (drop i text) ≡ x ∷ take m (drop j text)
     next i j x m e l is = ap (take (suc m)) (drop_more text i 0 l) ∙ ap₂ (λ y k. y ∷ take m (drop k text)) is (sym e)
 
--- two digits are put
+-- two digits are overwritten
 module _ (t : Template) (is : IsTemplate t) (a b : ℕ) (long : length t.text ≡ 16) where
   abbrev pub with_two : List ℕ
   with_two = set (set t.text t.place (48 + a)) (t.place + 1) (48 + b)

@@ -1,4 +1,4 @@
--- Texts of lines, and what is left of a list.
+-- Texts of lines, and rests of lists.
 use Rattle.std.proofs.Common.{◌≡◌, ℕ, zero, suc, ◌+◌, ◌<◌, List, [], ◌∷◌, ◌++◌, length, drop, Some, refl, sym, ap₂, ◌∙◌, arith, add-one, drop-cons}
 use Rattle.std.specs.List.{slice_get}
 use Rattle.std.proofs.lemmas.Option.{slice_get_within, get_or_from_slice_get}
@@ -9,13 +9,13 @@ use Rattle.roman_model.specs.Lines.{text_of_lines}
 pub text_of_lines-append : (ls ms : List (List ℕ)) → text_of_lines (ls ++ ms) ≡ text_of_lines ls ++ text_of_lines ms
 text_of_lines-append ls ms = flat_map-append (λ line. line ++ 10 ∷ []) ls ms
 
--- what is left from a place on: the element there, and what is left behind it
+-- the rest of a list from a place on: the element there, and the rest after it
 pub drop_at : {X : Type 0} (xs : List X) (i : ℕ) (x : X) → slice_get xs i ≡ Some x → drop i xs ≡ x ∷ drop (i + 1) xs
 drop_at xs i x e =
     let within = slice_get_within xs i x e in
     drop-cons xs i x within ∙ ap₂ (λ y j. y ∷ drop j xs) (get_or_from_slice_get xs i x x e) (sym (add-one i))
 
--- below the length something stands
+-- each place below the length has an element
 pub some_at : {X : Type 0} (xs : List X) (i : ℕ) → i < length xs → (x : X) × (slice_get xs i ≡ Some x)
 some_at [] i l = absurd (omega arith)
 some_at (x ∷ xs) zero l = (x, refl)

@@ -1,4 +1,4 @@
--- The texts of an explanation, where entries and lists are over the numbers of pairs.
+-- The texts of an explanation, for entries and lists over the numbers of pairs.
 use Rattle.std.specs.Prelude.{ℕ, List, [], ◌∷◌, ◌++◌, map, filter, codes}
 use Rattle.std.specs.List.{flat_map}
 use Rattle.roman_model.specs.Lines.{text_of_lines}
@@ -27,6 +27,6 @@ entry_text n L x = lost_text n x ++ answers_text n L x
 unfoldable pub marked_entries : Board → List (Entry ℕ)
 marked_entries board = filter (λ x. is_marked board x.node) board.list
 
--- the lines of each of the entries M of the list L, and the last line
+-- the lines of the entries M of the list L, and the last line
 unfoldable pub slice_text : NamedSys → List (Entry ℕ) → List (Entry ℕ) → List ℕ
 slice_text n L M = flat_map (entry_text n L) M ++ codes "end\n"

@@ -1,8 +1,8 @@
--- Lines that are made one from the other.
+-- Lines that are made from the line before.
 use Rattle.std.specs.Prelude.{◌≡◌, ℕ, ◌+◌, ◌*◌, ◌<◌, ◌≤◌, take, slice_index, decimal}
 use Rattle.roman_cert.specs.declared.template.Template.{Template}
 
--- the text begins with the digits of a number, two bytes, a space, the letter and a newline
+-- the template's text begins with the digits of a number, two more bytes, a space, the letter and a newline
 pub record IsTemplate (t : Template) : Type 0 where
   pub high : ℕ
   pub some : 0 < high

@@ -1,4 +1,4 @@
-//! The answers that defeat the seats: the entries on which an entry rests.
+//! Finds the answers that defeat the seats: the entries on which an entry rests.
 ghost use Rattle.std.specs.Prelude.{◌≡◌, ◌<◌, length, take, slice_get, Some, IfSome};
 ghost use Rattle.roman_model.specs.Arena.{IsOrder};
 ghost use Rattle.roman_model.specs.Explanation.{answer as answer_of};
@@ -10,7 +10,7 @@ use roman_order::Order;
 use roman_rules::{Finding, Rules};
 use std::sync::ledger::Ledger;
 
-/// Whether the pair `q` stands in the list before place `i`.
+/// Returns whether the list has an entry of the pair `q` before place `i`.
 fn is_before(order: &Order, i: u32, q: u32) -> bool
     requires { q < pairs_of order.now }
     ensures { result ≡ has_entry (take i order.now.list) q }
@@ -21,9 +21,10 @@ fn is_before(order: &Order, i: u32, q: u32) -> bool
     }
 }
 
-/// The defeating answer of seat `k` to the entry at place `i`, for the pair `p` and the action `a`:
-/// the first outcome, by the environment's state and then by the seat's, whose pair stands earlier.
-/// `None` where the seat isn't ready or has no such outcome.
+/// Returns the defeating answer of seat `k` to the entry at place `i`, whose pair is `p` and whose
+/// reason is the action `a`: the first outcome whose pair stands earlier in the list. Outcomes are
+/// ordered by the environment's state, and then by the seat's. Returns `None` where the seat isn't
+/// ready or has no such outcome.
 pub(crate) fn answer<J: Rules, L: Ledger>(
     joint: &J,
     order: &Order,

@@ -1,4 +1,4 @@
-//! The certificate of a relation.
+//! Writes the certificate of a relation.
 ghost use Rattle.std.specs.Prelude.{◌≡◌, ◌++◌, [], ◌∷◌, IfSome, OnOk};
 ghost use Rattle.roman_io.specs.Faults.{HasCause};
 ghost use Rattle.roman_io.specs.Sink.{Puts};
@@ -20,9 +20,9 @@ use roman_relation::Relation;
 use roman_rules::Rules;
 use roman_text::{Page, Piece};
 
-/// Writes the certificate of a relation: its removal list, one entry a line. Where the list is
-/// complete, a checker accepts what was written. The error comes only where the sink's count of faults
-/// rose; a prefix of the certificate was then written.
+/// Writes the certificate of a relation: its removal list, one entry a line. A checker accepts the
+/// certificate of a complete list. Fails only where the sink's count of faults rose; a prefix of the
+/// certificate was then written.
 pub fn write_order<O: Sink>(relation: &Relation, out: &mut O) -> Result<(), Failed>
     ensures text { let s = system_of relation.now.joint in
         Puts (O.written out.old) (O.written out.new)
@@ -36,7 +36,7 @@ pub fn write_order<O: Sink>(relation: &Relation, out: &mut O) -> Result<(), Fail
     write_list(relation.joint.pairs(), &relation.order, out)
 }
 
-/// Writes the certificate of a list, where there are so many pairs.
+/// Writes the certificate of a list, in a system of `pairs` pairs.
 pub(crate) fn write_list<O: Sink>(pairs: u32, order: &Order, out: &mut O) -> Result<(), Failed>
     ensures text { Puts (O.written out.old) (O.written out.new)
         (cert_text pairs order.now.list) result }
@@ -55,7 +55,7 @@ pub(crate) fn write_list<O: Sink>(pairs: u32, order: &Order, out: &mut O) -> Res
     page.flush(out)
 }
 
-/// The first two lines of a certificate.
+/// Returns the first two lines of a certificate.
 fn head_piece(pairs: u32) -> Piece
     ensures { result ≡ text_of_lines (head_line ∷ count_line pairs ∷ []) }
 {
@@ -63,7 +63,7 @@ fn head_piece(pairs: u32) -> Piece
     text.number(pairs).text(b"\n")
 }
 
-/// The letter that is the text of a reason, or `None` where it has more.
+/// Returns the letter that is the text of a reason, or `None` where the text is longer.
 #[inline(always)]
 fn letter_of(reason: Reason) -> Option<u8>
     ensures { IfSome result (λ letter. reason_text reason ≡ letter ∷ []) }
@@ -79,7 +79,8 @@ fn letter_of(reason: Reason) -> Option<u8>
     }
 }
 
-/// Takes the line of an entry, made from the line before where that is shorter.
+/// Pushes the line of an entry on the page. Makes it from the line before where the pair has at least
+/// three digits and the reason is one letter.
 #[inline(always)]
 fn push_entry<O: Sink>(
     pair: u32,
@@ -104,7 +105,7 @@ fn push_entry<O: Sink>(
     page.push_short(&template.text, template.len, out)
 }
 
-/// Takes the line of an entry, part by part.
+/// Pushes the line of an entry on the page, part by part.
 #[inline(never)]
 fn push_parts<O: Sink>(
     pair: u32,
@@ -122,7 +123,7 @@ fn push_parts<O: Sink>(
     }
 }
 
-/// Takes the line of an entry whose reason is the action.
+/// Pushes the line of an entry whose reason is the action.
 fn push_action<O: Sink>(pair: u32, action: u8, page: &mut Page, out: &mut O) -> Result<(), Failed>
     ensures gathers { Gathers (O.written out.old) (O.written out.new) page.new
         (page.old ++ text_of_lines (entry_line (as_entry (pair, Act action)) ∷ [])) result }

@@ -1,9 +1,8 @@
-//! The writers of certificates and of explanations.
+//! Writers of certificates and of explanations.
 //!
-//! [`write_order`] writes the certificate of a relation: its removal list. Whoever doubts that the
-//! list is complete may have the text checked, against the transitions of the system alone.
-//! [`write_slice`] explains why a pair isn't related: it writes the part of the list on which the
-//! pair's entry rests. Nothing here takes memory.
+//! [`write_order`] writes the certificate of a relation: its removal list. A checker needs only the
+//! transitions of the system to check that the list is complete. [`write_slice`] explains why a pair
+//! isn't related: it writes the part of the list on which the pair's entry rests. No call takes memory.
 #![tactic(auto)]
 
 mod answers;

@@ -1,4 +1,4 @@
-//! The lines of an explanation.
+//! Writes the lines of an explanation.
 ghost use Rattle.std.specs.Prelude.{◌≡◌, ◌<◌, ◌≤◌, ◌++◌, [], ◌∷◌, length, codes, slice_index};
 ghost use Rattle.std.specs.Option.{ForSome, option_map};
 ghost use Rattle.roman_io.specs.Faults.{HasCause};
@@ -17,7 +17,7 @@ use roman_joint::Joint;
 use roman_model::Reason;
 use roman_text::{Page, Piece};
 
-/// Takes the line of the entry for the pair `p`.
+/// Pushes the line that says that the pair `p` is lost, and why.
 pub(crate) fn push_lost<O: Sink>(
     joint: &Joint,
     p: u32,
@@ -41,7 +41,7 @@ pub(crate) fn push_lost<O: Sink>(
     page.push(why.bytes(), out)
 }
 
-/// The beginning of a pair's line: its target's and environment's states.
+/// Returns the beginning of a pair's line: the states of the target and the environment.
 fn parts_piece(joint: &Joint, p: u32) -> Piece
     requires { p < count (sizes_of (system_of joint.now)) }
     ensures { let q = pair_at (sizes_of (system_of joint.now)) p in
@@ -54,7 +54,7 @@ fn parts_piece(joint: &Joint, p: u32) -> Piece
     text.text(b" ").name(env)
 }
 
-/// A service's state, in the line of a pair.
+/// Returns the part of a pair's line that names the state of the service at place `k`.
 fn state_piece(joint: &Joint, p: u32, k: u8) -> Piece
     requires pair { p < count (sizes_of (system_of joint.now)) }
     requires seat { k < length joint.now.seats }
@@ -66,7 +66,7 @@ fn state_piece(joint: &Joint, p: u32, k: u8) -> Piece
     Piece::new().text(b" ").name(joint.state_name(k, state))
 }
 
-/// The end of a pair's line: why it is lost.
+/// Returns the end of a pair's line: the reason why the pair is lost.
 fn reason_piece(joint: &Joint, reason: Reason) -> Piece
     requires { NamesAction (system_of joint.now).env.actions reason }
     ensures { result ≡ codes ": " ++ reason_name (names_in joint.now) reason ++ 10 ∷ [] }
@@ -78,7 +78,8 @@ fn reason_piece(joint: &Joint, reason: Reason) -> Piece
     }
 }
 
-/// The line of the service at place `k`: with which states it may answer, or that it cannot.
+/// Returns the line of the service at place `k`: the states with which it may answer, or that it
+/// cannot.
 pub(crate) fn answer_piece(joint: &Joint, k: u8, answer: Option<u32>) -> Piece
     requires seat { k < length joint.now.seats }
     requires pair { ForSome answer (λ q. q < count (sizes_of (system_of joint.now))) }
@@ -92,7 +93,7 @@ pub(crate) fn answer_piece(joint: &Joint, k: u8, answer: Option<u32>) -> Piece
     }
 }
 
-/// Adds the states with which the service at place `k` may answer: those of the pair `q`.
+/// Adds the states with which the service at place `k` may answer. They are those of the pair `q`.
 fn add_states(text: Piece, joint: &Joint, k: u8, q: u32) -> Piece
     requires room { length text ≤ 34 }
     requires seat { k < length joint.now.seats }

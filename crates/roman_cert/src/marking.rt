@@ -1,4 +1,4 @@
-//! The entries on which an entry rests, as marks of their pairs.
+//! Marks the pairs of the entries on which an entry rests.
 ghost use Rattle.std.specs.Prelude.{◌≡◌, ℕ, ◌<◌, ◌&&◌, ◌||◌, length, slice_get, Some};
 ghost use Rattle.roman_model.specs.Arena.{Entry, is_among, IsOrder};
 ghost use Rattle.roman_model.specs.Explanation.{answers, rests_on};
@@ -11,8 +11,8 @@ use roman_order::Order;
 use roman_rules::Rules;
 use std::sync::ledger::Ledger;
 
-/// Marks the entries on which that of the pair `p` rests, its own among them, and no others. Since
-/// each answer to an entry stands before it, one way through the list from its end is enough.
+/// Marks exactly the entries on which the entry of the pair `p` rests, which include that entry. Each
+/// answer to an entry stands before it, so one pass from the end of the list is enough.
 pub(crate) fn mark_slice<J: Rules, L: Ledger>(
     joint: &J,
     order: &mut Order,
@@ -34,7 +34,7 @@ pub(crate) fn mark_slice<J: Rules, L: Ledger>(
     }
 }
 
-/// Marks the defeating answers to the entry at place `i`, where that is marked.
+/// Marks the defeating answers to the entry at place `i`, where that entry is marked.
 fn visit<J: Rules, L: Ledger>(joint: &J, order: &mut Order, i: u32, steps: &mut Steps<L>)
     requires shaped { pairs_of order.old ≡ length (J.arena joint.now).nodes }
     requires valid { IsOrder (J.arena joint.now) order.old.list }
@@ -57,7 +57,8 @@ fn visit<J: Rules, L: Ledger>(joint: &J, order: &mut Order, i: u32, steps: &mut 
     }
 }
 
-/// Marks the defeating answers to the entry at place `i`, for the pair `p` and the action `a`.
+/// Marks the defeating answers to the entry at place `i`, whose pair is `p` and whose reason is the
+/// action `a`.
 fn mark_answers<J: Rules, L: Ledger>(
     joint: &J,
     order: &mut Order,

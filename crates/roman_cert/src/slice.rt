@@ -1,4 +1,4 @@
-//! The explanation of a pair that isn't related.
+//! Explains why a pair isn't related.
 ghost use Rattle.std.specs.Prelude.{◌≡◌, ◌<◌, ◌++◌, length, map, slice_get, Some};
 ghost use Rattle.roman_io.specs.Faults.{HasCause};
 ghost use Rattle.roman_io.specs.Sink.{Puts};
@@ -27,13 +27,14 @@ use roman_rules::Rules;
 use roman_text::Page;
 use std::sync::ledger::Ledger;
 
-/// Writes the explanation of the pair `p`, which isn't related: the part of the removal list on which
-/// its entry rests, each entry with the answers that defeat the services. The list is complete.
+/// Writes the explanation of the pair `p`: the part of the removal list on which its entry rests, each
+/// entry with the answers that defeat the services. Requires a complete list, and a pair that isn't
+/// related.
 ///
-/// What is printed is a removal list by itself and ends with the entry of `p`, and the opponent who
-/// plays by it wins within as many requests as it has entries. The marks may change, and nothing else
-/// of the relation. The error comes only where the sink's count of faults rose; a prefix of the
-/// explanation was then written.
+/// The written entries are a removal list by themselves, and end with the entry of `p`. An opponent who
+/// plays by them wins within as many requests as there are entries. Changes at most the marks of the
+/// relation. Fails only where the sink's count of faults rose; a prefix of the explanation was then
+/// written.
 pub fn write_slice<O: Sink, L: Ledger>(
     relation: &mut Relation,
     p: u32,
@@ -67,7 +68,7 @@ pub fn write_slice<O: Sink, L: Ledger>(
     write_marked(&relation.joint, &relation.order, out, steps)
 }
 
-/// Writes the lines of the entries whose pairs are marked, and the last line.
+/// Writes the lines of the entries whose pairs are marked, and then the last line.
 fn write_marked<O: Sink, L: Ledger>(
     joint: &Joint,
     order: &Order,
@@ -95,7 +96,7 @@ fn write_marked<O: Sink, L: Ledger>(
     page.flush(out)
 }
 
-/// Takes the lines of the entry at place `i`, for the pair `p` and that reason.
+/// Pushes the lines of the entry at place `i`, whose pair is `p`, with this reason.
 fn push_entry<O: Sink, L: Ledger>(
     joint: &Joint,
     order: &Order,
@@ -122,8 +123,8 @@ fn push_entry<O: Sink, L: Ledger>(
     }
 }
 
-/// Takes a line for each ready service, with its answer to the entry at place `i`, for the pair `p`
-/// and the action `a`.
+/// Pushes a line for each ready service, with its answer to the entry at place `i`, whose pair is `p`
+/// and whose reason is the action `a`.
 fn push_answers<O: Sink, L: Ledger>(
     joint: &Joint,
     order: &Order,

@@ -1,27 +1,27 @@
-//! The lines of entries, where each is made from the one before.
+//! Makes the line of an entry from the line before.
 ghost use Rattle.std.specs.Prelude.{◌≡◌, ◌≢◌, ℕ, ◌+◌, ◌*◌, ◌<◌, ◌≤◌, ◌++◌, [], ◌∷◌, take, decimal};
 ghost use Rattle.roman_cert.specs.Templates.{IsTemplate};
 
 use itoa::Buffer;
 use roman_text::SHORT;
 
-/// The line of an entry whose reason is one letter, with its newline. The next entry's mostly differs in
-/// the last two digits of the pair, and these are put in its place.
+/// The line of an entry whose reason is one letter, with its newline. The next line mostly differs only
+/// in the last two digits of the pair, and only these are then overwritten.
 #[derive(Drop)]
 pub(crate) struct Template {
     pub(crate) text: [u8; SHORT],
-    // how long the line is, with its newline
+    // the length of the line, with its newline
     pub(crate) len: usize,
-    // where the last two digits of the pair stand
+    // the place of the last two digits of the pair
     pub(crate) place: usize,
-    // the pair, where these are zeros
+    // the pair, with zeros for these two digits
     pub(crate) base: u32,
     // the letter of the reason
     pub(crate) letter: u8,
 }
 
 impl Template {
-    /// The line of pair 100 and clause 2.
+    /// Returns the template with the line of pair 100 and clause 2.
     pub(crate) fn new() -> Template
         ensures { IsTemplate result }
     {
@@ -36,7 +36,7 @@ impl Template {
         }
     }
 
-    /// Makes the line that of a pair and a letter.
+    /// Makes the line of a pair and a letter. Requires a pair of at least three digits.
     #[inline(always)]
     pub(crate) fn put(&mut self, pair: u32, letter: u8)
         requires template { IsTemplate self.old }
@@ -51,7 +51,7 @@ impl Template {
         self.put_digits(pair - self.base);
     }
 
-    /// Puts the last two digits of the pair.
+    /// Sets the last two digits of the pair.
     #[inline(always)]
     fn put_digits(&mut self, two: u32)
         requires template { IsTemplate self.old }
@@ -64,7 +64,8 @@ impl Template {
         self.text[place + 1] = b'0' + (two % 10) as u8;
     }
 
-    /// Makes the line that of a pair with those digits and two more, and of a letter.
+    /// Makes the line anew for a pair that begins with the digits of `high`, and for a letter. Leaves
+    /// the last two digits of the pair to be set.
     #[inline(never)]
     fn renew(&mut self, high: u32, letter: u8)
         requires some { 0 < high }

@@ -1,4 +1,4 @@
-//! A certificate, written whole and to a sink that fails.
+//! Writes a certificate whole, and to a sink that fails.
 use crate::certificate::write_list;
 use roman_io::{Failed, MemSink};
 use roman_model::Reason;

@@ -12,7 +12,7 @@ use Rattle.roman_text.proofs.CallerLemmas.{Gathers-after}
 use Rattle.roman_cert.proofs.Certificates.{entry_parts}
 use Rattle.roman_cert.proofs.certificate.push_action.Goals as goal
 
--- the line in two parts, behind what a page holds
+-- the line in two parts, after the bytes that the page holds
 in_two : (held : List ℕ) (pair action n : ℕ) → n ≡ action →
     (held ++ (decimal pair ++ codes " ")) ++ (decimal n ++ codes "\n") ≡ held ++ text_of_lines (entry_line (as_entry (pair, Act action)) ∷ [])
 in_two held pair action n e =

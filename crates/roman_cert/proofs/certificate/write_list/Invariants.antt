@@ -6,7 +6,7 @@ use Rattle.roman_cert.specs.Templates.{IsTemplate}
 use Rattle.roman_cert.proofs.Certificates.{rest_from}
 use Rattle.roman_cert.proofs.certificate.write_list.Given as goal
 
--- the lines so far are taken
+-- the lines so far are pushed
 abbrev pub invariant-loop-i : goal.invariant-loop-i
 invariant-loop-i g l = record {
   filling : IsFilling (g.O.Sink.written l.fn.out) (g.O.Sink.written l.out) l.page (rest_from l.order.list l.i) (cert_text l.pairs l.order.list);

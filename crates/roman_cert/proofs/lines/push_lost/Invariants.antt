@@ -5,7 +5,7 @@ use Rattle.roman_cert.specs.Slices.{lost_text}
 use Rattle.roman_cert.proofs.LineTexts.{lost_from}
 use Rattle.roman_cert.proofs.lines.push_lost.Given as goal
 
--- the states of the services so far are taken
+-- the states of the services so far are pushed
 abbrev pub invariant-loop-k : goal.invariant-loop-k
 invariant-loop-k g l =
     let x = as_entry (l.p, l.reason) in

@@ -5,7 +5,7 @@ use Rattle.roman_cert.specs.Slices.{marked_entries, slice_text}
 use Rattle.roman_cert.proofs.SliceTexts.{slice_from}
 use Rattle.roman_cert.proofs.slice.write_marked.Given as goal
 
--- the lines of the marked entries so far are taken
+-- the lines of the marked entries so far are pushed
 abbrev pub invariant-loop-i : goal.invariant-loop-i
 invariant-loop-i g l = record {
   filling : IsFilling (g.O.Sink.written l.fn.out) (g.O.Sink.written l.out) l.page (slice_from l.joint l.order l.i) (slice_text l.joint l.order.list (marked_entries l.order));
