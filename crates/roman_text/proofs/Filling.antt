@@ -6,7 +6,7 @@ use Rattle.roman_io.proofs.CallerLemmas.{Wrote-nil, WrotePrefix-append}
 use Rattle.roman_text.specs.Pages.{Gathered, Gathers}
 use Rattle.roman_text.proofs.PageLemmas.{Gathered-then, WrotePrefix-gathered, Puts-after_Gathered}
 
--- the page has taken a text, and with the rest it is the whole
+-- the page has taken a text, which together with the rest is the whole text
 pub record IsFilling (old now : Option (List ℕ)) (held rest all : List ℕ) : Type 0 where
   pub text : List ℕ
   pub gathered : Gathered old now held text
@@ -21,7 +21,7 @@ pub fill_whole : (old : Option (List ℕ)) (held rest all : List ℕ) → held �
 fill_whole old held rest all empty e =
     subst (λ (xs : List ℕ). IsFilling old old held rest xs) (ap (λ (xs : List ℕ). xs ++ rest) empty ∙ e) (fill_begin old held rest)
 
--- the same behind what the page holds
+-- the same after the bytes that the page holds
 pub fill_behind : (old : Option (List ℕ)) (held rest text : List ℕ) → rest ≡ text → IsFilling old old held rest (held ++ text)
 fill_behind old held rest text e = subst (λ (xs : List ℕ). IsFilling old old held rest (held ++ xs)) e (fill_begin old held rest)
 
@@ -33,13 +33,13 @@ fill_more old mid new held after piece rest all f g = record {
   left = append_assoc f.text piece rest ∙ f.left;
 }
 
--- a piece failed: a prefix of the whole was written
+-- writing a piece failed: a prefix of the whole text was written
 pub fill_failed : (old mid new : Option (List ℕ)) (held piece rest all : List ℕ) → IsFilling old mid held (piece ++ rest) all → WrotePrefix mid new (held ++ piece) → WrotePrefix old new all
 fill_failed old mid new held piece rest all f w =
     subst (WrotePrefix old new) (append_assoc f.text piece rest ∙ f.left)
     (WrotePrefix-append old new (f.text ++ piece) rest (WrotePrefix-gathered old mid new held f.text piece f.gathered w))
 
--- the rest may be said otherwise
+-- the rest may be replaced by an equal text
 pub fill_same : (old now : Option (List ℕ)) (held rest other all : List ℕ) → rest ≡ other → IsFilling old now held rest all → IsFilling old now held other all
 fill_same old now held rest other all e f = subst (λ (rest : List ℕ). IsFilling old now held rest all) e f
 
@@ -47,12 +47,12 @@ fill_same old now held rest other all e f = subst (λ (rest : List ℕ). IsFilli
 pub fill_end : (old now : Option (List ℕ)) (held all : List ℕ) → IsFilling old now held [] all → Gathered old now held all
 fill_end old now held all f = subst (Gathered old now held) (sym (append-nil f.text) ∙ f.left) f.gathered
 
--- the last piece is taken, whatever the answer
+-- the last piece is taken, whatever the result
 pub fill_last : {T E : Type 0} (old mid new : Option (List ℕ)) (held after piece all : List ℕ) (result : Result T E) → IsFilling old mid held (piece ++ []) all →
     Gathers mid new after (held ++ piece) result → Gathers old new after all result
 fill_last old mid new held after piece all (Ok x) f g = fill_end old new after all (fill_more old mid new held after piece [] all f g)
 fill_last old mid new held after piece all (Err e) f g = (fill_failed old mid new held piece [] all f g.0, g.1)
 
--- what a full page holds is put
+-- the bytes held at the end are written
 pub fill_put : {T E : Type 0} (old mid new : Option (List ℕ)) (held all : List ℕ) (result : Result T E) → IsFilling old mid held [] all → Puts mid new held result → Puts old new all result
 fill_put old mid new held all result f p = Puts-after_Gathered old mid new held all result (fill_end old mid held all f) p

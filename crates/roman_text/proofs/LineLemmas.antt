@@ -14,7 +14,7 @@ use Rattle.roman_text.specs.Lines.{is_newline, unfinished, IsSplit, kept}
 
 -- ---- lines
 
--- one byte more at the beginning: a line of its own, a part of the first line, or, where no newline follows, of the rest
+-- one more byte at the beginning: a line of its own, a part of the first line, or a part of the rest where no newline follows
 one_more : (b c : Bool) (byte : ℕ) (bytes rest : List ℕ) (ls : List (List ℕ)) → (byte == 10) ≡ b → has bytes 10 ≡ c → IsSplit bytes ls rest → (c ≡ false → ls ≡ []) →
     IsSplit (byte ∷ bytes) (cond b ([] ∷ ls) (onto_ended_line byte ls)) (cond (b || c) rest (byte ∷ bytes))
 one_more true c byte bytes rest ls e some split none = record {
@@ -43,13 +43,13 @@ one_more false false byte bytes rest ls e free split none =
       last = or_from (byte == 10) (has bytes 10) e free;
     })
 
--- the bytes are their whole lines and what is unfinished
+-- the bytes are their whole lines and the unfinished line
 pub lines_are : (bytes : List ℕ) → IsSplit bytes (ended_lines bytes) (unfinished bytes)
 unfolding unfinished
 lines_are [] = record { whole = refl; each = λ line i. absurd i; last = refl }
 lines_are (byte ∷ bytes) = one_more (byte == 10) (has bytes 10) byte bytes (unfinished bytes) (ended_lines bytes) refl refl (lines_are bytes) (ended_lines_last bytes)
 
--- no other lines are those of the bytes
+-- the bytes have no other lines
 pub lines_only : (bytes : List ℕ) (ls : List (List ℕ)) (rest : List ℕ) → IsSplit bytes ls rest → (ls ≡ ended_lines bytes) × (rest ≡ unfinished bytes)
 lines_only bytes ls rest split = (same, append_cancel_left (text_of_lines ls) rest (unfinished bytes) texts)
   where
@@ -71,7 +71,7 @@ ended_lines-append xs ys =
     ∙ ap ended_lines (append_assoc (text_of_lines (ended_lines xs)) (unfinished xs) ys)
     ∙ ended_lines-text (ended_lines xs) (unfinished xs ++ ys) split.each
 
--- one byte more that is a newline: the unfinished line has ended
+-- one more byte that is a newline: the unfinished line has ended
 newline_split : (bytes : List ℕ) (byte : ℕ) → is_newline byte ≡ true → IsSplit (bytes ++ byte ∷ []) (ended_lines bytes ++ unfinished bytes ∷ []) []
 newline_split bytes byte e = record {
   whole =
@@ -91,7 +91,7 @@ ended_lines-newline bytes byte e = sym (lines_only _ _ _ (newline_split bytes by
 pub unfinished-newline : (bytes : List ℕ) (byte : ℕ) → is_newline byte ≡ true → unfinished (bytes ++ byte ∷ []) ≡ []
 unfinished-newline bytes byte e = sym (lines_only _ _ _ (newline_split bytes byte e)).1
 
--- one byte more that is another: the unfinished line goes on
+-- one more byte that isn't a newline: the unfinished line goes on
 other_split : (bytes : List ℕ) (byte : ℕ) → is_newline byte ≡ false → IsSplit (bytes ++ byte ∷ []) (ended_lines bytes) (unfinished bytes ++ byte ∷ [])
 other_split bytes byte e =
     let split = lines_are bytes in
@@ -111,9 +111,9 @@ pub unfinished-nil : unfinished [] ≡ []
 unfolding unfinished
 unfinished-nil = refl
 
--- ---- what is kept of a line
+-- ---- the kept part of a line
 
--- a byte more: what was kept before is enough
+-- one more byte: the kept part decides the new kept part
 pub kept-push : (line : List ℕ) (byte : ℕ) → kept (kept line ++ byte ∷ []) ≡ kept (line ++ byte ∷ [])
 unfolding kept
 kept-push line byte = first_bytes 257 line byte where
@@ -122,27 +122,27 @@ kept-push line byte = first_bytes 257 line byte where
   first_bytes (suc n) [] byte = refl
   first_bytes (suc n) (x ∷ xs) byte = ap (λ (rest : List ℕ). x ∷ rest) (first_bytes n xs byte)
 
--- nothing is kept of nothing
+-- the kept part of an empty line is empty
 pub kept-nil : kept [] ≡ []
 unfolding kept
 kept-nil = refl
 
--- a line that is no longer is kept whole
+-- a line of at most 257 bytes is kept whole
 pub kept-short : (line : List ℕ) → length line ≤ 257 → kept line ≡ line
 unfolding kept
 kept-short line h = take_all 257 line h
 
--- where 257 bytes are kept, no more are
+-- where 257 bytes are kept, no more bytes are kept
 pub kept-full : (line : List ℕ) (byte : ℕ) → length line ≡ 257 → kept (line ++ byte ∷ []) ≡ line
 unfolding kept
 kept-full line byte e = take-append-le 257 line (byte ∷ []) (omega arith) ∙ take_all 257 line (omega arith)
 
--- how much is kept
+-- the length of the kept part
 pub length-kept : (line : List ℕ) → length (kept line) ≡ min 257 (length line)
 unfolding kept
 length-kept line = length-take 257 line
 
--- of some bytes some are kept
+-- where no bytes are kept, the line is empty
 pub kept-empty : (line : List ℕ) → length (kept line) ≡ 0 → line ≡ []
 unfolding kept
 kept-empty [] h = refl
@@ -158,7 +158,7 @@ push_room bytes held len byte same size room =
     let short : length (held ++ byte ∷ []) ≤ 257 = omega (arith, length-append held (byte ∷ []), ap length same) in
     rw add-one (take-suc-set bytes len byte in_bytes ∙ (ap (λ (xs : List ℕ). xs ++ byte ∷ []) same ∙ sym (kept-short (held ++ byte ∷ []) short)))
 
--- a byte that has no room isn't
+-- a byte that has no room isn't kept
 pub push_full : (bytes held : List ℕ) (len byte : ℕ) → take len bytes ≡ held → length bytes ≡ 257 → len ≤ 257 → 257 ≤ len → held ≡ kept (held ++ byte ∷ [])
 push_full bytes held len byte same size low high =
     let full : length held ≡ 257 = omega (arith, length-take len bytes, ap length same) in
@@ -166,7 +166,7 @@ push_full bytes held len byte same size low high =
 
 -- ---- the end of a stream
 
--- the lines of a text are those that end with a newline and what is unfinished
+-- the lines of a text are those that end with a newline, and the unfinished line
 lines_are_ended : (bytes : List ℕ) → lines bytes ≡ ended_lines bytes ++ lines (unfinished bytes)
 lines_are_ended bytes = ap lines (lines_are bytes).whole ∙ lines-text (ended_lines bytes) (unfinished bytes) (lines_are bytes).each
 
@@ -180,7 +180,7 @@ lines_rest bytes h =
         let held = ltb-true 0 (length (kept (unfinished bytes))) h in
         omega (arith, length-kept (unfinished bytes), ap length e)
 
--- where none are, there is no other line
+-- where no bytes are held, there is no other line
 pub lines_none : (bytes : List ℕ) → ltb 0 (length (kept (unfinished bytes))) ≡ false → lines bytes ≡ ended_lines bytes
 lines_none bytes h =
     let low = ltb-false 0 (length (kept (unfinished bytes))) h in

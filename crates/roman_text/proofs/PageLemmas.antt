@@ -5,7 +5,7 @@ use Rattle.roman_io.specs.Sink.{Wrote, WrotePrefix, Puts}
 use Rattle.roman_io.proofs.CallerLemmas.{Wrote-nil, Wrote-then, WrotePrefix-append, WrotePrefix-after, Puts-after}
 use Rattle.roman_text.specs.Pages.{Gathered, Gathers}
 
--- ---- for those who fill a page: the beginning, one more text, a fault, and the end
+-- ---- for callers that fill a page: the beginning, one more text, a fault, and the end
 
 -- an empty page has gathered nothing
 pub Gathered-empty : (told : Option (List ℕ)) (held : List ℕ) → held ≡ [] → Gathered told told held []
@@ -26,29 +26,29 @@ WrotePrefix-gathered old mid new held text more g h =
     let same : text ++ more ≡ g.prefix ++ (held ++ more) = ap (λ (xs : List ℕ). xs ++ more) g.rest ∙ append_assoc g.prefix held more in
     rw same (WrotePrefix-after old mid new g.prefix (held ++ more) g.wrote h)
 
--- one more text, whatever the answer
+-- one more text, whatever the result
 pub Gathers-after : {T E : Type 0} (old mid new : Option (List ℕ)) (held after text more : List ℕ) (result : Result T E)
     → Gathered old mid held text → Gathers mid new after (held ++ more) result → Gathers old new after (text ++ more) result
 Gathers-after old mid new held after text more (Ok x) g h = Gathered-then old mid new held after text more g h
 Gathers-after old mid new held after text more (Err e) g h = (WrotePrefix-gathered old mid new held text more g h.0, h.1)
 
--- what a page holds is put after what it wrote
+-- the held bytes are written after those written before
 pub Puts-after_Gathered : {T E : Type 0} (old mid new : Option (List ℕ)) (held text : List ℕ) (result : Result T E)
     → Gathered old mid held text → Puts mid new held result → Puts old new text result
 Puts-after_Gathered old mid new held text result g p = rw g.rest (Puts-after old mid new g.prefix held result g.wrote p)
 
 -- ---- for a page itself
 
--- bytes that were put at once
+-- bytes that were written at once
 pub Gathered-put : (old new : Option (List ℕ)) (bytes : List ℕ) → Wrote old new bytes → Gathered old new [] bytes
 Gathered-put old new bytes wrote = record { prefix = bytes; wrote = wrote; rest = sym (append-nil bytes) }
 
--- bytes on a page whose content was put
+-- bytes on a page after its held bytes were written
 pub Gathers-flushed : {T E : Type 0} (old mid new : Option (List ℕ)) (held after more : List ℕ) (result : Result T E)
     → Wrote old mid held → Gathers mid new after more result → Gathers old new after (held ++ more) result
 Gathers-flushed old mid new held after more result wrote h =
     Gathers-after old mid new [] after held more result (Gathered-put old mid held wrote) h
 
--- where putting what is held failed, a prefix of it and of what was to follow was written
+-- where writing the held bytes failed, a prefix of them and of the bytes after them was written
 pub Gathers-failed : (old new : Option (List ℕ)) (held after more : List ℕ) → WrotePrefix old new held → after ≡ [] → WrotePrefix old new (held ++ more) × (after ≡ [])
 Gathers-failed old new held after more wrote empty = (WrotePrefix-append old new held more wrote, empty)

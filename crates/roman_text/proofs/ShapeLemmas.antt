@@ -29,7 +29,7 @@ kept_step false line e =
     let short : length line ≤ 256 = ltb-false 256 (length line) e in
     ap shape_of (kept-short line (omega arith))
 
--- what is kept of a line tells its shape
+-- the kept part of a line has the shape of the line
 pub shape_of-kept : (line : List ℕ) → shape_of (kept line) ≡ shape_of line
 shape_of-kept line = kept_step (ltb 256 (length line)) line refl
 
@@ -145,6 +145,6 @@ pub spelling_only : (words : List (List ℕ)) (e : LineShape) → shape_of_words
 spelling_only [] e h some = absurd (some (cc))
 spelling_only (w ∷ more) e h some = word_step (is_comment w) w more e h some
 
--- words that have no shape are those of no event
+-- words that have no shape aren't the words of an event
 pub spelling_none : (words : List (List ℕ)) (e : LineShape) → shape_of_words words ≡ Err Form → words ≡ spelling e → ⊥
 spelling_none words e h s = no_event e (sym h ∙ (ap shape_of_words s ∙ shape_of-spelling e))

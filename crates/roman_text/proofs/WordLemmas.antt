@@ -47,7 +47,7 @@ start_step : (b : Bool) (x : ℕ) (xs : List ℕ) (n : ℕ) → is_blank x ≡ b
 start_step true x xs n e h = let next : 1 + n ≡ suc n = omega arith in rw next (h ∙ sym (words_of-blank x xs e))
 start_step false x xs n e h = refl
 
--- the blanks at the beginning have no words
+-- the blanks at the beginning of a line have no words
 words_of-start : (line : List ℕ) → words_of (drop (position_or_len is_part line) line) ≡ words_of line
 words_of-start [] = refl
 words_of-start (x ∷ xs) = start_step (is_blank x) x xs (position_or_len is_part xs) refl (words_of-start xs)
@@ -90,7 +90,7 @@ prefix_of (x ∷ xs) = prefix_step (is_blank x) x xs (position_or_len is_blank x
 word_step : (b : Bool) (x : ℕ) (xs : List ℕ) (n : ℕ) → b ≡ false → has_bytes (take (cond (not b) (1 + n) 0) (x ∷ xs)) ≡ true
 word_step b x xs n e = let next : 1 + n ≡ suc n = omega arith in rw (e, next)
 
--- the first word of a line that begins with no blank
+-- the first word of a line that doesn't begin with a blank
 word_at : (x : ℕ) (xs : List ℕ) → is_blank x ≡ false
     → words_of (x ∷ xs) ≡ take (position_or_len is_blank (x ∷ xs)) (x ∷ xs) ∷ words_of (drop (position_or_len is_blank (x ∷ xs)) (x ∷ xs))
 unfolding words_of

@@ -1,4 +1,4 @@
--- The lines of a stream of bytes, as far as it has come.
+-- The lines of the bytes of a stream so far.
 use Rattle.std.specs.Prelude.{◌≡◌, ℕ, Bool, ◌==◌, List, [], ◌∷◌, ◌++◌, take, if◌then◌else◌}
 use Rattle.roman_model.specs.System.{has}
 use Rattle.roman_model.specs.Lines.{text_of_lines, IsLine, AreLines}
@@ -12,7 +12,7 @@ unfoldable pub unfinished : List ℕ → List ℕ
 unfinished [] = []
 unfinished (byte ∷ bytes) = if has (byte ∷ bytes) 10 then unfinished bytes else byte ∷ bytes
 
--- a line as it stands in a text
+-- a line with its newline
 abbrev pub with_newline : List ℕ → List ℕ
 with_newline line = line ++ 10 ∷ []
 
@@ -22,6 +22,6 @@ pub record IsSplit (bytes : List ℕ) (lines : List (List ℕ)) (rest : List ℕ
   pub each : AreLines lines
   pub last : IsLine rest
 
--- as much of a line as tells its shape: one byte more than a line may have
+-- the part of a line that decides its shape: one byte more than the greatest length of a line
 unfoldable pub kept : List ℕ → List ℕ
 kept line = take 257 line

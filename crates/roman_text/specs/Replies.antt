@@ -4,7 +4,7 @@ use Rattle.roman_text.specs.Lines.{with_newline}
 use Rattle.roman_text.specs.declared.replies.Reply.{Reply}
 use Rattle.roman_text.specs.declared.replies.Reply.TheVariants as reply
 
--- the bytes of a reply: a line, or for the reply that lists services its beginning, a name and its end
+-- the bytes of a reply: a line, or a part of the line that lists services
 abbrev pub reply_text : Reply → List ℕ
 reply_text reply.Offer = codes "offer"
 reply_text (reply.Serves service) = codes " " ++ service
@@ -30,7 +30,7 @@ reply_text reply.ErrorFull = with_newline (codes "error full")
 reply_text reply.ErrorLimit = with_newline (codes "error limit")
 reply_text reply.ErrorRelated = with_newline (codes "error related")
 
--- the number of a refusal, where the reply is one
+-- the number of a refusal, or None for any other reply
 abbrev pub refusal_number : Reply → Option ℕ
 refusal_number reply.ErrorLine = Some 1
 refusal_number reply.ErrorName = Some 2

@@ -4,7 +4,7 @@ use Rattle.roman_text.specs.Lines.{with_newline}
 use Rattle.roman_text.specs.declared.report.ReportLine.{ReportLine}
 use Rattle.roman_text.specs.declared.report.ReportLine.TheVariants as line
 
--- the bytes of a report line: a line, or for the line that lists services its beginning, a name and its end
+-- the bytes of a report line: a line, or a part of the line that lists services
 abbrev pub line_text : ReportLine → List ℕ
 line_text (line.Pairs n) = with_newline (codes "pairs " ++ decimal n)
 line_text (line.Related n) = with_newline (codes "related " ++ decimal n)

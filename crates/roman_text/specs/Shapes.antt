@@ -1,4 +1,4 @@
--- The shape of a session line: which event its words are.
+-- The shape of a session line: the event that its words spell.
 use Rattle.std.specs.Prelude.{◌≡◌, ℕ, Bool, true, false, ◌==◌, ◌||◌, ◌&&◌, not, List, [], ◌∷◌, length, nat_eq, nat_lt, filter, codes, Option, None, Some, Result, Ok, Err, if◌then◌else◌}
 use Rattle.std.specs.Borrow.{Bor}
 use Rattle.std.specs.List.{slice_split, starts_with}
@@ -34,12 +34,12 @@ is_blank byte = byte == 32 || byte == 9
 abbrev pub is_part : ℕ → Bool
 is_part byte = not (is_blank byte)
 
--- there is a byte
+-- the list isn't empty
 abbrev pub has_bytes : List ℕ → Bool
 has_bytes [] = false
 has_bytes (byte ∷ bytes) = true
 
--- the words of a line: what stands between its blanks
+-- the words of a line: the parts between its blanks
 unfoldable pub words_of : List ℕ → List (List ℕ)
 words_of line = filter has_bytes (slice_split is_blank line)
 
@@ -47,7 +47,7 @@ words_of line = filter has_bytes (slice_split is_blank line)
 abbrev pub is_comment : List ℕ → Bool
 is_comment word = starts_with nat_eq word (codes "#")
 
--- a line of one word
+-- the event of a line of one word
 abbrev pub alone : List ℕ → Result LineShape LineError
 alone word =
     if bytes_eq word (codes "abort") then Ok abort
@@ -56,7 +56,7 @@ alone word =
     else if bytes_eq word (codes "quit") then Ok quit
     else Err Form
 
--- a line of two words
+-- the event of a line of two words
 abbrev pub with_one : List ℕ → List ℕ → Result LineShape LineError
 with_one word a =
     if bytes_eq word (codes "do") then Ok (ask a)
@@ -67,23 +67,23 @@ with_one word a =
     else if bytes_eq word (codes "jumpenv") then Ok (jump_env a)
     else Err Form
 
--- a line of three words
+-- the event of a line of three words
 abbrev pub with_two : List ℕ → List ℕ → List ℕ → Result LineShape LineError
 with_two word a b =
     if bytes_eq word (codes "saw") then Ok (saw a b)
     else if bytes_eq word (codes "jump") then Ok (jump a b)
     else Err Form
 
--- a line of four words
+-- the event of a line of four words
 abbrev pub with_three : List ℕ → List ℕ → List ℕ → List ℕ → Result LineShape LineError
 with_three word a b c = if bytes_eq word (codes "join") then Ok (join a b c false) else Err Form
 
--- a line of five words
+-- the event of a line of five words
 abbrev pub with_four : List ℕ → List ℕ → List ℕ → List ℕ → List ℕ → Result LineShape LineError
 with_four word a b c d =
     if bytes_eq word (codes "join") && bytes_eq d (codes "loose") then Ok (join a b c true) else Err Form
 
--- a line by its first word and the others
+-- the event of a line, by its first word and the other words
 abbrev pub by_words : List ℕ → List (List ℕ) → Result LineShape LineError
 by_words word [] = alone word
 by_words word (a ∷ []) = with_one word a
@@ -92,12 +92,12 @@ by_words word (a ∷ b ∷ c ∷ []) = with_three word a b c
 by_words word (a ∷ b ∷ c ∷ d ∷ []) = with_four word a b c d
 by_words word (a ∷ b ∷ c ∷ d ∷ e ∷ more) = Err Form
 
--- a line by all its words: one without words and a comment get no reply
+-- the event of a line, by all its words: a line without words and a comment get no reply
 abbrev pub shape_of_words : List (List ℕ) → Result LineShape LineError
 shape_of_words [] = Ok nothing
 shape_of_words (word ∷ more) = if is_comment word then Ok nothing else by_words word more
 
--- a line's shape: of at most 256 bytes, without one byte 13 at its end
+-- the event of a line of at most 256 bytes, where one byte 13 at its end is ignored
 unfoldable pub shape_of : List ℕ → Result LineShape LineError
 shape_of line =
     if nat_lt 256 (length line) then Err TooLong else shape_of_words (words_of (strip_carriage_return line))
@@ -120,7 +120,7 @@ spelling report = codes "report" ∷ []
 spelling explain = codes "explain" ∷ []
 spelling quit = codes "quit" ∷ []
 
--- the shape of an event of the program
+-- the shape of a parsed event
 abbrev pub shape_of_event : Event → LineShape
 shape_of_event event.Nothing = nothing
 shape_of_event (event.Ask action) = ask action.now
@@ -137,7 +137,7 @@ shape_of_event event.Report = report
 shape_of_event event.Explain = explain
 shape_of_event event.Quit = quit
 
--- what was read has this shape, and an error is the shape's
+-- the parsed event or error is this shape
 abbrev pub Shapes : Result LineShape LineError → Result Event LineError → Type 0
 Shapes shape (Ok e) = shape ≡ Ok (shape_of_event e)
 Shapes shape (Err why) = shape ≡ Err why
@@ -147,7 +147,7 @@ abbrev pub IsFirstWord : List ℕ → Option (Bor (List ℕ) × Bor (List ℕ)) 
 IsFirstWord line None = words_of line ≡ []
 IsFirstWord line (Some first) = words_of line ≡ first.0.now ∷ words_of first.1.now
 
--- the errors are numbered in their order
+-- the number of an error
 abbrev pub line_error_number : LineError → ℕ
 line_error_number Form = 1
 line_error_number TooLong = 2

@@ -1,13 +1,13 @@
-//! Why a line is no event.
+//! Errors of session lines.
 ghost use Rattle.std.specs.Prelude.{◌≡◌};
 ghost use Rattle.roman_text.specs.Shapes.{line_error_number};
 
 use thiserror::Error;
 
-/// Why a session line is no event. The session answers either with `error line`.
+/// The reason why a session line isn't an event. The session replies `error line` to both.
 #[derive(Clone, Copy, Debug, PartialEq, Eq, Error)]
 pub enum LineError {
-    /// The words are those of no event.
+    /// The words aren't those of any event.
     #[error("the line is no event")]
     Form,
     /// The line has more than 256 bytes.
@@ -16,7 +16,7 @@ pub enum LineError {
 }
 
 impl LineError {
-    /// The error's number: 1 for `Form` and 2 for `TooLong`.
+    /// Returns the number of the error: 1 for `Form` and 2 for `TooLong`.
     pub fn number(&self) -> u8
         ensures number { result ≡ line_error_number self.now }
     {

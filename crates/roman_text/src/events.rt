@@ -1,15 +1,15 @@
 //! The events of a session.
 
-/// What a session line says. The words are parts of the line, and not looked up yet.
+/// The event of a session line. Its words are parts of the line, and haven't been looked up.
 #[derive(Clone, Copy, Debug, PartialEq, Eq)]
 pub enum Event<'a> {
-    /// A line without words, or a comment: it gets no reply.
+    /// A line without words, or a comment. It gets no reply.
     Nothing,
     /// `do A`: the target requests the action.
     Ask(&'a [u8]),
     /// `use S`: the request is delegated to the service.
     Hand(&'a [u8]),
-    /// `saw B E`: the delegate and the environment were seen in these states.
+    /// `saw B E`: the delegate and the environment were observed in these states.
     Saw {
         /// The delegate's new state.
         state: &'a [u8],
@@ -32,21 +32,21 @@ pub enum Event<'a> {
         behaviour: &'a [u8],
         /// The state in which it joins.
         state: &'a [u8],
-        /// Whether the service's finality is never asked for.
+        /// Whether the service never needs to be in a final state.
         loose: bool,
     },
     /// `jump S STATE`: the service is in this state, whatever its transitions say.
     Jump {
-        /// The service.
+        /// The service's name.
         service: &'a [u8],
-        /// Its new state.
+        /// The service's new state.
         state: &'a [u8],
     },
     /// `jumpenv E`: the environment is in this state, whatever its transitions say.
     JumpEnv(&'a [u8]),
-    /// `report`: the whole report is asked for.
+    /// `report`: requests the whole report.
     Report,
-    /// `explain`: it is asked why the current pair isn't related.
+    /// `explain`: requests an explanation why the current pair isn't related.
     Explain,
     /// `quit`: the session ends.
     Quit,

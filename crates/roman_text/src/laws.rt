@@ -6,15 +6,15 @@ ghost use Rattle.roman_text.specs.Shapes.{LineShape, nothing, spelling, shape_of
 
 use crate::errors::LineError;
 
-/// The lines of some bytes are what stands before each newline, and no other lines are: so they
+/// The bytes before each newline are the lines of a text, and this split is the only one. So the lines
 /// don't depend on the pieces in which the bytes come.
 pub fn split_lines()
     ensures are { (bytes : List ℕ) → IsSplit bytes (ended_lines bytes) (unfinished bytes) }
     ensures only { (bytes : List ℕ) (lines : List (List ℕ)) (rest : List ℕ) → IsSplit bytes lines rest → (lines ≡ ended_lines bytes) × (rest ≡ unfinished bytes) }
 {}
 
-/// Each event has the words of its line, and those words alone are that event, but for the event
-/// that gets no reply, which the words of comments are too. Words without a shape are those of no
+/// The spelling of an event parses as that event. An event has no other words, except for the event
+/// that gets no reply, which comments are too. Words that fail to parse aren't the spelling of any
 /// event.
 pub fn spell_events()
     ensures read { (event : LineShape) → shape_of_words (spelling event) ≡ Ok event }
@@ -22,7 +22,7 @@ pub fn spell_events()
     ensures form { (words : List (List ℕ)) (event : LineShape) → shape_of_words words ≡ Err LineError.Form → words ≢ spelling event }
 {}
 
-/// As much of a line as a splitter holds tells the line's shape.
+/// The part of a line that a splitter holds has the same shape as the whole line.
 pub fn keep_shapes()
     ensures kept { (line : List ℕ) → shape_of (kept line) ≡ shape_of line }
 {}

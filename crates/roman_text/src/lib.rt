@@ -1,9 +1,9 @@
-//! Session lines, replies and report lines, as they stand in texts.
+//! Session lines, replies and report lines as bytes.
 //!
-//! A [`Splitter`] finds the lines of a stream of bytes, in whatever pieces it comes. [`parse_line`]
-//! reads the event that a line is. [`put_reply`] and [`put_report_line`] write a line to a sink at
-//! once, and a [`Page`] gathers many of them. A [`Piece`] is a short text that is put together from
-//! words, names and numbers. Nothing here takes memory.
+//! A [`Splitter`] splits a stream of bytes into lines, whatever the pieces in which it comes.
+//! [`parse_line`] parses a line into an event. [`put_reply`] and [`put_report_line`] write a line to a
+//! sink at once, and a [`Page`] gathers many of them. A [`Piece`] is a short text built from words,
+//! names and numbers. No call takes memory.
 #![tactic(auto)]
 
 mod errors;

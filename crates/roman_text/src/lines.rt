@@ -1,4 +1,4 @@
-//! The lines of a stream of bytes.
+//! Splits a stream of bytes into lines.
 ghost use Rattle.std.specs.Prelude.{◌≡◌, ◌++◌, ◌∷◌, [], length, nat_lt};
 ghost use Rattle.std.specs.Bool.{OnTrue, OnFalse};
 ghost use Rattle.roman_text.specs.Lines.{is_newline, kept};
@@ -6,11 +6,11 @@ ghost use Rattle.roman_text.specs.Lines.{is_newline, kept};
 use roman_model::MAX_LINE_BYTES;
 use std::marker::Model;
 
-/// One byte more than a line may have, so that a longer line is known as one.
+/// One byte more than the greatest length of a line, so that a longer line is recognised.
 const KEPT: usize = MAX_LINE_BYTES as usize + 1;
 
-/// Finds the lines of a stream of bytes, which may come in any pieces. Contracts see the bytes of
-/// the current line that are held: its first 257, which tell its shape.
+/// Splits a stream of bytes into lines, whatever the pieces in which it comes. Contracts see the held
+/// bytes of the current line: its first 257, which decide its shape.
 #[derive(Drop)]
 pub struct Splitter {
     bytes: [u8; KEPT],
@@ -28,7 +28,7 @@ impl Model for Splitter {
 }
 
 impl Splitter {
-    /// A splitter that holds nothing.
+    /// Returns a splitter that holds no bytes.
     pub fn new() -> Splitter
         ensures empty { result ≡ [] }
     {
@@ -38,9 +38,9 @@ impl Splitter {
         }
     }
 
-    /// Takes the next byte of the stream, and answers whether it ended a line: whether it is byte 10.
-    /// The line is then held, without that byte, until [`Splitter::clear`], which is due before the
-    /// next byte.
+    /// Takes the next byte of the stream, and returns whether it ended a line: whether it is byte 10.
+    /// The ended line is held, without that byte, until [`Splitter::clear`]. Call that before the next
+    /// byte.
     pub fn push(&mut self, byte: u8) -> bool
         ensures ends { result ≡ is_newline byte }
         ensures whole { OnTrue result (self.new ≡ self.old) }
@@ -56,21 +56,21 @@ impl Splitter {
         false
     }
 
-    /// The first 257 bytes of the current line, or all of them where it has fewer.
+    /// Returns the first 257 bytes of the current line, or all of them where it has fewer.
     pub fn line(&self) -> &[u8]
         ensures line { result.now ≡ self.now }
     {
         &self.bytes[..self.len]
     }
 
-    /// Whether any byte of the current line is held.
+    /// Returns whether any byte of the current line is held.
     pub fn rest(&self) -> bool
         ensures rest { result ≡ nat_lt 0 (length self.now) }
     {
         self.len > 0
     }
 
-    /// Holds nothing, as at the beginning of a line.
+    /// Removes all held bytes, as at the beginning of a line.
     pub fn clear(&mut self)
         ensures empty { self.new ≡ [] }
     {

@@ -1,4 +1,4 @@
-//! Output that is gathered in a buffer of fixed size.
+//! Gathers output in a buffer of fixed size.
 ghost use Rattle.std.specs.Prelude.{◌≡◌, ◌+◌, ◌≤◌, ◌∷◌, ◌++◌, [], length, take, decimal, OnOk};
 ghost use Rattle.roman_io.specs.Faults.{HasCause};
 ghost use Rattle.roman_io.specs.Sink.{Puts};
@@ -17,15 +17,15 @@ use roman_model::PIECE_BYTES;
 use roman_read::Name;
 use std::marker::Model;
 
-/// The greatest number of digits that a number has.
+/// The greatest number of decimal digits of a `u32`.
 const DIGITS: usize = 10;
 
-/// How many bytes an array has from which [`Page::push_short`] takes the first.
+/// The length in bytes of the array that [`Page::push_short`] takes.
 pub const SHORT: usize = 16;
 
-/// A buffer of 4,096 bytes on their way to a sink, so that many short texts are put as one piece.
-/// Contracts see the bytes that are held: the sink has those before them. Where a call fails, the
-/// sink's count of faults rose.
+/// A buffer of 4,096 bytes before a sink, so that many short texts are written as one piece. Contracts
+/// see the held bytes; the sink has the bytes before them. A call fails only where the sink's count of
+/// faults rose.
 #[derive(Drop)]
 pub struct Page {
     bytes: [u8; PIECE_BYTES],
@@ -44,7 +44,7 @@ impl Model for Page {
 }
 
 impl Page {
-    /// A page that holds nothing.
+    /// Returns an empty page.
     pub fn new() -> Page
         ensures empty { result ≡ [] }
     {
@@ -54,8 +54,8 @@ impl Page {
         }
     }
 
-    /// Takes bytes behind those that are held. Where they have no room, what is held is put first. A
-    /// failed call leaves the page empty, and a prefix of all those bytes in the sink.
+    /// Appends bytes to the held bytes. Writes the held bytes first where the new ones have no room. A
+    /// failed call leaves the page empty, and a prefix of all these bytes in the sink.
     #[inline]
     pub fn push<O: Sink>(&mut self, bytes: &[u8], out: &mut O) -> Result<(), Failed>
         ensures gathers { Gathers (O.written out.old) (O.written out.new) self.new (self.old ++ bytes.now) result }
@@ -69,8 +69,8 @@ impl Page {
         self.begin(bytes, out)
     }
 
-    /// Puts what is held, as one piece, or nothing where nothing is held. The page is empty then,
-    /// whatever the answer; where the sink failed, a prefix of the piece was put.
+    /// Writes the held bytes, as one piece, and leaves the page empty. Writes nothing where no bytes
+    /// are held. Where the sink fails, the page is empty too, and a prefix of the piece was written.
     pub fn flush<O: Sink>(&mut self, out: &mut O) -> Result<(), Failed>
         ensures puts { Puts (O.written out.old) (O.written out.new) self.old result }
         ensures empty { self.new ≡ [] }
@@ -84,7 +84,7 @@ impl Page {
         result
     }
 
-    /// Takes a number, in decimal digits, as `push` takes bytes.
+    /// Appends a number, in decimal digits, as [`Page::push`] appends bytes.
     fn push_number<O: Sink>(&mut self, n: u32, out: &mut O) -> Result<(), Failed>
         ensures gathers { Gathers (O.written out.old) (O.written out.new) self.new (self.old ++ decimal n) result }
         ensures cause { HasCause (O.faults out.old) (O.faults out.new) result }
@@ -92,7 +92,7 @@ impl Page {
         self.push(Buffer::new().format(n).as_bytes(), out)
     }
 
-    /// Takes a number, in decimal digits, and the bytes behind it, as [`Page::push`] takes bytes.
+    /// Appends a number, in decimal digits, and bytes after it, as [`Page::push`] appends bytes.
     #[inline(always)]
     pub fn push_number_then<O: Sink>(
         &mut self,
@@ -113,8 +113,8 @@ impl Page {
         Ok(())
     }
 
-    /// Takes the first `len` bytes of an array, as [`Page::push`] takes bytes. Where all of them have room,
-    /// all are copied.
+    /// Appends the first `len` bytes of an array, as [`Page::push`] appends bytes. Copies the whole
+    /// array where it has room.
     #[inline(always)]
     pub fn push_short<O: Sink>(
         &mut self,
@@ -133,8 +133,8 @@ impl Page {
         Ok(())
     }
 
-    /// Takes a byte and the name behind it, as [`Page::push`] takes bytes, but puts what is held
-    /// first where fewer than 128 bytes have room.
+    /// Appends a byte and a name after it, as [`Page::push`] appends bytes. Writes the held bytes first
+    /// where fewer than 128 bytes of the page are free.
     #[inline]
     pub fn push_name<O: Sink>(&mut self, before: u8, name: &Name, out: &mut O) -> Result<(), Failed>
         ensures gathers { Gathers (O.written out.old) (O.written out.new) self.new
@@ -146,7 +146,7 @@ impl Page {
         Ok(())
     }
 
-    /// Takes a report line, as [`Page::push`] takes bytes.
+    /// Appends a report line, as [`Page::push`] appends bytes.
     pub fn push_report_line<O: Sink>(
         &mut self,
         line: &ReportLine,
@@ -158,7 +158,8 @@ impl Page {
         self.push(report_piece(line).bytes(), out)
     }
 
-    /// Takes bytes on an empty page, or puts them at once where it is too small for them.
+    /// Adds bytes to an empty page. Writes them to the sink at once where the page is too small.
+    /// Requires an empty page.
     fn begin<O: Sink>(&mut self, bytes: &[u8], out: &mut O) -> Result<(), Failed>
         requires { self.old ≡ [] }
         ensures gathers { Gathers (O.written out.old) (O.written out.new) self.new bytes.now result }
@@ -171,7 +172,7 @@ impl Page {
         Ok(())
     }
 
-    /// Puts what is held where the longest reply has no room behind it.
+    /// Writes the held bytes where the longest reply has no room after them.
     fn make_room<O: Sink>(&mut self, out: &mut O) -> Result<(), Failed>
         ensures gathers { Gathers (O.written out.old) (O.written out.new) self.new self.old result }
         ensures room { OnOk result (length self.new + LONGEST ≤ PIECE_BYTES) }
@@ -183,14 +184,14 @@ impl Page {
         self.flush(out)
     }
 
-    /// How many more bytes have room.
+    /// Returns the number of free bytes of the page.
     fn room(&self) -> usize
         ensures { result + length self.now ≡ PIECE_BYTES }
     {
         PIECE_BYTES - self.len
     }
 
-    /// Adds bytes that have room.
+    /// Adds bytes. Requires room for them.
     fn add(&mut self, bytes: &[u8])
         requires { length self.old + length bytes.now ≤ PIECE_BYTES }
         ensures { self.new ≡ self.old ++ bytes.now }
@@ -200,7 +201,7 @@ impl Page {
         self.len = end;
     }
 
-    /// Adds the first `len` bytes of an array that has room.
+    /// Adds the first `len` bytes of an array. Requires room for the whole array.
     #[inline(always)]
     fn add_short(&mut self, bytes: &[u8; SHORT], len: usize)
         requires room { length self.old + SHORT ≤ PIECE_BYTES }
@@ -212,7 +213,8 @@ impl Page {
         self.len += len;
     }
 
-    /// Adds a name that has room, with the bytes before it and behind it.
+    /// Adds a name, with bytes before it and after it. Requires room for these bytes and the longest
+    /// name.
     fn add_name(&mut self, before: &[u8], name: &Name, behind: &[u8])
         requires { length self.old + length before.now + length behind.now + MAX_NAME_BYTES ≤ PIECE_BYTES }
         ensures text { self.new ≡ self.old ++ (before.now ++ (name.now ++ behind.now)) }
@@ -223,7 +225,7 @@ impl Page {
         self.add(behind);
     }
 
-    /// Adds a number that has room, in decimal digits.
+    /// Adds a number, in decimal digits. Requires room for it.
     fn add_number(&mut self, n: u32)
         requires { length self.old + length (decimal n) ≤ PIECE_BYTES }
         ensures { self.new ≡ self.old ++ decimal n }
@@ -234,7 +236,7 @@ impl Page {
     }
 }
 
-/// How many decimal digits a number has.
+/// Returns the number of decimal digits of a number.
 fn digits(n: u32) -> usize
     ensures { result ≡ length (decimal n) }
 {

@@ -1,4 +1,4 @@
-//! The events of lines.
+//! Parses lines into events.
 ghost use Rattle.std.specs.Prelude.{◌≡◌, ◌<◌, ◌↔◌, length};
 ghost use Rattle.std.specs.Str.{bytes_eq};
 ghost use Rattle.roman_text.specs.Shapes.{Shapes, shape_of, words_of, by_words, alone, with_one, with_two, with_three, with_four};
@@ -8,14 +8,14 @@ use crate::events::Event;
 use crate::words::{first_word, is_comment, without_return};
 use roman_model::MAX_LINE_BYTES;
 
-/// The event that a line, without its newline, is. The words of the event are parts of the line, and
-/// not looked up.
+/// Parses a line, given without its newline, into its event. The words of the event are parts of the
+/// line, and aren't looked up.
 ///
-/// One byte 13 at the end of the line is dropped. Words are separated by spaces and tabs. A line
-/// without words, and one whose first word begins with `#`, are [`Event::Nothing`].
+/// Ignores one byte 13 at the end of the line. Words are separated by spaces and tabs. A line without
+/// words, and a line whose first word begins with `#`, are [`Event::Nothing`].
 ///
-/// `TooLong` comes exactly where the line has more than 256 bytes, and `Form` exactly where it has no
-/// more and its words have no shape.
+/// Fails with `TooLong` exactly where the line has more than 256 bytes. Fails with `Form` exactly where
+/// it has at most 256 bytes and its words aren't those of an event.
 pub fn parse_line(line: &[u8]) -> Result<Event<'_>, LineError>
     ensures shape { Shapes (shape_of line.now) result }
     ensures too_long { (result ≡ Err LineError.TooLong) ↔ (256 < length line.now) }
@@ -32,7 +32,7 @@ pub fn parse_line(line: &[u8]) -> Result<Event<'_>, LineError>
     by_words(word, rest)
 }
 
-/// The event of a first word and the words of the rest.
+/// Returns the event of a first word and the words of the rest.
 fn by_words<'a>(word: &[u8], rest: &'a [u8]) -> Result<Event<'a>, LineError>
     ensures { Shapes (by_words word.now (words_of rest.now)) result }
 {
@@ -54,14 +54,14 @@ fn by_words<'a>(word: &[u8], rest: &'a [u8]) -> Result<Event<'a>, LineError>
     Err(LineError::Form)
 }
 
-/// Whether a word is this one.
+/// Returns whether a word is this text.
 fn is(word: &[u8], text: &str) -> bool
     ensures { result ≡ bytes_eq word.now text.now }
 {
     word == text.as_bytes()
 }
 
-/// The event of one word.
+/// Returns the event of one word.
 fn alone<'a>(word: &[u8]) -> Result<Event<'a>, LineError>
     ensures { Shapes (alone word.now) result }
 {
@@ -80,7 +80,7 @@ fn alone<'a>(word: &[u8]) -> Result<Event<'a>, LineError>
     Err(LineError::Form)
 }
 
-/// The event of a word and one operand.
+/// Returns the event of a word and one operand.
 fn with_one<'a>(word: &[u8], a: &'a [u8]) -> Result<Event<'a>, LineError>
     ensures { Shapes (with_one word.now a.now) result }
 {
@@ -105,7 +105,7 @@ fn with_one<'a>(word: &[u8], a: &'a [u8]) -> Result<Event<'a>, LineError>
     Err(LineError::Form)
 }
 
-/// The event of a word and two operands.
+/// Returns the event of a word and two operands.
 fn with_two<'a>(word: &[u8], a: &'a [u8], b: &'a [u8]) -> Result<Event<'a>, LineError>
     ensures { Shapes (with_two word.now a.now b.now) result }
 {
@@ -121,7 +121,7 @@ fn with_two<'a>(word: &[u8], a: &'a [u8], b: &'a [u8]) -> Result<Event<'a>, Line
     Err(LineError::Form)
 }
 
-/// The event of a word and three operands.
+/// Returns the event of a word and three operands.
 fn with_three<'a>(
     word: &[u8],
     service: &'a [u8],
@@ -141,7 +141,7 @@ fn with_three<'a>(
     })
 }
 
-/// The event of a word, three operands and `loose`.
+/// Returns the event of a word, three operands and `loose`.
 fn with_four<'a>(
     word: &[u8],
     service: &'a [u8],

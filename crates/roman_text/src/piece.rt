@@ -1,15 +1,15 @@
-//! The bytes of one line, in place.
+//! Builds the bytes of one line in an array.
 ghost use Rattle.std.specs.Prelude.{◌≡◌, ℕ, ◌+◌, ◌≤◌, ◌++◌, [], length, decimal};
 
 use itoa::Buffer;
 use roman_read::Name;
 use std::marker::Model;
 
-/// The greatest number of bytes of a piece. No [`Reply`](crate::Reply) and no
-/// [`ReportLine`](crate::ReportLine) has more.
+/// The greatest number of bytes of a piece, of a [`Reply`](crate::Reply) and of a
+/// [`ReportLine`](crate::ReportLine).
 pub(crate) const LONGEST: usize = 128;
 
-/// Up to 128 bytes that are put together from parts. Contracts see the list of them.
+/// A text of at most 128 bytes, built from parts. Contracts see the list of its bytes.
 #[derive(Drop)]
 pub struct Piece {
     bytes: [u8; LONGEST],
@@ -27,7 +27,7 @@ impl Model for Piece {
 }
 
 impl Piece {
-    /// A piece of no bytes.
+    /// Returns an empty piece.
     pub fn new() -> Piece
         ensures { result ≡ [] }
     {
@@ -37,14 +37,14 @@ impl Piece {
         }
     }
 
-    /// The bytes that were put together.
+    /// Returns the bytes of the piece.
     pub fn bytes(&self) -> &[u8]
         ensures { result.now ≡ self.now }
     {
         &self.bytes[..self.len]
     }
 
-    /// Adds a text, for which there must be room.
+    /// Appends a text. Requires room for it.
     pub fn text(mut self, text: &[u8]) -> Piece
         requires { length self + length text.now ≤ 128 }
         ensures text { result ≡ self ++ text.now }
@@ -54,7 +54,7 @@ impl Piece {
         self
     }
 
-    /// Adds a name, with room for 32 bytes.
+    /// Appends a name. Requires room for 32 bytes.
     pub fn name(self, name: &Name) -> Piece
         requires { length self ≤ 96 }
         ensures text { result ≡ self ++ name.now }
@@ -63,7 +63,7 @@ impl Piece {
         self.text(name.bytes())
     }
 
-    /// Adds a number, in decimal digits, with room for ten.
+    /// Appends a number, in decimal digits. Requires room for ten bytes.
     pub fn number(self, n: u32) -> Piece
         requires { length self ≤ 118 }
         ensures text { result ≡ self ++ decimal n }
@@ -72,7 +72,7 @@ impl Piece {
         self.text(Buffer::new().format(n).as_bytes())
     }
 
-    /// Adds a number, in decimal digits, with room for twenty.
+    /// Appends a number, in decimal digits. Requires room for twenty bytes.
     pub fn long_number(self, n: u64) -> Piece
         requires { length self ≤ 108 }
         ensures text { result ≡ self ++ decimal n }
@@ -81,7 +81,7 @@ impl Piece {
         self.text(Buffer::new().format(n).as_bytes())
     }
 
-    /// Adds bytes at the end.
+    /// Appends bytes. Requires room for them.
     fn add(&mut self, bytes: &[u8])
         requires { length self.old + length bytes.now ≤ 128 }
         ensures { self.new ≡ self.old ++ bytes.now }

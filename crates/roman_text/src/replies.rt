@@ -1,11 +1,11 @@
-//! The replies of a session.
+//! Replies of a session.
 ghost use Rattle.std.specs.Prelude.{◌≡◌};
 ghost use Rattle.roman_text.specs.Replies.{refusal_number};
 
 use roman_read::Name;
 
-/// A reply to a session line: one whole line each, but for `Offer`, `Serves` and `Stop`, which together
-/// make the line that offers services. The last fourteen are refusals.
+/// A reply to a session line: one whole line, or a part of one. `Offer`, `Serves` and `Stop` together
+/// make the line that offers services. The last fourteen variants are refusals.
 #[derive(Clone, Copy, Debug, PartialEq, Eq)]
 pub enum Reply {
     /// The beginning of the line that offers services.
@@ -27,22 +27,22 @@ pub enum Reply {
     Aborted,
     /// The services changed.
     Kept {
-        /// How many entries of the renamed removal list the replay kept.
+        /// The number of entries of the renamed removal list that the replay kept.
         kept: u32,
-        /// How many pairs were added to it after that.
+        /// The number of pairs that were added to the list after that.
         added: u32,
     },
     /// A service or the environment is in another state.
     Jumped,
     /// The session ends.
     Bye,
-    /// The line is no event.
+    /// The line isn't an event.
     ErrorLine,
-    /// A word of the line names nothing, or a service is to join under what isn't a name.
+    /// A word of the line isn't a known name, or the name of a new service isn't a valid name.
     ErrorName,
     /// A request is open.
     ErrorBusy,
-    /// No request is open, or none that the event answers.
+    /// No request is open, or the open request isn't in the phase that the event answers.
     ErrorIdle,
     /// The current pair isn't related.
     NoComposition,
@@ -67,8 +67,8 @@ pub enum Reply {
 }
 
 impl Reply {
-    /// The number of a refusal, from 1 to 14 in the order of the last fourteen variants; `None` for any
-    /// other reply.
+    /// Returns the number of a refusal, from 1 to 14 in the order of the last fourteen variants.
+    /// Returns `None` for any other reply.
     pub fn number(&self) -> Option<u8>
         ensures number { result ≡ refusal_number self.now }
     {

@@ -1,4 +1,4 @@
-//! The lines of a report.
+//! Lines of a report, and their bytes.
 ghost use Rattle.std.specs.Prelude.{◌≡◌, ◌≤◌, [], length, codes, if◌then◌else◌};
 ghost use Rattle.roman_text.specs.Lines.{with_newline};
 ghost use Rattle.roman_text.specs.Report.{line_text};
@@ -6,13 +6,13 @@ ghost use Rattle.roman_text.specs.Report.{line_text};
 use crate::piece::Piece;
 use roman_read::Name;
 
-/// A line of a report, each whole, but for `Offer`, `Serves` and `Stop`, which together make a line
-/// that lists services.
+/// A whole line of a report, or a part of one: `Offer`, `Serves` and `Stop` together make the line that
+/// lists services.
 #[derive(Clone, Copy, Debug, PartialEq, Eq)]
 pub enum ReportLine {
-    /// How many pairs there are.
+    /// The number of pairs of the system.
     Pairs(u32),
-    /// How many pairs are related.
+    /// The number of related pairs.
     Related(u32),
     /// The present environment state.
     Environment(Name),
@@ -20,25 +20,26 @@ pub enum ReportLine {
     Target {
         /// The state.
         state: Name,
-        /// Whether the target may rest there.
+        /// Whether the state is final.
         is_final: bool,
     },
     /// A service.
     Service {
-        /// Its name.
+        /// The service's name.
         name: Name,
-        /// The name of its behaviour.
+        /// The name of the service's behaviour.
         behaviour: Name,
-        /// Its present state.
+        /// The service's present state.
         state: Name,
-        /// Whether the service takes no delegations.
+        /// Whether the service is frozen: it takes no delegations.
         frozen: bool,
-        /// Whether the service's finality is never asked for.
+        /// Whether the service never needs to be in a final state.
         loose: bool,
     },
     /// Whether a composition exists from the present pair.
     Answer(bool),
-    /// The beginning of the line that lists the services offered for this action.
+    /// The beginning of the line that lists the services offered for an action. The value is the
+    /// action.
     Offer(Name),
     /// A space and the name of a service that is offered.
     Serves(Name),
@@ -48,7 +49,7 @@ pub enum ReportLine {
     End,
 }
 
-/// The bytes of a report line, with its newline, or of the part of one.
+/// Returns the bytes of a report line with its newline, or of a part of a line.
 pub fn report_piece(line: &ReportLine) -> Piece
     ensures { result ≡ line_text line.now }
 {
@@ -80,7 +81,7 @@ pub fn report_piece(line: &ReportLine) -> Piece
     }
 }
 
-/// The end of the line of a target.
+/// Returns the end of the line of the target.
 fn target_end(is_final: bool) -> &'static [u8]
     ensures text { result.now ≡ with_newline (if is_final then codes " final" else codes " running") }
     ensures short { length result.now ≤ 9 }
@@ -88,7 +89,7 @@ fn target_end(is_final: bool) -> &'static [u8]
     if is_final { b" final\n" } else { b" running\n" }
 }
 
-/// The end of the line of an answer.
+/// Returns the end of the line of the answer.
 fn answer_end(composes: bool) -> &'static [u8]
     ensures text { result.now ≡ with_newline (if composes then codes "composition" else codes "none") }
     ensures short { length result.now ≤ 12 }
@@ -100,7 +101,7 @@ fn answer_end(composes: bool) -> &'static [u8]
     }
 }
 
-/// Whether a service takes delegations.
+/// Returns the word that says whether a service takes delegations.
 fn phase_text(frozen: bool) -> &'static [u8]
     ensures text { result.now ≡ (if frozen then codes " frozen" else codes " ready") }
     ensures short { length result.now ≤ 7 }
@@ -108,7 +109,7 @@ fn phase_text(frozen: bool) -> &'static [u8]
     if frozen { b" frozen" } else { b" ready" }
 }
 
-/// The end of the line of a service.
+/// Returns the end of the line of a service.
 fn service_end(loose: bool) -> &'static [u8]
     ensures text { result.now ≡ with_newline (if loose then codes " loose" else []) }
     ensures short { length result.now ≤ 7 }

@@ -1,4 +1,4 @@
-//! One table of lines, and the texts of some replies and report lines.
+//! Tests a table of lines, and the bytes of some replies and report lines.
 use crate::{
     Event, LineError, Page, Reply, ReportLine, Splitter, parse_line, put_reply, put_report_line,
 };

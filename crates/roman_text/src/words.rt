@@ -1,31 +1,32 @@
-//! The words of a line.
+//! Finds the words of a line.
 ghost use Rattle.std.specs.Prelude.{◌≡◌, ◌≤◌, position, length};
 ghost use Rattle.std.specs.List.{position_or_len};
 ghost use Rattle.std.specs.Str.Lines.{strip_carriage_return};
 ghost use Rattle.roman_text.specs.Shapes.{IsFirstWord, is_blank, is_comment, is_part};
 
-/// Whether the byte separates words.
+/// Returns whether the byte separates words.
 fn is_blank(byte: u8) -> bool
     ensures { result ≡ is_blank byte }
 {
     byte == b' ' || byte == b'\t'
 }
 
-/// Where the first word begins, if there is one.
+/// Returns the place where the first word begins, or `None` where there is no word.
 fn word_start(line: &[u8]) -> Option<usize>
     ensures { result ≡ position is_part line.now }
 {
     line.iter().position(|&byte| !is_blank(byte))
 }
 
-/// Where the first blank is, if there is one.
+/// Returns the place of the first blank, or `None` where there is no blank.
 fn first_blank(line: &[u8]) -> Option<usize>
     ensures { result ≡ position is_blank line.now }
 {
     line.iter().position(|&byte| is_blank(byte))
 }
 
-/// Where the first word ends.
+/// Returns the place of the first blank, or the length of the line where there is no blank. A word at
+/// the start of the line ends there.
 #[tactic(auto, using(crate::proofs::WordLemmas::places))]
 fn word_end(line: &[u8]) -> usize
     ensures end { result ≡ position_or_len is_blank line.now }
@@ -34,8 +35,8 @@ fn word_end(line: &[u8]) -> usize
     first_blank(line).unwrap_or(line.len())
 }
 
-/// The first word of a line, and what follows it; `None` exactly where the line has no word. Words are
-/// separated by spaces and tabs.
+/// Returns the first word of a line and the rest of the line after it. Returns `None` exactly where the
+/// line has no word. Words are separated by spaces and tabs.
 pub fn first_word(line: &[u8]) -> Option<(&[u8], &[u8])>
     ensures { IsFirstWord line.now result }
 {
@@ -44,14 +45,14 @@ pub fn first_word(line: &[u8]) -> Option<(&[u8], &[u8])>
     Some(words.split_at(word_end(words)))
 }
 
-/// Whether a first word makes its line a comment: it begins with `#`.
+/// Returns whether a first word makes its line a comment: whether it begins with `#`.
 pub fn is_comment(word: &[u8]) -> bool
     ensures { result ≡ is_comment word.now }
 {
     word.starts_with(b"#")
 }
 
-/// The line without the one byte 13 at its end, if it has one.
+/// Returns the line without the last byte, where that is byte 13, and the whole line otherwise.
 pub fn without_return(line: &[u8]) -> &[u8]
     ensures { result.now ≡ strip_carriage_return line.now }
 {

@@ -1,4 +1,4 @@
-//! Single lines that are put to a sink.
+//! Writes single lines to a sink.
 ghost use Rattle.roman_io.specs.Faults.{HasCause};
 ghost use Rattle.roman_io.specs.Sink.{Puts};
 ghost use Rattle.roman_text.specs.Replies.{reply_text};
@@ -9,8 +9,8 @@ use crate::replies::Reply;
 use crate::report::{ReportLine, report_piece};
 use roman_io::{Failed, Sink};
 
-/// Writes a reply, as one piece. The error comes only where the sink's count of faults rose; a prefix
-/// of the reply was then written.
+/// Writes a reply, as one piece. Fails only where the sink's count of faults rose; a prefix of the
+/// reply was then written.
 pub fn put_reply<O: Sink>(out: &mut O, reply: &Reply) -> Result<(), Failed>
     ensures puts { Puts (O.written out.old) (O.written out.new) (reply_text reply.now) result }
     ensures cause { HasCause (O.faults out.old) (O.faults out.new) result }
@@ -20,8 +20,8 @@ pub fn put_reply<O: Sink>(out: &mut O, reply: &Reply) -> Result<(), Failed>
     page.flush(out)
 }
 
-/// Writes a report line, as one piece. The error comes only where the sink's count of faults rose; a
-/// prefix of the line was then written.
+/// Writes a report line, as one piece. Fails only where the sink's count of faults rose; a prefix of
+/// the line was then written.
 pub fn put_report_line<O: Sink>(out: &mut O, line: &ReportLine) -> Result<(), Failed>
     ensures puts { Puts (O.written out.old) (O.written out.new) (line_text line.now) result }
     ensures cause { HasCause (O.faults out.old) (O.faults out.new) result }

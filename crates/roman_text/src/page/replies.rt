@@ -1,4 +1,4 @@
-//! Replies on a page.
+//! Pushes replies on a page.
 ghost use Rattle.std.specs.Prelude.{◌≡◌, ◌+◌, ◌≤◌, ◌++◌, length, decimal};
 ghost use Rattle.roman_io.specs.Faults.{HasCause};
 ghost use Rattle.roman_model.specs.declared.limits.TheConstants.{PIECE_BYTES};
@@ -14,8 +14,8 @@ use roman_io::{Failed, Sink};
 use roman_read::Name;
 
 impl Page {
-    /// Takes a reply, as [`Page::push`] takes bytes, but puts what is held first where fewer than
-    /// 128 bytes have room.
+    /// Appends a reply, as [`Page::push`] appends bytes. Writes the held bytes first where fewer than
+    /// 128 bytes of the page are free.
     pub fn push_reply<O: Sink>(&mut self, reply: &Reply, out: &mut O) -> Result<(), Failed>
         ensures gathers { Gathers (O.written out.old) (O.written out.new) self.new (self.old ++ reply_text reply.now) result }
         ensures cause { HasCause (O.faults out.old) (O.faults out.new) result }
@@ -25,7 +25,7 @@ impl Page {
         Ok(())
     }
 
-    /// Adds a reply that has room.
+    /// Adds a reply. Requires room for the longest reply.
     fn add_reply(&mut self, reply: &Reply)
         requires { length self.old + LONGEST ≤ PIECE_BYTES }
         ensures { self.new ≡ self.old ++ reply_text reply.now }
@@ -57,7 +57,7 @@ impl Page {
         }
     }
 
-    /// Adds the line that gives the new state of the target and of the environment.
+    /// Adds the line that names the new states of the target and of the environment.
     fn add_now(&mut self, target: &Name, env: &Name)
         requires { length self.old + LONGEST ≤ PIECE_BYTES }
         ensures { self.new ≡ self.old ++ reply_text (reply.Now target.now env.now) }
@@ -66,7 +66,7 @@ impl Page {
         self.add_name(b"", env, b"\n");
     }
 
-    /// Adds the line that counts what the replay kept and what was added.
+    /// Adds the line with the number of entries that the replay kept, and the number of pairs added.
     fn add_kept(&mut self, kept: u32, added: u32)
         requires { length self.old + LONGEST ≤ PIECE_BYTES }
         ensures { self.new ≡ self.old ++ reply_text (reply.Kept kept added) }
@@ -76,7 +76,7 @@ impl Page {
         self.add(b"\n");
     }
 
-    /// Adds a number that has room, and the bytes before it.
+    /// Adds bytes and a number after them. Requires room for both.
     fn add_counted(&mut self, before: &[u8], n: u32)
         requires { length self.old + length before.now + DIGITS ≤ PIECE_BYTES }
         ensures text { self.new ≡ self.old ++ (before.now ++ decimal n) }
