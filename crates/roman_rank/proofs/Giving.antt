@@ -1,4 +1,4 @@
--- Levels of a list that are given to its nodes.
+-- The levels of a list, assigned to its nodes.
 use Rattle.std.proofs.Common.{◌≡◌, ◌≢◌, ℕ, zero, suc, ◌+◌, ◌-◌, ◌^◌, ◌<◌, ◌≤◌, ◌==◌, true, List, [], ◌∷◌, ◌++◌, length, take, set, get_or, slice_get, slice_index, Some, IsTrue, IsFalse, inl, inr, refl, sym, ap, ◌∙◌, subst, arith, add-one}
 use Rattle.std.specs.Prelude.{min, max}
 use Rattle.std.specs.List.{IsDistinct}
@@ -18,7 +18,7 @@ use Rattle.roman_rank.specs.Ranking.{IsRank, AreRanks, loses_before, AreRanksBel
 
 -- ---- places in a list
 
--- what the prefix has an entry for stands at a place there
+-- each node with an entry in the prefix has a place there
 pub entry_place : (L : List (Entry ℕ)) (m p : ℕ) → has_entry (take m L) p ≡ true → (i : ℕ) × (i < m) × (i < length L) × (slice_index (nodes_of L) i ≡ p)
 entry_place [] zero p t = absurd (false≢true t)
 entry_place [] (suc m) p t = absurd (false≢true t)
@@ -28,19 +28,19 @@ entry_place (x ∷ L) (suc m) p t = elim (or_cases (p == x.node) (has_entry (tak
   | inr later ↦ let (i, l, k, e) = entry_place L m p later in (suc i, omega arith, omega arith, e)
 ]
 
--- and the other way round
+-- each node with a place in the prefix has an entry there
 pub place_entry : (L : List (Entry ℕ)) (m p i : ℕ) → i < m → i < length L → slice_index (nodes_of L) i ≡ p → has_entry (take m L) p ≡ true
 place_entry [] m p i l k e = absurd (omega arith)
 place_entry (x ∷ L) zero p i l k e = absurd (omega arith)
 place_entry (x ∷ L) (suc m) p zero l k e = or_left (p == x.node) (has_entry (take m L) p) (eq-eqb p x.node (sym e))
 place_entry (x ∷ L) (suc m) p (suc i) l k e = or_right (p == x.node) (has_entry (take m L) p) (place_entry L m p i (omega arith) (omega arith) e)
 
--- a node stands at one place alone
+-- a node has only one place
 pub one_place : (L : List (Entry ℕ)) (i j : ℕ) → IsDistinct (λ x y. x == y) (nodes_of L) → i < j → j < length (nodes_of L) → slice_index (nodes_of L) i ≢ slice_index (nodes_of L) j
 one_place L i j apart l k e =
     false≢true (sym (apart_from_distinct (λ x y. x == y) (nodes_of L) i j 0 apart l k) ∙ eq-eqb (slice_index (nodes_of L) i) (slice_index (nodes_of L) j) e)
 
--- where an entry stands
+-- the place of an entry
 pub node_at : (L : List (Entry ℕ)) (i : ℕ) (x : Entry ℕ) → slice_get L i ≡ Some x → slice_index (nodes_of L) i ≡ x.node
 node_at L i x e = get_or-map (λ y. y.node) L i x 0 (slice_get_within L i x e) ∙ ap (λ y. y.node) (get_or_from_slice_get L i x x e)
 
@@ -64,7 +64,7 @@ gives_more L start i n p old now from at l gives = record {
       get_or-set_other now p q n 0 other ∙ gives.others q (λ j f t. apart j f (omega arith));
 }
 
--- all entries up to the end are given it
+-- the nodes of all entries up to the end are given the number
 pub gives_all : (L : List (Entry ℕ)) (start end i n : ℕ) (old new : List ℕ) → end ≤ i → i ≤ max start end → GivesLevel L start i n old new → GivesLevel L start end n old new
 gives_all L start end i n old new past within gives = record {
   given = λ j f t. gives.given j f (omega arith);
@@ -85,7 +85,7 @@ start_of levels (suc n) = slice_index levels n
 pub start_next : (levels : List ℕ) (n : ℕ) → start_of levels (n + 1) ≡ slice_index levels n
 start_next levels n = ap (start_of levels) (add-one n)
 
--- before level n there are the nodes at which the opponent wins within fewer than n requests
+-- the levels before n have exactly the nodes at which the opponent wins within fewer than n requests
 pub front_lost : (A : Arena ℕ) → IsNumbered A → (levels : List ℕ) (L : List (Entry ℕ)) (n p : ℕ) → AreLevels A levels L → n ≤ length levels → p < length A.nodes →
     has_entry (take (start_of levels n) L) p ≡ loses_before A n p
 front_lost A ok levels L zero p are l inside = refl
@@ -99,7 +99,7 @@ pub loses_before_more : (A : Arena ℕ) (n p : ℕ) → IsFalse (loses A n p) �
 loses_before_more A zero p f = refl
 loses_before_more A (suc n) p f = loses_down A n (suc n) p (omega arith) f
 
--- one more level is given
+-- one more level is assigned
 pub ranks_more : (A : Arena ℕ) → IsNumbered A → (levels : List ℕ) (L : List (Entry ℕ)) (n : ℕ) (old new : List ℕ) → AreLevels A levels L →
     IsDistinct (λ x y. x == y) (nodes_of L) → length (nodes_of L) ≡ length L → n < length levels → n < 2 ^ 32 - 1 → length new ≡ length old →
     GivesLevel L (start_of levels n) (slice_index levels n) n old new → AreRanksBelow A n old → AreRanksBelow A (suc n) new
@@ -128,7 +128,7 @@ ranks_more A ok levels L n old new are apart long l few same gives below = recor
       ∙ below.others p inside (loses_before_more A n p f);
 }
 
--- after all levels, or as many as there are nodes and one, each node has its rank
+-- after all levels, or after one more than there are nodes, each node has its rank
 pub ranks_all : (A : Arena ℕ) → IsNumbered A → (levels : List ℕ) (L : List (Entry ℕ)) (n : ℕ) (table : List ℕ) → AreLevels A levels L → HoldsAllLost A L →
     n ≡ min (length levels) (length A.nodes + 1) → AreRanksBelow A n table → AreRanks A table
 ranks_all A ok levels L n table are all last below = record {

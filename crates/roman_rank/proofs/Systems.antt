@@ -1,4 +1,4 @@
--- What a complete relation gives to those who rank its pairs.
+-- Facts about a complete relation for ranking its pairs.
 use Rattle.std.proofs.Common.{◌≡◌, ℕ, ◌-◌, ◌^◌, ◌<◌, ◌≤◌, true, length, IsFalse, inl, inr, sym, ◌∙◌, subst, arith}
 use Rattle.std.proofs.Math.Nat.{mul-le-mul_left}
 use Rattle.std.proofs.lemmas.Bool.{not_from_false}
@@ -17,14 +17,14 @@ use Rattle.roman_rules.proofs.CallerLemmas.{numbered_arena, in_nodes, from_nodes
 use Rattle.std.proofs.lemmas.Bool.{cases_lt}
 use Rattle.roman_rank.specs.Ranking.{HoldsAllLost}
 
--- a joint has far fewer pairs than numbers have values
+-- a joint has far fewer pairs than a number of 32 bits has values
 pub few_pairs : (n : NamedSys) → IsNamedSys n → length (arena_of n).nodes < 2 ^ 32 - 1
 few_pairs n known =
     let m = count (sizes_of (system_of n)) in
     let one : 1 ≤ (system_of n).env.actions = omega (arith, known.system.env.actions.0) in
     omega (arith, length-below m, mul-le-mul_left m one, known.fits, known.limit.1)
 
--- a complete list has every pair that is lost
+-- a complete list has every pair at which the opponent wins
 pub complete_all : (n : NamedSys) (board : Board) → IsNamedSys n → HasCompleteList n board → IsShaped (arena_of n) (row_lanes n) board → ((p : ℕ) → has_entry board.list p ≡ true → p < pairs_of board) →
     HoldsAllLost (arena_of n) board.list
 complete_all n board known complete shaped in_range = record {
@@ -38,7 +38,7 @@ complete_all n board known complete shaped in_range = record {
       numbered_listed s board.list p known.system (listed_numbers s board shaped.pairs in_range) complete.list inside ∙ not_from_false (is_related s q) unrelated;
 }
 
--- so has a settled one
+-- a settled list has every pair at which the opponent wins
 pub settled_all : (A : Arena ℕ) (board : Board) → IsNumbered A → IsSettled A board.list → HoldsAllLost A board.list
 settled_all A board ok settled = record {
   each = λ p l n t.

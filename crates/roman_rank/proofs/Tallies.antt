@@ -1,4 +1,4 @@
--- How often a number stands in a table.
+-- How often a number occurs in a table.
 use Rattle.std.proofs.Common.{◌≡◌, ◌≢◌, ℕ, zero, suc, ◌+◌, ◌-◌, ◌^◌, ◌<◌, ◌≤◌, ◌==◌, Bool, true, cond, List, [], ◌∷◌, ◌++◌, length, take, get_or, slice_index, IsTrue, inl, inr, refl, sym, ap, ◌∙◌, subst, arith, add-one}
 use Rattle.std.specs.Prelude.{count_by}
 use Rattle.std.proofs.Math.Seq.{take-length}
@@ -9,11 +9,11 @@ use Rattle.roman_model.specs.Lists.{below}
 use Rattle.roman_model.proofs.CallerLemmas.{by_test}
 use Rattle.roman_rank.specs.Ranking.{AreCounts, HasOneMore}
 
--- what a test adds to a count
+-- the number that a test adds to a count
 abbrev pub one_if : Bool → ℕ
 one_if b = cond b 1 0
 
--- a table is counted as the numbers of its places are
+-- a count over a table is a count over its places
 pub count_front : (xs : List ℕ) (p q : ℕ → Bool) (n : ℕ) → n ≤ length xs → ((i : ℕ) → i < n → p (get_or xs i 0) ≡ q i) → count_by p (take n xs) ≡ count_by q (below n)
 count_front xs p q zero l same = refl
 count_front xs p q (suc n) l same =
@@ -28,13 +28,13 @@ pub count_places : (xs : List ℕ) (p q : ℕ → Bool) (n : ℕ) → length xs 
 count_places xs p q n long same =
     ap (count_by p) (sym (take-length xs) ∙ ap (λ m. take m xs) long) ∙ count_front xs p q n (omega (arith, long)) same
 
--- what stands somewhere is counted
+-- where an element passes the test, the count is positive
 pub count_there : (p : ℕ → Bool) (xs : List ℕ) (i : ℕ) → i < length xs → IsTrue (p (get_or xs i 0)) → 0 < count_by p xs
 count_there p [] i l t = absurd (omega arith)
 count_there p (x ∷ xs) zero l t = let one : one_if (p x) ≡ 1 = cond-true (p x) 1 0 t in omega (arith, sum_by-cons (λ y. cond (p y) 1 0) x xs, one)
 count_there p (x ∷ xs) (suc i) l t = let rest : 0 < count_by p xs = count_there p xs i (omega arith) t in omega (arith, sum_by-cons (λ y. cond (p y) 1 0) x xs, rest)
 
--- what is counted stands somewhere
+-- where the count is positive, an element passes the test
 pub count_place : (p : ℕ → Bool) (xs : List ℕ) → 0 < count_by p xs → (i : ℕ) × (i < length xs) × IsTrue (p (get_or xs i 0))
 count_place p [] l = (let none : ⊥ = omega arith in absurd none)
 count_place p (x ∷ xs) l = by_test (p x)
@@ -44,7 +44,7 @@ count_place p (x ∷ xs) l = by_test (p x)
     let (i, k, t) = count_place p xs (omega (arith, sum_by-cons (λ y. cond (p y) 1 0) x xs, none)) in
     (suc i, omega arith, t))
 
--- a place without a depth is passed by
+-- a place without a depth is skipped
 pub counts_passed : (table counts : List ℕ) (i : ℕ) → i < length table → get_or table i 0 ≡ 2 ^ 32 - 1 → AreCounts (take i table) counts → AreCounts (take (i + 1) table) counts
 counts_passed table counts i l none are = record {
   each = λ n k.

@@ -1,4 +1,4 @@
--- What a table of depths tells of the system whose depths it has.
+-- What a table of depths states about its system.
 use Rattle.std.proofs.Common.{◌≡◌, ◌≢◌, ℕ, zero, suc, ◌+◌, ◌-◌, ◌^◌, ◌<◌, ◌≤◌, ◌==◌, ◌⊎◌, ◌↔◌, not, cond, List, [], ◌++◌, length, drop, filter, get_or, slice_index, flat_map, Option, None, Some, Result, IsTrue, IsFalse, inl, inr, refl, sym, ap, ap₂, ◌∙◌, subst, arith, append_assoc, append-nil, drop-cons, add-one}
 use Rattle.std.specs.Prelude.{count_by, IfSome}
 use Rattle.std.proofs.lemmas.Bool.{both_ways, cases_lt, cases_order, cond-true, cond-false, eqb-true, eq-eqb, ne_eqb, and_from, and_parts, not-true, not_from_false}
@@ -22,7 +22,7 @@ use Rattle.roman_rank.proofs.Tallies.{count_places, count_there, count_place}
 
 -- ---- the depth of a pair
 
--- the depth by a rank
+-- the depth of a pair by its rank
 rank_depth : (s : Sys) (p d : ℕ) → IsSys s → p < count (sizes_of s) → IsRank (numbered s) p d → IsDepth s (pair_at (sizes_of s) p) (cond (d == 2 ^ 32 - 1) None (Some d))
 rank_depth s p d ok l (inl (few, lost, least)) =
     let other : d ≢ 2 ^ 32 - 1 = λ e. absurd (omega (arith, few, e)) in
@@ -34,7 +34,7 @@ rank_depth s p d ok l (inr (is, never)) =
     (related_great s q ok ((numbers_are_pairs s).pair p l)
     (not_from_false (loses (arena s) (length (pairs s)) q) (sym (numbered_loses s (length (pairs s)) p ok l) ∙ never (length (pairs s)))))
 
--- a table of ranks is one of depths
+-- a table of ranks is a table of depths
 pub ranks_depths : (s : Sys) (table : List ℕ) → IsSys s → length (numbered s).nodes ≡ count (sizes_of s) → AreRanks (numbered s) table → AreDepths s table
 ranks_depths s table ok nodes ranks = record {
   system = ok;
@@ -42,7 +42,7 @@ ranks_depths s table ok nodes ranks = record {
   each = λ p l. rank_depth s p (slice_index table p) ok l (ranks.each p (subst (λ m. p < m) (sym nodes) l));
 }
 
--- the table has no depth of a pair that is related, and else its depth
+-- the table has no depth of a related pair, and the depth of any other pair
 pub depth_cases : (s : Sys) (table : List ℕ) (p : ℕ) → AreDepths s table → p < count (sizes_of s) →
     ((slice_index table p ≡ 2 ^ 32 - 1) × Great s (pair_at (sizes_of s) p)) ⊎ ((slice_index table p ≢ 2 ^ 32 - 1) × IsLeast s (pair_at (sizes_of s) p) (slice_index table p))
 depth_cases s table p are l =
@@ -117,7 +117,7 @@ within_counts table counts i ranking l some = elim (cases_lt (slice_index table 
       absurd (omega (arith, none, there, ranking.counted.each (slice_index table i) few))
 ]
 
--- a fact of each number of a pair is one of each pair
+-- a fact about each number of a pair holds for each pair
 by_number : (s : Sys) (P : Pair → Type 0) → ((i : ℕ) → i < count (sizes_of s) → P (pair_at (sizes_of s) i)) → (p : Pair) → IsPair s p → P p
 by_number s P each p pair = subst P ((numbers_are_pairs s).back p pair) (each (number (sizes_of s) p) ((numbers_are_pairs s).below p pair))
 
@@ -173,7 +173,7 @@ least_shortest s p n ok pair least = record {
 
 -- ---- the text
 
--- the lines up to one place, and those after it
+-- the lines up to a place, and those after it
 pub lines_split : (f : ℕ → List ℕ) (counts : List ℕ) (k : ℕ) → k ≤ length counts → ((n : ℕ) → n < length counts → f n ≡ level_line n (slice_index counts n)) →
     level_lines 0 counts ≡ flat_map f (below k) ++ level_lines k (drop k counts)
 lines_split f counts zero l same = refl
@@ -222,7 +222,7 @@ related_are s ok = record {
   );
 }
 
--- the text by a table tells the depths
+-- the text by a table states the depths
 pub table_tells : (s : Sys) (table counts : List ℕ) (p related : ℕ) (start : Option ℕ) → AreDepths s table → IsRanking table counts → p < length table →
     related ≡ related_count s → start ≡ depth_in table p →
     TellsDepths s (pair_at (sizes_of s) p) (head_lines (length table) related ++ level_lines 0 counts ++ last_lines start)
@@ -243,7 +243,7 @@ table_tells s table counts p related start are ranking l is e =
           (lines_told s table counts are ranking ∙ ap (flat_map f) (depths_told (length counts)));
     }
 
--- so it was put
+-- a text that states the depths was written
 pub told_puts : {T E : Type 0} (s : Sys) (table counts : List ℕ) (p pairs related : ℕ) (start : Option ℕ) (old new : Option (List ℕ)) (result : Result T E) → AreDepths s table → IsRanking table counts → p < length table →
     pairs ≡ length table → related ≡ related_count s → start ≡ depth_in table p → Puts old new (head_lines pairs related ++ level_lines 0 counts ++ last_lines start) result →
     PutsDepths s (pair_at (sizes_of s) p) old new result
@@ -253,7 +253,7 @@ told_puts s table counts p pairs related start old new result are ranking l long
   puts = puts;
 }
 
--- ---- what the calls answer
+-- ---- the results of the calls
 
 -- the depth of a pair
 pub depth_is_least : (s : Sys) (table : List ℕ) (p : ℕ) (o : Option ℕ) → AreDepths s table → p < length table → o ≡ depth_in table p → IfSome o (IsLeast s (pair_at (sizes_of s) p))

@@ -1,4 +1,4 @@
--- The text of depths: how many pairs have each depth, and how deep the start pair is.
+-- The text of depths: the number of pairs of each depth, and the depth of the start pair.
 use Rattle.std.specs.Prelude.{◌≡◌, ◌↔◌, ℕ, suc, List, [], ◌∷◌, ◌++◌, Option, None, Some, Result, length, codes, decimal, IfSome}
 use Rattle.std.specs.List.{flat_map}
 use Rattle.roman_io.specs.Sink.{Puts}
@@ -16,17 +16,17 @@ head_lines count related = codes "pairs " ++ decimal count ++ codes "\nrelated "
 abbrev pub level_line : ℕ → ℕ → List ℕ
 level_line n count = codes "depth " ++ decimal n ++ codes ": " ++ decimal count ++ codes "\n"
 
--- the start pair's depth, or that it is related, and the last line
+-- the line of the start pair, with its depth or `related`, and the last line
 abbrev pub last_lines : Option ℕ → List ℕ
 last_lines None = codes "start related\nend\n"
 last_lines (Some n) = codes "start depth " ++ decimal n ++ codes "\nend\n"
 
--- the depths up to the greatest one
+-- the depths up to the greatest depth
 abbrev pub depths_to : Option ℕ → List ℕ
 depths_to None = []
 depths_to (Some n) = below (suc n)
 
--- the text of a system with so many related pairs and that greatest depth, whose start pair is so deep
+-- the text of a system with this number of related pairs, this greatest depth and this depth of the start pair
 abbrev pub depth_text : Sys → ℕ → Option ℕ → Option ℕ → List ℕ
 depth_text s related deepest start =
     head_lines (length (pairs s)) related ++ flat_map (λ n. level_line n (depth_count s n)) (depths_to deepest) ++ last_lines start
@@ -36,7 +36,7 @@ pub record AreRelated (s : Sys) (related : List Pair) : Type 0 where
   pub once : HasNoRepeats related
   pub each : (p : Pair) → IsIn p related ↔ (IsPair s p × Great s p)
 
--- the text tells the depths of a system with that start pair; what it tells of the start pair is the least
+-- the text states the depths of a system with the start pair p; p's depth is the least number of requests within which the opponent wins
 pub record TellsDepths (s : Sys) (p : Pair) (text : List ℕ) : Type 0 where
   pub related : List Pair
   pub great : AreRelated s related
@@ -47,7 +47,7 @@ pub record TellsDepths (s : Sys) (p : Pair) (text : List ℕ) : Type 0 where
   pub least : IfSome start (IsShortest s p)
   pub says : text ≡ depth_text s (length related) deepest start
 
--- a text that tells the depths was put
+-- a text that states the depths was written
 pub record PutsDepths {T E : Type 0} (s : Sys) (p : Pair) (old new : Option (List ℕ)) (result : Result T E) : Type 0 where
   pub text : List ℕ
   pub tells : TellsDepths s p text

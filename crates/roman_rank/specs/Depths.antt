@@ -12,16 +12,16 @@ pub record IsLeast (s : Sys) (p : Pair) (n : ℕ) : Type 0 where
   pub lost : IsTrue (loses (arena s) n p)
   pub no_sooner : (m : ℕ) → m < n → IsFalse (loses (arena s) m p)
 
--- that is the pair's depth; a related pair has none
+-- n is the pair's depth, or None for a related pair
 abbrev pub IsDepth : Sys → Pair → Option ℕ → Type 0
 IsDepth s p None = Great s p
 IsDepth s p (Some n) = IsLeast s p n
 
--- a test of whether n is the pair's depth
+-- tests whether n is the pair's depth
 abbrev pub has_depth : Sys → ℕ → Pair → Bool
 has_depth s n p = loses (arena s) n p && all_below (λ m. not (loses (arena s) m p)) n
 
--- how many pairs have that depth
+-- the number of pairs of depth n
 abbrev pub depth_count : Sys → ℕ → ℕ
 depth_count s n = count_by (has_depth s n) (pairs s)
 
@@ -30,7 +30,7 @@ pub record IsGreatest (s : Sys) (n : ℕ) : Type 0 where
   pub some : (p : Pair) × IsPair s p × IsLeast s p n
   pub all : (p : Pair) → IsPair s p → Great s p ⊎ IsTrue (loses (arena s) n p)
 
--- that is the greatest depth; there is none where every pair is related
+-- n is the greatest depth, or None where every pair is related
 abbrev pub IsDeepest : Sys → Option ℕ → Type 0
 IsDeepest s None = (p : Pair) → IsPair s p → Great s p
 IsDeepest s (Some n) = IsGreatest s n

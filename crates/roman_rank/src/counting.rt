@@ -1,10 +1,11 @@
-//! How often each depth stands in a table.
+//! Counts the pairs of each depth.
 ghost use Rattle.std.specs.Prelude.{◌-◌, ◌^◌, ◌<◌, length, slice_index, IfOk, OnOk};
 ghost use Rattle.roman_rank.specs.Ranking.{AreCounts, HasOneMore};
 
 use std::alloc::{AllocError, Global};
 
-/// How often each depth stands in the table, up to the greatest one there.
+/// Returns how often each depth occurs in the table, up to the greatest depth. Skips `u32::MAX`. Fails
+/// only when out of memory.
 pub(crate) fn counts_of(alloc: Global, depths: &[u32]) -> Result<Vec<u32>, AllocError>
     requires { length depths.now < 2 ^ 32 - 1 }
     ensures { IfOk result (λ counts. AreCounts depths.now counts.items) }
@@ -18,7 +19,7 @@ pub(crate) fn counts_of(alloc: Global, depths: &[u32]) -> Result<Vec<u32>, Alloc
     Ok(counts)
 }
 
-/// Counts a depth once more.
+/// Adds one to the count of a depth. Fails only when out of memory.
 fn count_one(counts: &mut Vec<u32>, depth: u32) -> Result<(), AllocError>
     requires depth { depth < 2 ^ 32 - 1 }
     requires few { slice_index counts.old.items depth < 2 ^ 32 - 1 }

@@ -1,4 +1,4 @@
-//! The levels of a removal list, given to its pairs.
+//! Assigns the levels of a removal list to its pairs.
 ghost use Rattle.std.specs.Prelude.{◌≡◌, ◌-◌, ◌^◌, ◌<◌, ◌≤◌, length, IfOk};
 ghost use Rattle.roman_relation.specs.Shaped.{IsShaped};
 ghost use Rattle.roman_relation.specs.Settled.{AreLevels};
@@ -12,7 +12,8 @@ use roman_rules::Rules;
 use std::alloc::{AllocError, Global};
 use std::sync::ledger::Ledger;
 
-/// The depth of each pair, or `u32::MAX`, by an order whose list has levels and every pair that is lost.
+/// Returns the depth of each pair, or `u32::MAX` for a related pair. Requires an order whose list has
+/// levels and every pair at which the opponent wins. Fails only when out of memory.
 pub(crate) fn depths_by<J: Rules>(
     alloc: Global,
     joint: &J,
@@ -28,7 +29,7 @@ pub(crate) fn depths_by<J: Rules>(
     order.known();
     let pairs = joint.pairs();
     let mut depths = vec![in alloc; u32::MAX; pairs as usize]?;
-    // No pair is deeper than there are pairs.
+    // No depth exceeds the number of pairs.
     let count = order.levels().len().min(pairs as usize + 1);
     let mut start = 0;
     let mut near = 0;
@@ -40,8 +41,8 @@ pub(crate) fn depths_by<J: Rules>(
     Ok(depths)
 }
 
-/// Gives the pairs of the entries from `start` on to `end` the depth `n`. The first is looked for at
-/// the event at place `near` before others, and the place of the next level's first one is given.
+/// Sets the depth of the pairs of the entries from `start` up to `end` to `n`. Looks for the first
+/// entry at the event at place `near` before other places. Returns that place for the next level.
 fn give_depth(order: &Order, depths: &mut [u32], start: u32, end: u32, n: u32, near: usize) -> usize
     requires pairs { length depths.old ≡ pairs_of order.now }
     requires within { end ≤ length order.now.list }
@@ -56,7 +57,8 @@ fn give_depth(order: &Order, depths: &mut [u32], start: u32, end: u32, n: u32, n
     ahead.next()
 }
 
-/// The depth of each pair, or `u32::MAX`, by rounds on a list of its own.
+/// Returns the depth of each pair, or `u32::MAX` for a related pair. Runs the rounds anew, on a list of
+/// its own. Fails only when out of memory.
 pub(crate) fn depths_anew<J: Rules, L: Ledger>(
     alloc: Global,
     joint: &J,

@@ -19,14 +19,16 @@ use std::alloc::{AllocError, Global};
 use std::marker::Model;
 use std::sync::ledger::Ledger;
 
-/// For each pair of a system the least number of requests within which the opponent wins from it.
+/// The depth of each pair of a system: the least number of requests within which the opponent wins from
+/// it.
 ///
-/// Contracts see a table of these numbers, in the order of the pairs' numbers; `u32::MAX` stands for
-/// none. What they say of a system they say of each whose [depths](Ranks::build) the table has.
+/// Contracts see a table of these numbers, in the order of the pairs' numbers. `u32::MAX` stands for a
+/// pair without a depth. A clause about a system holds for each system whose [depths](Ranks::build) the
+/// table has.
 #[derive(Drop)]
 pub struct Ranks {
     depths: Vec<u32>,
-    // how many pairs have each depth, up to the greatest one
+    // the number of pairs of each depth, up to the greatest depth
     counts: Vec<u32>,
 }
 
@@ -42,9 +44,9 @@ impl Model for Ranks {
 }
 
 impl Ranks {
-    /// The depths of a relation's system, whose list is complete. Where the removal list rises by
-    /// depth, level by level, one pass over it gives them; else the rounds are run anew, on a list that
-    /// is given up at the end. The one error is that there is no memory; no other call takes any.
+    /// Returns the depths of a relation's system. Requires a complete list. Takes one pass over the
+    /// removal list where that list has its levels. Runs the rounds anew otherwise, on a list that is
+    /// dropped at the end. Fails only when out of memory. No other call takes memory.
     pub fn build<L: Ledger>(
         alloc: Global,
         relation: &Relation,
@@ -60,15 +62,16 @@ impl Ranks {
         Ok(Ranks { depths, counts })
     }
 
-    /// How many pairs the system has.
+    /// Returns the number of pairs of the system.
     pub fn pairs(&self) -> u32
         ensures { result ≡ length self.now }
     {
         self.depths.len() as u32
     }
 
-    /// The least number of requests within which the opponent wins from the pair `p`; 0 where clause 2
-    /// of an ND-simulation fails there. `None` comes exactly where the pair is related.
+    /// Returns the least number of requests within which the opponent wins from the pair `p`. This is 0
+    /// where clause 2 of an ND-simulation fails at the pair. Returns `None` exactly where the pair is
+    /// related.
     pub fn depth(&self, p: u32) -> Option<u32>
         requires { p < length self.now }
         ensures value { result ≡ depth_in self.now p }
@@ -79,7 +82,7 @@ impl Ranks {
         if depth == u32::MAX { None } else { Some(depth) }
     }
 
-    /// The greatest depth. `None` comes exactly where every pair is related.
+    /// Returns the greatest depth, or `None` exactly where every pair is related.
     pub fn deepest(&self) -> Option<u32>
         ensures greatest { (s : Sys) → AreDepths s self.now → IfSome result (IsGreatest s) }
         ensures related { (s : Sys) → AreDepths s self.now →
@@ -89,7 +92,7 @@ impl Ranks {
         if levels == 0 { None } else { Some(levels - 1) }
     }
 
-    /// How many pairs have the depth `n`, which is below `u32::MAX`.
+    /// Returns the number of pairs of depth `n`. Requires a depth below `u32::MAX`.
     pub fn level(&self, n: u32) -> u32
         requires { n < u32.MAX }
         ensures { (s : Sys) → AreDepths s self.now → result ≡ depth_count s n }
@@ -97,14 +100,14 @@ impl Ranks {
         count_equal(&self.depths, n) as u32
     }
 
-    /// How many pairs of the system are related.
+    /// Returns the number of related pairs of the system.
     pub fn related(&self) -> u32
         ensures { (s : Sys) → AreDepths s self.now → result ≡ related_count s }
     {
         count_equal(&self.depths, u32::MAX) as u32
     }
 
-    /// How many pairs have each depth, up to the greatest one.
+    /// Returns the number of pairs of each depth, up to the greatest depth.
     pub(crate) fn levels(&self) -> &[u32]
         ensures { IsRanking self.now result.now }
     {
@@ -112,7 +115,7 @@ impl Ranks {
     }
 }
 
-/// The depth of each pair, or `u32::MAX`.
+/// Returns the depth of each pair, or `u32::MAX` for a related pair. Fails only when out of memory.
 fn depths_of<L: Ledger>(
     alloc: Global,
     relation: &Relation,

@@ -1,4 +1,4 @@
-//! The text of depths.
+//! Writes depths as a text.
 ghost use Rattle.std.specs.Prelude.{◌≡◌, ◌^◌, ◌<◌, ◌++◌, length};
 ghost use Rattle.roman_io.specs.Faults.{HasCause};
 ghost use Rattle.roman_text.specs.Pages.{Gathers};
@@ -11,8 +11,8 @@ use crate::ranks::Ranks;
 use roman_io::{Failed, Sink};
 use roman_text::{Page, Piece};
 
-/// Writes how many pairs there are and how many are related, how many have each depth, and how deep the
-/// start pair `p` is. The error comes only where the sink's count of faults rose; a prefix of the text
+/// Writes the number of pairs, the number of related pairs, the number of pairs of each depth, and the
+/// depth of the start pair `p`. Fails only where the sink's count of faults rose; a prefix of the text
 /// was then written.
 pub fn write_depths<O: Sink>(ranks: &Ranks, p: u32, out: &mut O) -> Result<(), Failed>
     requires { p < length ranks.now }
@@ -30,7 +30,7 @@ pub fn write_depths<O: Sink>(ranks: &Ranks, p: u32, out: &mut O) -> Result<(), F
     page.flush(out)
 }
 
-/// The first two lines of the text.
+/// Returns the first two lines of the text.
 fn head_piece(pairs: u32, related: u32) -> Piece
     ensures { result ≡ head_lines pairs related }
 {
@@ -38,7 +38,7 @@ fn head_piece(pairs: u32, related: u32) -> Piece
     text.text(b"\nrelated ").number(related).text(b"\n")
 }
 
-/// Takes a line for each count.
+/// Pushes a line for each count on the page.
 fn push_levels<O: Sink>(counts: &[u32], page: &mut Page, out: &mut O) -> Result<(), Failed>
     requires { length counts.now < 2 ^ 32 }
     ensures gathers { Gathers (O.written out.old) (O.written out.new) page.new (page.old ++ level_lines 0 counts.now) result }
@@ -50,7 +50,7 @@ fn push_levels<O: Sink>(counts: &[u32], page: &mut Page, out: &mut O) -> Result<
     Ok(())
 }
 
-/// The line of a depth.
+/// Returns the line of the depth `n`.
 fn level_piece(n: u32, count: u32) -> Piece
     ensures { result ≡ level_line n count }
 {
@@ -58,7 +58,7 @@ fn level_piece(n: u32, count: u32) -> Piece
     text.text(b": ").number(count).text(b"\n")
 }
 
-/// The line of the start pair, and the last line of the text.
+/// Returns the line of the start pair, and the last line of the text.
 fn last_piece(depth: Option<u32>) -> Piece
     ensures { result ≡ last_lines depth }
 {

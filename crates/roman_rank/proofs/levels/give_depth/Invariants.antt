@@ -4,7 +4,7 @@ use Rattle.roman_order.specs.Walks.{IsAhead}
 use Rattle.roman_rank.specs.Ranking.{GivesLevel}
 use Rattle.roman_rank.proofs.levels.give_depth.Given as goal
 
--- the entries so far have given their pairs the depth
+-- the pairs of the entries so far have the depth
 abbrev pub invariant-loop-i : goal.invariant-loop-i
 invariant-loop-i l = record {
   gives : GivesLevel l.order.list l.start l.i l.n l.fn.depths l.depths;
