@@ -1,4 +1,4 @@
--- A service that dies: what becomes of the entries of a removal list.
+-- The entries of a removal list after a service's death.
 use Rattle.std.specs.Prelude.{◌≡◌, ℕ, ◌+◌, ◌*◌, List, ◌++◌, map, drop}
 use Rattle.std.specs.List.{filter, remove}
 use Rattle.roman_model.specs.Lists.{product_of}
@@ -11,19 +11,19 @@ use Rattle.roman_model.specs.declared.reason.Reason.{Reason}
 use Rattle.roman_radix.specs.Rows.{lanes_of}
 use Rattle.roman_order.specs.Board.{as_entry, nodes_of, set_lanes}
 
--- what is left of the entries that may go
+-- the renamed entries, of those in which seat k may leave its state behind
 abbrev pub entries_left : Sizes → ℕ → Seat → List (Entry ℕ) → List (Entry ℕ)
 entries_left n k seat W = map (number_entry_without k n) (filter (λ x. may_go k seat (pair_at n x.node)) W)
 
--- the list with what is left of the entries, of each pair that isn't listed the first
+-- the list, followed by the first renamed entry of each pair that isn't listed
 abbrev pub list_with : Sizes → ℕ → Seat → List (Entry ℕ) → List (Entry ℕ) → List (Entry ℕ)
 list_with n k seat L W = L ++ first_numbers (nodes_of L) (entries_left n k seat W)
 
--- the entries for the pairs from one on whose places are the bits of a word, all for one reason
+-- the entries for the pairs `first + i`, where i is a bit of the word, all for one reason
 abbrev pub entries_from : ℕ → ℕ → Reason → List (Entry ℕ)
 entries_from first word reason = map (λ i. as_entry (first + i, reason)) (set_lanes word)
 
--- so many neighbouring pairs lie in one row and have one state of seat k, and so do those that are left of them
+-- each part of `width` neighbouring pairs lies in one row and has one state of seat k, and the renamed pairs of a part lie in one row
 pub record IsPart (sizes : List ℕ) (k width : ℕ) : Type 0 where
   pub stride : (c : ℕ) × (product_of (drop (k + 1) sizes) ≡ c * width)
   pub lanes : (c : ℕ) × (lanes_of sizes ≡ c * width)

@@ -1,4 +1,4 @@
--- What a repair has done: the relation is complete for the changed system, and its list goes on from the replay.
+-- What a repair does: the relation is complete for the changed system, and its list begins with the replay.
 use Rattle.std.specs.Prelude.{◌≡◌, ℕ, ◌+◌, ◌≤◌, List, [], map, length, take, drop}
 use Rattle.roman_model.specs.System.{Sys, Pair}
 use Rattle.roman_model.specs.Arena.{Entry, IsOrder, replay, fall, readings}
@@ -16,7 +16,7 @@ use Rattle.roman_repair.specs.declared.tally.Tally.{Tally}
 abbrev pub replayed : Change → Sys → List (Entry ℕ) → List (Entry Pair)
 replayed change s old = replay (arena (after change s)) (rename change (map (entry_at s) old))
 
--- the new list, as pairs of the new system, begins with exactly the replay; the tally counts the replay, and what comes after it
+-- the new list, as pairs of the new system, begins with exactly the replay; the tally counts the entries of the replay and the entries after it
 pub record GoesOnFromReplay (change : Change) (s : Sys) (old new : List (Entry ℕ)) (tally : Tally) : Type 0 where
   pub begins : take tally.kept (map (entry_at (after change s)) new) ≡ replayed change s old
   pub kept : tally.kept ≡ length (replayed change s old)
@@ -28,17 +28,17 @@ pub record IsRepaired (change : Change) (old_joint : NamedSys) (old : Board) (ne
   pub relation : IsRelation new_joint new
   pub list : GoesOnFromReplay change (system_of old_joint) old.list new.list tally
 
--- a removal list of the joint's system, in an order that is shaped for it and has room, and where nothing waits
+-- a removal list of the joint's system, in an order that is shaped for it, has room and has no pending entries
 pub record IsBegun (joint : NamedSys) (order : Board) : Type 0 where
   pub valid : IsOrder (arena_of joint) order.list
   pub shaped : IsShaped (arena_of joint) (lanes_in (system_of joint)) order
   pub caps : HasCaps joint order
   pub idle : order.waiting ≡ []
 
--- the fall of a repair: how many delegations lead to the pairs that it added
+-- the fall of a repair: the number of delegations that lead to the pairs that it added
 abbrev pub fall_of : NamedSys → Board → Tally → ℕ
 fall_of joint order tally = fall (numbered (system_of joint)) (drop tally.kept order.list)
 
--- the steps are at most the fall, and as many more as the new system has delegations of an allowed action to a ready seat
+-- the steps are at most the fall plus the number of delegations of an allowed action to a ready seat in the new system
 abbrev pub IsWithinReading : NamedSys → Board → Tally → ℕ → ℕ → Type 0
 IsWithinReading joint order tally before now = now ≤ before + (fall_of joint order tally + readings (numbered (system_of joint)))

@@ -1,4 +1,4 @@
--- What a replay goes over, and what it adds to a list.
+-- The entries over which a replay goes, and what it appends to a list.
 use Rattle.std.specs.Prelude.{◌≡◌, ℕ, ◌<◌, ◌≤◌, Bool, true, List, [], ◌++◌, ◌*◌, flat_map, length, sum_by, IsTrue, IsFalse}
 use Rattle.roman_model.specs.Lists.{IsIn, HasNoRepeats}
 use Rattle.roman_model.specs.Arena.{Arena, Entry, IsOrder, replay, replay_from}
@@ -12,31 +12,31 @@ use Rattle.roman_order.specs.Board.{Board, nodes_of, has_entry}
 use Rattle.roman_relation.specs.Shaped.{IsShaped}
 use Rattle.roman_relation.specs.Greatest.{arena_of, HasCaps}
 
--- the action of the reason, where it names one, is allowed at the node
+-- whether the action of the reason is allowed at the node; true of a reason that names no action
 abbrev pub is_possible : Arena ℕ → ℕ → Reason → Bool
 is_possible A p Final = true
 is_possible A p (Act a) = A.allows p a
 
--- entries that may be kept after those of a list: their nodes are distinct nodes of the arena, none of which is listed, and their actions are allowed there
+-- entries that can be kept after those of a list: their nodes are distinct nodes of the arena, none of them is listed, and their actions are allowed there
 pub record AreCandidates (A : Arena ℕ) (kept L : List (Entry ℕ)) : Type 0 where
   pub once : HasNoRepeats (nodes_of L)
   pub new : (x : Entry ℕ) → IsIn x L → IsFalse (has_entry kept x.node)
   pub nodes : (x : Entry ℕ) → IsIn x L → x.node < length A.nodes
   pub possible : (x : Entry ℕ) → IsIn x L → IsTrue (is_possible A x.node x.reason)
 
--- the list, with those of the candidates that the replay keeps after it
+-- the list, followed by the candidates that the replay keeps
 abbrev pub with_replay : Arena ℕ → List (Entry ℕ) → List (Entry ℕ) → List (Entry ℕ)
 with_replay A kept L = kept ++ replay_from A (nodes_of kept) L
 
--- how many seats are asked about the reasons of all candidates
+-- the number of seats that are asked about the reasons of all candidates
 abbrev pub readings_of_entries : Arena ℕ → List (Entry ℕ) → ℕ
 readings_of_entries A L = sum_by (λ x. readings_of_reason A x.node x.reason) L
 
--- the candidates for which the entries that wait stand, each for its pair with each of so many states
+-- the candidates for which the pending entries stand: for each entry its pair with each of the states
 abbrev pub candidates : ℕ → Board → List (Entry ℕ)
 candidates states board = flat_map (grown_numbers states) board.waiting
 
--- the whole list waits in an empty order for the changed system, which has room, and its replay is a removal list
+-- the whole list is pending in an empty order for the changed system, the order has room, and the replay of the candidates is a removal list
 pub record IsReplayable (joint : NamedSys) (states : ℕ) (board : Board) : Type 0 where
   pub shaped : IsShaped (arena_of joint) (lanes_in (system_of joint)) board
   pub caps : HasCaps joint board

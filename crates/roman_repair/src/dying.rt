@@ -1,4 +1,4 @@
-//! A service dies.
+//! Removes a service that dies.
 ghost use Rattle.std.specs.Prelude.{◌≡◌, ◌+◌, ◌<◌, ◌≤◌, length};
 ghost use Rattle.std.specs.List.{remove};
 ghost use Rattle.roman_model.specs.System.{Seat};
@@ -17,12 +17,13 @@ use roman_io::Steps;
 use roman_relation::Relation;
 use std::sync::ledger::Ledger;
 
-/// Takes the service `k` out of the system, whatever its state; later services move up by one place. Of
-/// the entries in which it may leave its state behind, since it doesn't rest or the state is final, the
-/// list keeps the first of each pair that is left. None of them is asked about: they are justified as
-/// they are. No memory is taken.
+/// Removes the service at place `k` from the system, whatever its state. Later services move up by
+/// one place. Considers only the entries in which the service may leave its state behind: it
+/// doesn't rest, or the state is final. Of these the list keeps the first entry of each renamed
+/// pair. All of them are still justified, so no row is asked about them. Allocates no memory.
 ///
-/// The steps are at most as many as delegations lead to the pairs that are added.
+/// The number of steps is at most the number of delegations that lead to added pairs. Requires a
+/// complete list.
 pub fn die<L: Ledger>(relation: &mut Relation, k: u8, steps: &mut Steps<L>) -> Tally
     requires relation { IsRelation relation.old.joint relation.old.order }
     requires seat { k < length relation.old.joint.seats }

@@ -1,5 +1,5 @@
-//! The replay of events: the entries of a row that wait together are kept where those kept before
-//! justify them.
+//! Replays events. An event is a run of pending entries of one row with one reason. An entry is
+//! kept where the entries kept before it justify it.
 ghost use Rattle.std.specs.Prelude.{◌≡◌, ◌≢◌, ℕ, ◌+◌, ◌<◌, ◌≤◌, true, [], length};
 ghost use Rattle.roman_lanes.specs.Rows.{is_on};
 ghost use Rattle.roman_model.specs.Arena.{is_listed};
@@ -15,9 +15,10 @@ use roman_order::Order;
 use roman_rules::{Asked, Rules};
 use std::sync::ledger::Ledger;
 
-/// Judges the first of the entries for some lanes of the row `x`: lists those up to the first one of
-/// which it isn't known that it is justified. Where that is the first of all the row is asked, and
-/// those up to the first one that is justified are dropped. Gives the lanes that are left.
+/// Judges the first entries for the lanes `lanes` of the row `x`. Lists the entries before the
+/// first one that isn't known to be justified. If there are none, asks the row, drops the entries
+/// before the first justified one, and lists those from there up to the next one that isn't
+/// justified. Returns the remaining lanes. Requires at least one lane.
 fn keep_front<J: Rules, L: Ledger>(
     joint: &J,
     order: &mut Order,
@@ -56,9 +57,10 @@ fn keep_front<J: Rules, L: Ledger>(
     rest
 }
 
-/// Replays the entries for some lanes of the row `x`, the lanes rising, after those of the list. The
-/// row is asked at most once for each of them, and once for all where it isn't asked about any of
-/// them in vain: what is known of it goes on to hold.
+/// Replays the entries for the lanes `lanes` of the row `x`, in rising order of the lanes, and
+/// appends those that it keeps to the list. What is known of the row stays valid, so an answer of
+/// the row serves several entries. The number of steps is at most the number of readings of all the
+/// entries.
 pub(crate) fn keep_lanes<J: Rules, L: Ledger>(
     joint: &J,
     order: &mut Order,
@@ -83,8 +85,8 @@ pub(crate) fn keep_lanes<J: Rules, L: Ledger>(
     }
 }
 
-/// Replays the entries that wait, after those of the list. The rows are as they were when the entries
-/// were listed, so that each event is one row's.
+/// Replays the pending entries, and appends those that it keeps to the list. Requires rows of as
+/// many lanes as when the entries were listed, so that each event lies in one row.
 pub(crate) fn replay_events<J: Rules, L: Ledger>(joint: &J, order: &mut Order, steps: &mut Steps<L>)
     requires shaped { IsShaped (J.arena joint.now) (J.lanes joint.now) order.old }
     requires same_rows { order.old.waiting_lanes ≡ J.lanes joint.now }

@@ -1,4 +1,4 @@
-//! A service freezes.
+//! Freezes a service.
 ghost use Rattle.std.specs.Prelude.{◌≡◌, ◌+◌, ◌≤◌, length, slice_get, IsTrue, true};
 ghost use Rattle.roman_model.specs.SystemArena.{is_ready};
 ghost use Rattle.roman_model.specs.Change.{Freeze};
@@ -13,9 +13,11 @@ use roman_io::Steps;
 use roman_relation::Relation;
 use std::sync::ledger::Ledger;
 
-/// Freezes the service at place k, which is ready, so that it takes no delegations. The old list stays
-/// whole, and the new one begins with it. No memory is taken. The steps are at most as many as
-/// delegations lead to the pairs that are added.
+/// Freezes the ready service at place `k`, so that it takes no delegations. Keeps the whole old
+/// list: the new list begins with it. Allocates no memory. The number of steps is at most the
+/// number of delegations that lead to added pairs.
+///
+/// Requires a complete list.
 pub fn freeze<L: Ledger>(relation: &mut Relation, k: u8, steps: &mut Steps<L>) -> Tally
     requires relation { IsRelation relation.old.joint relation.old.order }
     requires ready { IsTrue (is_ready (slice_get (system_of relation.old.joint).seats k)) }

@@ -1,4 +1,4 @@
-//! A service joins.
+//! Joins a service.
 ghost use Rattle.std.specs.Prelude.{◌≡◌, ◌<◌, ◌++◌, ◌∷◌, [], ◌↔◌, length, map, Err, IfOk, OnOk, OnErr, IsFalse};
 ghost use Rattle.roman_model.specs.Lists.{IsIn};
 ghost use Rattle.roman_model.specs.Change.{Join, after};
@@ -15,15 +15,16 @@ use roman_joint::{Joint, Seat, SeatError};
 use roman_relation::Relation;
 use std::sync::ledger::Ledger;
 
-/// Adds a service, which is ready and whose name is new, at the last place; its behaviour is a place of
-/// the catalogue. Each entry of the old list becomes one for each state of the newcomer, and these are
-/// replayed: one is kept exactly where those kept before it justify it. No memory is taken. The steps
-/// are at most as many as delegations lead to the pairs that are added, and as many more as there
-/// are delegations of an allowed action to a ready service in the new system.
+/// Adds the service `seat` at the last place. The service must be ready, its name new, and its
+/// behaviour a place of the catalogue. Grows each entry of the old list into one entry for each
+/// state of the newcomer, and replays these: keeps an entry exactly where the entries kept before
+/// it justify it. Allocates no memory. The number of steps is at most the number of delegations
+/// that lead to added pairs plus the number of delegations of an allowed action to a ready service
+/// in the new system.
 ///
-/// `Full` comes exactly where there are 32 services, and `Limit` exactly where there are fewer and the
-/// system with the service has more cells than the limit. The relation then stays as it is, and no
-/// step is counted.
+/// Requires a complete list. Fails with `Full` exactly when there are already 32 services. Fails
+/// with `Limit` exactly when there are fewer and the system with the service has more cells than
+/// the limit. On failure the relation stays as it is, and no step is counted.
 pub fn join<L: Ledger>(
     relation: &mut Relation,
     seat: Seat,
@@ -53,7 +54,7 @@ pub fn join<L: Ledger>(
     Ok(replay_and_settle_on(relation, states, lanes, steps))
 }
 
-/// How many states the service may be in.
+/// Returns the number of states of the service's behaviour.
 fn states_of(joint: &Joint, seat: &Seat) -> u8
     requires { seat.now.behaviour < length joint.now.catalogue }
     ensures { result ≡ (seat_of joint.now.catalogue seat.now).beh.states }

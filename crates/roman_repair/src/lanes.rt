@@ -1,12 +1,12 @@
-//! Words of lanes, cut in two or made.
+//! Splits and makes words of lanes.
 ghost use Rattle.std.specs.Prelude.{◌≡◌, ◌≢◌, ℕ, ◌+◌, ◌-◌, ◌*◌, ◌<◌, ◌≤◌, ◌++◌, [], true, false, cond, length, map, flat_map};
 ghost use Rattle.std.specs.List.{filter};
 ghost use Rattle.roman_model.specs.Lists.{below};
 ghost use Rattle.roman_lanes.specs.Rows.{is_on};
 ghost use Rattle.roman_order.specs.Board.{set_lanes};
 
-/// The lanes of a word below the first of them that another word has too, and its other lanes: all of
-/// them and none, where the words have no lane in common.
+/// Splits the lanes of `word` at the first lane that `end` has too. Returns the lanes below it and
+/// the lanes from it on. Returns all lanes and none where the words have no lane in common.
 pub(crate) fn split_lanes(word: u64, end: u64) -> (u64, u64)
     ensures parts { set_lanes word ≡ set_lanes result.0 ++ set_lanes result.1 }
     ensures apart { (lane : ℕ) → is_on result.0 lane ≡ true → is_on end lane ≡ false }
@@ -24,7 +24,8 @@ pub(crate) fn split_lanes(word: u64, end: u64) -> (u64, u64)
     (front, word & !front)
 }
 
-/// The word of the lanes from `begin` on that are below `end`.
+/// Returns the word with the lanes from `begin` to `end - 1`. Requires `begin < end` and `end` at
+/// most 64.
 pub(crate) fn lanes_between(begin: u32, end: u32) -> u64
     requires { (begin < end) × (end ≤ 64) }
     ensures lanes { set_lanes result ≡ map (λ i. begin + i) (below (end - begin)) }

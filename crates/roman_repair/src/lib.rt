@@ -1,12 +1,12 @@
-//! The greatest relation, kept right while services freeze, thaw, join and die.
+//! Repairs the greatest relation when a service freezes, thaws, joins or dies.
 //!
-//! Each call changes the system of a relation by one service and repairs the removal list in place:
-//! the list is renamed to the pairs of the new system, its entries are kept as far as they are
-//! still justified, in their order, and then it is completed. Rows are asked whether they are, not
-//! pairs: what a row answers about a reason serves the entries of its neighbours. A freeze and a
-//! death keep their entries without asking. No call takes memory. The relation's list must be
-//! complete, as [`Relation::build`](roman_relation::Relation::build) leaves it, and after each call
-//! it is so again. `specs/Repairs` says what a repaired relation is.
+//! Each call changes the system of a relation by one service and repairs the removal list in place.
+//! It renames the list to the pairs of the new system, keeps the entries that are still justified,
+//! in their order, and then completes the list. It asks rows, not pairs, whether entries are
+//! justified: the answer of a row about a reason serves the entries of its neighbours. A freeze and
+//! a death keep their entries without asking. No call allocates memory. Each call requires a
+//! complete removal list, as [`Relation::build`](roman_relation::Relation::build) leaves it, and
+//! leaves a complete one. `specs/Repairs` says what a repaired relation is.
 #![tactic(auto)]
 
 mod dying;

@@ -1,4 +1,4 @@
-//! A list that waits to be replayed.
+//! Prepares a list to be replayed.
 ghost use Rattle.std.specs.Prelude.{◌≡◌, []};
 ghost use Rattle.roman_joint.specs.NamedSys.{system_of, IsNamedSys};
 ghost use Rattle.roman_joint.specs.Rows.{lanes_in};
@@ -7,7 +7,8 @@ ghost use Rattle.roman_relation.specs.Greatest.{arena_of, HasCaps};
 
 use roman_relation::Relation;
 
-/// Makes the whole list wait, and begins an empty one for the pairs of the joint, which has changed.
+/// Moves the whole list to the pending entries, and begins an empty list for the pairs of the
+/// changed joint. Requires an empty pending list.
 pub(crate) fn reopen(relation: &mut Relation)
     requires caps { HasCaps relation.old.joint relation.old.order }
     requires idle { relation.old.order.waiting ≡ [] }

@@ -1,4 +1,4 @@
-//! The replay of entries that stand for several pairs each.
+//! Replays entries that stand for several pairs each.
 ghost use Rattle.std.specs.Prelude.{◌≡◌, ℕ, ◌+◌, ◌*◌, ◌<◌, ◌≤◌, true, [], flat_map};
 ghost use Rattle.roman_model.specs.Arena.{is_listed};
 ghost use Rattle.roman_model.specs.NumberedChange.{grown_numbers};
@@ -16,8 +16,8 @@ use roman_order::Order;
 use roman_rules::{Asked, Rules};
 use std::sync::ledger::Ledger;
 
-/// Replays the entries for some lanes of one of the rows that a row becomes, of so `many` the one at
-/// place `i`.
+/// Replays the entries for some lanes of one of the rows that row `x` becomes: of `many` rows the one
+/// at place `i`.
 fn keep_part<J: Rules, L: Ledger>(
     joint: &J,
     order: &mut Order,
@@ -45,9 +45,9 @@ fn keep_part<J: Rules, L: Ledger>(
     keep_lanes(joint, order, asked, x * many + i, word, reason, steps);
 }
 
-/// Replays the pairs that the entries for some lanes of the row `x` stand for, where a row had so many
-/// `lanes`. The row becomes several, one for each part of it that makes a whole row when each lane is
-/// spread to as many neighbours as the newcomer has `states`.
+/// Replays the pairs for which the entries for some lanes of row `x` stand, where a row had `lanes`
+/// lanes. The row becomes one or more whole rows. Each of its lanes becomes `states` neighbours: the
+/// number of states of the new last service.
 fn keep_grown<J: Rules, L: Ledger>(
     joint: &J,
     order: &mut Order,
@@ -80,8 +80,8 @@ fn keep_grown<J: Rules, L: Ledger>(
     }
 }
 
-/// Replays the entries that wait, of rows of so many `lanes`, after those of the list. Each stands for
-/// the pairs to which its own is grown where a service with so many states comes last.
+/// Replays the pending entries of rows of `lanes` lanes, and appends those that it keeps to the list.
+/// Each entry stands for `states` pairs: its own pair with each state of a new last service.
 pub(crate) fn replay<J: Rules, L: Ledger>(
     joint: &J,
     order: &mut Order,

@@ -1,4 +1,4 @@
-//! The end of every repair: the list is completed, and counted.
+//! Completes and counts the list, at the end of each repair.
 ghost use Rattle.std.specs.Prelude.{◌≡◌, ◌+◌, ◌≤◌, length};
 ghost use Rattle.roman_model.specs.Arena.{replay as replay_of};
 ghost use Rattle.roman_joint.specs.NamedSys.{system_of};
@@ -15,7 +15,8 @@ use roman_io::Steps;
 use roman_relation::Relation;
 use std::sync::ledger::Ledger;
 
-/// Goes on from a list to a complete one. Counts what was kept, and what was added.
+/// Completes the list. Returns the number of entries that it began with and the number of added
+/// entries.
 pub(crate) fn settle_on<L: Ledger>(relation: &mut Relation, steps: &mut Steps<L>) -> Tally
     requires { IsBegun relation.old.joint relation.old.order }
     ensures joint { relation.new.joint ≡ relation.old.joint }
@@ -33,9 +34,9 @@ pub(crate) fn settle_on<L: Ledger>(relation: &mut Relation, steps: &mut Steps<L>
     }
 }
 
-/// Replays the list that waits, of rows of so many lanes, each entry for so many pairs, and goes on to a complete one. At most
-/// as many steps go into the replay as there are delegations of an allowed action to a ready
-/// service.
+/// Replays the pending list of rows of `lanes` lanes, each entry for `states` neighbouring pairs, and
+/// completes the list. The number of steps is at most the number of delegations that lead to added
+/// pairs plus the number of delegations of an allowed action to a ready service.
 pub(crate) fn replay_and_settle_on<L: Ledger>(
     relation: &mut Relation,
     states: u8,
@@ -57,9 +58,9 @@ pub(crate) fn replay_and_settle_on<L: Ledger>(
     settle_on(relation, steps)
 }
 
-/// Replays the list that waits, whose rows are those of the changed system, and goes on to a complete
-/// one. At most as many steps go into the replay as there are delegations of an allowed action to
-/// a ready service.
+/// Replays the pending list, whose rows are those of the changed system, and completes the list.
+/// The number of steps is at most the number of delegations that lead to added pairs plus the
+/// number of delegations of an allowed action to a ready service.
 pub(crate) fn replay_events_and_settle_on<L: Ledger>(
     relation: &mut Relation,
     steps: &mut Steps<L>,

@@ -1,11 +1,11 @@
-//! What a repair has done to the removal list.
+//! Counts the entries that a repair kept and added.
 
-/// How many entries of the renamed removal list a repair has kept, and how many it has added: the
-/// numbers of the reply `kept K added N`.
+/// The number of entries of the renamed removal list that a repair kept, and the number of entries
+/// that it added: the numbers of the reply `kept K added N`.
 #[derive(Clone, Copy, Debug, PartialEq, Eq)]
 pub struct Tally {
-    /// The length of the replay of the renamed old list, with which the new list begins.
+    /// The length of the replay of the renamed old list. The new list begins with this replay.
     pub kept: u32,
-    /// How many entries the new list has behind the replay.
+    /// The number of entries that the new list has after the replay.
     pub added: u32,
 }

@@ -1,4 +1,4 @@
-//! A service thaws.
+//! Thaws a service.
 ghost use Rattle.std.specs.Prelude.{◌≡◌, ◌<◌, length, slice_get, IsFalse, false};
 ghost use Rattle.roman_model.specs.SystemArena.{is_ready};
 ghost use Rattle.roman_model.specs.Change.{Thaw};
@@ -14,10 +14,12 @@ use roman_io::Steps;
 use roman_relation::Relation;
 use std::sync::ledger::Ledger;
 
-/// Makes the service at place k ready, which is frozen. The old list is replayed: an entry is kept
-/// exactly where those kept before it still justify it. No memory is taken. The steps are at most as
-/// many as delegations lead to the pairs that are added, and as many more as there are delegations
-/// of an allowed action to a ready service in the new system.
+/// Thaws the frozen service at place `k`, so that it takes delegations again. Replays the old list:
+/// keeps an entry exactly where the entries kept before it still justify it. Allocates no memory.
+/// The number of steps is at most the number of delegations that lead to added pairs plus the
+/// number of delegations of an allowed action to a ready service in the new system.
+///
+/// Requires a complete list.
 pub fn thaw<L: Ledger>(relation: &mut Relation, k: u8, steps: &mut Steps<L>) -> Tally
     requires relation { IsRelation relation.old.joint relation.old.order }
     requires place { k < length relation.old.joint.seats }

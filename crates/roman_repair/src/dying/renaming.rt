@@ -1,4 +1,4 @@
-//! The entries of a removal list after a service's death.
+//! Renames the entries of a removal list after a service's death.
 ghost use Rattle.std.specs.Prelude.{◌≡◌, ℕ, ◌+◌, ◌*◌, ◌<◌, ◌≤◌, true, [], length};
 ghost use Rattle.roman_lanes.specs.Rows.{is_on};
 ghost use Rattle.roman_model.specs.System.{Seat};
@@ -18,8 +18,9 @@ use roman_model::Reason;
 use roman_order::Order;
 use roman_radix::Shape;
 
-/// Into parts of how many neighbouring pairs rows fall where service `k` goes: in each part the
-/// service is in one state, and what is left of the part lies in one row.
+/// Returns the number of neighbouring pairs in each part into which rows fall when the service `k`
+/// dies, from 1 to 64. Within a part the service has one state, and the renamed pairs of the part
+/// lie in one row.
 fn part_width(shape: &Shape, k: u8) -> u32
     requires { k < length shape.now.seats }
     ensures part { IsPart shape.now.seats k result }
@@ -32,9 +33,10 @@ fn part_width(shape: &Shape, k: u8) -> u32
     shape.stride(k)
 }
 
-/// Lists what is left of the entries for some pairs of a part, which begins with the pair `first`, where
-/// service `k` is gone and may leave its state there behind: of those pairs each that isn't listed.
-/// Rows have so many `lanes` without the service.
+/// Renames the entries for pairs of one part, and appends them to the list: one for each renamed
+/// pair that isn't listed yet. Appends nothing where the service `k` may not leave its state
+/// behind. The bits of `word` give the pairs, counted from `first`. `lanes` is the number of lanes
+/// of a row without the service.
 fn rename_part(
     joint: &Joint,
     order: &mut Order,
@@ -69,9 +71,9 @@ fn rename_part(
     order.push_lanes(x, lost, reason);
 }
 
-/// Lists what is left of the entries for some lanes of the row `x` where service `k` is gone, part by
-/// part: of each pair that isn't listed the first entry in which the service may leave its state
-/// behind. Rows have so many `lanes` without the service.
+/// Renames the entries for the lanes `word` of the row `x`, part by part, and appends them to the
+/// list: for each renamed pair that isn't listed yet, the first entry in which the service `k` may
+/// leave its state behind. `lanes` is the number of lanes of a row without the service.
 fn rename_row(
     joint: &Joint,
     order: &mut Order,
@@ -103,7 +105,8 @@ fn rename_row(
     }
 }
 
-/// Renames the list to the pairs without service `k`, and shapes the order for them.
+/// Renames the list to the pairs without the service `k`, and shapes the order for them. Requires
+/// an empty pending list.
 pub(crate) fn rename_list(joint: &Joint, order: &mut Order, k: u8)
     requires shaped { IsShaped (numbered (system_of joint.now)) (lanes_in (system_of joint.now)) order.old }
     requires seat { k < length joint.now.seats }
