@@ -1,4 +1,4 @@
--- A repair begins with the replay, which keeps the most.
+-- A repaired list begins with the replay, which keeps the most entries.
 use Rattle.roman_joint.specs.NamedSys.{system_of}
 use Rattle.roman_laws.specs.Repairs.{ReplaysKeepTheMost}
 use Rattle.roman_repair_laws.specs.Calls.{CallsKeepTheMost}
