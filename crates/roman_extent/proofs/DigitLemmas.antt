@@ -1,4 +1,4 @@
--- Numbers by their decimal digits: one digit more, and what a product makes of them.
+-- Numbers by their decimal digits: one digit more, and the digits of a product.
 use Rattle.std.proofs.Common.{◌≡◌, ℕ, zero, suc, ◌+◌, ◌*◌, ◌/◌, ◌%◌, ◌^◌, ◌<◌, ◌≤◌, min, nat_le, List, [], ◌∷◌, ◌++◌, length, length-append, get_or, take, length-take-le, refl, sym, ap, ◌∙◌, arith, add-one}
 use Rattle.std.proofs.Math.Nat.{pow-zero, pow-suc, min-eq_left, min-eq_right}
 use Rattle.std.proofs.lemmas.Bool.{leb-true, leb-false}
@@ -17,7 +17,7 @@ number_push : (ds : List ℕ) (d : ℕ) → number_with_digits (ds ++ d ∷ []) 
 number_push [] d = omega (arith, ap (λ x. d * x) (pow-zero 10))
 number_push (x ∷ ds) d = omega (arith, number_push ds d, ap (λ x. d * x) (pow-suc 10 (length ds)))
 
--- the last digit of what is carried is put behind the digits, and the rest is carried on
+-- the last digit of the carry is appended to the digits, and the rest is carried on
 pub carry_step : (ds : List ℕ) (s total : ℕ) → number_with_digits ds + s * 10 ^ length ds ≡ total →
     number_with_digits (ds ++ (s % 10) ∷ []) + s / 10 * 10 ^ length (ds ++ (s % 10) ∷ []) ≡ total
 carry_step ds s total h =
@@ -27,7 +27,7 @@ carry_step ds s total h =
     let parts : s ≡ s / 10 * 10 + s % 10 = omega arith in
     omega (arith, h, number_push ds (s % 10), ap (λ x. s / 10 * x) power, ap (λ x. x * p) parts)
 
--- one digit is taken times a factor
+-- one digit is multiplied by a factor
 pub times_step : (ds items : List ℕ) (k d other f carry : ℕ) → k < length ds → d ≡ get_or ds k other → length items ≡ k → number_with_digits items + carry * 10 ^ length items ≡ number_with_digits (take k ds) * f →
     number_with_digits items + (d * f + carry) * 10 ^ length items ≡ number_with_digits (take (k + 1) ds) * f
 times_step ds items k d other f carry l at long h =
@@ -44,7 +44,7 @@ all_digits_push (b ∷ bs) c h l = (h.0, all_digits_push bs c h.1 l)
 pub glyph_value : (d : ℕ) → d < 10 → digit_value (48 + d) ≡ d
 glyph_value d l = omega (arith, digit_value_digit (48 + d) (omega arith, omega arith))
 
--- the digit at place i is put behind the text of those after it
+-- the digit at place i comes after the text of the digits behind it
 pub text_step : (ds bs : List ℕ) (i d other : ℕ) → i < length ds → d ≡ get_or ds i other → d < 10 → digits_value 10 bs * 10 ^ (i + 1) + number_with_digits (take (i + 1) ds) ≡ number_with_digits ds →
     digits_value 10 (bs ++ (48 + d) ∷ []) * 10 ^ i + number_with_digits (take i ds) ≡ number_with_digits ds
 text_step ds bs i d other l at low h =
@@ -62,7 +62,7 @@ product_more ns k n other l at =
     let more : take (k + 1) ns ≡ take k ns ++ n ∷ [] = rw add-one (take-suc ns k other l) ∙ ap (λ z. take k ns ++ z ∷ []) (sym at) in
     ap product_of more ∙ product_push (take k ns) n
 
--- a product that is cut off at a limit is that of the whole, cut off
+-- multiplying a product that is cut off at a limit gives the whole product, cut off at it
 pub cut_step : (p n most : ℕ) → min (min p most * n) most ≡ min (p * n) most
 cut_step p zero most = omega arith
 cut_step p (suc n) most = by_test (nat_le p most)
@@ -73,6 +73,6 @@ cut_step p (suc n) most = by_test (nat_le p most)
     let right : most ≤ p * suc n = omega arith in
     rw (min-eq_right less) (min-eq_right left ∙ sym (min-eq_right right)))
 
--- each digit that is pushed is one
+-- each pushed digit is a decimal digit
 pub digits_push : (ds : List ℕ) (s : ℕ) → AreDigits ds → AreDigits (ds ++ (s % 10) ∷ [])
 digits_push ds s h = All-push (λ d. d < 10) ds (s % 10) h (omega arith)

@@ -1,4 +1,4 @@
--- The sizes of a library multiply to the cells of its system.
+-- The product of the sizes of a library is the number of cells of its system.
 use Rattle.std.proofs.Common.{◌≡◌, ℕ, ◌+◌, ◌*◌, ◌<◌, List, [], ◌∷◌, ◌++◌, All, map, length, get_or, take, refl, sym, ap, ap₂, ◌∙◌, subst, arith, add-one}
 use Rattle.std.proofs.Math.Seq.{take-suc}
 use Rattle.std.proofs.lemmas.List.{map_push}
@@ -12,7 +12,7 @@ use Rattle.roman_library.specs.declared.library.Service.{Service}
 use Rattle.roman_start.specs.Starts.{parts_of}
 use Rattle.roman_extent.specs.Extents.{states_in}
 
--- one more service, and its size
+-- one more service and its size
 module _ (library : PlainLibrary) (known : All (IsService library.catalogue) library.services) (k : ℕ) (x : Service) (y : NamedBeh) where
   pub sizes_push : (sizes : List ℕ) (size : ℕ) → k < length library.services → x ≡ get_or library.services k x → y ≡ get_or library.catalogue x.behaviour y → size ≡ y.beh.states →
       sizes ≡ map (states_in library) (take k library.services) → sizes ++ size ∷ [] ≡ map (states_in library) (take (k + 1) library.services)
@@ -26,7 +26,7 @@ pub product_push : (ns : List ℕ) (n : ℕ) → product_of (ns ++ n ∷ []) ≡
 product_push [] n = omega arith
 product_push (m ∷ ns) n = rw (product_push ns n) (omega arith)
 
--- the services have these sizes in the system
+-- the services have the same sizes in the system
 seat_sizes : (library : PlainLibrary) (services : List Service) → (sizes_of (system_of (parts_of (record library { services = services })))).seats ≡ map (states_in library) services
 seat_sizes library [] = refl
 seat_sizes library (service ∷ services) = ap (λ sizes. states_in library service ∷ sizes) (seat_sizes library services)

@@ -1,11 +1,11 @@
--- Numbers by their decimal digits, the last of them first.
+-- Numbers by their decimal digits, least significant digit first.
 use Rattle.std.specs.Prelude.{ℕ, ◌+◌, ◌*◌, ◌<◌, List, [], ◌∷◌, All}
 
--- each is a decimal digit
+-- each element is a decimal digit
 abbrev pub AreDigits : List ℕ → Type 0
 AreDigits digits = All (λ digit. digit < 10) digits
 
--- the number that digits write, the last of them first
+-- the number that the digits write, least significant digit first
 abbrev pub number_with_digits : List ℕ → ℕ
 number_with_digits [] = 0
 number_with_digits (digit ∷ digits) = digit + 10 * number_with_digits digits

@@ -1,4 +1,4 @@
--- How large the system of a library is.
+-- The extent of the system of a library.
 use Rattle.std.specs.Prelude.{◌≡◌, ℕ, Result, Ok, Err}
 use Rattle.roman_model.specs.Lists.{product_of}
 use Rattle.roman_joint.specs.NamedSys.{beh_at, cells, system_of}
@@ -10,21 +10,21 @@ use Rattle.roman_library.specs.declared.refusal.Refusal.{Refusal}
 use Rattle.roman_start.specs.Starts.{parts_of}
 use Rattle.roman_extent.specs.declared.extent.Extent.{Extent}
 
--- how many states the behaviour of a service has
+-- the number of states of the service's behaviour
 abbrev pub states_in : PlainLibrary → Service → ℕ
 states_in library service = (beh_at library.catalogue service.behaviour).states
 
--- the sizes multiply to the library's cells, and the limit is the library's
+-- the product of the sizes is the number of cells of the library's system, and the limit is the library's
 pub record IsExtent (library : PlainLibrary) (extent : Extent) : Type 0 where
   pub cells : product_of extent.sizes.items ≡ cells (system_of (parts_of library))
   pub limit : extent.limit ≡ library.limit
 
--- it is the extent of an accepted library, and of a refused one there is none
+-- the extent is that of an accepted library; a refused library has none
 abbrev pub IsExtentOf : Extent → Result PlainLibrary Refusal → Type 0
 IsExtentOf extent (Ok library) = IsExtent library extent
 IsExtentOf extent (Err refusal) = ⊥
 
--- what is measured is the library that the document means; an error says of the document what it says where one is loaded
+-- a returned extent is that of the library that the document means; an error means what it does when a document is loaded
 abbrev pub Measures : Result Extent LoadError → Result PlainLibrary Refusal → Type 0
 Measures (Ok extent) reading = IsExtentOf extent reading
 Measures (Err e) reading = Stops e reading

@@ -1,4 +1,4 @@
-//! How large the system of a document is.
+//! Reads how large the system of a document is.
 ghost use Rattle.std.specs.Prelude.{◌≡◌, map, IfOk, IfSome};
 ghost use Rattle.roman_model.specs.Lists.{product_of};
 ghost use Rattle.roman_joint.specs.NamedSys.{cells, system_of};
@@ -12,21 +12,22 @@ use roman_io::Shelf;
 use roman_library::{Library, LoadError, load};
 use std::alloc::{AllocError, Global};
 
-/// How many cells a system has, and how many its document allows.
+/// The sizes of a system, and the number of cells that its document allows.
 #[derive(Drop)]
 pub struct Extent {
-    /// How many states each service has, then the target and the environment, and how many actions
-    /// there are. The system has as many cells as their product.
+    /// The number of states of each service, then of the target and of the environment, and then
+    /// the number of actions. Their product is the number of cells of the system.
     pub sizes: Vec<u32>,
     /// The greatest number of cells that the document allows.
     pub limit: u32,
 }
 
-/// The extent of the system document of this name, whether or not it is within its limit.
+/// Reads the extent of the system document named `system`, whether or not the system is within its
+/// limit. Leaves the texts of the shelf unchanged.
 ///
-/// `Refused` comes exactly where the document breaks a rule, with the first one; `Fault` only where the
-/// shelf failed, and its count of faults rose; `Memory` where there is no memory. The shelf's texts stay
-/// as they are.
+/// Fails with `Refused` only when the document breaks a rule, and names the first broken one. Fails
+/// with `Fault` only when the shelf failed; its count of faults has then risen. Fails with `Memory`
+/// only when out of memory.
 pub fn extent_of<F: Shelf>(alloc: Global, system: &str, shelf: &mut F) -> Result<Extent, LoadError>
     ensures extent { IfSome (F.texts shelf.old) (λ texts. Measures result (library_of texts system.now)) }
     ensures texts { F.texts shelf.new ≡ F.texts shelf.old }
@@ -42,7 +43,7 @@ pub fn extent_of<F: Shelf>(alloc: Global, system: &str, shelf: &mut F) -> Result
     })
 }
 
-/// The sizes of a library's system.
+/// Returns the sizes of a library's system. Fails only when out of memory.
 fn sizes_in(alloc: Global, library: &Library) -> Result<Vec<u32>, AllocError>
     requires { IsLibrary (plain library.now) }
     ensures { IfOk result (λ sizes. product_of sizes.items ≡ cells (system_of (parts_of (plain library.now)))) }
@@ -54,7 +55,7 @@ fn sizes_in(alloc: Global, library: &Library) -> Result<Vec<u32>, AllocError>
     Ok(sizes)
 }
 
-/// How many states each service of a library has.
+/// Returns the number of states of each service of a library. Fails only when out of memory.
 fn service_sizes(alloc: Global, library: &Library) -> Result<Vec<u32>, AllocError>
     requires { IsLibrary (plain library.now) }
     ensures { IfOk result (λ sizes. sizes.items ≡ map (states_in (plain library.now)) (plain library.now).services) }

@@ -1,8 +1,8 @@
-//! How large the system of a document is.
+//! Computes how large the system of a document is.
 //!
-//! [`extent_of`] reads a document and says which sizes its system has, whether or not it is within its
-//! limit, and [`product`] how many cells those are, in decimal digits. `specs/Extents` says what an
-//! extent is, and `specs/Digits` which number digits write.
+//! [`extent_of`] reads a document and returns the sizes of its system, whether or not the system is
+//! within its limit. [`product`] multiplies them to the number of cells, in decimal digits.
+//! `specs/Extents` says what an extent is, and `specs/Digits` which number a list of digits writes.
 #![tactic(auto)]
 
 mod extent;

@@ -1,4 +1,4 @@
-//! Products of any size, in decimal digits.
+//! Computes products of any size, in decimal digits.
 ghost use Rattle.std.specs.Prelude.{◌≡◌, ◌+◌, ◌*◌, ◌^◌, IfOk, length, nat_le, string_bytes};
 ghost use Rattle.std.specs.Str.Parse.{AllDigits, digits_value};
 ghost use Rattle.roman_model.specs.Lists.{product_of};
@@ -6,7 +6,7 @@ ghost use Rattle.roman_extent.specs.Digits.{AreDigits, number_with_digits};
 
 use std::alloc::{AllocError, Global};
 
-/// Whether the product of the factors is at most the limit.
+/// Returns whether the product of the factors is at most the limit.
 pub fn is_within(factors: &[u32], limit: u32) -> bool
     ensures { result ≡ nat_le (product_of factors.now) limit }
 {
@@ -17,7 +17,8 @@ pub fn is_within(factors: &[u32], limit: u32) -> bool
     product <= u64::from(limit)
 }
 
-/// The product of the factors, however large, in decimal digits.
+/// Returns the product of the factors, however large, in decimal digits. Returns `1` when there are
+/// no factors. Fails only when out of memory.
 pub fn product(alloc: Global, factors: &[u32]) -> Result<String, AllocError>
     ensures digits { IfOk result (λ text. AllDigits 10 (string_bytes text)) }
     ensures value { IfOk result (λ text. digits_value 10 (string_bytes text) ≡ product_of factors.now) }
@@ -30,7 +31,8 @@ pub fn product(alloc: Global, factors: &[u32]) -> Result<String, AllocError>
     text_of(alloc, &digits)
 }
 
-/// The digits of a number times a factor, the last of them first.
+/// Multiplies the number with the given digits by `factor`, and returns the digits of the product.
+/// Both lists have the least significant digit first.
 fn times(alloc: Global, digits: &[u8], factor: u32) -> Result<Vec<u8>, AllocError>
     requires { AreDigits digits.now }
     ensures digits { IfOk result (λ product. AreDigits product.items) }
@@ -47,7 +49,8 @@ fn times(alloc: Global, digits: &[u8], factor: u32) -> Result<Vec<u8>, AllocErro
     Ok(product)
 }
 
-/// Pushes the digits of a number behind those of another, the last of them first.
+/// Appends the digits of `number` to `digits`, both with the least significant digit first. Appends
+/// nothing when `number` is 0.
 fn push_number(digits: &mut Vec<u8>, number: u64) -> Result<(), AllocError>
     requires { AreDigits digits.now.items }
     ensures digits { AreDigits digits.new.items }
@@ -63,7 +66,8 @@ fn push_number(digits: &mut Vec<u8>, number: u64) -> Result<(), AllocError>
     Ok(())
 }
 
-/// The text of a number whose digits these are, the last of them first.
+/// Returns the decimal text of the number with the given digits, which have the least significant
+/// digit first.
 fn text_of(alloc: Global, digits: &[u8]) -> Result<String, AllocError>
     requires { AreDigits digits.now }
     ensures digits { IfOk result (λ text. AllDigits 10 (string_bytes text)) }

@@ -2,7 +2,7 @@ use Rattle.std.proofs.Common.{◌≡◌, ◌+◌, ◌*◌, ◌^◌, length}
 use Rattle.roman_extent.specs.Digits.{AreDigits, number_with_digits}
 use Rattle.roman_extent.proofs.products.push_number.Given as goal
 
--- the digits so far, and what is left behind them
+-- the digits so far, and the rest of the number
 abbrev pub invariant-loop-rest : goal.invariant-loop-rest
 invariant-loop-rest l = record {
   digits : AreDigits l.digits.items;

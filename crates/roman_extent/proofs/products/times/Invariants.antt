@@ -2,7 +2,7 @@ use Rattle.std.proofs.Common.{◌≡◌, ◌+◌, ◌*◌, ◌^◌, ◌<◌, len
 use Rattle.roman_extent.specs.Digits.{AreDigits, number_with_digits}
 use Rattle.roman_extent.proofs.products.times.Given as goal
 
--- the digits so far, and what is carried behind them
+-- the digits so far, and the carry
 abbrev pub invariant-loop-digit : goal.invariant-loop-digit
 invariant-loop-digit l = record {
   digits : AreDigits l.product.items;
