@@ -1,4 +1,4 @@
-//! What standard error says of a run that the output doesn't explain.
+//! Explains on standard error how a run ended, where the output doesn't.
 
 use crate::folder::{FolderShelf, Unread};
 use crate::output::StdSink;
@@ -7,7 +7,7 @@ use roman_io::Words;
 use roman_top::Status;
 use std::io::{self, ErrorKind};
 
-/// Says on standard error why a run on the real outside ended with that status, if the output doesn't.
+/// Writes to standard error why a run ended with this status, unless the output explains it.
 pub fn complain_of(
     rt: &HostRuntime,
     status: Status,
@@ -23,7 +23,7 @@ pub fn complain_of(
     }
 }
 
-/// Says on standard error what there is to say of a status alone.
+/// Writes to standard error the message that depends on the status alone, if there is one.
 pub fn complain(rt: &HostRuntime, status: Status) -> io::Result<()> {
     match status {
         Status::ShelfFault => eprintln!(rt; "roman: a file couldn't be read"),
@@ -50,8 +50,8 @@ fn complain_of_file(rt: &HostRuntime, unread: Option<&Unread>) -> io::Result<()>
     }
 }
 
-/// Says how many cells the system that the words name has, and how many it may have; or of a system
-/// within its limit, that the advice asked for would have too many values.
+/// Writes how many cells the system named by the words has, and its limit. For a system within its
+/// limit, writes that the requested advice would have too many values.
 fn complain_of_size(
     rt: &HostRuntime,
     words: &Words,
@@ -73,7 +73,7 @@ fn complain_of_size(
     }
 }
 
-/// Says that advice for as many requests as the words ask for would have too many values.
+/// Writes that advice for the requested number of requests would have too many values.
 fn complain_of_values(rt: &HostRuntime, words: &Words) -> io::Result<()> {
     if words.len() < 4 {
         return Ok(());

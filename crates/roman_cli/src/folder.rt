@@ -1,4 +1,4 @@
-//! The working folder as a shelf.
+//! Implements a shelf over the files of the working folder.
 ghost use Rattle.std.specs.Prelude.{◌≤◌, length, IfOk, None};
 
 use roman_io::{Failed, Shelf};
@@ -7,17 +7,17 @@ use std::fs::File;
 use std::io::{ErrorKind, Read, Seek, SeekFrom};
 use std::rt::Files;
 
-/// A file that couldn't be read.
+/// A file that couldn't be read, and the cause.
 #[derive(Drop)]
 pub struct Unread {
-    /// The file's name, as it was asked for.
+    /// The name of the file, as it was requested.
     pub name: String,
-    /// What the system says of it.
+    /// The kind of error that the system reported.
     pub kind: ErrorKind,
 }
 
-/// The files by their names, which begin in the working folder where they are relative. It tells
-/// nothing of what a file holds. A fetch fails at the first error of the system.
+/// Files by their names. Relative names start at the working folder. The shelf's model doesn't say
+/// what a file holds. A fetch fails at the first error of the system.
 #[derive(Drop)]
 pub struct FolderShelf<'a, R: Files> {
     rt: &'a R,
@@ -27,7 +27,7 @@ pub struct FolderShelf<'a, R: Files> {
 }
 
 impl<'a, R: Files> FolderShelf<'a, R> {
-    /// The files that the runtime reaches.
+    /// Returns a shelf of the files that the runtime reaches.
     pub fn new(rt: &'a R, alloc: Global) -> FolderShelf<'a, R> {
         FolderShelf {
             rt,
@@ -37,12 +37,13 @@ impl<'a, R: Files> FolderShelf<'a, R> {
         }
     }
 
-    /// The file at which a fetch failed last; `None` also where there was no memory for its name.
+    /// Returns the file at which a fetch failed last. Returns `None` when no fetch failed, and when
+    /// there was no memory for the file's name.
     pub fn unread(&self) -> Option<&Unread> {
         self.unread.as_ref()
     }
 
-    /// Reads once from the file at that place.
+    /// Reads once from the file at byte `at`. Returns the number of bytes read.
     fn read(&self, name: &str, at: u64, into: &mut [u8]) -> std::io::Result<usize>
         ensures { IfOk result (λ n. n ≤ length into.new) }
     {

@@ -1,10 +1,11 @@
-//! Standard input as a source.
+//! Implements a source over standard input.
 ghost use Rattle.std.specs.Prelude.{None};
 
 use roman_io::{Failed, Source};
 use std::io::{Read, Stdin};
 
-/// Standard input. It tells nothing of what comes in. A take fails at the first error of the system.
+/// Standard input. Its model doesn't say what comes in. A take fails at the first error of the
+/// system.
 #[derive(Drop)]
 pub struct StdSource {
     input: Stdin,
@@ -12,7 +13,7 @@ pub struct StdSource {
 }
 
 impl StdSource {
-    /// The process's standard input.
+    /// Returns the process's standard input.
     pub fn new(rt: &HostRuntime) -> StdSource {
         StdSource {
             input: rt.stdin(),
@@ -42,7 +43,7 @@ mod tests {
     use super::*;
     use std::test::Fail;
 
-    /// What is taken and written is tried on the built program, by `tests/test_edges.py`.
+    /// `tests/test_edges.py` tests reading and writing on the built program.
     #[test]
     fn taking_into_no_place_is_no_fault(rt: HostRuntime) -> Result<(), Fail> {
         let mut input = StdSource::new(&rt);

@@ -1,4 +1,4 @@
-//! `roman`: the program over the real outside.
+//! Runs the program `roman` on files, standard input and standard output.
 #![tactic(auto)]
 
 ghost use Rattle.std.specs.Prelude.{◌≡◌, ◌<◌};
@@ -32,7 +32,8 @@ fn main(rt: HostRuntime) -> ExitCode {
     ExitCode::from(status.number())
 }
 
-/// The words after the program's name, or how the program ends without them.
+/// Returns the words after the program's name, or the status with which the program ends when they
+/// can't be had.
 fn words(rt: &HostRuntime) -> Result<Words, Status> {
     let args = env::args(rt).map_err(|error| without_words(&error))?;
     let mut words = Words::new(rt.alloc());
@@ -42,8 +43,8 @@ fn words(rt: &HostRuntime) -> Result<Words, Status> {
     Ok(words)
 }
 
-/// How the program ends where its words can't be had: there is no memory for them, or one of them is no
-/// text.
+/// Returns the status with which the program ends when its words can't be had: there is no memory
+/// for them, or one of them isn't valid text.
 fn without_words(error: &io::Error) -> Status {
     match error.kind() {
         ErrorKind::OutOfMemory => Status::Memory,
@@ -51,8 +52,8 @@ fn without_words(error: &io::Error) -> Status {
     }
 }
 
-/// Calls the program on the real outside, with a counter of steps on that blank, and says on standard
-/// error what the output doesn't explain.
+/// Runs the program with a counter of steps on `blank`, and writes to standard error what the
+/// output doesn't explain. Returns the status.
 fn run<L: Ledger>(rt: &HostRuntime, words: &Words, blank: Blank) -> Status
     requires name { blank.name ≡ L.name }
     requires parts { blank.parts ≡ L.parts }

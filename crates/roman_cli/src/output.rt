@@ -1,11 +1,11 @@
-//! Standard output as a sink.
+//! Implements a sink over standard output.
 ghost use Rattle.std.specs.Prelude.{None};
 
 use roman_io::{Failed, Sink};
 use std::io::{self, ErrorKind, Stdout, Write};
 
-/// Standard output. It tells nothing of what was written. A put fails at the first error of the system,
-/// or where nothing is taken of a piece that isn't empty.
+/// Standard output. Its model doesn't say what was written. A put fails at the first error of the
+/// system, or when the system takes nothing of a piece that isn't empty.
 #[derive(Drop)]
 pub struct StdSink {
     out: Stdout,
@@ -14,7 +14,7 @@ pub struct StdSink {
 }
 
 impl StdSink {
-    /// The process's standard output.
+    /// Returns the process's standard output.
     pub fn new(rt: &HostRuntime) -> StdSink {
         StdSink {
             out: rt.stdout(),
@@ -23,13 +23,14 @@ impl StdSink {
         }
     }
 
-    /// Whether a put failed since the reader of the output went away, as the other end of a pipe does.
+    /// Returns whether the last failed put failed because the reader of the output went away, such
+    /// as the other end of a pipe.
     pub fn is_closed(&self) -> bool {
         self.is_closed
     }
 }
 
-/// Whether a write failed since the reader went away.
+/// Returns whether a write failed because the reader went away.
 fn is_of_closed_pipe(written: &io::Result<usize>) -> bool {
     match written {
         Ok(_) => false,
@@ -63,7 +64,7 @@ mod tests {
     use super::*;
     use std::test::Fail;
 
-    /// What is taken and written is tried on the built program, by `tests/test_edges.py`.
+    /// `tests/test_edges.py` tests reading and writing on the built program.
     #[test]
     fn putting_is_no_fault(rt: HostRuntime) -> Result<(), Fail> {
         let mut out = StdSink::new(&rt);
