@@ -1,4 +1,4 @@
--- What is left after a change, and after two.
+-- What remains after a change, and after two.
 use Rattle.std.proofs.Common.{◌≡◌, ℕ, ◌/◌, ◌<◌, ◌↔◌, Bool, true, false, not, List, [], ◌∷◌, length, remove, Some, IsTrue, slice_get, refl, sym, ap, ap₂, ◌∙◌, subst, arith}
 use Rattle.std.proofs.lemmas.List.{length-map}
 use Rattle.roman_model.specs.System.{Seat, Sys, Pair}
@@ -66,7 +66,7 @@ seat_at_place n k seat there = get_map (seat_of n.catalogue) n.seats k seat ther
 pub is_ready_there : (n : NamedSys) (k : ℕ) (seat : joint.Seat) → slice_get n.seats k ≡ Some seat → seat.frozen ≡ false → IsTrue (is_ready (slice_get (system_of n).seats k))
 is_ready_there n k seat there ready = ap is_ready (seat_at_place n k seat there) ∙ ap not ready
 
--- a seat that is frozen stays so
+-- a frozen seat stays frozen
 pub left_frozen : (n : NamedSys) (order : Board) (p k : ℕ) (seat : Seat) → IsRelation n order → p < count (sizes_of (system_of n)) →
     slice_get (system_of n).seats k ≡ Some seat → IsTrue seat.frozen → IsLeft way.Freeze (k ∷ []) n p n order p
 left_frozen n order p k seat relation l there frozen = record {
@@ -126,7 +126,7 @@ left_again way k j old mid new board order p q r l one two = record {
   pair = two.pair ∙ ap (pair_without way (k ∷ [])) one.pair ∙ pair_later way k j (pair_at (sizes_of (system_of old)) p) l;
 }
 
--- the earlier seat is there still
+-- the earlier seat is still present
 pub still_there : (way : Way) (k j : ℕ) (old mid : NamedSys) (order : Board) (p q : ℕ) → k < j → j < length old.seats → IsLeft way (j ∷ []) old p mid order q → k < length mid.seats
 still_there way.Freeze k j old mid order p q l within left =
     let e : length mid.seats ≡ length old.seats =
@@ -140,9 +140,9 @@ still_there way.Die k j old mid order p q l within left =
     let all = length-map old.seats (seat_of old.catalogue) in
     omega (arith, e, shorter, all)
 
--- What can be told, and tried again, of what is left.
+-- What can be told, and tried again, of what remains.
 
--- what was told of the system in which they failed is what is left
+-- the outlook in the system in which the seats failed is the one of what remains
 pub told_left : (way : Way) (K L : List ℕ) (base old new : NamedSys) (order : Board) (p q : ℕ) (o : Outlook) → old ≡ base → K ≡ L → IsLeft way K old p new order q →
     o ≡ outlook (system_of new) (pair_at (sizes_of (system_of new)) q) → o ≡ left_of base p way L
 told_left way K L base old new order p q o same these left is =
@@ -160,21 +160,21 @@ great_told way K L base old new order p q composes same these left great =
     subst (λ M. IsTrue composes ↔ Great (system_without way M (system_of base)) (pair_without way M (pair_at (sizes_of (system_of base)) p))) these
     (subst (λ n. IsTrue composes ↔ Great (system_without way K (system_of n)) (pair_without way K (pair_at (sizes_of (system_of n)) p))) same (great_left way K old new order p q composes left great))
 
--- a scratch of what is left, in which another seat failed, is one still
+-- a scratch of what remains, in which another seat failed, is still one of the base
 pub scratch_again : (way : Way) (K : List ℕ) (base old new : NamedSys) (order : Board) (p q : ℕ) → old ≡ base → IsLeft way K old p new order q → IsScratchOf base new order
 scratch_again way K base old new order p q same left = record { parts = subst (HasSameParts new) same left.parts; caps = left.relation.caps }
 
 -- Copies on which failures are tried.
 
--- there is as much room where only the services are others
+-- the room is the same where only the services differ
 pub caps_for : (m n : NamedSys) (order : Board) → HasSameParts n m → HasCaps m order → HasCaps n order
 caps_for m n order same caps = record { pairs = ap₂ (λ limit actions. limit / actions) same.limit (ap (λ e. e.env.actions) same.environment) ∙ caps.pairs }
 
--- what is left where seats failed is an idle scratch
+-- what remains where seats failed is an idle scratch
 pub left_idle : (way : Way) (K : List ℕ) (base new : NamedSys) (order : Board) (p q : ℕ) → IsLeft way K base p new order q → IsIdleScratchOf base new order
 left_idle way K base new order p q left = record { scratch = record { parts = left.parts; caps = left.relation.caps }; idle = left.relation.complete.idle }
 
--- an idle scratch is one of what is left, too
+-- an idle scratch of the base is one of what remains, too
 pub idle_on_left : (base mid joint : NamedSys) (order : Board) → HasSameParts mid base → IsIdleScratchOf base joint order → IsIdleScratchOf mid joint order
 idle_on_left base mid joint order same idle = record {
   scratch = record { parts = parts_on joint base mid idle.scratch.parts (parts_back mid base same); caps = idle.scratch.caps };

@@ -10,7 +10,7 @@ use Rattle.roman_model.proofs.CallerLemmas.{leave_one, leave_two, freeze_one, fr
 leave_later : {X : Type 0} (k j : ℕ) (xs : List X) → k < j → leave_out (has (k ∷ [])) (leave_out (has (j ∷ [])) xs) ≡ leave_out (has (k ∷ j ∷ [])) xs
 leave_later k j xs l = leave_one k (leave_out (has (j ∷ [])) xs) ∙ ap (λ ys. remove ys k) (leave_one j xs) ∙ sym (leave_two k j xs l)
 
--- it doesn't matter which of two seats freezes first
+-- two seats can freeze in either order
 freeze_swap : (k j : ℕ) (seats : List Seat) → set_frozen (set_frozen seats j true) k true ≡ set_frozen (set_frozen seats k true) j true
 freeze_swap k j [] = refl
 freeze_swap zero zero (x ∷ xs) = refl

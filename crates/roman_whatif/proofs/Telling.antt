@@ -1,4 +1,4 @@
--- What is told in a table.
+-- The outlooks in a table.
 use Rattle.std.proofs.Common.{◌≡◌, ◌≢◌, ℕ, ◌+◌, ◌*◌, ◌<◌, false, List, ◌++◌, length, take, drop, inl, inr, sym, ap, ◌∙◌, subst, arith}
 use Rattle.std.proofs.Math.ListN.{set}
 use Rattle.std.proofs.Math.Seq.{take-append_seam}
@@ -11,15 +11,15 @@ use Rattle.roman_whatif.specs.Told.{told}
 use Rattle.roman_whatif.specs.Losses.{told_at, IsToldOf}
 use Rattle.roman_whatif.specs.declared.outlook.Outlook as declared
 
--- an outlook is put down
+-- an outlook is written
 pub told_there : (table : List declared.Outlook) (i j : ℕ) (o : declared.Outlook) → j ≡ i → i < length table → told_at (set table i o) j ≡ told o
 told_there table i j o same l = ap (told_at (set table i o)) same ∙ ap told (get_or-set_same table i o (record { composes = false; related = 0; choices = 0 }) l)
 
--- the others stay
+-- the other outlooks stay
 pub told_elsewhere : (table : List declared.Outlook) (i j : ℕ) (o : declared.Outlook) → j ≢ i → told_at (set table i o) j ≡ told_at table j
 told_elsewhere table i j o other = ap told (get_or-set_other table i j o (record { composes = false; related = 0; choices = 0 }) other)
 
--- what was told stays where earlier places do
+-- the earlier outlooks stay where the earlier places do
 pub told_still : (parts : NamedSys) (p : ℕ) (way : Way) (i m : ℕ) (table new : List declared.Outlook) → i < 32 → i < m → ((x : ℕ) → x < 32 * m → told_at new x ≡ told_at table x) →
     IsToldOf parts p way i table → IsToldOf parts p way i new
 told_still parts p way i m table new few l same told_of = record {
@@ -27,7 +27,7 @@ told_still parts p way i m table new few l same told_of = record {
   two = λ k below. same (32 * i + k) (omega arith) ∙ told_of.two k below;
 }
 
--- one more is told
+-- the table has one outlook more
 pub told_one_more : (table : List declared.Outlook) (row k : ℕ) (o : declared.Outlook) (left : ℕ → Outlook) → row + k < length table → told o ≡ left k →
     ((i : ℕ) → i < k → told_at table (row + i) ≡ left i) → (i : ℕ) → i < k + 1 → told_at (set table (row + k) o) (row + i) ≡ left i
 told_one_more table row k o left room is so_far i l = elim (cases_lt i k) [
@@ -37,7 +37,7 @@ told_one_more table row k o left room is so_far i l = elim (cases_lt i k) [
       told_there table (row + k) (row + i) o (ap (λ n. row + n) same) room ∙ is ∙ ap left (sym same)
 ]
 
--- a row more is told
+-- the table has one row more
 pub rows_more : (parts : NamedSys) (p : ℕ) (way : Way) (j : ℕ) (table new : List declared.Outlook) → j < 32 → ((x : ℕ) → x < 32 * j → told_at new x ≡ told_at table x) →
     ((i : ℕ) → i < j → IsToldOf parts p way i table) → IsToldOf parts p way j new → (i : ℕ) → i < j + 1 → IsToldOf parts p way i new
 rows_more parts p way j table new few same so_far last i l = elim (cases_lt i j) [
@@ -45,6 +45,6 @@ rows_more parts p way j table new few same so_far last i l = elim (cases_lt i j)
   | inr most ↦ let here : j ≡ i = omega arith in subst (λ n. IsToldOf parts p way n new) here last
 ]
 
--- a slice of a vector that was lent and is as long as it was
+-- a whole slice that was lent and comes back as long as it was is the vector
 pub lent_back : {X : Type 0} (n : ℕ) (xs ys : List X) → n ≡ length xs → length ys ≡ length xs → take n (ys ++ drop (length ys) xs) ≡ ys
 lent_back n xs ys long same = ap (λ m. take m (ys ++ drop (length ys) xs)) (long ∙ sym same) ∙ take-append_seam ys (drop (length ys) xs)

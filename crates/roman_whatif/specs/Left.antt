@@ -1,4 +1,4 @@
--- What is left where services fail.
+-- What remains where services fail.
 use Rattle.std.specs.Prelude.{◌≡◌, ℕ, ◌<◌, List, [], ◌∷◌, Option, None, Some}
 use Rattle.roman_model.specs.Numbers.{sizes_of, count, pair_at}
 use Rattle.roman_model.specs.Without.{system_without, pair_without}
@@ -13,17 +13,17 @@ abbrev pub places : ℕ → Option ℕ → List ℕ
 places first None = first ∷ []
 places first (Some second) = first ∷ second ∷ []
 
--- changes of the base can be tried there: it differs in its services and its list alone, and has the room
+-- changes of the base can be tried on this relation: it differs from the base only in its services and its list, and has room for the base
 pub record IsScratchOf (base joint : NamedSys) (order : Board) : Type 0 where
   pub parts : HasSameParts joint base
   pub caps : HasCaps joint order
 
--- changes of the base can be tried there, and nothing waits there
+-- changes of the base can be tried on this relation, and it has no pending entries
 pub record IsIdleScratchOf (base joint : NamedSys) (order : Board) : Type 0 where
   pub scratch : IsScratchOf base joint order
   pub idle : order.waiting ≡ []
 
--- the relation is that of the system without the seats at the places K of the old one, and q is what is left of the pair p
+-- the relation is that of the system without the seats at the places K of the old system, and q is the pair that remains of p
 pub record IsLeft (way : Way) (K : List ℕ) (old : NamedSys) (p : ℕ) (joint : NamedSys) (order : Board) (q : ℕ) : Type 0 where
   pub relation : IsRelation joint order
   pub parts : HasSameParts joint old

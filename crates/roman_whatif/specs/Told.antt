@@ -1,7 +1,7 @@
--- What is told of an outlook.
+-- The outlook that a value stands for.
 use Rattle.roman_model.specs.Without.{Outlook}
 use Rattle.roman_whatif.specs.declared.outlook.Outlook as declared
 
--- the outlook that was told
+-- the outlook of the model that the value stands for
 abbrev pub told : declared.Outlook → Outlook
 told o = record { composes = o.composes; related = o.related; choices = o.choices }

@@ -1,4 +1,4 @@
-//! Services that fail.
+//! Tries the failures of services.
 ghost use Rattle.std.specs.Prelude.{◌≡◌, ◌<◌, ◌↔◌, [], ◌∷◌, length, IfSome, IsTrue};
 ghost use Rattle.roman_model.specs.Composition.{Great};
 ghost use Rattle.roman_model.specs.Numbers.{sizes_of, count, pair_at};
@@ -15,11 +15,12 @@ use roman_relation::Relation;
 use roman_repair::freeze;
 use std::sync::ledger::Ledger;
 
-/// What is left where the service at the place `first` of `base`, whose list is complete, fails, or
-/// those at the places `first` and `second`, which is the greater: what the pair that is then left
-/// of the pair `p` can look forward to. A service that is frozen already stays so where it freezes.
+/// Returns the outlook after the service at place `first` of `base` fails, or those at the places
+/// `first` and `second`: the outlook of the pair that remains of the pair `p` in the system that
+/// remains. A frozen service stays frozen when it freezes.
 ///
-/// It is tried on `scratch`, which was made from `base`; `base` stays as it is. No memory is taken.
+/// Tries the failure on `scratch`, which was made from `base`, and leaves `base` unchanged.
+/// Requires a complete list of `base`, and `second` greater than `first`. Allocates no memory.
 pub fn without<L: Ledger>(
     scratch: &mut Relation,
     base: &Relation,
@@ -55,8 +56,9 @@ pub fn without<L: Ledger>(
     }
 }
 
-/// The service at place k of `from` fails on a scratch, in which nothing waits: all else there becomes
-/// what it is in `from`, but for a list that a death makes afresh. Answers the pair that is left of `p`.
+/// Makes `scratch` the relation `from` after the failure of its service at place `k`. Overwrites
+/// what `scratch` held, and leaves `from` unchanged. Returns the pair that remains of `p`. Requires
+/// an empty pending list of `scratch`.
 pub(crate) fn fail_on<L: Ledger>(
     scratch: &mut Relation,
     from: &Relation,
@@ -83,7 +85,7 @@ pub(crate) fn fail_on<L: Ledger>(
     }
 }
 
-/// The service at place k fails. Answers the pair that is left of `p`.
+/// Makes the service at place `k` of `relation` fail. Returns the pair that remains of `p`.
 fn fail<L: Ledger>(relation: &mut Relation, p: u32, k: u8, way: Way, steps: &mut Steps<L>) -> u32
     requires relation { IsRelation relation.old.joint relation.old.order }
     requires pair { p < count (sizes_of (system_of relation.old.joint)) }
@@ -96,7 +98,8 @@ fn fail<L: Ledger>(relation: &mut Relation, p: u32, k: u8, way: Way, steps: &mut
     }
 }
 
-/// The service at place k freezes, unless it is frozen.
+/// Freezes the service at place `k`, unless it is frozen already. Returns `p`: a freeze keeps the
+/// pairs.
 fn freeze_seat<L: Ledger>(relation: &mut Relation, p: u32, k: u8, steps: &mut Steps<L>) -> u32
     requires relation { IsRelation relation.old.joint relation.old.order }
     requires pair { p < count (sizes_of (system_of relation.old.joint)) }
@@ -111,8 +114,9 @@ fn freeze_seat<L: Ledger>(relation: &mut Relation, p: u32, k: u8, steps: &mut St
     p
 }
 
-/// The service at place k dies. The list is made afresh, whatever it was: that costs less than to repair
-/// it, since the system that is left is smaller.
+/// Removes the service at place `k`, and returns the pair that remains of `p`. Builds the list
+/// anew, whatever it was: that costs less than a repair, because the remaining system is smaller.
+/// Requires an empty pending list.
 fn lose_seat<L: Ledger>(relation: &mut Relation, p: u32, k: u8, steps: &mut Steps<L>) -> u32
     requires caps { HasCaps relation.old.joint relation.old.order }
     requires idle { relation.old.order.waiting ≡ [] }

@@ -1,10 +1,11 @@
-//! What is left of a composition where services fail.
+//! Computes what remains of a composition when services fail.
 //!
-//! [`now`] tells what a pair can look forward to as things stand: whether it is related, how many pairs
-//! are, and how many services the masks of all pairs and actions have. [`without`] tells the same
-//! where one or two services freeze or die: it tries it on a scratch, a copy of the relation, and
-//! leaves the relation as it is. [`Losses`] tries each service and each two of them, and keeps what
-//! it found in two tables. `specs/Left` says what of the system and of the pair is left then.
+//! [`now`] returns the outlook of a pair in the present system: whether the pair is related, how
+//! many pairs are related, and how many services the masks of all pairs and actions have.
+//! [`without`] returns the outlook after one or two services freeze or die. It tries the failure on
+//! a scratch, which is a copy of the relation, and leaves the relation unchanged. [`Losses`] tries
+//! the failures of each service and of each two services, and keeps the outlooks in two tables.
+//! `specs/Left` says which system and which pair remain then.
 #![tactic(auto)]
 
 mod failing;

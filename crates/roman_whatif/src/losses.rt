@@ -1,4 +1,4 @@
-//! What is left where services fail: each of them alone, and each two.
+//! Tries the failures of each service and of each two services.
 ghost use Rattle.std.specs.Prelude.{◌≡◌, ℕ, ◌+◌, ◌*◌, ◌<◌, length, IfOk};
 ghost use Rattle.roman_model.specs.Numbers.{sizes_of, count};
 ghost use Rattle.roman_joint.specs.NamedSys.{NamedSys, system_of};
@@ -16,32 +16,33 @@ use roman_relation::Relation;
 use std::alloc::{AllocError, Global};
 use std::sync::ledger::Ledger;
 
-/// How many outlooks a service has room for in a table.
+/// The number of outlooks in the row of a service in a table.
 const PLACES: usize = MAX_SERVICES as usize;
 
-/// What stands in a table where nothing is told.
+/// The outlook in the places of a table that are not used.
 const NOTHING: Outlook = Outlook {
     composes: false,
     related: 0,
     choices: 0,
 };
 
-/// What is left of a pair of a relation where one service fails, or two, in either way.
+/// The outlooks of a pair of a relation after one service or two fail, in either way.
 #[derive(Drop)]
 pub struct Losses {
     /// The number of the pair in the relation from which the losses were built.
     pub pair: u32,
-    /// What is left where services freeze: at `32 * j + k` for those at the places k and j, k being
-    /// less than j, and at `32 * j + j` for the one at place j.
+    /// The outlooks after services freeze. The outlook for the services at the places `k` and `j`,
+    /// where `k` is less than `j`, is at `32 * j + k`. The outlook for the service at place `j`
+    /// alone is at `32 * j + j`.
     pub frozen: Vec<Outlook>,
-    /// What is left where services die, at the same places as where they freeze.
+    /// The outlooks after services die, at the same places as in `frozen`.
     pub gone: Vec<Outlook>,
 }
 
 impl Losses {
-    /// Tries the failures of each service, and of each two, on two copies of `base`, whose list is
-    /// complete, and keeps what is left of its pair `p` after each. The one error is that there is
-    /// no memory.
+    /// Tries the failures of each service and of each two services on two copies of `base`, and
+    /// keeps the outlook of its pair `p` after each. Requires a complete list of `base`. Fails only
+    /// when out of memory.
     pub fn build<L: Ledger>(
         alloc: Global,
         base: &Relation,
@@ -57,8 +58,8 @@ impl Losses {
         try_both_ways(alloc, base, p, &mut trials, steps)
     }
 
-    /// What is left where the service at the place `first` fails so, or those at the places `first` and
-    /// `second`, which is the greater.
+    /// Returns the outlook after the service at place `first` fails in this way, or those at the
+    /// places `first` and `second`. Requires `second` greater than `first`.
     pub fn left(&self, first: u8, second: Option<u8>, way: Way) -> Outlook
         requires { (parts : NamedSys) × AreLosses parts self.now × MayFail parts first second }
         ensures { (parts : NamedSys) → AreLosses parts self.now → MayFail parts first second →
@@ -74,14 +75,14 @@ impl Losses {
 /// Two copies of a relation, on which failures are tried.
 #[derive(Drop)]
 struct Trials {
-    /// What is left without one service.
+    /// The relation without one service.
     middle: Relation,
-    /// What is left without another one besides.
+    /// The relation without another service as well.
     scratch: Relation,
 }
 
 impl Trials {
-    /// Copies a relation twice.
+    /// Copies a relation twice. Fails only when out of memory.
     fn build(alloc: Global, base: &Relation) -> Result<Trials, AllocError>
         requires { IsRelation base.now.joint base.now.order }
         ensures { IfOk result (λ trials. AreTrialsOf base.now.joint trials) }
@@ -92,7 +93,7 @@ impl Trials {
     }
 }
 
-/// What a table tells of the services at these places.
+/// Returns the outlook that a table has for the services at these places.
 fn entry(table: &[Outlook], first: u8, second: Option<u8>) -> Outlook
     requires { (parts : NamedSys) × (p : ℕ) × (way : Way) × AreTold parts p way table.now × MayFail parts first second }
     ensures { (parts : NamedSys) (p : ℕ) (way : Way) → AreTold parts p way table.now → MayFail parts first second →
@@ -105,7 +106,8 @@ fn entry(table: &[Outlook], first: u8, second: Option<u8>) -> Outlook
     }
 }
 
-/// Tries the failures of each service, and of each two, in either way.
+/// Tries the failures of each service and of each two services, in both ways. Fails only when out
+/// of memory.
 fn try_both_ways<L: Ledger>(
     alloc: Global,
     base: &Relation,
@@ -128,7 +130,8 @@ fn try_both_ways<L: Ledger>(
     })
 }
 
-/// Tries the failures of each service, and of each two, in one way.
+/// Tries the failures of each service and of each two services, in one way. Returns the table.
+/// Fails only when out of memory.
 fn try_all<L: Ledger>(
     alloc: Global,
     base: &Relation,
@@ -152,7 +155,8 @@ fn try_all<L: Ledger>(
     Ok(table)
 }
 
-/// Tries the failure of the service at place j, and then those of each before it on top of it.
+/// Tries the failure of the service at place `j`, and then the failure of each earlier service on
+/// top of it. Fills the row of the service at place `j` of the table.
 fn try_with<L: Ledger>(
     base: &Relation,
     p: u32,

@@ -1,4 +1,4 @@
-//! What a pair can look forward to.
+//! Computes the outlook of a pair: what it can look forward to in a system.
 ghost use Rattle.std.specs.Prelude.{◌≡◌, ◌<◌, ◌↔◌, IsTrue};
 ghost use Rattle.roman_model.specs.Composition.{Great};
 ghost use Rattle.roman_model.specs.Numbers.{sizes_of, count, pair_at};
@@ -9,20 +9,20 @@ ghost use Rattle.roman_whatif.specs.Told.{told};
 
 use roman_relation::Relation;
 
-/// What a pair of a system can look forward to.
+/// The outlook of a pair of a system.
 #[derive(Clone, Copy, Debug, PartialEq, Eq)]
 pub struct Outlook {
     /// Whether the pair is related.
     pub composes: bool,
-    /// How many pairs of the system are related.
+    /// The number of related pairs of the system.
     pub related: u32,
-    /// How many services the masks of all pairs and actions have together, whether the pairs are
-    /// related or not. At a related pair these are the services that may be offered.
+    /// The number of services in the masks of all pairs and actions together, whether the pairs are
+    /// related or not. At a related pair these are the services that can be offered.
     pub choices: u64,
 }
 
-/// What the pair `p` can look forward to as the system of a relation stands, whose list is complete. No
-/// memory is taken.
+/// Returns the outlook of the pair `p` in the present system of a relation. Requires a complete
+/// list. Allocates no memory.
 pub fn now(relation: &Relation, p: u32) -> Outlook
     requires relation { IsRelation relation.now.joint relation.now.order }
     requires pair { p < count (sizes_of (system_of relation.now.joint)) }

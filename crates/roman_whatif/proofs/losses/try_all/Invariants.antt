@@ -3,7 +3,7 @@ use Rattle.roman_whatif.specs.Losses.{IsToldOf}
 use Rattle.roman_whatif.specs.Trials.{AreTrialsOf}
 use Rattle.roman_whatif.proofs.losses.try_all.Given as goal
 
--- it is told of the seats so far
+-- the table has the outlooks for the seats so far
 abbrev pub invariant-loop-j : goal.invariant-loop-j
 invariant-loop-j g l = record {
   trials : AreTrialsOf l.base.joint l.trials;

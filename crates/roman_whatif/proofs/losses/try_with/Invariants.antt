@@ -3,7 +3,7 @@ use Rattle.roman_whatif.specs.Left.{IsIdleScratchOf, IsLeft}
 use Rattle.roman_whatif.specs.Losses.{told_at, left_of}
 use Rattle.roman_whatif.proofs.losses.try_with.Given as goal
 
--- it is told of the seat alone, and with those before it so far
+-- the table has the outlook for the seat alone, and for it with each earlier seat so far
 abbrev pub invariant-loop-k : goal.invariant-loop-k
 invariant-loop-k g l = record {
   middle : IsLeft l.way (l.j ∷ []) l.base.joint l.p l.trials.middle.joint l.trials.middle.order l.left;
