@@ -1,4 +1,4 @@
--- The text of advice: what requests cost at worst at a pair, the service to take for each allowed action, and all values.
+-- The text of advice: the worst cost of the requests at a pair, the service to take for each allowed action, and all values.
 use Rattle.std.specs.Prelude.{ℕ, suc, ◌-◌, ◌*◌, List, ◌++◌, map, nat_lt, codes, decimal, if◌then◌else◌}
 use Rattle.std.specs.List.{flat_map}
 use Rattle.roman_model.specs.Explanation.{name_at}
@@ -21,7 +21,7 @@ worst_line value = codes "worst " ++ decimal value ++ codes "\n"
 abbrev pub service_text : List ℕ → List ℕ → ℕ → List ℕ
 service_text action service cost = codes "for " ++ action ++ codes ": " ++ service ++ codes " " ++ decimal cost ++ codes "\n"
 
--- the line of an action at a pair: the service to take, and what that costs, where h requests follow
+-- the line of an action at a pair: the service to take, and the cost through it where h requests follow
 abbrev pub choice_line : NamedSys → Costs → ℕ → Pair → ℕ → List ℕ
 choice_line n C h p a =
     let k = choice (system_of n) C h p a in
@@ -31,35 +31,35 @@ choice_line n C h p a =
 abbrev pub value_line : ℕ → ℕ → ℕ → List ℕ
 value_line h p value = codes "value " ++ decimal h ++ codes " " ++ decimal p ++ codes " " ++ decimal value ++ codes "\n"
 
--- the two parts of that line, before the pair's number and from there on
+-- the part of that line before the number of the pair, and the part from there on
 abbrev pub value_head : ℕ → List ℕ
 value_head h = codes "value " ++ decimal h ++ codes " "
 
 abbrev pub value_tail : ℕ → ℕ → List ℕ
 value_tail p value = (decimal p ++ codes " ") ++ (decimal value ++ codes "\n")
 
--- the values of so many requests, at each related pair
+-- the lines of the values for h requests, at each related pair
 abbrev pub value_lines : Sys → Costs → ℕ → List ℕ
 value_lines s C h = flat_map (λ p. value_line h p (least_at s C h p)) (related_pairs s)
 
--- the certificate: the values of 1 to so many requests
+-- the certificate: the values for 1 to `requests` requests
 abbrev pub certificate_text : Sys → Costs → ℕ → List ℕ
 certificate_text s C requests = flat_map (λ h. value_lines s C (suc h)) (below requests)
 
--- advice for so many requests, from a related pair on
+-- the text of advice for `requests` requests, from a related pair on
 unfoldable pub advice_text : NamedSys → List Listed → ℕ → Pair → List ℕ
 advice_text n listed requests p =
     let s = system_of n in
     let C = seat_costs n listed in
     worst_line (least s C requests p) ++ flat_map (choice_line n C (requests - 1) p) (allowed_actions s p) ++ certificate_text s C requests ++ codes "end\n"
 
--- what a request for advice comes to: the pair isn't related, there are too many values, or the text
+-- the result of a request for advice: the pair isn't related, there are too many values, or the text
 pub data Advising : Type 0 where
   Unrelated : Advising
   TooMany : Advising
   Told : (text : List ℕ) → Advising
 
--- what a request for advice comes to by costs that were read
+-- the result of a request for advice, by costs that were read
 abbrev pub advised_by : NamedSys → List Listed → ℕ → Pair → Advising
 advised_by n listed requests p =
     if is_related (system_of n) p

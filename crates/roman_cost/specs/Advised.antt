@@ -1,4 +1,4 @@
--- What advice says of a system: the least that so many requests cost at worst at each related pair.
+-- The values of advice: the least worst-case cost of each number of requests at each related pair.
 use Rattle.std.specs.Prelude.{◌≡◌, ℕ, suc, ◌<◌, ◌≤◌, ◌*◌, List, map, length, slice_index}
 use Rattle.std.specs.List.{filter, flat_map}
 use Rattle.roman_model.specs.Lists.{IsIn, below}
@@ -9,11 +9,11 @@ use Rattle.roman_model.specs.Plans.{Costs, least_at}
 use Rattle.roman_cost.specs.declared.limits.TheConstants.{MAX_REQUESTS}
 use Rattle.roman_cost.specs.Filling.{AreSmall}
 
--- the numbers of the related pairs, rising
+-- the numbers of the related pairs, in rising order
 abbrev pub related_pairs : Sys → List ℕ
 related_pairs s = filter (λ p. is_related s (pair_at (sizes_of s) p)) (below (count (sizes_of s)))
 
--- for each number of requests below n a row of what they cost at worst, at each of the pairs
+-- for each number of requests below n, a row of the least worst-case costs at each of the pairs
 abbrev pub value_rows : Sys → Costs → List ℕ → ℕ → List ℕ
 value_rows s C pairs n = flat_map (λ h. map (least_at s C h) pairs) (below n)
 
@@ -23,18 +23,18 @@ pub record AdviceTable : Type 0 where
   pub pairs : List ℕ
   pub values : List ℕ
 
--- the pairs are those that are related, and the values are what requests cost there at worst
+-- the pairs are the related ones, and the values are the least worst-case costs there
 pub record Advises (s : Sys) (C : Costs) (table : AdviceTable) : Type 0 where
   pub pairs : table.pairs ≡ related_pairs s
   pub values : table.values ≡ value_rows s C table.pairs (suc table.requests)
 
--- each of the pairs stands among them at its rank
+-- the rank of each of the pairs is its place among them
 pub record HavePlaces (pairs ranks : List ℕ) : Type 0 where
   pub within : (p : ℕ) → IsIn p pairs → p < length ranks
   pub below : (p : ℕ) → IsIn p pairs → slice_index ranks p < length pairs
   pub at : (p : ℕ) → IsIn p pairs → slice_index pairs (slice_index ranks p) ≡ p
 
--- there are not too many requests, the pairs have ranks, and each row has a value for each of them, none too great
+-- the number of requests is within its limit, the pairs have ranks, and each row has one value within its bound for each of them
 pub record HasRanks (requests : ℕ) (pairs places values : List ℕ) : Type 0 where
   pub few : requests ≤ MAX_REQUESTS
   pub ranks : HavePlaces pairs places

@@ -18,7 +18,7 @@ use Rattle.roman_cost.specs.Tables.{listed_cost}
 use Rattle.roman_cost.specs.declared.costs.Listed.{Listed}
 use Rattle.roman_cost.specs.declared.limits.TheConstants.{MAX_COST, MAX_COSTS}
 
--- item i: a behaviour, an action and what it costs
+-- item i: a behaviour, an action and the cost
 unfoldable pub cost_item : List (List ℕ) → List (List ℕ) → ℕ → Data → Result Listed PartError
 cost_item behaviours actions i d = do
   items ← looked list.Steps i (list_of d)
@@ -29,20 +29,20 @@ cost_item behaviours actions i d = do
   cost ← check (nat_le number MAX_COST) kind.Count list.Steps i number
   Ok (record { behaviour = behaviour; action = action; cost = cost })
 
--- item i behind those that are listed before it, none of which is for the same behaviour and action
+-- item i after the earlier items, none of which is for the same behaviour and action
 unfoldable pub cost_step : List (List ℕ) → List (List ℕ) → ℕ → List Listed → Data → Result (List Listed) PartError
 cost_step behaviours actions i listed d = do
   item ← cost_item behaviours actions i d
   check (is_none (listed_cost listed item.behaviour item.action)) kind.Repeated list.Steps i (listed ++ item ∷ [])
 
--- the items of a value: a list that isn't too long, each after the other
+-- the costs of a value: a list within its limit, whose items are read in order
 unfoldable pub costs_in : List (List ℕ) → List (List ℕ) → Data → Result (List Listed) PartError
 costs_in behaviours actions d = do
   items ← looked list.Whole 0 (list_of d)
   few ← check (nat_le (items_len items) MAX_COSTS) kind.Count list.Whole 0 items
   each_item (cost_step behaviours actions) 0 [] few
 
--- the value of a text that isn't too long
+-- the value of a text within its limit
 unfoldable pub value_of : Texts → List ℕ → Result Data PartError
 value_of texts name =
     let text = shelf_text texts name in

@@ -1,4 +1,4 @@
--- The errors, numbered in their order.
+-- The numbers of the errors, in the order of the variants.
 use Rattle.std.specs.Prelude.{ℕ}
 use Rattle.roman_cost.specs.declared.error.CostError.{CostError}
 use Rattle.roman_cost.specs.declared.error.CostError.TheVariants as cost

@@ -1,4 +1,4 @@
--- What the text of advice says, by the greatest ND-simulation, by steps and by plans alone.
+-- What the text of advice says, in terms of the greatest ND-simulation, of steps and of plans.
 use Rattle.std.specs.Prelude.{◌≡◌, ℕ, suc, ◌-◌, ◌<◌, ◌↔◌, List, ◌++◌, map, codes}
 use Rattle.std.specs.List.{flat_map}
 use Rattle.roman_model.specs.Composition.{Great}
@@ -14,8 +14,9 @@ use Rattle.roman_cost.specs.ServingPlans.{IsLeastCost, IsCheapest}
 use Rattle.roman_cost.specs.Tables.{seat_costs}
 use Rattle.roman_cost.specs.declared.costs.Listed.{Listed}
 
--- a text names the value of the pair itself, for each action that the target allows the cheapest seat and its cost, where the values
--- of one request less follow, and all values at the related pairs, by their numbers, which rise; the values are least costs
+-- a text names the value of the pair itself, then for each action that the target allows the cheapest seat and its cost, where
+-- the values of one request fewer follow, and then all values at the related pairs, in rising order of their numbers; the values
+-- are least costs
 pub record TellsLeast (n : NamedSys) (C : Costs) (requests : ℕ) (p : Pair) (text : List ℕ) : Type 0 where
   pub value : ℕ → ℕ → ℕ
   pub pairs : List ℕ
@@ -34,7 +35,7 @@ pub record TellsLeast (n : NamedSys) (C : Costs) (requests : ℕ) (p : Pair) (te
       ++ flat_map (λ h. flat_map (λ q. value_line (suc h) q (value (suc h) q)) pairs) (below requests)
       ++ codes "end\n"
 
--- advice at a related pair tells least costs
+-- advice at a related pair names least costs
 abbrev pub AdviceIsLeast : Type 0
 AdviceIsLeast = (n : NamedSys) (listed : List Listed) (requests : ℕ) (p : Pair) → IsSys (system_of n) → IsPair (system_of n) p → Great (system_of n) p →
     TellsLeast n (seat_costs n listed) requests p (advice_text n listed requests p)

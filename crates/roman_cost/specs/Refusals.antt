@@ -1,4 +1,4 @@
--- The answers that name the first broken rule of a text of costs.
+-- The errors that name the first broken rule of a text of costs.
 use Rattle.std.specs.Prelude.{◌≡◌, ℕ, Bool, true, false, Result, Ok, Err}
 use Rattle.roman_io.specs.Faults.{Rose}
 use Rattle.roman_parts.specs.declared.error.List.{List as Place}
@@ -8,34 +8,34 @@ use Rattle.roman_parts.specs.declared.error.PartError.TheVariants as part_error
 use Rattle.roman_cost.specs.declared.error.CostError.{CostError}
 use Rattle.roman_cost.specs.declared.error.CostError.TheVariants as error
 
--- where a rule is broken: by the text as a whole, or by an item
+-- the place of a broken rule: the text as a whole, or an item
 abbrev pub place_of_rule : Bool → Place
 place_of_rule true = list.Whole
 place_of_rule false = list.Steps
 
--- a refusal is the one that the definition gives; a fault and running out of memory say nothing of it
+-- a refusal is the one that the definition gives; a fault and running out of memory say nothing of the text
 abbrev pub IsRefusedBy : {Y : Type 0} → CostError → Result Y PartError → Type 0
 IsRefusedBy error.Fault reading = Unit {0}
 IsRefusedBy (error.Refused kind whole index) reading = reading ≡ Err (part_error.Refused kind (place_of_rule whole) index)
 IsRefusedBy error.Memory reading = Unit {0}
 
--- what the code reads, seen through a view, is what the definition gives, and so is what it refuses
+-- the value that the code reads, seen through a view, is the one that the definition gives, and so is a refusal
 abbrev pub ReadsAs : {X Y : Type 0} → (X → Y) → Result X CostError → Result Y PartError → Type 0
 ReadsAs view (Ok x) reading = reading ≡ Ok (view x)
 ReadsAs view (Err e) reading = IsRefusedBy e reading
 
--- a count of faults rose where the error is a fault, and stayed elsewhere
+-- the count of faults rose if the error is a fault, and stayed otherwise
 abbrev pub IsCostCause : ℕ → ℕ → CostError → Type 0
 IsCostCause old new error.Fault = Rose old new
 IsCostCause old new (error.Refused kind whole index) = new ≡ old
 IsCostCause old new error.Memory = new ≡ old
 
--- a count of faults rose where the answer is a fault, and stayed elsewhere
+-- the count of faults rose if the result is a fault, and stayed otherwise
 abbrev pub HasCostCause : {T : Type 0} → ℕ → ℕ → Result T CostError → Type 0
 HasCostCause old new (Ok x) = new ≡ old
 HasCostCause old new (Err e) = IsCostCause old new e
 
--- no fault is answered
+-- the result isn't a fault
 abbrev pub IsFaultless : {T : Type 0} → Result T CostError → Type 0
 IsFaultless (Ok x) = Unit {0}
 IsFaultless (Err error.Fault) = ⊥

@@ -1,4 +1,4 @@
--- What is listed of costs, and what behaviours cost by it.
+-- Listed costs, and the costs of behaviours by them.
 use Rattle.std.specs.Prelude.{◌≡◌, ℕ, ◌+◌, ◌*◌, ◌<◌, ◌≤◌, ◌==◌, ◌&&◌, List, [], ◌∷◌, length, Option, None, Some, unwrap_or, slice_get, slice_index, if◌then◌else◌}
 use Rattle.std.specs.List.{All}
 use Rattle.roman_model.specs.Plans.{Costs}
@@ -8,42 +8,42 @@ use Rattle.roman_joint.specs.declared.seat.Seat.{Seat}
 use Rattle.roman_cost.specs.declared.costs.Listed.{Listed}
 use Rattle.roman_cost.specs.declared.limits.TheConstants.{MAX_COST}
 
--- costs of so many behaviours and actions: what is listed of them
+-- listed costs, with the numbers of behaviours and actions
 pub record CostTable : Type 0 where
   pub behaviours : ℕ
   pub actions : ℕ
   pub listed : List Listed
 
--- the cost that is listed for both, if one is
+-- the cost that is listed for the behaviour and the action, if there is one
 abbrev pub listed_cost : List Listed → ℕ → ℕ → Option ℕ
 listed_cost [] behaviour action = None
 listed_cost (x ∷ listed) behaviour action = if x.behaviour == behaviour && x.action == action then Some x.cost else listed_cost listed behaviour action
 
--- what a behaviour costs for an action: what is listed for both, else 0
+-- the cost of a behaviour for an action: the listed cost, or 0 where none is listed
 abbrev pub cost_of : List Listed → ℕ → ℕ → ℕ
 cost_of listed behaviour action = unwrap_or (listed_cost listed behaviour action) 0
 
--- what a service costs for an action: what its behaviour does, by its place in the catalogue
+-- the cost of a service for an action: the cost of its behaviour, given by its place in the catalogue
 abbrev pub cost_at : List Listed → Option Seat → ℕ → ℕ
 cost_at listed None action = 0
 cost_at listed (Some seat) action = cost_of listed seat.behaviour action
 
--- what each seat of a system costs for each action
+-- the cost of each seat of a system for each action
 abbrev pub seat_costs : NamedSys → List Listed → Costs
 seat_costs n listed k action = cost_at listed (slice_get n.seats k) action
 
--- the costs are of the behaviours and actions of that system
+-- the numbers of behaviours and actions are those of that system
 pub record AreOf (n : NamedSys) (table : CostTable) : Type 0 where
   pub behaviours : table.behaviours ≡ length n.catalogue
   pub actions : table.actions ≡ length n.environment.actions
   pub env_actions : table.actions ≡ n.environment.env.actions
 
--- one more than a cost, 0 for none
+-- the cost plus 1, or 0 for none
 abbrev pub cell_of : Option ℕ → ℕ
 cell_of None = 0
 cell_of (Some cost) = cost + 1
 
--- no listed cost is too great, and the cell of a behaviour and an action tells what is listed for both
+-- no listed cost is too great, and the cell of each behaviour and action has the cost that is listed for them
 pub record HoldsCosts (table : CostTable) (laid : List ℕ) : Type 0 where
   pub few_behaviours : table.behaviours ≤ MAX_BEHAVIOURS
   pub few_actions : table.actions ≤ MAX_ACTIONS

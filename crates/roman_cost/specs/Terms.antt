@@ -1,4 +1,4 @@
--- The terms from which a row of values is worked out.
+-- The terms from which a row of values is computed.
 use Rattle.std.specs.Prelude.{ℕ, ◌+◌, List, [], ◌∷◌, ◌++◌, map, Option, None, Some, unwrap_or, max, min, nat_le, if◌then◌else◌, slice_index}
 use Rattle.std.specs.List.{flat_map}
 use Rattle.roman_model.specs.Numbers.{sizes_of, pair_at, numbered}
@@ -9,30 +9,30 @@ use Rattle.roman_cost.specs.declared.terms.Term.{Term}
 use Rattle.roman_cost.specs.declared.terms.Term.TheVariants as term
 use Rattle.roman_cost.specs.declared.terms.Standing.{Standing}
 
--- nothing is worked out of a pair yet
+-- the state before the first term of a pair
 abbrev pub nothing_yet : Standing
 nothing_yet = record { worst = 0; cheapest = None; dearest = 0 }
 
--- the lesser of the cost so far, if there is one, and another
+-- the lesser of the best cost so far, if there is one, and another
 abbrev pub cheaper_of : Option ℕ → ℕ → ℕ
 cheaper_of None cost = cost
 cheaper_of (Some best) cost = if nat_le best cost then best else cost
 
--- how far a pair is worked out after one term more
+-- the state after one more term
 abbrev pub stepped : List ℕ → Term → Standing → Standing
 stepped row (term.Outcome rank) s = record { worst = s.worst; cheapest = s.cheapest; dearest = max s.dearest (slice_index row rank) }
 stepped row (term.Service cost) s = record { worst = s.worst; cheapest = Some (cheaper_of s.cheapest (min (cost + s.dearest) 4294967295)); dearest = 0 }
 stepped row term.Action s = record { worst = max s.worst (unwrap_or s.cheapest 0); cheapest = None; dearest = 0 }
 stepped row term.Pair s = nothing_yet
 
--- the value that a term ends, if it does
+-- the value of the pair that a term ends, if it ends one
 abbrev pub ended : Term → Standing → List ℕ
 ended (term.Outcome rank) s = []
 ended (term.Service cost) s = []
 ended term.Action s = []
 ended term.Pair s = s.worst ∷ []
 
--- the values to which terms come by a row
+-- the values that the terms give by a row
 abbrev pub worked_out : List ℕ → List Term → Standing → List ℕ
 worked_out row [] s = []
 worked_out row (t ∷ terms) s = ended t s ++ worked_out row terms (stepped row t s)

@@ -1,4 +1,4 @@
-//! Advice: the least that requests cost at worst.
+//! Computes advice: the least that requests cost at worst.
 ghost use Rattle.std.specs.Prelude.{◌≡◌, ◌+◌, ◌-◌, ◌*◌, ◌<◌, ◌≤◌, ◌↔◌, map, length, Err, IfOk, IsTrue};
 ghost use Rattle.roman_model.specs.Lists.{IsIn};
 ghost use Rattle.roman_model.specs.System.{Sys};
@@ -24,14 +24,14 @@ use roman_relation::Relation;
 use std::alloc::Global;
 use std::marker::Model;
 
-/// For each number of requests up to a greatest, and for each related pair, the least that they cost
-/// there at worst. Contracts see the greatest number, the pairs, and the rows of values one behind
-/// another, the first for no request.
+/// The least worst-case costs of each number of requests, up to a greatest number, at each related
+/// pair. Contracts see the greatest number, the pairs, and the rows of values one after another,
+/// starting with the row for no request.
 #[derive(Drop)]
 pub struct Advice {
     requests: u8,
     pairs: Vec<u32>,
-    // For each pair of the system how many related pairs come before it.
+    // For each pair of the system, the number of related pairs before it.
     ranks: Vec<u32>,
     values: Vec<u32>,
 }
@@ -52,11 +52,11 @@ impl Model for Advice {
 }
 
 impl Advice {
-    /// Advice for up to `h` requests, from 1 to [`MAX_REQUESTS`], by costs that were read for the
-    /// relation's system, whose list is complete.
+    /// Builds advice for up to `h` requests, from 1 to [`MAX_REQUESTS`]. Requires costs that were
+    /// read for the relation's system, and a relation whose list is complete.
     ///
-    /// `Limit` comes exactly where the related pairs times `h` are more than [`MAX_VALUES`], before any
-    /// memory is taken; `Memory` comes only where there is none.
+    /// Fails with `Limit` exactly when the number of related pairs times `h` is greater than
+    /// [`MAX_VALUES`], before it allocates any memory. Fails with `Memory` only when out of memory.
     pub fn build(
         alloc: Global,
         relation: &Relation,
@@ -104,22 +104,23 @@ impl Advice {
         })
     }
 
-    /// The greatest number of requests: the one for which it was built.
+    /// Returns the greatest number of requests: the number for which the advice was built.
     pub fn requests(&self) -> u8
         ensures { result ≡ self.now.requests }
     {
         self.requests
     }
 
-    /// The numbers of the related pairs, rising.
+    /// Returns the numbers of the related pairs, in rising order.
     pub fn pairs(&self) -> &[u32]
         ensures { result.now ≡ self.now.pairs }
     {
         &self.pairs
     }
 
-    /// The least that `h` requests cost at worst at a related pair `p`, for `h` from 0 to the number
-    /// that was built: over all plans for them, whatever the target asks for and whatever comes of it.
+    /// Returns the least that `h` requests cost at worst at the related pair `p`: the minimum over
+    /// all plans for them of the maximum over all requests of the target and all outcomes. Requires
+    /// `h` from 0 to the number of requests for which the advice was built.
     pub fn value(&self, h: u8, p: u32) -> u32
         requires requests { h ≤ self.now.requests }
         requires related { IsIn p self.now.pairs }
@@ -129,7 +130,7 @@ impl Advice {
         self.values[h as usize * self.pairs.len() + rank as usize]
     }
 
-    // What so many requests cost at worst at each of the pairs.
+    // Returns the row of values for `h` requests: the least worst-case cost at each of the pairs.
     pub(crate) fn row(&self, h: u8) -> &[u32]
         requires { h ≤ self.now.requests }
         ensures row { (s : Sys) (C : plans.Costs) → Advises s C self.now → result.now ≡ map (least_at s C h) self.now.pairs }
@@ -139,10 +140,11 @@ impl Advice {
         row_of(&self.values, h as usize, self.pairs.len())
     }
 
-    /// Of the services that may be offered for the action `a`, which the target allows at the
-    /// related pair `p`, the least one through which it costs least, with `h - 1` requests after
-    /// it, and that cost. The relation and the costs are those of [`build`](Advice::build), and `h`
-    /// is from 1 to the number that was built. No memory is taken.
+    /// Returns the cheapest service for the action `a` at the related pair `p`, and its cost. The
+    /// cost is the least worst-case cost of `h` requests of which the first is `a` and is delegated
+    /// to the service. Of several cheapest services it returns the first. Requires that the target
+    /// allows the action at the pair, the relation and the costs of [`build`](Advice::build), and
+    /// `h` from 1 to the number of requests for which the advice was built. Allocates no memory.
     pub fn choice(&self, relation: &Relation, costs: &Costs, h: u8, p: u32, a: u8) -> (u8, u32)
         requires relation { IsRelation relation.now.joint relation.now.order }
         requires costs { AreOf relation.now.joint costs.now }

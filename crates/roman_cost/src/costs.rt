@@ -1,4 +1,4 @@
-//! What behaviours cost for actions.
+//! Stores what behaviours cost for actions.
 ghost use Rattle.std.specs.Prelude.{◌≡◌, ◌<◌, ◌≤◌, [], ◌∷◌, ◌++◌, is_some, All, IfOk, OnOk, None};
 ghost use Rattle.roman_model.specs.declared.limits.TheConstants.{MAX_BEHAVIOURS, MAX_ACTIONS};
 ghost use Rattle.roman_cost.specs.Tables.{CostTable, listed_cost, cost_of};
@@ -7,7 +7,7 @@ use crate::limits::MAX_COST;
 use std::alloc::{AllocError, Global};
 use std::marker::Model;
 
-/// An item of a text of costs: what a behaviour costs for an action.
+/// An item of a text of costs: the cost of a behaviour for an action.
 #[derive(Clone, Copy, Debug, PartialEq, Eq)]
 pub struct Listed {
     /// The place of the behaviour in the catalogue.
@@ -18,14 +18,14 @@ pub struct Listed {
     pub cost: u32,
 }
 
-/// What the behaviours of a catalogue cost for actions. Contracts see what is listed, in its order,
-/// and of how many behaviours and actions.
+/// The costs of the behaviours of a catalogue for actions. Contracts see the listed costs, in their
+/// order, and the numbers of behaviours and actions.
 #[derive(Drop)]
 pub struct Costs {
     behaviours: usize,
     actions: usize,
     listed: Vec<Listed>,
-    // By behaviour and then by action: one more than the cost, 0 where none is listed.
+    // By behaviour and then by action: the cost plus 1, or 0 where no cost is listed.
     cells: Vec<u32>,
 }
 
@@ -48,7 +48,8 @@ impl Model for Costs {
 }
 
 impl Costs {
-    /// Costs of so many behaviours and actions, with room for some that are listed: none is yet.
+    /// Returns an empty list of costs for `behaviours` behaviours and `actions` actions, with room
+    /// for `room` items. Fails only when out of memory.
     pub(crate) fn none(
         alloc: Global,
         behaviours: usize,
@@ -70,7 +71,7 @@ impl Costs {
         })
     }
 
-    /// Whether a cost is listed for a behaviour and an action.
+    /// Returns whether a cost is listed for `behaviour` and the action `a`.
     pub(crate) fn has(&self, behaviour: u8, a: u8) -> bool
         requires behaviour { behaviour < self.now.behaviours }
         requires action { a < self.now.actions }
@@ -79,7 +80,8 @@ impl Costs {
         self.cells[behaviour as usize * self.actions + a as usize] != 0
     }
 
-    /// Lists a cost behind the others, none of which is for the same behaviour and action.
+    /// Appends a cost to the list. Requires that no cost is listed for its behaviour and action
+    /// yet. Fails only when out of memory.
     pub(crate) fn put(&mut self, item: Listed) -> Result<(), AllocError>
         requires behaviour { item.behaviour < self.old.behaviours }
         requires action { item.action < self.old.actions }
@@ -92,15 +94,15 @@ impl Costs {
         Ok(())
     }
 
-    /// Tells a prover what holds of all costs: none is greater than [`MAX_COST`]. It does nothing.
+    /// Does nothing. Its contract states that no listed cost is greater than [`MAX_COST`].
     pub fn known(&self)
         ensures { All (λ x. x.cost ≤ MAX_COST) self.now.listed }
     {
         let _listed = &self.listed;
     }
 
-    /// What a behaviour, by its place in the catalogue, costs for the action `a`: what is listed for
-    /// both, else 0.
+    /// Returns the cost of a behaviour, given by its place in the catalogue, for the action `a`:
+    /// the listed cost, or 0 where none is listed.
     pub fn cost(&self, behaviour: u8, a: u8) -> u32
         requires behaviour { behaviour < self.now.behaviours }
         requires action { a < self.now.actions }

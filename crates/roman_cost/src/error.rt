@@ -1,4 +1,4 @@
-//! Why costs aren't read, and why no advice is built.
+//! Defines why costs can't be read, and why advice can't be built.
 ghost use Rattle.std.specs.Prelude.{◌≡◌};
 ghost use Rattle.roman_cost.specs.Errors.{cost_error_number, advice_error_number};
 ghost use Rattle.roman_cost.specs.declared.error.CostError.TheVariants as cost;
@@ -8,20 +8,21 @@ use roman_read::Kind;
 use std::alloc::{AllocError, AllocFailed};
 use thiserror::Error;
 
-/// Why a text gives no costs.
+/// The reasons why a text's costs can't be read.
 #[derive(Clone, Copy, Debug, PartialEq, Eq, Error)]
 pub enum CostError {
     /// The shelf failed, and its count of faults rose.
     #[error("the shelf failed")]
     Fault,
-    /// The text breaks a rule, and none before it in the order in which it is read.
+    /// The text breaks a rule. This is the first broken rule in the order in which the text is
+    /// read.
     #[error("a rule of costs is broken at item {index}")]
     Refused {
-        /// The rule.
+        /// The kind of rule.
         kind: Kind,
-        /// Whether the text as a whole breaks it. Else one of its items does.
+        /// Whether the text as a whole breaks the rule. Otherwise one of its items breaks it.
         whole: bool,
-        /// The number of that item, from 0; 0 for the whole.
+        /// The number of that item, from 0. It is 0 when the text as a whole breaks the rule.
         index: u32,
     },
     /// There is no memory.
@@ -30,7 +31,7 @@ pub enum CostError {
 }
 
 impl CostError {
-    /// The error's number, from 1 to 3 in the order of the variants.
+    /// Returns the error's number, from 1 to 3 in the order of the variants.
     pub fn number(&self) -> u8
         ensures number { result ≡ cost_error_number self.now }
     {
@@ -58,10 +59,11 @@ impl<T: Drop> From<AllocFailed<T>> for CostError {
     }
 }
 
-/// Why there is no advice.
+/// The reasons why advice can't be built.
 #[derive(Clone, Copy, Debug, PartialEq, Eq, Error)]
 pub enum AdviceError {
-    /// There are more related pairs times requests than [`MAX_VALUES`](crate::MAX_VALUES).
+    /// The number of related pairs times the number of requests is greater than
+    /// [`MAX_VALUES`](crate::MAX_VALUES).
     #[error("there are too many values")]
     Limit,
     /// There is no memory.
@@ -70,7 +72,7 @@ pub enum AdviceError {
 }
 
 impl AdviceError {
-    /// The error's number: 1 for `Limit` and 2 for `Memory`.
+    /// Returns the error's number: 1 for `Limit` and 2 for `Memory`.
     pub fn number(&self) -> u8
         ensures number { result ≡ advice_error_number self.now }
     {

@@ -1,4 +1,4 @@
-//! The tables of advice.
+//! Fills the tables of advice.
 ghost use Rattle.std.specs.Prelude.{◌≡◌, ℕ, suc, ◌+◌, ◌*◌, ◌<◌, ◌≤◌, ◌++◌, map, take, length, slice_range, IfOk, OnOk};
 ghost use Rattle.std.specs.List.{flat_map};
 ghost use Rattle.roman_model.specs.Lists.{IsIn};
@@ -16,10 +16,11 @@ use crate::terms::{Term, push_pair, work_out};
 use roman_relation::Relation;
 use std::alloc::{AllocError, Global};
 
-/// About how many terms are kept from row to row.
+/// The approximate number of terms that are kept from row to row.
 const MAX_TERMS: usize = 1_048_576;
 
-/// The related pairs, rising, and for each pair how many related pairs come before it.
+/// Returns the related pairs, in rising order, and for each pair of the system the number of
+/// related pairs before it. Fails only when out of memory.
 pub(crate) fn ranked_pairs(
     alloc: Global,
     relation: &Relation,
@@ -42,7 +43,8 @@ pub(crate) fn ranked_pairs(
     Ok((pairs, ranks))
 }
 
-/// The terms of as many of the first related pairs as come to about [`MAX_TERMS`], and how many these are.
+/// Returns the terms of the first related pairs, and the number of these pairs. Stops after the
+/// first pair that brings the terms to [`MAX_TERMS`] or more. Fails only when out of memory.
 pub(crate) fn first_terms(
     alloc: Global,
     relation: &Relation,
@@ -68,8 +70,9 @@ pub(crate) fn first_terms(
     Ok((terms, pairs.len()))
 }
 
-/// Puts behind the rows of values the next one, for one request more, from the terms of the first pairs.
-/// Those of the others are made again, on `spare`.
+/// Appends to `values` the next row, for `h + 1` requests. `terms` has the terms of the first
+/// `told` pairs. Makes the terms of the other pairs again, on `spare`. Fails only when out of
+/// memory.
 pub(crate) fn push_row(
     values: &mut Vec<u32>,
     relation: &Relation,
@@ -105,7 +108,8 @@ pub(crate) fn push_row(
     Ok(())
 }
 
-/// Puts behind the values those of related pairs for one request more than the row has.
+/// Appends the values of the related pairs `others` for one request more than `row` has. Fails only
+/// when out of memory.
 fn work_out_others(
     relation: &Relation,
     costs: &Costs,
@@ -134,7 +138,7 @@ fn work_out_others(
     Ok(())
 }
 
-/// The row at place `i` of a table whose rows have `n` values each.
+/// Returns the row at place `i` of a table whose rows have `n` values each.
 pub(crate) fn row_of<T>(table: &[T], i: usize, n: usize) -> &[T]
     requires { i * n + n ≤ length table.now }
     ensures { result.now ≡ slice_range table.now (i * n) (i * n + n) }

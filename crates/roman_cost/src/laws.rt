@@ -1,10 +1,11 @@
-//! Laws over the definitions of advice, each the contract of a function with no body.
+//! States laws on the definitions of advice. Each law is the contract of a function that does
+//! nothing.
 ghost use Rattle.roman_cost.specs.Laws.{AdviceIsLeast};
 
-/// Each value of the text of advice is the least that so many requests cost at worst, over all plans,
-/// at a pair that the greatest ND-simulation holds; and it names such pairs alone, and all of them.
-/// For each action that is allowed at the pair of the advice it names the first of the offered
-/// services through which the action costs least, and that cost.
+/// Each value of the text of advice is the least worst-case cost of that number of requests, over
+/// all plans, at a pair of the greatest ND-simulation. The text names all such pairs and no others.
+/// For each action that the target allows at the pair of the advice it names the first of the
+/// services that serve the action at the least cost, and that cost.
 pub fn advice_is_least()
     ensures least { AdviceIsLeast }
 {}

@@ -1,11 +1,11 @@
-//! What delegations cost, and the cheapest of them.
+//! Computes what delegations cost, and the cheapest of them.
 //!
-//! [`read_costs`] reads what behaviours cost for actions from a text on a shelf. [`Advice`] has for
-//! each related pair the least that so many requests cost there at worst, whatever the target asks
-//! for and whatever comes of it, and the service to delegate the next one to. [`put_advice`] puts
-//! all these values as a text, and the services for the requests that may come first. `specs/Costs`
-//! says what a text of costs means, `specs/AdviceText` what the text of advice is, and `specs/Laws`
-//! what it says of plans.
+//! [`read_costs`] reads from a text on a shelf what behaviours cost for actions. [`Advice`] has,
+//! for each related pair, the least that a number of requests costs there at worst, whatever the
+//! target requests and whichever outcomes follow. It also gives the service to which the next
+//! request is best delegated. [`put_advice`] writes all these values as a text, with the service to
+//! take for each request that can come first. `specs/Costs` says what a text of costs means,
+//! `specs/AdviceText` what the text of advice is, and `specs/Laws` what it says of plans.
 #![tactic(auto)]
 
 mod advice;

@@ -1,4 +1,4 @@
-//! The limits of costs and advice.
+//! Defines the limits of costs and advice.
 
 /// The greatest number of items of a text of costs.
 pub const MAX_COSTS: u32 = 1_024;

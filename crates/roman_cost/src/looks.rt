@@ -1,4 +1,4 @@
-//! Looks into a text of costs, with the refusal of what is missed.
+//! Reads parts of a text of costs, and names the broken rule when a part is missing or wrong.
 ghost use Rattle.std.specs.Prelude.{◌≡◌, ◌<◌, true, false, map, length, IfOk};
 ghost use Rattle.serde_json.specs.View.{view, items_view};
 ghost use Rattle.roman_read.specs.Json.{list_of, number_of};
@@ -16,7 +16,7 @@ use roman_parts::Behaviour;
 use roman_read::{Kind, NameTable, list, number, text};
 use serde_json::Value;
 
-/// The refusal of the text as a whole.
+/// Returns the refusal of the text as a whole.
 pub(crate) fn refused(kind: Kind) -> CostError
     ensures { result ≡ Refused kind true 0 }
 {
@@ -27,7 +27,7 @@ pub(crate) fn refused(kind: Kind) -> CostError
     }
 }
 
-/// The refusal of an item.
+/// Returns the refusal of the item `index`.
 pub(crate) fn refused_at(kind: Kind, index: u32) -> CostError
     ensures { result ≡ Refused kind false index }
 {
@@ -38,7 +38,7 @@ pub(crate) fn refused_at(kind: Kind, index: u32) -> CostError
     }
 }
 
-/// The items of a list that the text is.
+/// Returns the items of the text, which must be a list.
 pub(crate) fn items_of(v: &Value) -> Result<&[Value], CostError>
     ensures items { ReadsAs (λ x. items_view x.now) result (looked list.Whole 0 (list_of (view v.now))) }
     ensures quiet { IsFaultless result }
@@ -49,7 +49,7 @@ pub(crate) fn items_of(v: &Value) -> Result<&[Value], CostError>
     }
 }
 
-/// The parts of an item.
+/// Returns the parts of the item `index`, which must be a list.
 pub(crate) fn parts_of(v: &Value, index: u32) -> Result<&[Value], CostError>
     ensures parts { ReadsAs (λ x. items_view x.now) result (looked list.Steps index (list_of (view v.now))) }
     ensures quiet { IsFaultless result }
@@ -60,7 +60,7 @@ pub(crate) fn parts_of(v: &Value, index: u32) -> Result<&[Value], CostError>
     }
 }
 
-/// A number of an item.
+/// Returns a number of the item `index`.
 pub(crate) fn number_at(v: &Value, index: u32) -> Result<u64, CostError>
     ensures number { ReadsAs (λ x. x) result (looked list.Steps index (number_of (view v.now))) }
     ensures quiet { IsFaultless result }
@@ -72,7 +72,7 @@ pub(crate) fn number_at(v: &Value, index: u32) -> Result<u64, CostError>
 }
 
 #[tactic(auto, unfolding(roman_parts::specs::Lists::place_in))]
-/// The place of the behaviour that an item names.
+/// Returns the place in the catalogue of the behaviour that the item `index` names.
 pub(crate) fn behaviour_at(
     catalogue: &[Behaviour],
     v: &Value,
@@ -93,7 +93,7 @@ pub(crate) fn behaviour_at(
 }
 
 #[tactic(auto, unfolding(roman_parts::specs::Lists::place_in))]
-/// The number of the action that an item names.
+/// Returns the number of the action that the item `index` names.
 pub(crate) fn action_at(actions: &NameTable, v: &Value, index: u32) -> Result<u32, CostError>
     ensures place { ReadsAs (λ x. x) result (place_in actions.now list.Steps index (view v.now)) }
     ensures within { IfOk result (λ place. place < length actions.now) }

@@ -1,4 +1,4 @@
-//! What is worst of the outcomes of a delegation.
+//! Computes the worst-case value of the outcomes of a delegation.
 ghost use Rattle.std.specs.Prelude.{◌≡◌, ◌+◌, ◌*◌, ◌^◌, ◌<◌, All, max};
 ghost use Rattle.roman_model.specs.Plans.{max_over};
 ghost use Rattle.roman_joint.specs.Outcomes.{outcome_number, outcome_numbers};
@@ -6,14 +6,14 @@ ghost use Rattle.roman_cost.specs.Filling.{ranked, IsRanked};
 
 use roman_joint::Outcomes;
 
-/// The greater of two numbers.
+/// Returns the greater of two numbers.
 pub(crate) fn greater(a: u32, b: u32) -> u32
     ensures { result ≡ max a b }
 {
     if a < b { b } else { a }
 }
 
-/// The greatest value of the outcomes; 0 where there are none.
+/// Returns the greatest value of the outcomes, or 0 where there are none.
 pub(crate) fn greatest_outcome(ranks: &[u32], row: &[u32], outcomes: Outcomes<'_>) -> u32
     requires envs { All (λ e. outcomes.base + e * outcomes.env_stride < 2 ^ 32) outcomes.envs.now }
     requires ranked { All (λ e. All (λ b. IsRanked ranks.now row.now (outcome_number outcomes e b)) outcomes.states.now) outcomes.envs.now }
@@ -36,7 +36,8 @@ pub(crate) fn greatest_outcome(ranks: &[u32], row: &[u32], outcomes: Outcomes<'_
     greatest
 }
 
-/// The greatest value of the outcomes with one environment state, over the states of the service.
+/// Returns the greatest value of the outcomes with one environment state, over the states of the
+/// service, or 0 where there are none.
 fn greatest_state(ranks: &[u32], row: &[u32], from: u32, states: &[u8], stride: u32) -> u32
     requires ranked { All (λ b. IsRanked ranks.now row.now (from + b * stride)) states.now }
     requires fits { All (λ b. from + b * stride < 2 ^ 32) states.now }

@@ -1,4 +1,4 @@
-//! Costs from a text on a shelf.
+//! Reads costs from a text on a shelf.
 ghost use Rattle.std.specs.Prelude.{◌≡◌, ◌<◌, ◌≤◌, [], map, length, IfOk, IfSome};
 ghost use Rattle.serde_json.specs.View.{view, items_view};
 ghost use Rattle.roman_model.specs.declared.limits.TheConstants.{MAX_BEHAVIOURS};
@@ -20,12 +20,13 @@ use serde_json::Value;
 use std::alloc::Global;
 
 #[tactic(auto, unfolding(crate::specs::Costs::costs_of))]
-/// The costs that the text of this name lists, by the names of the behaviours and actions of a system,
-/// whose catalogue has at most 32 behaviours.
+/// Reads the costs that the text named `name` lists, by the names of the behaviours and actions of
+/// a system. Leaves the texts of the shelf unchanged. Requires a catalogue of at most 32
+/// behaviours.
 ///
-/// `Refused` comes exactly where the text breaks a rule, with the first one in the order of the format;
-/// `Fault` only where the shelf failed, and its count of faults rose; `Memory` only where there is
-/// none.
+/// Fails with `Refused` only when the text breaks a rule, and names the first broken one in the
+/// order of the format. Fails with `Fault` only when the shelf failed; its count of faults has then
+/// risen. Fails with `Memory` only when out of memory.
 pub fn read_costs<F: Shelf>(
     alloc: Global,
     shelf: &mut F,
@@ -44,7 +45,7 @@ pub fn read_costs<F: Shelf>(
 }
 
 #[tactic(auto, unfolding(crate::specs::Costs::value_of))]
-/// The value of a text of costs.
+/// Reads the JSON value of a text of costs.
 fn read_value<F: Shelf>(alloc: Global, shelf: &mut F, name: &str) -> Result<Value, CostError>
     ensures value { IfSome (F.texts shelf.old) (λ texts. ReadsAs view result (value_of texts name.now)) }
     ensures texts { F.texts shelf.new ≡ F.texts shelf.old }
@@ -60,7 +61,7 @@ fn read_value<F: Shelf>(alloc: Global, shelf: &mut F, name: &str) -> Result<Valu
 }
 
 #[tactic(auto, using(crate::proofs::ReadingLemmas::counts), unfolding(crate::specs::Costs::costs_in))]
-/// The costs that a value lists.
+/// Reads the costs that a value lists.
 fn costs_in(alloc: Global, joint: &Joint, v: &Value) -> Result<Costs, CostError>
     requires few { length joint.now.catalogue ≤ MAX_BEHAVIOURS }
     ensures costs { ReadsAs (λ costs. costs.listed) result
@@ -76,7 +77,7 @@ fn costs_in(alloc: Global, joint: &Joint, v: &Value) -> Result<Costs, CostError>
 }
 
 #[tactic(auto, using(roman_read::proofs::CallerLemmas::each))]
-/// The costs that the items of a list are.
+/// Reads the costs that the items of a list state.
 fn read_items(alloc: Global, joint: &Joint, items: &[Value]) -> Result<Costs, CostError>
     requires few { length joint.now.catalogue ≤ MAX_BEHAVIOURS }
     requires items { length items.now ≤ MAX_COSTS }
@@ -95,7 +96,8 @@ fn read_items(alloc: Global, joint: &Joint, items: &[Value]) -> Result<Costs, Co
 }
 
 #[tactic(auto, unfolding(crate::specs::Costs::cost_step))]
-/// Adds the next item of a list.
+/// Reads the item `v`, and appends it to the costs. Fails when a cost is already listed for its
+/// behaviour and action.
 fn add_item(costs: &mut Costs, joint: &Joint, v: &Value, index: u32) -> Result<(), CostError>
     requires few { length joint.now.catalogue ≤ MAX_BEHAVIOURS }
     requires of { AreOf joint.now costs.old }
@@ -113,7 +115,7 @@ fn add_item(costs: &mut Costs, joint: &Joint, v: &Value, index: u32) -> Result<(
 }
 
 #[tactic(auto, using(roman_parts::proofs::CallerLemmas::items), unfolding(crate::specs::Costs::cost_item))]
-/// One item, by the names of a system.
+/// Reads one item, by the names of the behaviours and actions of a system.
 fn read_item(joint: &Joint, v: &Value, index: u32) -> Result<Listed, CostError>
     requires { length joint.now.catalogue ≤ MAX_BEHAVIOURS }
     ensures item { ReadsAs (λ x. x) result

@@ -1,4 +1,4 @@
-//! What is least of the offered services.
+//! Finds the cheapest of the offered services.
 ghost use Rattle.std.specs.Prelude.{◌≡◌, ◌≢◌, ℕ, ◌+◌, ◌<◌, [], All, map, length, IsTrue};
 ghost use Rattle.roman_model.specs.System.{has};
 ghost use Rattle.roman_model.specs.SystemArena.{is_allowed};
@@ -16,8 +16,8 @@ use crate::outcomes::greatest_outcome;
 use roman_joint::Joint;
 use roman_rules::SeatSet;
 
-/// The least of the offered services through which an action costs least at a related pair, and that
-/// cost. The row has what the requests after it cost.
+/// Returns the first of the offered services through which the action `a` costs least at the
+/// related pair `p`, and that cost. `row` has the costs of the requests that follow.
 pub(crate) fn cheapest(
     joint: &Joint,
     costs: &Costs,
@@ -54,7 +54,8 @@ pub(crate) fn cheapest(
     best.unwrap()
 }
 
-/// What an action costs at worst at a pair where it is delegated to a service that has outcomes.
+/// Returns the worst-case cost of the action `a` at the pair `p` when it is delegated to the
+/// service `k`. Requires that the delegation has outcomes.
 fn cost_through(
     joint: &Joint,
     costs: &Costs,
@@ -81,7 +82,8 @@ fn cost_through(
     cost + greatest_outcome(ranks, row, outcomes)
 }
 
-/// The better of the best service so far and another: of two that cost as much the earlier.
+/// Returns the better of the best service so far and the service `k`. Of two services of equal cost
+/// the best so far stays.
 fn better(best: Option<(u8, u32)>, k: u8, cost: u32) -> Option<(u8, u32)>
     ensures { result ≡ better_of best k cost }
 {

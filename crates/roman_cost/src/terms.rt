@@ -1,4 +1,5 @@
-//! The values of related pairs as terms, so that each row of values is worked out by one look at them.
+//! Represents the values of related pairs as terms, so that one pass over the terms computes each
+//! row of values.
 ghost use Rattle.std.specs.Prelude.{◌≡◌, ◌≢◌, ◌+◌, ◌*◌, ◌^◌, ◌<◌, ◌++◌, [], All, length, map, slice_index, IsTrue, OnOk};
 ghost use Rattle.roman_model.specs.SystemArena.{is_allowed};
 ghost use Rattle.roman_model.specs.Numbers.{sizes_of, count, pair_at, numbered};
@@ -18,13 +19,14 @@ use roman_relation::Relation;
 use roman_rules::Rules;
 use std::alloc::AllocError;
 
-/// A term of what related pairs cost. Those of the outcomes of a delegation stand before the one that
-/// ends it, these before the one that ends their action, and these before the one that ends their pair.
+/// A term of the values of related pairs. The terms of a pair are those of its allowed actions,
+/// followed by `Pair`. The terms of an action are those of its delegations to offered services,
+/// followed by `Action`. The terms of a delegation are its outcomes, followed by `Service`.
 #[derive(Clone, Copy, Debug, PartialEq, Eq)]
 pub(crate) enum Term {
-    /// An outcome of a delegation: the rank of its pair.
+    /// An outcome of a delegation, with the rank of its pair.
     Outcome(u32),
-    /// The end of a delegation: what the service costs for the action.
+    /// The end of a delegation, with the cost of the service for the action.
     Service(u32),
     /// The end of an action that the target allows.
     Action,
@@ -32,18 +34,18 @@ pub(crate) enum Term {
     Pair,
 }
 
-/// How far a pair is worked out.
+/// The state of the computation of the value of a pair.
 #[derive(Clone, Copy, Debug, PartialEq, Eq)]
 pub(crate) struct Standing {
-    /// What the dearest action so far costs.
+    /// The cost of the most expensive action so far.
     pub worst: u32,
-    /// What the action costs through the cheapest service so far.
+    /// The cost of the present action through the cheapest service so far, if there is one.
     pub cheapest: Option<u32>,
-    /// The greatest value of the outcomes so far.
+    /// The greatest value of the outcomes of the present delegation so far.
     pub dearest: u32,
 }
 
-/// The lesser of the cost so far, if there is one, and another.
+/// Returns the lesser of the best cost so far, if there is one, and `cost`.
 fn cheaper(best: Option<u32>, cost: u32) -> u32
     ensures { result ≡ cheaper_of best cost }
 {
@@ -54,7 +56,7 @@ fn cheaper(best: Option<u32>, cost: u32) -> u32
 }
 
 impl Standing {
-    /// Nothing is worked out.
+    /// Returns the state before the first term of a pair.
     fn nothing() -> Standing
         ensures { result ≡ nothing_yet }
     {
@@ -65,7 +67,7 @@ impl Standing {
         }
     }
 
-    /// How far the pair is worked out after one term more, by the row of values for one request less.
+    /// Returns the state after the term `term`. `row` has the values for one request fewer.
     #[inline(always)]
     fn after(self, term: Term, row: &[u32]) -> Standing
         ensures { result ≡ stepped row.now term self }
@@ -91,7 +93,7 @@ impl Standing {
     }
 }
 
-/// The value of that rank in a row; 0 past its end.
+/// Returns the value of the given rank in a row, or 0 past the end of the row.
 fn value_in(row: &[u32], rank: u32) -> u32
     ensures { result ≡ slice_index row.now rank }
 {
@@ -99,7 +101,8 @@ fn value_in(row: &[u32], rank: u32) -> u32
     if i < row.len() { row[i] } else { 0 }
 }
 
-/// Puts behind the values those to which terms come, by the row of values for one request less.
+/// Computes the values of the pairs whose terms these are, and appends them to `values`. `row` has
+/// the values for one request fewer. Fails only when out of memory.
 pub(crate) fn work_out(terms: &[Term], row: &[u32], values: &mut Vec<u32>) -> Result<(), AllocError>
     ensures { OnOk result (values.new.items ≡ values.old.items ++ worked_out row.now terms.now nothing_yet) }
 {
@@ -113,7 +116,7 @@ pub(crate) fn work_out(terms: &[Term], row: &[u32], values: &mut Vec<u32>) -> Re
     Ok(())
 }
 
-/// Puts behind the terms those of a related pair.
+/// Appends the terms of the related pair `p`. Fails only when out of memory.
 pub(crate) fn push_pair(
     terms: &mut Vec<Term>,
     relation: &Relation,
@@ -139,7 +142,7 @@ pub(crate) fn push_pair(
     Ok(())
 }
 
-/// Puts behind the terms those of an action at a related pair.
+/// Appends the terms of the action `a` at the related pair `p`. Fails only when out of memory.
 fn push_action(
     terms: &mut Vec<Term>,
     relation: &Relation,
@@ -168,7 +171,8 @@ fn push_action(
     Ok(())
 }
 
-/// Puts behind the terms those of an action that is delegated to a service.
+/// Appends the terms of the delegation of the action `a` to the service `k` at the pair `p`. Fails
+/// only when out of memory.
 fn push_service(
     terms: &mut Vec<Term>,
     joint: &Joint,
@@ -196,7 +200,7 @@ fn push_service(
     Ok(())
 }
 
-/// Puts behind the terms those of the outcomes of a delegation.
+/// Appends the terms of the outcomes of a delegation. Fails only when out of memory.
 fn push_outcomes(
     terms: &mut Vec<Term>,
     ranks: &[u32],
@@ -221,7 +225,7 @@ fn push_outcomes(
     Ok(())
 }
 
-/// Puts behind the terms those of the outcomes with one environment state.
+/// Appends the terms of the outcomes with one environment state. Fails only when out of memory.
 fn push_states(
     terms: &mut Vec<Term>,
     ranks: &[u32],

@@ -1,4 +1,4 @@
-//! The text of advice.
+//! Writes the text of advice.
 ghost use Rattle.std.specs.Prelude.{◌≡◌, ◌-◌, ◌<◌, ◌≤◌, ◌++◌, IsTrue};
 ghost use Rattle.std.specs.List.{flat_map};
 ghost use Rattle.roman_io.specs.Faults.{HasCause};
@@ -24,11 +24,12 @@ use roman_relation::Relation;
 use roman_rules::Rules;
 use roman_text::{Page, Piece};
 
-/// Puts the text of advice from the related pair `start` on: what the requests for which it was built
-/// cost at worst, for each action that the target allows there the service to take and what they
-/// then cost, and all values for one request or more. The relation and the costs are those of
-/// [`build`](Advice::build). The error comes only where the sink's count of faults rose; a prefix
-/// of the text was then written.
+/// Writes the text of advice from the related pair `start` on. The text has the worst cost of the
+/// requests for which the advice was built. It has, for each action that the target allows at the
+/// pair, the service to take and the cost of the requests through it. It has all values for one
+/// request or more. Requires the relation and the costs of [`build`](Advice::build).
+///
+/// Fails only when the sink's count of faults rose; it then wrote a prefix of the text.
 pub fn put_advice<O: Sink>(
     advice: &Advice,
     relation: &Relation,
@@ -55,14 +56,14 @@ pub fn put_advice<O: Sink>(
     page.flush(out)
 }
 
-/// `worst W`.
+/// Returns the line `worst W`.
 fn worst_piece(value: u32) -> Piece
     ensures { result ≡ worst_line value }
 {
     Piece::new().text(b"worst ").number(value).text(b"\n")
 }
 
-/// Takes the line of each action that the target allows at the pair.
+/// Puts on the page the line of each action that the target allows at the pair `start`.
 fn push_choices<O: Sink>(
     advice: &Advice,
     relation: &Relation,
@@ -94,7 +95,7 @@ fn push_choices<O: Sink>(
     Ok(())
 }
 
-/// The line of an action that the target allows at a related pair.
+/// Returns the line of the action `a`, which the target allows at the related pair `start`.
 fn choice_piece(advice: &Advice, relation: &Relation, costs: &Costs, start: u32, a: u8) -> Piece
     requires relation { IsRelation relation.now.joint relation.now.order }
     requires costs { AreOf relation.now.joint costs.now }
@@ -114,7 +115,7 @@ fn choice_piece(advice: &Advice, relation: &Relation, costs: &Costs, start: u32,
     service_piece(action, service, cost)
 }
 
-/// `for A: S W`.
+/// Returns the line `for A: S W`.
 fn service_piece(action: &Name, service: &Name, cost: u32) -> Piece
     ensures { result ≡ service_text action.now service.now cost }
 {
@@ -123,7 +124,7 @@ fn service_piece(action: &Name, service: &Name, cost: u32) -> Piece
     service.number(cost).text(b"\n")
 }
 
-/// Takes the lines of all values.
+/// Puts on the page the lines of all values for one request or more.
 fn push_values<O: Sink>(advice: &Advice, page: &mut Page, out: &mut O) -> Result<(), Failed>
     ensures gathers { (s : Sys) (C : plans.Costs) → Advises s C advice.now
         → Gathers (O.written out.old) (O.written out.new) page.new (page.old ++ certificate_text s C advice.now.requests) result }
@@ -135,7 +136,7 @@ fn push_values<O: Sink>(advice: &Advice, page: &mut Page, out: &mut O) -> Result
     Ok(())
 }
 
-/// Takes the lines of the values of so many requests.
+/// Puts on the page the lines of the values for `h` requests.
 fn push_row<O: Sink>(advice: &Advice, h: u8, page: &mut Page, out: &mut O) -> Result<(), Failed>
     requires { h ≤ advice.now.requests }
     ensures gathers { (s : Sys) (C : plans.Costs) → Advises s C advice.now
@@ -150,14 +151,14 @@ fn push_row<O: Sink>(advice: &Advice, h: u8, page: &mut Page, out: &mut O) -> Re
     Ok(())
 }
 
-/// `value H `, with which the lines of the values of so many requests begin.
+/// Returns `value H `, with which the lines of the values for `h` requests begin.
 fn head_piece(h: u8) -> Piece
     ensures { result ≡ value_head h }
 {
     Piece::new().text(b"value ").number(u32::from(h)).text(b" ")
 }
 
-/// Takes the line of a value, which begins by `head`.
+/// Puts on the page the line of a value, which begins with `head`.
 fn push_value<O: Sink>(
     head: &[u8],
     p: u32,
