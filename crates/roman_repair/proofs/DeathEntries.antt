@@ -1,4 +1,4 @@
--- What becomes of the entries of a removal list when a service dies.
+-- The entries of a removal list after a death.
 use Rattle.std.proofs.Common.{◌≡◌, ℕ, ◌+◌, ◌-◌, ◌*◌, ◌/◌, ◌%◌, ◌^◌, ◌<◌, ◌≤◌, ◌==◌, Bool, true, false, not, ◌||◌, if◌then◌else◌, cond, List, [], ◌∷◌, ◌++◌, map, length, filter, remove, slice_index, IsFalse, inl, inr, refl, sym, ap, ap₂, ◌∙◌, subst, arith, append-nil, append_assoc, bit_and}
 use Rattle.std.specs.List.{list_any}
 use Rattle.std.proofs.lemmas.Bool.{cases_lt, both_ways, and_parts, eqb-true, false_from_ne_true}
@@ -33,9 +33,9 @@ use Rattle.roman_repair.proofs.DeathParts.{part_number, part_state, part_place, 
 use Rattle.roman_repair.proofs.Joined.{map_as}
 use Rattle.roman_repair.proofs.Fronts.{false_else, on_in, filter_split, only_so_far}
 
--- The first entry of each number.
+-- The first entry for each number.
 
--- which numbers are seen counts, and not their order
+-- the first entries depend on which numbers are seen, and not on their order
 first_numbers_seen : (seen more : List ℕ) (L : List (Entry ℕ)) → ((i : ℕ) → list_any (λ j. i == j) seen ≡ list_any (λ j. i == j) more) → first_numbers seen L ≡ first_numbers more L
 first_numbers_seen seen more [] same = refl
 first_numbers_seen seen more (x ∷ L) same =
@@ -54,7 +54,7 @@ seen_middle i m seen ns =
     turned true false c = refl
     turned false b c = refl
 
--- those of one list, and then those of another
+-- the first entries of one list, and then those of another
 first_numbers_append : (seen : List ℕ) (L M : List (Entry ℕ)) → first_numbers seen (L ++ M) ≡ first_numbers seen L ++ first_numbers (seen ++ nodes_of (first_numbers seen L)) M
 first_numbers_append seen [] M = ap (λ ns. first_numbers ns M) (sym (append-nil seen))
 first_numbers_append seen (x ∷ L) M = by_answer (list_any (λ i. x.node == i) seen) (first_numbers_append seen L M) (first_numbers_append (x.node ∷ seen) L M)
@@ -70,7 +70,7 @@ first_numbers_append seen (x ∷ L) M = by_answer (list_any (λ i. x.node == i) 
     by_answer false same more =
         ap (λ N. x ∷ N) (more ∙ ap (λ N. those ++ N) (first_numbers_seen ((x.node ∷ seen) ++ nodes_of those) (seen ++ x.node ∷ nodes_of those) M (λ i. seen_middle i x.node seen (nodes_of those))))
 
--- where the numbers differ each that isn't seen is the first
+-- where the numbers differ, each unseen one is a first entry
 first_apart : (f : ℕ → Entry ℕ) (seen more ls : List ℕ) → ((i j : ℕ) → (f i).node ≡ (f j).node → i ≡ j) → HasNoRepeats ls →
     ((i : ℕ) → IsIn i ls → list_any (λ j. (f i).node == j) more ≡ list_any (λ j. (f i).node == j) seen) →
     first_numbers more (map f ls) ≡ map f (filter (λ i. not (list_any (λ j. (f i).node == j) seen)) ls)
@@ -91,9 +91,9 @@ first_apart f seen more (i ∷ ls) apart once same =
     by_answer true e was is = ap (λ b. if b then first_numbers more (map f ls) else f i ∷ first_numbers ((f i).node ∷ more) (map f ls)) e ∙ was
     by_answer false e was is = ap (λ b. if b then first_numbers more (map f ls) else f i ∷ first_numbers ((f i).node ∷ more) (map f ls)) e ∙ ap (λ N. f i ∷ N) is
 
--- What is left of entries.
+-- The renamed entries.
 
--- of some entries, and of others after them
+-- the renamed entries of one list, and then those of another
 pub list_with_append : (n : Sizes) (k : ℕ) (seat : Seat) (L V W : List (Entry ℕ)) → list_with n k seat L (V ++ W) ≡ list_with n k seat (list_with n k seat L V) W
 list_with_append n k seat L V W =
     let new = first_numbers (nodes_of L) (entries_left n k seat V) in
@@ -105,19 +105,19 @@ list_with_append n k seat L V W =
     ∙ sym (append_assoc L new (first_numbers (nodes_of L ++ nodes_of new) (entries_left n k seat W)))
     ∙ ap (λ ns. (L ++ new) ++ first_numbers ns (entries_left n k seat W)) (sym (map-append (λ (x : Entry ℕ). x.node) L new))
 
--- all of them pass, or none
+-- all elements pass, or none
 all_alike : (p : Entry ℕ → Bool) (f : ℕ → Entry ℕ) (ls : List ℕ) (b : Bool) → ((i : ℕ) → IsIn i ls → p (f i) ≡ b) → filter p (map f ls) ≡ cond b (map f ls) []
 all_alike p f [] true same = refl
 all_alike p f [] false same = refl
 all_alike p f (i ∷ ls) true same = ap₂ (λ b M. cond b (f i ∷ M) M) (same i (inl refl)) (all_alike p f ls true (λ j h. same j (inr h)))
 all_alike p f (i ∷ ls) false same = ap₂ (λ b M. cond b (f i ∷ M) M) (same i (inl refl)) (all_alike p f ls false (λ j h. same j (inr h)))
 
--- nothing is left of no entries
+-- no entries give no renamed entries
 pub nothing_left : (n : Sizes) (k : ℕ) (seat : Seat) (first word : ℕ) (reason : Reason) (L : List (Entry ℕ)) → word ≡ 0 → L ≡ list_with n k seat L (entries_from first word reason)
 nothing_left n k seat first word reason L none =
     sym (ap (λ ls. L ++ first_numbers (nodes_of L) (entries_left n k seat (map (λ i. as_entry (first + i, reason)) ls))) (ap set_lanes none ∙ set_lanes-zero) ∙ append-nil L)
 
--- some pairs of a part, at which a seat may leave its state behind or not
+-- pairs of one part, at which the seat may leave its state behind, or at none of which it may
 pub record IsDying (n : Sizes) (k : ℕ) (seat : Seat) (first word : ℕ) (may : Bool) : Type 0 where
   pub part : (width : ℕ) × (j : ℕ) × IsPart n.seats k width × (first ≡ j * width) × ((i : ℕ) → is_on word i ≡ true → i < width)
   pub seat_in : k < length n.seats
@@ -134,12 +134,12 @@ part_goes n k seat first word may reason is =
     ap (λ f. slice_index (pair_at n (f + i)).bs k) e ∙ part_state n k width j i part (within i on) (subst (λ f. f + i < count n) e (is.pair i on)) is.seat_in ∙ sym (ap (λ f. slice_index (pair_at n f).bs k) e) in
     ap (λ b. not seat.rests || is_final seat.beh b) same ∙ is.goes)
 
--- nothing is left of those where it may not
+-- where the seat may not leave its state behind, no entry is renamed
 pub part_stays : (n : Sizes) (k : ℕ) (seat : Seat) (first word : ℕ) (reason : Reason) (L : List (Entry ℕ)) → IsDying n k seat first word false → L ≡ list_with n k seat L (entries_from first word reason)
 part_stays n k seat first word reason L is =
     sym (ap (λ W. L ++ first_numbers (nodes_of L) (map (number_entry_without k n) W)) (part_goes n k seat first word false reason is) ∙ append-nil L)
 
--- and of those where it may the entries of the row in which they lie then, but for those that are listed
+-- where it may, the renamed entries are those of lanes of one row, except for the listed ones
 pub part_left : (n : Sizes) (k : ℕ) (seat : Seat) (first word left lanes alive : ℕ) (reason : Reason) (L : List (Entry ℕ)) → IsDying n k seat first word true →
     left ≡ number_without k n first → lanes ≡ lanes_of (remove n.seats k) → (0 < lanes) × (lanes ≤ 64) → HasLanes lanes (left / lanes) (λ p. not (has_entry L p)) alive →
     L ++ entries_in lanes (left / lanes) (bit_and (word * 2 ^ (left % lanes) % 2 ^ 64) alive) reason ≡ list_with n k seat L (entries_from first word reason)
@@ -176,11 +176,11 @@ part_left n k seat first word left lanes alive reason L is moved wide few rows =
         let fits : left % lanes + width ≤ lanes = subst (λ q. q % lanes + width ≤ lanes) (sym (moved ∙ ap (number_without k n) e)) (part_place n k width j lanes part (omega (arith, l)) wide few.0) in
         (omega (arith, fits, l, few.1), rows.each (left % lanes + i) (omega (arith, fits, l)) ∙ ap (λ p. not (has_entry L p)) (place i))
 
--- the row in which they lie then
+-- the row of the renamed entries
 pub left_row : (n shape : Sizes) (k left lanes : ℕ) (order : Board) → left < count (sizes_without k shape) → shape ≡ n → pairs_of order ≡ count (sizes_without k n) → lanes ≡ order.lanes → left / lanes < order.rows
 left_row n shape k left lanes order l is pairs wide = row_of_left left lanes order.rows (omega (arith, l, ap (λ (m : Sizes). count (sizes_without k m)) is, pairs, ap (λ m. order.rows * m) wide))
 
--- what is listed of them is in the row, and wasn't listed
+-- the appended entries lie in the row, and weren't listed before
 pub lost_within : (lanes x other alive lane : ℕ) (L : List (Entry ℕ)) → HasLanes lanes x (λ p. not (has_entry L p)) alive → is_on (bit_and other alive) lane ≡ true →
     (lane < lanes) × (has_entry L (x * lanes + lane) ≡ false)
 lost_within lanes x other alive lane L rows on =
@@ -192,7 +192,7 @@ lost_within lanes x other alive lane L rows on =
 
 -- The entries of a row, part by part.
 
--- those of the lanes below a bound
+-- the entries for the lanes below a bound
 abbrev pub entries_below : ℕ → ℕ → ℕ → ℕ → Reason → List (Entry ℕ)
 entries_below n x word bound reason = map (λ lane. as_entry (x * n + lane, reason)) (filter (is_on word) (below bound))
 
@@ -220,7 +220,7 @@ lanes_below word n few within =
 pub row_whole : (n x word : ℕ) (reason : Reason) → n ≤ 64 → ((lane : ℕ) → is_on word lane ≡ true → lane < n) → entries_below n x word n reason ≡ entries_in n x word reason
 row_whole n x word reason few within = ap (map (λ lane. as_entry (x * n + lane, reason))) (lanes_below word n few within)
 
--- The pairs of an event that waits are in range.
+-- The pairs of a pending event are in range.
 
 pub record IsEventIn (lanes bound : ℕ) (rest : List (Entry ℕ)) (e : Event) : Type 0 where
   pub within : (lane : ℕ) → is_on e.lanes lane ≡ true → (lane < lanes) × (e.row * lanes + lane < bound)
@@ -244,7 +244,7 @@ event_in_range wide lanes bound W rest e same few parts is all =
     row [] none = absurd (omega (arith, is.some, ap length none))
     row (lane ∷ ls) some = omega (arith, pair lane (subst (IsIn lane) (sym some) (inl refl)))
 
--- How many pairs are left.
+-- The number of pairs without the service.
 
 pub fewer_pairs : (n : NamedSys) (shape : Sizes) (k : ℕ) → shape ≡ sizes_of (system_of n) → IsSizes shape → k < length n.seats → count (sizes_without k (sizes_of (system_of n))) ≤ count (sizes_of (system_of n))
 fewer_pairs n shape k is sizes l =

@@ -19,7 +19,7 @@ use Rattle.roman_repair.specs.Deaths.{IsPart}
 use Rattle.roman_repair.proofs.Joined.{positive, grown_within, whole_row, shorter_row, few_behind, part_of_more}
 use Rattle.roman_repair.proofs.Fronts.{moved_so_far, same_so_far, only_so_far}
 
--- ---- how wide the parts are
+-- ---- the width of the parts
 
 part_first_seat : (n : ℕ) (ns : List ℕ) (w : ℕ) → 0 < n → (c : ℕ) × (product_of ns ≡ c * w) → (c : ℕ) × (lanes_of ns ≡ c * w) → IsPart (n ∷ ns) 0 w
 part_first_seat n ns w some stride lanes = record { stride = stride; lanes = part_of_more n ns w some lanes; left = lanes }
@@ -33,7 +33,7 @@ part_later_seat n ns k w some is =
       left = part_of_more n (remove ns k) w some is.left;
     }
 
--- before the lanes it is whole rows
+-- a part for a component before the lanes is a whole row
 pub part_before : (ns : List ℕ) (k : ℕ) → AreSizes ns → k < low_of ns → IsPart ns k (lanes_of ns)
 part_before [] k h l = absurd (omega arith)
 part_before (n ∷ ns) zero h l = elim (cases_lt 64 (product_of (n ∷ ns))) [
@@ -45,7 +45,7 @@ part_before (n ∷ ns) (suc k) h l = elim (cases_lt 64 (product_of (n ∷ ns))) 
   | inr few ↦ absurd (omega (arith, l, (whole_row (n ∷ ns) few).0))
 ]
 
--- and within them one state of the component
+-- a part for a component within the lanes has one state of it
 pub part_within : (ns : List ℕ) (k : ℕ) → AreSizes ns → low_of ns ≤ k → k < length ns → IsPart ns k (product_of (drop (k + 1) ns))
 part_within [] k h l m = absurd (omega arith)
 part_within (n ∷ ns) zero h l m = elim (cases_lt 64 (product_of (n ∷ ns))) [
@@ -75,7 +75,7 @@ part_div n k w j i part l = ap (λ s. (j * w + i) / s) part.stride.1 ∙ row_div
 part_mod : (n : Sizes) (k w j i : ℕ) → (part : IsPart n.seats k w) → i < w → (j * w + i) % product_of (drop (k + 1) n.seats) ≡ j % part.stride.0 * w + i
 part_mod n k w j i part l = ap (λ s. (j * w + i) % s) part.stride.1 ∙ row_mod j w i part.stride.0 l
 
--- they are neighbours without the seat
+-- the pairs of a part are neighbours without the seat
 pub part_number : (n : Sizes) (k w j i : ℕ) → IsPart n.seats k w → i < w → number_without k n (j * w + i) ≡ number_without k n (j * w) + i
 part_number n k w j i part l =
     let size = slice_index n.seats k in
@@ -85,14 +85,14 @@ part_number n k w j i part l =
     let first = ap (number_without k n) (sym none) ∙ ap₂ (λ q r. q / size * stride + r) (part_div n k w j 0 part (omega arith)) (part_mod n k w j 0 part (omega arith)) in
     omega (arith, here, first)
 
--- in one state of it
+-- the pairs of a part have one state of the seat
 pub part_state : (n : Sizes) (k w j i : ℕ) → IsPart n.seats k w → i < w → j * w + i < count n → k < length n.seats → slice_index (pair_at n (j * w + i)).bs k ≡ slice_index (pair_at n (j * w)).bs k
 part_state n k w j i part l pair seat =
     let none : j * w + 0 ≡ j * w = omega arith in
     let first = ap (λ p. p / product_of (drop (k + 1) n.seats)) (sym none) ∙ part_div n k w j 0 part (omega arith) in
     part_at n (j * w + i) k pair seat ∙ ap (λ q. q % slice_index n.seats k) (part_div n k w j i part l ∙ sym first) ∙ sym (part_at n (j * w) k (omega arith) seat)
 
--- and in one row
+-- the pairs of a part lie in one row without the seat
 pub part_place : (n : Sizes) (k w j lanes : ℕ) → IsPart n.seats k w → 0 < w → lanes ≡ lanes_of (remove n.seats k) → 0 < lanes → number_without k n (j * w) % lanes + w ≤ lanes
 part_place n k w j lanes part some is pos =
     let (c, e) = part.stride in
@@ -106,11 +106,11 @@ part_place n k w j lanes part some is pos =
     let number : number_without k n (j * w) ≡ place * w = omega (arith, first, front, split) in
     subst (λ q. q % lanes + w ≤ lanes) (sym number) (grown_within lanes d w place (is ∙ f) pos)
 
--- a part ends in its row
+-- a part ends within its row
 pub part_end : (i w lanes : ℕ) → i < lanes / w → (i + 1) * w ≤ lanes
 part_end i w lanes l = let most : (i + 1) * w ≤ lanes / w * w = mul-le (i + 1) w (lanes / w) w (omega arith) (omega arith) in omega (arith, most, div-add-mod' lanes w)
 
--- and a row among the pairs
+-- a row ends within the pairs
 pub row_end : (n : Sizes) (x : ℕ) → IsSizes n → x * lanes_of n.seats < count n → (x + 1) * lanes_of n.seats ≤ count n
 row_end n x h l =
     let lanes = lanes_of n.seats in
@@ -125,7 +125,7 @@ row_of_left left lanes rows l = row_below (left / lanes) lanes (left % lanes) ro
 pub part_begins : (x lanes c w i : ℕ) → lanes ≡ c * w → x * lanes + i * w ≡ (x * c + i) * w
 part_begins x lanes c w i is = let slices : x * lanes ≡ x * (c * w) = ap (λ m. x * m) is in omega (arith, slices)
 
--- ---- their lanes
+-- ---- the lanes of a part
 
 on_lowered : (a d i : ℕ) → is_on (a / 2 ^ d) i ≡ is_on a (d + i)
 unfolding is_on
@@ -147,7 +147,7 @@ on_under : (a d i : ℕ) → i < d → i < 64 → is_on (a * 2 ^ d % 2 ^ 64) i �
 unfolding is_on
 on_under a d i l h = on_fitting a d i h ∙ ap (λ n. eqb n 1) (bit_at_cat_low a d 0 i l ∙ bit_at-zero i)
 
--- the lanes of a part, as its word is computed
+-- the word of the lanes of a part, as the code computes it
 abbrev pub part_word : ℕ → ℕ → ℕ → ℕ
 part_word word base w = bit_and (word / 2 ^ base) ((2 ^ 64 - 1) / 2 ^ (64 - w))
 
@@ -180,7 +180,7 @@ part_lanes word base w few =
     ∙ only_so_far (is_on (part_word word base w)) w (64 - w) (λ i l. part_off word base w (w + i) few (omega arith))
     ∙ same_so_far (is_on (part_word word base w)) (λ i. is_on word (base + i)) w (λ i l. part_on word base w i few l)
 
--- those that pass both tests
+-- the elements that pass both tests
 both_tests : {X : Type 0} (f g : X → Bool) (xs : List X) → filter f (filter g xs) ≡ filter (λ x. g x && f x) xs
 both_tests f g [] = refl
 both_tests f g (x ∷ xs) = by_answer (g x) (both_tests f g xs)
@@ -190,7 +190,7 @@ both_tests f g (x ∷ xs) = by_answer (g x) (both_tests f g xs)
     by_answer true rest = ap (λ ys. cond (f x) (x ∷ ys) ys) rest
     by_answer false rest = rest
 
--- the lanes that are left of a part where it is moved up
+-- the lanes of a part that pass a test, moved to their place in the row
 pub moved_lanes : (word alive place : ℕ) (test : ℕ → Bool) → place < 64 → ((i : ℕ) → i < 64 → is_on word i ≡ true → (place + i < 64) × (is_on alive (place + i) ≡ test i)) →
     set_lanes (bit_and (word * 2 ^ place % 2 ^ 64) alive) ≡ map (λ i. place + i) (filter test (set_lanes word))
 unfolding set_lanes

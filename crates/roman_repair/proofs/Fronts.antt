@@ -1,4 +1,4 @@
--- The front of a word's lanes, and of what a replay goes over.
+-- The front of a word's lanes, and the front of a replay.
 use Rattle.std.proofs.Common.{◌≡◌, ◌≢◌, ℕ, zero, suc, ◌+◌, ◌-◌, ◌*◌, ◌/◌, ◌%◌, ◌^◌, ◌<◌, ◌≤◌, Bool, true, false, not, ◌&&◌, ◌⊎◌, List, [], ◌∷◌, ◌++◌, map, length, filter, cond, IsTrue, IsFalse, inl, inr, refl, sym, ap, ap₂, ◌∙◌, subst, arith, append-nil, append_assoc, bit_and, eqb, length-append}
 use Rattle.std.specs.Int.{bit_not, trailing_zeros, w64}
 use Rattle.std.proofs.Math.Pow.{pow-lt}
@@ -23,7 +23,7 @@ use Rattle.roman_order.proofs.CallerLemmas.{in_lanes}
 use Rattle.roman_repair.specs.Replays.{AreCandidates, with_replay, readings_of_entries}
 use Rattle.roman_repair.proofs.Keeping.{with_replay_step, with_replay_append, candidates_replayed, possible_reason, IsReplaying, replaying_still, replaying_part}
 
--- ---- the lanes of a word, cut in two
+-- ---- the lanes of a word, split in two
 
 -- the first lane of a word
 pub record IsFirst (word lane : ℕ) : Type 0 where
@@ -44,12 +44,12 @@ false_else false never = refl
 pub both_fit : (word end : ℕ) → word < 2 ^ 64 → bit_and word end < 2 ^ 64
 both_fit word end fits = omega (arith, and_le_l word end)
 
--- a word's lanes below a bound are those of one word, and its others those of another
+-- the lanes of a word below a bound are those of `front`, and its other lanes are those of `rest`
 pub record IsCut (word front rest cut : ℕ) : Type 0 where
   pub low : (lane : ℕ) → lane < 64 → lane < cut → (is_on front lane ≡ is_on word lane) × (is_on rest lane ≡ false)
   pub high : (lane : ℕ) → lane < 64 → cut ≤ lane → (is_on front lane ≡ false) × (is_on rest lane ≡ is_on word lane)
 
--- where none passes so far the list is empty
+-- the list is empty where no lane passes so far
 none_so_far : (p : ℕ → Bool) (m : ℕ) → ((lane : ℕ) → lane < m → p lane ≡ false) → filter p (below m) ≡ []
 none_so_far p zero off = refl
 none_so_far p (suc m) off = rw (filter_below_more p m, none_so_far p m (λ lane l. off lane (omega arith)), off m (omega arith)) refl
@@ -84,7 +84,7 @@ pub cut_lanes : (word front rest cut : ℕ) → IsCut word front rest cut → se
 unfolding set_lanes
 cut_lanes word front rest cut is = cut_so_far word front rest cut 64 is (omega arith)
 
--- the front of a word, as it is computed
+-- the front of a word, as the code computes it
 abbrev pub front_of : ℕ → ℕ → ℕ
 front_of word cut = bit_and word (1 * 2 ^ cut % 2 ^ 64 - 1)
 
@@ -143,7 +143,7 @@ front_some word end cut lane few both l on before off =
 
 -- ---- neighbouring lanes
 
--- those below b, and those from b on
+-- the numbers below b that pass, and those from b on
 pub filter_split : (q : ℕ → Bool) (b m : ℕ) → filter q (below (b + m)) ≡ filter q (below b) ++ map (λ i. b + i) (filter (λ i. q (b + i)) (below m))
 filter_split q b zero = (let end : b + 0 ≡ b = omega arith in ap (λ n. filter q (below n)) end) ∙ sym (append-nil (filter q (below b)))
 filter_split q b (suc m) =
@@ -159,15 +159,15 @@ filter_split q b (suc m) =
     by_last true = refl
     by_last false = refl
 
--- where those from b on are as others from 0 on
+-- no number below b passes, and the numbers from b on pass as others do from 0 on
 pub moved_so_far : (p q : ℕ → Bool) (b m : ℕ) → ((i : ℕ) → i < b → q i ≡ false) → ((i : ℕ) → i < m → q (b + i) ≡ p i) → filter q (below (b + m)) ≡ map (λ i. b + i) (filter p (below m))
 moved_so_far p q b m off same = filter_split q b m ∙ ap₂ (λ L M. L ++ map (λ i. b + i) M) (none_so_far q b off) (same_so_far (λ i. q (b + i)) p m same)
 
--- where none passes from b on
+-- no number from b on passes
 pub only_so_far : (q : ℕ → Bool) (b m : ℕ) → ((i : ℕ) → i < m → q (b + i) ≡ false) → filter q (below (b + m)) ≡ filter q (below b)
 only_so_far q b m off = filter_split q b m ∙ ap (λ M. filter q (below b) ++ map (λ i. b + i) M) (none_so_far (λ i. q (b + i)) m off) ∙ append-nil (filter q (below b))
 
--- where those below s pass and no others
+-- exactly the numbers below s pass
 first_so_far : (p : ℕ → Bool) (s m : ℕ) → s ≤ m → ((i : ℕ) → i < s → p i ≡ true) → ((i : ℕ) → s ≤ i → i < m → p i ≡ false) → filter p (below m) ≡ below s
 first_so_far p s zero l on off = let none : s ≡ 0 = omega arith in ap below (sym none)
 first_so_far p s (suc m) l on off = elim (cases_eq s (suc m)) [
@@ -185,7 +185,7 @@ lanes_from_to word begin end some few low on high =
     ∙ moved_so_far (λ i. is_on word (begin + i)) (is_on word) begin (64 - begin) low (λ i l. refl)
     ∙ ap (map (λ i. begin + i)) (first_so_far (λ i. is_on word (begin + i)) (end - begin) (64 - begin) (omega arith) (λ i l. on (begin + i) (omega arith) (omega arith)) (λ i l k. high (begin + i) (omega arith)))
 
--- the word of some neighbouring lanes, as it is computed
+-- the word of neighbouring lanes, as the code computes it
 abbrev pub between : ℕ → ℕ → ℕ
 between begin end = bit_and ((2 ^ 64 - 1) / 2 ^ (64 - end)) (bit_not w64 (1 * 2 ^ begin % 2 ^ 64 - 1))
 
@@ -212,7 +212,7 @@ is_between begin end some few =
 
 -- ---- the front of a replay
 
--- candidates that are all justified are kept
+-- the replay keeps all candidates where all are justified
 pub with_replay_all : (A : Arena ℕ) (kept L : List (Entry ℕ)) → ((x : Entry ℕ) → IsIn x L → IsTrue (is_justified A (is_listed A kept) x.node x.reason)) → with_replay A kept L ≡ kept ++ L
 with_replay_all A kept [] all = refl
 with_replay_all A kept (x ∷ L) all =
@@ -222,7 +222,7 @@ with_replay_all A kept (x ∷ L) all =
     (λ a k q j t. listed_append A kept (x ∷ []) q ∙ or_left (is_listed A kept q) (is_listed A (x ∷ []) q) t) (all y (inr i)))
     ∙ append_assoc kept (x ∷ []) L
 
--- and none of them where none is
+-- the replay keeps no candidate where none is justified
 pub with_replay_none : (A : Arena ℕ) (kept L : List (Entry ℕ)) → ((x : Entry ℕ) → IsIn x L → IsFalse (is_justified A (is_listed A kept) x.node x.reason)) → with_replay A kept L ≡ kept
 with_replay_none A kept [] none = append-nil kept
 with_replay_none A kept (x ∷ L) none =
@@ -230,7 +230,7 @@ with_replay_none A kept (x ∷ L) none =
     ∙ ap (λ b. with_replay A (cond b (kept ++ x ∷ []) kept) L) (none x (inl refl))
     ∙ with_replay_none A kept L (λ y i. none y (inr i))
 
--- what is left of a replay after its front
+-- the rest of a replay after its front
 pub record IsAfter (A : Arena ℕ) (kept new all left : List (Entry ℕ)) : Type 0 where
   pub list : with_replay A new left ≡ with_replay A kept all
   pub candidates : AreCandidates A new left
@@ -248,7 +248,7 @@ pub entries_cut : (n x word front rest : ℕ) (reason : Reason) → set_lanes wo
 entries_cut n x word front rest reason parts =
     ap (map (λ lane. as_entry (x * n + lane, reason))) parts ∙ map-append (λ lane. as_entry (x * n + lane, reason)) (set_lanes front) (set_lanes rest)
 
--- what a test says of the pairs of some lanes it says of their entries
+-- a property of the pairs of some lanes is one of their entries
 entries_by : (n x word : ℕ) (reason : Reason) (P : Entry ℕ → Type 0) → ((lane : ℕ) → lane < 64 → is_on word lane ≡ true → P (as_entry (x * n + lane, reason))) →
     (y : Entry ℕ) → IsIn y (entries_in n x word reason) → P y
 entries_by n x word reason P each y i =
@@ -256,7 +256,7 @@ entries_by n x word reason P each y i =
     let (l, on) = in_lanes word lane j in
     subst P (sym e) (each lane l on)
 
--- lanes that are known to be justified are listed
+-- a front of lanes that are known to be justified is listed
 pub front_kept : (A : Arena ℕ) (kept : List (Entry ℕ)) (n x word front rest : ℕ) (reason : Reason) → AreCandidates A kept (entries_in n x word reason) → set_lanes word ≡ set_lanes front ++ set_lanes rest →
     ((lane : ℕ) → lane < 64 → is_on front lane ≡ true → IsTrue (is_justified A (is_listed A kept) (x * n + lane) reason)) →
     IsAfter A kept (kept ++ entries_in n x front reason) (entries_in n x word reason) (entries_in n x rest reason)
@@ -264,7 +264,7 @@ front_kept A kept n x word front rest reason are parts holds =
     after_part A kept (kept ++ entries_in n x front reason) (entries_in n x word reason) (entries_in n x front reason) (entries_in n x rest reason) are (entries_cut n x word front rest reason parts)
     (with_replay_all A kept (entries_in n x front reason) (entries_by n x front reason (λ y. IsTrue (is_justified A (is_listed A kept) y.node y.reason)) holds))
 
--- and those that aren't justified are dropped before
+-- lanes before the first justified one are dropped, and the front from there on is listed
 pub front_dropped : (A : Arena ℕ) (kept : List (Entry ℕ)) (n x word off from front rest : ℕ) (reason : Reason) → AreCandidates A kept (entries_in n x word reason) →
     set_lanes word ≡ set_lanes off ++ set_lanes from → set_lanes from ≡ set_lanes front ++ set_lanes rest →
     ((lane : ℕ) → lane < 64 → is_on off lane ≡ true → IsFalse (is_justified A (is_listed A kept) (x * n + lane) reason)) →
@@ -277,9 +277,9 @@ front_dropped A kept n x word off from front rest reason are parts more fails ho
     after_two A kept kept (kept ++ entries_in n x front reason) (entries_in n x word reason) (entries_in n x from reason) (entries_in n x rest reason) dropped
     (front_kept A kept n x from front rest reason dropped.candidates more holds)
 
--- ---- what is asked
+-- ---- readings
 
--- one of several entries asks no more than all
+-- one of several entries has at most the readings of all
 pub one_asks : (A : Arena ℕ) (L : List (Entry ℕ)) (y : Entry ℕ) → IsIn y L → readings_of_reason A y.node y.reason ≤ readings_of_entries A L
 one_asks A [] y i = absurd i
 one_asks A (x ∷ L) y i =
@@ -294,9 +294,9 @@ pub entries_more : (A : Arena ℕ) (n x word front rest : ℕ) (reason : Reason)
 entries_more A n x word front rest reason parts =
     ap (readings_of_entries A) (entries_cut n x word front rest reason parts) ∙ sum_by-append (λ (y : Entry ℕ). readings_of_reason A y.node y.reason) (entries_in n x front reason) (entries_in n x rest reason)
 
--- ---- an asking, and what it takes away
+-- ---- one question to a row
 
--- one asking is paid by a lane that is no longer left
+-- the removed lanes pay for one question
 pub one_less : (A : Arena ℕ) (n x word off from front rest reading : ℕ) (reason : Reason) → set_lanes word ≡ set_lanes off ++ set_lanes from → set_lanes from ≡ set_lanes front ++ set_lanes rest →
     (0 < length (set_lanes off)) ⊎ (0 < length (set_lanes front)) → ((lane : ℕ) → lane < 64 → is_on word lane ≡ true → reading ≡ readings_of_reason A (x * n + lane) reason) →
     ((lane : ℕ) → is_on off lane ≡ true → is_on word lane ≡ true) → ((lane : ℕ) → is_on front lane ≡ true → is_on word lane ≡ true) →
@@ -357,7 +357,7 @@ pub lane_alive : (A : Arena ℕ) (kept : List (Entry ℕ)) (n wide x word lane :
 lane_alive A kept n wide x word lane reason are e l on =
     ap (λ m. has_entry kept (x * m + lane)) e ∙ are.new (as_entry (x * n + lane, reason)) (in_map (λ lane. as_entry (x * n + lane, reason)) lane (set_lanes word) (on_in word lane l on))
 
--- what is known goes on to hold when more is listed
+-- known reasons stay known when more entries are listed
 pub known_on : (A : Arena ℕ) (lanes : ℕ) (asked : Asked) (kept new M : List (Entry ℕ)) → new ≡ kept ++ M → HoldsWhereKept A lanes (is_listed A kept) asked → HoldsWhereKept A lanes (is_listed A new) asked
 known_on A lanes asked kept new M is known = subst (λ L. HoldsWhereKept A lanes (is_listed A L) asked) (sym is)
     (known_more A lanes (is_listed A kept) (is_listed A (kept ++ M)) asked (λ q t. listed_append A kept M q ∙ or_left (is_listed A kept q) (is_listed A M q) t) known)
@@ -365,7 +365,7 @@ known_on A lanes asked kept new M is known = subst (λ L. HoldsWhereKept A lanes
 pub shorter : (word front rest : ℕ) → set_lanes word ≡ set_lanes front ++ set_lanes rest → 0 < length (set_lanes front) → length (set_lanes rest) < length (set_lanes word)
 shorter word front rest parts some = omega (arith, ap length parts, length-append (set_lanes front) (set_lanes rest), some)
 
--- one of the two fronts has a lane: the first lane of all is in the answer or it isn't
+-- one of the two fronts has a lane, because the first lane of all is in the answer or it isn't
 pub either_front : (word held off from front lane : ℕ) → held < 2 ^ 64 → IsFirst word lane → set_lanes word ≡ set_lanes off ++ set_lanes from →
     ((lane : ℕ) → lane < 64 → is_on word lane ≡ true → ((bit : ℕ) → bit < lane → is_on word bit ≡ false) → is_on held lane ≡ false → 0 < length (set_lanes off)) →
     ((lane : ℕ) → lane < 64 → is_on from lane ≡ true → ((bit : ℕ) → bit < lane → is_on from bit ≡ false) → is_on (bit_not w64 held) lane ≡ false → 0 < length (set_lanes front)) →
@@ -387,7 +387,7 @@ either_front word held off from front lane fits first parts drops keeps of = by_
       | inr some ↦ inl (omega arith)
     ]
 
--- ---- the entries that wait, those of an event first
+-- ---- the pending entries, split into one event and the rest
 
 pub part_first : (A : Arena ℕ) (start now next : Board) (all part : List (Entry ℕ)) → IsReplaying A start now all now.waiting → now.waiting ≡ part ++ next.waiting → next ≡ record now { waiting = next.waiting } →
     IsReplaying A start next all (part ++ next.waiting)

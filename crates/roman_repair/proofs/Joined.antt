@@ -24,13 +24,13 @@ use Rattle.roman_order.specs.Board.{nodes_of, as_entry, set_lanes, entries_in}
 use Rattle.roman_repair.specs.Replays.{is_possible, AreCandidates, AreSlices}
 use Rattle.roman_repair.proofs.Keeping.{grown_number}
 
--- the new system tells that the service could join
+-- the new system shows that the service could join
 pub joined_can : (joint : NamedSys) (s : Sys) (seat : Seat) → IsNamedSys joint → system_of joint ≡ after (Join seat) s → CanChange (Join seat) s
 joined_can joint s seat known system =
     let sys : IsSys (after (Join seat) s) = subst IsSys system known.system in
     (sys.seats seat (in_append_right seat s.seats (seat ∷ []) (inl refl)), omega (arith, sys.few, length_push s.seats seat))
 
--- a grown pair allows what the pair did
+-- a grown pair allows the actions of its old pair
 pub possible-joined : (s : Sys) (seat : Seat) (p b : ℕ) (reason : Reason) → p < count (sizes_of s) → b < seat.beh.states →
     is_possible (numbered (after (Join seat) s)) (p * seat.beh.states + b) reason ≡ is_possible (numbered s) p reason
 possible-joined s seat p b Final l m = refl
@@ -156,7 +156,7 @@ positive (suc m) (suc n) some = (omega arith, omega arith)
 pub states_some : (n m states : ℕ) → n ≡ m * states → 0 < n → 0 < states
 states_some n m states is some = (positive m states (omega (arith, is, some))).1
 
--- and they lie in one row
+-- neighbouring grown pairs lie in one row
 pub grown_within : (n m states pair : ℕ) → n ≡ m * states → 0 < n → pair * states % n + states ≤ n
 grown_within n m states pair is some =
     let both = positive m states (omega (arith, is, some)) in

@@ -17,12 +17,12 @@ use Rattle.roman_rules.proofs.CallerLemmas.{readings_of-allowed}
 use Rattle.roman_order.specs.Board.{Board, nodes_of, has_entry, as_entry}
 use Rattle.roman_repair.specs.Replays.{is_possible, AreCandidates, with_replay, readings_of_entries}
 
--- a reason that may hold names an action of the system
+-- a possible reason names an action of the system
 pub possible_reason : (A : Arena ℕ) → IsNumbered A → (p : ℕ) (reason : Reason) → IsTrue (is_possible A p reason) → IsReasonOf A reason
 possible_reason A ok p Final possible = tt
 possible_reason A ok p (Act a) possible = ok.allowed p a possible
 
--- The list, with what a replay adds to it.
+-- The list with the entries that a replay adds to it.
 
 -- the list after one candidate
 abbrev pub with_one : Arena ℕ → List (Entry ℕ) → Entry ℕ → List (Entry ℕ)
@@ -82,7 +82,7 @@ candidates_step A kept x L are =
         ∙ or_from (has_entry kept y.node) (has_entry (x ∷ []) y.node) (are.new y (inr i)) (or_from (y.node == x.node) false (other y i) refl)
     new false y i = are.new y (inr i)
 
--- and after several
+-- the candidates after several that are kept or not
 pub candidates_replayed : (A : Arena ℕ) (kept L M : List (Entry ℕ)) → AreCandidates A kept (L ++ M) → AreCandidates A (with_replay A kept L) M
 candidates_replayed A kept [] M are = subst (λ N. AreCandidates A N M) (sym (append-nil kept)) are
 candidates_replayed A kept (x ∷ L) M are =
@@ -91,13 +91,13 @@ candidates_replayed A kept (x ∷ L) M are =
 
 -- One turn of the replay.
 
--- what stays right while candidates are taken from those that are left
+-- the state of a replay: the candidates that are left, and the list that it comes to
 pub record IsReplaying (A : Arena ℕ) (start now : Board) (all left : List (Entry ℕ)) : Type 0 where
   pub candidates : AreCandidates A now.list left
   pub list : with_replay A now.list left ≡ with_replay A start.list all
   pub rest : now ≡ record start { list = now.list; waiting = now.waiting }
 
--- where what waits has changed alone
+-- the state of the replay where only the pending entries have changed
 pub replaying_still : (A : Arena ℕ) (start now next : Board) (all left : List (Entry ℕ)) → IsReplaying A start now all left → next ≡ record now { waiting = next.waiting } → IsReplaying A start next all left
 replaying_still A start now next all left so_far rest =
     let same : now.list ≡ next.list = sym (ap (λ (b : Board). b.list) rest) in
@@ -107,7 +107,7 @@ replaying_still A start now next all left so_far rest =
       rest = rest ∙ ap (λ (b : Board). record b { waiting = next.waiting }) so_far.rest ∙ ap (λ (L : List (Entry ℕ)). record start { list = L; waiting = next.waiting }) same;
     }
 
--- several candidates less are left
+-- the state of the replay after several candidates
 pub replaying_part : (A : Arena ℕ) (start now new : Board) (all L M : List (Entry ℕ)) → IsReplaying A start now all (L ++ M) → new.list ≡ with_replay A now.list L →
     new ≡ record now { list = new.list } → IsReplaying A start new all M
 replaying_part A start now new all L M so_far list rest = record {
@@ -122,7 +122,7 @@ replaying_part A start now new all L M so_far list rest = record {
 abbrev pub grown_number : ℕ → Entry ℕ → ℕ → Entry ℕ
 grown_number states x b = record { node = x.node * states + b; reason = x.reason }
 
--- in one state an entry is its own candidate
+-- an entry grown by one state is its own candidate
 pub grown_once : (states : ℕ) (x : Entry ℕ) → states ≡ 1 → grown_numbers states x ≡ x ∷ []
 grown_once states x one =
     let same : x.node * 1 + 0 ≡ x.node = omega arith in
@@ -168,7 +168,7 @@ entries_le A (x ∷ L) ok possible =
     let rest : readings_of_entries A L ≤ sum_by (readings_at A) (nodes_of L) = entries_le A L ok (λ y i. possible y (inr i)) in
     omega (arith, reading_le A x.node x.reason ok (possible x (inl refl)), sum_by-cons (λ (y : Entry ℕ). readings_of_reason A y.node y.reason) x L, sum_by-cons (readings_at A) x.node (nodes_of L))
 
--- candidates ask no more than one reading of the system
+-- the candidates have at most the readings of the whole system
 pub candidates_readings : (A : Arena ℕ) (kept L : List (Entry ℕ)) → IsNumbered A → AreCandidates A kept L → readings_of_entries A L ≤ readings A
 candidates_readings A kept L ok are =
     let within : sum_by (readings_at A) (nodes_of L) ≤ readings A = readings_within A (nodes_of L) are.once (λ p i. in_nodes p i) in

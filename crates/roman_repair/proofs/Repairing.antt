@@ -1,4 +1,4 @@
--- What a repair ends in, by the numbers of pairs.
+-- The end of a repair, in numbers of pairs.
 use Rattle.std.proofs.Common.{◌≡◌, ℕ, ◌+◌, ◌*◌, ◌/◌, ◌<◌, true, List, [], map, length, take, sym, ap, ◌∙◌, subst, arith}
 use Rattle.std.proofs.lemmas.List.{take-map, length-map}
 use Rattle.roman_model.specs.System.{Sys, IsSys}
@@ -18,7 +18,7 @@ use Rattle.roman_repair.specs.declared.tally.Tally.{Tally}
 use Rattle.roman_repair.specs.Repairs.{replayed, GoesOnFromReplay, IsRepaired, IsBegun}
 use Rattle.roman_repair.specs.Replays.{candidates, with_replay, IsReplayable}
 
--- the replay of the renamed old list, over the numbers
+-- the replay of the renamed old list, in numbers
 abbrev pub numbers_replayed : Change → Sys → List (Entry ℕ) → List (Entry ℕ)
 numbers_replayed change s old = replay (numbered (after change s)) (rename_numbers change (sizes_of s) old)
 
@@ -37,7 +37,7 @@ goes_on_from change s old start new tally replays is begins kept added =
 pub numbers_order : (s : Sys) (L : List (Entry ℕ)) → IsSys s → AreNumbers s L → IsCompleteList s L → IsOrder (numbered s) L
 numbers_order s L ok are complete = order_named (numbered s) (arena s) (pair_at (sizes_of s)) (IsNumber s) (numbers_rename s ok) L are complete.order
 
--- what a relation's list has become when it is renamed and replayed
+-- the replay of a relation's renamed list
 pub relation_replays : (change : Change) (joint : NamedSys) (order : Board) → IsNamedSys joint → IsRelation joint order → ((p : ℕ) → has_entry order.list p ≡ true → p < pairs_of order) →
     CanChange change (system_of joint) → NumbersReplay change (system_of joint) order.list
 relation_replays change joint order known relation in_range can =
@@ -55,14 +55,14 @@ repaired_from change old_joint old start new_joint new tally replays is system r
   list = goes_on_from change (system_of old_joint) old.list start new.list tally replays is begins kept added;
 }
 
--- an order keeps its room for the joint where seats alone have changed
+-- an order keeps its room where only the seats of the joint change
 pub caps_kept : (old_joint new_joint : NamedSys) (seats : List Seat) (old new : Board) → new_joint ≡ record old_joint { seats = seats } → new.cap_pairs ≡ old.cap_pairs → HasCaps old_joint old →
     HasCaps new_joint new
 caps_kept old_joint new_joint seats old new joint pairs caps =
     let places : new_joint.limit / (system_of new_joint).env.actions ≡ old_joint.limit / (system_of old_joint).env.actions = ap (λ (n : NamedSys). n.limit / (system_of n).env.actions) joint in
     record { pairs = omega (arith, places, pairs, caps.pairs) }
 
--- what a replay has listed is a list from which the repair can go on
+-- the repair can go on from the list that a replay makes
 pub replayed_begun : (joint : NamedSys) (states : ℕ) (old new : Board) → IsReplayable joint states old → new.list ≡ with_replay (arena_of joint) old.list (candidates states old) →
     new ≡ record old { list = new.list; waiting = [] } → IsBegun joint new
 replayed_begun joint states old new can list rest = record {

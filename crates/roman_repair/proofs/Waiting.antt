@@ -1,4 +1,4 @@
--- Orders that are reopened for a changed system, and what is replayed in them.
+-- Orders that are reopened for a changed system, and their replay.
 use Rattle.std.proofs.Common.{◌≡◌, ℕ, ◌+◌, ◌*◌, ◌<◌, ◌≤◌, Bool, true, List, [], ◌∷◌, ◌++◌, flat_map, length, IsTrue, refl, sym, ap, ap₂, ◌∙◌, subst, arith}
 use Rattle.roman_model.specs.Lists.{below}
 use Rattle.roman_model.specs.System.{Sys}
@@ -25,12 +25,12 @@ use Rattle.roman_repair.proofs.Repairing.{numbers_order, numbers_replayed, repai
 
 -- Candidates.
 
--- a reason that holds names an action that is allowed
+-- a reason that holds names an allowed action
 possible_by : (A : Arena ℕ) (gone : ℕ → Bool) (p : ℕ) (reason : Reason) → IsTrue (is_justified A gone p reason) → IsTrue (is_possible A p reason)
 possible_by A gone p Final j = refl
 possible_by A gone p (Act a) j = (justified_is A gone p a j).0
 
--- the entries of a removal list
+-- the entries of a removal list are candidates
 pub listed_candidates : (s : Sys) (L : List (Entry ℕ)) → AreNumbers s L → IsOrder (numbered s) L → AreCandidates (numbered s) [] L
 listed_candidates s L are order = record {
   once = new_once (numbered s) (numbered_is_same s) [] L (order_new (numbered s) L order);
@@ -46,7 +46,7 @@ possible-turned : (s : Sys) (k : ℕ) (frozen : Bool) (p : ℕ) (reason : Reason
 possible-turned s k frozen p Final = refl
 possible-turned s k frozen p (Act a) = number_allows-turned s k frozen p a
 
--- where a service freezes or thaws they are the same
+-- the candidates are the same where a service freezes or thaws
 pub turned_candidates : (s : Sys) (k : ℕ) (frozen : Bool) (L : List (Entry ℕ)) → AreCandidates (numbered s) [] L → AreCandidates (numbered (turned s k frozen)) [] L
 turned_candidates s k frozen L are = record {
   once = are.once;
@@ -63,7 +63,7 @@ relation_candidates joint order known relation in_range =
 
 -- Reopened orders.
 
--- there is room for the pairs of the changed system
+-- the order has room for the pairs of the changed system
 pub room_to_reopen : (joint : NamedSys) (old : Board) (shape : Sizes) (rows lanes : ℕ) → IsNamedSys joint → HasCaps joint old → shape ≡ sizes_of (system_of joint) →
     rows * lanes_of shape.seats ≡ count shape → lanes ≡ lanes_of shape.seats → rows * lanes ≤ old.cap_pairs
 room_to_reopen joint old shape rows lanes known caps is whole wide =
@@ -76,20 +76,20 @@ shaped_for s shape new is whole wide = record {
   lanes = wide ∙ ap (λ (n : Sizes). lanes_of n.seats) is;
 }
 
--- the whole list waits for the changed system, and stands for the renamed one
+-- the whole list is pending for the changed system, and stands for the renamed list
 pub record IsReopened (change : Change) (s : Sys) (joint : NamedSys) (states : ℕ) (old : List (Entry ℕ)) (reopened : Board) : Type 0 where
   pub replays : NumbersReplay change s old
   pub system : system_of joint ≡ after change s
   pub those : candidates states reopened ≡ rename_numbers change (sizes_of s) old
 
--- so its replay is that of the renamed list
+-- its replay is that of the renamed list
 replay_renamed : (change : Change) (s : Sys) (joint : NamedSys) (states : ℕ) (old : List (Entry ℕ)) (reopened : Board) →
     IsReopened change s joint states old reopened →
     replay (arena_of joint) (candidates states reopened) ≡ numbers_replayed change s old
 replay_renamed change s joint states old reopened is = ap (replay (arena_of joint)) is.those
     ∙ ap (λ (t : Sys). replay (numbered t) (rename_numbers change (sizes_of s) old)) is.system
 
--- and can go on
+-- the reopened order can be replayed
 pub replayable : (change : Change) (s : Sys) (joint : NamedSys) (states : ℕ) (old : List (Entry ℕ)) (reopened : Board) →
     IsReopened change s joint states old reopened →
     AreCandidates (numbered (after change s)) [] (rename_numbers change (sizes_of s) old) → reopened.list ≡ [] → IsShaped (arena_of joint)
@@ -104,7 +104,7 @@ replayable change s joint states old reopened is may empty shaped caps = record 
       (subst (λ (t : Sys). IsOrder (numbered t) (numbers_replayed change s old)) (sym is.system) is.replays.order);
 }
 
--- to what the repair should end in
+-- the replayed and completed list is what the repair should end in
 pub reopened_repaired : (change : Change) (n mid joint : NamedSys) (states : ℕ) (old reopened new : Board) (tally : Tally) →
     IsReopened change (system_of n) mid states old.list reopened → joint ≡ mid → IsRelation joint new →
     Begins (replay (arena_of mid) (candidates states reopened)) new.list → tally.kept ≡ length
@@ -113,7 +113,7 @@ reopened_repaired change n mid joint states old reopened new tally is same relat
     repaired_from change n old (replay (arena_of mid) (candidates states reopened)) joint new tally is.replays
     (replay_renamed change (system_of n) mid states old.list reopened is) (ap system_of same ∙ is.system) relation begins kept added
 
--- where a service thaws each entry stands for its own pair
+-- an entry grown by one state stands for its own pair
 pub grown_by_one : (L : List (Entry ℕ)) → flat_map (grown_numbers 1) L ≡ L
 grown_by_one [] = refl
 grown_by_one (x ∷ L) = ap₂ (λ (M N : List (Entry ℕ)). M ++ N) (grown_once 1 x refl) (grown_by_one L)

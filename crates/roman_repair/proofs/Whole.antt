@@ -1,4 +1,4 @@
--- Changes after which the whole renamed list is kept: a service freezes, or dies.
+-- Changes that keep the whole renamed list: a freeze or a death.
 use Rattle.std.proofs.Common.{◌≡◌, ℕ, zero, suc, ◌<◌, Bool, List, [], ◌∷◌, length, IsTrue, slice_get, sym, ap, ◌∙◌, subst, arith}
 use Rattle.std.proofs.lemmas.Bool.{false≢true}
 use Rattle.roman_model.specs.System.{Sys, Seat}
@@ -24,11 +24,11 @@ ready_there [] k ready = absurd (false≢true ready)
 ready_there (seat ∷ seats) zero ready = omega arith
 ready_there (seat ∷ seats) (suc k) ready = let rest : k < length seats = ready_there seats k ready in omega arith
 
--- the whole renamed list is the replay
+-- the replay keeps the whole renamed list
 pub whole_replay : (change : Change) (s : Sys) (old new : List (Entry ℕ)) → NumbersReplay change s old → KeepsAll change → new ≡ rename_numbers change (sizes_of s) old → new ≡ numbers_replayed change s old
 whole_replay change s old new replays all list = list ∙ sym (replays.whole all)
 
--- so the repair can go on from it
+-- the repair can go on from the renamed list
 pub whole_begun : (change : Change) (old_joint new_joint : NamedSys) (seats : List joint.Seat) (old new : Board) → NumbersReplay change (system_of old_joint) old.list → KeepsAll change → HasCaps old_joint old →
     new_joint ≡ record old_joint { seats = seats } → system_of new_joint ≡ after change (system_of old_joint) → new.list ≡ rename_numbers change (sizes_of (system_of old_joint)) old.list →
     IsShaped (arena_of new_joint) (lanes_in (system_of new_joint)) new → new.cap_pairs ≡ old.cap_pairs → new.waiting ≡ [] → IsBegun new_joint new
@@ -40,7 +40,7 @@ whole_begun change old_joint new_joint seats old new replays all caps joint syst
   idle = idle;
 }
 
--- where a service freezes the pairs stay, and their rows
+-- a freeze keeps the pairs and their rows
 pub shaped_turned : (s : Sys) (k : ℕ) (frozen : Bool) (board : Board) → IsShaped (numbered s) (lanes_in s) board → IsShaped (numbered (turned s k frozen)) (lanes_in (turned s k frozen)) board
 shaped_turned s k frozen board shaped = record {
   pairs = shaped.pairs ∙ sym (nodes-turned s k frozen);

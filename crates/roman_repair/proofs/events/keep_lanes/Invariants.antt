@@ -6,7 +6,7 @@ use Rattle.roman_order.specs.Board.{set_lanes, entries_in}
 use Rattle.roman_repair.specs.Replays.{AreCandidates, with_replay, readings_of_entries}
 use Rattle.roman_repair.proofs.events.keep_lanes.Given as goal
 
--- the entries for the lanes that are left are to be replayed
+-- the entries for the remaining lanes are left
 abbrev pub invariant-left : goal.invariant-left
 invariant-left g l =
     let A = g.J.Rules.arena l.joint in
@@ -20,6 +20,6 @@ invariant-left g l =
       cost : l.steps + readings_of_entries A (entries_in n l.x l.left l.reason) ≤ l.fn.steps + readings_of_entries A (entries_in n l.x l.lanes l.reason);
     }
 
--- each turn takes a lane
+-- each turn takes at least one lane
 abbrev pub decreases-left : goal.decreases-left
 decreases-left g l = length (set_lanes l.left)

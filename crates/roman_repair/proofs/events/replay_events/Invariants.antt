@@ -5,7 +5,7 @@ use Rattle.roman_repair.specs.Replays.{readings_of_entries}
 use Rattle.roman_repair.proofs.Keeping.{IsReplaying}
 use Rattle.roman_repair.proofs.events.replay_events.Given as goal
 
--- the entries that wait are left
+-- the pending entries are left
 abbrev pub invariant-replay : goal.invariant-replay
 invariant-replay g l =
     let A = g.J.Rules.arena l.joint in
@@ -15,6 +15,6 @@ invariant-replay g l =
       cost : l.steps + readings_of_entries A l.order.waiting ≤ l.fn.steps + readings_of_entries A l.fn.order.waiting;
     }
 
--- each turn takes an entry
+-- each turn takes a pending event
 abbrev pub decreases-replay : goal.decreases-replay
 decreases-replay g l = length l.order.waiting

@@ -6,7 +6,7 @@ use Rattle.roman_repair.specs.Replays.{readings_of_entries}
 use Rattle.roman_repair.proofs.Keeping.{IsReplaying}
 use Rattle.roman_repair.proofs.replaying.replay.Given as goal
 
--- the candidates of the entries that wait are left
+-- the candidates of the pending entries are left
 abbrev pub invariant-replay : goal.invariant-replay
 invariant-replay g l =
     let A = g.J.Rules.arena l.joint in
@@ -18,6 +18,6 @@ invariant-replay g l =
       cost : l.steps + readings_of_entries A left ≤ l.fn.steps + readings_of_entries A all;
     }
 
--- each turn takes an entry
+-- each turn takes a pending entry
 abbrev pub decreases-replay : goal.decreases-replay
 decreases-replay g l = length l.order.waiting

@@ -9,7 +9,7 @@ use Rattle.roman_joint.specs.NamedSys.{system_of}
 use Rattle.roman_repair.specs.Deaths.{list_with}
 use Rattle.roman_repair.proofs.dying.renaming.rename_list.Given as goal
 
--- the entries so far are renamed, and the others wait
+-- the entries so far are renamed, and the others are pending
 abbrev pub invariant-waiting : goal.invariant-waiting
 invariant-waiting l = record {
   list : (seat : Seat) → CanChange (Die l.k seat) (system_of l.joint) →
@@ -18,6 +18,6 @@ invariant-waiting l = record {
   rest : l.order ≡ record l.initial.order { list = l.order.list; waiting = l.order.waiting };
 }
 
--- each turn takes an entry off
+-- each turn takes a pending event
 abbrev pub decreases-waiting : goal.decreases-waiting
 decreases-waiting l = length l.order.waiting
