@@ -6,7 +6,7 @@ use Rattle.roman_model.specs.Plans.{least_from, first_least}
 use Rattle.roman_model.proofs.CallerLemmas.{same_test, filter_same, filter_in, in_filter, filter_below_more, least_from_push, listed_number, number_listed}
 use Rattle.roman_cost.specs.Filling.{better_of}
 
--- the first of the least of a list, with its value
+-- the first of the cheapest elements of a list, with its value
 abbrev pub best_of : (ℕ → ℕ) → List ℕ → Option (ℕ × ℕ)
 best_of f [] = None
 best_of f (x ∷ xs) = Some (least_from f x xs, f (least_from f x xs))
@@ -24,7 +24,7 @@ pub best_of-first : (f : ℕ → ℕ) (xs : List ℕ) → xs ≢ [] → best_of 
 best_of-first f [] some = absurd (some refl)
 best_of-first f (x ∷ xs) some = refl
 
--- a number more, which passes or not
+-- the best after one number more, which passes or doesn't
 pub best_of-taken : (f : ℕ → ℕ) (p : ℕ → Bool) (k cost : ℕ) (best new : Option (ℕ × ℕ)) → p k ≡ true → best ≡ best_of f (filter p (below k)) → cost ≡ f k →
     new ≡ better_of best k cost → new ≡ best_of f (filter p (below (k + 1)))
 best_of-taken f p k cost best new passes before e is =
@@ -38,14 +38,14 @@ best_of-passed f p k best fails before =
     before ∙ ap (best_of f) (sym (ap (λ b. filter p (below k) ++ cond b (k ∷ []) []) fails ∙ append-nil (filter p (below k)))) ∙ ap (best_of f) (sym (filter_below_more p k))
     ∙ ap (λ n. best_of f (filter p (below n))) (sym (add-one k))
 
--- the numbers below a bound that a list of such numbers has are that list
+-- filtering the numbers below a bound by a list of such numbers gives the list
 pub filter_has : (q : ℕ → Bool) (n : ℕ) → filter (has (filter q (below n))) (below n) ≡ filter q (below n)
 filter_has q n = filter_same (has (filter q (below n))) q (below n) (λ x i.
     same_test (has (filter q (below n)) x) (q x)
     (λ t. (filter_in q x (below n) (number_listed (filter q (below n)) x t)).1)
     (λ t. listed_number (filter q (below n)) x (in_filter q x (below n) i t)))
 
--- where the values agree on the list
+-- the least is the same where the values agree on the list
 least_from_same : (f g : ℕ → ℕ) (x : ℕ) (xs : List ℕ) → f x ≡ g x → ((y : ℕ) → IsIn y xs → f y ≡ g y) → least_from f x xs ≡ least_from g x xs
 least_from_same f g x [] here same = refl
 least_from_same f g x (y ∷ ys) here same =

@@ -1,4 +1,4 @@
--- Listed costs, and the cells that tell them.
+-- Listed costs, and their cells.
 use Rattle.std.proofs.Common.{◌≡◌, ◌≢◌, ℕ, zero, suc, ◌+◌, ◌-◌, ◌*◌, ◌<◌, ◌≤◌, ◌==◌, ◌&&◌, Bool, true, false, cond, List, [], ◌∷◌, ◌++◌, length, get_or, set, Option, Some, None, unwrap_or, slice_get, slice_index, All, IsTrue, IsFalse, inl, inr, refl, sym, ap, ◌∙◌, subst, arith}
 use Rattle.std.specs.Option.{option_or}
 use Rattle.std.proofs.lemmas.Bool.{cases_order, eq-eqb, eqb-true, and_parts, and_from, cond-false, cond-true}
@@ -27,7 +27,7 @@ option_or_none : {X : Type 0} (o : Option X) → option_or o None ≡ o
 option_or_none None = refl
 option_or_none (Some x) = refl
 
--- two cells at one place are the same
+-- two cells at one place are the same cell
 same_place : (n b a c d : ℕ) → a < n → d < n → b * n + a ≡ c * n + d → (b ≡ c) × (a ≡ d)
 same_place n b a c d la ld e = elim (cases_order b c) [
   | inl same ↦ (same, let here : b * n ≡ c * n = ap (λ k. k * n) same in omega arith)
@@ -83,7 +83,7 @@ HoldsCosts-put table cells after item has lb la small new is =
     small_push (x ∷ listed) each zero d l = each zero d (omega arith)
     small_push (x ∷ listed) each (suc k) d l = small_push listed (λ j e m. each (suc j) e (omega arith)) k d (omega arith)
 
--- How great costs are.
+-- The bound of costs.
 
 pub cost_of_small : (listed : List Listed) → All (λ x. x.cost ≤ MAX_COST) listed → (b a : ℕ) → cost_of listed b a ≤ MAX_COST
 cost_of_small [] each b a = omega arith
@@ -101,7 +101,7 @@ seat_costs_small n listed each k a = by (slice_get n.seats k)
     by None = omega arith
     by (Some seat) = cost_of_small listed each seat.behaviour a
 
--- What a cell tells.
+-- The content of a cell.
 
 pub cell_less : (o : Option ℕ) (cell : ℕ) → cell ≡ cell_of o → cell - 1 ≡ unwrap_or o 0
 cell_less None cell e = omega arith

@@ -5,7 +5,7 @@ use Rattle.std.proofs.lemmas.List.{take_more}
 use Rattle.roman_model.specs.Plans.{max_over}
 use Rattle.roman_model.proofs.CallerLemmas.{max_over_push, max_over-map, max_over-append}
 
--- the next element is seen
+-- the greatest value after one element more
 pub max_stepped : {X : Type 0} (f : X → ℕ) (xs : List X) (i : ℕ) (d : X) (best value new : ℕ) → best ≡ max_over f (take i xs) → i < length xs →
     value ≡ f (get_or xs i d) → new ≡ max best value → new ≡ max_over f (take (i + 1) xs)
 max_stepped f xs i d best value new before l is step =
@@ -15,7 +15,7 @@ max_over-flat_map : {X Y : Type 0} (f : Y → ℕ) (g : X → List Y) (xs : List
 max_over-flat_map f g [] = refl
 max_over-flat_map f g (x ∷ xs) = max_over-append f (g x) (flat_map g xs) ∙ ap (max (max_over f (g x))) (max_over-flat_map f g xs)
 
--- by rows is over all
+-- the greatest of the rows' greatest values is the greatest over all rows
 pub max_all : {Y : Type 0} (f : Y → ℕ) (g : ℕ → ℕ → Y) (envs states : List ℕ) (best : ℕ) → best ≡ max_over (λ e. max_over (λ b. f (g e b)) states) envs →
     best ≡ max_over f (flat_map (λ e. map (g e) states) envs)
 max_all f g envs states best is = is ∙ each envs ∙ sym (max_over-flat_map f (λ e. map (g e) states) envs)

@@ -1,4 +1,4 @@
--- The text of advice tells least costs.
+-- The text of advice names least costs.
 use Rattle.std.proofs.Common.{◌≡◌, ℕ, ◌-◌, List, ◌++◌, codes, sym, ap}
 use Rattle.std.specs.List.{flat_map}
 use Rattle.roman_model.specs.Lists.{below}
@@ -16,7 +16,7 @@ use Rattle.roman_cost.specs.declared.costs.Listed.{Listed}
 use Rattle.roman_cost.proofs.PlanningLemmas.{in_allowed, least_cost, choice_cheapest, cheapest_same}
 use Rattle.roman_cost.proofs.Ranks.{related_at, in_related, from_related}
 
--- the first line has what the requests cost at the pair of that number
+-- the first line has the cost of the requests at the pair with that number
 same_text : (n : NamedSys) (listed : List Listed) (requests : ℕ) (p : Pair) → IsPair (system_of n) p →
     advice_text n listed requests p
     ≡ worst_line (least_at (system_of n) (seat_costs n listed) requests (number (sizes_of (system_of n)) p))

@@ -39,22 +39,22 @@ named seats k seat h = get_or_from_slice_get (map seat_name seats) k seat.name [
 
 -- ---- texts of a list's items
 
--- a text that comes next, as it is taken
+-- the next text of a whole, as the code takes it
 pub as_taken : (whole text rest piece : List ℕ) → whole ≡ text ++ rest → piece ≡ text → whole ≡ piece ++ rest
 as_taken whole text rest piece next is = next ∙ ap (λ (t : List ℕ). t ++ rest) (sym is)
 
--- the text of the item at a place comes next
+-- the next text is that of the item at a place
 next_text : (f : ℕ → List ℕ) (xs : List ℕ) (i : ℕ) → i < length xs → flat_map f (drop i xs) ≡ f (get_or xs i 0) ++ flat_map f (drop (i + 1) xs)
 next_text f xs i l = ap (flat_map f) (drop-cons xs i 0 l) ∙ ap (λ (j : ℕ). f (get_or xs i 0) ++ flat_map f (drop j xs)) (sym (add-one i))
 
--- a line in its two parts
+-- a line in its parts
 in_parts : (a b c d e f g : List ℕ) → (a ++ b ++ c) ++ ((d ++ e) ++ (f ++ g)) ≡ a ++ b ++ c ++ d ++ e ++ f ++ g
 in_parts a b c d e f g = simp (append_assoc)
 
 value_parts : (h p value : ℕ) → value_head h ++ value_tail p value ≡ value_line h p value
 value_parts h p value = in_parts (codes "value ") (decimal h) (codes " ") (decimal p) (codes " ") (decimal value) (codes "\n")
 
--- the value of the pair at a place
+-- the next value is that of the pair at a place
 pub next_value : (s : Sys) (C : Costs) (h : ℕ) (items pairs row : List ℕ) (i p value : ℕ) (head : List ℕ) → items ≡ pairs → i < length items → p ≡ get_or items i 0 → row ≡ map (least_at s C h) pairs →
     value ≡ get_or row i 0 → head ≡ value_head h →
     flat_map (λ p. value_line h p (least_at s C h p)) (drop i pairs) ≡ (head ++ value_tail p value) ++ flat_map (λ p. value_line h p (least_at s C h p)) (drop (i + 1) pairs)
@@ -65,7 +65,7 @@ next_value s C h items pairs row i p value head same l at is told begins =
     as_taken (flat_map F (drop i pairs)) (F (get_or pairs i 0)) (flat_map F (drop (i + 1) pairs)) (head ++ value_tail p value) (next_text F pairs i (subst (λ (ps : List ℕ). i < length ps) same l))
     (ap (λ (xs : List ℕ). xs ++ value_tail p value) begins ∙ value_parts h p value ∙ ap₂ (value_line h) here least_is)
 
--- the values of the next number of requests
+-- the next row has the values for one request more
 pub next_row : (s : Sys) (C : Costs) (n h : ℕ) → h < n →
     flat_map (λ h. value_lines s C (suc h)) (drop h (below n)) ≡ value_lines s C (h + 1) ++ flat_map (λ h. value_lines s C (suc h)) (drop (h + 1) (below n))
 next_row s C n h l =
@@ -82,7 +82,7 @@ no_row s C n h l = ap (flat_map (λ h. value_lines s C (suc h))) (from_end n h l
 pub choices_from : NamedSys → Costs → ℕ → Pair → ℕ → List ℕ
 choices_from n C h p a = flat_map (choice_line n C h p) (filter (is_allowed (system_of n) p) (drop a (below (system_of n).env.actions)))
 
--- an action that is allowed comes next
+-- the line of an allowed action comes next
 pub next_choice : (n : NamedSys) (C : Costs) (h : ℕ) (p : Pair) (a : ℕ) → a < (system_of n).env.actions → IsTrue (is_allowed (system_of n) p a) →
     choices_from n C h p a ≡ choice_line n C h p a ++ choices_from n C h p (a + 1)
 unfolding choices_from
@@ -93,7 +93,7 @@ next_choice n C h p a l allowed =
     ap (λ (xs : List ℕ). flat_map (choice_line n C h p) (filter test xs)) (from_place m a l)
     ∙ ap (flat_map (choice_line n C h p)) (cond-true (test a) (a ∷ rest) rest allowed)
 
--- another one is passed over
+-- an action that isn't allowed has no line
 pub next_unallowed : (n : NamedSys) (C : Costs) (h : ℕ) (p : Pair) (a : ℕ) → a < (system_of n).env.actions → IsFalse (is_allowed (system_of n) p a) → choices_from n C h p a ≡ choices_from n C h p (a + 1)
 unfolding choices_from
 next_unallowed n C h p a l unallowed =
@@ -108,12 +108,12 @@ pub no_choice : (n : NamedSys) (C : Costs) (h : ℕ) (p : Pair) (a : ℕ) → (s
 unfolding choices_from
 no_choice n C h p a l = ap (λ (xs : List ℕ). flat_map (choice_line n C h p) (filter (is_allowed (system_of n) p) xs)) (from_end (system_of n).env.actions a l)
 
--- all are gone through
+-- the lines of the actions from the first on are those of all allowed actions
 pub choices_begin : (n : NamedSys) (C : Costs) (h : ℕ) (p : Pair) → choices_from n C h p 0 ≡ flat_map (choice_line n C h p) (allowed_actions (system_of n) p)
 unfolding choices_from
 choices_begin n C h p = refl
 
--- the seat that is chosen is one of the system
+-- the chosen seat is one of the system
 pub chosen_seat : (n : NamedSys) (C : Costs) (h p a k : ℕ) → IsSys (system_of n) → p < count (sizes_of (system_of n)) → IsTrue (is_related (system_of n) (pair_at (sizes_of (system_of n)) p)) →
     IsTrue (is_allowed (system_of n) (pair_at (sizes_of (system_of n)) p) a) → k ≡ choice (system_of n) C h (pair_at (sizes_of (system_of n)) p) a → k < length n.seats
 chosen_seat n C h p a k ok l related allowed is =
@@ -124,7 +124,7 @@ chosen_seat n C h p a k ok l related allowed is =
     let known = offered s p a (choice s C h P a) ok l best.offered in
     omega (arith, known.seat, is, length-map n.seats (seat_of n.catalogue))
 
--- its line
+-- the line of the action and the chosen seat
 pub choice_line_is : (n : NamedSys) (C : Costs) (h : ℕ) (p : Pair) (a k cost : ℕ) (action : List ℕ) (seat : Seat) → k ≡ choice (system_of n) C h p a → cost ≡ through (system_of n) C (least (system_of n) C h) p a k →
     slice_get n.environment.actions a ≡ Some action → slice_get n.seats k ≡ Some seat → service_text action seat.name cost ≡ choice_line n C h p a
 choice_line_is n C h p a k cost action seat is costs action_named seated =
@@ -139,7 +139,7 @@ choice_line_is n C h p a k cost action seat is costs action_named seated =
 regroup : (a b c d : List ℕ) → a ++ (b ++ (c ++ (d ++ []))) ≡ a ++ b ++ c ++ d
 regroup a b c d = simp (append_assoc, append-nil)
 
--- the lines of the actions that the target allows at a pair, and those of all values
+-- the lines of the actions that the target allows at a pair, and the lines of all values
 abbrev pub choices_text : NamedSys → List Listed → ℕ → ℕ → List ℕ
 choices_text n listed requests start =
     let p = pair_at (sizes_of (system_of n)) start in
@@ -148,7 +148,7 @@ choices_text n listed requests start =
 abbrev pub values_text : NamedSys → List Listed → ℕ → List ℕ
 values_text n listed requests = certificate_text (system_of n) (seat_costs n listed) requests
 
--- an empty page is to take the text in pieces, of which the first has what so many requests cost at worst
+-- an empty page takes the text in pieces, and the first piece has the worst cost of the requests
 pub advice_begins : (n : NamedSys) (listed : List Listed) (requests h start value : ℕ) (first held : List ℕ) (old : Option (List ℕ)) → held ≡ [] →
     value ≡ least_at (system_of n) (seat_costs n listed) h start → h ≡ requests → first ≡ worst_line value →
     IsFilling old old held (first ++ (choices_text n listed requests start ++ (values_text n listed requests ++ (codes "end\n" ++ [])))) (advice_text n listed requests (pair_at (sizes_of (system_of n)) start))

@@ -1,4 +1,4 @@
--- The offered seats of a related pair: each has outcomes, all of them related, and what it costs is as the definition says.
+-- The offered seats of a related pair: each has outcomes, all of them are related, and its cost is the one that the definition gives.
 use Rattle.std.proofs.Common.{◌≡◌, ◌≢◌, ℕ, suc, ◌+◌, ◌*◌, ◌<◌, ◌≤◌, Bool, not, List, [], ◌∷◌, map, flat_map, length, filter, slice_index, inl, inr, IsTrue, All, refl, sym, ap, ◌∙◌, subst, arith}
 use Rattle.roman_model.specs.Lists.{IsIn, below}
 use Rattle.roman_model.specs.System.{Sys, Pair, IsSys, IsPair, has}
@@ -18,11 +18,11 @@ use Rattle.roman_cost.proofs.Best.{filter_has, first_least_same}
 use Rattle.roman_cost.proofs.Rows.{all_from}
 use Rattle.roman_cost.proofs.Ranks.{in_related, ranked_value}
 
--- a seat of the offered ones is offered
+-- a seat whose bit is on is one of the offered seats
 pub seat_in : (seats : List ℕ) (bits k : ℕ) (has_it : Bool) → HasBits bits (has seats) → k < 32 → has_it ≡ has_seat bits k → IsTrue has_it → IsIn k seats
 seat_in seats bits k has_it tell l is it = number_listed seats k (sym (has_seat_is bits (has seats) k tell l) ∙ (sym is ∙ it))
 
--- what is known of a seat that is offered for a at the pair of number p
+-- the facts about a seat that is offered for a at the pair with the number p
 pub record IsOffered (s : Sys) (p a k : ℕ) : Type 0 where
   pub seat : k < length s.seats
   pub ready : IsTrue ((numbered s).ready k)
@@ -54,7 +54,7 @@ offered_ranked s p a k ranks row is are long =
     all_from (IsRanked ranks row) ((numbered s).outcomes p a k) (λ q i.
     (are.within q (is.related q i), subst (λ m. m) refl (let l = are.below q (is.related q i) in omega arith)))
 
--- what a seat costs, by a row for the requests that follow
+-- the cost of a seat, by a row for the requests that follow
 abbrev pub cost_by : Sys → Costs → List ℕ → List ℕ → ℕ → ℕ → ℕ → ℕ
 cost_by s C ranks row p a k = C k a + max_over (ranked ranks row) ((numbered s).outcomes p a k)
 
@@ -75,7 +75,7 @@ best_is_choice s C ranks row p a h ok l are is =
     first_least_same (cost_by s C ranks row p a) (through s C (least s C h) (pair_at (sizes_of s) p) a) (offers s (pair_at (sizes_of s) p) a)
     (λ k i. cost_is s C ranks row p a k h ok l are is i)
 
--- the offers are the seats that they have
+-- the offers are the seats of the system that are among them
 pub offers_among : (s : Sys) (P : Pair) (a : ℕ) → IsTrue (is_allowed s P a) → filter (has (offers s P a)) (below (length s.seats)) ≡ offers s P a
 offers_among s P a allowed =
     let rule : ℕ → Bool = λ k. not_beaten k in
@@ -94,13 +94,13 @@ states_some g envs [] some = absurd (some (none envs))
     none (e ∷ es) = none es
 states_some g envs (b ∷ states) some = omega arith
 
--- what holds of all elements holds of each
+-- a property of all elements holds of each
 pub all_in : {X : Type 0} (P : X → Type 0) (xs : List X) (x : X) → All P xs → IsIn x xs → P x
 all_in P [] x each i = absurd i
 all_in P (y ∷ xs) x each (inl e) = subst P (sym e) (each 0 y (omega arith))
 all_in P (y ∷ xs) x each (inr i) = all_in P xs x (λ k d l. each (suc k) d (omega arith)) i
 
--- the greatest value isn't too great
+-- the greatest value is within its bound
 pub greatest_small : (ranks row qs : List ℕ) → All (IsRanked ranks row) qs → AreSmall row → max_over (ranked ranks row) qs ≤ MAX_REQUESTS * MAX_COST
 greatest_small ranks row qs each small =
     max_over_le (ranked ranks row) (MAX_REQUESTS * MAX_COST) qs (λ q i. small (slice_index ranks q) 0 (all_in (IsRanked ranks row) qs q each i).1)

@@ -1,4 +1,4 @@
--- The plans by offers are those by seats that serve, and their worst costs are the greatest that may come.
+-- The plans by offers are those by seats that serve, and their worst-case costs are the greatest that can occur.
 use Rattle.std.proofs.Common.{◌≡◌, ◌⊎◌, ℕ, zero, suc, ◌+◌, ◌<◌, ◌≤◌, List, [], ◌∷◌, IsTrue, nat_le, inl, inr, refl, sym, ap, ◌∙◌, subst, arith}
 use Rattle.std.specs.Prelude.{max}
 use Rattle.std.proofs.Math.Nat.{le-max_left, le-max_right, max-le}
@@ -66,7 +66,7 @@ max_is_one m n =
     (λ t. let l : m ≤ n = leb-true m n t in let up : max m n ≤ n = max-le l (omega arith) in inr (omega arith))
     (λ f. let l : n < m = leb-false m n f in let up : max m n ≤ m = max-le (omega arith) (omega arith) in inl (omega arith))
 
--- it is that of some element, or 0
+-- the greatest value is that of some element, or 0
 max_of_one : {X : Type 0} (f : X → ℕ) (xs : List X) → ((x : X) × IsIn x xs × (f x ≡ max_over f xs)) ⊎ (max_over f xs ≡ 0)
 max_of_one f [] = inr refl
 max_of_one f (x ∷ xs) = elim (max_is_one (f x) (max_over f xs)) [
@@ -80,9 +80,9 @@ max_of_some f xs x i = elim (max_of_one f xs) [
   | inr none ↦ let l : f x ≤ max_over f xs = at_most_max f x xs i in (x, i, omega arith)
 ]
 
--- Worst costs.
+-- Worst-case costs.
 
--- what an action may cost at worst at a node of a plan
+-- the cost of an action and its outcome at a node of a plan
 abbrev cost_at : Sys → Costs → Pair → (ℕ → ℕ) → (ℕ → Pair → Plan) → ℕ → Pair → ℕ
 cost_at s C p seat next a q = C (seat a) a + worst s C q (next a q)
 
@@ -123,7 +123,7 @@ worst_some s C p (Node seat next) = elim (max_of_one (λ a. max_over (cost_at s 
 pub worst_is : (s : Sys) (C : Costs) (p : Pair) (plan : Plan) → IsSys s → IsWorstCost s C p plan (worst s C p plan)
 worst_is s C p plan ok = record { within = worst_within s C p plan ok; some = worst_some s C p plan }
 
--- Least worst costs.
+-- Least worst-case costs.
 
 pub least_cost : (s : Sys) (C : Costs) (h : ℕ) (p : Pair) → IsSys s → IsPair s p → Great s p → IsLeastCost s C h p (least s C h p)
 least_cost s C h p ok pair great =
@@ -141,7 +141,7 @@ least_cost s C h p ok pair great =
 
 -- Choices.
 
--- what an action costs through a seat that serves it
+-- the cost of an action through a seat that serves it
 through_costs : (s : Sys) (C : Costs) (rest : Pair → ℕ) (p : Pair) (a k : ℕ) → IsSys s → IsPair s p → IsTrue (is_allowed s p a) → IsIn k (offers s p a) → CostsBy s C rest p a k (through s C rest p a k)
 through_costs s C rest p a k ok pair allowed offered =
     let (may, within, some, all) = offer_is s p a k ok pair offered in
@@ -152,7 +152,7 @@ through_costs s C rest p a k ok pair allowed offered =
       some = (q, from_outcome s p a k q j, ap (λ n. C k a + n) e);
     }
 
--- there is one such cost
+-- there is only one such cost
 costs_once : (s : Sys) (C : Costs) (rest : Pair → ℕ) (p : Pair) (a k cost other : ℕ) → CostsBy s C rest p a k cost → CostsBy s C rest p a k other → cost ≡ other
 costs_once s C rest p a k cost other one two =
     let (q, moves, e) = one.some in
@@ -175,7 +175,7 @@ choice_cheapest s C h p a ok pair great allows =
           (costs_once s C (least s C h) p a j (through s C (least s C h) p a j) other (through_costs s C (least s C h) p a j ok pair allowed offered) costs) (is.best j offered);
     }
 
--- costs are the same where each pair costs as much
+-- costs are the same where each pair costs the same
 costs_same : (s : Sys) (C : Costs) (rest other : Pair → ℕ) (p : Pair) (a k cost : ℕ) → IsSys s → IsPair s p → ((q : Pair) → IsPair s q → rest q ≡ other q) →
     CostsBy s C rest p a k cost → CostsBy s C other p a k cost
 costs_same s C rest other p a k cost ok pair same costs = record {

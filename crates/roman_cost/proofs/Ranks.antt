@@ -12,7 +12,7 @@ use Rattle.roman_model.proofs.CallerLemmas.{numbers_are_pairs, great_related, re
 use Rattle.roman_cost.specs.Advised.{related_pairs, HavePlaces, AdviceTable, Advises}
 use Rattle.roman_cost.specs.Filling.{ranked}
 
--- whether the pair of that number is related
+-- whether the pair with that number is related
 abbrev pub related_at : Sys → ℕ → Bool
 related_at s p = is_related s (pair_at (sizes_of s) p)
 
@@ -24,13 +24,13 @@ from_related s p i =
     let (j, t) = filter_in (related_at s) p (below (count (sizes_of s))) i in
     (from_below (count (sizes_of s)) p j, t)
 
--- the answer of a relation to whether a pair is related is the test
+-- the answer of a relation about a pair is that test
 pub told_related : (s : Sys) (p : ℕ) (told : Bool) → IsSys s → p < count (sizes_of s) → (IsTrue told ↔ Great s (pair_at (sizes_of s) p)) → told ≡ related_at s p
 told_related s p told ok l says =
     let pair : IsPair s (pair_at (sizes_of s) p) = (numbers_are_pairs s).pair p l in
     same_test told (related_at s p) (λ t. great_related s (pair_at (sizes_of s) p) ok (says.0 t)) (λ t. says.1 (related_great s (pair_at (sizes_of s) p) ok pair t))
 
--- Ranks in the making.
+-- The ranks so far.
 
 pub rank-le : (q : ℕ → Bool) (n : ℕ) → rank q n ≤ n
 rank-le q zero = omega arith
@@ -57,7 +57,7 @@ pub pairs_passed : (q : ℕ → Bool) (n : ℕ) (pairs : List ℕ) → q n ≡ f
 pairs_passed q n pairs fails before =
     before ∙ sym (append-nil (filter q (below n))) ∙ ap (λ b. filter q (below n) ++ cond b (n ∷ []) []) (sym fails) ∙ sym (filter_below_more q n) ∙ ap (λ m. filter q (below m)) (sym (add-one n))
 
--- where all numbers below n are seen
+-- the ranks after all numbers below n are seen
 pub ranks_done : (q : ℕ → Bool) (n : ℕ) (pairs ranks : List ℕ) → pairs ≡ filter q (below n) → ranks ≡ map (rank q) (below n) → HavePlaces pairs ranks
 ranks_done q n pairs ranks ps rs = subst (λ xs. HavePlaces xs ranks) (sym ps) (subst (λ xs. HavePlaces (filter q (below n)) xs) (sym rs) (record {
   within = λ p i. let l : p < n = small p i in subst (λ m. p < m) (sym long) l;
@@ -77,13 +77,13 @@ ranks_done q n pairs ranks ps rs = subst (λ xs. HavePlaces xs ranks) (sym ps) (
     is : (p : ℕ) → p < n → slice_index (map (rank q) (below n)) p ≡ rank q p
     is p l = get_or-map (rank q) (below n) p 0 0 (subst (λ m. p < m) (sym (length-below n)) l) ∙ ap (rank q) (get_or-below n p 0 l)
 
--- the value that a table has for so many requests at a pair of rank r
+-- the value that a table has for h requests at a pair of rank r
 pub value_at : (s : Sys) (C : Costs) (table : AdviceTable) (h p r v : ℕ) → Advises s C table → h ≤ table.requests → r < length table.pairs → slice_index table.pairs r ≡ p →
     v ≡ slice_index table.values (h * length table.pairs + r) → v ≡ least_at s C h p
 value_at s C table h p r v says few l at is =
     is ∙ ap (λ xs. get_or xs (h * length table.pairs + r) 0) says.values ∙ table_at (least_at s C) table.pairs (suc table.requests) h r 0 0 (omega arith) l ∙ ap (least_at s C h) at
 
--- the value of a pair that is related, in a row for all of them
+-- the value of a related pair, in a row for all of them
 pub ranked_value : (s : Sys) (C : Costs) (h : ℕ) (pairs ranks row : List ℕ) (p : ℕ) → HavePlaces pairs ranks → IsIn p pairs → row ≡ map (least_at s C h) pairs →
     ranked ranks row p ≡ least_at s C h p
 ranked_value s C h pairs ranks row p are i is =

@@ -1,4 +1,4 @@
--- Rows of values: where a row stands, and how great its values are.
+-- Rows of values: their places and their bounds.
 use Rattle.std.proofs.Common.{◌≡◌, ℕ, zero, suc, ◌+◌, ◌-◌, ◌*◌, ◌<◌, ◌≤◌, List, [], ◌∷◌, ◌++◌, map, length, get_or, take, drop, replicate, All, slice_range, refl, sym, ap, ap₂, ◌∙◌, inl, inr, arith, append_assoc, append-nil, length-append}
 use Rattle.std.proofs.Math.Nat.{mul-le-mul_left}
 use Rattle.std.proofs.Math.Seq.{take-nil, take-length, drop-append_seam}
@@ -13,7 +13,7 @@ use Rattle.roman_cost.specs.Advised.{related_pairs, value_rows, AdviceTable, Adv
 use Rattle.roman_cost.specs.Filling.{AreSmall}
 use Rattle.roman_cost.specs.declared.limits.TheConstants.{MAX_COST, MAX_REQUESTS}
 
--- what stands at a place is in the list
+-- the element at a place is in the list
 pub in_at : {X : Type 0} (xs : List X) (i : ℕ) (d : X) → i < length xs → IsIn (get_or xs i d) xs
 in_at [] i d l = absurd (omega arith)
 in_at (x ∷ xs) zero d l = inl refl
@@ -22,7 +22,7 @@ in_at (x ∷ xs) (suc i) d l = inr (in_at xs i d (omega arith))
 pub all_from : {X : Type 0} (P : X → Type 0) (xs : List X) → ((x : X) → IsIn x xs → P x) → All P xs
 all_from P xs each k d l = each (get_or xs k d) (in_at xs k d l)
 
--- How great values are.
+-- The bound of values.
 
 pub rows_small : (s : Sys) (C : Costs) (pairs : List ℕ) (n : ℕ) → ((k a : ℕ) → C k a ≤ MAX_COST) → n ≤ suc MAX_REQUESTS → AreSmall (value_rows s C pairs n)
 rows_small s C pairs n bound few = all_from (λ v. v ≤ MAX_REQUESTS * MAX_COST) (value_rows s C pairs n) (λ v i.
@@ -38,7 +38,7 @@ row_small s C pairs h bound few = all_from (λ v. v ≤ MAX_REQUESTS * MAX_COST)
     let great : least_at s C h p ≤ h * MAX_COST = least_bound s C MAX_COST h (pair_at (sizes_of s) p) bound in
     omega arith)
 
--- Where a row stands.
+-- The place of a row.
 
 pub range_left : {X : Type 0} (xs ys : List X) (i n : ℕ) → i + n ≤ length xs → slice_range (xs ++ ys) i (i + n) ≡ slice_range xs i (i + n)
 range_left xs ys i n l =
@@ -77,7 +77,7 @@ row_fits s C pairs more values n h l is =
     let long : length values ≡ length (value_rows s C pairs n ++ more) = ap length is in
     omega (arith, up, long, length_rows (least_at s C) pairs n, length-append (value_rows s C pairs n) more)
 
--- the row of so many requests, where a further row is begun
+-- the row for h requests, where a further row is begun
 pub row_told : (s : Sys) (C : Costs) (pairs more values row : List ℕ) (n h : ℕ) → h < n → values ≡ value_rows s C pairs n ++ more →
     row ≡ slice_range values (h * length pairs) (h * length pairs + length pairs) → row ≡ map (least_at s C h) pairs
 row_told s C pairs more values row n h l is told = told ∙ ap (λ vs. slice_range vs (h * length pairs) (h * length pairs + length pairs)) is ∙ row_at s C pairs more n h l
@@ -105,7 +105,7 @@ resized_row s C pairs values new n m empty none long is =
     let rest : n - m ≡ n = omega arith in
     is ∙ ap₂ (λ xs k. take n xs ++ replicate k 0) empty rest ∙ ap (λ xs. xs ++ replicate n 0) (take-nil n) ∙ first_row s C pairs n long
 
--- a row that is begun
+-- a row so far, after one value more
 pub row_more : (f : ℕ → ℕ) (rows pairs values new : List ℕ) (i value : ℕ) → i < length pairs → values ≡ rows ++ map f (take i pairs) → value ≡ f (get_or pairs i 0) →
     new ≡ values ++ value ∷ [] → new ≡ rows ++ map f (take (i + 1) pairs)
 row_more f rows pairs values new i value l before is next =

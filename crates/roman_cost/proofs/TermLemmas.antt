@@ -1,4 +1,4 @@
--- What the terms of related pairs come to.
+-- The values of the terms of related pairs.
 use Rattle.std.proofs.Common.{◌≡◌, ◌≢◌, ℕ, zero, suc, ◌+◌, ◌-◌, ◌*◌, ◌<◌, ◌≤◌, Bool, true, false, cond, List, [], ◌∷◌, ◌++◌, map, length, take, drop, filter, Option, Some, None, unwrap_or, nat_le, slice_index, IsTrue, refl, sym, ap, ap₂, ◌∙◌, inl, inr, subst, arith, append_assoc, append-nil, add-one}
 use Rattle.std.specs.Prelude.{max, min}
 use Rattle.std.specs.List.{flat_map}
@@ -22,7 +22,7 @@ use Rattle.roman_cost.proofs.Ranks.{from_related, related_at}
 
 -- Lists that grow.
 
--- a number more below a bound, which passes or not
+-- the list after one number more below the bound, which passes or doesn't
 pub flat_taken : {X : Type 0} (f : ℕ → List X) (p : ℕ → Bool) (k : ℕ) (old terms new : List X) → p k ≡ true → terms ≡ old ++ flat_map f (filter p (below k)) → new ≡ terms ++ f k →
     new ≡ old ++ flat_map f (filter p (below (k + 1)))
 flat_taken f p k old terms new passes before is =
@@ -53,7 +53,7 @@ worked_outcomes ranks row (q ∷ qs) rest w c d =
     let e : max (max d v) m ≡ max d (max v m) = omega arith in
     worked_outcomes ranks row qs rest w c (max d v) ∙ ap (λ m. worked_out row rest (record { worst = w; cheapest = c; dearest = m })) e
 
--- the cheapest of some services, after one
+-- the cost through the cheapest of some services, after the best cost so far
 abbrev cheapest_of : (ℕ → ℕ) → Option ℕ → List ℕ → Option ℕ
 cheapest_of f c [] = c
 cheapest_of f c (k ∷ ks) = cheapest_of f (Some (cheaper_of c (f k))) ks
@@ -71,7 +71,7 @@ cheapest_first : (f : ℕ → ℕ) (ks : List ℕ) → ks ≢ [] → cheapest_of
 cheapest_first f [] some = absurd (some refl)
 cheapest_first f (k ∷ ks) some = cheapest_from f k ks
 
--- no cost is too great to be held
+-- no cost is too great for the type
 fits : (s : Sys) (C : Costs) (ranks row : List ℕ) (p a k : ℕ) → ((k a : ℕ) → C k a ≤ MAX_COST) → ((i : ℕ) → slice_index row i ≤ MAX_REQUESTS * MAX_COST) →
     min (cost_by s C ranks row p a k) 4294967295 ≡ cost_by s C ranks row p a k
 fits s C ranks row p a k cheap small =
@@ -131,7 +131,7 @@ worked_actions s C ranks row p h (a ∷ acts) rest w ok l related allowed are is
     ∙ worked_actions s C ranks row p h acts rest (max w v) ok l related (λ b i. allowed b (inr i)) are is cheap small
     ∙ ap (λ m. worked_out row rest (record { worst = m; cheapest = None; dearest = 0 })) e
 
--- the terms of related pairs come to their values for one request more
+-- the terms of related pairs give their values for one request more
 pub worked_pairs : (s : Sys) (C : Costs) (ranks row : List ℕ) (h : ℕ) (ps : List ℕ) → IsSys s → ((p : ℕ) → IsIn p ps → IsIn p (related_pairs s)) →
     HavePlaces (related_pairs s) ranks → row ≡ map (least_at s C h) (related_pairs s) → ((k a : ℕ) → C k a ≤ MAX_COST) → ((i : ℕ) → slice_index row i ≤ MAX_REQUESTS * MAX_COST) →
     worked_out row (flat_map (pair_terms s C ranks) ps) nothing_yet ≡ map (least_at s C (suc h)) ps
@@ -153,7 +153,7 @@ each_small [] small i = omega arith
 each_small (x ∷ row) small zero = small zero 0 (omega arith)
 each_small (x ∷ row) small (suc i) = each_small row (λ k d l. small (suc k) d (omega arith)) i
 
--- those of one pair, where nothing stands before them
+-- the terms of one pair in an empty list give its value
 pub one_worked : (s : Sys) (C : Costs) (ranks row : List ℕ) (h p : ℕ) (cleared terms : List Term) (values after : List ℕ) → IsSys s → IsIn p (related_pairs s) →
     HavePlaces (related_pairs s) ranks → row ≡ map (least_at s C h) (related_pairs s) → ((k a : ℕ) → C k a ≤ MAX_COST) → ((i : ℕ) → slice_index row i ≤ MAX_REQUESTS * MAX_COST) →
     cleared ≡ [] → terms ≡ cleared ++ pair_terms s C ranks p → after ≡ values ++ worked_out row terms nothing_yet → after ≡ values ++ least_at s C (suc h) p ∷ []
@@ -161,7 +161,7 @@ one_worked s C ranks row h p cleared terms values after ok i are is cheap small 
     worked ∙ ap (λ ts. values ++ worked_out row ts nothing_yet) (made ∙ ap (λ ts. ts ++ pair_terms s C ranks p) empty ∙ sym (append-nil (pair_terms s C ranks p)))
     ∙ ap (λ vs. values ++ vs) (worked_pairs s C ranks row h (p ∷ []) ok (λ q j. elim j [ inl e ↦ subst (λ m. IsIn m (related_pairs s)) (sym e) i | inr none ↦ absurd none ]) are is cheap small)
 
--- what stands behind the first ones
+-- the elements after the first ones
 pub rest_is : (xs : List ℕ) (n : ℕ) → take (length xs - n) (drop n xs) ≡ drop n xs
 rest_is xs n = take_all (length xs - n) (drop n xs) (omega (arith, length-drop n xs))
 
@@ -171,12 +171,12 @@ rest_in xs n p i = subst (IsIn p) (take-append-drop n xs) (in_append_right p (ta
 pub take_in : (xs : List ℕ) (n p : ℕ) → IsIn p (take n xs) → IsIn p xs
 take_in xs n p i = subst (IsIn p) (take-append-drop n xs) (in_append_left p (take n xs) (drop n xs) i)
 
--- the values of the first pairs and of the others
+-- the values of the first pairs and of the others are those of all
 pub values_whole : (f : ℕ → ℕ) (pairs none first all : List ℕ) (n : ℕ) → none ≡ [] → first ≡ none ++ map f (take n pairs) → all ≡ first ++ map f (take (length pairs - n) (drop n pairs)) → all ≡ map f pairs
 values_whole f pairs none first all n empty one two =
     two ∙ ap₂ (λ (xs ys : List ℕ). xs ++ map f ys) (one ∙ ap (λ (xs : List ℕ). xs ++ map f (take n pairs)) empty) (rest_is pairs n) ∙ sym (map-append f (take n pairs) (drop n pairs)) ∙ ap (map f) (take-append-drop n pairs)
 
--- the outcomes of one environment state after the other
+-- the terms of outcomes, one environment state after the other
 pub outcomes_flat : (ranks : List ℕ) (g : ℕ → List ℕ) (es : List ℕ) → flat_map (λ e. outcome_terms ranks (g e)) es ≡ outcome_terms ranks (flat_map g es)
 outcomes_flat ranks g [] = refl
 outcomes_flat ranks g (e ∷ es) = ap (λ ts. outcome_terms ranks (g e) ++ ts) (outcomes_flat ranks g es) ∙ sym (map-append (λ q. term.Outcome (slice_index ranks q)) (g e) (flat_map g es))

@@ -7,7 +7,7 @@ use Rattle.roman_cost.specs.Costs.{cost_step}
 use Rattle.roman_cost.specs.Tables.{AreOf}
 use Rattle.roman_cost.proofs.reading.read_items.Given as goal
 
--- the costs so far are of the system, and what is left gives what all items give
+-- the costs so far are of the system, and the rest of the items gives what all items give
 abbrev pub invariant-loop-i : goal.invariant-loop-i
 invariant-loop-i l = record {
   of : AreOf l.joint l.costs;

@@ -17,7 +17,7 @@ use Rattle.roman_cost.proofs.OfferedSeats.{seat_in, offered, offered_ranked, off
 use Rattle.roman_cost.proofs.seats.cheapest.Goals as goal
 use Rattle.roman_cost.proofs.seats.cheapest.Goals.{then-has, else-has}
 
--- how many pairs there are, and the pair of a number
+-- the number of pairs, and the pair with a number
 abbrev pairs_of : NamedSys → ℕ
 pairs_of n = count (sizes_of (system_of n))
 

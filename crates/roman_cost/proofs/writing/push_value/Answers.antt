@@ -6,7 +6,7 @@ use Rattle.roman_text.specs.Pages.{Gathers}
 use Rattle.roman_text.proofs.CallerLemmas.{Gathered-then, Gathers-after, WrotePrefix-gathered}
 use Rattle.roman_cost.proofs.writing.push_value.Goals as goal
 
--- the line in three parts, behind what a page holds
+-- the line in three parts, after the content of the page
 in_three : (held head pair value : List ℕ) → ((held ++ head) ++ pair) ++ value ≡ held ++ (head ++ (pair ++ value))
 in_three held head pair value = append_assoc (held ++ head) pair value ∙ append_assoc held head (pair ++ value)
 
