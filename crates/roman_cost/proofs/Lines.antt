@@ -72,7 +72,7 @@ next_row s C n h l =
     ap (flat_map (λ h. value_lines s C (suc h))) (from_place n h l)
     ∙ ap (λ (i : ℕ). value_lines s C i ++ flat_map (λ h. value_lines s C (suc h)) (drop (h + 1) (below n))) (sym (add-one h))
 
--- none is left at the end
+-- no rows remain at the end
 pub no_row : (s : Sys) (C : Costs) (n h : ℕ) → n ≤ h → flat_map (λ h. value_lines s C (suc h)) (drop h (below n)) ≡ []
 no_row s C n h l = ap (flat_map (λ h. value_lines s C (suc h))) (from_end n h l)
 
@@ -103,7 +103,7 @@ next_unallowed n C h p a l unallowed =
     ap (λ (xs : List ℕ). flat_map (choice_line n C h p) (filter test xs)) (from_place m a l)
     ∙ ap (flat_map (choice_line n C h p)) (cond-false (test a) (a ∷ rest) rest unallowed)
 
--- none is left at the end
+-- no lines remain at the end
 pub no_choice : (n : NamedSys) (C : Costs) (h : ℕ) (p : Pair) (a : ℕ) → (system_of n).env.actions ≤ a → choices_from n C h p a ≡ []
 unfolding choices_from
 no_choice n C h p a l = ap (λ (xs : List ℕ). flat_map (choice_line n C h p) (filter (is_allowed (system_of n) p) xs)) (from_end (system_of n).env.actions a l)

@@ -140,7 +140,7 @@ still_there way.Die k j old mid order p q l within left =
     let all = length-map old.seats (seat_of old.catalogue) in
     omega (arith, e, shorter, all)
 
--- What can be told, and tried again, of what remains.
+-- The outlooks of what remains, and further failures there.
 
 -- the outlook in the system in which the seats failed is the one of what remains
 pub told_left : (way : Way) (K L : List ℕ) (base old new : NamedSys) (order : Board) (p q : ℕ) (o : Outlook) → old ≡ base → K ≡ L → IsLeft way K old p new order q →

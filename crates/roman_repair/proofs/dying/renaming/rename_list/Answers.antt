@@ -30,7 +30,7 @@ waiting-init c =
       rest = refl;
     }
 
--- what is known of the event
+-- the facts about the event
 pub rename_row-requires-clause-within : goal.rename_row-requires-clause-within
 rename_row-requires-clause-within c =
     let wide = ap (λ (b : Board). b.waiting_lanes) c.waiting.invariant.rest ∙ ap (λ (b : Board). b.waiting_lanes) c.reopen.ensures.moved ∙ c.requires.shaped.lanes in
