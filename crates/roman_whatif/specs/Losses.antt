@@ -17,7 +17,7 @@ told_at table i = told (get_or table i (record { composes = false; related = 0; 
 abbrev pub left_of : NamedSys → ℕ → Way → List ℕ → Outlook
 left_of parts p way K = outlook (system_without way K (system_of parts)) (pair_without way K (pair_at (sizes_of (system_of parts)) p))
 
--- the first seat is a place, and so is the second, which is later, if there is one
+-- the first is the place of a seat, and the second, if there is one, is a later place
 pub record MayFail (parts : NamedSys) (first : ℕ) (second : Option ℕ) : Type 0 where
   pub one : first < length parts.seats
   pub later : IfSome second (λ j. (first < j) × (j < length parts.seats))
