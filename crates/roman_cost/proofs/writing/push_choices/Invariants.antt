@@ -9,7 +9,7 @@ use Rattle.roman_text.proofs.CallerLemmas.{IsFilling}
 use Rattle.roman_cost.proofs.Lines.{choices_from}
 use Rattle.roman_cost.proofs.writing.push_choices.Given as goal
 
--- the lines of the actions so far are on the page
+-- the lines of the actions so far are pushed
 abbrev pub invariant-loop-a : goal.invariant-loop-a
 invariant-loop-a g l =
     let n = l.relation.joint in

@@ -8,7 +8,7 @@ use Rattle.roman_cost.specs.Advised.{Advises}
 use Rattle.roman_text.proofs.CallerLemmas.{IsFilling}
 use Rattle.roman_cost.proofs.writing.push_values.Given as goal
 
--- the lines of the numbers of requests so far are on the page
+-- the lines of the numbers of requests so far are pushed
 abbrev pub invariant-loop-h : goal.invariant-loop-h
 invariant-loop-h g l = record {
   filling : (s : Sys) (C : Costs) → Advises s C l.advice → IsFilling (g.O.Sink.written l.fn.out) (g.O.Sink.written l.out) l.page (flat_map (λ h. value_lines s C (suc h)) (drop l.h (below l.advice.requests))) (l.fn.page ++ certificate_text s C l.advice.requests);
