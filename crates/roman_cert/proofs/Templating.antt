@@ -1,7 +1,7 @@
 -- Lines that are made from the line before.
-use Rattle.std.proofs.Common.{◌≡◌, ℕ, suc, ◌+◌, ◌*◌, ◌/◌, ◌%◌, ◌^◌, ◌<◌, ◌≤◌, List, [], ◌∷◌, ◌++◌, length, take, drop, get_or, set, decimal, refl, sym, ap, ap₂, ◌∙◌, arith, append_assoc}
+use Rattle.std.proofs.Common.{◌≡◌, ℕ, suc, ◌+◌, ◌*◌, ◌/◌, ◌%◌, ◌^◌, ◌<◌, ◌≤◌, List, [], ◌∷◌, ◌++◌, length, take, drop, get_or, set, decimal, sym, ap, ap₂, ◌∙◌, arith, append_assoc}
 use Rattle.std.proofs.lemmas.Fmt.{decimal_step}
-use Rattle.std.proofs.lemmas.List.{take-take, drop-take, take-append-drop, take_more, drop_more, take-set-le, get_or-set_same, get_or-set_other, length-set}
+use Rattle.std.proofs.lemmas.List.{take-take, drop-take, take-append-drop, drop_more, take-set-le, get_or-set_same, get_or-set_other, length-set}
 use Rattle.roman_cert.specs.Templates.{IsTemplate}
 use Rattle.roman_cert.specs.declared.template.Template.{Template}
 

@@ -1,7 +1,5 @@
-use Rattle.std.proofs.Common.{◌||◌, arith, ap, sym, ◌∙◌, Option, Some, None}
+use Rattle.std.proofs.Common.{arith, ap, sym, ◌∙◌, Some, None}
 use Rattle.std.proofs.Math.Bool.{or-false}
-use Rattle.std.specs.Option.{option_to_list}
-use Rattle.roman_model.specs.Arena.{is_among}
 use Rattle.roman_model.specs.Explanation.{answer}
 use Rattle.roman_rules.proofs.CallerLemmas.{numbered_same}
 use Rattle.roman_order.specs.Board.{Board, is_marked}
