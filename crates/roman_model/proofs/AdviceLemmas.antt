@@ -1,4 +1,4 @@
--- Least worst costs, found one action, one seat and one outcome after another.
+-- Least worst-case costs, computed one action, one seat and one outcome at a time.
 use Rattle.std.proofs.Common.{◌≡◌, ℕ, zero, suc, ◌+◌, ◌*◌, ◌<◌, ◌≤◌, Bool, true, false, cond, List, [], ◌∷◌, ◌++◌, map, filter, nat_le, refl, ap, ◌∙◌, arith, add-one, append-nil}
 use Rattle.std.specs.Prelude.{max}
 use Rattle.std.proofs.lemmas.List.Elements.{filter-append}
@@ -33,7 +33,7 @@ pub max_over-map : {X Y : Type 0} (f : Y → ℕ) (g : X → Y) (xs : List X) �
 max_over-map f g [] = refl
 max_over-map f g (x ∷ xs) = ap (max (f (g x))) (max_over-map f g xs)
 
--- over the numbers that pass, up to n
+-- the greatest value over the passing numbers up to n
 pub max_over_below : (f : ℕ → ℕ) (p : ℕ → Bool) (n : ℕ) → max_over f (filter p (below (n + 1))) ≡ cond (p n) (max (max_over f (filter p (below n))) (f n)) (max_over f (filter p (below n)))
 max_over_below f p n =
     ap (λ m. max_over f (filter p (below m))) (add-one n) ∙ ap (max_over f) (filter-append p (below n) (n ∷ [])) ∙ by (p n)
@@ -42,7 +42,7 @@ max_over_below f p n =
     by true = max_over_push f (filter p (below n)) n
     by false = ap (max_over f) (append-nil (filter p (below n)))
 
--- The first of the least of a list that grows at its end.
+-- The first least element of a list that grows at its end.
 
 pub least_from_push : (f : ℕ → ℕ) (x : ℕ) (xs : List ℕ) (y : ℕ) → least_from f x (xs ++ y ∷ []) ≡ cond (nat_le (f (least_from f x xs)) (f y)) (least_from f x xs) y
 least_from_push f x [] y = refl
@@ -65,7 +65,7 @@ through_numbered s C h p a k ok l =
     ∙ max_over_same (λ q. least_at s C h (number (sizes_of s) q)) (least s C h) (outcomes s (pair_at (sizes_of s) p) a k)
     (λ q i. ap (least s C h) ((numbers_are_pairs s).back q (outcome_pair s (pair_at (sizes_of s) p) a k q ok ((numbers_are_pairs s).pair p l) i))))
 
--- How great they can be.
+-- Bounds on least worst-case costs.
 
 pub least_bound : (s : Sys) (C : Costs) (m h : ℕ) (p : Pair) → ((k a : ℕ) → C k a ≤ m) → least s C h p ≤ h * m
 least_bound s C m zero p bound = omega arith

@@ -1,4 +1,4 @@
--- Lemmas on any arena: which nodes are listed, beaten seats, reasons, masks, and what survives.
+-- Lemmas on any arena: listed nodes, beaten seats, reasons, masks, and nodes that survive.
 use Rattle.std.proofs.Common.{◌≡◌, ◌≢◌, ℕ, ◌<◌, ◌≤◌, ◌==◌, Bool, cond, not, ◌&&◌, ◌||◌, ◌⊎◌, List, [], ◌∷◌, ◌++◌, map, IsTrue, IsFalse, filter, flat_map, inl, inr, refl, sym, ap, ◌∙◌, subst, arith}
 use Rattle.std.specs.List.{list_any}
 use Rattle.std.proofs.Math.Bool.{or-false}
@@ -16,8 +16,8 @@ pub record IsSame {N : Type 0} (A : Arena N) : Type 0 where
   pub is : (p q : N) → IsTrue (A.same p q) → p ≡ q
   pub itself : (p : N) → IsTrue (A.same p p)
 
--- what the arena of a system keeps: each action that is allowed is one, each outcome is a node, and comes on an
--- allowed action by a ready seat, and no node stands twice
+-- what the arena of a system satisfies: each allowed action is below the number of actions; each outcome is a node, and belongs to an
+-- allowed action and a ready seat; no node occurs twice
 pub record IsArena {N : Type 0} (A : Arena N) : Type 0 where
   pub same : IsSame A
   pub allowed : (p : N) (a : ℕ) → IsTrue (A.allows p a) → a < A.actions
@@ -25,13 +25,13 @@ pub record IsArena {N : Type 0} (A : Arena N) : Type 0 where
   pub served : (p : N) (a k : ℕ) (q : N) → IsIn q (A.outcomes p a k) → IsTrue (A.allows p a) × (k < A.seats) × IsTrue (A.ready k)
   pub once : HasNoRepeats A.nodes
 
--- p meets clause 2, and for each allowed action some seat has an outcome and leads to no other nodes than those
+-- p meets clause 2, and for each allowed action some seat has an outcome and leads only to nodes that live
 pub record Survives {N : Type 0} (A : Arena N) (Lives : N → Type 0) (p : N) : Type 0 where
   pub final : IsTrue (A.fine p)
   pub served : (a : ℕ) → IsTrue (A.allows p a) →
       (k : ℕ) × (k < A.seats) × (A.outcomes p a k ≢ []) × ((q : N) → IsIn q (A.outcomes p a k) → Lives q)
 
--- Nodes that are listed.
+-- Listed nodes.
 
 pub same_from : {N : Type 0} (A : Arena N) → IsSame A → (p q : N) → p ≡ q → IsTrue (A.same p q)
 same_from A E p q e = subst (λ r. IsTrue (A.same p r)) e (E.itself p)
@@ -59,7 +59,7 @@ listed_push A L x p = listed_append A L (x ∷ []) p ∙ ap (λ b. is_listed A L
 
 -- Beaten seats.
 
--- where each outcome that is gone is gone in more
+-- a beaten seat stays beaten where more nodes are gone
 pub beaten_more : {N : Type 0} (A : Arena N) (gone more : N → Bool) (p : N) (a k : ℕ) →
     ((q : N) → IsIn q (A.outcomes p a k) → IsTrue (gone q) → IsTrue (more q)) → IsTrue (is_beaten A gone p a k) → IsTrue (is_beaten A more p a k)
 beaten_more A gone more p a k h b = elim (or_cases (is_empty (A.outcomes p a k)) (list_any gone (A.outcomes p a k)) b) [
@@ -95,7 +95,7 @@ unbeaten_from A gone p a k some all =
 
 -- Reasons.
 
--- a reason that holds goes on to hold where more is gone
+-- a reason that holds still holds where more nodes are gone
 pub justified_more : {N : Type 0} (A : Arena N) (gone more : N → Bool) (p : N) (r : Reason) →
     ((a k : ℕ) (q : N) → IsIn q (A.outcomes p a k) → IsTrue (gone q) → IsTrue (more q)) → IsTrue (is_justified A gone p r) → IsTrue (is_justified A more p r)
 justified_more A gone more p Final h j = j
@@ -124,7 +124,7 @@ justified_is A gone p a j =
 pub unallowed_unjustified : {N : Type 0} (A : Arena N) (gone : N → Bool) (p : N) (a : ℕ) → IsFalse (A.allows p a) → IsFalse (is_justified A gone p (Act a))
 unallowed_unjustified A gone p a f = and_left (A.allows p a) (all_below (is_beaten A gone p a) A.seats) f
 
--- where the reason doesn't hold for an allowed action, some seat is left
+-- where the action isn't a reason though it is allowed, some seat isn't beaten
 pub unjustified_act : {N : Type 0} (A : Arena N) (gone : N → Bool) (p : N) (a : ℕ) → IsTrue (A.allows p a) → IsFalse (is_justified A gone p (Act a)) →
     (k : ℕ) × (k < A.seats) × IsFalse (is_beaten A gone p a k)
 unjustified_act A gone p a allowed j = elim (and_cases (A.allows p a) (all_below (is_beaten A gone p a) A.seats) j)
@@ -152,11 +152,11 @@ mask_same A gone more p a h =
     ap (λ ks. cond (A.allows p a) ks [])
     (filter_same (λ k. not (is_beaten A gone p a k)) (λ k. not (is_beaten A more p a k)) (below A.seats) (λ k i. ap not (beaten_same A gone more p a k (h k))))
 
--- where an action isn't allowed the mask is empty
+-- the mask is empty where the action isn't allowed
 pub mask_none : {N : Type 0} (A : Arena N) (gone : N → Bool) (p : N) (a : ℕ) → IsFalse (A.allows p a) → mask A gone p a ≡ []
 mask_none A gone p a f = cond-false (A.allows p a) (filter (λ k. not (is_beaten A gone p a k)) (below A.seats)) [] f
 
--- the seat stands in the mask, as a test: a mask's bit
+-- a seat is in the mask exactly where its test passes: a bit of the mask
 pub mask_has : {N : Type 0} (A : Arena N) (gone : N → Bool) (p : N) (a k : ℕ) → k < A.seats → has (mask A gone p a) k ≡ (A.allows p a && not (is_beaten A gone p a k))
 mask_has A gone p a k l = same_test (has (mask A gone p a) k) (A.allows p a && not (is_beaten A gone p a k))
     (λ t.
@@ -188,7 +188,7 @@ mask_not_empty A gone p a ne = by_test (is_justified A gone p (Act a))
     nothing_in [] h = refl
     nothing_in (k ∷ ks) h = absurd (h k (inl refl))
 
--- What survives.
+-- Nodes that survive.
 
 pub survives_more : {N : Type 0} (A : Arena N) (Lives More : N → Type 0) (p : N) →
     ((a k : ℕ) (q : N) → IsIn q (A.outcomes p a k) → Lives q → More q) → Survives A Lives p → Survives A More p
@@ -197,7 +197,7 @@ survives_more A Lives More p h s = record {
   served = λ a allowed. let (k, l, some, all) = s.served a allowed in (k, l, some, λ q i. h a k q i (all q i));
 }
 
--- no reason holds at a node that survives, where nothing that lives is gone
+-- no reason holds at a node that survives, where no living node is gone
 pub unjustified : {N : Type 0} (A : Arena N) (Lives : N → Type 0) (gone : N → Bool) (p : N) (r : Reason) → Survives A Lives p →
     ((q : N) → IsTrue (gone q) → Lives q → ⊥) → IsTrue (is_justified A gone p r) → ⊥
 unjustified A Lives gone p Final s dead j = both_ways (A.fine p) (not-true (A.fine p) j) s.final
@@ -206,7 +206,7 @@ unjustified A Lives gone p (Act a) s dead j =
     let (k, l, some, all) = s.served a allowed in
     elim (beaten_is A gone p a k (each k l)) [ inl none ↦ some none | inr found ↦ let (q, i, g) = found in dead q g (all q i) ]
 
--- a node at which no reason holds survives among those that aren't gone
+-- a node at which no reason holds survives among the nodes that aren't gone
 pub survivor : {N : Type 0} (A : Arena N) (gone : N → Bool) (p : N) → IsTrue (A.fine p) →
     ((a : ℕ) → IsTrue (A.allows p a) → IsFalse (is_justified A gone p (Act a))) → Survives A (λ q. IsFalse (gone q)) p
 survivor A gone p fine h = record {
@@ -217,7 +217,7 @@ survivor A gone p fine h = record {
       (k, l, some, all);
 }
 
--- the same among the nodes
+-- the same, where only nodes of the arena count
 pub survivor_within : {N : Type 0} (A : Arena N) → IsArena A → (gone : N → Bool) (p : N) → IsIn p A.nodes → IsTrue (A.fine p) →
     ((a : ℕ) → IsTrue (A.allows p a) → IsFalse (is_justified A gone p (Act a))) → Survives A (λ q. IsIn q A.nodes × IsFalse (gone q)) p
 survivor_within A ok gone p i fine h =

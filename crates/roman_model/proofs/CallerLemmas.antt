@@ -1,4 +1,4 @@
--- What the proofs of other crates may cite of this one. All else in proofs/ can be renamed freely.
+-- The lemmas of this crate that proofs of other crates may cite. All else in proofs/ can be renamed freely.
 
 -- Lemmas on lists and their elements, on numbers below a bound, and on tests.
 pub use Rattle.roman_model.proofs.Lists.{HasNoRepeats-below, HasNoRepeats-filter, HasNoRepeats-flat_map, HasNoRepeats-map, HasNoRepeats-push, all_below_at}
@@ -12,39 +12,39 @@ pub use Rattle.roman_model.proofs.Lists.{sum_by_within}
 pub use Rattle.roman_model.proofs.SystemLemmas.{allowed_in, allowed_in_range, from_allowed, from_beh_next, from_beh_prev, from_env_next, from_env_prev, from_outcome}
 pub use Rattle.roman_model.proofs.SystemLemmas.{from_pairs, from_seat_next, in_beh_next, in_beh_prev, in_env_next, in_env_prev, in_pairs, move_in_range, outcome_in}
 pub use Rattle.roman_model.proofs.SystemLemmas.{outcome_pair, outcome_seat, pairs_once, same_numbers_is, same_numbers_itself, seat_in, states_set, triple_in_range}
--- Lemmas on any arena: which nodes are listed, beaten seats, reasons, masks, and what survives.
+-- Lemmas on any arena: listed nodes, beaten seats, reasons, masks, and nodes that survive.
 pub use Rattle.roman_model.proofs.ArenaLemmas.{IsArena, IsSame, among_in, beaten_none, from_back, in_back, in_listed, in_mask, justified_is, justified_more}
 pub use Rattle.roman_model.proofs.ArenaLemmas.{justified_same, listed_among, listed_append, listed_in, listed_push, mask_has, mask_has_past, mask_none}
 pub use Rattle.roman_model.proofs.ArenaLemmas.{unallowed_unjustified}
 -- Removal lists and replays over any arena.
 pub use Rattle.roman_model.proofs.OrderLemmas.{middle_first, new_once, order_justified, order_new, order_push, replay_from_same, replay_sublist}
--- Depths over any arena: within how many requests the opponent wins.
+-- Depths over any arena: the least numbers of requests within which the opponent wins.
 pub use Rattle.roman_model.proofs.DepthLemmas.{last_is_steady, loses_down, loses_up, settled_exact}
--- What working off a removal list needs: entries by their place, the delegations that lead to a node, and sums.
+-- Lemmas for working through a removal list: entries by their place, the delegations that lead to a node, and sums.
 pub use Rattle.roman_model.proofs.WorkLemmas.{fall_append, fall_push, order_entry, order_middle, readings_at, readings_within}
 -- A system as an arena, the greatest ND-simulation, and complete removal lists.
 pub use Rattle.roman_model.proofs.CompositionLemmas.{great_related, lost_unrelated, related_great}
--- Every removal list goes on to a complete one.
+-- Every removal list can be extended to a complete one.
 pub use Rattle.roman_model.proofs.CompletionLemmas.{order_goes_on}
--- The offers, and what follows where they are taken.
+-- The offers, and the pairs to which they lead.
 pub use Rattle.roman_model.proofs.OfferLemmas.{offer_is, offers_are, related_offers}
 -- The opponent's game, by a removal list and by the depth.
 pub use Rattle.roman_model.proofs.PlayLemmas.{order_won}
 -- The depths of a system's pairs, and the opponent's game by them.
 pub use Rattle.roman_model.proofs.DepthPlayLemmas.{depth_least, depth_won}
--- Numbers of lists of states, and of pairs: bounds, and what becomes of a number where a state changes, comes or goes.
+-- Numbers of lists of states and of pairs: bounds, and the change of a number where a state changes, comes or goes.
 pub use Rattle.roman_model.proofs.NumberLemmas.{AreBelow-index, AreBelow-length, IsPairOf-at, IsPairOf-from, IsPairOf-grown, IsPairOf-moved, IsPairOf-without}
 pub use Rattle.roman_model.proofs.NumberLemmas.{count-grown, count-without, length-states_at, number-grown, number-moved, number-pair_at, number-set, number_below}
 pub use Rattle.roman_model.proofs.NumberLemmas.{number_without-is, numbers_are_pairs, pair_at-grown, pair_at-number, pair_at-without, part_at}
 pub use Rattle.roman_model.proofs.NumberLemmas.{parts_of_number, states_below, states_number-at, states_number-set}
--- Removal lists, masks and depths carry over from one arena to another whose nodes are named by those of the first.
+-- Removal lists, masks and depths carry over between arenas whose nodes correspond by a renaming.
 pub use Rattle.roman_model.proofs.Renames.{order_named}
--- The arena over the numbers of pairs, and that over the pairs, carry over to each other.
+-- The arenas over numbers of pairs and over pairs carry over to each other.
 pub use Rattle.roman_model.proofs.NumberedArena.{AreNumbers, IsNumber, numbers_rename}
--- What a change of the seats does to systems, pairs, outcomes and removal lists.
+-- The effect of a change of the seats on systems, pairs, outcomes and removal lists.
 pub use Rattle.roman_model.proofs.ChangeLemmas.{IsPair-grown, IsPair-turned, IsPair-without, flat_map_same, flat_map_same_in, left, length-remove}
 pub use Rattle.roman_model.proofs.ChangeLemmas.{length-set_frozen, map-flat_map, map-map, remove_in, states_frozen, turned}
--- The replay survives a change.
+-- The replay of a renamed list is a removal list after each change.
 pub use Rattle.roman_model.proofs.ChangeLaws.{renaming_keeps}
 -- Changes over the numbers of pairs: renaming and replay agree with those over pairs.
 pub use Rattle.roman_model.proofs.NumberedChanges.{NumbersReplay, number_allows-turned, numbers_replay, size_at}
@@ -52,35 +52,35 @@ pub use Rattle.roman_model.proofs.NumberedChanges.{sizes-joined, sizes-left, siz
 -- Removal lists over the numbers of pairs: the laws of their arena, complete lists, and counts of pairs.
 pub use Rattle.roman_model.proofs.NumberedLists.{length-pairs, numbered_choices, numbered_completed_by, numbered_is_arena, numbered_is_same, numbered_listed}
 pub use Rattle.roman_model.proofs.NumberedLists.{numbered_loses, numbered_offers, numbered_related_count, sum_over_pairs, told_related}
--- The explanation is the least closed part of a removal list, is one itself, and ends with the entry explained.
+-- The explanation is the least closed part of a removal list, is a removal list by itself, and ends with the explained entry.
 pub use Rattle.roman_model.proofs.ExplanationLemmas.{answer_before, before_falls, before_is, explanation_is_least, explanation_is_order, rests_is}
--- Explanations carry over from one arena to another whose nodes are named by those of the first.
+-- Explanations carry over between arenas whose nodes correspond by a renaming.
 pub use Rattle.roman_model.proofs.ExplanationRenames.{answer_at, explanation_at}
--- What the lines of a text are, where its first lines are known.
+-- The lines of a text whose first lines are known.
 pub use Rattle.roman_model.proofs.LineLemmas.{ended_lines-text, ended_lines_last, lines-text, lines_last, text_of_lines-push}
--- Lines of certificates: what entry a line is, and where the first fault is.
+-- Lines of certificates: the entry that a line states, and the first fault.
 pub use Rattle.roman_model.proofs.CertificateLemmas.{AreFew, IsSmall, act_reason, append_line, clean_push, cut_at, decimal_without, entry_is_line, entry_is_no_end}
 pub use Rattle.roman_model.proofs.CertificateLemmas.{entry_of-is, entry_of-line, entry_of_none, entry_of_other, faults_none, from_possible, in_possible, possible_small}
--- The certificate of a complete list is accepted, and what is accepted is complete.
+-- The certificate of a complete list is accepted, and an accepted certificate is complete.
 pub use Rattle.roman_model.proofs.CertificateLaws.{complete_order, due_is, written_is_greatest}
--- The verdict on a text, where its first lines are read.
+-- The verdict on a text whose first lines have been read.
 pub use Rattle.roman_model.proofs.VerdictLemmas.{fault_after_end, fault_in_body, verdict_accepted, verdict_at, verdict_ended, verdict_rejected, verdict_too_long}
--- The tests and lists of a system are what its steps say.
+-- The tests and lists of a system agree with its steps.
 pub use Rattle.roman_model.proofs.OutcomeLemmas.{listed_number, listed_step, listed_triple, number_listed, step_listed, triple_listed}
--- Of all plans at a related pair the one that takes the choice at each pair costs least.
+-- The plan of the choices costs least of all plans at a related pair.
 pub use Rattle.roman_model.proofs.PlanLemmas.{choice_is, max_over_le, max_over_same, plans_least}
--- Least worst costs, found one action, one seat and one outcome after another.
+-- Least worst-case costs, computed one action, one seat and one outcome at a time.
 pub use Rattle.roman_model.proofs.AdviceLemmas.{least_bound, least_from_push, max_over-append, max_over-map, max_over_below, max_over_push, through_numbered}
--- Tables of rows with a place for each of some elements, and the rank of a number among those that pass a test.
+-- Tables of rows with a place for each of some elements, and the rank of a number among the numbers that pass a test.
 pub use Rattle.roman_model.proofs.TableLemmas.{flat_map_row, length_rows, rank, rank_at, table_at}
--- A system without one or two seats is the one after as many changes.
+-- A system without one or two seats equals the system after as many changes.
 pub use Rattle.roman_model.proofs.WithoutLemmas.{freeze_one, freeze_two, leave_one, leave_two, without_changes}
--- What stands at which place of a list.
+-- The items of a list at their places.
 pub use Rattle.roman_model.proofs.Places.{from_end, from_place, get_in, get_map, there_is}
--- Of records made by tests: the steps are exactly those that pass, the numbers are in range, and equal tests make equal records.
+-- Records built from tests: their steps are exactly those that pass, their numbers are in range, and equal tests build equal records.
 pub use Rattle.roman_model.proofs.MadeLemmas.{IsBeh-made, IsEnv-made, beh_from_same, env_from_same, from_guarded, from_made_final, from_made_move, from_made_triple}
 pub use Rattle.roman_model.proofs.MadeLemmas.{from_made_triples, in_guarded, made_final, made_move, made_triple, move_passes, move_test}
--- The combined actions, and the steps and final states of the combined parts: they are those of the members.
+-- The combined actions, and the steps and final states of the combined parts, which are those of the members.
 pub use Rattle.roman_model.proofs.CombinedLemmas.{IsMemberStep, combined_target_goes, from_combined_target, stands_uses, target_size_at}
--- Several targets are one combined target: the ND-simulations of the combined system are those of the members.
+-- The combined target stands for several targets: the ND-simulations of the combined system are those of the members.
 pub use Rattle.roman_model.proofs.CombinedLaws.{combined_is_all, combined_system}

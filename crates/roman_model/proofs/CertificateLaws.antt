@@ -1,4 +1,4 @@
--- The certificate of a complete list is accepted, and what is accepted is complete.
+-- The certificate of a complete list is accepted, and an accepted certificate is complete.
 use Rattle.std.proofs.Common.{◌≡◌, ℕ, zero, suc, ◌+◌, ◌*◌, ◌^◌, ◌<◌, ◌≤◌, Bool, false, not, ◌&&◌, List, [], ◌∷◌, ◌++◌, map, length, take, Option, Some, None, IsTrue, IsFalse, if◌then◌else◌, filter, find, option_map, slice_get, slice_index_or, codes, decimal, nat_le, refl, sym, ap, ap₂, ◌∙◌, subst, inl, inr, arith, append_assoc, append-nil, length-append, le-leb}
 use Rattle.std.specs.List.{list_any, cons_option}
 use Rattle.std.proofs.Math.Bool.{not-not}
@@ -36,15 +36,15 @@ use Rattle.roman_model.proofs.CertificateLemmas.{head_is_line, end_is_line, coun
 
 -- The sizes of a system within the limits
 
--- how many nodes its numbered arena has
+-- the number of nodes of its numbered arena
 abbrev node_count : Sys → ℕ
 node_count s = length (numbered s).nodes
 
--- it has few enough nodes and actions
+-- the arena has few enough nodes and actions
 abbrev IsFew : Sys → Type 0
 IsFew s = AreFew (node_count s) s.env.actions
 
--- each of the entries may stand in its certificate
+-- each of the entries can stand in its certificate
 abbrev ArePossible : Sys → List (Entry ℕ) → Type 0
 ArePossible s L = (x : Entry ℕ) → IsIn x L → IsIn x (possible_entries (node_count s) s.env.actions)
 
@@ -55,7 +55,7 @@ entry_on s line = entry_of (node_count s) s.env.actions line
 node_count_is : (s : Sys) → node_count s ≡ count (sizes_of s)
 node_count_is s = length-below (count (sizes_of s))
 
--- the entries that may stand in its certificate are of its numbers
+-- the entries that can stand in its certificate are of its numbers
 number_possible : (s : Sys) (x : Entry ℕ) → x.node < count (sizes_of s) → IsIn x.reason (reasons s.env.actions) → IsIn x (possible_entries (node_count s) s.env.actions)
 number_possible s x l i = in_possible (node_count s) s.env.actions x (subst (λ n. x.node < n) (sym (node_count_is s)) l) i
 
@@ -74,7 +74,7 @@ cells_small s sys cells =
     let same : node_count s ≡ count (sizes_of s) = node_count_is s in
     (few, record { pairs_fit = omega arith; actions_fit = omega arith })
 
--- a short text is judged by all its lines
+-- a text within the limit is judged by all its lines
 pub judged_short : (A : Arena ℕ) (start : ℕ) (bytes : List ℕ) → length bytes ≤ MAX_CERTIFICATE_BYTES →
     cert_verdict A start bytes ≡ slice_index_or (faults A (lines bytes) (length (lines bytes) + 1)) 0 (unlisted A start (entries_on A (lines bytes)))
 judged_short A start bytes h =
@@ -82,7 +82,7 @@ judged_short A start bytes h =
     (slice_index_or (faults A (ended_lines (take MAX_CERTIFICATE_BYTES bytes)) (length (ended_lines (take MAX_CERTIFICATE_BYTES bytes)))) 0 TooLong)
     (le-leb (length bytes) MAX_CERTIFICATE_BYTES h)
 
--- and a long one by those that end within the limit
+-- a longer text is judged by the lines that end within the limit
 pub judged_long : (A : Arena ℕ) (start : ℕ) (bytes : List ℕ) → MAX_CERTIFICATE_BYTES < length bytes →
     cert_verdict A start bytes ≡ slice_index_or (faults A (ended_lines (take MAX_CERTIFICATE_BYTES bytes)) (length (ended_lines (take MAX_CERTIFICATE_BYTES bytes)))) 0 TooLong
 judged_long A start bytes h =
@@ -90,13 +90,13 @@ judged_long A start bytes h =
     (slice_index_or (faults A (ended_lines (take MAX_CERTIFICATE_BYTES bytes)) (length (ended_lines (take MAX_CERTIFICATE_BYTES bytes)))) 0 TooLong)
     (lt-leb (length bytes) MAX_CERTIFICATE_BYTES h)
 
--- What a complete list is made of
+-- Properties of a complete list
 
--- its numbers are a removal list
+-- the entries over numbers are a removal list
 pub complete_order : (s : Sys) (L : List (Entry ℕ)) → IsSys s → AreNumbers s L → IsCompleteList s L → IsOrder (numbered s) L
 complete_order s L sys are complete = order_named (numbered s) (arena s) (pair_at (sizes_of s)) (IsNumber s) (numbers_rename s sys) L are complete.order
 
--- the reasons that hold may be given
+-- a reason that holds can stand in a certificate
 pub justified_reason : (s : Sys) (gone : ℕ → Bool) (p : ℕ) (r : Reason) → IsSys s → IsTrue (is_justified (numbered s) gone p r) → IsIn r (reasons s.env.actions)
 justified_reason s gone p Final sys h = final_reason s.env.actions
 justified_reason s gone p (Act a) sys h =
@@ -109,13 +109,13 @@ order_possible s L sys are order x i =
 
 -- The lines of a certificate are clean
 
--- no entry's line is `end`
+-- no line of an entry is `end`
 no_end : (s : Sys) (L : List (Entry ℕ)) → IsFew s → ArePossible s L → IsFalse (list_any (same_numbers end_line) (map entry_line L))
 no_end s L small are = none_from (same_numbers end_line) (map entry_line L) (λ line i.
     let (x, j, e) = from_map entry_line line L i in
     subst (λ l. IsFalse (same_numbers end_line l)) (sym e) (entry_is_no_end x (possible_small (node_count s) s.env.actions x small (are x j))))
 
--- the lines up to the entries
+-- the lines before the entries
 abbrev pub opened : Sys → List (Entry ℕ) → List (List ℕ)
 opened s L = head_line ∷ count_line (node_count s) ∷ map entry_line L
 
@@ -151,7 +151,7 @@ entries_clean s before (x ∷ rest) small are order clean =
     subst (λ M. IsClean (numbered s) (opened s M) (length (opened s M))) (sym more)
     (entries_clean s (before ++ x ∷ []) rest small (λ y i. are y (subst (λ M. IsIn y M) (sym more) i)) (subst (IsOrder (numbered s)) more order) next)
 
--- at the end of a complete list no pair is missing
+-- no pair is missing at the end of a complete list
 complete_end : (s : Sys) (L : List (Entry ℕ)) → ((p : ℕ) → p < count (sizes_of s) → IsFalse (is_listed (numbered s) L p) → (r : Reason) → IsFalse (is_justified (numbered s) (is_listed (numbered s) L) p r)) → end_fault (numbered s) L ≡ None
 complete_end s L none =
     ap (option_map Unlisted) (find_not_found (could_be_listed (numbered s) L) (below (count (sizes_of s))) (none_from (could_be_listed (numbered s) L) (below (count (sizes_of s))) (λ p i. at p (from_below (count (sizes_of s)) p i))))
@@ -174,7 +174,7 @@ over_clean s L =
     ap (λ b. if b then None else body_fault (numbered s) (entries_on (numbered s) (map entry_line L ++ end_line ∷ [])) None)
     (any_from (same_numbers end_line) end_line (map entry_line L ++ end_line ∷ []) (in_push end_line (map entry_line L)) (same_numbers_itself end_line))
 
--- the lines of a complete list's certificate are clean, and so is their end
+-- the lines of a complete list's certificate have no fault, and neither has its end
 pub cert_clean : (s : Sys) (L : List (Entry ℕ)) → IsFew s → ArePossible s L → IsOrder (numbered s) L → end_fault (numbered s) L ≡ None →
     IsClean (numbered s) (cert_lines (node_count s) L) (length (cert_lines (node_count s) L) + 1)
 cert_clean s L small are order none i l = elim (cases_lt i (length (cert_lines (node_count s) L))) [
@@ -254,9 +254,9 @@ cert_are_lines s L small are few line (inr (inr i)) = elim (from_append line (ma
   | inr j ↦ elim j [ inl e ↦ subst IsLine (sym e) end_is_line | inr none ↦ absurd none ]
 ]
 
--- What a complete list leaves
+-- The unlisted pairs of a complete list
 
--- the numbers that aren't listed are as many as the related pairs
+-- the number of unlisted numbers is the number of related pairs
 pub unlisted_count : (s : Sys) (L : List (Entry ℕ)) → IsSys s → AreNumbers s L → IsCompleteList s L →
     length (filter (λ p. not (is_listed (numbered s) L p)) (below (count (sizes_of s)))) ≡ length (filter (is_related s) (pairs s))
 unlisted_count s L sys are complete =
@@ -276,7 +276,7 @@ unlisted_is_greatest s start L sys l are complete =
     ap₂ Greatest (unlisted_count s L sys are complete)
     (ap not (numbered_listed s L start sys are complete l) ∙ not-not (is_related s (pair_at (sizes_of s) start)))
 
--- no reason holds where a complete list has no entry
+-- no reason holds at a pair that a complete list doesn't list
 pub complete_unjustified : (s : Sys) (L : List (Entry ℕ)) → IsSys s → AreNumbers s L → IsCompleteList s L →
     (p : ℕ) → p < count (sizes_of s) → IsFalse (is_listed (numbered s) L p) → (r : Reason) → IsFalse (is_justified (numbered s) (is_listed (numbered s) L) p r)
 complete_unjustified s L sys are complete p l unlisted r =
@@ -305,12 +305,12 @@ written_is_greatest s start L sys cells l are complete =
     (entries_on-cert s L small possible)
     ∙ unlisted_is_greatest s start L sys l are complete)
 
--- What is accepted
+-- Accepted texts
 
 no_fault : (why : Why) → Some why ≡ None → ⊥
 no_fault why e = none-some why (sym e)
 
--- the line that is due is there
+-- the expected line is there
 pub due_is : (due line : List ℕ) → unless_is due (Some line) ≡ None → line ≡ due
 due_is due line e = by_test (same_numbers due line)
     (λ t. sym (same_numbers_is due line t))
@@ -329,13 +329,13 @@ entry_holds s L x e = by_test (is_listed (numbered s) L x.node)
     rest : Option Why
     rest = if is_justified (numbered s) (is_listed (numbered s) L) x.node x.reason then None else Some Unjustified
 
--- the entries on those lines are a removal list, and no pair is missing
+-- the entries on the lines are a removal list, and no pair is missing
 record HoldsAll (s : Sys) (L : List (Entry ℕ)) : Type 0 where
   possible : ArePossible s L
   order : IsOrder (numbered s) L
   ended : end_fault (numbered s) L ≡ None
 
--- lines read so far: none is `end`, and their entries are a removal list
+-- the lines read so far: none is `end`, and their entries are a removal list
 record ReadSoFar (s : Sys) (done : List (List ℕ)) : Type 0 where
   open_yet : IsFalse (list_any (same_numbers end_line) done)
   possible : ArePossible s (entries_on (numbered s) done)
@@ -345,7 +345,7 @@ module _ (s : Sys) (small : IsFew s) (head size : List ℕ) where
   abbrev with_body : List (List ℕ) → List (List ℕ)
   with_body body = head ∷ size ∷ body
 
-  -- a line that isn't `end` is an entry's
+  -- a line that isn't `end` states an entry
   read_entry : (done : List (List ℕ)) (line : List ℕ) → ReadSoFar s done → IsFalse (same_numbers end_line line) → entry_fault (numbered s) (entries_on (numbered s) done) (entry_on s line) ≡ None → ReadSoFar s (done ++ line ∷ [])
   read_entry done line read other e = by_entry (entry_on s line) refl
     where
@@ -385,7 +385,7 @@ module _ (s : Sys) (small : IsFew s) (head size : List ℕ) where
       (read_entry done line read f (sym (cond-false (same_numbers end_line line) (end_fault (numbered s) (entries_on (numbered s) done)) (entry_fault (numbered s) (entries_on (numbered s) done) (entry_on s line)) f) ∙ due))
       clean_more))
     where
-      -- nothing follows the end
+      -- no line follows the end
       at_end : (done : List (List ℕ)) (line : List ℕ) (rest : List (List ℕ)) → ReadSoFar s done → IsTrue (same_numbers end_line line) → end_fault (numbered s) (entries_on (numbered s) done) ≡ None →
           done ++ line ∷ rest ≡ (done ++ line ∷ []) ++ rest → IsClean (numbered s) (with_body ((done ++ line ∷ []) ++ rest)) (length (with_body ((done ++ line ∷ []) ++ rest)) + 1) → HoldsAll s (entries_on (numbered s) (done ++ line ∷ rest))
       at_end done line [] read t none more clean =
@@ -400,7 +400,7 @@ module _ (s : Sys) (small : IsFew s) (head size : List ℕ) where
           (sym (cond-true (list_any (same_numbers end_line) (done ++ line ∷ [])) (unless_over (Some next)) (body_fault (numbered s) (entries_on (numbered s) (done ++ line ∷ [])) (Some next))
           (any_from (same_numbers end_line) line (done ++ line ∷ []) (in_push line done) t)) ∙ over))
 
--- a clean text
+-- the parts of a text without a fault
 text_read : (s : Sys) (text : List (List ℕ)) → IsFew s → IsClean (numbered s) text (length text + 1) → HoldsAll s (entries_on (numbered s) text)
 text_read s [] small clean = absurd (no_fault Form (clean 0 (omega arith)))
 text_read s (head ∷ []) small clean = absurd (no_fault Form (clean 1 (omega arith)))
@@ -411,7 +411,7 @@ text_read s (head ∷ size ∷ body) small clean =
     subst (HoldsAll s) (sym (ap₂ (λ o p. cons_option o (cons_option p (entries_on (numbered s) body))) first second))
     (read_all s small head size [] body (record { open_yet = refl; possible = λ x i. absurd i; order = tt }) clean)
 
--- where no pair is missing no reason holds at an unlisted one
+-- where no pair is missing, no reason holds at an unlisted pair
 nothing_missing : (s : Sys) (L : List (Entry ℕ)) → IsSys s → end_fault (numbered s) L ≡ None →
     (p : ℕ) → p < count (sizes_of s) → IsFalse (is_listed (numbered s) L p) → (r : Reason) → IsFalse (is_justified (numbered s) (is_listed (numbered s) L) p r)
 nothing_missing s L sys ended p l unlisted r =
@@ -427,14 +427,14 @@ nothing_missing s L sys ended p l unlisted r =
     unmapped None e = refl
     unmapped (Some q) e = absurd (no_fault (Unlisted q) e)
 
--- the entries of a clean text are a complete list
+-- the entries of a text without a fault are a complete list
 pub clean_complete : (s : Sys) (text : List (List ℕ)) → IsSys s → IsFew s → IsClean (numbered s) text (length text + 1) → AreNumbers s (entries_on (numbered s) text) × IsCompleteList s (entries_on (numbered s) text)
 clean_complete s text sys small clean =
     let all : HoldsAll s (entries_on (numbered s) text) = text_read s text small clean in
     let are : AreNumbers s (entries_on (numbered s) text) = λ x i. (possible_number s x (all.possible x i)).0 in
     (are, numbered_completed_by s (entries_on (numbered s) text) sys are all.order (nothing_missing s (entries_on (numbered s) text) sys all.ended))
 
--- a text that is accepted is short and clean
+-- an accepted text is within the limit and has no fault
 accepted_clean : (s : Sys) (start : ℕ) (bytes : List ℕ) (related : ℕ) (starts : Bool) → cert_verdict (numbered s) start bytes ≡ Greatest related starts →
     IsClean (numbered s) (lines bytes) (length (lines bytes) + 1) × (Greatest related starts ≡ unlisted (numbered s) start (entries_on (numbered s) (lines bytes)))
 accepted_clean s start bytes related starts e = elim (cases_lt MAX_CERTIFICATE_BYTES (length bytes)) [

@@ -1,4 +1,4 @@
--- Lines of certificates: what entry a line is, and where the first fault is.
+-- Lines of certificates: the entry that a line states, and the first fault.
 use Rattle.std.proofs.Common.{◌≡◌, ℕ, zero, suc, ◌+◌, ◌%◌, ◌^◌, ◌<◌, ◌≤◌, ◌==◌, false, ◌⊎◌, List, [], ◌∷◌, ◌++◌, map, length, take, Option, Some, None, IsFalse, option_map, slice_get, codes, decimal, refl, sym, ap, ap₂, ◌∙◌, subst, inl, inr, arith, length-append}
 use Rattle.std.specs.List.{cons_option}
 use Rattle.std.proofs.lemmas.Bool.{both_ways, or_parts, or_from, ne_eqb, eq-eqb, cases_lt}
@@ -29,7 +29,7 @@ decimal_digits n h = decimal_by_steps (λ m ds. (b : ℕ) → IsIn b ds → (48 
     more : (m : ℕ) (ds : List ℕ) → 10 ≤ m → ((b : ℕ) → IsIn b ds → (48 ≤ b) × (b ≤ 57)) → (b : ℕ) → IsIn b (ds ++ ((48 + m % 10) ∷ [])) → (48 ≤ b) × (b ≤ 57)
     more m ds l rest b i = elim (from_push b (48 + m % 10) ds i) [ inl j ↦ rest b j | inr e ↦ (omega arith, omega arith) ]
 
--- a byte that is no digit isn't in it
+-- a decimal text has no byte that isn't a digit
 pub decimal_without : (n c : ℕ) → n < 2 ^ 64 → (c < 48) ⊎ (57 < c) → IsFalse (has (decimal n) c)
 decimal_without n c h other = none_from (λ m. m == c) (decimal n) (λ b i. ne_eqb b c (λ e. elim other [
   | inl low ↦ (let digit = decimal_digits n h b i in let l : 48 ≤ b = digit.0 in omega arith)
@@ -57,12 +57,12 @@ end_is_line = refl
 pub count_is_line : (pairs : ℕ) → pairs < 2 ^ 64 → IsLine (count_line pairs)
 count_is_line pairs h = append_line (codes "pairs ") (decimal pairs) refl (decimal_without pairs 10 h (inl (omega arith)))
 
--- the reason's number is small enough for its decimal text
+-- the number of the reason is small enough for its decimal text
 abbrev pub IsSmallReason : Reason → Type 0
 IsSmallReason Final = Unit {0}
 IsSmallReason (Act a) = a < 2 ^ 64
 
--- the entry's numbers are
+-- the numbers of the entry are small enough for their decimal texts
 abbrev pub IsSmall : Entry ℕ → Type 0
 IsSmall x = (x.node < 2 ^ 64) × IsSmallReason x.reason
 
@@ -75,7 +75,7 @@ entry_is_line x h =
     append_line (decimal x.node) (32 ∷ reason_text x.reason) (decimal_without x.node 10 h.0 (inl (omega arith)))
     (or_from (32 == 10) (has (reason_text x.reason) 10) refl (reason_without x.reason 10 h.1 (inl (omega arith))))
 
--- two texts that are one at their first byte c are one before and behind it
+-- two equal texts, cut at their first byte c, are equal before and after it
 pub cut_at : (c : ℕ) (xs ys ts us : List ℕ) → IsFalse (has xs c) → IsFalse (has ys c) → xs ++ c ∷ ts ≡ ys ++ c ∷ us → (xs ≡ ys) × (ts ≡ us)
 cut_at c [] [] ts us h g e = (refl, cc)
 cut_at c [] (y ∷ ys) ts us h g e = let same : c ≡ y = cc in absurd (both_ways (y == c) (or_parts (y == c) (has ys c) g).0 (eq-eqb y c (sym same)))
@@ -99,7 +99,7 @@ reason_from_text Final (Act b) h g e = absurd (letter_is_no_number b g e)
 reason_from_text (Act a) Final h g e = absurd (letter_is_no_number a h (sym e))
 reason_from_text (Act a) (Act b) h g e = ap Act (decimal_injective a b h g e)
 
--- an entry is known by its text
+-- entries with the same text are equal
 pub entry_from_text : (x y : Entry ℕ) → IsSmall x → IsSmall y → entry_line x ≡ entry_line y → x ≡ y
 entry_from_text x y h g e =
     let (front, back) = cut_at 32 (decimal x.node) (decimal y.node) (reason_text x.reason) (reason_text y.reason)
@@ -109,7 +109,7 @@ entry_from_text x y h g e =
     entry_path : x.node ≡ y.node → x.reason ≡ y.reason → x ≡ y
     entry_path m r = λ i. record { node = m i; reason = r i }
 
--- an entry's text starts with a digit
+-- the text of an entry starts with a digit
 pub entry_starts : (x : Entry ℕ) → IsSmall x → (b : ℕ) (bs : List ℕ) → entry_line x ≡ b ∷ bs → b ≤ 57
 entry_starts x h b bs e =
     let (c, cs, is, small) = decimal_starts x.node h.0 in
@@ -122,7 +122,7 @@ entry_is_no_end x h = by_test (same_numbers end_line (entry_line x))
     (λ t. let l : 101 ≤ 57 = entry_starts x h 101 (110 ∷ 100 ∷ []) (sym (same_numbers_is end_line (entry_line x) t)) in absurd (omega arith))
     (λ f. f)
 
--- Entries that may stand in a certificate
+-- Entries that can stand in a certificate
 
 pub final_reason : (actions : ℕ) → IsIn Final (reasons actions)
 final_reason actions = inl refl
@@ -151,7 +151,7 @@ from_possible pairs actions x i =
     let (r, l, e) = from_map (λ r. record { node = p; reason = r }) x (reasons actions) k in
     (subst (λ (y : Entry ℕ). y.node < pairs) (sym e) (from_below pairs p j), subst (λ (y : Entry ℕ). IsIn y.reason (reasons actions)) (sym e) l)
 
--- there are few enough of both for decimal texts of their numbers
+-- the numbers of pairs and actions are small enough for decimal texts
 pub record AreFew (pairs actions : ℕ) : Type 0 where
   pub pairs_fit : pairs ≤ 2 ^ 64
   pub actions_fit : actions ≤ 2 ^ 64
@@ -170,20 +170,20 @@ entry_of-line pairs actions x small i =
     let (j, same) = find_some (λ y. same_numbers (entry_line y) (entry_line x)) (possible_entries pairs actions) y found in
     found ∙ ap Some (entry_from_text y x (possible_small pairs actions y small j) (possible_small pairs actions x small i) (same_numbers_is (entry_line y) (entry_line x) same))
 
--- a line that is read as an entry is that entry's
+-- a line that is read as an entry is the line of that entry
 pub entry_of-is : (pairs actions : ℕ) (line : List ℕ) (x : Entry ℕ) → entry_of pairs actions line ≡ Some x → IsIn x (possible_entries pairs actions) × (entry_line x ≡ line)
 entry_of-is pairs actions line x e =
     let (i, same) = find_some (λ y. same_numbers (entry_line y) line) (possible_entries pairs actions) x e in
     (i, same_numbers_is (entry_line x) line same)
 
--- a line that is no entry's is read as none
+-- a line that isn't the line of any entry is read as none
 pub entry_of_none : (pairs actions : ℕ) (line : List ℕ) → ((x : Entry ℕ) → IsIn x (possible_entries pairs actions) → entry_line x ≡ line → ⊥) → entry_of pairs actions line ≡ None
 entry_of_none pairs actions line none =
     find_not_found (λ x. same_numbers (entry_line x) line) (possible_entries pairs actions)
     (none_from (λ x. same_numbers (entry_line x) line) (possible_entries pairs actions)
     (λ x i. by_test (same_numbers (entry_line x) line) (λ t. absurd (none x i (same_numbers_is (entry_line x) line t))) (λ f. f)))
 
--- nor is one that starts with no digit
+-- a line that doesn't start with a digit is read as none
 pub entry_of_other : (pairs actions : ℕ) (b : ℕ) (bs : List ℕ) → AreFew pairs actions → 57 < b → entry_of pairs actions (b ∷ bs) ≡ None
 entry_of_other pairs actions b bs small h = entry_of_none pairs actions (b ∷ bs) (λ x i e. let l : b ≤ 57 = entry_starts x (possible_small pairs actions x small i) b bs e in omega arith)
 
@@ -196,7 +196,7 @@ entries_on-lines A (x ∷ L) small are =
 
 -- Faults
 
--- what may be wrong at line i, counted from 0
+-- the fault of line i, counted from 0
 abbrev pub fault_at : Arena ℕ → List (List ℕ) → ℕ → Option Verdict
 fault_at A text i = option_map (Rejected (i + 1)) (line_fault A (take i text) (slice_get text i))
 
@@ -228,7 +228,7 @@ faults_first A text (suc n) i why clean fault l = elim (cases_lt i n) [
           ∙ ap (λ o. cons_option (option_map (Rejected (i + 1)) o) []) fault,
     )
 
--- the lines of a text, where more follow
+-- the first lines of a text, where more follow
 take_front : {X : Type 0} (xs ys : List X) (i : ℕ) → i < length xs → take i (xs ++ ys) ≡ take i xs
 take_front xs ys i l = take-append-le i xs ys (omega arith)
 
@@ -248,7 +248,7 @@ get_past (x ∷ xs) = get_past xs
 pub clean_front : (A : Arena ℕ) (text more : List (List ℕ)) → IsClean A text (length text) → IsClean A (text ++ more) (length text)
 clean_front A text more clean i l = ap₂ (line_fault A) (take_front text more i l) (get_front text more i l) ∙ clean i l
 
--- one more line without a fault
+-- the first lines with one more line without a fault
 pub clean_push : (A : Arena ℕ) (text : List (List ℕ)) (line : List ℕ) → IsClean A text (length text) → line_fault A text (Some line) ≡ None → IsClean A (text ++ line ∷ []) (length (text ++ line ∷ []))
 clean_push A text line clean none i l = elim (cases_lt i (length text)) [
   | inl less ↦ clean_front A text (line ∷ []) clean i less
@@ -265,7 +265,7 @@ fault_next A text more line = ap₂ (line_fault A) (take_at text (line ∷ more)
 pub fault_over : (A : Arena ℕ) (text : List (List ℕ)) → line_fault A (take (length text) text) (slice_get text (length text)) ≡ line_fault A text None
 fault_over A text = ap₂ (line_fault A) (take_all (length text) text (omega arith)) (get_past text)
 
--- either none of the first n lines is at fault, or there is a first one that is
+-- either none of the first n lines has a fault, or there is a first faulty line
 pub faults_cases : (A : Arena ℕ) (text : List (List ℕ)) (n : ℕ) →
     IsClean A text n ⊎ ((i : ℕ) × (why : Why) × (i < n) × IsClean A text i × (line_fault A (take i text) (slice_get text i) ≡ Some why))
 faults_cases A text zero = inl (λ i l. absurd (omega arith))

@@ -1,4 +1,4 @@
--- The replay survives a change.
+-- The replay of a renamed list is a removal list after each change.
 use Rattle.std.proofs.Common.{true, false, List, [], sym, subst}
 use Rattle.roman_model.specs.System.{Sys, Pair}
 use Rattle.roman_model.specs.SystemArena.{arena}
@@ -8,7 +8,7 @@ use Rattle.roman_model.proofs.OrderLemmas.{order_new, new_once, replay_order, re
 use Rattle.roman_model.proofs.CompositionLemmas.{system_is_same}
 use Rattle.roman_model.proofs.ChangeLemmas.{turned, IsSys-turned, IsPair-turned, freeze_order, new_same, new_from_once, joined, IsSys-joined, join_entries, join_once, left, IsSys-left, die_order, die_entries}
 
--- what an order of the new system says of its own replay
+-- a removal list of the new system is its own replay
 whole_order : (s : Sys) (L : List (Entry Pair)) → IsOrder (arena s) L → IsOrder (arena s) (replay (arena s) L)
 whole_order s L order = subst (IsOrder (arena s)) (sym (replay_whole (arena s) L order)) order
 

@@ -1,4 +1,4 @@
--- What a change of the seats does to systems, pairs, outcomes and removal lists.
+-- The effect of a change of the seats on systems, pairs, outcomes and removal lists.
 use Rattle.std.proofs.Common.{◌≡◌, ℕ, zero, suc, ◌<◌, ◌≤◌, Bool, true, not, ◌&&◌, ◌||◌, List, [], ◌∷◌, ◌++◌, map, length, Some, IsTrue, IsFalse, filter, flat_map, slice_get, slice_index, slice_set, remove, refl, sym, ap, ap₂, ◌∙◌, subst, inl, inr, arith}
 use Rattle.std.specs.List.{list_any, AllZip}
 use Rattle.std.proofs.lemmas.Bool.{cases_eq, both_ways, or_cases, or_left, or_right, and_parts, and_from, cond-true, cond-false}
@@ -28,7 +28,7 @@ pub map_same_in : {X Y : Type 0} (f g : X → Y) (xs : List X) → ((x : X) → 
 map_same_in f g [] same = refl
 map_same_in f g (x ∷ xs) same = ap₂ (λ y ys. y ∷ ys) (same x (inl refl)) (map_same_in f g xs (λ y i. same y (inr i)))
 
--- and everywhere
+-- where two functions agree everywhere
 pub flat_map_same : {X Y : Type 0} (f g : X → List Y) (xs : List X) → ((x : X) → f x ≡ g x) → flat_map f xs ≡ flat_map g xs
 flat_map_same f g xs same = flat_map_same_in f g xs (λ x i. same x)
 
@@ -47,14 +47,14 @@ pub flat_map_none : {X Y : Type 0} (f : X → List Y) (xs : List X) → ((x : X)
 flat_map_none f [] none = refl
 flat_map_none f (x ∷ xs) none = ap₂ (λ ys zs. ys ++ zs) (none x) (flat_map_none f xs none)
 
--- Outcomes that a function makes of others
+-- Outcomes that are images of other outcomes
 
--- a seat that goes nowhere has no outcome
+-- a seat without a next state has no outcome
 pub moved_none : (s : Sys) (p : Pair) (a k : ℕ) → outcomes_by s p a k [] ≡ []
 moved_none s p a k = flat_map_none (λ e'. flat_map (λ t'. map (λ b'. record { t = t'; e = e'; bs = slice_set p.bs k b' }) []) (beh_next s.target p.t p.e a)) (env_next s.env p.e a)
     (λ e'. flat_map_none (λ t'. map (λ b'. record { t = t'; e = e'; bs = slice_set p.bs k b' }) []) (beh_next s.target p.t p.e a) (λ t'. refl))
 
--- where f leaves the target's state and the environment's, and makes of the states that seat j moves those that seat k moves
+-- where f keeps the states of the target and the environment, and maps the states of seat j to those of seat k
 pub moved_named : (s : Sys) (seats : List Seat) (p : Pair) (a j k : ℕ) (states : List ℕ) (g : List ℕ → List ℕ) (bs : List ℕ) →
     ((b' : ℕ) → slice_set bs k b' ≡ g (slice_set p.bs j b')) →
     outcomes_by (record { env = s.env; target = s.target; seats = seats }) (record { t = p.t; e = p.e; bs = bs }) a k states
@@ -72,7 +72,7 @@ moved_named s seats p a j k states g bs is =
     f : Pair → Pair
     f q = record { t = q.t; e = q.e; bs = g q.bs }
 
--- Lists of seats without one
+-- Lists without one seat
 
 pub remove_in : {X : Type 0} (x : X) (xs : List X) (k : ℕ) → IsIn x (remove xs k) → IsIn x xs
 remove_in x [] zero i = absurd i
@@ -86,7 +86,7 @@ length-remove [] k h = absurd (omega arith)
 length-remove (x ∷ xs) zero h = refl
 length-remove (x ∷ xs) (suc k) h = ap suc (length-remove xs k (omega arith))
 
--- the place that seat j had before seat k went
+-- the old place of seat j, before seat k left
 abbrev place : ℕ → ℕ → ℕ
 place zero j = suc j
 place (suc k) zero = zero
@@ -113,7 +113,7 @@ set-remove (c ∷ bs) zero j b = refl
 set-remove (c ∷ bs) (suc k) zero b = refl
 set-remove (c ∷ bs) (suc k) (suc j) b = ap (λ cs. c ∷ cs) (set-remove bs k j b)
 
--- the state at another place stays
+-- the state at another place stays the same
 pub index_set_place : (bs : List ℕ) (k j b : ℕ) → slice_index (slice_set bs (place k j) b) k ≡ slice_index bs k
 index_set_place [] k j b = refl
 index_set_place (c ∷ bs) zero j b = refl
@@ -126,7 +126,7 @@ place_within (suc k) zero n h l = omega arith
 place_within (suc k) (suc j) zero h l = absurd (omega arith)
 place_within (suc k) (suc j) (suc n) h l = let rest : place k j < suc n = place_within k j n (omega arith) (omega arith) in omega arith
 
--- Seats that freeze or thaw
+-- Seats that are frozen or thawed
 
 pub set_frozen_in : (seats : List Seat) (k : ℕ) (frozen : Bool) (x : Seat) → IsIn x (set_frozen seats k frozen) → (y : Seat) × IsIn y seats × (x.beh ≡ y.beh)
 set_frozen_in [] k frozen x i = absurd i
@@ -152,7 +152,7 @@ all_final-set_frozen (seat ∷ seats) zero frozen (b ∷ bs) = refl
 all_final-set_frozen (seat ∷ seats) (suc k) frozen [] = refl
 all_final-set_frozen (seat ∷ seats) (suc k) frozen (b ∷ bs) = ap (λ x. (not seat.rests || is_final seat.beh b) && x) (all_final-set_frozen seats k frozen bs)
 
--- the system with seat k frozen or ready
+-- the system with seat k frozen or made ready
 abbrev pub turned : Sys → ℕ → Bool → Sys
 turned s k frozen = record { env = s.env; target = s.target; seats = set_frozen s.seats k frozen }
 
@@ -177,7 +177,7 @@ IsPair-turned s k frozen p ok = record { t = ok.t; e = ok.e; bs = set_frozen_bel
 pub is_fine-turned : (s : Sys) (k : ℕ) (frozen : Bool) (p : Pair) → is_fine (turned s k frozen) p ≡ is_fine s p
 is_fine-turned s k frozen p = ap (λ x. not (is_final s.target p.t) || x) (all_final-set_frozen s.seats k frozen p.bs)
 
--- a seat that another one's freezing or thawing leaves alone
+-- freezing or thawing another seat keeps a seat as it is
 pub get-set_frozen : (seats : List Seat) (k j : ℕ) (frozen : Bool) → (j ≡ k → ⊥) → slice_get (set_frozen seats k frozen) j ≡ slice_get seats j
 get-set_frozen [] k j frozen ne = refl
 get-set_frozen (seat ∷ seats) zero zero frozen ne = absurd (ne refl)
@@ -185,7 +185,7 @@ get-set_frozen (seat ∷ seats) zero (suc j) frozen ne = refl
 get-set_frozen (seat ∷ seats) (suc k) zero frozen ne = refl
 get-set_frozen (seat ∷ seats) (suc k) (suc j) frozen ne = get-set_frozen seats k j frozen (λ e. ne (ap suc e))
 
--- a frozen seat goes nowhere
+-- a frozen seat has no next state
 pub seat_next-frozen : (seats : List Seat) (k b e a : ℕ) → seat_next (slice_get (set_frozen seats k true) k) b e a ≡ []
 seat_next-frozen [] k b e a = refl
 seat_next-frozen (seat ∷ seats) zero b e a = refl
@@ -198,7 +198,7 @@ pub outcomes-frozen : (s : Sys) (k : ℕ) (p : Pair) (a : ℕ) → outcomes (tur
 outcomes-frozen s k p a =
     ap (λ states. outcomes_by s p a k states) (seat_next-frozen s.seats k (slice_index p.bs k) p.e a) ∙ moved_none s p a k
 
--- who is beaten stays so where a seat freezes
+-- a beaten seat stays beaten where a seat is frozen
 pub freeze_beaten : (s : Sys) (k : ℕ) (gone : Pair → Bool) (p : Pair) (a j : ℕ) → IsTrue (is_beaten (arena s) gone p a j) → IsTrue (is_beaten (arena (turned s k true)) gone p a j)
 freeze_beaten s k gone p a j h = elim (cases_eq j k) [
   | inl e ↦ subst (λ i. IsTrue (is_beaten (arena (turned s k true)) gone p a i)) (sym e) (ap (λ qs. is_empty qs || list_any gone qs) (outcomes-frozen s k p a))
@@ -217,9 +217,9 @@ pub freeze_order : (s : Sys) (k : ℕ) (before : List Pair) (L : List (Entry Pai
 freeze_order s k before [] order = tt
 freeze_order s k before (x ∷ L) order = (order.0, freeze_justified s k (is_among (arena s) before) x.node x.reason order.1, freeze_order s k (x.node ∷ before) L order.2)
 
--- Pairs that are told apart, and lists of new ones
+-- Distinct pairs, and lists of new ones
 
--- the arenas of two systems tell pairs apart alike
+-- the arenas of two systems compare pairs alike
 pub new_same : (s r : Sys) (before : List Pair) (L : List (Entry Pair)) → AreNew (arena s) before L → AreNew (arena r) before L
 new_same s r before [] new = tt
 new_same s r before (x ∷ L) new = (new.0, new_same s r (x.node ∷ before) L new.1)
@@ -239,7 +239,7 @@ new_from_once s before (x ∷ L) once apart = (
 
 -- Joins
 
--- the system with a seat that comes last
+-- the system with a new last seat
 abbrev pub joined : Sys → Seat → Sys
 joined s seat = record { env = s.env; target = s.target; seats = s.seats ++ seat ∷ [] }
 
@@ -275,7 +275,7 @@ grown_apart p q b c e =
     pair_path : p.t ≡ q.t → p.e ≡ q.e → p.bs ≡ q.bs → p ≡ q
     pair_path t e bs = λ i. record { t = t i; e = e i; bs = bs i }
 
--- the nodes of the candidates
+-- the nodes of the renamed entries
 pub join_nodes : (seat : Seat) (L : List (Entry Pair)) → map (λ x. x.node) (rename (Join seat) L) ≡ flat_map (λ p. map (grown p) (below seat.beh.states)) (map (λ x. x.node) L)
 join_nodes seat L =
     map-flat_map (λ x. x.node) (grown_entries seat) L
@@ -332,14 +332,14 @@ states_length [] (b ∷ bs) h = absurd h
 states_length (seat ∷ seats) [] h = absurd h
 states_length (seat ∷ seats) (b ∷ bs) h = ap suc (states_length seats bs h.1)
 
--- the outcomes of the other seats lose the dead one's state
+-- the outcomes of the other seats, without the state of the seat that left
 pub outcomes-without : (s : Sys) (k : ℕ) (p : Pair) (a j : ℕ) → outcomes (left s k) (without k p) a j ≡ map (without k) (outcomes s p a (place k j))
 outcomes-without s k p a j =
     ap₂ (λ o b. outcomes_by (left s k) (without k p) a j (seat_next o b p.e a)) (get-remove s.seats k j) (index-remove p.bs k j)
     ∙ moved_named s (remove s.seats k) p a (place k j) j (seat_next (slice_get s.seats (place k j)) (slice_index p.bs (place k j)) p.e a) (λ bs. remove bs k) (remove p.bs k)
     (λ b'. set-remove p.bs k j b')
 
--- an outcome of another seat leaves the state of seat k
+-- an outcome of another seat keeps the state of seat k
 pub outcome_keeps : (s : Sys) (k : ℕ) (p : Pair) (a j : ℕ) (q : Pair) → IsIn q (outcomes s p a (place k j)) → slice_index q.bs k ≡ slice_index p.bs k
 outcome_keeps s k p a j q i =
     let (step, (b', m, e)) = from_moved s p a (place k j) (seat_next (slice_get s.seats (place k j)) (slice_index p.bs (place k j)) p.e a) q i in
@@ -358,7 +358,7 @@ is_fine-without s k seat p seated ok goes =
     let long : length p.bs ≡ length s.seats = states_length s.seats p.bs ok.bs in
     ap (λ x. not (is_final s.target p.t) || x) (all_final-remove s.seats p.bs k seat seated (omega arith) goes)
 
--- who is beaten without the seat
+-- a seat is beaten without seat k exactly where it was beaten at its old place
 pub beaten-without : (s : Sys) (k : ℕ) (gone : Pair → Bool) (p : Pair) (a j : ℕ) →
     is_beaten (arena (left s k)) gone (without k p) a j ≡ is_beaten (arena s) (λ q. gone (without k q)) p a (place k j)
 beaten-without s k gone p a j =
@@ -391,7 +391,7 @@ die_justified s k seat gone lost seated carries p ok goes (Act a) h =
     (all_below_at (is_beaten (arena s) gone p a) (length s.seats) (place k j) beaten
     (subst (λ n. place k j < n) shorter (place_within k j (length (remove s.seats k)) (subst (λ n. k < n) (sym shorter) within) l)))))
 
--- where each pair before that may go was seen, the rest of an order is one without the seat
+-- where each earlier pair that may go was seen, the rest of a removal list stays one without the seat
 pub die_order : (s : Sys) (k : ℕ) (seat : Seat) → slice_get s.seats k ≡ Some seat → (before seen : List Pair) (L : List (Entry Pair)) → AreEntries s L →
     ((q : Pair) → IsTrue (is_among (arena s) before q) → IsTrue (may_go k seat q) → IsTrue (is_among (arena (left s k)) seen (without k q))) →
     IsOrderFrom (arena s) before L →
@@ -446,7 +446,7 @@ firsts_in seen (y ∷ L) x i = by_test (list_any (same_pair y.node) seen)
     first (inl e) go = inl e
     first (inr j) go = inr (go j)
 
--- what may go leaves a pair of the list, and so does what goes
+-- each renamed entry comes from a listed entry whose pair may go
 pub die_from : (k : ℕ) (seat : Seat) (L : List (Entry Pair)) (x : Entry Pair) → IsIn x (rename (Die k seat) L) → (y : Entry Pair) × IsIn y L × IsTrue (may_go k seat y.node) × (x ≡ entry_without k y)
 die_from k seat L x i =
     let (y, j, e) = from_map (entry_without k) x (filter (λ z. may_go k seat z.node) L) (firsts_in [] (map (entry_without k) (filter (λ z. may_go k seat z.node) L)) x i) in

@@ -1,4 +1,4 @@
--- Several targets are one combined target: the ND-simulations of the combined system are those of the members.
+-- The combined target stands for several targets: the ND-simulations of the combined system are those of the members.
 use Rattle.std.proofs.Common.{◌≡◌, ℕ, ◌<◌, ◌≤◌, Bool, ◌&&◌, List, [], ◌∷◌, map, length, Some, IsTrue, filter, slice_get, slice_index, slice_set, nat_lt, inl, inr, refl, sym, ap, ◌∙◌, subst, arith}
 use Rattle.std.proofs.lemmas.Bool.{and_parts, and_from, ltb-true, lt-ltb}
 use Rattle.std.proofs.lemmas.List.{length-map}
@@ -22,7 +22,7 @@ use Rattle.roman_model.proofs.CombinedLemmas.{in_requests, from_combined_triple,
 
 -- The three clauses.
 
--- the couple of a combined couple
+-- the couple of all targets that a combined couple stands for
 abbrev pub decoded : Several → Couple → CoupleAll
 decoded w c = record { ts = states_of w c.t; e = c.e; bs = c.bs; e2 = c.e2 }
 
@@ -120,7 +120,7 @@ meets_members w Related More c ok l more meets = record {
 
 -- Related pairs.
 
--- the couple is that of a combined couple
+-- the couple is the one that a combined couple stands for
 abbrev is_encoded : Several → CoupleAll → Bool
 is_encoded w d = nat_lt (number_of w d.ts) (total w) && same_numbers (states_of w (number_of w d.ts)) d.ts
 
@@ -171,7 +171,7 @@ all_from_great w c ok l (R, sim, i) = (
     kept d small j =
         in_map (decoded w) d (filter (λ d. nat_lt d.t (total w)) R) (in_filter (λ d. nat_lt d.t (total w)) d R j (lt-ltb d.t (total w) small))
 
--- The combined system is one.
+-- The combined system is well formed.
 
 starts_below : (env : Env) (targets : List Beh) → ((target : Beh) → IsIn target targets → IsBeh env target × IsDeterministic target) →
     AreBelow (target_sizes targets) (map (λ target. target.start) targets)

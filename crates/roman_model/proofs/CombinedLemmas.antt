@@ -1,4 +1,4 @@
--- The combined actions, and the steps and final states of the combined parts: they are those of the members.
+-- The combined actions, and the steps and final states of the combined parts, which are those of the members.
 use Rattle.std.proofs.Common.{◌≡◌, ℕ, zero, suc, ◌<◌, ◌==◌, not, ◌&&◌, ◌||◌, List, [], ◌∷◌, map, length, Option, Some, None, IsTrue, IsFalse, filter, slice_get, slice_index, slice_set, inl, inr, refl, sym, ap, ◌∙◌, subst}
 use Rattle.std.specs.List.{list_any}
 use Rattle.std.proofs.lemmas.Bool.{false≢true, and_parts, and_from, or_cases, or_left, or_right, eqb-true, eq-eqb, not_from_false, not-true}
@@ -19,7 +19,7 @@ use Rattle.roman_model.proofs.MadeLemmas.{from_made_triple, made_triple, move_te
 
 -- The combined actions.
 
--- an action that is used by a step is one of the combined actions
+-- an action that a step uses is one of the combined actions
 pub in_requests : (env : Env) (targets : List Beh) (i : ℕ) (target : Beh) (b e a b' : ℕ) → slice_get targets i ≡ Some target → IsBeh env target →
     IsTrue (has_move target b e a b') → IsIn (record { target = i; action = a }) (requests_of env.actions targets)
 in_requests env targets i target b e a b' at ok t =
@@ -34,7 +34,7 @@ in_requests env targets i target b e a b' at ok t =
     (in_filter (stands_in (slice_get targets i)) a (below env.actions) (in_below env.actions a (move_in_range env target b e a b' ok t).2)
     (subst (λ o. IsTrue (stands_in o a)) (sym at) stands)))
 
--- where the numbers are in range, an action stands in a step exactly where the behaviour goes somewhere by it
+-- where the numbers are in range, an action occurs in a step exactly where the behaviour has a step on it
 pub stands_uses : (env : Env) (beh : Beh) (a : ℕ) → IsBeh env beh → stands_in (Some beh) a ≡ uses env.states beh a
 stands_uses env beh a ok = same_test (stands_in (Some beh) a) (uses env.states beh a)
     (λ t.
@@ -123,7 +123,7 @@ target_size_at [] i target e = absurd (none-some target e)
 target_size_at (x ∷ targets) zero target e = ap (λ (y : Beh). y.states) (same_Some x target e)
 target_size_at (x ∷ targets) (suc i) target e = target_size_at targets i target e
 
--- what a step of the combined target is: which member goes, and that the others stay
+-- a step of the combined target: one member makes a step, and the others stay
 pub record IsMemberStep (w : Several) (n : ℕ) (ts : List ℕ) (e : ℕ) (ts' : List ℕ) (r : Request) (target : Beh) : Type 0 where
   pub request : slice_get (all_requests w) n ≡ Some r
   pub member : slice_get w.targets r.target ≡ Some target
@@ -144,15 +144,15 @@ from_targets_go w n ts e ts' (Some r) at t =
     let (target, member, goes, others) = from_member w.targets (slice_get w.targets r.target) r.target r.action ts e ts' t in
     (r, target, record { request = at; member = member; goes = goes; others = others })
 
--- the states of the targets for a combined state
+-- the states of the targets in a combined state
 abbrev pub states_of : Several → ℕ → List ℕ
 states_of w t = states_at (target_sizes w.targets) t
 
--- the combined state of the targets' states
+-- the combined state for the states of the targets
 abbrev pub number_of : Several → List ℕ → ℕ
 number_of w ts = states_number (target_sizes w.targets) ts
 
--- how many combined states there are
+-- the number of combined states
 abbrev pub total : Several → ℕ
 total w = product_of (target_sizes w.targets)
 
@@ -164,7 +164,7 @@ from_combined_target w t e n t' h =
     let (r, target, step) = from_targets_go w n (states_of w t) e (states_of w t') (slice_get (all_requests w) n) refl goes in
     (ht, ht', r, target, step)
 
--- the list of states after a member's step is one again
+-- the list of states after a member's step is in range again
 pub member_below : (w : Several) (t : ℕ) (i : ℕ) (target : Beh) (t' : ℕ) → t < total w → slice_get w.targets i ≡ Some target → t' < target.states →
     AreBelow (target_sizes w.targets) (slice_set (states_of w t) i t')
 member_below w t i target t' l at h =

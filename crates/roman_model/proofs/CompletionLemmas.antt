@@ -1,4 +1,4 @@
--- Every removal list goes on to a complete one.
+-- Every removal list can be extended to a complete one.
 use Rattle.std.proofs.Common.{ℕ, zero, suc, ◌+◌, ◌≤◌, Bool, not, ◌&&◌, List, [], ◌∷◌, ◌++◌, length, map, flat_map, IsTrue, IsFalse, inl, inr, refl, sym, subst, arith, append_assoc, append-nil, length-append}
 use Rattle.std.specs.List.{list_any}
 use Rattle.std.proofs.lemmas.Bool.{both_ways, and_parts, and_from, not-true, not_from_false}
@@ -14,18 +14,18 @@ use Rattle.roman_model.proofs.SystemLemmas.{in_pairs, from_pairs, allowed_in_ran
 use Rattle.roman_model.proofs.OrderLemmas.{order_push, order_fits}
 use Rattle.roman_model.proofs.CompositionLemmas.{system_is_same, completed_by}
 
--- the reasons that a pair may have, and a pair with each
+-- all reasons, and the entries of a pair with each of them
 abbrev reasons : Sys → List Reason
 reasons s = Final ∷ map Act (below s.env.actions)
 
 abbrev with_reasons : Sys → Pair → List (Entry Pair)
 with_reasons s p = map (λ r. record { node = p; reason = r }) (reasons s)
 
--- all entries that there may be
+-- all possible entries
 abbrev possible : Sys → List (Entry Pair)
 possible s = flat_map (with_reasons s) (pairs s)
 
--- the entry can stand at the end of the list
+-- the entry can follow at the end of the list
 abbrev can_follow : Sys → List (Entry Pair) → Entry Pair → Bool
 can_follow s L x = not (is_listed (arena s) L x.node) && is_justified (arena s) (is_listed (arena s) L) x.node x.reason
 
@@ -38,7 +38,7 @@ possible_pair s x i =
     let (r, l, e) = from_map (λ (r : Reason). record { node = p; reason = r }) x (reasons s) k in
     subst (λ (x : Entry Pair). IsPair s x.node) (sym e) (from_pairs s p j)
 
--- a reason that holds is among them
+-- a reason that holds is one of them
 reason_in : (s : Sys) (L : List (Entry Pair)) (p : Pair) (r : Reason) → IsSys s → IsTrue (is_justified (arena s) (is_listed (arena s) L) p r) → IsIn r (reasons s)
 reason_in s L p Final ok t = inl refl
 reason_in s L p (Act a) ok t =
@@ -56,7 +56,7 @@ last_complete s L ok entries order none = completed_by s L ok entries order no_r
         (and_from (not (is_listed (arena s) L p)) (is_justified (arena s) (is_listed (arena s) L) p r) (not_from_false (is_listed (arena s) L p) unlisted) t)))
         (λ f. f)
 
--- a longer list, by an entry that can follow
+-- a removal list with one more entry that can follow
 record Longer (s : Sys) (L : List (Entry Pair)) : Type 0 where
   entry : Entry Pair
   pairs : AreEntries s (L ++ entry ∷ [])
@@ -72,7 +72,7 @@ one_more s L entries order some =
       order = order_push (arena s) L x order (not-true (is_listed (arena s) L x.node) unlisted) justified;
     }
 
--- so entries are added until none can be
+-- entries can be added until no entry can follow
 complete_within : (s : Sys) (n : ℕ) (L : List (Entry Pair)) → IsSys s → AreEntries s L → IsOrder (arena s) L → length (pairs s) ≤ length L + n → (M : List (Entry Pair)) × IsComplete s (L ++ M)
 complete_within s zero L ok entries order enough = by_test (list_any (can_follow s L) (possible s))
     (λ some.
@@ -87,6 +87,6 @@ complete_within s (suc n) L ok entries order enough = by_test (list_any (can_fol
     (more.entry ∷ M, subst (IsComplete s) (append_assoc L (more.entry ∷ []) M) complete))
     (λ none. ([], subst (IsComplete s) (sym (append-nil L)) (last_complete s L ok entries order none)))
 
--- every removal list goes on to a complete one
+-- every removal list can be extended to a complete one
 pub order_goes_on : (s : Sys) (L : List (Entry Pair)) → IsSys s → AreEntries s L → IsOrder (arena s) L → (M : List (Entry Pair)) × IsComplete s (L ++ M)
 order_goes_on s L ok entries order = complete_within s (length (pairs s)) L ok entries order (omega arith)

@@ -45,8 +45,8 @@ fine_from s p h = by_test (is_final s.target p.t)
     (λ t. or_right (not (is_final s.target p.t)) (all_final s.seats p.bs) (h t))
     (λ f. or_left (not (is_final s.target p.t)) (all_final s.seats p.bs) (not_from_false (is_final s.target p.t) f))
 
--- Clause 3: a seat serves where it has an outcome, and each outcome is related. The guards read the environment's
--- present state, so a seat that has an outcome has one for each target step.
+-- Clause 3: a seat serves where it has an outcome, and each outcome is related. The guards read the environment's present state, so a seat
+-- that has an outcome has one for each target step.
 
 pub serves_outcomes : (s : Sys) (Related : Couple → Type 0) (p : Pair) (a k : ℕ) → IsSys s → IsTrue (is_allowed s p a) → Serves s Related (couple p) a k →
     (k < length s.seats) × (outcomes s p a k ≢ []) × ((q : Pair) → IsIn q (outcomes s p a k) → Related (couple q))
@@ -87,7 +87,7 @@ survives_meets s Related p ok survives = record {
 
 -- The greatest ND-simulation.
 
--- the clauses go on to hold in a relation that has more
+-- the clauses still hold in a larger relation
 pub meets_more : (s : Sys) (Related More : Couple → Type 0) (c : Couple) → ((d : Couple) → Related d → More d) → Meets s Related c → Meets s More c
 meets_more s Related More c more meets = record {
   shared = meets.shared;
@@ -111,7 +111,7 @@ survivors_sim s ps ok survive c i =
     (survives_meets s (λ d. IsIn d (map couple ps)) p ok
     (survives_more (arena s) (λ q. IsIn q ps) (λ q. IsIn (couple q) (map couple ps)) p (λ a k q l. in_map couple q ps) (survive p j)))
 
--- the pairs that fail the test survive among themselves: then they are related
+-- pairs that fail the test are related, where they survive among themselves
 pub great_from : (s : Sys) (gone : Pair → Bool) → IsSys s →
     ((p : Pair) → IsPair s p → IsFalse (gone p) → Survives (arena s) (λ q. IsIn q (pairs s) × IsFalse (gone q)) p) →
     IsNdSim s (map couple (filter (λ p. not (gone p)) (pairs s)))
@@ -145,7 +145,7 @@ great_related s p ok great = by_test (loses (arena s) (length (pairs s)) p)
     (λ t. absurd (lost_unrelated s (length (pairs s)) p ok t great))
     (λ f. not_from_false (loses (arena s) (length (pairs s)) p) f)
 
--- The greatest is a simulation.
+-- The related pairs are the greatest ND-simulation.
 pub greatest_is : GreatestIsGreatest
 greatest_is s ok = record {
   closed = great_meets s;
@@ -162,7 +162,7 @@ greatest_is s ok = record {
 
 -- Removal lists.
 
--- what is listed is lost
+-- a listed pair isn't related
 pub listed_unrelated : (s : Sys) (L : List (Entry Pair)) (p : Pair) → IsSys s → IsOrder (arena s) L → IsTrue (is_listed (arena s) L p) → Great s p → ⊥
 listed_unrelated s L p ok order t great = listed_dead (arena s) (system_is_same s) (Great s) (λ q. great_survives s q ok) L order p t great
 
@@ -180,7 +180,7 @@ unlisted_related s L ok fine no_reason p pair f =
     (λ q q_pair g. survivor_within (arena s) (system_is_arena s ok) (is_listed (arena s) L) q (in_pairs s q q_pair) (fine q q_pair g) (no_reason q q_pair g)))
     pair f
 
--- an order is complete where no reason holds at an unlisted pair
+-- a removal list is complete where no reason holds at an unlisted pair
 pub completed_by : (s : Sys) (L : List (Entry Pair)) → IsSys s → AreEntries s L → IsOrder (arena s) L →
     ((p : Pair) → IsPair s p → IsFalse (is_listed (arena s) L p) → (r : Reason) → IsFalse (is_justified (arena s) (is_listed (arena s) L) p r)) → IsComplete s L
 completed_by s L ok entries order no_reason = record {
@@ -219,6 +219,6 @@ unrelated_lost s ok p pair = (
   λ (n, l, t) great. lost_unrelated s n p ok t great,
 )
 
--- The replay keeps the most.
+-- The replay keeps the most entries.
 pub replay_kept : ReplayKeeps
 replay_kept s L new = record { order = replay_order (arena s) L new; best = λ M sub order. replay_keeps (arena s) M L sub order }

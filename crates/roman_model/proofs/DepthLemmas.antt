@@ -1,4 +1,4 @@
--- Depths over any arena: within how many requests the opponent wins.
+-- Depths over any arena: the least numbers of requests within which the opponent wins.
 use Rattle.std.proofs.Common.{◌≡◌, ℕ, zero, suc, ◌+◌, ◌<◌, ◌≤◌, not, ◌||◌, ◌⊎◌, List, length, Option, Some, None, IsTrue, IsFalse, filter, inl, inr, refl, sym, ap, ◌∙◌, subst, arith}
 use Rattle.std.specs.List.{list_any}
 use Rattle.std.proofs.lemmas.Bool.{both_ways, or_cases, or_parts, or_left, not-true, not-false, not_from_true, not_from_false, cases_eq, cases_lt}
@@ -10,7 +10,7 @@ use Rattle.roman_model.proofs.Lists.{by_test, same_test, any_true, any_false, an
 use Rattle.roman_model.proofs.ArenaLemmas.{IsArena, Survives, justified_same, unjustified, survivor_within}
 use Rattle.roman_model.proofs.OrderLemmas.{listed_dead}
 
--- A node is lost within more requests where it is within fewer.
+-- A node that is lost within some requests is lost within more.
 
 pub loses_up : {N : Type 0} (A : Arena N) (m n : ℕ) (p : N) → m ≤ n → IsTrue (loses A m p) → IsTrue (loses A n p)
 loses_up A m zero p l t = subst (λ k. IsTrue (loses A k p)) (let e : m ≡ 0 = omega arith in e) t
@@ -26,14 +26,14 @@ loses_down A m n p l f = by_test (loses A m p) (λ t. absurd (both_ways (loses A
 pub unlost_fine : {N : Type 0} (A : Arena N) (n : ℕ) (p : N) → IsFalse (loses A n p) → IsTrue (A.fine p)
 unlost_fine A n p f = not-false (A.fine p) (loses_down A zero n p (omega arith) f)
 
--- no action loses a node within one request more that isn't lost by then
+-- no action justifies the loss of a node within n + 1 requests that isn't lost then
 pub unlost_act : {N : Type 0} (A : Arena N) → IsArena A → (n : ℕ) (p : N) (a : ℕ) → IsFalse (loses A (suc n) p) → IsTrue (A.allows p a) → IsFalse (is_justified A (loses A n) p (Act a))
 unlost_act A ok n p a f allowed =
     any_false (λ b. is_justified A (loses A n) p (Act b)) a (below A.actions)
     (or_parts (loses A n p) (list_any (λ b. is_justified A (loses A n) p (Act b)) (below A.actions)) f).1
     (in_below A.actions a (ok.allowed p a allowed))
 
--- Nothing that is lost lives, for any way to live that keeps itself up.
+-- A lost node doesn't live, for any notion of living nodes that survive among themselves.
 pub lost_dead : {N : Type 0} (A : Arena N) (Lives : N → Type 0) → ((p : N) → Lives p → Survives A Lives p) → (n : ℕ) (p : N) → IsTrue (loses A n p) → Lives p → ⊥
 lost_dead A Lives lives zero p t v = both_ways (A.fine p) (not-true (A.fine p) t) (lives p v).final
 lost_dead A Lives lives (suc n) p t v = elim (or_cases (loses A n p) (list_any (λ a. is_justified A (loses A n) p (Act a)) (below A.actions)) t) [
@@ -43,17 +43,17 @@ lost_dead A Lives lives (suc n) p t v = elim (or_cases (loses A n p) (list_any (
       unjustified A Lives (loses A n) p (Act a) (lives p v) (λ q s w. lost_dead A Lives lives n q s w) j
 ]
 
--- The rounds come to an end.
+-- The rounds become steady.
 
--- one round more loses no more nodes
+-- one more round loses no more nodes
 abbrev pub IsSteady : {N : Type 0} → Arena N → ℕ → Type 0
 IsSteady {N} A m = (p : N) → IsIn p A.nodes → loses A (suc m) p ≡ loses A m p
 
--- so many nodes aren't lost
+-- the number of nodes that aren't lost
 abbrev pub unlost_count : {N : Type 0} → Arena N → ℕ → ℕ
 unlost_count A n = length (filter (λ p. not (loses A n p)) A.nodes)
 
--- up to n the rounds come to an end, or each of them loses a node
+-- some round up to n is steady, or each of them loses a node
 pub rounds : {N : Type 0} (A : Arena N) (n : ℕ) → ((m : ℕ) × (m < n) × IsSteady A m) ⊎ (unlost_count A n + n ≤ length A.nodes)
 rounds A zero =
     let l : unlost_count A zero ≤ length A.nodes = sublist_length (filter (λ p. not (loses A zero p)) A.nodes) A.nodes (filter_sublist (λ p. not (loses A zero p)) A.nodes) in
@@ -73,12 +73,12 @@ rounds {N} A (suc n) = elim (rounds A n) [
       ]
 ]
 
--- within as many rounds as there are nodes they come to an end
+-- some round is steady within as many rounds as there are nodes
 pub rounds_end : {N : Type 0} (A : Arena N) → (m : ℕ) × (m ≤ length A.nodes) × IsSteady A m
 rounds_end A = elim (rounds A (suc (length A.nodes)))
     [ inl found ↦ let (m, l, steady) = found in (m, omega arith, steady) | inr few ↦ (let none : ⊥ = omega arith in absurd none) ]
 
--- after a steady round nothing more is lost
+-- no more nodes are lost after a steady round
 pub steady_stays : {N : Type 0} (A : Arena N) → IsArena A → (m : ℕ) → IsSteady A m → (n : ℕ) → m ≤ n → (p : N) → IsIn p A.nodes → loses A n p ≡ loses A m p
 steady_stays A ok m steady zero l p i = ap (λ k. loses A k p) (let e : 0 ≡ m = omega arith in e)
 steady_stays {N} A ok m steady (suc n) l p i = elim (cases_eq m (suc n)) [
@@ -91,7 +91,7 @@ steady_stays {N} A ok m steady (suc n) l p i = elim (cases_eq m (suc n)) [
       ∙ steady p i
 ]
 
--- what isn't lost within as many requests as there are nodes is never lost
+-- a node that isn't lost within as many requests as there are nodes is never lost
 pub last_is_steady : {N : Type 0} (A : Arena N) → IsArena A → (n : ℕ) → length A.nodes ≤ n → (p : N) → IsIn p A.nodes → loses A n p ≡ loses A (length A.nodes) p
 last_is_steady A ok n l p i =
     let (m, k, steady) = rounds_end A in
@@ -106,7 +106,7 @@ unlost_survives A ok p i f =
 
 -- Depths.
 
--- a node is lost within its depth, and not sooner
+-- a node is lost within its depth, and not within fewer requests
 pub depth_is : {N : Type 0} (A : Arena N) (p : N) (d : ℕ) → depth A p ≡ Some d → (d ≤ length A.nodes) × IsTrue (loses A d p) × ((n : ℕ) → n < d → IsFalse (loses A n p))
 depth_is A p d e =
     let (l, t, least) = find_least (λ n. loses A n p) (length A.nodes + 1) d e in
@@ -121,7 +121,7 @@ depth_none A ok p i e n =
     elim (cases_lt n (length A.nodes))
     [ inl less ↦ loses_down A n (length A.nodes) p (omega arith) last | inr more ↦ last_is_steady A ok n more p i ∙ last ]
 
--- a node that is lost has a depth, which is no more than any number of requests within which it is lost
+-- a node that is lost within n requests has a depth of at most n
 pub lost_depth : {N : Type 0} (A : Arena N) → IsArena A → (p : N) → IsIn p A.nodes → (n : ℕ) → IsTrue (loses A n p) → (d : ℕ) × (d ≤ n) × (depth A p ≡ Some d)
 lost_depth A ok p i n t = by_found (depth A p) refl
   where
@@ -133,7 +133,7 @@ lost_depth A ok p i n t = by_found (depth A p) refl
 
 -- Settled lists.
 
--- where an order holds a node for each reason that holds, its nodes are exactly those that are lost
+-- where a removal list holds a node for each reason that holds, its nodes are exactly the lost ones
 pub settled_exact : {N : Type 0} (A : Arena N) → IsArena A → (L : List (Entry N)) → IsOrder A L →
     ((p : N) → IsIn p A.nodes → IsFalse (is_listed A L p) → (r : Reason) → IsFalse (is_justified A (is_listed A L) p r)) →
     (p : N) → IsIn p A.nodes → is_listed A L p ≡ loses A (length A.nodes) p

@@ -1,4 +1,4 @@
--- The depths of a system's pairs, and the opponent's game by them.
+-- The depths of a system's pairs, and the opponent's game by depth.
 use Rattle.std.proofs.Common.{◌≡◌, ℕ, zero, suc, ◌<◌, ◌≤◌, not, if◌then◌else◌, List, [], ◌∷◌, length, Option, Some, None, IsTrue, IsFalse, find, inl, inr, refl, sym, ap, ◌∙◌, subst, arith}
 use Rattle.std.specs.List.{list_any}
 use Rattle.std.proofs.lemmas.Bool.{both_ways, or_cases, not_from_false, cond-true, cond-false, cases_order}
@@ -16,7 +16,7 @@ use Rattle.roman_model.proofs.DepthLemmas.{unlost_fine, unlost_act, depth_is, de
 use Rattle.roman_model.proofs.CompositionLemmas.{system_is_arena, lost_unrelated, related_great}
 use Rattle.roman_model.proofs.PlayLemmas.{wins_more, wins_after}
 
--- at a pair that is lost within d + 1 requests, and not within d, some request refutes it
+-- some request refutes a pair that is lost within d + 1 requests, and not within d
 pub refuting_found : (s : Sys) (d : ℕ) (p : Pair) → IsTrue (loses (arena s) (suc d) p) → IsFalse (loses (arena s) d p) →
     (a : ℕ) × (refuting s d p ≡ Some a) × IsTrue (is_justified (arena s) (loses (arena s) d) p (Act a))
 refuting_found s d p t f = elim (or_cases (loses (arena s) d p) (list_any (λ a. is_justified (arena s) (loses (arena s) d) p (Act a)) (below s.env.actions)) t) [
@@ -27,7 +27,7 @@ refuting_found s d p t f = elim (or_cases (loses (arena s) d p) (list_any (λ a.
       (a, e, j)
 ]
 
--- One request by the depth, against a seat: the opponent has won, or goes on from a pair that is lost within d.
+-- One request by depth, against a seat: the opponent has won, or goes on from a pair that is lost within d.
 pub depth_request_wins : (s : Sys) (d : ℕ) (p : Pair) (k : ℕ) (ks : List ℕ) (a : ℕ) → k < length s.seats → IsTrue (is_justified (arena s) (loses (arena s) d) p (Act a)) →
     ((q : Pair) → IsIn q (outcomes s p a k) → IsTrue (loses (arena s) d q) → WinsWithin d (depth_play s q ks)) →
     WinsWithin (suc d) (depth_play_at s (k ∷ ks) p (Some (suc d)) (Some a))
@@ -85,14 +85,14 @@ depth_unanswered_wins s (suc d) p e f =
     (subst (λ r. WinsWithin (suc d) (depth_play_at s [] p (Some (suc d)) r)) (sym found)
     (subst (WinsWithin (suc d)) (sym (cond-false (has_ready s.seats) None (Some 1) f)) (omega arith)))
 
--- Depth play wins.
+-- The opponent that plays by depth wins.
 pub depth_won : DepthWins
 depth_won s ok p pair n e = record {
   against_seats = λ ks seats enough. depth_wins_by s ok n n p ks pair e (omega arith) seats enough;
   against_none = depth_unanswered_wins s n p e;
 }
 
--- Depth is least.
+-- The depth is the least number of requests.
 pub depth_least : DepthIsLeast
 depth_least s ok p pair = record {
   least = λ n. (

@@ -1,5 +1,5 @@
--- The definitions compute: what they say of three small systems. A lamp is off or on; a flaky lamp may also stick
--- when it is turned on. The target turns a lamp on and off, and may rest while it is off.
+-- The definitions, computed for three small systems. A lamp is off or on. A flaky lamp may also stick when it is turned on. The target
+-- turns a lamp on and off, and may rest while it is off.
 use Rattle.std.proofs.Common.{◌≡◌, ℕ, ◌+◌, ◌<◌, ◌==◌, true, false, ◌&&◌, List, [], ◌∷◌, map, length, Some, IsTrue, filter, inl, inr, refl, sym, subst, arith}
 use Rattle.std.proofs.lemmas.Bool.{and_parts, eqb-true}
 use Rattle.roman_model.specs.Lists.{IsIn}
@@ -11,8 +11,7 @@ use Rattle.roman_model.specs.Offers.{is_related, offers, choice_count}
 use Rattle.roman_model.specs.declared.reason.Reason.TheVariants.{Final, Act}
 use Rattle.roman_model.proofs.Lists.{any_true}
 
--- The one environment state is 0; to turn a lamp on is the action 0, and off the action 1; a lamp is off at 0, on at
--- 1 and stuck at 2.
+-- The one environment state is 0. The action 0 turns a lamp on, and the action 1 turns it off. A lamp is off at 0, on at 1 and stuck at 2.
 
 abbrev pub room : Env
 room = record {
@@ -87,7 +86,7 @@ flaky_related = refl
 flaky_depths : map (depth (arena flaky_system)) (pairs flaky_system) ≡ Some 2 ∷ Some 0 ∷ Some 1 ∷ Some 1 ∷ Some 3 ∷ Some 1 ∷ []
 flaky_depths = refl
 
--- A flaky lamp at the seat 0, joined by a lamp at the seat 1: it is offered alone.
+-- A flaky lamp at the seat 0, joined by a lamp at the seat 1: only the lamp is offered.
 
 joined_pairs : length (pairs joined_system) ≡ 12
 joined_pairs = refl
@@ -98,7 +97,7 @@ joined_related = refl
 joined_offers_on : offers joined_system (pair_of 0 (0 ∷ 0 ∷ [])) 0 ≡ 1 ∷ []
 joined_offers_on = refl
 
--- The lamp's system is one, so the premises of the laws can be met.
+-- The lamp's system is well formed, so the premises of the laws can be met.
 
 lamp_triples : (x : Triple) → IsIn x room.triples → (x.from < 1) × (x.action < 2) × (x.to < 1)
 lamp_triples x (inl e) = subst (λ (y : Triple). (y.from < 1) × (y.action < 2) × (y.to < 1)) (sym e) (omega arith)
@@ -157,7 +156,7 @@ lamp_is_system = record {
   few = omega arith;
 }
 
--- The removal list of the flaky lamp's system that a certificate lists: each entry is justified by those before it.
+-- The removal list of the flaky lamp's system that a certificate lists: each entry is justified by the entries before it.
 flaky_order : IsOrder (arena flaky_system)
     (record { node = pair_of 0 (1 ∷ []); reason = Final } ∷ record { node = pair_of 0 (2 ∷ []); reason = Act 0 }
     ∷ record { node = pair_of 1 (0 ∷ []); reason = Act 1 } ∷ record { node = pair_of 1 (2 ∷ []); reason = Act 1 }

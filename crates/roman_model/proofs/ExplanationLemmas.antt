@@ -1,4 +1,4 @@
--- The explanation is the least closed part of a removal list, is one itself, and ends with the entry explained.
+-- The explanation is the least closed part of a removal list, is a removal list by itself, and ends with the explained entry.
 use Rattle.std.proofs.Common.{◌≡◌, ℕ, zero, suc, ◌+◌, ◌-◌, ◌<◌, ◌≤◌, Bool, true, false, ◌&&◌, ◌||◌, ◌⊎◌, List, [], ◌∷◌, ◌++◌, length, Option, Some, None, IsTrue, IsFalse, if◌then◌else◌, filter, find, refl, sym, ap, ap₂, ◌∙◌, subst, inl, inr, arith, append-nil, append_assoc, length-append}
 use Rattle.std.specs.List.{list_any}
 use Rattle.std.specs.Option.{option_to_list}
@@ -19,7 +19,7 @@ use Rattle.roman_model.proofs.WorkLemmas.{order_middle}
 
 -- Entries before a node
 
--- what is listed before p is listed
+-- a node that is listed before p is listed
 pub before_listed : {N : Type 0} (A : Arena N) (L : List (Entry N)) (p q : N) → IsTrue (is_listed A (entries_before A L p) q) → IsTrue (is_listed A L q)
 before_listed A [] p q h = h
 before_listed A (x ∷ L) p q h = by_test (A.same p x.node)
@@ -32,7 +32,7 @@ before_listed A (x ∷ L) p q h = by_test (A.same p x.node)
     by_place (inl here) go = or_left (A.same q x.node) (is_listed A L q) here
     by_place (inr there) go = or_right (A.same q x.node) (is_listed A L q) (go there)
 
--- what is listed before p stands before it
+-- a node that is listed before p has fewer entries before it
 pub before_falls : {N : Type 0} (A : Arena N) (L : List (Entry N)) (p q : N) → IsTrue (is_listed A (entries_before A L p) q) → length (entries_before A L q) < length (entries_before A L p)
 before_falls A [] p q h = absurd (false≢true h)
 before_falls {N} A (x ∷ L) p q h = by_test (A.same p x.node)
@@ -57,7 +57,7 @@ before_fits A (x ∷ L) p =
     let rest : length (entries_before A L p) ≤ length L = before_fits A L p in
     elim (A.same p x.node) as (λ b. length (if b then [] else x ∷ entries_before A L p) ≤ length (x ∷ L)) [ true ↦ omega arith | false ↦ omega arith ]
 
--- one that is listed has fewer before it than the list has
+-- a listed node has fewer entries before it than the list has entries
 pub before_shorter : {N : Type 0} (A : Arena N) (L : List (Entry N)) (p : N) → IsTrue (is_listed A L p) → length (entries_before A L p) < length L
 before_shorter A [] p t = absurd (false≢true t)
 before_shorter A (x ∷ L) p t = by_test (A.same p x.node)
@@ -66,7 +66,7 @@ before_shorter A (x ∷ L) p t = by_test (A.same p x.node)
     let rest : length (entries_before A L p) < length L = before_shorter A L p (subst (λ b. IsTrue (b || is_listed A L p)) apart t) in
     subst (λ M. length M < length (x ∷ L)) (sym (cond-false (A.same p x.node) [] (x ∷ entries_before A L p) apart)) (omega arith))
 
--- the entries before one that is new
+-- the entries before a new node
 pub before_is : {N : Type 0} (A : Arena N) (done : List (Entry N)) (x : Entry N) (rest : List (Entry N)) → IsTrue (A.same x.node x.node) → IsFalse (is_listed A done x.node) →
     entries_before A (done ++ x ∷ rest) x.node ≡ done
 before_is A [] x rest same new = cond-true (A.same x.node x.node) [] (x ∷ entries_before A rest x.node) same
@@ -86,7 +86,7 @@ from_option x None i = absurd i
 from_option x (Some y) (inl e) = ap Some (sym e)
 from_option x (Some y) (inr none) = absurd none
 
--- an answer stands before the entry
+-- an answer comes before the entry
 pub answer_before : {N : Type 0} (A : Arena N) (L : List (Entry N)) (p q : N) (r : Reason) → IsIn q (answers A L p r) → IsTrue (is_listed A (entries_before A L p) q)
 answer_before A L p q Final i = absurd i
 answer_before A L p q (Act a) i =
@@ -120,7 +120,7 @@ module _ {N : Type 0} (A : Arena N) (L : List (Entry N)) (p : N) where
       (any_from (λ y. rests_on A L n p y.node && is_among A (answers A L y.node y.reason) q) x L i
       (and_from (rests_on A L n p x.node) (is_among A (answers A L x.node x.reason) q) h (in_among A same (answers A L x.node x.reason) q j)))
 
-  -- the last step, if there is one
+  -- the last step, if any
   pub rests_cases : (n : ℕ) (q : N) → IsSame A → IsTrue (rests_on A L (suc n) p q) →
       IsTrue (rests_on A L n p q) ⊎ ((x : Entry N) × IsIn x L × IsTrue (rests_on A L n p x.node) × IsIn q (answers A L x.node x.reason))
   rests_cases n q same h = elim (or_cases (rests_on A L n p q) (list_any (λ y. rests_on A L n p y.node && is_among A (answers A L y.node y.reason) q) L) h) [
@@ -131,7 +131,7 @@ module _ {N : Type 0} (A : Arena N) (L : List (Entry N)) (p : N) where
         inr (x, i, r, among_in A same (answers A L x.node x.reason) q m)
   ]
 
-  -- as many steps as are needed lead so far towards the beginning of the list
+  -- each step leads nearer to the beginning of the list
   pub rests_falls : (n : ℕ) (q : N) → IsSame A → IsTrue (rests_on A L n p q) → (k : ℕ) × IsTrue (rests_on A L k p q) × (length (entries_before A L q) + k ≤ length (entries_before A L p))
   rests_falls zero q same h = (0, h, subst (λ r. length (entries_before A L r) + 0 ≤ length (entries_before A L p)) (sym (same.is q p h)) (omega arith))
   rests_falls (suc n) q same h = by_last (rests_cases n q same h) (λ g. rests_falls n q same g) (λ r g. rests_falls n r same g)
@@ -146,7 +146,7 @@ module _ {N : Type 0} (A : Arena N) (L : List (Entry N)) (p : N) where
           let falls : length (entries_before A L q) < length (entries_before A L x.node) = before_falls A L x.node q (answer_before A L x.node q x.reason j) in
           (suc k, rests_step k x q same i r j, omega arith)
 
-  -- no more steps are needed than the list has entries
+  -- at most as many steps are needed as the list has entries
   pub rests_within : (n : ℕ) (q : N) → IsSame A → IsTrue (rests_on A L n p q) → IsTrue (rests_on A L (length L) p q)
   rests_within n q same h =
       let (k, r, l) = rests_falls n q same h in
@@ -159,7 +159,7 @@ module _ {N : Type 0} (A : Arena N) (L : List (Entry N)) (p : N) where
   pub rests_closed : (x : Entry N) (q : N) → IsSame A → IsIn x L → IsTrue (rests_on A L (length L) p x.node) → IsIn q (answers A L x.node x.reason) → IsTrue (rests_on A L (length L) p q)
   rests_closed x q same i h j = rests_within (suc (length L)) q same (rests_step (length L) x q same i h j)
 
-  -- p's entry rests on that of q where q is p, or an answer to an entry on which it rests
+  -- p's entry depends on the entry of q where q is p, or an answer to an entry on which p's depends
   pub rests_is : (q : N) → IsSame A →
       rests_on A L (length L) p q ≡ (A.same q p || list_any (λ x. rests_on A L (length L) p x.node && is_among A (answers A L x.node x.reason) q) L)
   rests_is q same = same_test (rests_on A L (length L) p q) (A.same q p || list_any (λ x. rests_on A L (length L) p x.node && is_among A (answers A L x.node x.reason) q) L)
@@ -190,7 +190,7 @@ module _ {N : Type 0} (A : Arena N) (L : List (Entry N)) (p : N) where
 
 -- The explanation
 
--- a node is explained where it is listed and p's entry rests on its own
+-- a node is explained exactly where it is listed and p's entry depends on its entry
 pub explained_listed : {N : Type 0} (A : Arena N) (L : List (Entry N)) (p q : N) → IsSame A → is_listed A (explanation A L p) q ≡ (is_listed A L q && rests_on A L (length L) p q)
 explained_listed A L p q same = same_test (is_listed A (explanation A L p) q) (is_listed A L q && rests_on A L (length L) p q)
     (λ h.
@@ -202,7 +202,7 @@ explained_listed A L p q same = same_test (is_listed A (explanation A L p) q) (i
     let (x, i, t) = any_true (λ x. A.same q x.node) L l in
     any_from (λ x. A.same q x.node) x (explanation A L p) (in_filter (λ x. rests_on A L (length L) p x.node) x L i (subst (λ n. IsTrue (rests_on A L (length L) p n)) (same.is q x.node t) r)) t)
 
--- a closed set holds each node on whose entry p's rests
+-- a closed set holds each node on whose entry p's entry depends
 closed_holds : {N : Type 0} (A : Arena N) (L : List (Entry N)) (p : N) (holds : N → Bool) → IsSame A → IsClosed A L p holds → (n : ℕ) (q : N) → IsTrue (rests_on A L n p q) → IsTrue (holds q)
 closed_holds {N} A L p holds same closed zero q h = subst (λ r. IsTrue (holds r)) (sym (same.is q p h)) closed.first
 closed_holds {N} A L p holds same closed (suc n) q h = by_last (rests_cases A L p n q same h) (λ r g. closed_holds A L p holds same closed n r g)
@@ -230,7 +230,7 @@ module _ {N : Type 0} (A : Arena N) (ok : IsArena A) (L : List (Entry N)) (p : N
   abbrev is_explained : Entry N → Bool
   is_explained x = rests_on A L (length L) p x.node
 
-  -- an answer to an explained entry is explained, and stands before it
+  -- an answer to an explained entry is explained, and comes before it
   answer_explained : (done : List (Entry N)) (x : Entry N) (rest : List (Entry N)) (q : N) → L ≡ done ++ x ∷ rest → IsFalse (is_listed A done x.node) → IsTrue (is_explained x) →
       IsIn q (answers A L x.node x.reason) → IsTrue (is_listed A (filter is_explained done) q)
   answer_explained done x rest q whole new explained i =
@@ -240,7 +240,7 @@ module _ {N : Type 0} (A : Arena N) (ok : IsArena A) (L : List (Entry N)) (p : N
       let rests : IsTrue (rests_on A L (length L) p q) = rests_closed A L p x q ok.same (subst (λ M. IsIn x M) (sym whole) (in_append_right x done (x ∷ rest) (inl refl))) explained i in
       any_from (λ y. A.same q y.node) y (filter is_explained done) (in_filter is_explained y done j (subst (λ n. IsTrue (rests_on A L (length L) p n)) (ok.same.is q y.node t) rests)) t
 
-  -- what the entries before justify, the explained ones justify
+  -- an entry that the entries before it justify is justified by the explained ones
   explained_justified : (done : List (Entry N)) (q : N) (r : Reason) → entries_before A L q ≡ done → IsTrue (is_justified A (is_listed A done) q r) →
       ((w : N) → IsIn w (answers A L q r) → IsTrue (is_listed A (filter is_explained done) w)) → IsTrue (is_justified A (is_listed A (filter is_explained done)) q r)
   explained_justified done q Final before holds answered = holds
@@ -289,7 +289,7 @@ filter_none : {X : Type 0} (test : X → Bool) (xs : List X) → ((x : X) → Is
 filter_none test [] none = refl
 filter_none test (x ∷ xs) none = cond-false (test x) (x ∷ filter test xs) (filter test xs) (none x (inl refl)) ∙ filter_none test xs (λ y i. none y (inr i))
 
--- what isn't listed stands behind all that is
+-- a node that isn't listed yet comes after all entries so far
 before_longer : {N : Type 0} (A : Arena N) (done rest : List (Entry N)) (q : N) → IsFalse (is_listed A done q) → length done ≤ length (entries_before A (done ++ rest) q)
 before_longer A [] rest q h = omega arith
 before_longer A (x ∷ done) rest q h =

@@ -1,4 +1,4 @@
--- Explanations carry over from one arena to another whose nodes are named by those of the first.
+-- Explanations carry over between arenas whose nodes correspond by a renaming.
 use Rattle.std.proofs.Common.{◌≡◌, ℕ, zero, suc, Bool, true, false, ◌&&◌, ◌||◌, List, [], ◌∷◌, ◌++◌, map, length, Option, Some, None, if◌then◌else◌, filter, flat_map, find, option_map, refl, sym, ap, ap₂, ◌∙◌, inl, inr}
 use Rattle.std.specs.Option.{option_to_list}
 use Rattle.std.proofs.lemmas.List.{length-map, map-append}
@@ -15,7 +15,7 @@ use Rattle.roman_model.proofs.Renames.{Renames, renamed_entry, AreNodes, HaveNod
 use Rattle.roman_model.proofs.NumberedArena.{IsNumber, AreNumbers, numbers_rename}
 use Rattle.roman_model.proofs.ExplanationLemmas.{from_option}
 
--- the first of renamed elements, where the tests agree
+-- the first renamed element that passes, where the tests agree
 find_renamed : {X Y : Type 0} (f : X → Y) (p : X → Bool) (q : Y → Bool) (xs : List X) → ((x : X) → IsIn x xs → p x ≡ q (f x)) → option_map f (find p xs) ≡ find q (map f xs)
 find_renamed f p q [] same = refl
 find_renamed {X} {Y} f p q (x ∷ xs) same =
@@ -97,7 +97,7 @@ module _ {N M : Type 0} (A : Arena N) (B : Arena M) (f : N → M) (Is : N → Ty
       ∙ sym (filter-map (λ x. rests_on B (map (renamed_entry f) L) (length L) (f p) x.node) (renamed_entry f) L)
       ∙ ap (λ n. filter (λ x. rests_on B (map (renamed_entry f) L) n (f p) x.node) (map (renamed_entry f) L)) (sym (length-map L (renamed_entry f)))
 
--- over numbers and over pairs
+-- explanations over numbers and over pairs agree
 pub explanation_at : (s : Sys) → IsSys s → (L : List (Entry ℕ)) → AreNumbers s L → (i : ℕ) → IsNumber s i →
     map (entry_at s) (explanation (numbered s) L i) ≡ explanation (arena s) (map (entry_at s) L) (pair_at (sizes_of s) i)
 explanation_at s sys L are i l = explanation_renamed (numbered s) (arena s) (pair_at (sizes_of s)) (IsNumber s) (numbers_rename s sys) L are i l

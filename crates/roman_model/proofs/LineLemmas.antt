@@ -1,4 +1,4 @@
--- What the lines of a text are, where its first lines are known.
+-- The lines of a text whose first lines are known.
 use Rattle.std.proofs.Common.{◌≡◌, ◌≢◌, ℕ, ◌==◌, false, List, [], ◌∷◌, ◌++◌, refl, sym, ap, ◌∙◌, inl, inr, append_assoc, append-nil}
 use Rattle.std.proofs.lemmas.Bool.{or_parts, cond-false}
 use Rattle.roman_model.specs.Lines.{onto_first_line, lines, onto_ended_line, ended_lines, text_of_lines, IsLine, AreLines}
@@ -18,7 +18,7 @@ ended_lines-line (byte ∷ line) rest h =
     cond-false (byte == 10) ([] ∷ ended_lines (line ++ 10 ∷ rest)) (onto_ended_line byte (ended_lines (line ++ 10 ∷ rest))) first
     ∙ ap (onto_ended_line byte) (ended_lines-line line rest others)
 
--- bytes without a newline are one line, if there are any
+-- bytes without a newline are one line, or none where there are no bytes
 pub lines_last : (line : List ℕ) → IsLine line → line ≢ [] → lines line ≡ line ∷ []
 lines_last [] h some = absurd (some refl)
 lines_last (byte ∷ []) h some =
@@ -39,7 +39,7 @@ ended_lines_last (byte ∷ line) h =
     cond-false (byte == 10) ([] ∷ ended_lines line) (onto_ended_line byte (ended_lines line)) first
     ∙ ap (onto_ended_line byte) (ended_lines_last line others)
 
--- a line, its newline, and what follows
+-- the text of a line, its newline, and the bytes that follow
 text_first : (line rest more : List ℕ) → ((line ++ 10 ∷ []) ++ rest) ++ more ≡ line ++ 10 ∷ (rest ++ more)
 text_first line rest more = append_assoc (line ++ 10 ∷ []) rest more ∙ append_assoc line (10 ∷ []) (rest ++ more)
 
@@ -55,7 +55,7 @@ ended_lines-text (line ∷ ls) rest are =
     ap ended_lines (text_first line (text_of_lines ls) rest) ∙ ended_lines-line line (text_of_lines ls ++ rest) (are line (inl refl))
     ∙ ap (λ ms. line ∷ ms) (ended_lines-text ls rest (λ l i. are l (inr i)))
 
--- a text of lines has those lines
+-- the lines of a text of lines are these lines
 pub lines-text_of_lines : (ls : List (List ℕ)) → AreLines ls → lines (text_of_lines ls) ≡ ls
 lines-text_of_lines ls are = ap lines (sym (append-nil (text_of_lines ls))) ∙ lines-text ls [] are ∙ append-nil ls
 

@@ -12,18 +12,18 @@ use Rattle.roman_model.specs.Lists.{IsIn, IsSublist, HasNoRepeats, below, all_be
 
 -- Tests.
 
--- by cases of a test, each with what the test says
+-- splits by the cases of a test, each with its evidence
 pub by_test : {P : Type 0} (b : Bool) → (IsTrue b → P) → (IsFalse b → P) → P
 by_test true on_true on_false = on_true refl
 by_test false on_true on_false = on_false refl
 
--- two tests that follow from each other are the same
+-- two tests that imply each other are equal
 pub same_test : (a b : Bool) → (IsTrue a → IsTrue b) → (IsTrue b → IsTrue a) → a ≡ b
 same_test true b to back = sym (to refl)
 same_test false true to back = back refl
 same_test false false to back = refl
 
--- Elements of lists that are made of others.
+-- Elements of lists that are built from others.
 
 pub in_append_left : {X : Type 0} (x : X) (xs ys : List X) → IsIn x xs → IsIn x (xs ++ ys)
 in_append_left x (y ∷ xs) ys (inl e) = inl e
@@ -113,11 +113,11 @@ pub none_from : {X : Type 0} (p : X → Bool) (xs : List X) → ((x : X) → IsI
 none_from p [] h = refl
 none_from p (x ∷ xs) h = or_from (p x) (list_any p xs) (h x (inl refl)) (none_from p xs (λ y i. h y (inr i)))
 
--- where each element that passes p passes q
+-- some element passes q, where some element passes p and each element that passes p passes q
 pub any_more : {X : Type 0} (p q : X → Bool) (xs : List X) → ((x : X) → IsIn x xs → IsTrue (p x) → IsTrue (q x)) → IsTrue (list_any p xs) → IsTrue (list_any q xs)
 any_more p q xs more h = let (x, i, t) = any_true p xs h in any_from q x xs i (more x i t)
 
--- where the tests agree on the elements
+-- two tests that agree on the elements
 pub any_same : {X : Type 0} (p q : X → Bool) (xs : List X) → ((x : X) → IsIn x xs → p x ≡ q x) → list_any p xs ≡ list_any q xs
 any_same p q [] same = refl
 any_same p q (x ∷ xs) same = ap₂ (λ a b. a || b) (same x (inl refl)) (any_same p q xs (λ y i. same y (inr i)))
@@ -130,11 +130,11 @@ pub list_any-flat_map : {X Y : Type 0} (f : X → List Y) (p : Y → Bool) (xs :
 list_any-flat_map f p [] = refl
 list_any-flat_map f p (x ∷ xs) = list_any-append p (f x) (flat_map f xs) ∙ ap (λ b. list_any p (f x) || b) (list_any-flat_map f p xs)
 
--- over a list that has each element of another, a test passes where it passes over that
+-- some element of a list passes where some element of a part of it does
 pub any_within : {X : Type 0} (p : X → Bool) (xs ys : List X) → ((x : X) → IsIn x xs → IsIn x ys) → IsTrue (list_any p xs) → IsTrue (list_any p ys)
 any_within p xs ys within h = let (x, i, t) = any_true p xs h in any_from p x ys (within x i) t
 
--- Whether a list is empty.
+-- Empty lists.
 
 pub empty_is : {X : Type 0} (xs : List X) → IsTrue (is_empty xs) → xs ≡ []
 empty_is [] h = refl
@@ -195,7 +195,7 @@ pub all_below_from : (p : ℕ → Bool) (n : ℕ) → ((i : ℕ) → i < n → I
 all_below_from p zero h = refl
 all_below_from p (suc n) h = and_from (all_below p n) (p n) (all_below_from p n (λ i l. h i (omega arith))) (h n (omega arith))
 
--- a number that fails
+-- a number below n fails where not all pass
 pub all_below_false : (p : ℕ → Bool) (n : ℕ) → IsFalse (all_below p n) → (i : ℕ) × (i < n) × IsFalse (p i)
 all_below_false p zero h = absurd (true≢false h)
 all_below_false p (suc n) h = elim (and_cases (all_below p n) (p n) h)
@@ -211,7 +211,7 @@ all_below_same p q (suc n) same = ap₂ (λ a b. a && b) (all_below_same p q n (
 pub filter_below_more : (p : ℕ → Bool) (n : ℕ) → filter p (below (suc n)) ≡ filter p (below n) ++ cond (p n) (n ∷ []) []
 filter_below_more p n = filter-append p (below n) (n ∷ [])
 
--- The first element that passes.
+-- The first element that passes a test.
 
 pub find_some : {X : Type 0} (p : X → Bool) (xs : List X) (x : X) → find p xs ≡ Some x → IsIn x xs × IsTrue (p x)
 find_some p [] x e = absurd (none-some x e)
@@ -225,7 +225,7 @@ find_none p (y ∷ xs) e = by_test (p y)
     (λ t. absurd (none-some y (sym e ∙ cond-true (p y) (Some y) (find p xs) t)))
     (λ f. or_from (p y) (list_any p xs) f (find_none p xs (sym (cond-false (p y) (Some y) (find p xs) f) ∙ e)))
 
--- where some element passes, one is found
+-- where some element passes, an element is found
 pub find_found : {X : Type 0} (p : X → Bool) (xs : List X) → IsTrue (list_any p xs) → (x : X) × (find p xs ≡ Some x)
 find_found {X} p xs h = by_found (find p xs) refl
   where
@@ -239,7 +239,7 @@ find_not_found p (y ∷ xs) h =
     let (here, rest) = or_parts (p y) (list_any p xs) h in
     cond-false (p y) (Some y) (find p xs) here ∙ find_not_found p xs rest
 
--- among the numbers below n the first one is the least
+-- among the numbers below n the first number that passes is the least
 pub find_least : (p : ℕ → Bool) (n i : ℕ) → find p (below n) ≡ Some i → (i < n) × IsTrue (p i) × ((j : ℕ) → j < i → IsFalse (p j))
 find_least p zero i e = absurd (none-some i e)
 find_least p (suc n) i e = by_before (find p (below n)) refl (λ k found. find_least p n k found)
@@ -257,7 +257,7 @@ find_least p (suc n) i e = by_before (find p (below n)) refl (λ k found. find_l
         let same : i ≡ n = elim here [ inl h ↦ h | inr none ↦ absurd none ] in
         (omega arith, t, λ j m. any_false p j (below n) (find_none p (below n) before) (in_below n j (omega arith)))
 
--- the first number of which nothing less passes
+-- the first number that passes is found where no smaller number passes
 pub find_first : (p : ℕ → Bool) (n i : ℕ) → i < n → IsTrue (p i) → ((j : ℕ) → j < i → IsFalse (p j)) → find p (below n) ≡ Some i
 find_first p n i l t least =
     let (k, found) = find_found p (below n) (any_from p i (below n) (in_below n i l) t) in
@@ -271,13 +271,13 @@ find_first p n i l t least =
 
 -- Filters.
 
--- where the tests agree on the elements
+-- two tests that agree on the elements keep the same elements
 pub filter_same : {X : Type 0} (p q : X → Bool) (xs : List X) → ((x : X) → IsIn x xs → p x ≡ q x) → filter p xs ≡ filter q xs
 filter_same p q [] same = refl
 filter_same p q (x ∷ xs) same =
     ap₂ (λ b ys. cond b (x ∷ ys) ys) (same x (inl refl)) (filter_same p q xs (λ y i. same y (inr i)))
 
--- a filter that keeps nothing that another drops keeps the same, or is shorter
+-- a filter that keeps no element that another drops keeps the same number of elements, or fewer
 pub filter_shrinks : {X : Type 0} (p q : X → Bool) (xs : List X) → ((x : X) → IsIn x xs → IsTrue (q x) → IsTrue (p x)) →
     ((x : X) → IsIn x xs → p x ≡ q x) ⊎ (length (filter q xs) < length (filter p xs))
 filter_shrinks p q [] less = inl (λ x i. absurd i)
@@ -331,20 +331,20 @@ filter_sublist p (x ∷ xs) =
 
 -- Lists without repeats.
 
--- the list up to an element, and after it
+-- the parts of a list before and after an element
 pub split_at : {X : Type 0} (x : X) (xs : List X) → IsIn x xs → (before : List X) × (after : List X) × (xs ≡ before ++ x ∷ after)
 split_at x [] i = absurd i
 split_at x (y ∷ xs) (inl e) = ([], xs, ap (λ z. z ∷ xs) (sym e))
 split_at x (y ∷ xs) (inr i) = let (before, after, e) = split_at x xs i in (y ∷ before, after, ap (λ zs. y ∷ zs) e)
 
--- an element that isn't x stands before or after it
+-- an element that isn't x is before or after it
 in_others : {X : Type 0} (x z : X) (before after : List X) → (z ≡ x → ⊥) → IsIn z (before ++ x ∷ after) → IsIn z (before ++ after)
 in_others x z before after apart j = elim (from_append z before (x ∷ after) j) [
   | inl left ↦ in_append_left z before after left
   | inr right ↦ elim right [ inl same ↦ absurd (apart same) | inr rest ↦ in_append_right z before after rest ]
 ]
 
--- a list without repeats, each element of which is in another, is no longer than that
+-- a list without repeats whose elements are all in another list is no longer than it
 pub no_longer : {X : Type 0} (xs ys : List X) → HasNoRepeats xs → ((x : X) → IsIn x xs → IsIn x ys) → length xs ≤ length ys
 no_longer [] ys once within = omega arith
 no_longer {X} (x ∷ xs) ys once within =
@@ -354,7 +354,7 @@ no_longer {X} (x ∷ xs) ys once within =
     let there : length ys ≡ length (before ++ x ∷ after) = ap length e in
     omega (arith, length-append before after, length-append before (x ∷ after))
 
--- two lists without repeats that have the same elements are equally long
+-- two lists without repeats and with the same elements are equally long
 pub same_length : {X : Type 0} (xs ys : List X) → HasNoRepeats xs → HasNoRepeats ys → ((x : X) → IsIn x xs ↔ IsIn x ys) → length xs ≡ length ys
 same_length xs ys xs_once ys_once same =
     let up : length xs ≤ length ys = no_longer xs ys xs_once (λ x. (same x).0) in
@@ -381,7 +381,7 @@ HasNoRepeats-filter p (x ∷ xs) once =
     let rest : HasNoRepeats (filter p xs) = HasNoRepeats-filter p xs once.1 in
     elim (p x) as (λ b. HasNoRepeats (cond b (x ∷ filter p xs) (filter p xs))) [ true ↦ (λ i. once.0 (filter_in p x xs i).0, rest) | false ↦ rest ]
 
--- where the function tells the elements apart
+-- a map has no repeats where the function is injective on the elements
 pub HasNoRepeats-map : {X Y : Type 0} (f : X → Y) (xs : List X) → ((x y : X) → IsIn x xs → IsIn y xs → f x ≡ f y → x ≡ y) → HasNoRepeats xs → HasNoRepeats (map f xs)
 HasNoRepeats-map f [] apart once = tt
 HasNoRepeats-map f (x ∷ xs) apart once = (
@@ -389,7 +389,7 @@ HasNoRepeats-map f (x ∷ xs) apart once = (
   HasNoRepeats-map f xs (λ y z i j. apart y z (inr i) (inr j)) once.1,
 )
 
--- where no list has an element of another's
+-- a concatenation has no repeats where its lists have none and are disjoint
 pub HasNoRepeats-flat_map : {X Y : Type 0} (f : X → List Y) (xs : List X) → ((x : X) → IsIn x xs → HasNoRepeats (f x)) →
     ((x y : X) (z : Y) → IsIn x xs → IsIn y xs → IsIn z (f x) → IsIn z (f y) → x ≡ y) → HasNoRepeats xs → HasNoRepeats (flat_map f xs)
 HasNoRepeats-flat_map f [] each apart once = tt
@@ -398,7 +398,7 @@ HasNoRepeats-flat_map f (x ∷ xs) each apart once =
     (HasNoRepeats-flat_map f xs (λ y i. each y (inr i)) (λ y w z i j. apart y w z (inr i) (inr j)) once.1)
     (λ z i j. let (y, k, l) = from_flat_map f z xs j in once.0 (subst (λ w. IsIn w xs) (sym (apart x y z (inl refl) (inr k) i l)) k))
 
--- Filters and sums of lists that are made of others.
+-- Filters and sums of lists that are built from others.
 
 pub filter-map : {X Y : Type 0} (p : Y → Bool) (f : X → Y) (xs : List X) → filter p (map f xs) ≡ map f (filter (λ x. p (f x)) xs)
 filter-map p f [] = refl
@@ -416,13 +416,13 @@ pub sum_by-map : {X Y : Type 0} (g : Y → ℕ) (f : X → Y) (xs : List X) → 
 sum_by-map g f [] = refl
 sum_by-map g f (x ∷ xs) = sum_by-cons g (f x) (map f xs) ∙ ap (λ n. g (f x) + n) (sum_by-map g f xs) ∙ sym (sum_by-cons (λ y. g (f y)) x xs)
 
--- where the functions agree on the elements
+-- the sums of two functions that agree on the elements are equal
 pub sum_by_same : {X : Type 0} (f g : X → ℕ) (xs : List X) → ((x : X) → IsIn x xs → f x ≡ g x) → sum_by f xs ≡ sum_by g xs
 sum_by_same f g [] same = refl
 sum_by_same f g (x ∷ xs) same =
     sum_by-cons f x xs ∙ ap₂ (λ a b. a + b) (same x (inl refl)) (sum_by_same f g xs (λ y i. same y (inr i))) ∙ sym (sum_by-cons g x xs)
 
--- over a list without repeats, each element of which is in another, a sum is no more than over that
+-- the sum over a list without repeats whose elements are all in another list is at most the sum over that list
 pub sum_by_within : {X : Type 0} (f : X → ℕ) (xs ys : List X) → HasNoRepeats xs → ((x : X) → IsIn x xs → IsIn x ys) → sum_by f xs ≤ sum_by f ys
 sum_by_within f [] ys once within = omega arith
 sum_by_within {X} f (x ∷ xs) ys once within =

@@ -1,4 +1,4 @@
--- Of records made by tests: the steps are exactly those that pass, the numbers are in range, and equal tests make equal records.
+-- Records built from tests: their steps are exactly those that pass, their numbers are in range, and equal tests build equal records.
 use Rattle.std.proofs.Common.{◌≡◌, ℕ, ◌<◌, ◌≤◌, ◌==◌, Bool, ◌&&◌, IsTrue, List, [], ◌∷◌, map, filter, sym, ap, ap₂, ◌∙◌, subst, inl, inr, refl}
 use Rattle.std.proofs.lemmas.Bool.{eq-eqb, eqb-true, and_parts, and_from}
 use Rattle.roman_model.specs.Lists.{IsIn, below}
@@ -79,7 +79,7 @@ from_made_steps env_states actions states start final goes m i =
       λ e ie. let (it, step) = filter_in (λ e. goes b e a b') e (below env_states) ie in (from_below env_states e it, step),
     )
 
--- what the test of a step finds
+-- the move that the test of a step finds
 pub move_test : (m : Move) (b e a b' : ℕ) → IsTrue (m.from == b && m.action == a && has m.guard e && m.to == b') →
     (m.from ≡ b) × (m.action ≡ a) × IsIn e m.guard × (m.to ≡ b')
 move_test m b e a b' t =
@@ -143,7 +143,7 @@ pub made_final : (env_states actions states start : ℕ) (final : ℕ → Bool) 
 made_final env_states actions states start final goes b hb t =
     any_from (λ n. n == b) b (filter final (below states)) (in_filter final b (below states) (in_below states b hb) t) (eq-eqb b b refl)
 
--- Tests that agree in range make one record.
+-- Tests that agree in range build equal records.
 
 pub env_from_same : (states actions start : ℕ) (goes others : ℕ → ℕ → ℕ → Bool) →
     ((e a e' : ℕ) → e < states → a < actions → e' < states → goes e a e' ≡ others e a e') → env_from states actions start goes ≡ env_from states actions start others

@@ -1,4 +1,4 @@
--- Numbers of lists of states, and of pairs: bounds, and what becomes of a number where a state changes, comes or goes.
+-- Numbers of lists of states and of pairs: bounds, and the change of a number where a state changes, comes or goes.
 use Rattle.std.proofs.Common.{◌≡◌, ℕ, zero, suc, ◌+◌, ◌*◌, ◌/◌, ◌%◌, ◌<◌, List, [], ◌∷◌, ◌++◌, map, length, take, drop, slice_index, slice_set, remove, refl, sym, ap, ◌∙◌, arith, add-one, div-add-mod'}
 use Rattle.std.specs.List.{AllZip}
 use Rattle.std.proofs.lemmas.Nat.{mul-add-lt, div-mul-add, mod-mul-add, div_below, mod_below}
@@ -32,7 +32,7 @@ states_at-number (size ∷ sizes) (b ∷ bs) h =
     let rest : states_number sizes bs < product_of sizes = states_number_below sizes bs h.1 in
     rw (div-mul-add b (product_of sizes) (states_number sizes bs) rest, mod-mul-add b (product_of sizes) (states_number sizes bs) rest, states_at-number sizes bs h.1) refl
 
--- a factor of a product that has something below it isn't 0
+-- a factor of a product with a number below it isn't 0
 factor_pos : (i a b : ℕ) → i < a * b → 0 < b
 factor_pos i a zero h = omega arith
 factor_pos i a (suc b) h = omega arith
@@ -51,7 +51,7 @@ states_number-at (size ∷ sizes) i h =
     let rest : states_number sizes (states_at sizes (i % product_of sizes)) ≡ i % product_of sizes = states_number-at sizes (i % product_of sizes) (mod_below i (product_of sizes) pos) in
     rw rest (div-add-mod' i (product_of sizes))
 
--- Where a list of states is cut in two, or at a place
+-- Lists of states, cut in two or at a place
 
 product_append : (ms ns : List ℕ) → product_of (ms ++ ns) ≡ product_of ms * product_of ns
 product_append [] ns = omega arith
@@ -71,7 +71,7 @@ product_split (size ∷ sizes) (suc k) h =
     let rest' : product_of sizes ≡ product_of (take k sizes) * (slice_index sizes k * product_of (drop (suc k) sizes)) = rw add-one at rest in
     rw (add-one, rest') (omega arith)
 
--- the number at place k: what stands before it, the state, and what stands behind it
+-- the number, split at place k: the part before it, the state, and the part after it
 pub states_number-split : (sizes bs : List ℕ) (k : ℕ) → k < length sizes → length bs ≡ length sizes →
     states_number sizes bs
     ≡ (states_number (take k sizes) (take k bs) * slice_index sizes k + slice_index bs k) * product_of (drop (k + 1) sizes)
@@ -86,7 +86,7 @@ states_number-split (size ∷ sizes) (b ∷ bs) (suc k) h l =
     + states_number (drop (suc k) sizes) (drop (suc k) bs) = rw add-one at (states_number-split sizes bs k (omega arith) (omega arith)) in
     rw (add-one, cut, rest) (omega arith)
 
--- Lists of states that stay below their sizes
+-- Lists of states that are below their sizes
 
 pub AreBelow-index : (sizes bs : List ℕ) (k : ℕ) → AreBelow sizes bs → k < length sizes → slice_index bs k < slice_index sizes k
 AreBelow-index [] bs k h l = omega arith
@@ -125,7 +125,7 @@ pub AreBelow-remove : (sizes bs : List ℕ) (k : ℕ) → AreBelow sizes bs → 
 AreBelow-remove sizes bs k h =
     AreBelow-append (take k sizes) (drop (suc k) sizes) (take k bs) (drop (suc k) bs) (AreBelow-take sizes bs k h) (AreBelow-drop sizes bs (suc k) h)
 
--- What becomes of the number of a list of states
+-- The number of a changed list of states
 
 -- with another state at place k
 pub states_number-set : (sizes bs : List ℕ) (k b : ℕ) → k < length sizes → length bs ≡ length sizes →
@@ -153,7 +153,7 @@ pub length-states_at : (sizes : List ℕ) (i : ℕ) → length (states_at sizes 
 length-states_at [] i = refl
 length-states_at (size ∷ sizes) i = ap suc (length-states_at sizes (i % product_of sizes))
 
--- the numbers of what stands before and behind place k
+-- the numbers of the states before and after place k
 pub states_before : (sizes bs : List ℕ) (k : ℕ) → AreBelow sizes bs → k < length sizes →
     states_number (take k sizes) (take k bs) ≡ states_number sizes bs / product_of (drop (k + 1) sizes) / slice_index sizes k
 states_before sizes bs k h l =
@@ -183,7 +183,7 @@ states_number-remove sizes bs k h l =
     let behind : states_number (drop (suc k) sizes) (drop (suc k) bs) ≡ states_number sizes bs % product_of (drop (suc k) sizes) = rw add-one at (states_behind sizes bs k h l) in
     rw (add-one, ← before, ← behind) cut
 
--- with a state that comes last
+-- with a last state added
 pub states_number-push : (sizes bs : List ℕ) (size b : ℕ) → length bs ≡ length sizes → states_number (sizes ++ size ∷ []) (bs ++ b ∷ []) ≡ states_number sizes bs * size + b
 states_number-push sizes bs size b h = states_number-append sizes (size ∷ []) bs (b ∷ []) h ∙ omega arith
 
@@ -196,7 +196,7 @@ number_below n p ok =
     mul-add-lt (p.t * n.env + p.e) (product_of n.seats) (states_number n.seats p.bs) (n.env * n.target) part (states_number_below n.seats p.bs ok.bs) in
     omega arith
 
--- the number's parts: the target's state and the environment's, and the list of states
+-- the parts of the number: the target's state, the environment's state, and the list of states
 pub parts_of_number : (n : Sizes) (p : Pair) → IsPairOf n p →
     (number n p / product_of n.seats / n.env ≡ p.t) × (number n p / product_of n.seats % n.env ≡ p.e) × (number n p % product_of n.seats ≡ states_number n.seats p.bs)
 parts_of_number n p ok =
@@ -207,7 +207,7 @@ parts_of_number n p ok =
       mod-mul-add (p.t * n.env + p.e) (product_of n.seats) (states_number n.seats p.bs) low,
     )
 
--- two pairs with equal parts are one
+-- two pairs with equal parts are equal
 same_parts : (t u e f : ℕ) (bs cs : List ℕ) → t ≡ u → e ≡ f → bs ≡ cs → ◌≡◌ {A = Pair} (record { t = t; e = e; bs = bs }) (record { t = u; e = f; bs = cs })
 same_parts t u e f bs cs x y z = rw (x, y, z) refl
 
@@ -234,7 +234,7 @@ number-pair_at n i h =
     rw (states_number-at n.seats (i % product_of n.seats) (mod_below i (product_of n.seats) seats), div-add-mod' (i / product_of n.seats) n.env)
     (div-add-mod' i (product_of n.seats))
 
--- a pair's number is that of one list of states
+-- the number of a pair is the number of one list of states
 number-list : (n : Sizes) (p : Pair) → number n p ≡ states_number (n.target ∷ n.env ∷ n.seats) (p.t ∷ p.e ∷ p.bs)
 number-list n p = omega arith
 
@@ -253,7 +253,7 @@ pub part_at : (n : Sizes) (i k : ℕ) → i < count n → k < length n.seats →
     slice_index (states_at n.seats (i % product_of n.seats)) k ≡ i / product_of (drop (k + 1) n.seats) % slice_index n.seats k
 part_at n i k h l = part_from_number n (pair_at n i) k (IsPairOf-at n i h) l ∙ ap (λ x. x / product_of (drop (k + 1) n.seats) % slice_index n.seats k) (number-pair_at n i h)
 
--- the number of a pair that differs in the target's state, the environment's, and that of seat k
+-- the number of a pair with another state of the target, of the environment, and of seat k
 pub number-moved : (n : Sizes) (p : Pair) (t e k b : ℕ) → k < length n.seats → length p.bs ≡ length n.seats →
     number n (record { t = t; e = e; bs = slice_set p.bs k b }) + ((p.t * n.env + p.e) * product_of n.seats + slice_index p.bs k * product_of (drop (k + 1) n.seats))
     ≡ number n p + ((t * n.env + e) * product_of n.seats + b * product_of (drop (k + 1) n.seats))
@@ -262,7 +262,7 @@ number-moved n p t e k b h l =
     states_number-set n.seats p.bs k b h l in
     omega arith
 
--- the number of a pair that differs in the state of seat k
+-- the number of a pair with another state of seat k
 pub number-set : (n : Sizes) (p : Pair) (k b : ℕ) → k < length n.seats → length p.bs ≡ length n.seats →
     number n (record { t = p.t; e = p.e; bs = slice_set p.bs k b }) + slice_index p.bs k * product_of (drop (k + 1) n.seats)
     ≡ number n p + b * product_of (drop (k + 1) n.seats)
@@ -274,7 +274,7 @@ number-set n p k b h l =
 pub IsPairOf-moved : (n : Sizes) (p : Pair) (t e k b : ℕ) → IsPairOf n p → t < n.target → e < n.env → b < slice_index n.seats k → IsPairOf n (record { t = t; e = e; bs = slice_set p.bs k b })
 IsPairOf-moved n p t e k b ok x y z = record { t = x; e = y; bs = AreBelow-set n.seats p.bs k b ok.bs z }
 
--- Pairs that grow by a state, or lose one
+-- Pairs with a state more or less
 
 pub IsPairOf-grown : (n : Sizes) (p : Pair) (size b : ℕ) → IsPairOf n p → b < size → IsPairOf (grown_sizes n size) (grown p b)
 IsPairOf-grown n p size b ok h = record { t = ok.t; e = ok.e; bs = AreBelow-append n.seats (size ∷ []) p.bs (b ∷ []) ok.bs (h, tt) }

@@ -1,4 +1,4 @@
--- The arena over the numbers of pairs, and that over the pairs, carry over to each other.
+-- The arenas over numbers of pairs and over pairs carry over to each other.
 use Rattle.std.proofs.Common.{◌≡◌, ℕ, ◌<◌, ◌==◌, List, [], ◌∷◌, map, IsTrue, refl, sym, ap, ap₂, ◌∙◌, subst, inl, inr}
 use Rattle.std.proofs.lemmas.Bool.{eqb-true, eq-eqb}
 use Rattle.roman_model.specs.Lists.{IsIn}
@@ -15,11 +15,11 @@ use Rattle.roman_model.proofs.NumberLemmas.{numbers_are_pairs}
 use Rattle.roman_model.proofs.Renames.{Renames, listed_renamed, mask_renamed, order_renamed, justified_renamed}
 
 module _ (s : Sys) where
-  -- the number is that of a pair
+  -- the number is the number of a pair
   abbrev pub IsNumber : ℕ → Type 0
   IsNumber i = i < count (sizes_of s)
 
-  -- a map back and forth over pairs is none
+  -- mapping pairs to numbers and back changes nothing
   there_and_back : (ps : List Pair) → ((p : Pair) → IsIn p ps → IsPair s p) → map (pair_at (sizes_of s)) (map (number (sizes_of s)) ps) ≡ ps
   there_and_back [] ok = refl
   there_and_back (p ∷ ps) ok = ap₂ (λ q qs. q ∷ qs) ((numbers_are_pairs s).back p (ok p (inl refl))) (there_and_back ps (λ q i. ok q (inr i)))
@@ -27,7 +27,7 @@ module _ (s : Sys) where
   pub outcomes_named : IsSys s → (p : Pair) → IsPair s p → (a k : ℕ) → map (pair_at (sizes_of s)) (map (number (sizes_of s)) (outcomes s p a k)) ≡ outcomes s p a k
   outcomes_named sys p ok a k = there_and_back (outcomes s p a k) (λ q i. outcome_pair s p a k q sys ok i)
 
-  -- numbers name pairs
+  -- the numbers rename the pairs
   pub numbers_rename : IsSys s → Renames (numbered s) (arena s) (pair_at (sizes_of s)) IsNumber
   numbers_rename sys = record {
     same = λ i j below_i below_j. same_test (i == j) (same_pair (pair_at (sizes_of s) i) (pair_at (sizes_of s) j))
@@ -44,7 +44,7 @@ module _ (s : Sys) where
         subst IsNumber (sym e) ((numbers_are_pairs s).below q (outcome_pair s (pair_at (sizes_of s) i) a k q sys ((numbers_are_pairs s).pair i l) m));
   }
 
-  -- the entries are of numbers of pairs
+  -- each entry is of the number of a pair
   abbrev pub AreNumbers : List (Entry ℕ) → Type 0
   AreNumbers L = (x : Entry ℕ) → IsIn x L → x.node < count (sizes_of s)
 
@@ -53,7 +53,7 @@ module _ (s : Sys) where
       let (y, j, e) = from_map (entry_at s) x L i in
       subst (λ z. IsPair s z.node) (sym e) ((numbers_are_pairs s).pair y.node (are y j))
 
-  -- a number is listed where its pair is
+  -- a number is listed exactly where its pair is listed
   pub listed_at : IsSys s → (L : List (Entry ℕ)) → AreNumbers L → (i : ℕ) → IsNumber i →
       is_listed (numbered s) L i ≡ is_listed (arena s) (map (entry_at s) L) (pair_at (sizes_of s) i)
   listed_at sys L are i l = listed_renamed (numbered s) (arena s) (pair_at (sizes_of s)) IsNumber (numbers_rename sys) L i are l
@@ -64,7 +64,7 @@ module _ (s : Sys) where
       mask_renamed (numbered s) (arena s) (pair_at (sizes_of s)) IsNumber (numbers_rename sys)
       (is_listed (numbered s) L) (is_listed (arena s) (map (entry_at s) L)) (λ j m. listed_at sys L are j m) i l a
 
-  -- a reason holds at a number where it holds at its pair
+  -- a reason holds at a number exactly where it holds at its pair
   pub justified_at : IsSys s → (L : List (Entry ℕ)) → AreNumbers L → (i : ℕ) → IsNumber i → (r : Reason) →
       is_justified (numbered s) (is_listed (numbered s) L) i r ≡ is_justified (arena s) (is_listed (arena s) (map (entry_at s) L)) (pair_at (sizes_of s) i) r
   justified_at sys L are i l r =
@@ -74,7 +74,7 @@ module _ (s : Sys) where
   pub order_at : IsSys s → (L : List (Entry ℕ)) → AreNumbers L → IsOrder (numbered s) L → IsOrder (arena s) (map (entry_at s) L)
   order_at sys L are order = order_renamed (numbered s) (arena s) (pair_at (sizes_of s)) IsNumber (numbers_rename sys) L are order
 
--- a settled list over numbers is complete, since one over pairs is
+-- a settled list over numbers is complete, since the same list over pairs is
 pub numbered_completes_by : OrderCompletes → NumberedCompletes
 numbered_completes_by completes s L sys are order fine masked =
     completes s (map (entry_at s) L) sys (entries_at s L are) (order_at s sys L are order)

@@ -44,11 +44,11 @@ size_at [] k seat e = absurd (none-some seat e)
 size_at (x ∷ seats) zero seat e = ap (λ y. y.beh.states) (same_Some x seat e)
 size_at (x ∷ seats) (suc k) seat e = size_at seats k seat e
 
--- the entries of pairs, by the sizes alone
+-- the entry of a pair, from the sizes alone
 abbrev pub pair_entry : Sizes → Entry ℕ → Entry Pair
 pair_entry n x = record { node = pair_at n x.node; reason = x.reason }
 
--- Where renaming leads
+-- The nodes of renamed entries
 
 grown_named : (n : Sizes) (size : ℕ) (x : Entry ℕ) → x.node < count n →
     map (pair_entry (grown_sizes n size)) (grown_numbers size x) ≡ map (λ b. record { node = grown (pair_at n x.node) b; reason = x.reason }) (below size)
@@ -65,7 +65,7 @@ join_named n seat L are =
     (λ x i. grown_named n seat.beh.states x (are x i))
     ∙ sym (flat_map-map (grown_entries seat) (pair_entry n) L)
 
--- numbers below the count are told apart like their pairs
+-- numbers below the count are equal exactly where their pairs are
 same_at : (n : Sizes) (i j : ℕ) → i < count n → j < count n → (i == j) ≡ same_pair (pair_at n i) (pair_at n j)
 same_at n i j below_i below_j =
     same_test (i == j) (same_pair (pair_at n i) (pair_at n j))
@@ -92,7 +92,7 @@ firsts_named n seen (x ∷ L) known are =
     more i (inl e) = subst (λ j. j < count n) (sym e) (are x (inl refl))
     more i (inr m) = known i m
 
--- a number without the k-th state is that of a pair
+-- a number without the k-th state is the number of a pair
 pub number_without_below : (n : Sizes) (i k : ℕ) → i < count n → k < length n.seats → number_without k n i < count (sizes_without k n)
 number_without_below n i k l h =
     subst (λ m. m < count (sizes_without k n)) (number_without-is n i k l h)
@@ -151,7 +151,7 @@ named (Thaw k) s L can are = refl
 named (Join seat) s L can are = join_named (sizes_of s) seat L are
 named (Die k seat) s L can are = die_named (sizes_of s) k seat L (seat_place s k seat can) are
 
--- the renamed numbers are those of the renamed pairs, in the same order
+-- the renamed numbers are the numbers of the renamed pairs, in the same order
 pub numbers_renamed : (change : Change) (s : Sys) (L : List (Entry ℕ)) → CanChange change s → AreNumbers s L →
     map (entry_at (after change s)) (rename_numbers change (sizes_of s) L) ≡ rename change (map (entry_at s) L)
 numbers_renamed change s L can are = ap (λ n. map (pair_entry n) (rename_numbers change (sizes_of s) L)) (sizes-after change s) ∙ named change s L can are
@@ -173,12 +173,12 @@ renamed_below (Die k seat) s L can are x i =
     subst (λ z. z.node < count (sizes_without k (sizes_of s))) (sym e)
     (number_without_below (sizes_of s) y.node k (are y (filter_in (λ x. may_go k seat (pair_at (sizes_of s) x.node)) y L j).0) (seat_place s k seat can))
 
--- the renamed entries are of numbers of pairs
+-- the renamed entries are of the numbers of pairs
 pub numbers_below : (change : Change) (s : Sys) (L : List (Entry ℕ)) → CanChange change s → AreNumbers s L → AreNumbers (after change s) (rename_numbers change (sizes_of s) L)
 numbers_below change s L can are x i = subst (λ n. x.node < count n) (sym (sizes-after change s)) (renamed_below change s L can are x i)
 
--- What the replay of the renamed list is over numbers: a removal list of the new system that names that over pairs,
--- and after a freeze or a death the whole renamed list.
+-- The replay of the renamed list over numbers is a removal list of the new system, corresponds to the replay over pairs, and after a freeze
+-- or a death is the whole renamed list.
 pub record NumbersReplay (change : Change) (s : Sys) (L : List (Entry ℕ)) : Type 0 where
   pub system : IsSys (after change s)
   pub numbers : AreNumbers (after change s) (rename_numbers change (sizes_of s) L)
@@ -211,6 +211,6 @@ numbers_replay change s L ok can are order = record {
         (rename_numbers change (sizes_of s) L) (numbers_below change s L can are)
         ∙ ap (replay (arena (after change s))) (numbers_renamed change s L can are)
 
--- freezing and thawing leave the allowed actions
+-- freezing and thawing keep the allowed actions
 pub number_allows-turned : (s : Sys) (k : ℕ) (frozen : Bool) (i a : ℕ) → (numbered (turned s k frozen)).allows i a ≡ (numbered s).allows i a
 number_allows-turned s k frozen i a = ap (λ n. is_allowed s (pair_at n i) a) (sizes-turned s k frozen)

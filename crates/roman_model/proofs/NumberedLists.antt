@@ -44,7 +44,7 @@ numbered_is_arena s ok = record {
 
 -- Complete lists.
 
--- a list of numbers to which no reason adds one is complete
+-- a list of numbers is complete where no reason adds a number to it
 pub numbered_completed_by : (s : Sys) (L : List (Entry ℕ)) → IsSys s → AreNumbers s L → IsOrder (numbered s) L →
     ((i : ℕ) → i < count (sizes_of s) → IsFalse (is_listed (numbered s) L i) → (r : Reason) → IsFalse (is_justified (numbered s) (is_listed (numbered s) L) i r)) →
     IsCompleteList s L
@@ -55,13 +55,13 @@ numbered_completed_by s L ok are order no_reason =
     both_ways (is_justified (numbered s) (is_listed (numbered s) L) i (Act a)) (no_reason i l f (Act a))
     (mask_empty (numbered s) (is_listed (numbered s) L) i a allowed empty))
 
--- in a complete list the numbers of the pairs that aren't related are listed
+-- a complete list has exactly the numbers of the pairs that aren't related
 pub numbered_listed : (s : Sys) (L : List (Entry ℕ)) (i : ℕ) → IsSys s → AreNumbers s L → IsCompleteList s L → i < count (sizes_of s) →
     is_listed (numbered s) L i ≡ not (is_related s (pair_at (sizes_of s) i))
 numbered_listed s L i ok are complete l =
     listed_at s ok L are i l ∙ complete_listed s (map (entry_at s) L) (pair_at (sizes_of s) i) ok complete ((numbers_are_pairs s).pair i l)
 
--- its masks are the offers
+-- the masks of a complete list are the offers
 pub numbered_offers : (s : Sys) (L : List (Entry ℕ)) (i a : ℕ) → IsSys s → AreNumbers s L → IsCompleteList s L → i < count (sizes_of s) →
     mask (numbered s) (is_listed (numbered s) L) i a ≡ offers s (pair_at (sizes_of s) i) a
 numbered_offers s L i a ok are complete l =
@@ -100,13 +100,13 @@ from_numbered_pairs s p i =
     let (n, j, e) = from_map (pair_at (sizes_of s)) p (below (count (sizes_of s))) i in
     in_pairs s p (subst (IsPair s) (sym e) ((numbers_are_pairs s).pair n (from_below (count (sizes_of s)) n j)))
 
--- there are as many numbers as pairs
+-- there are as many pairs as numbers below the count
 pub length-pairs : (s : Sys) → length (pairs s) ≡ count (sizes_of s)
 length-pairs s =
     same_length (pairs s) (numbered_pairs s) (pairs_once s) (numbered_pairs_once s) (λ p. (in_numbered_pairs s p, from_numbered_pairs s p))
     ∙ length-map (below (count (sizes_of s))) (pair_at (sizes_of s)) ∙ length-below (count (sizes_of s))
 
--- a sum over the pairs is one over their numbers
+-- a sum over the pairs equals the sum over their numbers
 pub sum_over_pairs : (s : Sys) (g : Pair → ℕ) → sum_by g (pairs s) ≡ sum_by (λ i. g (pair_at (sizes_of s) i)) (below (count (sizes_of s)))
 sum_over_pairs s g =
     let up : sum_by g (pairs s) ≤ sum_by g (numbered_pairs s) = sum_by_within g (pairs s) (numbered_pairs s) (pairs_once s) (in_numbered_pairs s) in
@@ -114,7 +114,7 @@ sum_over_pairs s g =
     let same : sum_by g (pairs s) ≡ sum_by g (numbered_pairs s) = omega arith in
     same ∙ sum_by-map g (pair_at (sizes_of s)) (below (count (sizes_of s)))
 
--- a complete list over numbers has as many choices as the offers
+-- the masks of a complete list over numbers have as many choices as the offers
 pub numbered_choices : (s : Sys) (L : List (Entry ℕ)) → IsSys s → AreNumbers s L → IsCompleteList s L → choices (numbered s) (is_listed (numbered s) L) ≡ choice_count s
 numbered_choices s L ok are complete =
     sum_by_same (λ i. sum_by (λ a. length (mask (numbered s) (is_listed (numbered s) L) i a)) (below s.env.actions))
@@ -123,7 +123,7 @@ numbered_choices s L ok are complete =
     (λ a k. ap length (numbered_offers s L i a ok are complete (from_below (count (sizes_of s)) i j))))
     ∙ sym (sum_over_pairs s (λ p. sum_by (λ a. length (offers s p a)) (below s.env.actions)))
 
--- the related pairs are as many as a complete list leaves
+-- the number of related pairs is the number of unlisted ones
 pub related_count : (s : Sys) (L : List (Entry Pair)) → IsSys s → IsComplete s L → length (filter (is_related s) (pairs s)) + length L ≡ length (pairs s)
 related_count s L ok complete =
     let listed : length L ≡ length (filter (λ p. not (is_related s p)) (pairs s)) =
@@ -153,7 +153,7 @@ pub numbered_related_count : (s : Sys) (L : List (Entry ℕ)) → IsSys s → Is
 numbered_related_count s L ok complete =
     ap (λ n. length (filter (is_related s) (pairs s)) + n) (sym (length-map L (entry_at s))) ∙ related_count s (map (entry_at s) L) ok complete ∙ length-pairs s
 
--- what is told of the greatest ND-simulation is the test
+-- the test agrees with the greatest ND-simulation
 pub told_related : (s : Sys) (p : ℕ) (told : Bool) → IsSys s → p < count (sizes_of s) → (IsTrue told ↔ Great s (pair_at (sizes_of s) p)) → told ≡ is_related s (pair_at (sizes_of s) p)
 told_related s p told ok l great =
     let pair : IsPair s (pair_at (sizes_of s) p) = (numbers_are_pairs s).pair p l in

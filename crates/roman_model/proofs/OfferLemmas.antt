@@ -1,4 +1,4 @@
--- The offers, and what follows where they are taken.
+-- The offers, and the pairs to which they lead.
 use Rattle.std.proofs.Common.{◌≡◌, ◌≢◌, ℕ, ◌<◌, not, List, [], ◌∷◌, length, IsTrue}
 use Rattle.std.proofs.lemmas.Bool.{not-false, not_from_true}
 use Rattle.roman_model.specs.Lists.{IsIn}
@@ -27,7 +27,7 @@ in_offers s p a k ok allowed l some all =
     in_mask (arena s) (λ q. not (is_related s q)) p a k allowed l
     (unbeaten_from (arena s) (λ q. not (is_related s q)) p a k some (λ q j. not_from_true (is_related s q) (great_related s q ok (all q j))))
 
--- the mask of a complete list is the offers
+-- the masks of a complete list are the offers
 pub mask_is_offers : (s : Sys) (L : List (Entry Pair)) (p : Pair) (a : ℕ) → IsSys s → IsComplete s L → IsPair s p → mask (arena s) (is_listed (arena s) L) p a ≡ offers s p a
 mask_is_offers s L p a ok complete pair =
     mask_same (arena s) (is_listed (arena s) L) (λ q. not (is_related s q)) p a (λ k q i. complete_listed s L q ok complete (outcome_pair s p a k q ok pair i))
@@ -53,7 +53,7 @@ related_offers s p a ok great allowed =
     let (k, l, some, all) = (great_survives s p ok great).served a allowed in
     not_empty_ne (offers s p a) (in_not_empty k (offers s p a) (in_offers s p a k ok allowed l some all))
 
--- Whoever follows the offers stays related.
+-- A run that follows the offers stays at related pairs.
 pub following_related : FollowingStays
 following_related s ok p pair great [] follows = record {
   related = great;

@@ -7,7 +7,7 @@ use Rattle.roman_model.specs.Arena.{Arena, Entry, is_among, is_listed, is_justif
 use Rattle.roman_model.proofs.Lists.{by_test, from_map, sublist_skip, no_longer}
 use Rattle.roman_model.proofs.ArenaLemmas.{IsSame, Survives, same_from, listed_in, justified_more, justified_same, unjustified}
 
--- How removal lists are made, and parts of them.
+-- The construction of removal lists, and their parts.
 
 pub order_from_push : {N : Type 0} (A : Arena N) (before : List N) (L : List (Entry N)) (x : Entry N) → IsOrderFrom A before L →
     IsFalse (is_among A before x.node) → IsFalse (is_listed A L x.node) →
@@ -44,7 +44,7 @@ order_from_new A before (x ∷ L) order = (order.0, order_from_new A (x.node ∷
 pub order_new : {N : Type 0} (A : Arena N) (L : List (Entry N)) → IsOrder A L → AreNew A [] L
 order_new A L order = order_from_new A [] L order
 
--- a node that stands before is none of the list
+-- a node that comes before isn't a node of the list
 pub new_apart : {N : Type 0} (A : Arena N) → IsSame A → (before : List N) (L : List (Entry N)) (x : Entry N) → AreNew A before L → IsIn x L → IsFalse (is_among A before x.node)
 new_apart A E before [] x new i = absurd i
 new_apart A E before (y ∷ L) x new (inl e) = subst (λ z. IsFalse (is_among A before z.node)) (sym e) new.0
@@ -60,14 +60,14 @@ new_once A E before (x ∷ L) new = (
   new_once A E (x.node ∷ before) L new.1,
 )
 
--- a removal list has no more entries than there are nodes
+-- a removal list has at most as many entries as there are nodes
 pub order_fits : {N : Type 0} (A : Arena N) → IsSame A → (L : List (Entry N)) → IsOrder A L → ((x : Entry N) → IsIn x L → IsIn x.node A.nodes) → length L ≤ length A.nodes
 order_fits A E L order within =
     subst (λ n. n ≤ length A.nodes) (length-map L (λ x. x.node))
     (no_longer (map (λ x. x.node) L) A.nodes (new_once A E [] L (order_new A L order))
     (λ p i. let (x, j, e) = from_map (λ x. x.node) p L i in subst (λ q. IsIn q A.nodes) (sym e) (within x j)))
 
--- an entry's reason holds where its list is gone
+-- the reason of an entry holds where the nodes of its list are gone
 pub order_from_justified : {N : Type 0} (A : Arena N) (before : List N) (L : List (Entry N)) (x : Entry N) → IsOrderFrom A before L → IsIn x L →
     IsTrue (is_justified A (λ q. is_among A before q || is_listed A L q) x.node x.reason)
 order_from_justified A before [] x order i = absurd i
@@ -87,7 +87,7 @@ order_from_justified A before (y ∷ L) x order (inr i) =
 pub order_justified : {N : Type 0} (A : Arena N) (L : List (Entry N)) (x : Entry N) → IsOrder A L → IsIn x L → IsTrue (is_justified A (is_listed A L) x.node x.reason)
 order_justified A L x order i = order_from_justified A [] L x order i
 
--- Nothing that is listed lives, for any way to live that keeps itself up.
+-- A listed node doesn't live, for any notion of living nodes that survive among themselves.
 
 pub listed_from_dead : {N : Type 0} (A : Arena N) → IsSame A → (Lives : N → Type 0) → ((p : N) → Lives p → Survives A Lives p) → (before : List N) (L : List (Entry N)) →
     IsOrderFrom A before L → ((p : N) → IsTrue (is_among A before p) → Lives p → ⊥) → (x : Entry N) → IsIn x L → Lives x.node → ⊥
@@ -158,7 +158,7 @@ replay_from_keeps A before kept (m ∷ M) (x ∷ L) (inr s) order within =
 pub replay_keeps : {N : Type 0} (A : Arena N) (M L : List (Entry N)) → IsSublist M L → IsOrder A M → IsSublist M (replay A L)
 replay_keeps A M L s order = replay_from_keeps A [] [] M L s order (λ q t. t)
 
--- the replay of a removal list is all of it
+-- the replay of a removal list is the whole list
 pub replay_from_whole : {N : Type 0} (A : Arena N) (before : List N) (L : List (Entry N)) → IsOrderFrom A before L → replay_from A before L ≡ L
 replay_from_whole A before [] order = refl
 replay_from_whole A before (x ∷ L) order =
@@ -179,7 +179,7 @@ replay_from_sublist A kept (x ∷ L) =
 pub replay_sublist : {N : Type 0} (A : Arena N) (L : List (Entry N)) → IsSublist (replay A L) L
 replay_sublist A L = replay_from_sublist A [] L
 
--- replays that begin with the same nodes are the same
+-- replays that begin with the same nodes are equal
 pub replay_from_same : {N : Type 0} (A : Arena N) (kept others : List N) (L : List (Entry N)) → ((q : N) → is_among A kept q ≡ is_among A others q) → replay_from A kept L ≡ replay_from A others L
 replay_from_same A kept others [] same = refl
 replay_from_same A kept others (x ∷ L) same =
@@ -188,7 +188,7 @@ replay_from_same A kept others (x ∷ L) same =
     ∙ ap (λ M. cond (is_justified A (is_among A others) x.node x.reason) (x ∷ M) (replay_from A others L))
     (replay_from_same A (x.node ∷ kept) (x.node ∷ others) L (λ q. ap (λ b. A.same q x.node || b) (same q)))
 
--- the test doesn't see where in the list a node stands
+-- the test doesn't depend on the order of the nodes
 pub middle_first : {N : Type 0} (A : Arena N) (ps qs : List N) (p q : N) → is_among A (ps ++ p ∷ qs) q ≡ is_among A (p ∷ (ps ++ qs)) q
 middle_first A [] qs p q = refl
 middle_first A (r ∷ ps) qs p q = ap (λ b. A.same q r || b) (middle_first A ps qs p q) ∙ turned (A.same q r) (A.same q p) (is_among A (ps ++ qs) q)

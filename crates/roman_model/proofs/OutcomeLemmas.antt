@@ -1,4 +1,4 @@
--- The tests and lists of a system are what its steps say.
+-- The tests and lists of a system agree with its steps.
 use Rattle.std.proofs.Common.{◌≡◌, ℕ, zero, suc, ◌==◌, ◌&&◌, ◌||◌, not, ◌<◌, Bool, true, false, List, [], ◌∷◌, Some, IsTrue, slice_get, slice_index, refl, sym, subst}
 use Rattle.std.specs.List.{AllZip}
 use Rattle.std.proofs.lemmas.Bool.{eq-eqb, eqb-true, and_parts, and_from}
@@ -54,7 +54,7 @@ listed_step beh b e a b' h =
 
 -- Finality, seat by seat
 
--- a seat that rests is final, by the test of clause 2
+-- a seat that rests is in a final state, where its test of clause 2 passes
 rested : (rests final : Bool) → IsTrue rests → IsTrue (not rests || final) → IsTrue final
 rested true final is h = h
 rested false final is h = absurd (let e : ⊥ = cc in e)

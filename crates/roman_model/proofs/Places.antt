@@ -1,11 +1,11 @@
--- What stands at which place of a list.
+-- The items of a list at their places.
 use Rattle.std.proofs.Common.{◌≡◌, ℕ, zero, suc, ◌+◌, ◌<◌, ◌≤◌, List, [], ◌∷◌, map, length, drop, Some, slice_get, slice_index, slice_set, inl, inr, refl, sym, ap, ap₂, ◌∙◌, arith, add-one, drop-cons}
 use Rattle.std.proofs.lemmas.List.{drop_all}
 use Rattle.std.proofs.lemmas.Option.{none-some, same_Some}
 use Rattle.roman_model.specs.Lists.{IsIn, below}
 use Rattle.roman_model.proofs.Lists.{length-below, get_or-below}
 
--- there is an item at each place
+-- there is an item at each place of the list
 pub there_is : {X : Type 0} (xs : List X) (k : ℕ) → k < length xs → (x : X) × (slice_get xs k ≡ Some x)
 there_is [] k l = absurd (omega arith)
 there_is (x ∷ xs) zero l = (x, refl)
@@ -42,6 +42,6 @@ from_place n k l =
     let within : k < length (below n) = omega (arith, length-below n) in
     drop-cons (below n) k 0 within ∙ ap₂ (λ (m j : ℕ). m ∷ drop j (below n)) (get_or-below n k 0 l) (sym (add-one k))
 
--- none are left from n on
+-- there are no numbers from n on
 pub from_end : (n k : ℕ) → n ≤ k → drop k (below n) ≡ []
 from_end n k l = drop_all k (below n) (omega (arith, length-below n))

@@ -1,4 +1,4 @@
--- Of all plans at a related pair the one that takes the choice at each pair costs least.
+-- The plan of the choices costs least of all plans at a related pair.
 use Rattle.std.proofs.Common.{◌≡◌, ◌≢◌, ℕ, zero, suc, ◌+◌, ◌-◌, ◌<◌, ◌≤◌, Bool, true, false, cond, not, ◌⊎◌, List, [], ◌∷◌, ◌++◌, IsTrue, filter, nat_le, inl, inr, refl, sym, ap, ap₂, ◌∙◌, subst, arith}
 use Rattle.std.specs.Prelude.{max}
 use Rattle.std.proofs.Math.Nat.{le-max_left, le-max_right, max-le}
@@ -38,7 +38,7 @@ pub max_over_same : {X : Type 0} (f g : X → ℕ) (xs : List X) → ((x : X) �
 max_over_same f g [] same = refl
 max_over_same f g (x ∷ xs) same = ap₂ max (same x (inl refl)) (max_over_same f g xs (λ y i. same y (inr i)))
 
--- what is added to each value is added to the greatest
+-- adding a number to each value adds it to the greatest
 pub max_over_plus : {X : Type 0} (c : ℕ) (f : X → ℕ) (xs : List X) → xs ≢ [] → max_over (λ x. c + f x) xs ≡ c + max_over f xs
 max_over_plus {X} c f xs some =
     let (x, i) = not_empty_in xs (ne_not_empty xs some) in
@@ -82,9 +82,9 @@ rising_offers s p a =
     mask_seats : Sys → Pair → ℕ → List ℕ
     mask_seats s p a = filter (λ k. not (is_beaten (arena s) (λ q. not (is_related s q)) p a k)) (below (arena s).seats)
 
--- The first of the least.
+-- The first least element.
 
--- k costs less than j, or as much and isn't the greater
+-- k costs less than j, or costs the same and isn't greater
 abbrev pub IsBefore : (ℕ → ℕ) → ℕ → ℕ → Type 0
 IsBefore f k j = (f k < f j) ⊎ ((f k ≡ f j) × (k ≤ j))
 

@@ -1,4 +1,4 @@
--- The opponent's game, by a removal list and by the depth.
+-- The opponent's game, by a removal list and by depth.
 use Rattle.std.proofs.Common.{◌≡◌, ℕ, zero, suc, ◌<◌, ◌≤◌, not, if◌then◌else◌, List, [], ◌∷◌, ◌++◌, length, Option, Some, None, IsTrue, IsFalse, inl, inr, sym, ap, ap₂, ◌∙◌, subst, arith}
 use Rattle.std.specs.List.{list_any}
 use Rattle.std.specs.Option.{option_map}
@@ -19,7 +19,7 @@ use Rattle.roman_model.proofs.ExplanationLemmas.{before_listed, before_falls, be
 
 -- The entry of a pair.
 
--- the reason of an entry that is new
+-- the reason of a new entry
 reason_is : (s : Sys) (done : List (Entry Pair)) (x : Entry Pair) (rest : List (Entry Pair)) → IsFalse (is_listed (arena s) done x.node) →
     reason_of s (done ++ x ∷ rest) x.node ≡ Some x.reason
 reason_is s [] x rest new = cond-true ((arena s).same x.node x.node) (Some x.reason) (reason_of s rest x.node) ((system_is_same s).itself x.node)
@@ -82,7 +82,7 @@ request_wins s L n p k ks (Act a) l j later = by_test (not (has_ready s.seats))
         let (i, t) = find_some (is_listed (arena s) (entries_before (arena s) L p)) (outcomes s p a k) q e in
         subst (λ o. WinsWithin (suc n) (went_on (λ q. play_at s L ks q (reason_of s L q)) o)) (sym e) (wins_after n (play s L q ks) (later q t))
 
--- where no seat is ready, a request wins
+-- where no seat is ready, the first request wins
 pub unanswered_wins : (s : Sys) (L : List (Entry Pair)) (n : ℕ) (p : Pair) (ks : List ℕ) (r : Reason) → IsFalse (has_ready s.seats) → WinsWithin (suc n) (play_at s L ks p (Some r))
 unanswered_wins s L n p ks Final f = omega arith
 unanswered_wins s L n p [] (Act a) f = subst (WinsWithin (suc n)) (sym (cond-false (has_ready s.seats) None (Some 1) f)) (omega arith)
@@ -91,7 +91,7 @@ unanswered_wins s L n p (k ∷ ks) (Act a) f =
     (if is_empty (outcomes s p a k) then Some 1
     else went_on (λ q. play_at s L ks q (reason_of s L q)) (answer (arena s) L p a k)) (not_from_false (has_ready s.seats) f))) (omega arith)
 
--- the opponent wins within one request more than entries stand before that of the pair
+-- the opponent wins within one request more than there are entries before the pair's entry
 pub list_wins : (s : Sys) (L : List (Entry Pair)) → IsOrder (arena s) L → (n : ℕ) (p : Pair) (ks : List ℕ) → AreSeats s ks → n < length ks →
     IsTrue (is_listed (arena s) L p) → length (entries_before (arena s) L p) ≤ n → WinsWithin (suc n) (play s L p ks)
 list_wins s L order n p [] seats enough t few = let none : ⊥ = omega arith in absurd none
@@ -108,7 +108,7 @@ list_wins s L order (suc n) p (k ∷ ks) seats enough t few =
     let less : length (entries_before (arena s) L q) < length (entries_before (arena s) L p) = before_falls (arena s) L p q g in
     list_wins s L order n q ks seats.1 (omega arith) (before_listed (arena s) L p q g) (omega arith)))
 
--- A refutation wins.
+-- The opponent that plays by a removal list wins.
 pub order_won : OrderWins
 order_won s L ok order p t = record {
   against_seats = λ ks seats enough.

@@ -1,4 +1,4 @@
--- Removal lists, masks and depths carry over from one arena to another whose nodes are named by those of the first.
+-- Removal lists, masks and depths carry over between arenas whose nodes correspond by a renaming.
 use Rattle.std.proofs.Common.{◌≡◌, ℕ, zero, suc, Bool, true, false, not, ◌&&◌, ◌||◌, List, [], ◌∷◌, map, if◌then◌else◌, filter, refl, sym, ap, ap₂, ◌∙◌, subst, inl, inr}
 use Rattle.std.specs.List.{list_any}
 use Rattle.roman_model.specs.Lists.{IsIn, below, all_below, is_empty}
@@ -7,7 +7,7 @@ use Rattle.roman_model.specs.declared.reason.Reason.{Reason}
 use Rattle.roman_model.specs.declared.reason.Reason.TheVariants.{Final, Act}
 use Rattle.roman_model.proofs.Lists.{any_same, list_any-map, is_empty-map, all_below_same, filter_same}
 
--- f names the nodes of B: what A says of p, where p is one of those, B says of f p
+-- f maps nodes of A to nodes of B, and the arenas agree on each of these nodes and its image
 pub record Renames {N M : Type 0} (A : Arena N) (B : Arena M) (f : N → M) (Is : N → Type 0) : Type 0 where
   pub same : (p q : N) → Is p → Is q → A.same p q ≡ B.same (f p) (f q)
   pub actions : A.actions ≡ B.actions
@@ -18,18 +18,18 @@ pub record Renames {N M : Type 0} (A : Arena N) (B : Arena M) (f : N → M) (Is 
   pub outcomes : (p : N) → Is p → (a k : ℕ) → map f (A.outcomes p a k) ≡ B.outcomes (f p) a k
   pub within : (p : N) → Is p → (a k : ℕ) → (q : N) → IsIn q (A.outcomes p a k) → Is q
 
--- the entry of the node that f names
+-- the entry with its node renamed by f
 abbrev pub renamed_entry : {N M : Type 0} → (N → M) → Entry N → Entry M
 renamed_entry f x = record { node = f x.node; reason = x.reason }
 
--- each is one of the nodes
+-- each is a node
 abbrev pub AreNodes : {N : Type 0} → (N → Type 0) → List N → Type 0
 AreNodes {N} Is ps = (p : N) → IsIn p ps → Is p
 
 abbrev pub HaveNodes : {N : Type 0} → (N → Type 0) → List (Entry N) → Type 0
 HaveNodes {N} Is L = (x : Entry N) → IsIn x L → Is x.node
 
--- a test that goes through a map
+-- a map over a conditional
 map_if : {X Y : Type 0} (g : X → Y) (b : Bool) (x : X) (us vs : List X) (ws zs : List Y) → map g us ≡ ws → map g vs ≡ zs →
     map g (if b then x ∷ us else vs) ≡ (if b then g x ∷ ws else zs)
 map_if g true x us vs ws zs u v = ap (λ ys. g x ∷ ys) u
@@ -102,7 +102,7 @@ module _ {N M : Type 0} (A : Arena N) (B : Arena M) (f : N → M) (Is : N → Ty
         order_named_from (x.node ∷ before) L (more_nodes x.node before is are) (λ y i. have y (inr i)) order.2,
       )
 
-  -- the other way round: where the renamed list is an order, the list is
+  -- the converse: a list is a removal list where the renamed list is
   pub order_named : (L : List (Entry N)) → HaveNodes Is L → IsOrder B (map (renamed_entry f) L) → IsOrder A L
   order_named L have order = order_named_from [] L (λ p i. absurd i) have order
 

@@ -1,4 +1,4 @@
--- What the definitions of several targets say of two lamps and two targets that each turn a lamp on and off.
+-- The definitions of several targets, computed for two lamps and two targets that each turn a lamp on and off.
 use Rattle.std.proofs.Common.{◌≡◌, [], ◌∷◌, length, inl, inr, refl, sym, subst, arith}
 use Rattle.roman_model.specs.System.{Seat, IsBeh, IsDeterministic}
 use Rattle.roman_model.specs.SystemArena.{pairs}
@@ -36,7 +36,7 @@ two_requests = refl
 two_pairs : length (pairs (combined two)) ≡ 16
 two_pairs = refl
 
--- as many lamps are on as targets want it
+-- exactly the pairs with as many lit lamps as the targets need are related
 two_related : related_pairs (combined two) ≡
     pair_of 0 (0 ∷ 0 ∷ []) ∷ pair_of 1 (0 ∷ 1 ∷ []) ∷ pair_of 1 (1 ∷ 0 ∷ []) ∷ pair_of 2 (0 ∷ 1 ∷ []) ∷ pair_of 2 (1 ∷ 0 ∷ []) ∷ pair_of 3 (1 ∷ 1 ∷ []) ∷ []
 two_related = refl
@@ -44,6 +44,6 @@ two_related = refl
 two_offers : offers (combined two) (pair_of 0 (0 ∷ 0 ∷ [])) 0 ≡ 0 ∷ 1 ∷ []
 two_offers = refl
 
--- where the second lamp is on for the second target, the first is left for the other
+-- where the second lamp is on for the second target, the first lamp is offered to the first target
 two_offers_on : offers (combined two) (pair_of 1 (0 ∷ 1 ∷ [])) 0 ≡ 0 ∷ []
 two_offers_on = refl

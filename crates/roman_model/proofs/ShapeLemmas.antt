@@ -1,4 +1,4 @@
--- The numbers of pairs and of lists of states, whatever the sizes.
+-- The numbers of pairs and of lists of states, for all sizes.
 use Rattle.roman_model.specs.Shapes.{ShapesAreNumbered}
 use Rattle.roman_model.proofs.NumberLemmas.{states_number_below, states_at-number, AreBelow-at, states_number-at, number_below, pair_at-number, IsPairOf-at, number-pair_at}
 

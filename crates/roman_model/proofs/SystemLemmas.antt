@@ -169,7 +169,7 @@ from_seat_next (Some seat) b e a b' i = by_test seat.frozen
     (λ frozen. absurd (subst (λ ns. IsIn b' ns) (cond-true seat.frozen [] (beh_next seat.beh b e a) frozen) i))
     (λ ready. (seat, refl, ready, from_beh_next seat.beh b e a b' (subst (λ ns. IsIn b' ns) (cond-false seat.frozen [] (beh_next seat.beh b e a) ready) i)))
 
--- States before.
+-- Previous states.
 
 pub in_env_prev : (env : Env) (e a e' : ℕ) → IsEnv env → IsTrue (has_triple env e a e') → IsIn e (env_prev env e' a)
 in_env_prev env e a e' ok h =
@@ -185,7 +185,7 @@ in_beh_prev env beh b e a b' ok h =
 pub from_beh_prev : (beh : Beh) (b e a b' : ℕ) → IsIn b (beh_prev beh b' e a) → IsTrue (has_move beh b e a b')
 from_beh_prev beh b e a b' i = (filter_in (λ c. has_move beh c e a b') b (below beh.states) i).1
 
--- The seat that a list of seats has at a place.
+-- The seat at a place of a list of seats.
 pub seat_in : (seats : List Seat) (k : ℕ) (seat : Seat) → slice_get seats k ≡ Some seat → IsIn seat seats
 seat_in [] k seat e = absurd (none-some seat e)
 seat_in (x ∷ seats) zero seat e = inl (sym (same_Some x seat e))
@@ -230,13 +230,13 @@ from_outcome s p a k q i =
     let (seat, seated, ready, moves) = from_seat_next (slice_get s.seats k) (slice_index p.bs k) p.e a b' j in
     (step, record { seat = seat; seated = seated; ready = ready; world = step.0; to = b'; moves = moves; is = e })
 
--- An outcome comes by a seat that is there and ready.
+-- An outcome belongs to a seat that exists and is ready.
 pub outcome_seat : (s : Sys) (p : Pair) (a k : ℕ) (q : Pair) → IsIn q (outcomes s p a k) → (k < length s.seats) × IsTrue (is_ready (slice_get s.seats k))
 outcome_seat s p a k q i =
     let r : SStep s p.bs p.e a k q.bs q.e = (from_outcome s p a k q i).1 in
     (slice_get_within s.seats k r.seat r.seated, subst (λ o. IsTrue (is_ready o)) (sym r.seated) (not_from_false r.seat.frozen r.ready))
 
--- A list of one state for each seat stays one where a state of a seat takes another's place.
+-- A list of one state for each seat stays in range where one state is replaced.
 pub states_set : (seats : List Seat) (bs : List ℕ) (k b : ℕ) (seat : Seat) → AllZip (λ seat b. b < seat.beh.states) seats bs →
     slice_get seats k ≡ Some seat → b < seat.beh.states → AllZip (λ seat b. b < seat.beh.states) seats (slice_set bs k b)
 states_set [] [] k b seat h e l = absurd (none-some seat e)

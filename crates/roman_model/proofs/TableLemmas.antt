@@ -1,4 +1,4 @@
--- Tables of rows with a place for each of some elements, and the rank of a number among those that pass a test.
+-- Tables of rows with a place for each of some elements, and the rank of a number among the numbers that pass a test.
 use Rattle.std.proofs.Common.{◌≡◌, ℕ, zero, suc, ◌+◌, ◌*◌, ◌<◌, Bool, cond, List, [], ◌∷◌, ◌++◌, map, length, get_or, filter, flat_map, IsTrue, sym, ap, ◌∙◌, subst, arith, inl, inr, length-append, append-nil}
 use Rattle.std.proofs.lemmas.Bool.{cases_eq, cond-true}
 use Rattle.std.proofs.lemmas.Nat.{mul-add-lt}
@@ -7,11 +7,11 @@ use Rattle.std.proofs.lemmas.Grind.{flat_map-append}
 use Rattle.roman_model.specs.Lists.{below}
 use Rattle.roman_model.proofs.Lists.{filter_below_more}
 
--- one row more
+-- a table with one more row
 pub flat_map_row : {Y : Type 0} (f : ℕ → List Y) (n : ℕ) → flat_map f (below (suc n)) ≡ flat_map f (below n) ++ f n
 flat_map_row f n = flat_map-append f (below n) (n ∷ []) ∙ ap (λ ys. flat_map f (below n) ++ ys) (append-nil (f n))
 
--- how long a table is
+-- the length of a table
 pub length_rows : {X Y : Type 0} (f : ℕ → X → Y) (xs : List X) (n : ℕ) → length (flat_map (λ h. map (f h) xs) (below n)) ≡ n * length xs
 length_rows f xs zero = omega arith
 length_rows f xs (suc n) =
@@ -19,7 +19,7 @@ length_rows f xs (suc n) =
     let last : length (map (f n) xs) ≡ length xs = length-map xs (f n) in
     ap length (flat_map_row (λ h. map (f h) xs) n) ∙ omega (arith, length-append (flat_map (λ h. map (f h) xs) (below n)) (map (f n) xs))
 
--- what stands in row h at place r
+-- the element of row h at place r
 pub table_at : {X Y : Type 0} (f : ℕ → X → Y) (xs : List X) (n h r : ℕ) (d : Y) (x : X) → h < n → r < length xs →
     get_or (flat_map (λ h. map (f h) xs) (below n)) (h * length xs + r) d ≡ f h (get_or xs r x)
 table_at f xs zero h r d x hn hr = absurd (omega arith)
@@ -36,11 +36,11 @@ table_at f xs (suc n) h r d x hn hr =
           ∙ table_at f xs n h r d x small hr
     ]
 
--- how many numbers below it pass
+-- the number of smaller numbers that pass
 abbrev pub rank : (ℕ → Bool) → ℕ → ℕ
 rank q p = length (filter q (below p))
 
--- a number that passes stands at its rank
+-- a number that passes is found at its rank
 pub rank_at : (q : ℕ → Bool) (n p d : ℕ) → p < n → IsTrue (q p) → (rank q p < rank q n) × (get_or (filter q (below n)) (rank q p) d ≡ p)
 rank_at q zero p d l t = absurd (omega arith)
 rank_at q (suc n) p d l t = elim (cases_eq p n) [

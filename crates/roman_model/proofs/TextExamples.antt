@@ -18,11 +18,12 @@ written : cert_text 6 order ≡ codes "roman-order 1\npairs 6\n1 f\n2 0\n3 1\n5 
 unfolding digits
 written = refl
 
--- what is said of a text behind the two lines with which it begins
+-- the verdict on a text that begins with the two first lines
 abbrev Says : List ℕ → Verdict → Type 0
 Says lines verdict = cert_verdict (numbered flaky_system) 0 (codes "roman-order 1\npairs 6\n" ++ lines) ≡ verdict
 
--- the order, two of its entries exchanged, without one, without its end, with an entry twice; the last newline may be missing, and nothing may follow it
+-- the list, two of its entries exchanged, without an entry, without its end, with an entry twice, without the last newline, and with a line after its
+-- end
 orders_are_judged :
     Says (codes "1 f\n2 0\n3 1\n5 1\n0 0\n4 1\nend\n") (Greatest 0 false)
     × Says (codes "1 f\n2 0\n3 1\n0 0\n5 1\n4 1\nend\n") (Rejected 6 Unjustified)
@@ -46,7 +47,7 @@ empty = refl
 fifty_bytes : length (codes "roman-order 1\npairs 6\n1 f\n2 0\n3 1\n5 1\n0 0\n4 1\nend\n") ≡ 50
 fifty_bytes = refl
 
--- the same order over pairs
+-- the same list over pairs
 abbrev pair_order : List (Entry Pair)
 pair_order =
     record { node = pair_of 0 (1 ∷ []); reason = Final } ∷ record { node = pair_of 0 (2 ∷ []); reason = Act 0 } ∷ record { node = pair_of 1 (0 ∷ []); reason = Act 1 } ∷ record { node = pair_of 1 (2 ∷ []); reason = Act 1 }

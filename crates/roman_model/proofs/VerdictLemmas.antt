@@ -1,4 +1,4 @@
--- The verdict on a text, where its first lines are read.
+-- The verdict on a text whose first lines have been read.
 use Rattle.std.proofs.Common.{◌≡◌, ℕ, zero, suc, ◌+◌, ◌-◌, ◌<◌, ◌≤◌, List, [], ◌∷◌, ◌++◌, length, take, Option, Some, None, IsTrue, IsFalse, slice_get, slice_index_or, ap, ◌∙◌, inl, inr, arith, append_assoc, length-append}
 use Rattle.std.specs.List.{list_any}
 use Rattle.std.proofs.lemmas.Bool.{cond-true, cond-false, cases_lt}
@@ -11,7 +11,7 @@ use Rattle.roman_model.proofs.LineLemmas.{lines-text, ended_lines-text}
 use Rattle.roman_model.proofs.CertificateLemmas.{faults_none, faults_first, clean_front, fault_next, fault_over}
 use Rattle.roman_model.proofs.CertificateLaws.{judged_short, judged_long}
 
--- What may be wrong with a line after the first two
+-- The fault of a line after the first two
 
 pub fault_in_body : (A : Arena ℕ) (head size : List ℕ) (body : List (List ℕ)) (line : Option (List ℕ)) → IsFalse (list_any (same_numbers end_line) body) →
     line_fault A (head ∷ size ∷ body) line ≡ body_fault A (entries_on A body) line
@@ -23,14 +23,14 @@ fault_after_end A head size body line some = cond-true (list_any (same_numbers e
 
 -- The first fault
 
--- the first line at fault comes after clean ones
+-- the first faulty line comes after lines without fault
 first_fault : (A : Arena ℕ) (ls : List (List ℕ)) (line : List ℕ) (more : List (List ℕ)) (n : ℕ) (why : Why) (otherwise : Verdict) → IsClean A ls (length ls) → line_fault A ls (Some line) ≡ Some why → length ls < n →
     slice_index_or (faults A (ls ++ line ∷ more) n) 0 otherwise ≡ Rejected (length ls + 1) why
 first_fault A ls line more n why otherwise clean fault l =
     let (rest, is) = faults_first A (ls ++ line ∷ more) n (length ls) why (clean_front A ls (line ∷ more) clean) (fault_next A ls more line ∙ fault) l in
     ap (λ vs. slice_index_or vs 0 otherwise) is
 
--- a line of a text that isn't too long is at fault
+-- the verdict on a text within the limit that has a faulty line
 pub verdict_at : (A : Arena ℕ) (start : ℕ) (bytes : List ℕ) (ls : List (List ℕ)) (line : List ℕ) (more : List (List ℕ)) (why : Why) → length bytes ≤ MAX_CERTIFICATE_BYTES → lines bytes ≡ ls ++ line ∷ more →
     IsClean A ls (length ls) → line_fault A ls (Some line) ≡ Some why → cert_verdict A start bytes ≡ Rejected (length ls + 1) why
 verdict_at A start bytes ls line more why short is clean fault =
@@ -38,7 +38,7 @@ verdict_at A start bytes ls line more why short is clean fault =
     ∙ ap (λ ms. slice_index_or (faults A ms (length ms + 1)) 0 (unlisted A start (entries_on A ms))) is
     ∙ first_fault A ls line more (length (ls ++ line ∷ more) + 1) why (unlisted A start (entries_on A (ls ++ line ∷ more))) clean fault (omega (arith, length-append ls (line ∷ more)))
 
--- and so is one of a longer text that ends within the limit
+-- the verdict on a longer text with a faulty line that ends within the limit
 pub verdict_within : (A : Arena ℕ) (start : ℕ) (bytes : List ℕ) (ls : List (List ℕ)) (line : List ℕ) (more : List (List ℕ)) (why : Why) → MAX_CERTIFICATE_BYTES < length bytes → ended_lines (take MAX_CERTIFICATE_BYTES bytes) ≡ ls ++ line ∷ more →
     IsClean A ls (length ls) → line_fault A ls (Some line) ≡ Some why → cert_verdict A start bytes ≡ Rejected (length ls + 1) why
 verdict_within A start bytes ls line more why long is clean fault =
@@ -57,7 +57,7 @@ take_past (suc n) (x ∷ xs) ys l = ap (λ zs. x ∷ zs) (take_past n xs ys (ome
     fewer : (n m : ℕ) → n - m ≡ suc n - suc m
     fewer n m = omega arith
 
--- a line whose newline is within the limit is at fault, however the text goes on
+-- the verdict where the newline of a faulty line is within the limit, whatever follows
 pub verdict_rejected : (A : Arena ℕ) (start : ℕ) (bytes : List ℕ) (ls : List (List ℕ)) (line more : List ℕ) (why : Why) →
     bytes ≡ text_of_lines (ls ++ line ∷ []) ++ more → AreLines (ls ++ line ∷ []) → length (text_of_lines (ls ++ line ∷ [])) ≤ MAX_CERTIFICATE_BYTES →
     IsClean A ls (length ls) → line_fault A ls (Some line) ≡ Some why → cert_verdict A start bytes ≡ Rejected (length ls + 1) why
@@ -86,7 +86,7 @@ verdict_ended A start bytes ls why short is clean fault =
     ∙ ap (λ ms. slice_index_or (faults A ms (length ms + 1)) 0 (unlisted A start (entries_on A ms))) is
     ∙ ap (λ vs. slice_index_or vs 0 (unlisted A start (entries_on A ls))) first
 
--- no line is at fault, and the text ends where it may
+-- no line has a fault, and the text ends where it may
 pub verdict_accepted : (A : Arena ℕ) (start : ℕ) (bytes : List ℕ) (ls : List (List ℕ)) → length bytes ≤ MAX_CERTIFICATE_BYTES → lines bytes ≡ ls →
     IsClean A ls (length ls) → line_fault A ls None ≡ None → cert_verdict A start bytes ≡ unlisted A start (entries_on A ls)
 verdict_accepted A start bytes ls short is clean over =
@@ -97,7 +97,7 @@ verdict_accepted A start bytes ls short is clean over =
       | inr more ↦ (let here : i ≡ length ls = omega arith in ap (λ k. line_fault A (take k ls) (slice_get ls k)) here ∙ fault_over A ls ∙ over)
     ]))
 
--- no line that ends within the limit is at fault, and the text goes on
+-- no line that ends within the limit has a fault, and the text is longer
 pub verdict_too_long : (A : Arena ℕ) (start : ℕ) (bytes : List ℕ) (ls : List (List ℕ)) → MAX_CERTIFICATE_BYTES < length bytes → ended_lines (take MAX_CERTIFICATE_BYTES bytes) ≡ ls →
     IsClean A ls (length ls) → cert_verdict A start bytes ≡ TooLong
 verdict_too_long A start bytes ls long is clean =

@@ -1,4 +1,4 @@
--- A system without one or two seats is the one after as many changes.
+-- A system without one or two seats equals the system after as many changes.
 use Rattle.std.proofs.Common.{◌≡◌, ℕ, zero, suc, pred, ◌<◌, ◌==◌, Bool, true, false, cond, ◌||◌, List, [], ◌∷◌, Some, IsTrue, slice_get, remove, refl, sym, ap, ap₂, ◌∙◌, subst, arith}
 use Rattle.std.proofs.Math.Bool.{or-false, or-true}
 use Rattle.std.proofs.lemmas.Bool.{false≢true, eq-eqb, eqb-true}
@@ -13,7 +13,7 @@ suc_same i k = same_test (suc i == suc k) (i == k)
     (λ t. let e : suc i ≡ suc k = eqb-true (suc i) (suc k) t in eq-eqb i k (omega arith))
     (λ t. let e : i ≡ k = eqb-true i k t in eq-eqb (suc i) (suc k) (omega arith))
 
--- tests of numbers, which compute at numerals alone
+-- tests of numbers, which compute only at numerals
 zero_other : (i : ℕ) → (0 == suc i) ≡ false
 zero_other i = same_test (0 == suc i) false (λ t. let e : 0 ≡ suc i = eqb-true 0 (suc i) t in absurd (omega arith)) (λ f. absurd (false≢true f))
 
@@ -60,7 +60,7 @@ freeze_one (suc k) (x ∷ xs) =
 
 -- Two places.
 
--- the later place first
+-- leaving out the later place first
 pub leave_two : {X : Type 0} (k j : ℕ) (xs : List X) → k < j → leave_out (has (k ∷ j ∷ [])) xs ≡ remove (remove xs j) k
 leave_two zero zero xs l = absurd (omega arith)
 leave_two (suc k) zero xs l = absurd (omega arith)
@@ -72,7 +72,7 @@ leave_two (suc k) (suc j) (x ∷ xs) l =
     ap₂ (λ b ys. cond b ys (x ∷ ys)) (ap₂ (λ b c. b || (c || false)) (other_zero k) (other_zero j))
     (leave_out_same (λ i. has (suc k ∷ suc j ∷ []) (suc i)) (has (k ∷ j ∷ [])) xs (λ i. ap₂ (λ b c. b || (c || false)) (suc_same k i) (suc_same j i)) ∙ leave_two k j xs (omega arith))
 
--- the earlier place first: the later one moves down
+-- leaving out the earlier place first: the later one moves down
 pub remove_in_turn : {X : Type 0} (k j : ℕ) (xs : List X) → k < j → remove (remove xs k) (pred j) ≡ remove (remove xs j) k
 remove_in_turn zero zero xs l = absurd (omega arith)
 remove_in_turn (suc k) zero xs l = absurd (omega arith)
@@ -88,7 +88,7 @@ or_swap : (f b c : Bool) → ((f || b) || c) ≡ (f || (b || c))
 or_swap true b c = refl
 or_swap false b c = refl
 
--- freezing by one test and then by another is freezing by either
+-- freezing by one test and then by another equals freezing by either
 freeze_both : (at bt : ℕ → Bool) (seats : List Seat) → freeze_at bt (freeze_at at seats) ≡ freeze_at (λ i. at i || bt i) seats
 freeze_both at bt [] = refl
 freeze_both at bt (x ∷ xs) =
@@ -99,7 +99,7 @@ freeze_two k j seats =
     sym (freeze_one j (set_frozen seats k true)) ∙ ap (freeze_at (has (j ∷ []))) (sym (freeze_one k seats)) ∙ freeze_both (has (k ∷ [])) (has (j ∷ [])) seats
     ∙ freeze_same (λ i. has (k ∷ []) i || has (j ∷ []) i) (has (k ∷ j ∷ [])) seats (λ i. or_swap (k == i) false (j == i || false))
 
--- a seat that is frozen already
+-- freezing a frozen seat again
 pub freeze_again : (k : ℕ) (seats : List Seat) (seat : Seat) → slice_get seats k ≡ Some seat → IsTrue seat.frozen → set_frozen seats k true ≡ seats
 freeze_again k [] seat at frozen = refl
 freeze_again zero (x ∷ seats) seat at frozen =

@@ -1,4 +1,4 @@
--- What working off a removal list needs: entries by their place, the delegations that lead to a node, and sums.
+-- Lemmas for working through a removal list: entries by their place, the delegations that lead to a node, and sums.
 use Rattle.std.proofs.Common.{◌≡◌, ℕ, ◌+◌, ◌<◌, ◌≤◌, Bool, true, false, ◌&&◌, ◌||◌, List, [], ◌∷◌, ◌++◌, map, length, get_or, take, drop, IsTrue, IsFalse, filter, flat_map, sum_by, count_by, refl, sym, ap, ◌∙◌, subst, take-append-drop}
 use Rattle.std.proofs.lemmas.List.{drop_more, length-map}
 use Rattle.std.proofs.lemmas.List.Sums.{sum_by_push, sum_by-append, length-filter}
@@ -32,7 +32,7 @@ order_from_middle A before (y ∷ L) M x order =
     turned true false c = refl
     turned false b c = refl
 
--- an entry of a removal list is new after those before it, and they justify it
+-- an entry of a removal list is new after the entries before it, and they justify it
 pub order_middle : {N : Type 0} (A : Arena N) (L M : List (Entry N)) (x : Entry N) → IsOrder A (L ++ x ∷ M) →
     IsFalse (is_listed A L x.node) × IsTrue (is_justified A (is_listed A L) x.node x.reason)
 order_middle A L M x order = order_from_middle A [] L M x order
@@ -51,11 +51,11 @@ fall_push A L x = sum_by_push (λ y. length (back A y.node)) L x
 pub fall_append : {N : Type 0} (A : Arena N) (L M : List (Entry N)) → fall A (L ++ M) ≡ fall A L + fall A M
 fall_append A L M = sum_by-append (λ y. length (back A y.node)) L M
 
--- how many delegations there are of an allowed action at the node to a ready seat
+-- the number of delegations of an allowed action at the node to a ready seat
 abbrev pub readings_at : {N : Type 0} → Arena N → N → ℕ
 readings_at A p = sum_by (λ a. count_by (λ k. A.allows p a && A.ready k) (below A.seats)) (below A.actions)
 
--- the readings are those at each node
+-- all readings are the sum of the readings at the nodes
 pub readings_sum : {N : Type 0} (A : Arena N) → readings A ≡ sum_by (readings_at A) A.nodes
 readings_sum {N} A =
     ap length (filter-flat_map test at_node A.nodes)
@@ -83,6 +83,6 @@ readings_sum {N} A =
         ∙ length-flat_map (λ a. filter test (at_action p a)) (below A.actions)
         ∙ sum_by_same (λ a. length (filter test (at_action p a))) (λ a. count_by (λ k. A.allows p a && A.ready k) (below A.seats)) (below A.actions) (λ a i. action_sum p a)
 
--- the readings at distinct nodes are no more than all
+-- the sum of the readings at distinct nodes is at most the number of all readings
 pub readings_within : {N : Type 0} (A : Arena N) (ps : List N) → HasNoRepeats ps → ((p : N) → IsIn p ps → IsIn p A.nodes) → sum_by (readings_at A) ps ≤ readings A
 readings_within A ps once within = subst (λ n. sum_by (readings_at A) ps ≤ n) (sym (readings_sum A)) (sum_by_within (readings_at A) ps A.nodes once within)

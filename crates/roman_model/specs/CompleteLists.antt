@@ -6,11 +6,11 @@ use Rattle.roman_model.specs.System.{Sys, Pair, IsPair}
 use Rattle.roman_model.specs.SystemArena.{arena}
 use Rattle.roman_model.specs.Composition.{Great}
 
--- the entries are of pairs of the system
+-- each entry is of a pair of the system
 abbrev pub AreEntries : Sys → List (Entry Pair) → Type 0
 AreEntries s L = (x : Entry Pair) → IsIn x L → IsPair s x.node
 
--- a removal list that holds exactly the pairs that aren't related
+-- the list is a removal list that holds exactly the pairs that aren't related
 pub record IsComplete (s : Sys) (L : List (Entry Pair)) : Type 0 where
   pub pairs : AreEntries s L
   pub order : IsOrder (arena s) L

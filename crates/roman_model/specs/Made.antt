@@ -1,10 +1,10 @@
--- Records made by tests of their triples, steps and final states: they are in normal form by the way they are made.
+-- Records built from tests of their triples, steps and final states: they are in normal form by construction.
 use Rattle.std.specs.Prelude.{ℕ, Bool, List, [], ◌∷◌, map}
 use Rattle.std.specs.List.{filter, flat_map}
 use Rattle.roman_model.specs.Lists.{below}
 use Rattle.roman_model.specs.System.{Env, Beh, Move}
 
--- the environment of the triples (e, a, e') that pass, rising
+-- the environment with exactly the triples (e, a, e') that pass the test, rising
 abbrev pub env_from : ℕ → ℕ → ℕ → (ℕ → ℕ → ℕ → Bool) → Env
 env_from states actions start goes = record {
   states = states;
@@ -15,12 +15,12 @@ env_from states actions start goes = record {
       (below states);
 }
 
--- the one step with that guard, or none where the guard is empty
+-- the step with the guard, or no step where the guard is empty
 abbrev pub guarded_step : ℕ → ℕ → ℕ → List ℕ → List Move
 guarded_step b a b' [] = []
 guarded_step b a b' (e ∷ es) = record { from = b; guard = e ∷ es; action = a; to = b' } ∷ []
 
--- the behaviour of the final states and the steps (b, e, a, b') that pass, rising
+-- the behaviour with exactly the final states and the steps (b, e, a, b') that pass the tests, rising
 abbrev pub beh_from : ℕ → ℕ → ℕ → ℕ → (ℕ → Bool) → (ℕ → ℕ → ℕ → ℕ → Bool) → Beh
 beh_from env_states actions states start final goes = record {
   states = states;

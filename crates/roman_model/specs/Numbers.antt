@@ -7,7 +7,7 @@ use Rattle.roman_model.specs.System.{Sys, Pair, IsPair}
 use Rattle.roman_model.specs.SystemArena.{outcomes, is_allowed, is_fine, is_ready}
 use Rattle.roman_model.specs.CompleteLists.{IsComplete}
 
--- how many states the target, the environment and each seat have
+-- the numbers of states of the target, of the environment and of each seat
 pub record Sizes : Type 0 where
   pub target : ℕ
   pub env : ℕ
@@ -17,7 +17,7 @@ pub record Sizes : Type 0 where
 abbrev pub sizes_of : Sys → Sizes
 sizes_of s = record { target = s.target.states; env = s.env.states; seats = map (λ seat. seat.beh.states) s.seats }
 
--- one state for each size, below it
+-- the list has one state for each size, each below its size
 abbrev pub AreBelow : List ℕ → List ℕ → Type 0
 AreBelow sizes bs = AllZip (λ size b. b < size) sizes bs
 
@@ -27,7 +27,7 @@ pub record IsPairOf (n : Sizes) (p : Pair) : Type 0 where
   pub e : p.e < n.env
   pub bs : AreBelow n.seats p.bs
 
--- the sizes with a seat of so many states that comes last
+-- the sizes with a last seat of `size` states
 abbrev pub grown_sizes : Sizes → ℕ → Sizes
 grown_sizes n size = record { target = n.target; env = n.env; seats = n.seats ++ size ∷ [] }
 
@@ -35,26 +35,26 @@ grown_sizes n size = record { target = n.target; env = n.env; seats = n.seats ++
 abbrev pub sizes_without : ℕ → Sizes → Sizes
 sizes_without k n = record { target = n.target; env = n.env; seats = remove n.seats k }
 
--- how many pairs there are
+-- the number of pairs
 abbrev pub count : Sizes → ℕ
 count n = n.target * n.env * product_of n.seats
 
--- the number of a list of one state for each seat: the last changes fastest
+-- the number of a list of one state for each seat: the last state changes fastest
 abbrev pub states_number : List ℕ → List ℕ → ℕ
 states_number [] bs = 0
 states_number (size ∷ sizes) [] = 0
 states_number (size ∷ sizes) (b ∷ bs) = b * product_of sizes + states_number sizes bs
 
--- the list of one state for each seat that has that number
+-- the list of states with number i
 abbrev pub states_at : List ℕ → ℕ → List ℕ
 states_at [] i = []
 states_at (size ∷ sizes) i = i / product_of sizes ∷ states_at sizes (i % product_of sizes)
 
--- the pair's number: the target's state, then the environment's, then those of the seats, the last changing fastest
+-- the number of a pair: the target's state counts most, then the environment's, then the seats'; the last seat's state changes fastest
 abbrev pub number : Sizes → Pair → ℕ
 number n p = (p.t * n.env + p.e) * product_of n.seats + states_number n.seats p.bs
 
--- the pair of that number
+-- the pair with number i
 abbrev pub pair_at : Sizes → ℕ → Pair
 pair_at n i = record {
   t = i / product_of n.seats / n.env;
@@ -62,7 +62,7 @@ pair_at n i = record {
   bs = states_at n.seats (i % product_of n.seats);
 }
 
--- the numbers below the count are exactly those of the pairs
+-- the numbers below the count are exactly the numbers of the pairs
 pub record NumbersArePairs (s : Sys) : Type 0 where
   pub below : (p : Pair) → IsPair s p → number (sizes_of s) p < count (sizes_of s)
   pub back : (p : Pair) → IsPair s p → pair_at (sizes_of s) (number (sizes_of s) p) ≡ p
@@ -82,10 +82,10 @@ numbered s = record {
   outcomes = λ p a k. map (number (sizes_of s)) (outcomes s (pair_at (sizes_of s) p) a k);
 }
 
--- the entry of the pair with that number
+-- the entry of the pair whose number the given entry has
 abbrev pub entry_at : Sys → Entry ℕ → Entry Pair
 entry_at s x = record { node = pair_at (sizes_of s) x.node; reason = x.reason }
 
--- the numbered entries are a complete removal list
+-- the entries, taken as entries of pairs, are a complete removal list
 abbrev pub IsCompleteList : Sys → List (Entry ℕ) → Type 0
 IsCompleteList s L = IsComplete s (map (entry_at s) L)

@@ -1,4 +1,4 @@
--- The opponent's game: requests by a removal list, or by the depth.
+-- The opponent's game: it plays by a removal list, or by the depth.
 use Rattle.std.specs.Prelude.{◌≡◌, ◌≢◌, ◌↔◌, ℕ, zero, suc, ◌<◌, ◌≤◌, Bool, not, List, [], ◌∷◌, length, Option, None, Some, IsTrue, IsFalse, if◌then◌else◌}
 use Rattle.std.specs.List.{list_any, find}
 use Rattle.std.specs.Option.{option_map}
@@ -11,7 +11,7 @@ use Rattle.roman_model.specs.SystemArena.{outcomes, is_allowed, is_fine, arena}
 use Rattle.roman_model.specs.Composition.{Great}
 use Rattle.roman_model.specs.Explanation.{answer}
 
--- the reason of p's entry
+-- the reason of p's entry, if p is listed
 abbrev pub reason_of : Sys → List (Entry Pair) → Pair → Option Reason
 reason_of s [] p = None
 reason_of s (x ∷ L) p = if (arena s).same p x.node then Some x.reason else reason_of s L p
@@ -20,13 +20,13 @@ reason_of s (x ∷ L) p = if (arena s).same p x.node then Some x.reason else rea
 abbrev pub has_ready : List Seat → Bool
 has_ready seats = list_any (λ seat. not seat.frozen) seats
 
--- one request more than from the answer on, or undecided where there is none
+-- one more than the number of requests from the answer on, or none where there is no answer
 abbrev pub went_on : (Pair → Option ℕ) → Option Pair → Option ℕ
 went_on rest None = None
 went_on rest (Some q) = option_map suc (rest q)
 
--- How many requests the opponent makes from p until it has won, playing by the list against those seats in turn.
--- None where it hasn't won. The last argument is the reason of p's entry.
+-- The number of requests that the opponent makes from p until it has won, playing by the list against the seats in turn. None where it
+-- hasn't won. The last argument is the reason of p's entry.
 abbrev pub play_at : Sys → List (Entry Pair) → List ℕ → Pair → Option Reason → Option ℕ
 play_at s L ks p None = None
 play_at s L ks p (Some Final) = Some 0
@@ -36,41 +36,41 @@ play_at s L (k ∷ ks) p (Some (Act a)) =
     else (if is_empty (outcomes s p a k) then Some 1
     else went_on (λ q. play_at s L ks q (reason_of s L q)) (answer (arena s) L p a k))
 
--- the play from p by the list, against those seats in turn
+-- the play from p by the list, against the seats in turn
 abbrev pub play : Sys → List (Entry Pair) → Pair → List ℕ → Option ℕ
 play s L p ks = play_at s L ks p (reason_of s L p)
 
--- the opponent wins within so many requests
+-- the opponent wins within n requests
 abbrev pub WinsWithin : ℕ → Option ℕ → Type 0
 WinsWithin n None = ⊥
 WinsWithin n (Some m) = m ≤ n
 
--- each number is that of a seat
+-- each number is the place of a seat
 abbrev pub AreSeats : Sys → List ℕ → Type 0
 AreSeats s [] = Unit {0}
 AreSeats s (k ∷ ks) = (k < length s.seats) × AreSeats s ks
 
--- the opponent wins within as many requests as the list has entries, whoever serves
+-- the opponent wins within as many requests as the list has entries, whichever seats serve
 pub record OpponentWins (s : Sys) (L : List (Entry Pair)) (p : Pair) : Type 0 where
   pub against_seats : (ks : List ℕ) → AreSeats s ks → length L ≤ length ks → WinsWithin (length L) (play s L p ks)
   pub against_none : IsFalse (has_ready s.seats) → WinsWithin (length L) (play s L p [])
 
--- a refutation wins
+-- the opponent that plays by a removal list wins
 abbrev pub OrderWins : Type 0
 OrderWins = (s : Sys) (L : List (Entry Pair)) → IsSys s → IsOrder (arena s) L → (p : Pair) → IsTrue (is_listed (arena s) L p) → OpponentWins s L p
 
--- the least action on which each seat has no outcome or one from which the opponent wins within d requests
+-- the least action on which each seat has no outcome, or an outcome from which the opponent wins within d requests
 abbrev pub refuting : Sys → ℕ → Pair → Option ℕ
 refuting s d p = find (λ a. is_justified (arena s) (loses (arena s) d) p (Act a)) (below s.env.actions)
 
--- the request of depth play, at a pair of that depth
+-- the request of the play by depth, at a pair with the given depth
 abbrev pub request_at : Sys → Pair → Option ℕ → Option ℕ
 request_at s p None = None
 request_at s p (Some zero) = None
 request_at s p (Some (suc d)) = refuting s d p
 
--- The play by the depth: at depth d + 1 the opponent makes the least request that refutes p within d, and goes on
--- at the first answer that is lost within d. The last arguments are p's depth and that request.
+-- The play by depth: at depth d + 1 the opponent makes the least request that refutes p within d, and goes on at the first answer that is
+-- lost within d. The last arguments are p's depth and that request.
 abbrev pub depth_play_at : Sys → List ℕ → Pair → Option ℕ → Option ℕ → Option ℕ
 depth_play_at s ks p None request = None
 depth_play_at s ks p (Some zero) request = Some 0
@@ -81,16 +81,16 @@ depth_play_at s (k ∷ ks) p (Some (suc d)) (Some a) =
     else (if is_empty (outcomes s p a k) then Some 1
     else went_on (λ q. depth_play_at s ks q (depth (arena s) q) (request_at s q (depth (arena s) q))) (find (loses (arena s) d) (outcomes s p a k)))
 
--- the play from p by the depth, against those seats in turn
+-- the play from p by depth, against the seats in turn
 abbrev pub depth_play : Sys → Pair → List ℕ → Option ℕ
 depth_play s p ks = depth_play_at s ks p (depth (arena s) p) (request_at s p (depth (arena s) p))
 
--- the opponent that plays by the depth wins within n requests, whoever serves
+-- the opponent that plays by depth wins within n requests, whichever seats serve
 pub record DepthPlayWins (s : Sys) (n : ℕ) (p : Pair) : Type 0 where
   pub against_seats : (ks : List ℕ) → AreSeats s ks → n ≤ length ks → WinsWithin n (depth_play s p ks)
   pub against_none : IsFalse (has_ready s.seats) → WinsWithin n (depth_play s p [])
 
--- depth play wins
+-- the opponent that plays by depth wins within the depth of the pair
 abbrev pub DepthWins : Type 0
 DepthWins = (s : Sys) → IsSys s → (p : Pair) → IsPair s p → (n : ℕ) → depth (arena s) p ≡ Some n → DepthPlayWins s n p
 
@@ -104,6 +104,6 @@ pub record IsLeastDepth (s : Sys) (p : Pair) : Type 0 where
   pub served : (n : ℕ) → IsFalse (loses (arena s) (suc n) p) → (a : ℕ) → IsTrue (is_allowed s p a) →
       (k : ℕ) × (k < length s.seats) × (outcomes s p a k ≢ []) × ((q : Pair) → IsIn q (outcomes s p a k) → IsFalse (loses (arena s) n q))
 
--- depth is least
+-- the depth of each pair is the least number of requests within which it is lost
 abbrev pub DepthIsLeast : Type 0
 DepthIsLeast = (s : Sys) → IsSys s → (p : Pair) → IsPair s p → IsLeastDepth s p

@@ -3,27 +3,27 @@
 ghost use Rattle.roman_model.specs.Certificate.{GreatestIsComplete, WrittenIsGreatest};
 ghost use Rattle.roman_model.specs.Explanation.{ExplanationIsLeast, ExplanationIsOrder};
 
-/// The certificate of a complete removal list is accepted, where the system has no more cells than
-/// a document may allow: the verdict on it says how many pairs are related, and whether the start
-/// pair is.
+/// The certificate of a complete removal list is accepted, where the system has no more cells than a
+/// document may allow. The verdict states the number of related pairs, and whether the start pair is
+/// related.
 pub fn written_is_greatest()
     ensures greatest { WrittenIsGreatest }
 {}
 
-/// A certificate that is accepted is a complete removal list, and the verdict on it says how many
-/// pairs are related, and whether the start pair is. The system has no more cells than a document
-/// may allow.
+/// An accepted certificate is a complete removal list, where the system has no more cells than a
+/// document may allow. The verdict states the number of related pairs, and whether the start pair is
+/// related.
 pub fn greatest_is_complete()
     ensures complete { GreatestIsComplete }
 {}
 
-/// The explanation of a listed pair is the least set that holds its entry and, with each entry,
-/// those of the defeating answers.
+/// The explanation of a listed pair is the least set that holds its entry and, with each entry, the
+/// entries of its defeating answers.
 pub fn explanation_is_least()
     ensures least { ExplanationIsLeast }
 {}
 
-/// The explanation of a listed pair is a removal list by itself, and ends with the pair's entry.
+/// The explanation of a listed pair is a removal list by itself, and ends with the entry of the pair.
 pub fn explanation_is_order()
     ensures explained { ExplanationIsOrder }
 {}

@@ -2,18 +2,18 @@
 //! is that of De Giacomo, Patrizi and Sardina, "Automatic Behavior Composition Synthesis" (Artificial
 //! Intelligence 196, 2013).
 //!
-//! `specs/` has the definitions. `System` has environments, behaviours, systems, pairs and their steps;
-//! `Made` has records made by tests of their steps, and `Normal` the normal forms of records;
-//! `Composition` has ND-simulations and the greatest one, and `Offers` the orchestrator generator;
-//! `Arena` has removal lists, masks and depths over any set of nodes, `SystemArena` a system as such a
-//! set, and `CompleteLists` the lists that are complete; `Numbers` has the numbers of pairs, `Shapes`
-//! those of any sizes; `Outcomes` says the tests of a system by its steps; `Change` has what becomes of
-//! removal lists where the services change, and `NumberedChange` of those over numbers; `Play` has the
-//! opponent's game; `Certificate` and `Explanation` have their texts; `Plans` has what delegations cost
-//! at worst, and `Without` systems that lack some of their seats; `Several` has the simulations of
-//! several targets, and `Combined` the one system that stands for them; `Lists` and `Lines` have
-//! words on lists, numbers and texts. `Laws` has the laws that stand with no other subject. Each
-//! law is the contract of a function with an empty body.
+//! `specs/` has the definitions. `System` has environments, behaviours, systems, pairs and their
+//! steps. `Made` has records built from tests of their steps, and `Normal` the normal forms of
+//! records. `Composition` has ND-simulations and the greatest one, and `Offers` the orchestrator
+//! generator. `Arena` has removal lists, masks and depths over any set of nodes, `SystemArena` a
+//! system as such a set, and `CompleteLists` complete removal lists. `Numbers` has the numbers of
+//! pairs, and `Shapes` those of any sizes. `Outcomes` relates the tests of a system to its steps.
+//! `Change` has removal lists after a change of the services, and `NumberedChange` the same over
+//! numbers. `Play` has the opponent's game. `Certificate` and `Explanation` have their texts. `Plans`
+//! has the worst-case costs of delegations, and `Without` systems that lack some of their seats.
+//! `Several` has the simulations of several targets, and `Combined` the one system that combines
+//! them. `Lists` and `Lines` have definitions on lists, numbers and texts. `Laws` has the laws that
+//! belong to none of these. Each law is the contract of a function with an empty body.
 #![tactic(auto)]
 
 mod certificates;

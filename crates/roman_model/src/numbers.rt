@@ -9,13 +9,13 @@ pub fn pairs_are_numbered()
 {}
 
 /// A removal list over the numbers is complete over the pairs where every unlisted number meets
-/// clause 2 and has a seat left for each allowed action.
+/// clause 2 and each allowed action has a seat left there.
 pub fn numbered_completes()
     ensures complete { NumberedCompletes }
 {}
 
-/// Numbers of pairs and of combinations of states correspond to them one to one whatever the sizes,
-/// also those that no document has.
+/// Pairs and lists of states correspond to their numbers one to one, for all sizes, within the limits
+/// of documents or not.
 pub fn shapes_are_numbered()
     ensures numbered { ShapesAreNumbered }
 {}

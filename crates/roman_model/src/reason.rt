@@ -1,12 +1,12 @@
-//! Why a pair was removed.
+//! The reasons of removals.
 
-/// The reason of an entry of a removal list.
+/// Why a pair was removed: the reason of an entry of a removal list.
 #[derive(Clone, Copy, Debug, PartialEq, Eq)]
 pub enum Reason {
-    /// The target may rest at the pair, and some service that rests may not: clause 2 of an
-    /// ND-simulation fails.
+    /// Clause 2 of an ND-simulation fails: the target is in a final state, and some service that
+    /// rests isn't.
     Final,
-    /// The target allows this action at the pair, and each service has no outcome on it or one
-    /// whose pair was removed before.
+    /// The target allows this action at the pair, and each service has no outcome on it, or an
+    /// outcome whose pair was removed before.
     Act(u8),
 }

@@ -1,10 +1,10 @@
 //! Requests of several targets.
 
-/// What one of several targets requests.
+/// A request of one of several targets.
 #[derive(Clone, Copy, Debug, PartialEq, Eq)]
 pub struct Request {
     /// The place of the target among the targets.
     pub target: u8,
-    /// The action, by its number in the environment.
+    /// The number of the action in the environment.
     pub action: u8,
 }

@@ -1,10 +1,10 @@
-//! How a service can fail.
+//! The ways in which a service fails.
 
-/// What becomes of a service that fails.
+/// The way in which a service fails.
 #[derive(Clone, Copy, Debug, PartialEq, Eq)]
 pub enum Way {
-    /// It stands still where it is: it can't serve, and its state still counts.
+    /// The service stays in its state. It can't serve, and its state still counts.
     Freeze,
-    /// It goes, and its state with it.
+    /// The service leaves, and its state leaves with it.
     Die,
 }
