@@ -9,7 +9,7 @@ pub record Calls : Type 0 where
   pub next : ℕ
   pub faults : ℕ
 
--- before the first call
+-- the record before the first call
 abbrev pub no_calls : List ℕ → Calls
 no_calls failing = record { failing = failing; next = 0; faults = 0 }
 
@@ -17,14 +17,14 @@ no_calls failing = record { failing = failing; next = 0; faults = 0 }
 abbrev pub is_failing : Calls → Bool
 is_failing calls = list_any (λ call. call == calls.next) calls.failing
 
--- after a call
+-- the record after a call
 abbrev pub after_call : Calls → Calls
 after_call calls = record { failing = calls.failing; next = one_more calls.next; faults = calls.faults }
 
--- after a fault
+-- the record after a fault
 abbrev pub after_fault : Calls → Calls
 after_fault calls = record { failing = calls.failing; next = calls.next; faults = one_more calls.faults }
 
--- after a call that failed
+-- the record after a call that failed
 abbrev pub after_failed : Calls → Calls
 after_failed calls = after_fault (after_call calls)

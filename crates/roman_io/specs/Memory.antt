@@ -1,4 +1,4 @@
--- What contracts see of the objects in memory.
+-- The views that contracts have of the objects in memory.
 use Rattle.std.specs.Prelude.{ℕ, List, map, String, string_bytes}
 use Rattle.std.specs.Global.{Global, Vec}
 use Rattle.roman_io.specs.Calls.{Calls}
@@ -17,7 +17,7 @@ pub record ShelfState : Type 0 where
   pub texts : Texts
   pub calls : Calls
 
--- a source: the bytes that it has not given yet, the most that one call gives, and its calls
+-- a source: the bytes that it hasn't given yet, the most bytes that one call gives, and its calls
 pub record SourceState : Type 0 where
   pub rest : List ℕ
   pub piece : ℕ

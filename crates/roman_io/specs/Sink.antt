@@ -1,4 +1,4 @@
--- What was written to a sink, where it tells.
+-- The bytes that were written to a sink, if it exposes them.
 use Rattle.std.specs.Prelude.{◌≡◌, ℕ, List, ◌++◌, take, Option, None, Some, Result, Ok, Err}
 
 -- the whole piece was appended
@@ -15,7 +15,7 @@ WrotePrefix None (Some new) piece = ⊥
 WrotePrefix (Some old) None piece = ⊥
 WrotePrefix (Some old) (Some new) piece = (n : ℕ) × (new ≡ old ++ take n piece)
 
--- Ok appended the whole piece, and an error a prefix of it
+-- Ok appended the whole piece, and an error appended a prefix of it
 abbrev pub Puts : {T E : Type 0} → Option (List ℕ) → Option (List ℕ) → List ℕ → Result T E → Type 0
 Puts old new piece (Ok x) = Wrote old new piece
 Puts old new piece (Err e) = WrotePrefix old new piece

@@ -1,4 +1,4 @@
-//! The calls of an object in memory, counted, with those that are to fail.
+//! The counted calls of an object in memory, and the calls that are to fail.
 ghost use Rattle.std.specs.Prelude.{◌≡◌, ◌≤◌};
 ghost use Rattle.std.specs.Bool.{OnTrue, OnFalse};
 ghost use Rattle.roman_io.specs.Calls.{no_calls, is_failing, after_call, after_failed, after_fault};
@@ -6,7 +6,8 @@ ghost use Rattle.roman_io.specs.Calls.{no_calls, is_failing, after_call, after_f
 use crate::failed::Failed;
 use std::marker::Model;
 
-/// The calls of an object in memory: which of them fail, and how many did.
+/// The calls of an object in memory: which of them fail, the number of the next call, and the number
+/// of faults.
 #[derive(Drop)]
 pub struct Calls {
     failing: Vec<u64>,
@@ -23,7 +24,8 @@ impl Model for Calls {
 }
 
 impl Calls {
-    /// No call yet. The calls whose numbers, from 0, stand in `failing` are to fail.
+    /// Returns a record of no calls. The calls whose numbers, from 0, are listed in `failing` are to
+    /// fail.
     pub fn new(failing: Vec<u64>) -> Calls
         ensures { result ≡ no_calls failing.items }
     {
@@ -34,7 +36,7 @@ impl Calls {
         }
     }
 
-    /// Begins a call, and answers whether it is to fail. It then counts as a fault.
+    /// Begins a call, and returns whether it is to fail. A call that is to fail counts as a fault.
     pub fn begin(&mut self) -> bool
         ensures failing { result ≡ is_failing self.old }
         ensures goes_on { OnFalse result (self.new ≡ after_call self.old) }
@@ -49,7 +51,7 @@ impl Calls {
         fails
     }
 
-    /// Counts a fault of the call that was begun last.
+    /// Counts a fault of the current call, and returns the error.
     pub fn fail(&mut self) -> Failed
         ensures fault { self.new ≡ after_fault self.old }
         ensures later { self.old.faults ≤ self.new.faults }

@@ -7,8 +7,8 @@ use crate::failed::Failed;
 use crate::source::Source;
 use std::marker::Model;
 
-/// A source of one byte, again and again without an end. It fills every piece, and its count of faults
-/// is always 0.
+/// A source that gives one byte again and again, without an end. Each take fills its whole piece. The
+/// count of faults is always 0.
 #[derive(Drop)]
 pub struct EndlessSource {
     byte: u8,
@@ -21,7 +21,7 @@ impl Model for EndlessSource {
 }
 
 impl EndlessSource {
-    /// A source of this byte.
+    /// Returns a source of this byte.
     pub fn new(byte: u8) -> EndlessSource
         ensures { result ≡ byte }
     {

@@ -1,8 +1,8 @@
-//! The one error of the outside.
+//! The error of shelves, sources and sinks.
 use std::error::Error;
 use std::fmt;
 
-/// An object of the outside failed: a shelf, a source or a sink. Its count of faults rose in that call.
+/// The error of a shelf, a source or a sink that failed. Its count of faults rose in the call.
 #[derive(Clone, Copy, Debug, PartialEq, Eq)]
 pub struct Failed;
 

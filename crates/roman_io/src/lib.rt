@@ -1,10 +1,10 @@
-//! The outside of the engine, as traits, with objects in memory that meet them.
+//! The interface of the engine to the outside as traits, with objects in memory that implement them.
 //!
-//! A [`Shelf`] has texts by name, a [`Source`] gives bytes, and a [`Sink`] takes them. Each counts
-//! its faults, and its calls answer [`Failed`] exactly when they raise that count; a full counter
-//! stays full. Contracts may speak of an object's content only if its type tells it: those that
-//! keep it in memory do, and an adapter to a file or a terminal can't. [`Words`] are those of a
-//! command, and [`Steps`] counts work, for contracts alone. `specs/` says what each call gives and
+//! A [`Shelf`] has texts by name, a [`Source`] gives bytes, and a [`Sink`] takes bytes. Each object
+//! counts its faults. A call returns [`Failed`] exactly when it raises that count, and a full counter
+//! stays full. Contracts can speak of the content of an object only if its type exposes it. The
+//! objects in memory do, and adapters to a file or a terminal can't. [`Words`] has the words of a
+//! command. [`Steps`] counts work, for contracts alone. `specs/` states what each call gives and
 //! takes.
 #![tactic(auto)]
 

@@ -11,8 +11,8 @@ use crate::failed::Failed;
 use crate::shelf::Shelf;
 use std::marker::Model;
 
-/// A shelf in memory, some of whose calls fail: those that are listed, and those that ask for a name
-/// that no file has.
+/// A shelf in memory, some of whose calls fail: the calls that are listed, and the calls that ask for
+/// a name that no file has.
 #[derive(Drop)]
 pub struct MemShelf {
     files: Vec<(String, Vec<u8>)>,
@@ -26,9 +26,9 @@ impl Model for MemShelf {
 }
 
 impl MemShelf {
-    /// A shelf with these names and texts, where the first file with a name hides later ones. `failing`
-    /// lists the numbers of the fetches that are to fail, the first fetch being number 0. A fetch of a
-    /// name that no file has fails too.
+    /// Returns a shelf with these names and texts, where the first file with a name hides later ones.
+    /// `failing` lists the numbers of the fetches that are to fail, from 0. A fetch of a name that no
+    /// file has fails too.
     pub fn new(files: Vec<(String, Vec<u8>)>, failing: Vec<u64>) -> MemShelf
         ensures { result ≡ record { texts = texts_of files.items; calls = no_calls failing.items } }
     {

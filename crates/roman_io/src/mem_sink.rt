@@ -12,8 +12,8 @@ use crate::sink::Sink;
 use std::alloc::Global;
 use std::marker::Model;
 
-/// A sink in memory, some of whose calls fail: those that are listed, and those for whose bytes there
-/// is no memory.
+/// A sink in memory, some of whose calls fail: the calls that are listed, and the calls that run out
+/// of memory.
 #[derive(Drop)]
 pub struct MemSink {
     written: Vec<u8>,
@@ -27,8 +27,8 @@ impl Model for MemSink {
 }
 
 impl MemSink {
-    /// An empty sink, which takes no memory. `failing` lists the numbers of the puts that are to fail,
-    /// the first put being number 0.
+    /// Returns an empty sink. Takes no memory. `failing` lists the numbers of the puts that are to
+    /// fail, from 0.
     pub fn new(alloc: Global, failing: Vec<u64>) -> MemSink
         ensures { result ≡ record { written = []; calls = no_calls failing.items } }
     {
@@ -38,7 +38,7 @@ impl MemSink {
         }
     }
 
-    /// The bytes that were written, those of failed calls among them.
+    /// Returns the bytes that were written, with those of failed calls.
     pub fn bytes(&self) -> &[u8]
         ensures { result.now ≡ self.now.written }
     {
@@ -51,8 +51,8 @@ impl Sink for MemSink {
 
     ghost faults = { λ s. s.calls.faults };
 
-    /// A call that is to fail still appends the first half of its piece, rounded down. Where there
-    /// is no memory to append to, the call is a fault and leaves the bytes as they were.
+    /// Appends the piece. A call that is to fail still appends the first half of its piece, rounded
+    /// down. A call that runs out of memory fails, and leaves the bytes as they were.
     fn put(&mut self, bytes: &[u8]) -> Result<(), Failed>
         ensures puts { Puts (Some self.old.written) (Some self.new.written) bytes.now result }
         ensures cause { HasCause self.old.calls.faults self.new.calls.faults result }

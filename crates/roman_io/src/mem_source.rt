@@ -29,8 +29,8 @@ impl Model for MemSource {
 }
 
 impl MemSource {
-    /// A source of these bytes, of which one take gives at most `piece`, which is 1 or more. `failing`
-    /// lists the numbers of the takes that are to fail, the first take being number 0.
+    /// Returns a source of these bytes. One take gives at most `piece` bytes, which must be at least
+    /// 1. `failing` lists the numbers of the takes that are to fail, from 0.
     pub fn new(bytes: Vec<u8>, piece: usize, failing: Vec<u64>) -> MemSource
         requires { 1 ≤ piece }
         ensures { result ≡ record { rest = bytes.items; piece = piece; calls = no_calls failing.items } }

@@ -8,7 +8,7 @@ use crate::failed::Failed;
 use crate::source::Source;
 use std::marker::Model;
 
-/// A source in memory that never fails, and fills every piece while it has bytes.
+/// A source in memory that never fails. Each take fills its piece as far as bytes are left.
 #[derive(Drop)]
 pub struct QuietSource {
     bytes: Vec<u8>,
@@ -24,7 +24,7 @@ impl Model for QuietSource {
 }
 
 impl QuietSource {
-    /// A source of these bytes. Its count of faults is always 0.
+    /// Returns a source of these bytes. The count of faults is always 0.
     pub fn new(bytes: Vec<u8>) -> QuietSource
         ensures { result ≡ bytes.items }
     {

@@ -6,19 +6,19 @@ use crate::failed::Failed;
 use crate::shelf::Shelf;
 use crate::source::Source;
 
-/// One text of a shelf, as a source: each take is a fetch at the place to which the takes before have
-/// come. A fault of the source is one of the shelf, and the counts are one.
+/// One text of a shelf, as a source. Each take is a fetch at the place where the last one ended. The
+/// faults of the source are the faults of the shelf.
 pub struct ShelfSource<'a, F: Shelf> {
-    /// The shelf that it reads.
+    /// The shelf that the source reads.
     pub shelf: &'a mut F,
-    /// The text's name.
+    /// The name of the text.
     pub name: &'a str,
-    /// How many bytes of the text were taken; the next take begins there.
+    /// The number of bytes that were taken. The next take begins there.
     pub at: u64,
 }
 
 impl<'a, F: Shelf> ShelfSource<'a, F> {
-    /// The whole text `name` of the shelf.
+    /// Returns a source of the whole text `name` of the shelf.
     pub fn new(shelf: &'a mut F, name: &'a str) -> ShelfSource<'a, F>
         ensures shelf { result.shelf.now ≡ shelf.old }
         ensures same_reference { result.shelf.ghost_name ≡ shelf.entry.ghost_name }

@@ -1,4 +1,4 @@
-//! What the engine asks of a place that bytes come from.
+//! Sources: places from which bytes come.
 ghost use Rattle.std.specs.Prelude.{◌≡◌, ℕ, ◌<◌, ◌≤◌, List, None, Option, length, IfOk};
 ghost use Rattle.roman_io.specs.Faults.{HasCause};
 ghost use Rattle.roman_io.specs.Shelf.{Texts};
@@ -6,27 +6,28 @@ ghost use Rattle.roman_io.specs.Source.{EndsAt, Takes};
 
 use crate::failed::Failed;
 
-/// A source of bytes, each of which is given once. A source in memory tells contracts which bytes it
-/// has left; an adapter to the input tells nothing of them, and contracts on content are then silent.
+/// A source of bytes, which gives each byte once. A source in memory exposes its remaining bytes to
+/// contracts. An adapter to the input exposes nothing, and contracts on content then say nothing.
 pub trait Source {
-    /// The bytes that it has not given yet, where they are told.
+    /// The bytes that the source hasn't given yet, if the type exposes them.
     ghost rest: { Self → Option (List ℕ) };
 
-    /// How often the source has failed, at most `u64::MAX`. The count never falls, and rises exactly in
-    /// the calls that answer [`Failed`]; a full one stays full.
+    /// The number of faults so far, at most `u64::MAX`. The count never falls. It rises exactly in
+    /// the calls that return [`Failed`], and a full counter stays full.
     ghost faults: { Self → ℕ };
 
-    /// The name, in proofs, of the borrow through which it reads, or 0 where it borrows nothing.
+    /// The name, in proofs, of the borrow through which the source reads, or 0 where it borrows
+    /// nothing.
     ghost borrowed: { Self → ℕ } = { λ _. 0 };
 
-    /// The texts of the shelf that it reads, where it reads one that tells them.
+    /// The texts of the shelf that the source reads, if it reads one that exposes them.
     ghost texts: { Self → Option Texts } = { λ _. None };
 
-    /// Moves bytes from the beginning of the rest to the beginning of `into`, and answers how many: at
-    /// most as many as `into` has places. Into a place that isn't empty it moves none exactly at the
-    /// end of the rest. What stands in `into` past that number is left open.
+    /// Moves bytes from the beginning of the rest to the beginning of `into`. Returns their number,
+    /// at most the length of `into`. Returns 0 for a non-empty `into` exactly at the end of the rest.
+    /// The bytes of `into` after the moved ones are unspecified.
     ///
-    /// The error comes only where the count of faults rises, and leaves the rest as it was.
+    /// Fails only where the count of faults rises, and then leaves the rest as it was.
     fn take(&mut self, into: &mut [u8]) -> Result<usize, Failed>
         ensures bound { IfOk result (λ n. n ≤ length into.new) }
         ensures moves { Takes (rest self.old) (rest self.new) into.new result }

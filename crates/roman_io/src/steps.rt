@@ -1,10 +1,10 @@
-//! The counter of steps, in which bounds on work are said.
+//! The counter of steps, in which contracts bound work.
 ghost use Rattle.std.specs.Prelude.{◌≡◌, ℕ, ◌+◌, ◌<◌};
 
 use std::marker::Model;
 use std::sync::ledger::{Blank, Book, Ledger, Share};
 
-/// A counter of steps, which contracts see as a number. It takes no bytes at run time, and only
+/// A counter of steps. Contracts see it as a number. It takes no bytes at run time, and only
 /// [`tick`](Steps::tick) changes it.
 #[derive(Drop)]
 pub struct Steps<L: Ledger> {
@@ -21,7 +21,8 @@ impl<L: Ledger> Model for Steps<L> {
 }
 
 impl<L: Ledger> Steps<L> {
-    /// No steps yet, counted on a ledger of its own: the blank has as many parts as the ledger L.
+    /// Returns a counter at 0 on its own ledger. Requires a blank with as many parts as the ledger
+    /// `L`.
     pub fn new(blank: Blank) -> Steps<L>
         requires name { blank.name ≡ L.name }
         requires parts { blank.parts ≡ L.parts }

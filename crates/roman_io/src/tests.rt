@@ -1,4 +1,5 @@
-//! Each object in memory once, with calls that fail, and what a caller knows through a source over a shelf.
+//! Calls each object in memory once, with calls that fail, and checks what a caller knows through a
+//! source over a shelf.
 ghost use Rattle.std.specs.Prelude.{◌≡◌, ◌<◌};
 ghost use Rattle.roman_io.specs.Faults.{HasCause};
 
@@ -8,7 +9,7 @@ use std::marker::Brand;
 use std::sync::ledger::{Blank, Ledger};
 use std::test::Fail;
 
-/// Three texts under two names, one of which comes twice.
+/// Returns three texts under two names, one of which occurs twice.
 fn files(alloc: Global) -> Result<Vec<(String, Vec<u8>)>, AllocError> {
     let mut files = Vec::new(alloc);
     for (name, text) in [("lamp", "on"), ("cell", "b0"), ("lamp", "off")] {
@@ -18,7 +19,7 @@ fn files(alloc: Global) -> Result<Vec<(String, Vec<u8>)>, AllocError> {
     Ok(files)
 }
 
-/// One take from any source.
+/// Takes once from any source.
 fn take_once<S: Source>(source: &mut S, into: &mut [u8]) -> Result<usize, Failed>
     ensures cause { HasCause (S.faults source.old) (S.faults source.new) result }
     ensures borrowed { S.borrowed source.new ≡ S.borrowed source.old }
@@ -27,8 +28,8 @@ fn take_once<S: Source>(source: &mut S, into: &mut [u8]) -> Result<usize, Failed
     source.take(into)
 }
 
-/// The first bytes of a text, by a source over the shelf, whose faults and texts the caller still
-/// knows.
+/// Reads the first bytes of a text, by a source over the shelf. The caller still knows the faults and
+/// the texts of the shelf.
 fn read_prefix<F: Shelf>(shelf: &mut F, name: &str, into: &mut [u8]) -> Result<usize, Failed>
     ensures cause { HasCause (F.faults shelf.old) (F.faults shelf.new) result }
     ensures texts { F.texts shelf.new ≡ F.texts shelf.old }

@@ -6,12 +6,13 @@ ghost use Rattle.roman_io.specs.Sink.{Puts};
 use crate::failed::Failed;
 use crate::sink::Sink;
 
-/// A sink that drops whatever is put into it, and tells nothing of it. Its count of faults is always 0.
+/// A sink that drops all bytes that are put into it, and exposes nothing. The count of faults is
+/// always 0.
 #[derive(Drop)]
 pub struct Waste {}
 
 impl Waste {
-    /// A sink that has nothing to make.
+    /// Returns a sink. Takes no memory.
     pub fn new() -> Waste {
         Waste {}
     }

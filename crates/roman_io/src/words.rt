@@ -4,7 +4,7 @@ ghost use Rattle.std.specs.Prelude.{◌≡◌, ℕ, ◌<◌, List, [], ◌∷◌
 use std::alloc::{AllocError, Global};
 use std::marker::Model;
 
-/// A list of words, as those of a command, which contracts see as a list of lists of bytes.
+/// A list of words, such as the words of a command. Contracts see it as a list of byte strings.
 #[derive(Drop)]
 pub struct Words {
     alloc: Global,
@@ -18,7 +18,7 @@ impl Model for Words {
 }
 
 impl Words {
-    /// No words. It takes no memory.
+    /// Returns an empty list. Takes no memory.
     pub fn new(alloc: Global) -> Words
         ensures { result ≡ [] }
     {
@@ -28,7 +28,7 @@ impl Words {
         }
     }
 
-    /// Appends one word. The one error is that there is no memory; the words are then as before.
+    /// Appends one word. Fails only when out of memory, and then leaves the words as they were.
     pub fn push(&mut self, word: &str) -> Result<(), AllocError>
         ensures ok { OnOk result (self.new ≡ self.old ++ word.now ∷ []) }
         ensures err { OnErr result (self.new ≡ self.old) }
@@ -38,14 +38,14 @@ impl Words {
         Ok(())
     }
 
-    /// How many words there are.
+    /// Returns the number of words.
     pub fn len(&self) -> usize
         ensures { result ≡ length self.now }
     {
         self.words.len()
     }
 
-    /// The word at place `i`, from 0.
+    /// Returns the word at place `i`, from 0.
     pub fn at(&self, i: usize) -> &str
         requires { i < length self.now }
         ensures { slice_get self.now i ≡ Some result.now }

@@ -2,7 +2,7 @@ use Rattle.std.proofs.Common.{◌≡◌, ℕ, ◌++◌, List, Bool, true, false,
 use Rattle.std.proofs.lemmas.List.{append-nil}
 use Rattle.roman_io.proofs.copying.append_half.Goals as goal
 
--- what was appended, or not, is a prefix of the piece
+-- the appended bytes, or none, are a prefix of the piece
 prefix_or_none : (grew : Bool) (n : ℕ) (old piece new : List ℕ) → new ≡ cond grew (old ++ take n piece) old → (x : ℕ) × (new ≡ old ++ take x piece)
 prefix_or_none true n old piece new e = (n, e)
 prefix_or_none false n old piece new e = (0, e ∙ sym (append-nil old))
