@@ -1,4 +1,4 @@
--- Loops over the items of a list, each of which may be refused: what is left to do gives the answer of the whole.
+-- Loops over the items of a list, each of which may be refused: the remaining steps give the result of all steps.
 use Rattle.std.proofs.Common.{◌≡◌, ℕ, ◌+◌, ◌<◌, ◌≤◌, List, [], ◌∷◌, ◌++◌, length, drop, get_or, Result, Ok, Err, refl, sym, ◌∙◌, add-one, drop-cons}
 use Rattle.std.proofs.lemmas.List.{drop_all}
 use Rattle.serde_json.specs.Data.{Data}
@@ -6,7 +6,7 @@ use Rattle.serde_json.specs.View.{view, items_view}
 use Rattle.serde_json.specs.declared.value.Value.{Value}
 use Rattle.roman_read.specs.Items.{◌>>=◌, each_item, pushing}
 
--- from item i and the state s on, the steps give what all of them give
+-- the steps from item i and the state s on give the result of all steps
 pub record IsLeft {S E : Type 0} (step : ℕ → S → Data → Result S E) (items : List Value) (i : ℕ) (s : S) (all : Result S E) : Type 0 where
   pub same : each_item step i s (items_view (drop i items)) ≡ all
 
@@ -16,39 +16,39 @@ module _ {S E : Type 0} (step : ℕ → S → Data → Result S E) (items : List
   unfolding each_item
   here i s x h e = rw (drop-cons items i x h, ← e, add-one)
 
-  -- at the start everything is left
+  -- at the start all steps remain
   pub at_start : (s : S) → IsLeft step items 0 s (each_item step 0 s (items_view items))
   at_start s = record { same = refl }
 
-  -- a step that is not refused goes on to the next item
+  -- a step that isn't refused leads to the next item
   pub goes_on : (i : ℕ) (s t : S) (x : Value) (all : Result S E) → i < length items → x ≡ get_or items i x
       → step i s (view x) ≡ Ok t → IsLeft step items i s all → IsLeft step items (i + 1) t all
   goes_on i s t x all h e ok left = record { same = sym (here i s x h e ∙ rw ok) ∙ left.same }
 
-  -- a step that is refused gives its refusal for the whole
+  -- the refusal of a step is the result of all steps
   pub ends : (i : ℕ) (s : S) (x : Value) (why : E) (all : Result S E) → i < length items → x ≡ get_or items i x
       → step i s (view x) ≡ Err why → IsLeft step items i s all → all ≡ Err why
   ends i s x why all h e bad left = sym left.same ∙ here i s x h e ∙ rw bad
 
-  -- where no item is left, the state is the answer
+  -- the state is the result where no item remains
   pub is_done : (i : ℕ) (s : S) (all : Result S E) → length items ≤ i → IsLeft step items i s all → all ≡ Ok s
   unfolding each_item
   is_done i s all h left = sym left.same ∙ rw (drop_all i items h)
 
 module _ {X E : Type 0} (read : ℕ → Data → Result X E) (items : List Value) where
-  -- an item that is read goes behind those before it
+  -- the value of an item is appended to those before it
   pub pushed_on : (i : ℕ) (xs ys : List X) (y : X) (x : Value) (all : Result (List X) E) → i < length items → x ≡ get_or items i x
       → read i (view x) ≡ Ok y → ys ≡ xs ++ y ∷ [] → IsLeft (pushing read) items i xs all → IsLeft (pushing read) items (i + 1) ys all
   unfolding pushing
   pushed_on i xs ys y x all h e ok new left = goes_on (pushing read) items i xs ys x all h e (rw ok (rw new)) left
 
-  -- an item that is refused gives its refusal for the whole
+  -- the refusal of an item is the result of all steps
   pub pushed_ends : (i : ℕ) (xs : List X) (x : Value) (why : E) (all : Result (List X) E) → i < length items → x ≡ get_or items i x
       → read i (view x) ≡ Err why → IsLeft (pushing read) items i xs all → all ≡ Err why
   unfolding pushing
   pushed_ends i xs x why all h e bad left = ends (pushing read) items i xs x why all h e (rw bad) left
 
--- what a loop of steps rests on, and what a loop that pushes what it reads rests on
+-- the rules for a loop of steps, and for a loop that appends the values that it reads
 pub ruleset each = (at_start, goes_on, ends, is_done)
 
 pub ruleset pushes = (at_start, pushed_on, pushed_ends, is_done)

@@ -1,4 +1,4 @@
--- Lists whose items are read one after another: what they are read as, and which item is refused.
+-- Lists whose items are read one by one: their values, or the refused item.
 use Rattle.std.proofs.Common.{◌≡◌, ℕ, suc, ◌+◌, ◌⊎◌, inl, inr, List, [], ◌∷◌, ◌++◌, length, Result, Ok, Err, refl, sym, ap, ◌∙◌, subst, arith, append_assoc, append-nil, length-append}
 use Rattle.serde_json.specs.Data.{Data, Items, no_items, item}
 use Rattle.serde_json.specs.Events.{items_len}
@@ -14,7 +14,7 @@ use Rattle.roman_read.proofs.Given.{same_ok, bind_ok}
 pub same_err : {X E : Type 0} (d e : E) → ◌≡◌ {A = Result X E} (Err d) (Err e) → d ≡ e
 same_err d e h = cc
 
--- of two readings the first that is refused gives the refusal
+-- the first refusal of two readings is the result
 pub bind_err : {X Y E : Type 0} (r : Result X E) (f : X → Result Y E) (e : E) → (r >>= f) ≡ Err e → (r ≡ Err e) ⊎ ((x : X) × (r ≡ Ok x) × (f x ≡ Err e))
 bind_err (Ok x) f e h = inr (x, refl, h)
 bind_err (Err d) f e h = inl (ap Err (same_err d e h))
@@ -32,7 +32,7 @@ pub items_count : (ds : List Data) → items_len (items_of ds) ≡ length ds
 items_count [] = refl
 items_count (d ∷ ds) = ap suc (items_count ds)
 
--- a step that reads an item by Is and Breaks, and puts it behind those before it
+-- a step that reads an item by `Is` and `Breaks`, and appends its value to those before it
 pub record IsStep {X E : Type 0} (step : ℕ → List X → Data → Result (List X) E) (Is : List X → Data → X → Type 0) (Breaks : ℕ → List X → Data → E → Type 0) : Type 0 where
   pub gives : (i : ℕ) (before : List X) (d : Data) (out : List X) → i ≡ length before → step i before d ≡ Ok out → (x : X) × (before ++ x ∷ [] ≡ out) × Is before d x
   pub given : (i : ℕ) (before : List X) (d : Data) (x : X) → i ≡ length before → Is before d x → step i before d ≡ Ok (before ++ x ∷ [])
@@ -110,7 +110,7 @@ module _ {X E : Type 0} (step : ℕ → List X → Data → Result (List X) E) (
       ∙ fault_at (i + 1) (before ++ x ∷ []) ds fault behind xs e counted are.1
       (subst (λ (b : List X). Breaks (length b) b fault e) (sym (append_assoc before (x ∷ []) xs)) breaks)
 
-  -- from the beginning
+  -- the same from the beginning of the list
 
   pub all_given : (ds : List Data) (xs : List X) → (each_item step 0 [] (items_of ds) ≡ Ok xs → AreItems Is [] ds xs) × (AreItems Is [] ds xs → each_item step 0 [] (items_of ds) ≡ Ok xs)
   all_given ds xs = (
@@ -124,7 +124,7 @@ module _ {X E : Type 0} (step : ℕ → List X → Data → Result (List X) E) (
     λ f. subst (λ (ds : List Data). each_item step 0 [] (items_of ds) ≡ Err e) (sym f.split) (fault_at 0 [] f.front f.fault f.behind f.read e refl f.are f.breaks),
   )
 
--- a reading of the items of a member that is a list of so many items
+-- a reading of a member that is a list with a fitting number of items
 pub record IsListing {E : Type 0} (name : List ℕ) (refuse : Kind → E) (Fits : ℕ → Type 0) (d : Data) (r : Result Items E) : Type 0 where
   pub gives : (items : Items) → r ≡ Ok items → (ds : List Data) × (items ≡ items_of ds) × IsListAt d name ds × Fits (length ds)
   pub given : (ds : List Data) → IsListAt d name ds → Fits (length ds) → r ≡ Ok (items_of ds)

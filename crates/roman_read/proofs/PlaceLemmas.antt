@@ -1,4 +1,4 @@
--- Where a name stands in a list of names.
+-- The place of a name in a list of names.
 use Rattle.std.proofs.Common.{◌≡◌, ℕ, zero, suc, ◌+◌, ◌<◌, ◌≤◌, List, [], ◌∷◌, ◌++◌, length, take, Bool, true, false, not, cond, ◌&&◌, ◌||◌, Some, None, IsTrue, slice_get, true≢false, refl, sym, ap, ◌∙◌, subst, arith}
 use Rattle.std.specs.List.{list_all, list_any, position, position_or_len, AllByRecursion, IsDistinct}
 use Rattle.std.specs.Str.{bytes_eq}
@@ -15,7 +15,7 @@ length_step : (b c : Bool) (m n : ℕ) → (b || c) ≡ false → (c ≡ false �
 length_step true c m n h k = absurd (true≢false h)
 length_step false c m n h k = let e : m ≡ n = k h in omega arith
 
--- where no element passes the test, the first that does is sought up to the end
+-- where no element passes the test, the search ends at the end of the list
 pub position_or_len-none : {X : Type 0} (p : X → Bool) (xs : List X) → list_any p xs ≡ false → position_or_len p xs ≡ length xs
 position_or_len-none p [] h = refl
 position_or_len-none p (x ∷ xs) h = length_step (p x) (list_any p xs) (position_or_len p xs) (length xs) h (position_or_len-none p xs)
@@ -24,7 +24,7 @@ within_step : (b c : Bool) (m n : ℕ) → (b || c) ≡ true → (c ≡ true →
 within_step true c m n h k = omega arith
 within_step false c m n h k = let e : m < n = k h in omega arith
 
--- where some element does, the first stands within the list
+-- where some element passes the test, the search ends within the list
 pub position_or_len-some : {X : Type 0} (p : X → Bool) (xs : List X) → list_any p xs ≡ true → position_or_len p xs < length xs
 position_or_len-some p [] h = absurd (true≢false (sym h))
 position_or_len-some p (x ∷ xs) h = within_step (p x) (list_any p xs) (position_or_len p xs) (length xs) h (position_or_len-some p xs)
@@ -39,15 +39,15 @@ position-some p xs h = rw (lt-ltb (position_or_len p xs) (length xs) (position_o
 
 -- ---- in a list of names
 
--- a name that the list lacks has no place
+-- a name that the list doesn't have has no place
 pub place_of-absent : (names : List (List ℕ)) (bytes : List ℕ) → list_any (bytes_eq bytes) names ≡ false → place_of names bytes ≡ None
 place_of-absent names bytes h = position-none (bytes_eq bytes) names h
 
--- a name that the list has stands at its first place
+-- a name that the list has has the place of its first occurrence
 pub place_of-present : (names : List (List ℕ)) (bytes : List ℕ) → list_any (bytes_eq bytes) names ≡ true → place_of names bytes ≡ Some (position_or_len (bytes_eq bytes) names)
 place_of-present names bytes h = position-some (bytes_eq bytes) names h
 
--- a name that the list lacks goes to the end
+-- a new name is at the end
 pub place_is_length : (names : List (List ℕ)) (bytes : List ℕ) → list_any (bytes_eq bytes) names ≡ false → position_or_len (bytes_eq bytes) names ≡ length names
 place_is_length names bytes h = position_or_len-none (bytes_eq bytes) names h
 
@@ -63,7 +63,7 @@ rest_step : (a c : Bool) → (a && c) ≡ true → c ≡ true
 rest_step true c h = h
 rest_step false c h = absurd (true≢false (sym h))
 
--- bytes that fail a test which all names of a list pass are none of the names
+-- bytes that fail a test which all names of a list pass aren't one of the names
 pub list_any-failing : (q : List ℕ → Bool) (names : List (List ℕ)) (bytes : List ℕ) → list_all q names ≡ true → q bytes ≡ false → list_any (bytes_eq bytes) names ≡ false
 list_any-failing q [] bytes h k = refl
 list_any-failing q (name ∷ names) bytes h k =
@@ -74,7 +74,7 @@ no_name_step : (names : List (List ℕ)) (bytes : List ℕ) (b : Bool) → is_na
 no_name_step names bytes true e h k = absurd (k e)
 no_name_step names bytes false e h k = place_of-absent names bytes (list_any-failing is_name names bytes h e)
 
--- bytes that are no name have no place among names
+-- bytes that aren't a name have no place among names
 pub place_of-no_name : (names : List (List ℕ)) (bytes : List ℕ) → IsTrue (list_all is_name names) → (IsTrue (is_name bytes) → ⊥) → place_of names bytes ≡ None
 place_of-no_name names bytes h k = no_name_step names bytes (is_name bytes) refl h k
 
@@ -90,7 +90,7 @@ later_differs x (y ∷ names) zero name apart at = flipped (bytes_eq name x) ref
         absurd (true≢false (sym ((bytes_eq-Decides x name).1 (sym same)) ∙ here))
 later_differs x (y ∷ names) (suc i) name apart at = later_differs x names i name apart.1 at
 
--- where no name stands twice, none stands among those before it
+-- in a list of distinct names no name occurs before its place
 pub none_before : (names : List (List ℕ)) (i : ℕ) (name : List ℕ) → IsDistinct bytes_eq names → slice_get names i ≡ Some name → list_any (bytes_eq name) (take i names) ≡ false
 none_before [] i name apart at = absurd (none-some name at)
 none_before (x ∷ names) zero name apart at = refl
@@ -98,10 +98,10 @@ none_before (x ∷ names) (suc i) name apart at =
     or_from (bytes_eq name x) (list_any (bytes_eq name) (take i names)) (later_differs x names i name (IsDistinct-head bytes_eq x names apart) at)
     (none_before names i name (IsDistinct-tail bytes_eq x names apart) at)
 
--- one name more of those in order
+-- the first names with one more name, in order
 pub take_name : (names : List (List ℕ)) (i : ℕ) (name : List ℕ) → slice_get names i ≡ Some name → take (i + 1) names ≡ take i names ++ name ∷ []
 take_name names i name at =
     take_more names i [] (slice_get_within names i name at) ∙ ap (λ n. take i names ++ n ∷ []) (get_or_from_slice_get names i name [] at)
 
--- what adding and finding names rest on
+-- the rules for adding and finding names
 pub ruleset places = (place_of-absent, place_of-present, place_is_length, place_of-no_name)

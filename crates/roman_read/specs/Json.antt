@@ -1,4 +1,4 @@
--- What a text is as JSON, and what a value has inside.
+-- The JSON values of texts, and the content of values.
 use Rattle.std.specs.Prelude.{◌≡◌, ℕ, Bool, List, Option, Some, None, Result, Ok, Err, is_some, option_and_then, if◌then◌else◌}
 use Rattle.std.specs.Option.{ok_or}
 use Rattle.std.specs.Str.{is_utf8}
@@ -12,17 +12,17 @@ use Rattle.roman_read.specs.declared.rules.Miss.TheVariants.{Missing, Form}
 use Rattle.roman_read.specs.declared.texts.ParseError.{ParseError}
 use Rattle.roman_read.specs.declared.texts.ParseError.TheVariants.{NotJson, Memory}
 
--- the value that the bytes are, if they are UTF-8 and one JSON value
+-- the JSON value of the bytes, if they are UTF-8 and exactly one JSON value
 abbrev pub json_of : List ℕ → Option Data
 json_of bytes = if is_utf8 bytes then read bytes else None
 
--- a value is the one that the bytes are, and they are no JSON where that is the answer
+-- a returned value is the JSON value of the bytes, and NotJson means that they aren't JSON
 abbrev pub Parses : List ℕ → Result Value ParseError → Type 0
 Parses bytes (Ok v) = json_of bytes ≡ Some (view v)
 Parses bytes (Err NotJson) = json_of bytes ≡ None
 Parses bytes (Err Memory) = Unit {0}
 
--- the errors of parsing are numbered in their order
+-- the numbers of the errors of parsing, in their order
 abbrev pub parse_error_number : ParseError → ℕ
 parse_error_number NotJson = 1
 parse_error_number Memory = 2
@@ -39,7 +39,7 @@ text_of d = ok_or (as_str d) Form
 abbrev pub list_of : Data → Result Items Miss
 list_of d = ok_or (as_array d) Form
 
--- a number that is a u64
+-- a number from 0 to 2^64 - 1
 abbrev pub number_of : Data → Result ℕ Miss
 number_of d = ok_or (option_and_then as_u64 (as_number d)) Form
 
@@ -47,7 +47,7 @@ number_of d = ok_or (option_and_then as_u64 (as_number d)) Form
 abbrev pub truth_of : Data → Result Bool Miss
 truth_of d = ok_or (as_bool d) Form
 
--- what the code found, seen through a view, is what the definition finds, and so is what it missed
+-- the code found what the definition finds, seen through a view, and missed what it misses
 abbrev pub Finds : {X Y : Type 0} → (X → Y) → Result X Miss → Result Y Miss → Type 0
 Finds view (Ok x) looked = looked ≡ Ok (view x)
 Finds view (Err e) looked = looked ≡ Err e

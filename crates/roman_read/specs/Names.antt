@@ -1,4 +1,4 @@
--- Names, and the places where names stand in a list of names.
+-- Names, and the places of names in a list of names.
 use Rattle.std.specs.Prelude.{◌≡◌, ℕ, ◌-◌, ◌++◌, ◌&&◌, ◌||◌, ◌==◌, Bool, List, length, take, replicate, nat_le, Option, position}
 use Rattle.std.specs.Char.{is_ascii_alphanumeric}
 use Rattle.std.specs.List.{list_all}
@@ -12,11 +12,11 @@ is_name_byte c = is_ascii_alphanumeric c || c == 95 || c == 45
 abbrev pub is_name : List ℕ → Bool
 is_name bytes = nat_le 1 (length bytes) && nat_le (length bytes) 32 && list_all is_name_byte bytes
 
--- the first len bytes of a room of 32 bytes, and zeros behind them
+-- the room of 32 bytes has len bytes, and zeros after them
 pub record IsPadded (room : List ℕ) (len : ℕ) : Type 0 where
   pub short : length (take len room) ≡ len
   pub zeros : take len room ++ replicate (32 - length (take len room)) 0 ≡ room
 
--- the place of the first name with these bytes
+-- the place of the first name with these bytes, if any
 abbrev pub place_of : List (List ℕ) → List ℕ → Option ℕ
 place_of names bytes = position (bytes_eq bytes) names

@@ -1,10 +1,9 @@
-//! Names, and the members of JSON values, as a system document holds them.
+//! Names, and the members of JSON values in a system document.
 //!
-//! A [`Name`] is a short word that lies in place, and a [`NameTable`] numbers names in the order in
-//! which they were added. [`parse`] reads a text, and [`member`], [`text`], [`list`], [`number`] and
-//! [`truth`] look into the value that it is, each with the rule that is broken where they find
-//! nothing. [`Kind`] names all the rules of a document. `specs/Names` says what a name is, `specs/Json`
-//! what a value has inside.
+//! A [`Name`] is a short word that is kept in place. A [`NameTable`] numbers names in the order in
+//! which they were added. [`parse`] reads a text. [`member`], [`text`], [`list`], [`number`] and
+//! [`truth`] look into its value, and return the broken rule where they find nothing. [`Kind`] names
+//! all rules of a document. `specs/Names` defines names, and `specs/Json` the content of values.
 #![tactic(auto)]
 
 mod looks;

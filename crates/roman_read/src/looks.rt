@@ -1,12 +1,12 @@
-//! Looks into a value, which take no memory.
+//! Looks into a value. They take no memory.
 ghost use Rattle.serde_json.specs.View.{view, items_view};
 ghost use Rattle.roman_read.specs.Json.{Finds, member_of, text_of, list_of, number_of, truth_of};
 
 use crate::rules::Miss;
 use serde_json::Value;
 
-/// The member of an object with this name: `Form` comes exactly where the value is no object, `Missing`
-/// exactly where it is one and has no such member.
+/// Returns the member of an object with this name. Fails with `Form` exactly where the value isn't an
+/// object, and with `Missing` exactly where it is an object without such a member.
 pub fn member<'a>(v: &'a Value, name: &str) -> Result<&'a Value, Miss>
     ensures member { Finds (λ x. view x.now) result (member_of (view v.now) name.now) }
 {
@@ -16,14 +16,14 @@ pub fn member<'a>(v: &'a Value, name: &str) -> Result<&'a Value, Miss>
     v.get(name).ok_or(Miss::Missing)
 }
 
-/// The bytes of a string: `Form` comes exactly where the value is none.
+/// Returns the bytes of a string. Fails with `Form` exactly where the value isn't a string.
 pub fn text(v: &Value) -> Result<&str, Miss>
     ensures text { Finds (λ x. x.now) result (text_of (view v.now)) }
 {
     v.as_str().ok_or(Miss::Form)
 }
 
-/// The items of an array: `Form` comes exactly where the value is none.
+/// Returns the items of an array. Fails with `Form` exactly where the value isn't an array.
 pub fn list(v: &Value) -> Result<&[Value], Miss>
     ensures list { Finds (λ x. items_view x.now) result (list_of (view v.now)) }
 {
@@ -33,15 +33,15 @@ pub fn list(v: &Value) -> Result<&[Value], Miss>
     }
 }
 
-/// A whole number from 0 to 2^64 - 1, written in digits alone: `Form` comes exactly where the value is
-/// none.
+/// Returns a whole number from 0 to 2^64 - 1, written in digits alone. Fails with `Form` exactly for
+/// any other value.
 pub fn number(v: &Value) -> Result<u64, Miss>
     ensures number { Finds (λ x. x) result (number_of (view v.now)) }
 {
     v.as_u64().ok_or(Miss::Form)
 }
 
-/// A truth value: `Form` comes exactly where the value is none.
+/// Returns a truth value. Fails with `Form` exactly where the value isn't one.
 pub fn truth(v: &Value) -> Result<bool, Miss>
     ensures truth { Finds (λ x. x) result (truth_of (view v.now)) }
 {

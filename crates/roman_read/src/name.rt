@@ -1,4 +1,4 @@
-//! Names that lie in place.
+//! Names that are kept in place.
 ghost use Rattle.std.specs.Prelude.{◌≡◌, ℕ, ◌-◌, ◌≤◌, ◌++◌, length, replicate, IsTrue};
 ghost use Rattle.std.specs.List.{list_all};
 ghost use Rattle.std.specs.Option.{SomeIff};
@@ -18,8 +18,8 @@ use std::marker::Model;
 const LONGEST: usize = 32;
 
 /// The name of a state, an action, a behaviour, a target or a service: 1 to 32 bytes, each an ASCII
-/// letter, a digit, `_` or `-`. It is `Copy` and kept in place. Contracts see the list of its
-/// bytes.
+/// letter, a digit, `_` or `-`. The type is `Copy` and needs no allocation. Contracts see the list of
+/// its bytes.
 #[derive(Clone, Copy)]
 pub struct Name {
     bytes: [u8; LONGEST],
@@ -42,8 +42,8 @@ impl Model for Name {
 }
 
 impl Name {
-    /// The name with these bytes; `None` exactly where they break the rule of names. No memory is
-    /// taken.
+    /// Returns the name with these bytes, or `None` exactly where they break the rule of names. Takes
+    /// no memory.
     pub fn new(bytes: &[u8]) -> Option<Name>
         ensures name { SomeIff result (IsTrue (is_name bytes.now)) bytes.now }
     {
@@ -56,7 +56,7 @@ impl Name {
         })
     }
 
-    /// The name's bytes, 1 to 32 of them.
+    /// Returns the bytes of the name, from 1 to 32.
     pub fn bytes(&self) -> &[u8]
         ensures bytes { result.now ≡ self.now }
         ensures rule { IsTrue (is_name self.now) }
@@ -64,7 +64,7 @@ impl Name {
         &self.bytes[..self.len as usize]
     }
 
-    /// Tells a prover that the bytes of every name are those of one. It does nothing.
+    /// Does nothing. Its contract states that the bytes of every name obey the rule of names.
     pub fn known(&self)
         ensures rule { IsTrue (is_name self.now) }
     {
@@ -72,28 +72,28 @@ impl Name {
     }
 }
 
-/// Whether a name may have this byte.
+/// Returns whether a name may have this byte.
 fn is_part(byte: u8) -> bool
     ensures { result ≡ is_name_byte byte }
 {
     byte.is_ascii_alphanumeric() || byte == b'_' || byte == b'-'
 }
 
-/// Whether a name may have each of these bytes.
+/// Returns whether a name may have each of these bytes.
 fn are_parts(bytes: &[u8]) -> bool
     ensures { result ≡ list_all is_name_byte bytes.now }
 {
     bytes.iter().all(|&byte| is_part(byte))
 }
 
-/// Whether the bytes are a name.
+/// Returns whether the bytes are a name.
 fn is_word(bytes: &[u8]) -> bool
     ensures { result ≡ is_name bytes.now }
 {
     !bytes.is_empty() && bytes.len() <= LONGEST && are_parts(bytes)
 }
 
-/// The bytes, with zeros up to the end of a name's room.
+/// Returns the bytes, padded with zeros to the greatest length of a name.
 #[tactic(auto, using(crate::proofs::NameLemmas::zeros_after))]
 fn padded(bytes: &[u8]) -> [u8; LONGEST]
     requires { length bytes.now ≤ 32 }

@@ -1,44 +1,44 @@
-//! The rules of a document, by the names of what breaks them.
+//! The rules of a document, each named by its violation.
 ghost use Rattle.std.specs.Prelude.{◌≡◌};
 ghost use Rattle.roman_read.specs.Kinds.{kind_number, miss_number, kind_of};
 
 use crate::name::Name;
 use thiserror::Error;
 
-/// A rule of a document that is broken. The line of a refusal names it.
+/// A broken rule of a document. The line of a refusal names it.
 #[derive(Clone, Copy, Debug, PartialEq, Eq)]
 pub enum Kind {
-    /// A member isn't there.
+    /// A member is missing.
     Missing,
     /// A value has the wrong shape.
     Form,
-    /// A text isn't a name, or is too short or too long for that of a file, or a combined name is
-    /// too long.
+    /// A text isn't a name, is too short or too long for a file name, or gives a combined name that
+    /// is too long.
     BadName,
-    /// A name stands there already.
+    /// A name occurs twice.
     Repeated,
-    /// A text names nothing.
+    /// A text is the name of no known item.
     Unknown,
-    /// There are too few or too many of something, or a number is too small or too great.
+    /// There are too few or too many items, or a number is too small or too great.
     Count,
     /// Two transitions of a target go from one state by one action to different successors, in an
-    /// environment state that the guards of both have.
+    /// environment state that both guards have.
     Choice {
         /// The number of the earlier transition in the list, from 0.
         first: u32,
         /// The first environment state that both guards have.
         state: Name,
     },
-    /// The document is of no known version.
+    /// The version of the document is unknown.
     Version,
-    /// The text is no JSON value.
+    /// The text isn't a JSON value.
     NotJson,
     /// The text has too many bytes.
     TooLong,
 }
 
 impl Kind {
-    /// The kind's number, from 1 to 10 in the order of the variants.
+    /// Returns the number of the kind, from 1 to 10 in the order of the variants.
     pub fn number(&self) -> u8
         ensures number { result ≡ kind_number self.now }
     {
@@ -57,10 +57,10 @@ impl Kind {
     }
 }
 
-/// What a look into a value misses.
+/// The error of a look into a value.
 #[derive(Clone, Copy, Debug, PartialEq, Eq, Error)]
 pub enum Miss {
-    /// The member that is looked for isn't there.
+    /// The member is missing.
     #[error("a member is missing")]
     Missing,
     /// The value has another shape.
@@ -69,7 +69,8 @@ pub enum Miss {
 }
 
 impl Miss {
-    /// The miss's number: 1 for `Missing` and 2 for `Form`, as the kind of its name has.
+    /// Returns the number of the miss, 1 for `Missing` and 2 for `Form`. It is the number of the kind
+    /// with the same name.
     pub fn number(&self) -> u8
         ensures number { result ≡ miss_number self.now }
     {

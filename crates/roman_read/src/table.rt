@@ -1,4 +1,4 @@
-//! Names by number.
+//! Tables of numbered names.
 ghost use Rattle.std.specs.Prelude.{◌≡◌, ◌-◌, ◌^◌, ◌<◌, [], ◌∷◌, ◌++◌, length, slice_get, Some, None, IfSome, IfOk, OnOk, IsTrue, ◌↔◌};
 ghost use Rattle.roman_read.specs.Names.{is_name, place_of};
 ghost use Rattle.roman_read.specs.Tables.{Adds, AreDistinct, add_error_number};
@@ -9,12 +9,11 @@ use std::alloc::{AllocError, Global};
 use std::marker::Model;
 use thiserror::Error;
 
-/// How many names are sought one after the other, which is quicker than by their hashes.
+/// The greatest number of names that are searched one by one, which is faster than hashing.
 const FEW: usize = 8;
 
-/// Names that are numbered from 0 in the order in which they were added, none of them twice.
-/// Contracts see the list of them. Only [`add`](NameTable::add) and [`copy`](NameTable::copy) take
-/// memory.
+/// A list of distinct names, numbered from 0 in the order in which they were added. Contracts see the
+/// list. Only [`add`](NameTable::add) and [`copy`](NameTable::copy) take memory.
 #[derive(Drop)]
 pub struct NameTable {
     names: IndexSet<Name>,
@@ -32,19 +31,19 @@ impl Model for NameTable {
     ghost invariant = { λ t. (length t.names.keys < 2 ^ 32) × IsTrue (list_all is_name t.names.keys) };
 }
 
-/// Why a name isn't added. The table stays as it was.
+/// Why a name wasn't added. The table stays as it was.
 #[derive(Clone, Copy, Debug, PartialEq, Eq, Error)]
 pub enum AddError {
-    /// The table has the name, at this place.
+    /// The table already has the name, at this place.
     #[error("the name stands at place {0} already")]
     Repeated(u32),
-    /// There is no memory for it.
+    /// Out of memory.
     #[error("there is no memory")]
     Memory,
 }
 
 impl AddError {
-    /// The error's number: 1 for `Repeated` and 2 for `Memory`.
+    /// Returns the number of the error, 1 for `Repeated` and 2 for `Memory`.
     pub fn number(&self) -> u8
         ensures number { result ≡ add_error_number self.now }
     {
@@ -56,7 +55,7 @@ impl AddError {
 }
 
 impl NameTable {
-    /// A table with no names, which takes no memory.
+    /// Returns an empty table. Takes no memory.
     pub fn new(alloc: Global) -> NameTable
         ensures empty { result ≡ [] }
     {
@@ -65,7 +64,7 @@ impl NameTable {
         }
     }
 
-    /// A table with the same names, in the same order. The one error is that there is no memory.
+    /// Returns a table with the same names in the same order. Fails only when out of memory.
     pub fn copy(&self, alloc: Global) -> Result<NameTable, AllocError>
         ensures same { IfOk result (λ copy. copy ≡ self.now) }
     {
@@ -76,7 +75,7 @@ impl NameTable {
         Ok(copy)
     }
 
-    /// The number of names, below 2^32.
+    /// Returns the number of names, which is below 2^32.
     pub fn len(&self) -> u32
         ensures len { result ≡ length self.now }
         ensures distinct { AreDistinct self.now }
@@ -85,16 +84,16 @@ impl NameTable {
         names.len() as u32
     }
 
-    /// Whether there are no names.
+    /// Returns whether there are no names.
     pub fn is_empty(&self) -> bool
         ensures empty { IsTrue result ↔ (self.now ≡ []) }
     {
         self.names.is_empty()
     }
 
-    /// Adds a name as the last one, and gives its place. There are fewer than 2^32 - 1 names before.
-    /// `Repeated` comes exactly where the table has the name already, with its place, and `Memory` only
-    /// where there is none; at every refusal the table stays as it was.
+    /// Adds a name at the end, and returns its place. Requires fewer than 2^32 - 1 names. Fails with
+    /// `Repeated` and the place of the name exactly where the table already has it, and with `Memory`
+    /// only when out of memory. The table then stays as it was.
     #[tactic(auto, using(crate::proofs::PlaceLemmas::places))]
     pub fn add(&mut self, name: Name) -> Result<u32, AddError>
         requires { length self.old < 2 ^ 32 - 1 }
@@ -113,7 +112,8 @@ impl NameTable {
         Ok(place)
     }
 
-    /// The place of the name with these bytes, which may be any; `None` exactly where no name has them.
+    /// Returns the place of the name with these bytes, or `None` exactly where no name has them.
+    /// Accepts any bytes.
     pub fn find(&self, bytes: &[u8]) -> Option<u32>
         ensures place { result ≡ place_of self.now bytes.now }
         ensures within { IfSome result (λ i. i < length self.now) }
@@ -127,7 +127,7 @@ impl NameTable {
         Some(place as u32)
     }
 
-    /// The place of the name with these bytes, by a look at one name after the other.
+    /// Returns the place of the name with these bytes. Searches the names one by one.
     fn sought(&self, bytes: &[u8]) -> Option<usize>
         ensures place { result ≡ place_of self.now bytes.now }
         ensures within { IfSome result (λ i. i < length self.now) }
@@ -136,7 +136,7 @@ impl NameTable {
         names.iter().position(|name| bytes == name.bytes())
     }
 
-    /// The place of the name with these bytes, by its hash.
+    /// Returns the place of the name with these bytes. Looks it up by its hash.
     #[tactic(auto, using(crate::proofs::PlaceLemmas::places))]
     fn looked_up(&self, bytes: &[u8]) -> Option<usize>
         ensures place { result ≡ place_of self.now bytes.now }
@@ -147,7 +147,7 @@ impl NameTable {
         names.get_index_of(&name)
     }
 
-    /// The name at the place `i`, from 0.
+    /// Returns the name at place `i`, from 0.
     pub fn at(&self, i: u32) -> &Name
         requires { i < length self.now }
         ensures name { slice_get self.now i ≡ Some result.now }
@@ -156,7 +156,7 @@ impl NameTable {
     }
 }
 
-/// Adds a name that the table lacks: nothing but memory can be wanting.
+/// Adds a name that the table doesn't have. Fails only when out of memory.
 fn push_new(table: &mut NameTable, name: Name) -> Result<(), AllocError>
     requires room { length table.old < 2 ^ 32 - 1 }
     requires new { place_of table.old name ≡ None }

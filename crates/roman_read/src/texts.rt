@@ -1,4 +1,4 @@
-//! Values from texts.
+//! Parses texts into values.
 ghost use Rattle.roman_read.specs.Json.{Parses, parse_error_number};
 ghost use Rattle.std.specs.Prelude.{◌≡◌};
 
@@ -7,19 +7,19 @@ use std::alloc::Global;
 use std::str;
 use thiserror::Error;
 
-/// Why a text gives no value.
+/// Why a text wasn't parsed.
 #[derive(Clone, Copy, Debug, PartialEq, Eq, Error)]
 pub enum ParseError {
-    /// The bytes are no JSON value.
+    /// The bytes aren't a JSON value.
     #[error("the text is no JSON value")]
     NotJson,
-    /// There is no memory for the value.
+    /// Out of memory.
     #[error("there is no memory")]
     Memory,
 }
 
 impl ParseError {
-    /// The error's number: 1 for `NotJson` and 2 for `Memory`.
+    /// Returns the number of the error, 1 for `NotJson` and 2 for `Memory`.
     pub fn number(&self) -> u8
         ensures number { result ≡ parse_error_number self.now }
     {
@@ -30,10 +30,10 @@ impl ParseError {
     }
 }
 
-/// The JSON value (RFC 8259) that the bytes are, with at most 127 arrays and objects inside one
-/// another, and no number too great for a float. Of a member that an object names twice the last
-/// value counts. `NotJson` comes exactly where the bytes are no UTF-8 or `serde_json` reads no
-/// value from them, and `Memory` only where there is none.
+/// Returns the JSON value (RFC 8259) of the bytes. Accepts at most 127 nested arrays and objects, and
+/// no number too great for a float. The last value counts of a member that an object names twice.
+/// Fails with `NotJson` exactly where the bytes aren't UTF-8 or `serde_json` reads no value from
+/// them, and with `Memory` only when out of memory.
 #[tactic(auto, using(crate::proofs::JsonLemmas::json_of_text, crate::proofs::JsonLemmas::json_of_no_text))]
 pub fn parse(alloc: Global, bytes: &[u8]) -> Result<Value, ParseError>
     ensures parse { Parses bytes.now result }
