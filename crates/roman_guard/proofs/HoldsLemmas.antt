@@ -1,4 +1,4 @@
--- What a guard means, by its variants.
+-- The meaning of a guard, by its variants.
 use Rattle.std.proofs.Common.{◌≡◌, ℕ, true, false, map, Vec, Box, Global, rules}
 use Rattle.roman_guard.specs.Meaning.{holds, is_one_of, complement, intersection, union}
 use Rattle.roman_guard.specs.declared.formula.Guard.{Guard, All, Never, Among, Not, Both, Either, the_lemmas}

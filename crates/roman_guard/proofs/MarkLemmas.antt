@@ -1,4 +1,4 @@
--- A word that is marked bit by bit, and the states that it stands for.
+-- A word whose bits are set one by one, and its states.
 use Rattle.std.proofs.Common.{◌≡◌, ℕ, ◌+◌, ◌-◌, ◌*◌, ◌%◌, ◌^◌, ◌<◌, ◌≤◌, ◌==◌, ◌↔◌, Bool, true, false, IsTrue, Contains, ap, sym, ◌∙◌, arith, inl, inr, w64, bit_or, below_more, true≢false}
 use Rattle.std.specs.Int.{bit_at}
 use Rattle.std.specs.Prelude.{if◌then◌else◌}
@@ -10,16 +10,16 @@ use Rattle.std.proofs.lemmas.Nat.Bits.{bit_at_above, bit_at_set_same, bit_at_set
 use Rattle.roman_guard.specs.Meaning.{has_state, states_below, states_of}
 use Rattle.roman_guard.proofs.StateLemmas.{states_below-same, states_below-past, in_states_below, states_below_are}
 
--- 1 for yes and 0 for no
+-- 1 for true and 0 for false
 abbrev pub bit : Bool → ℕ
 bit b = if b then 1 else 0
 
--- the word has a bit for each number below n that passes the test, and no other
+-- the word has a bit for exactly the numbers below n that pass the test
 pub record Marks (word n : ℕ) (test : ℕ → Bool) : Type 0 where
   pub fits : word < 2 ^ n
   pub bits : (e : ℕ) → e < n → bit_at word e ≡ bit (test e)
 
--- no state past the bits of a word is in its set
+-- a state past the bits of a word isn't in its set
 pub has_state_past : (word e : ℕ) → word < 2 ^ 64 → 64 ≤ e → has_state word e ≡ false
 has_state_past word e fits past = ap (λ n. n == 1) (bit_at_above word 64 e fits past)
 
@@ -30,7 +30,7 @@ marks_skip word n test m fails = record {
   bits = below_more (λ e. bit_at word e ≡ bit (test e)) n m.bits (bit_at_above word n n m.fits (omega arith) ∙ sym (ap bit fails));
 }
 
--- a state that passes gets its bit
+-- a state that passes the test gets its bit
 pub marks_one : (word n : ℕ) (test : ℕ → Bool) → n < 64 → Marks word n test → test n ≡ true → Marks (bit_or word (1 * 2 ^ n % 2 ^ 64)) (n + 1) test
 marks_one word n test within m passes = record {
   fits =
@@ -46,15 +46,15 @@ is_bit : (b : Bool) (k : ℕ) → k ≡ bit b → (k == 1) ≡ b
 is_bit true k h = rw h
 is_bit false k h = rw h
 
--- below n the word has what the test passes
+-- below n the word has exactly the states that pass
 pub marked_has : (word n : ℕ) (test : ℕ → Bool) → Marks word n test → (e : ℕ) → e < n → has_state word e ≡ test e
 marked_has word n test m e h = is_bit (test e) (bit_at word e) (m.bits e h)
 
--- from n on it has nothing
+-- the word has no state from n on
 pub marked_past : (word n : ℕ) (test : ℕ → Bool) → Marks word n test → (e : ℕ) → n ≤ e → has_state word e ≡ false
 marked_past word n test m e h = is_bit false (bit_at word e) (bit_at_above word n e m.fits h)
 
--- the states of the word are those below n that pass
+-- the states of the word are the states below n that pass
 pub marked_states : (word n : ℕ) (test : ℕ → Bool) → n ≤ 64 → Marks word n test → states_of word ≡ states_below test n
 marked_states word n test h m =
     let whole : 64 ≡ n + (64 - n) = omega arith in

@@ -15,7 +15,7 @@ none_below (suc n) = rw (← add-one n) (states_below-failing (λ _. false) n re
 other : (k e : ℕ) → k < e → (k == e) ≡ false
 other k e h = ne_eqb k e (λ same. omega arith)
 
--- one bit is the mark of one state
+-- one bit marks one state
 pub marks_single : (e : ℕ) → e < 64 → Marks (1 * 2 ^ e % 2 ^ 64) (e + 1) (λ k. k == e)
 marks_single e h =
     subst (λ w. Marks w (e + 1) (λ k. k == e)) (or_zero_l (1 * 2 ^ e % 2 ^ 64))

@@ -11,7 +11,7 @@ range_more a (suc n) =
     let e : a + 1 + n ≡ a + suc n = omega arith in
     ap (λ xs. a ∷ xs) (range_more (a + 1) n ∙ ap (λ x. range_with_len (a + 1) n ++ x ∷ []) e)
 
--- n goes last where it passes
+-- n comes last where it passes
 pub states_below-suc : (test : ℕ → Bool) (n : ℕ) → states_below test (suc n) ≡ states_below test n ++ cond (test n) (n ∷ []) []
 unfolding states_below
 states_below-suc test n =
@@ -21,12 +21,12 @@ states_below-suc test n =
 pub states_below-more : (test : ℕ → Bool) (n : ℕ) → states_below test (n + 1) ≡ states_below test n ++ cond (test n) (n ∷ []) []
 states_below-more test n = rw (add-one n) (states_below-suc test n)
 
--- nothing is below 0
+-- no number is below 0
 pub states_below-zero : (test : ℕ → Bool) → states_below test 0 ≡ []
 unfolding states_below
 states_below-zero test = refl
 
--- a number that passes goes last
+-- a number that passes comes last
 pub states_below-passing : (test : ℕ → Bool) (n : ℕ) → test n ≡ true → states_below test (n + 1) ≡ states_below test n ++ n ∷ []
 states_below-passing test n h = states_below-more test n ∙ rw h
 
@@ -34,7 +34,7 @@ states_below-passing test n h = states_below-more test n ∙ rw h
 pub states_below-failing : (test : ℕ → Bool) (n : ℕ) → test n ≡ false → states_below test (n + 1) ≡ states_below test n
 states_below-failing test n h = states_below-more test n ∙ rw h (append-nil (states_below test n))
 
--- tests that agree below n pass the same numbers
+-- tests that agree below n are passed by the same numbers
 pub states_below-same : (p q : ℕ → Bool) (n : ℕ) → ((e : ℕ) → e < n → p e ≡ q e) → states_below p n ≡ states_below q n
 states_below-same p q zero h = states_below-zero p ∙ sym (states_below-zero q)
 states_below-same p q (suc n) h =
@@ -45,7 +45,7 @@ states_below-same p q (suc n) h =
       states_below-same p q n (λ e k. h e (omega arith)),
     )
 
--- where nothing from n on passes, a higher bound adds nothing
+-- a higher bound adds nothing where no number from n on passes
 pub states_below-past : (test : ℕ → Bool) (n m : ℕ) → ((e : ℕ) → n ≤ e → test e ≡ false) → states_below test (n + m) ≡ states_below test n
 states_below-past test n zero h = let e : n + 0 ≡ n = omega arith in ap (states_below test) e
 states_below-past test n (suc m) h =
@@ -54,7 +54,7 @@ states_below-past test n (suc m) h =
     rw (e, states_below-suc test (n + m), h (n + m) past)
     (append-nil (states_below test (n + m)) ∙ states_below-past test n m h)
 
--- a number below n that passes is among them
+-- a number below n that passes is one of them
 pub in_states_below : (test : ℕ → Bool) (n e : ℕ) → e < n → test e ≡ true → Contains (states_below test n) e
 in_states_below test zero e h passes = absurd (omega arith)
 in_states_below test (suc n) e h passes =

@@ -1,4 +1,4 @@
--- What a guard means, and what a word of states holds.
+-- The meaning of a guard, and the states of a word.
 use Rattle.std.specs.Prelude.{ℕ, ◌==◌, ◌&&◌, Bool, true, false, not, List, filter, Option, find}
 use Rattle.std.specs.Int.{bit_at}
 use Rattle.std.specs.List.{list_all, list_any, range_with_len}
@@ -6,23 +6,23 @@ use Rattle.roman_guard.specs.declared.formula.Guard.{Guard}
 use Rattle.roman_guard.specs.declared.formula.Guard.TheOpen.{Guard-F}
 use Rattle.roman_guard.specs.declared.formula.Guard.TheFolds.{fold-Guard}
 
--- state e is one of the list
+-- state e is in the list
 abbrev pub is_one_of : List ℕ → ℕ → Bool
 is_one_of states e = list_any (λ s. s == e) states
 
--- the states that a set lacks
+-- the states that the set doesn't have
 abbrev pub complement : (ℕ → Bool) → ℕ → Bool
 complement set e = not (set e)
 
--- the states of every set
+-- the states that are in each set
 abbrev pub intersection : List (ℕ → Bool) → ℕ → Bool
 intersection sets e = list_all (λ set. set e) sets
 
--- the states of some set
+-- the states that are in some set
 abbrev pub union : List (ℕ → Bool) → ℕ → Bool
 union sets e = list_any (λ set. set e) sets
 
--- one level, where each guard inside is already the set that it means
+-- one level of a guard, where each inner guard is replaced by the set of its states
 abbrev pub holds_step : Guard-F (ℕ → Bool) → ℕ → Bool
 holds_step Guard-F.All = λ _. true
 holds_step Guard-F.Never = λ _. false
@@ -35,11 +35,11 @@ holds_step (Guard-F.Either sets) = union sets.items
 abbrev pub holds : Guard → ℕ → Bool
 holds = fold-Guard (ℕ → Bool) holds_step
 
--- the numbers below n that pass the test, in their order
+-- the numbers below n that pass the test, rising
 unfoldable pub states_below : (ℕ → Bool) → ℕ → List ℕ
 states_below test n = filter test (range_with_len 0 n)
 
--- the states below n that the guard means
+-- the states below n in which the guard holds
 abbrev pub means : Guard → ℕ → List ℕ
 means guard n = states_below (holds guard) n
 
@@ -55,6 +55,6 @@ states_of word = states_below (has_state word) 64
 abbrev pub has_both : ℕ → ℕ → ℕ → Bool
 has_both a b e = has_state a e && has_state b e
 
--- the least number below n that passes the test
+-- the least number below n that passes the test, if any
 unfoldable pub least_below : (ℕ → Bool) → ℕ → Option ℕ
 least_below test n = find test (range_with_len 0 n)

@@ -1,25 +1,26 @@
-//! The formula.
+//! Guards as formulas.
 ghost use Rattle.std.specs.Prelude.{◌≡◌, map};
 ghost use Rattle.roman_guard.specs.Meaning.{holds, is_one_of, intersection, union};
 
-/// A formula over the numbers of environment states, which stands for the states in which it holds.
+/// A formula over the numbers of environment states. It stands for the set of states in which it
+/// holds.
 #[derive(Debug, Drop)]
 pub enum Guard {
-    /// It holds in every state.
+    /// Holds in every state.
     All,
-    /// It holds in no state.
+    /// Holds in no state.
     Never,
-    /// It holds in the states that are listed.
+    /// Holds in the listed states.
     Among(Vec<u8>),
-    /// It holds where the guard doesn't.
+    /// Holds where the guard doesn't hold.
     Not(Box<Guard>),
-    /// It holds where every one of the guards does: everywhere, if there are none.
+    /// Holds where each of the guards holds. An empty list holds everywhere.
     Both(Vec<Guard>),
-    /// It holds where some one of the guards does: nowhere, if there are none.
+    /// Holds where at least one of the guards holds. An empty list holds nowhere.
     Either(Vec<Guard>),
 }
 
-/// Whether the guard holds in state `e`.
+/// Returns whether the guard holds in state `e`.
 #[cycle(guard)]
 pub(crate) fn holds_at(guard: &Guard, e: u8) -> bool
     ensures { result ≡ holds guard.now e }
@@ -34,7 +35,7 @@ pub(crate) fn holds_at(guard: &Guard, e: u8) -> bool
     }
 }
 
-/// Whether each of the guards holds in state `e`.
+/// Returns whether each of the guards holds in state `e`.
 #[cycle(guard)]
 fn all_hold(parts: &[Guard], e: u8) -> bool
     ensures { result ≡ intersection (map holds parts.now) e }
@@ -47,7 +48,7 @@ fn all_hold(parts: &[Guard], e: u8) -> bool
     true
 }
 
-/// Whether some of the guards holds in state `e`.
+/// Returns whether at least one of the guards holds in state `e`.
 #[cycle(guard)]
 fn some_holds(parts: &[Guard], e: u8) -> bool
     ensures { result ≡ union (map holds parts.now) e }
@@ -60,7 +61,7 @@ fn some_holds(parts: &[Guard], e: u8) -> bool
     false
 }
 
-/// Whether state `e` is one of those listed.
+/// Returns whether state `e` is listed.
 fn lists(states: &[u8], e: u8) -> bool
     ensures { result ≡ is_one_of states.now e }
 {

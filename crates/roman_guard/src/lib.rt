@@ -1,7 +1,8 @@
-//! Guards: sets of environment states, as a formula says them and as one word.
+//! Guards: sets of environment states, as formulas and as words.
 //!
-//! A [`Guard`] is a formula over the numbers of environment states. [`compile`] makes of it a
-//! [`StateSet`], a word with a bit for each state. `specs/Meaning` says in which states a guard holds.
+//! A [`Guard`] is a formula over the numbers of environment states. [`compile`] turns it into a
+//! [`StateSet`], a word with one bit for each state. `specs/Meaning` defines the states in which a
+//! guard holds.
 #![tactic(auto)]
 
 mod formula;

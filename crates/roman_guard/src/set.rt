@@ -5,8 +5,8 @@ ghost use Rattle.roman_guard.specs.Meaning.{means, has_state, states_of, has_bot
 use crate::formula::{Guard, holds_at};
 use std::marker::Model;
 
-/// A set of environment states below 64, `Copy`. Contracts see the word whose bit `e` is 1 exactly
-/// where state `e` is in the set.
+/// A set of environment states below 64. The type is `Copy`. Contracts see the word whose bit `e` is
+/// 1 exactly where state `e` is in the set.
 #[derive(Clone, Copy, Debug, PartialEq, Eq)]
 pub struct StateSet {
     bits: u64,
@@ -23,7 +23,7 @@ impl Model for StateSet {
 }
 
 impl StateSet {
-    /// The set of state `e` alone, for `e` below 64.
+    /// Returns the set with state `e` alone. Requires `e` below 64.
     pub fn single(e: u8) -> StateSet
         requires { e < 64 }
         ensures states { states_of result ≡ e ∷ [] }
@@ -32,7 +32,7 @@ impl StateSet {
         StateSet { bits: 1 << e }
     }
 
-    /// Whether state `e` is in the set, for any `e`.
+    /// Returns whether state `e` is in the set. Accepts any `e`.
     pub fn has(&self, e: u8) -> bool
         ensures has { result ≡ has_state self.now e }
     {
@@ -40,7 +40,7 @@ impl StateSet {
         e < 64 && (bits >> e) & 1 == 1
     }
 
-    /// The least state that both sets have; `None` where they have none in common.
+    /// Returns the least state that both sets have, or `None` where they have no common state.
     #[tactic(auto, using(crate::proofs::CommonLemmas::commons))]
     pub fn first_common(&self, other: &StateSet) -> Option<u8>
         ensures least { result ≡ least_below (has_both self.now other.now) 64 }
@@ -54,8 +54,9 @@ impl StateSet {
     }
 }
 
-/// The states below `states`, at most 64, in which the guard holds. A number in the guard that is no
-/// such state holds nowhere. Each state asks for one walk of the guard; no memory is taken.
+/// Returns the states below `states` in which the guard holds. Requires at most 64 states. Numbers in
+/// the guard that aren't below `states` are ignored. Walks the guard once for each state, and takes
+/// no memory.
 pub fn compile(guard: &Guard, states: u8) -> StateSet
     requires { states ≤ 64 }
     ensures has { (e : ℕ) → IsTrue (has_state result e) ↔ Contains (means guard.now states) e }

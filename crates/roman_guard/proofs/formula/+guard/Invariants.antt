@@ -1,4 +1,4 @@
--- What the guards that are left say is what all of them say.
+-- The remaining guards give the result of all guards.
 use Rattle.std.proofs.Common.{◌≡◌, map, drop}
 use Rattle.roman_guard.specs.Meaning.{holds, intersection, union}
 use Rattle.roman_guard.proofs.formula.+guard.Given as goal

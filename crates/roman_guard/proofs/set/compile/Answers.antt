@@ -1,4 +1,4 @@
--- A state in which the guard holds is marked, and the others are skipped.
+-- A state in which the guard holds gets its bit, and the others are skipped.
 use Rattle.std.proofs.Common.{◌≡◌, arith, sym, ◌∙◌}
 use Rattle.roman_guard.specs.Meaning.{holds}
 use Rattle.roman_guard.proofs.MarkLemmas.{marks_one, marks_skip, marked_states, marked_has_exactly}

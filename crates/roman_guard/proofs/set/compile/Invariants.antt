@@ -1,4 +1,4 @@
--- The word has the bits of the states so far.
+-- The word has the bits of the states before.
 use Rattle.roman_guard.specs.Meaning.{holds}
 use Rattle.roman_guard.proofs.MarkLemmas.{Marks}
 use Rattle.roman_guard.proofs.set.compile.Given as goal

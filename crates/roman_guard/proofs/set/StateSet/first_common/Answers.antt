@@ -1,4 +1,4 @@
--- The lowest bit of what the two words share is their least common state.
+-- The lowest common bit of the two words is their least common state.
 use Rattle.std.proofs.Common.{◌<◌, ◌≤◌, arith, sym, bit_and}
 use Rattle.std.proofs.lemmas.Nat.{and_le_l}
 use Rattle.roman_guard.proofs.CommonLemmas.{common_least}
