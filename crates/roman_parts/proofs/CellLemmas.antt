@@ -1,4 +1,4 @@
--- What the cells of a table have after one step more.
+-- The cells of a table after one more step.
 use Rattle.std.proofs.Common.{◌≡◌, ℕ, ◌+◌, ◌*◌, ◌%◌, ◌^◌, ◌<◌, ◌==◌, ◌&&◌, ◌||◌, Bool, true, false, nat_lt, List, [], length, get_or, set, take, replicate, refl, sym, ap, ap₂, ◌∙◌, subst, inl, inr, arith}
 use Rattle.std.specs.Int.{bit_at, w64}
 use Rattle.std.specs.Int.RustNames.{bit_or}
@@ -20,7 +20,7 @@ or_true : (x : Bool) → true ≡ (x || true)
 or_true true = refl
 or_true false = refl
 
--- n put into a mask
+-- the mask after n is added
 pub has_set : (mask n m : ℕ) → n < 64 → has_state (bit_or mask (1 * 2 ^ n % 2 ^ 64)) m ≡ (has_state mask m || m == n)
 has_set mask n m small = elim (cases_eq m n) [
   | inl e ↦
@@ -33,7 +33,7 @@ has_set mask n m small = elim (cases_eq m n) [
       ∙ ap (λ b. has_state mask m || b) (sym (ne_eqb m n ne))
 ]
 
--- the bit of n set in mask k
+-- mask k after the bit of n is set
 pub marks_set : (masks : List ℕ) (k n : ℕ) → k < length masks → n < 64 → PutsIntoCell masks (set masks k (bit_or (get_or masks k 0) (1 * 2 ^ n % 2 ^ 64))) k n
 unfolding cell_has
 marks_set masks k n within small = record { has = has }
@@ -58,7 +58,7 @@ pub ruleset marking = (marks_set)
 
 -- The table of an environment.
 
--- masks of nothing
+-- empty masks
 pub empty_has : (size j m : ℕ) → cell_has (replicate size 0) j m ≡ false
 unfolding cell_has
 empty_has size j m = ap (λ mask. has_state mask m) zero_at ∙ ap (λ b. b == 1) (bit_at-zero m)
@@ -66,17 +66,17 @@ empty_has size j m = ap (λ mask. has_state mask m) zero_at ∙ ap (λ b. b == 1
     zero_at : get_or {A = ℕ} (replicate size 0) j 0 ≡ 0
     zero_at = elim (cases_lt j size) [ inl less ↦ get_or-replicate size j 0 0 less | inr past ↦ get_or_past (replicate size 0) j 0 (omega (arith, length-replicate {A = ℕ})) ]
 
--- two places in a table are the same where their row and column are
+-- two places in a table are equal where their rows and columns are equal
 same_place : (e a e1 a1 w : ℕ) → a < w → a1 < w → (e * w + a == e1 * w + a1) ≡ (e == e1 && a == a1)
 same_place e a e1 a1 w h h1 = same_test (e * w + a == e1 * w + a1) (e == e1 && a == a1)
     (λ t. let (row, column) = same_from_place e a e1 a1 w h h1 (eqb-true (e * w + a) (e1 * w + a1) t) in and_from (e == e1) (a == a1) (eq-eqb e e1 row) (eq-eqb a a1 column))
     (λ t. let (row, column) = and_parts (e == e1) (a == a1) t in eq-eqb (e * w + a) (e1 * w + a1) (ap₂ (λ i j. i * w + j) (eqb-true e e1 row) (eqb-true a a1 column)))
 
--- the other way round
+-- the converse
 pub same_eqb : (a b : ℕ) → (a == b) ≡ (b == a)
 same_eqb a b = same_test (a == b) (b == a) (λ t. eq-eqb b a (sym (eqb-true a b t))) (λ t. eq-eqb a b (sym (eqb-true b a t)))
 
--- where the test grows by what is put into the cell
+-- the cells after n is added to one of them, where the test grows accordingly
 has_cells_more : (actions : ℕ) (test more : ℕ → ℕ → ℕ → Bool) (old new : List ℕ) (e a n : ℕ) → a < actions → HasCells actions test old → PutsIntoCell old new (e * actions + a) n →
     ((e1 a1 n1 : ℕ) → more e1 a1 n1 ≡ (test e1 a1 n1 || ((e1 == e && a1 == a) && n1 == n))) → HasCells actions more new
 has_cells_more actions test more old new e a n within cells marks grows = record {
@@ -90,7 +90,7 @@ pub leads_none : (actions size : ℕ) → HasCells actions (leads []) (replicate
 unfolding leads
 leads_none actions size = record { has = λ e a n less. empty_has size (e * actions + a) n }
 
--- a step that is put in front of those three tests, or behind them
+-- moves the first or the last of several tests
 and_turned : (x y z : Bool) → ((x && y) && z) ≡ ((z && y) && x)
 and_turned true true true = refl
 and_turned true true false = refl
@@ -137,7 +137,7 @@ same_place3 : (b e a b1 e1 a1 env_states actions : ℕ) → e < env_states → e
 same_place3 b e a b1 e1 a1 env_states actions he he1 ha ha1 =
     same_place (b * env_states + e) a (b1 * env_states + e1) a1 actions ha ha1 ∙ ap (λ p. p && a == a1) (same_place b e b1 e1 env_states he he1)
 
--- the step was put into the cells of the environment states below the bound
+-- the step was added to the cells of the environment states below the bound
 pub record MarksBelow (env_states actions bound : ℕ) (old new : List ℕ) (move : ℕ × ℕ × ℕ × ℕ) : Type 0 where
   pub has : (b e a n : ℕ) → e < env_states → a < actions →
       cell_has new ((b * env_states + e) * actions + a) n ≡ (cell_has old ((b * env_states + e) * actions + a) n || (is_move move b e a n && nat_lt e bound))
@@ -162,7 +162,7 @@ one_more false true true true false u false h = refl
 one_more false true true false t u true h = absurd (false≢true (h refl))
 one_more false true true false t u false h = refl
 
--- an environment state of the guard, whose cell is marked
+-- an environment state in the guard, whose cell is marked
 pub marks_more : (env_states actions bound : ℕ) (old mid new : List ℕ) (move : ℕ × ℕ × ℕ × ℕ) → bound < env_states → move.2 < actions → has_state move.1 bound ≡ true →
     MarksBelow env_states actions bound old mid move → PutsIntoCell mid new ((move.0 * env_states + bound) * actions + move.2) move.3 →
     MarksBelow env_states actions (bound + 1) old new move
@@ -187,7 +187,7 @@ one_less true true true t u true h = absurd (true≢false (h refl))
 one_less true true true true u false h = or_false u
 one_less true true true false u false h = refl
 
--- an environment state that the guard lacks
+-- an environment state that isn't in the guard
 pub marks_same : (env_states actions bound : ℕ) (old new : List ℕ) (move : ℕ × ℕ × ℕ × ℕ) → has_state move.1 bound ≡ false →
     MarksBelow env_states actions bound old new move → MarksBelow env_states actions (bound + 1) old new move
 unfolding is_move
@@ -211,7 +211,7 @@ marks_all env_states actions old new move below = record {
     and_true true = refl
     and_true false = refl
 
--- a step that is put into the cells
+-- the cells after one more step
 goes-more : (steps : List (ℕ × ℕ × ℕ × ℕ)) (i : ℕ) (m : ℕ × ℕ × ℕ × ℕ) (b e a n : ℕ) → i < length steps → m ≡ get_or steps i m →
     goes (take (i + 1) steps) b e a n ≡ (goes (take i steps) b e a n || is_move m b e a n)
 unfolding goes

@@ -1,4 +1,4 @@
--- Choices between steps, found pair by pair.
+-- Choices between steps, searched pair by pair.
 use Rattle.std.proofs.Common.{◌≡◌, ℕ, zero, suc, ◌+◌, ◌<◌, ◌≤◌, ◌==◌, ◌&&◌, not, List, [], ◌∷◌, length, get_or, take, map, filter, find, cond, Bool, true, false, Option, Some, None, is_some, option_map, refl, ap, ◌∙◌, arith, slice_get, below_more}
 use Rattle.std.specs.List.{range_with_len}
 use Rattle.std.proofs.lemmas.Bool.{and_from, cond-true, eq-eqb, ne_eqb}
@@ -12,9 +12,9 @@ use Rattle.roman_parts.specs.Listed.{move_of}
 use Rattle.roman_parts.specs.Choices.{first_below, choice_between, choice_at}
 use Rattle.roman_parts.proofs.TableLemmas.{has_states_of}
 
--- ---- the least number at which something is given
+-- ---- the least number at which a function has a value
 
--- nothing is given at the numbers below k
+-- f has no value at the numbers below k
 pub record NoneBelow {X : Type 0} (f : ℕ → Option X) (k : ℕ) : Type 0 where
   pub none : (j : ℕ) → j < k → f j ≡ None
 
@@ -54,7 +54,7 @@ find_same p q a zero same = refl
 find_same p q a (suc m) same =
     rw (same a (omega arith) (omega arith)) (ap (λ r. cond (q a) (Some a) r) (find_same p q (a + 1) m (λ e low high. same e (omega arith) (omega arith))))
 
--- the first state of one guard that the other has is the least that both have
+-- the first state of one guard that is in the other is the least state of both
 common_first : (a b : ℕ) → find (has (states_of b)) (states_of a) ≡ least_below (has_both a b) 64
 unfolding states_below least_below
 common_first a b =

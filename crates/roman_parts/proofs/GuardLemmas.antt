@@ -1,4 +1,4 @@
--- What a guard means, by what its value is.
+-- The meaning of a guard, by the form of its value.
 use Rattle.std.proofs.Common.{◌≡◌, ℕ, zero, suc, ◌+◌, ◌<◌, ◌≤◌, List, [], ◌∷◌, ◌++◌, length, get_or, drop, map, Bool, Some, None, Result, Ok, Err, refl, sym, ap, ◌∙◌, arith, add-one, drop-cons, append_assoc, slice_get, string_bytes}
 use Rattle.std.proofs.lemmas.List.{drop_all, append-nil, map_push}
 use Rattle.serde_json.specs.Data.{Data, null, boolean, number, string, array, object, Items, no_members, member, depth, items_depth}
@@ -17,7 +17,7 @@ use Rattle.roman_parts.specs.declared.error.List.{List as Place}
 use Rattle.roman_parts.specs.declared.error.List.TheVariants.{Steps}
 use Rattle.roman_parts.specs.declared.error.PartError.{PartError}
 
--- ---- the one member
+-- ---- the only member
 
 pub sole_of-none : (d : Data) → as_object d ≡ None → sole_of d ≡ None
 sole_of-none d h = rw h
@@ -78,7 +78,7 @@ module _ (states : List (List ℕ)) (i : ℕ) where
   guards_of-list (array ds) = refl
   guards_of-list (object ms) = refl
 
--- the only member of an object nests less
+-- the only member of an object is nested less deeply
 pub sole-depth : (d : Data) (name : List ℕ) (e : Data) → Some (name, e) ≡ sole_of d → depth e < depth d
 sole-depth (object (member k d no_members)) name e h =
     let same : ◌≡◌ {A = List ℕ × Data} (k, d) (name, e) = cc in
@@ -95,7 +95,7 @@ list-depth : (list : Place) (i : ℕ) (d : Data) (ds : Items) → looked list i 
 list-depth list i (array es) ds h = let same : es ≡ ds = cc in let less : items_depth es ≡ items_depth ds = ap items_depth same in omega arith
 list-depth list i _ ds h = cc
 
--- each item of a list nests less
+-- each item of a list is nested less deeply
 pub listed-depth : (list : Place) (i : ℕ) (d : Data) (items : List Value) (k : ℕ) (x : Value) → looked list i (list_of d) ≡ Ok (items_view items)
     → k < length items → x ≡ get_or items k x → depth (view x) < depth d
 listed-depth list i d items k x h lt is =
@@ -106,7 +106,7 @@ listed-depth list i d items k x h lt is =
 
 -- ---- a list of guards
 
--- the guards so far, and those that are left, mean what all of them mean
+-- the guards read so far and the remaining ones give the result of all of them
 pub record GuardsLeft (states : List (List ℕ)) (i : ℕ) (items : List Value) (k : ℕ) (guards : List Guard) : Type 0 where
   pub same : (each_guard states i (items_view (drop k items)) >>= (λ rest. Ok (map holds guards ++ rest))) ≡ each_guard states i (items_view items)
 

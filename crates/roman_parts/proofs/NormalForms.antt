@@ -12,9 +12,9 @@ use Rattle.roman_parts.proofs.NormalLemmas.{has_triple-normal, has_move-normal, 
 use Rattle.roman_parts.specs.Normals.{Rises, IsLess, AreBefore, IsTripleBefore, IsMoveBefore, IsNormalEnv, IsNormalBeh, SameEnv, SameBeh, NormalFormsAreNormal, NormalFormsAreUnique}
 use Rattle.roman_parts.proofs.Rising.{rises_filter, rises_flat, rises_map, rises_same, rises_below}
 
--- They rise
+-- Normal forms rise
 
--- an environment's triples, from one state by one action
+-- an environment's triples from one state by one action
 tripled : ℕ → ℕ → ℕ → Triple
 tripled e a e' = record { from = e; action = a; to = e' }
 
@@ -36,7 +36,7 @@ env_rises env =
     let (q, iq, sy) = from_map (tripled e b) y (env_next env e b) jy in
     subst (λ (x : Triple). IsTripleBefore x y) (sym sx) (subst (IsTripleBefore (tripled d a p)) (sym sy) (inl less)))
 
--- a step with a guard, if it isn't empty
+-- a step with the guard, if it isn't empty
 record IsGuarded (b a b' : ℕ) (es : List ℕ) (m : Move) : Type 0 where
   from : m.from ≡ b
   action : m.action ≡ a
@@ -124,7 +124,7 @@ forms_normal = record {
   };
 }
 
--- They are determined by their steps
+-- Normal forms are determined by their steps
 
 never_both : (a b c x y z : ℕ) → AreBefore (a, b, c) (x, y, z) → AreBefore (x, y, z) (a, b, c) → ⊥
 never_both a b c x y z (inl l) (inl m) = omega arith
@@ -151,13 +151,13 @@ env_unique x y hx hy same =
         ◌≡◌ {A = Env} (record { states = s; actions = a; start = b; triples = t }) (record { states = s'; actions = a'; start = b'; triples = t' })
     rebuilt s s' a a' b b' t t' hs ha hb ht = rw (hs, ha, hb, ht) refl
 
--- two steps at one place don't come one before the other
+-- of two steps with the same states and action neither comes before the other
 at_one_place : (m n : Move) → m.from ≡ n.from → m.action ≡ n.action → m.to ≡ n.to → IsMoveBefore m n → ⊥
 at_one_place m n f a t (inl l) = omega (arith, f, l)
 at_one_place m n f a t (inr (d, inl l)) = omega (arith, a, l)
 at_one_place m n f a t (inr (d, inr (g, l))) = omega (arith, t, l)
 
--- a list that rises has one step at a place
+-- a rising list has one step with the same states and action
 one_at_place : (ms : List Move) (m n : Move) → Rises IsMoveBefore ms → IsIn m ms → IsIn n ms → m.from ≡ n.from → m.action ≡ n.action → m.to ≡ n.to → m ≡ n
 one_at_place [] m n h i j f a t = absurd i
 one_at_place (x ∷ xs) m n h (inl e) (inl g) f a t = e ∙ sym g

@@ -9,7 +9,7 @@ use Rattle.roman_parts.specs.Named.{IsOver}
 use Rattle.roman_model.proofs.CallerLemmas.{same_test, filter_in, from_below, filter_same, HasNoRepeats-below, HasNoRepeats-filter}
 use Rattle.roman_model.proofs.CallerLemmas.{IsEnv-made, IsBeh-made, from_made_triple, made_triple, from_made_move, made_move, from_made_final, made_final}
 
--- a triple of the normal form is one of the environment's own, in range
+-- a triple of the normal form is a triple of the environment, in range
 pub from_normal_triple : (env : Env) (e a e' : ℕ) → IsTrue (has_triple (normal_env env) e a e') →
     (e < env.states) × (a < env.actions) × (e' < env.states) × IsTrue (has_triple env e a e')
 from_normal_triple env e a e' t = from_made_triple env.states env.actions env.start (has_triple env) e a e' t
@@ -25,11 +25,11 @@ env_next-normal env e a he ha = filter_same _ _ (below env.states) (λ e' i. has
 pub env_prev-normal : (env : Env) (e' a : ℕ) → e' < env.states → a < env.actions → env_prev (normal_env env) e' a ≡ env_prev env e' a
 env_prev-normal env e' a he' ha = filter_same _ _ (below env.states) (λ e i. has_triple-normal env e a e' (from_below env.states e i) ha he')
 
--- an environment's numbers are in range, whatever its list
+-- the numbers of the normal form of an environment are in range, whatever its triples
 pub IsEnv-normal : (env : Env) → (0 < env.states) × (env.states ≤ MAX_STATES) → (0 < env.actions) × (env.actions ≤ MAX_ACTIONS) → env.start < env.states → IsEnv (normal_env env)
 IsEnv-normal env states actions start = IsEnv-made env.states env.actions env.start (has_triple env) states actions start
 
--- a step of the normal form is one of the behaviour's own, in range
+-- a step of the normal form is a step of the behaviour, in range
 pub from_normal_move : (env_states actions : ℕ) (beh : Beh) (b e a b' : ℕ) → IsTrue (has_move (normal_beh env_states actions beh) b e a b') →
     (b < beh.states) × (e < env_states) × (a < actions) × (b' < beh.states) × IsTrue (has_move beh b e a b')
 from_normal_move env_states actions beh b e a b' t = from_made_move env_states actions beh.states beh.start (is_final beh) (has_move beh) b e a b' t
@@ -50,7 +50,7 @@ pub beh_prev-normal : (env_states actions : ℕ) (beh : Beh) (b' e a : ℕ) → 
 beh_prev-normal env_states actions beh b' e a hb' he ha =
     filter_same _ _ (below beh.states) (λ b i. has_move-normal env_states actions beh b e a b' (from_below beh.states b i) he ha hb')
 
--- a behaviour's numbers are in range, whatever its lists
+-- the numbers of the normal form of a behaviour are in range, whatever its steps
 pub IsBeh-normal : (env : Env) (beh : Beh) → (0 < beh.states) × (beh.states ≤ MAX_STATES) → beh.start < beh.states → IsBeh env (normal_beh env.states env.actions beh)
 IsBeh-normal env beh states start = IsBeh-made env beh.states beh.start (is_final beh) (has_move beh) states start
 
@@ -63,14 +63,14 @@ pub IsOver-normal : (env_states actions : ℕ) (beh : Beh) → (0 < beh.states) 
 IsOver-normal env_states actions beh states start = λ env hs ha.
     subst (λ n. IsBeh env (normal_beh n actions beh)) hs (subst (λ n. IsBeh env (normal_beh env.states n beh)) ha (IsBeh-normal env beh states start))
 
--- what a behaviour that is in range says of its own numbers
+-- the bounds on the numbers of a behaviour in range
 pub IsOver-states : (env_states actions : ℕ) (beh : Beh) → IsOver env_states actions beh → (0 < beh.states) × (beh.states ≤ MAX_STATES)
 IsOver-states env_states actions beh over = (over (record { states = env_states; actions = actions; start = 0; triples = [] }) refl refl).states
 
 pub IsOver-start : (env_states actions : ℕ) (beh : Beh) → IsOver env_states actions beh → beh.start < beh.states
 IsOver-start env_states actions beh over = (over (record { states = env_states; actions = actions; start = 0; triples = [] }) refl refl).start
 
--- a deterministic behaviour goes to at most one state
+-- a deterministic behaviour has at most one next state
 pub single_next : (beh : Beh) (b e a : ℕ) → IsDeterministic beh →
     MatchOption (slice_get (beh_next beh b e a) 0) (beh_next beh b e a ≡ []) (λ to. beh_next beh b e a ≡ to ∷ [])
 single_next beh b e a single =

@@ -1,4 +1,4 @@
--- What a document's value is read as, an environment, a behaviour or a target, is one.
+-- The value of a document that is read as a part is well formed.
 use Rattle.std.proofs.Common.{◌≡◌, ℕ, ◌+◌, ◌<◌, ◌≤◌, ◌&&◌, Bool, true, false, List, [], ◌∷◌, ◌++◌, length, Option, Some, None, is_some, is_none, nat_le, codes, Ok, IsTrue, refl, sym, ap, ◌∙◌, subst, arith, leb-true, length-append}
 use Rattle.std.specs.Str.{bytes_eq}
 use Rattle.std.proofs.lemmas.Bool.{and_parts}
@@ -25,7 +25,7 @@ use Rattle.roman_parts.specs.declared.error.List.TheVariants as list
 use Rattle.roman_parts.proofs.NormalLemmas.{IsEnv-normal, IsOver-normal}
 use Rattle.roman_parts.proofs.SingleLemmas.{single_moves}
 
--- Readings that aren't refused
+-- Readings that succeed
 
 pub check_is : {X : Type 0} (b : Bool) (rule : Kind) (list : Place) (i : ℕ) (x y : X) → check b rule list i x ≡ Ok y → IsTrue b × (x ≡ y)
 check_is true rule list i x y h = (refl, same_ok x y h)
@@ -93,7 +93,7 @@ start_below states d k h =
 
 -- Parts
 
--- the environment is in range, and has a name for each of its states and actions
+-- the environment is in range, and each of its states and actions has a name
 pub record IsEnvironment (env : NamedEnv) : Type 0 where
   pub known : IsEnv env.env
   pub states : length env.states ≡ env.env.states
@@ -114,7 +114,7 @@ environment_known d env h =
       actions = refl;
     })
 
--- the behaviour is one of that environment, and has the name that was read
+-- the behaviour is over the environment, and has the name that was read
 pub record IsNamedBehaviour (env : NamedEnv) (d : Data) (b : NamedBeh) : Type 0 where
   pub known : IsBehaviour env b
   pub name : name_of d ≡ Ok b.name

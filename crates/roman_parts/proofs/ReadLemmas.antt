@@ -1,4 +1,4 @@
--- Lists of names, final states and steps: what they are read as, and how they are refused.
+-- Lists of names, final states and steps: their values, and their refusals.
 use Rattle.std.proofs.Common.{◌≡◌, ◌≢◌, ℕ, suc, ◌<◌, ◌≤◌, ◌⊎◌, ◌&&◌, inl, inr, Bool, true, false, List, [], ◌∷◌, ◌++◌, length, get_or, Option, Some, None, is_none, nat_le, codes, Result, Ok, Err, IsTrue, IsFalse, slice_get, refl, sym, ap, ◌∙◌, subst, arith, leb-true, true≢false}
 use Rattle.std.specs.List.{AllZip, list_any, position_or_len}
 use Rattle.std.specs.Str.{bytes_eq}
@@ -77,7 +77,7 @@ in_place names text k h =
 there_some : (names : List (List ℕ)) (text : List ℕ) → IsIn text names → (k : ℕ) × (place_of names text ≡ Some k)
 there_some names text there = (position_or_len (bytes_eq text) names, place_of-present names text (any_from (bytes_eq text) text names there (itself text)))
 
--- a name stands first at one place
+-- a name occurs first at only one place
 place_from : (names : List (List ℕ)) (text : List ℕ) (k : ℕ) → slice_get names k ≡ Some text → ((j : ℕ) → j < k → slice_get names j ≡ Some text → ⊥) → place_of names text ≡ Some k
 place_from names text k there first =
     let (i, found) = there_some names text (get_in names k text there) in
@@ -269,7 +269,7 @@ name_steps list = record {
   refused = name_refused list;
 }
 
--- names behind some others: each is one, none stands twice or among those
+-- names after some others: each is a name, and none occurs twice or among the others
 record AreNamesAfter (before : List (List ℕ)) (ds : List Data) (names : List (List ℕ)) : Type 0 where
   texts : AllZip (λ item name. text_of item ≡ Ok name) ds names
   named : (name : List ℕ) → IsIn name names → IsTrue (is_name name)
@@ -322,7 +322,7 @@ names_listing : (list : Place) (name : List ℕ) (most : ℕ) (d : Data) → IsL
 unfolding some_few
 names_listing list name most d = counted_listing list name 1 most (some_few most) (λ n fits. (omega (arith, fits.0), fits.1)) (λ n fits. (omega (arith, fits.0), fits.1)) d
 
--- a member's items, and then a step for each
+-- the items of a member, and then a step for each item
 module _ {X : Type 0} (step : ℕ → List X → Data → Result (List X) PartError) (Is : List X → Data → X → Type 0) (Breaks : ℕ → List X → Data → PartError → Type 0) (ok : IsStep step Is Breaks)
     (list : Place) (name : List ℕ) (Fits : ℕ → Type 0) (r : Data → Result Items PartError) (listing : (d : Data) → IsListing name (λ rule. Refused rule list 0) Fits d (r d)) where
   list_reads : ReadsList list name Fits Is Breaks (λ d. r d >>= each_item step 0 [])
@@ -358,7 +358,7 @@ names_exact list name most d names = (
       }),
 )
 
--- What a list of things read one by one is
+-- The values of a list that is read item by item
 
 module _ {X : Type 0} (read : ℕ → Data → Result X PartError) (Is : ℕ → Data → X → Type 0) (Breaks : ℕ → Data → PartError → Type 0)
     (ok : (i : ℕ) (d : Data) (x : X) → read i d ≡ Ok x → Is i d x) (given : (i : ℕ) (d : Data) (x : X) → Is i d x → read i d ≡ Ok x)

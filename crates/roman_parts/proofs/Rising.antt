@@ -1,4 +1,4 @@
--- Lists that rise.
+-- Rising lists.
 use Rattle.std.proofs.Common.{◌≡◌, ℕ, zero, suc, ◌<◌, Bool, inl, inr, List, [], ◌∷◌, ◌++◌, map, refl, sym, ap₂, ◌∙◌, subst, arith}
 use Rattle.std.specs.List.{filter, flat_map}
 use Rattle.std.proofs.lemmas.Bool.{cond-true, cond-false}
@@ -34,11 +34,11 @@ module _ {X : Type 0} (Before : X → X → Type 0) where
     rises_map f ks h.1 between,
   )
 
-  -- nothing comes before itself
+  -- no element comes before itself
   itself : (x z : X) → ((x y : X) → Before x y → Before y x → ⊥) → Before x z → z ≡ x → ⊥
   itself x z never h e = let b : Before x x = subst (Before x) e h in never x x b b
 
-  -- two lists that rise and have the same elements are equal
+  -- two rising lists with the same elements are equal
   pub rises_same : (xs ys : List X) → ((x y : X) → Before x y → Before y x → ⊥) → Rises Before xs → Rises Before ys → ((x : X) → IsIn x xs → IsIn x ys) → ((x : X) → IsIn x ys → IsIn x xs) → xs ≡ ys
   rises_same [] [] never hx hy there back = refl
   rises_same [] (y ∷ ys) never hx hy there back = absurd (back y (inl refl))

@@ -1,4 +1,4 @@
--- Pieces between bounds: how many, which, and what one bound more adds.
+-- Pieces between bounds: their number, their places, and the effect of one more bound.
 use Rattle.std.proofs.Common.{◌≡◌, ℕ, zero, suc, ◌+◌, ◌<◌, ◌≤◌, List, [], ◌∷◌, ◌++◌, length, get_or, drop, Some, slice_get, slice_range, refl, sym, ap, ap₂, ◌∙◌, inl, inr, arith, add-one, length-append}
 use Rattle.std.proofs.lemmas.List.{take-append-le, drop_at, take_all, get_or_append_left, get_or_push, length_push}
 use Rattle.std.proofs.lemmas.Slice.{between_is}
@@ -26,12 +26,12 @@ slice_get-pieces bounds items k within = rw add-one (piece_at bounds items k (om
 
 pub ruleset row_steps = (length-pieces, slice_get-pieces)
 
--- a part that lies within the items stays where more items come behind them
+-- a piece within the items stays the same where more items follow
 slice_range-append : (items more : List ℕ) (from to : ℕ) → to ≤ length items → slice_range (items ++ more) from to ≡ slice_range items from to
 slice_range-append items more from to within =
     between_is (items ++ more) from to ∙ ap (drop from) (take-append-le to items more within) ∙ sym (between_is items from to)
 
--- one bound more, behind the new items: they are the new piece
+-- one more bound after the new items adds them as a piece
 pieces-push : (bounds items more : List ℕ) (n : ℕ) → 0 < length bounds → ((k : ℕ) → k < length bounds → get_or bounds k 0 ≤ length items) →
     ((k : ℕ) → k + 1 ≡ length bounds → get_or bounds k 0 ≡ length items) → n ≡ length items + length more →
     pieces (bounds ++ n ∷ []) (items ++ more) ≡ pieces bounds items ++ more ∷ []
@@ -50,7 +50,7 @@ pub record IsLaid (bounds items : List ℕ) (laid : List (List ℕ)) : Type 0 wh
   pub last : (k : ℕ) → k + 1 ≡ length bounds → get_or bounds k 0 ≡ length items
   pub rows : pieces bounds items ≡ laid
 
--- one row more
+-- the rows with one more row
 pub laid_more : (bounds items more : List ℕ) (rows : List (List ℕ)) (n : ℕ) → IsLaid bounds items rows → n ≡ length (items ++ more) →
     IsLaid (bounds ++ n ∷ []) (items ++ more) (rows ++ more ∷ [])
 laid_more bounds items more rows n laid end = record {

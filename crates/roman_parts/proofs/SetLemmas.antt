@@ -1,4 +1,4 @@
--- The states of a word, one after another.
+-- The states of a word, one by one.
 use Rattle.std.proofs.Common.{◌≡◌, ◌≢◌, ℕ, zero, suc, ◌*◌, ◌%◌, ◌^◌, ◌<◌, ◌≤◌, ◌==◌, Bool, true, false, cond, [], ◌∷◌, ◌++◌, length, sym, ap, ap₂, ◌∙◌, subst, inl, inr, arith, length-append}
 use Rattle.std.specs.Int.{bit_not, trailing_zeros, w64}
 use Rattle.std.specs.Int.RustNames.{bit_and}
@@ -8,13 +8,13 @@ use Rattle.std.proofs.lemmas.Nat.Bits.{bit_at-zero, bit_at-trailing_zeros, bit_a
 use Rattle.roman_guard.specs.Meaning.{has_state, states_below, states_of}
 use Rattle.roman_guard.proofs.CallerLemmas.{states_below-zero, states_below-suc}
 
--- a test that no number below the bound passes keeps nothing
+-- a test that no number below the bound passes keeps no number
 states_below-none : (p : ℕ → Bool) (bound : ℕ) → ((i : ℕ) → i < bound → p i ≡ false) → states_below p bound ≡ []
 states_below-none p zero none = states_below-zero p
 states_below-none p (suc n) none =
     states_below-suc p n ∙ ap₂ (λ xs ys. xs ++ ys) (states_below-none p n (λ i less. none i (omega arith))) (cond-false (p n) (n ∷ []) [] (none n (omega arith)))
 
--- the first number that passes, and then those that pass the test that only it doesn't
+-- the first number that passes, followed by the numbers that pass after it
 states_below-first : (p q : ℕ → Bool) (first : ℕ) → ((i : ℕ) → i < first → p i ≡ false) → p first ≡ true → q first ≡ false →
     (bound : ℕ) → ((i : ℕ) → i < bound → i ≢ first → q i ≡ p i) → first < bound → states_below p bound ≡ first ∷ states_below q bound
 states_below-first p q first before at gone zero others within = let none : ⊥ = omega arith in absurd none
@@ -45,7 +45,7 @@ length-states_below p (suc n) =
     let one : length (cond (p n) (n ∷ []) []) ≤ 1 = cond_both (p n) (n ∷ []) [] (λ xs. length xs ≤ 1) (λ _. omega arith) (λ _. omega arith) in
     omega arith)
 
--- the lowest state, and then the states of the word without it
+-- the lowest state, followed by the states of the word without it
 pub states_of-next : (n : ℕ) → 0 < n → n < 2 ^ 64 →
     states_of n ≡ trailing_zeros w64 n ∷ states_of (bit_and n (bit_not w64 (1 * 2 ^ trailing_zeros w64 n % 2 ^ bits w64)))
 states_of-next n some fits =

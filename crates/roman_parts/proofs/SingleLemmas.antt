@@ -1,4 +1,4 @@
--- Steps without a choice are those of a target that goes to at most one state, and a choice has a state of both guards.
+-- Steps without a choice go to at most one state, and a choice has a state of both guards.
 use Rattle.std.proofs.Common.{◌≡◌, ℕ, ◌<◌, ◌==◌, ◌&&◌, ◌^◌, not, List, length, get_or, map, cond, find, All, Bool, true, false, Option, Some, None, is_some, option_map, IsTrue, refl, sym, ap, ◌∙◌, arith, slice_get, inl, inr, subst}
 use Rattle.std.specs.Option.{option_and_then}
 use Rattle.std.proofs.lemmas.Bool.{and_from, cases_lt, cases_order, eq-eqb, eqb-true, true≢false}
@@ -15,9 +15,9 @@ use Rattle.roman_parts.specs.Listed.{move_of, listed_beh}
 use Rattle.roman_parts.specs.Choices.{first_below, choice_between, choice_at, choice_with, choice_of}
 use Rattle.roman_parts.proofs.NormalLemmas.{from_normal_move}
 
--- ---- what the search for the first says
+-- ---- results of the search for the first value
 
--- where it finds something, that is given there
+-- where it finds a number, f has the value there
 found_at : {X : Type 0} (f : ℕ → Option X) (n k : ℕ) (x : X) → first_below f n ≡ Some (k, x) → (k < n) × (f k ≡ Some x)
 unfolding first_below
 found_at {X} f n k x h = by_place (find (λ j. is_some (f j)) (below n)) refl h
@@ -35,7 +35,7 @@ found_at {X} f n k x h = by_place (find (λ j. is_some (f j)) (below n)) refl h
         let (same, given) = by_given j (f j) refl g in
         (subst (λ i. i < n) same less, subst (λ i. f i ≡ Some x) same given)
 
--- where it finds nothing, nothing is given
+-- where it finds none, f has no value
 nothing_at : {X : Type 0} (f : ℕ → Option X) (n j : ℕ) → first_below f n ≡ None → j < n → f j ≡ None
 unfolding first_below
 nothing_at {X} f n j h less = by_given (f j) refl
@@ -53,7 +53,7 @@ nothing_at {X} f n j h less = by_given (f j) refl
 
 -- ---- no choice
 
--- two steps that go from one state by one action to different states, with a state in both guards, leave a choice
+-- two steps from one state by one action to different states, with a state in both guards, form a choice
 no_choice : (m n : Move) (e : ℕ) → choice_between (Some m) (Some n) ≡ None → m.from ≡ n.from → m.action ≡ n.action → IsIn e m.guard → IsTrue (has n.guard e) → m.to ≡ n.to
 unfolding choice_between
 no_choice m n e none from action here there =
@@ -89,7 +89,7 @@ module _ (steps : List Move) (none : choice_of steps ≡ None) where
             sym m_to ∙ no_choice m n e (apart j i n m after i_in get_j get_i) (m_from ∙ sym n_from) (m_action ∙ sym n_action) m_guard (any_from (λ s. s == e) e n.guard n_guard (eq-eqb e e refl)) ∙ n_to
       ]
 
--- a behaviour whose steps leave no choice goes to at most one state
+-- a behaviour whose steps form no choice goes to at most one state
 pub single_moves : (env_states actions : ℕ) (beh : Beh) → choice_of beh.steps ≡ None → IsDeterministic (normal_beh env_states actions beh)
 single_moves env_states actions beh none b e a b1 b2 h1 h2 =
     let own1 = (from_normal_move env_states actions beh b e a b1 h1).4 in
@@ -98,7 +98,7 @@ single_moves env_states actions beh none b e a b1 b2 h1 h2 =
     let (n, n_in, n_test) = any_true (λ x. x.from == b && x.action == a && has x.guard e && x.to == b2) beh.steps own2 in
     one_to beh.steps none b e a m n b1 b2 m_in n_in m_test n_test
 
--- so does a target from lists
+-- the same for a target from lists
 pub single_steps : (env_states actions states start : ℕ) (finals : List ℕ) (steps : List (ℕ × ℕ × ℕ × ℕ)) → choice_of (map move_of steps) ≡ None
     → IsDeterministic (normal_beh env_states actions (listed_beh states start finals steps))
 single_steps env_states actions states start finals steps none = single_moves env_states actions (listed_beh states start finals steps) none

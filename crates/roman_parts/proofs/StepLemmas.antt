@@ -1,4 +1,4 @@
--- Lists of three and four items, and lists of steps that are read one by one.
+-- Lists of three and four items, and lists of steps that are read item by item.
 use Rattle.std.proofs.Common.{◌≡◌, List, [], ◌∷◌, length, get_or, Some, None, refl, arith}
 use Rattle.std.proofs.lemmas.List.{map_push}
 use Rattle.serde_json.specs.View.{view, items_view}
@@ -24,8 +24,8 @@ pub four_of-others : (items : List Value) → (length items ≡ 4 → ⊥) → f
 four_of-others (x ∷ y ∷ z ∷ w ∷ []) h = absurd (h refl)
 four_of-others _ h = refl
 
--- what the parts of a step rest on
+-- the rules for the parts of a step
 pub ruleset items = (three_of-items, three_of-others, four_of-items, four_of-others)
 
--- what lists of steps rest on
+-- the rules for lists of steps
 pub ruleset step_lists = (at_start, pushed_on, pushed_ends, is_done, map_push)

@@ -1,4 +1,4 @@
--- Rows that were laid out from the masks of a list of steps hold the steps of the record in normal form.
+-- Rows made from the masks of a list of steps hold the steps of the record in normal form.
 use Rattle.std.proofs.Common.{◌≡◌, ℕ, zero, suc, ◌+◌, ◌-◌, ◌*◌, ◌<◌, ◌≤◌, ◌==◌, ◌&&◌, Bool, false, IsTrue, List, [], ◌∷◌, ◌++◌, map, length, get_or, All, Some, slice_get, filter, refl, sym, ap, ◌∙◌, subst, arith}
 use Rattle.std.proofs.lemmas.Bool.{false_from_ne_true, and_parts, eqb-true, eq-eqb}
 use Rattle.std.proofs.lemmas.List.{get_or-map, length-map}
@@ -24,7 +24,7 @@ states_below-filter : (p : ℕ → Bool) (n : ℕ) → states_below p n ≡ filt
 states_below-filter p zero = states_below-zero p
 states_below-filter p (suc n) = states_below-suc p n ∙ ap (λ xs. xs ++ filter p (n ∷ [])) (states_below-filter p n) ∙ sym (filter-append p (below n) (n ∷ []))
 
--- a mask that has what passes has the numbers below the bound that pass, where none passes from there on
+-- the states of a mask are the numbers below the bound that pass, where no number from there on passes
 mask_filter : (mask n : ℕ) (p : ℕ → Bool) → n ≤ 64 → ((i : ℕ) → has_state mask i ≡ p i) → ((i : ℕ) → n ≤ i → p i ≡ false) → states_of mask ≡ filter p (below n)
 mask_filter mask n p small same past =
     let whole : 64 ≡ n + (64 - n) = omega arith in
@@ -38,12 +38,12 @@ row_of_cell masks k n p within small same past =
     slice_get-get_or (map states_of masks) k [] (omega (arith, length-map masks states_of))
     ∙ ap Some (get_or-map states_of masks k 0 [] within ∙ mask_filter (get_or masks k 0) n p small same past)
 
--- the steps of the list are those of the record
+-- the steps of the list are the steps of the record
 leads_is : (states actions start : ℕ) (steps : List (ℕ × ℕ × ℕ)) (e a e' : ℕ) → leads steps e a e' ≡ has_triple (listed_env states actions start steps) e a e'
 unfolding leads is_triple
 leads_is states actions start steps e a e' = sym (list_any-map triple_of _ steps)
 
--- a step that is listed is in range
+-- a listed step is in range
 leads_in_range : (states actions : ℕ) (steps : List (ℕ × ℕ × ℕ)) (e a e' : ℕ) → AreTriples states actions steps → IsTrue (leads steps e a e') → (e < states) × (a < actions) × (e' < states)
 unfolding leads is_triple
 leads_in_range states actions steps e a e' range t =
@@ -66,12 +66,12 @@ row_triples-normal env rows next =
 all_below_bound : (n : ℕ) → All (λ x. x < n) (below n)
 all_below_bound n = λ k d less. subst (λ x. x < n) (sym (get_or-below n k d (omega (arith, length-below n)))) (omega (arith, length-below n))
 
--- the rows have the triples of the normal form, and serve its look-ups
+-- the rows have the triples of the normal form, and give its look-ups
 pub record AreLaidTriples (states actions start : ℕ) (steps : List (ℕ × ℕ × ℕ)) (to from : List ℕ) : Type 0 where
   pub triples : row_triples states actions (map states_of to) ≡ (normal_env (listed_env states actions start steps)).triples
   pub rows : HasRows (normal_env (listed_env states actions start steps)) (map states_of to) (map states_of from)
 
--- the masks of a list of steps, laid out as rows
+-- the rows made from the masks of a list of steps
 module _ (states actions start : ℕ) (steps : List (ℕ × ℕ × ℕ)) (to from : List ℕ)
     (many_states : (0 < states) × (states ≤ MAX_STATES)) (many_actions : (0 < actions) × (actions ≤ MAX_ACTIONS)) (starts : start < states)
     (range : AreTriples states actions steps)
@@ -103,7 +103,7 @@ module _ (states actions start : ℕ) (steps : List (ℕ × ℕ × ℕ)) (to fro
     };
   }
 
--- what a look-up gives is below the number of states
+-- the states that a look-up gives are in range
 pub next_below : (env : Env) (to from : List (List ℕ)) (e a k : ℕ) (xs : List ℕ) → HasRows env to from → e < env.states → a < env.actions →
     k ≡ e * env.actions + a → slice_get to k ≡ Some xs → All (λ x. x < env.states) xs
 next_below env to from e a k xs rows he ha place row =
@@ -118,7 +118,7 @@ prev_below env to from e' a k xs rows he' ha place row =
 
 -- The table of a behaviour.
 
--- a number below the bound is among those that pass where it passes
+-- a number below the bound is in the filtered list exactly where it passes
 pub has_filter : (p : ℕ → Bool) (n i : ℕ) → i < n → has (filter p (below n)) i ≡ p i
 has_filter p n i less = same_test (has (filter p (below n)) i) (p i)
     (λ t. let (k, ik, same) = any_true (λ m. m == i) (filter p (below n)) t in subst (λ m. IsTrue (p m)) (eqb-true k i same) (filter_in p k (below n) ik).1)
@@ -130,7 +130,7 @@ has_states_below p n i less = ap (λ xs. has xs i) (states_below-filter p n) ∙
 pub has_states_of : (mask i : ℕ) → i < 64 → has (states_of mask) i ≡ has_state mask i
 has_states_of mask i less = has_states_below (has_state mask) 64 i less
 
--- the steps of the list are those of the record
+-- the steps of the list are the steps of the record
 goes_is : (states start : ℕ) (finals : List ℕ) (steps : List (ℕ × ℕ × ℕ × ℕ)) (b e a b' : ℕ) → e < 64 → goes steps b e a b' ≡ has_move (listed_beh states start finals steps) b e a b'
 unfolding goes is_move
 goes_is states start finals steps b e a b' small =
@@ -159,13 +159,13 @@ row_moves-normal env_states actions beh rows next =
     (next b e a (from_below beh.states b ib) (from_below env_states e ie) (from_below actions a ia)))
     ∙ has_filter (has_move beh b e a) beh.states b' (from_below beh.states b' ib'))))))
 
--- the rows have the steps of the normal form, with its final states, and serve its look-ups
+-- the rows have the steps of the normal form, with its final states, and give its look-ups
 pub record AreLaidMoves (states env_states actions start : ℕ) (finals : List ℕ) (steps : List (ℕ × ℕ × ℕ × ℕ)) (mask : ℕ) (to from : List ℕ) : Type 0 where
   pub moves : row_moves states env_states actions (map states_of to) ≡ (normal_beh env_states actions (listed_beh states start finals steps)).steps
   pub final : states_of mask ≡ (normal_beh env_states actions (listed_beh states start finals steps)).finals
   pub rows : HasGuardedRows (record { env_states = env_states; actions = actions; beh = normal_beh env_states actions (listed_beh states start finals steps) }) mask (map states_of to) (map states_of from)
 
--- the masks of a list of steps, laid out as rows
+-- the rows made from the masks of a list of steps
 module _ (states env_states actions start : ℕ) (finals : List ℕ) (steps : List (ℕ × ℕ × ℕ × ℕ)) (mask : ℕ) (to from : List ℕ)
     (many_states : (0 < states) × (states ≤ MAX_STATES)) (many_env_states : (0 < env_states) × (env_states ≤ MAX_STATES))
     (many_actions : (0 < actions) × (actions ≤ MAX_ACTIONS)) (starts : start < states)
@@ -219,7 +219,7 @@ module _ (states env_states actions start : ℕ) (finals : List ℕ) (steps : Li
     };
   }
 
--- what a look-up gives is below the number of states
+-- the states that a look-up gives are in range
 pub out_below : (g : GuardedBeh) (mask : ℕ) (to from : List (List ℕ)) (b e a k : ℕ) (xs : List ℕ) → HasGuardedRows g mask to from → b < g.beh.states → e < g.env_states → a < g.actions →
     k ≡ (b * g.env_states + e) * g.actions + a → slice_get to k ≡ Some xs → All (λ x. x < g.beh.states) xs
 out_below g mask to from b e a k xs rows hb he ha at row =

@@ -1,4 +1,4 @@
--- What is written of a part means that part.
+-- The written value of a part means that part.
 use Rattle.std.proofs.Common.{◌≡◌, ℕ, zero, suc, ◌<◌, ◌≤◌, ◌==◌, ◌&&◌, not, cond, Bool, true, false, List, [], ◌∷◌, ◌++◌, map, length, Option, None, Some, is_some, find, codes, Result, Ok, IsTrue, slice_get, inl, inr, refl, sym, ap, ◌∙◌, subst, arith, eqb-true}
 use Rattle.std.specs.List.{AllZip}
 use Rattle.std.proofs.lemmas.Bool.{and_parts, not-true, both_ways, cond-true, cond-false, eq-eqb}
@@ -45,7 +45,7 @@ there [] k h = absurd (omega (arith, h))
 there (n ∷ ns) zero h = refl
 there (n ∷ ns) (suc k) h = there ns k (omega (arith, h))
 
--- a name that stands once stands at one place
+-- a name that occurs once occurs at one place
 once_at : (names : List (List ℕ)) (j k : ℕ) (name : List ℕ) → HasNoRepeats names → j < k → slice_get names j ≡ Some name → slice_get names k ≡ Some name → ⊥
 once_at [] j k name once less at_j at_k = let f : ⊥ = cc in f
 once_at (n ∷ ns) j zero name once less at_j at_k = omega (arith, less)
@@ -110,7 +110,7 @@ rises_states test (suc n) = subst (Rises IsLess) (sym (states_below-suc test n))
         let same = is_last (test n) y j in
         omega arith
 
--- a list of states that rises is the set of its states
+-- a rising list of states lists exactly its own states
 among_is : (n : ℕ) (G : List ℕ) → Rises IsLess G → ((e : ℕ) → IsIn e G → e < n) → states_below (is_one_of G) n ≡ G
 among_is n G rises within = rises_same IsLess (states_below (is_one_of G) n) G (λ x y h i. omega arith) (rises_states (is_one_of G) n) rises
     (λ e i. number_listed G e (states_below_are (is_one_of G) n e (in_contains (states_below (is_one_of G) n) e i)).1)
@@ -125,7 +125,7 @@ guard_said states i G once rises within =
     (all_given (pushing (state_in states i)) (λ before d x. IsPlace states d x) (λ k before d e. BreaksPlace states list.Steps i d e) steps (map (place_value states) G) G).1 (are_places states [] G once within) in
     ap (λ (r : Result (List ℕ) PartError). (r >>= (λ places. Ok (is_one_of places))) >>= (λ set. Ok (states_below set (length states)))) places ∙ ap Ok (among_is (length states) G rises within)
 
--- what the steps of a behaviour are in range of
+-- the steps of a behaviour are in range
 record AreMovesIn (env_states actions states : List (List ℕ)) (xs : List Move) : Type 0 where
   ends : (x : Move) → IsIn x xs → (x.from < length states) × (x.action < length actions) × (x.to < length states)
   guards : (x : Move) → IsIn x xs → (e : ℕ) → IsIn e x.guard → e < length env_states
@@ -150,7 +150,7 @@ are_moves env_states actions states before (x ∷ xs) once once' once'' within =
       are_moves env_states actions states (before ++ x ∷ []) xs once once' once'' (record { ends = λ y i. within.ends y (inr i); guards = λ y i. within.guards y (inr i); rise = λ y i. within.rise y (inr i) }),
     )
 
--- Normal forms of what is normal
+-- The normal form of a normal record is the record
 
 normal_env_is : (e : Env) → IsEnv e → IsNormalEnv e → normal_env e ≡ e
 normal_env_is e is form = forms_unique.env (normal_env e) e (forms_normal.env e).form form (record {

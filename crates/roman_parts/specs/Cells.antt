@@ -1,4 +1,4 @@
--- Tables with a cell for each state and action, or for each state, environment state and action; each cell has a mask of states.
+-- Tables with a cell for each state and action, or for each state, environment state and action. Each cell has a mask of states.
 use Rattle.std.specs.Prelude.{◌≡◌, ℕ, ◌+◌, ◌*◌, ◌<◌, ◌==◌, ◌&&◌, ◌||◌, Bool, List, slice_index}
 use Rattle.std.specs.List.{list_any}
 use Rattle.roman_guard.specs.Meaning.{has_state}
@@ -7,11 +7,11 @@ use Rattle.roman_guard.specs.Meaning.{has_state}
 unfoldable pub cell_has : List ℕ → ℕ → ℕ → Bool
 cell_has masks k n = has_state (slice_index masks k) n
 
--- n was put into cell k
+-- n was added to cell k
 pub record PutsIntoCell (old new : List ℕ) (k n : ℕ) : Type 0 where
   pub has : (j m : ℕ) → cell_has new j m ≡ (cell_has old j m || (j == k && m == n))
 
--- it is the step (e, a, e')
+-- the step is (e, a, e')
 unfoldable pub is_triple : ℕ × ℕ × ℕ → ℕ → ℕ → ℕ → Bool
 is_triple t e a e' = t.0 == e && t.1 == a && t.2 == e'
 
@@ -19,15 +19,15 @@ is_triple t e a e' = t.0 == e && t.1 == a && t.2 == e'
 unfoldable pub leads : List (ℕ × ℕ × ℕ) → ℕ → ℕ → ℕ → Bool
 leads steps e a e' = list_any (λ t. is_triple t e a e') steps
 
--- some step is (e, a, e'), asked from the state e' that it leads to
+-- some step is (e, a, e'), with the arguments in the order of `env_prev`
 unfoldable pub leads_back : List (ℕ × ℕ × ℕ) → ℕ → ℕ → ℕ → Bool
 leads_back steps e' a e = leads steps e a e'
 
--- the cell of each state and action has what passes the test
+-- the cell of each state and action has exactly the states that pass the test
 pub record HasCells (actions : ℕ) (test : ℕ → ℕ → ℕ → Bool) (masks : List ℕ) : Type 0 where
   pub has : (e a n : ℕ) → a < actions → cell_has masks (e * actions + a) n ≡ test e a n
 
--- it is a step (b, G, a, b') with e in G
+-- the step is (b, G, a, b') with e in G
 unfoldable pub is_move : ℕ × ℕ × ℕ × ℕ → ℕ → ℕ → ℕ → ℕ → Bool
 is_move m b e a b' = m.0 == b && m.2 == a && has_state m.1 e && m.3 == b'
 
@@ -35,15 +35,15 @@ is_move m b e a b' = m.0 == b && m.2 == a && has_state m.1 e && m.3 == b'
 unfoldable pub goes : List (ℕ × ℕ × ℕ × ℕ) → ℕ → ℕ → ℕ → ℕ → Bool
 goes steps b e a b' = list_any (λ m. is_move m b e a b') steps
 
--- some step is (b, G, a, b') with e in G, asked from the state b' that it goes to
+-- some step is (b, G, a, b') with e in G, with the arguments in the order of `beh_prev`
 unfoldable pub goes_back : List (ℕ × ℕ × ℕ × ℕ) → ℕ → ℕ → ℕ → ℕ → Bool
 goes_back steps b' e a b = goes steps b e a b'
 
--- the cell of each state, environment state and action has what passes the test
+-- the cell of each state, environment state and action has exactly the states that pass the test
 pub record HasGuardedCells (env_states actions : ℕ) (test : ℕ → ℕ → ℕ → ℕ → Bool) (masks : List ℕ) : Type 0 where
   pub has : (b e a n : ℕ) → e < env_states → a < actions → cell_has masks ((b * env_states + e) * actions + a) n ≡ test b e a n
 
--- the step was put into the cells of its state, its action and the states of its guard
+-- the step was added to the cells of its state, its action and the states of its guard
 pub record MarksMove (env_states actions : ℕ) (old new : List ℕ) (move : ℕ × ℕ × ℕ × ℕ) : Type 0 where
   pub has : (b e a n : ℕ) → e < env_states → a < actions →
       cell_has new ((b * env_states + e) * actions + a) n ≡ (cell_has old ((b * env_states + e) * actions + a) n || is_move move b e a n)

@@ -1,9 +1,9 @@
--- Environments and behaviours from lists of steps.
+-- Environments and behaviours built from lists of steps.
 use Rattle.std.specs.Prelude.{ℕ, ◌<◌, List, map, All}
 use Rattle.roman_model.specs.System.{Triple, Env, Move, Beh}
 use Rattle.roman_guard.specs.Meaning.{states_of}
 
--- a step (state, action, state)
+-- the step (state, action, state) as a record
 abbrev pub triple_of : ℕ × ℕ × ℕ → Triple
 triple_of t = record { from = t.0; action = t.1; to = t.2 }
 
@@ -11,7 +11,7 @@ triple_of t = record { from = t.0; action = t.1; to = t.2 }
 abbrev pub listed_env : ℕ → ℕ → ℕ → List (ℕ × ℕ × ℕ) → Env
 listed_env states actions start steps = record { states = states; actions = actions; start = start; triples = map triple_of steps }
 
--- a step (state, guard, action, state), the guard as a word of states
+-- the step (state, guard, action, state) as a record, where the guard is a word of states
 abbrev pub move_of : ℕ × ℕ × ℕ × ℕ → Move
 move_of m = record { from = m.0; guard = states_of m.1; action = m.2; to = m.3 }
 

@@ -1,4 +1,4 @@
--- The lists of a part: names, places of names, final states and steps.
+-- The lists of a part: names, final states and steps.
 use Rattle.std.specs.Prelude.{ℕ, ◌++◌, List, [], ◌∷◌, Result, is_none, codes}
 use Rattle.serde_json.specs.Data.{Data}
 use Rattle.roman_read.specs.Items.{◌>>=◌, each_item, pushing}
@@ -10,25 +10,25 @@ use Rattle.roman_parts.specs.declared.error.List.{List as Place}
 use Rattle.roman_parts.specs.declared.error.List.TheVariants.{Start, Finals}
 use Rattle.roman_parts.specs.declared.error.PartError.{PartError}
 
--- the name that a value is
+-- the name in a value
 abbrev pub name_in : Place → ℕ → Data → Result (List ℕ) PartError
 name_in list i d = do
   text ← looked list i (text_of d)
   check (is_name text) kind.BadName list i text
 
--- the next item of a list of names, behind those before it
+-- the step that reads the next item of a list of names, and appends it
 unfoldable pub name_step : Place → ℕ → List (List ℕ) → Data → Result (List (List ℕ)) PartError
 name_step list i names d = do
   name ← name_in list i d
   check (is_none (place_of names name)) kind.Repeated list i (names ++ name ∷ [])
 
--- a member that is a list of 1 to so many names
+-- a member that is a list of 1 to `most` names
 unfoldable pub names_of : Place → List ℕ → ℕ → Data → Result (List (List ℕ)) PartError
 names_of list member most d = do
   items ← counted_items list member 1 most d
   each_item (name_step list) 0 [] items
 
--- the place of a text among names
+-- the place of a text in a list of names
 unfoldable pub place_in : List (List ℕ) → Place → ℕ → Data → Result ℕ PartError
 place_in names list i d = do
   text ← looked list i (text_of d)

@@ -23,18 +23,18 @@ pub record NamedTarget : Type 0 where
   pub actions : ℕ
   pub beh : Beh
 
--- the behaviour's numbers are in range over an environment with so many states and actions
+-- the numbers of the behaviour are in range over each environment with these numbers of states and actions
 abbrev pub IsOver : ℕ → ℕ → Beh → Type 0
 IsOver env_states actions beh = (env : Env) → env.states ≡ env_states → env.actions ≡ actions → IsBeh env beh
 
--- the behaviour is over that environment, and has a name for each of its states
+-- the behaviour is over the environment, and each of its states has a name
 pub record IsBehaviour (environment : NamedEnv) (behaviour : NamedBeh) : Type 0 where
   pub env_states : behaviour.env_states ≡ environment.env.states
   pub actions : behaviour.actions ≡ environment.env.actions
   pub names : length behaviour.states ≡ behaviour.beh.states
   pub known : IsOver behaviour.env_states behaviour.actions behaviour.beh
 
--- the target is over that environment, is deterministic, and has a name for each of its states
+-- the target is over the environment and is deterministic, and each of its states has a name
 pub record IsTarget (environment : NamedEnv) (target : NamedTarget) : Type 0 where
   pub env_states : target.env_states ≡ environment.env.states
   pub actions : target.actions ≡ environment.env.actions

@@ -1,4 +1,4 @@
--- What an environment, a behaviour and a target in a document are, or the first rule that they break.
+-- The environments, behaviours and targets that values mean, or the first rule that they break.
 use Rattle.std.specs.Prelude.{ℕ, List, length, Result, Ok, is_some, codes}
 use Rattle.serde_json.specs.Data.{Data}
 use Rattle.serde_json.specs.Find.{as_object}
@@ -15,7 +15,7 @@ use Rattle.roman_parts.specs.Steps.{triples_of, moves_of}
 use Rattle.roman_parts.specs.declared.error.List.TheVariants.{Whole, Name, States, Actions}
 use Rattle.roman_parts.specs.declared.error.PartError.{PartError}
 
--- an environment: its names, and its record in normal form
+-- the environment that a value means: its names, and its record in normal form
 unfoldable pub environment_of : Data → Result NamedEnv PartError
 environment_of d = do
   part ← check (is_some (as_object d)) Form Whole 0 d
@@ -29,13 +29,13 @@ environment_of d = do
     env = normal_env (record { states = length states; actions = length actions; start = start; triples = steps });
   })
 
--- a part's own name
+-- the name of a part
 unfoldable pub name_of : Data → Result (List ℕ) PartError
 name_of d = do
   name ← looked Name 0 (member_of d (codes "name"))
   name_in Name 0 name
 
--- a behaviour over that environment
+-- the behaviour over the environment that a value means
 unfoldable pub behaviour_of : NamedEnv → Data → Result NamedBeh PartError
 behaviour_of env d = do
   part ← check (is_some (as_object d)) Form Whole 0 d
@@ -52,7 +52,7 @@ behaviour_of env d = do
     beh = normal_beh env.env.states env.env.actions (record { states = length states; start = start; finals = finals; steps = steps });
   })
 
--- a target over that environment, whose steps leave no choice
+-- the target over the environment that a value means, whose steps form no choice
 unfoldable pub target_of : NamedEnv → Data → Result NamedTarget PartError
 target_of env d = do
   part ← check (is_some (as_object d)) Form Whole 0 d

@@ -1,4 +1,4 @@
--- Readings of a part that may be refused, each refusal with its place.
+-- Readings of a part that may be refused. Each refusal states its place.
 use Rattle.std.specs.Prelude.{◌≡◌, ℕ, ◌&&◌, Bool, List, Option, Result, Ok, Err, nat_le, if◌then◌else◌}
 use Rattle.std.specs.Option.{ok_or}
 use Rattle.serde_json.specs.Data.{Data, Items}
@@ -13,16 +13,16 @@ use Rattle.roman_parts.specs.declared.error.List.{List as Place}
 use Rattle.roman_parts.specs.declared.error.PartError.{PartError}
 use Rattle.roman_parts.specs.declared.error.PartError.TheVariants.{Refused, Memory}
 
--- what a look finds, and what it misses is refused there
+-- the value that a look finds, and the refusal at the place where it misses
 abbrev pub looked : {X : Type 0} → Place → ℕ → Result X Miss → Result X PartError
 looked list i (Ok x) = Ok x
 looked list i (Err miss) = Err (Refused (kind_of miss) list i)
 
--- what is there, and where there is nothing the rule is broken
+-- the value, and the refusal where there is none
 abbrev pub found : {X : Type 0} → Kind → Place → ℕ → Option X → Result X PartError
 found rule list i there = ok_or there (Refused rule list i)
 
--- the value, where it keeps the rule
+-- the value where it keeps the rule, and the refusal where it doesn't
 abbrev pub check : {X : Type 0} → Bool → Kind → Place → ℕ → X → Result X PartError
 check keeps rule list i x = if keeps then Ok x else Err (Refused rule list i)
 
@@ -30,18 +30,18 @@ check keeps rule list i x = if keeps then Ok x else Err (Refused rule list i)
 unfoldable pub items_at : Place → List ℕ → Data → Result Items PartError
 items_at list name d = looked list 0 (member_of d name) >>= (λ m. looked list 0 (list_of m))
 
--- the items of a member that is a list of so many items at least and at most
+-- the items of a member that is a list with `least` to `most` items
 unfoldable pub counted_items : Place → List ℕ → ℕ → ℕ → Data → Result Items PartError
 counted_items list name least most d = do
   items ← items_at list name d
   check (nat_le least (items_len items) && nat_le (items_len items) most) kind.Count list 0 items
 
--- a refusal is the one that the definition gives; running out of memory says nothing of it
+-- the refusal is the one that the definition gives; running out of memory states nothing
 abbrev pub Fails : {Y : Type 0} → PartError → Result Y PartError → Type 0
 Fails Memory reading = Unit {0}
 Fails (Refused rule list i) reading = reading ≡ Err (Refused rule list i)
 
--- what the code reads, seen through a view, is what the definition gives, and so is what it refuses
+-- the code returns what the definition gives, seen through a view, and refuses what it refuses
 abbrev pub Gives : {X Y : Type 0} → (X → Y) → Result X PartError → Result Y PartError → Type 0
 Gives view (Ok x) reading = reading ≡ Ok (view x)
 Gives view (Err error) reading = Fails error reading

@@ -1,4 +1,4 @@
--- What the lists of a part are read as, and how they are refused, said by properties.
+-- The values of the lists of a part, and their refusals, characterised by properties.
 use Rattle.std.specs.Prelude.{◌≡◌, ◌≢◌, ℕ, ◌<◌, ◌≤◌, ◌⊎◌, ◌↔◌, List, [], ◌∷◌, length, Some, Result, Ok, Err, IsTrue, IsFalse, slice_get, codes}
 use Rattle.std.specs.List.{AllZip}
 use Rattle.serde_json.specs.Data.{Data}
@@ -22,37 +22,37 @@ use Rattle.roman_parts.specs.declared.error.PartError.TheVariants.{Refused}
 
 -- ---- texts, names and places
 
--- item i is no text
+-- item i isn't a text
 abbrev pub IsNoText : Place → ℕ → Data → PartError → Type 0
 IsNoText list i d e = (miss : Miss) × (text_of d ≡ Err miss) × (e ≡ Refused (kind_of miss) list i)
 
--- the item is a name that isn't among those before it
+-- the item is a name that doesn't occur before
 pub record IsNewName (before : List (List ℕ)) (d : Data) (name : List ℕ) : Type 0 where
   pub text : text_of d ≡ Ok name
   pub named : IsTrue (is_name name)
   pub new : IsIn name before → ⊥
 
--- the first rule that an item of a list of names breaks: it is no text, the text is no name, or stands before
+-- the first rule that an item of a list of names breaks: it isn't a text, the text isn't a name, or the name occurs before
 abbrev pub BreaksName : Place → ℕ → List (List ℕ) → Data → PartError → Type 0
 BreaksName list i before d e =
     IsNoText list i d e
     ⊎ ((text : List ℕ) × (text_of d ≡ Ok text)
     × ((IsFalse (is_name text) × (e ≡ Refused BadName list i)) ⊎ (IsTrue (is_name text) × IsIn text before × (e ≡ Refused Repeated list i))))
 
--- the item is the name at place k, and at no place before it
+-- the item is the name at place k, and doesn't occur at an earlier place
 pub record IsPlace (names : List (List ℕ)) (d : Data) (k : ℕ) : Type 0 where
   pub name : List ℕ
   pub text : text_of d ≡ Ok name
   pub there : slice_get names k ≡ Some name
   pub first : (j : ℕ) → j < k → slice_get names j ≡ Some name → ⊥
 
--- the first rule that an item breaks which is to be one of the names: it is no text, or none of them
+-- the first rule that an item breaks where one of the names is expected: it isn't a text, or is none of the names
 abbrev pub BreaksPlace : List (List ℕ) → Place → ℕ → Data → PartError → Type 0
 BreaksPlace names list i d e = IsNoText list i d e ⊎ ((text : List ℕ) × (text_of d ≡ Ok text) × (IsIn text names → ⊥) × (e ≡ Refused Unknown list i))
 
 -- ---- steps
 
--- item i is no list of so many items
+-- item i isn't a list with n items
 abbrev pub IsNoRow : ℕ → ℕ → Data → PartError → Type 0
 IsNoRow n i d e =
     ((miss : Miss) × (list_of d ≡ Err miss) × (e ≡ Refused (kind_of miss) Steps i))
@@ -72,7 +72,8 @@ pub record IsTripleItem (states actions : List (List ℕ)) (d : Data) (x : Tripl
 abbrev pub HasPlace : List (List ℕ) → Data → Type 0
 HasPlace names d = (k : ℕ) × IsPlace names d k
 
--- the first rule that a step of an environment breaks: it is no list of three, or one of them is no text or names nothing, from the left
+-- the first rule that a step of an environment breaks: it isn't a list of three items, or the first faulty item from the left isn't a text
+-- or names nothing
 abbrev pub BreaksTriple : List (List ℕ) → List (List ℕ) → ℕ → List Triple → Data → PartError → Type 0
 BreaksTriple states actions i before d e =
     IsNoRow 3 i d e
@@ -94,7 +95,7 @@ pub record IsMoveItem (env_states actions states : List (List ℕ)) (i : ℕ) (d
   pub action_is : IsPlace actions action x.action
   pub to_is : IsPlace states to x.to
 
--- the first rule that a step of a behaviour breaks: it is no list of four, or one of them is refused, from the left
+-- the first rule that a step of a behaviour breaks: it isn't a list of four items, or the first faulty item from the left is refused
 abbrev pub BreaksMove : List (List ℕ) → List (List ℕ) → List (List ℕ) → ℕ → List Move → Data → PartError → Type 0
 BreaksMove env_states actions states i before d e =
     IsNoRow 4 i d e
@@ -108,14 +109,14 @@ BreaksMove env_states actions states i before d e =
 
 -- ---- the laws
 
--- a reading gives exactly the things of a list, and refuses by the first rule that is broken: the list's own, then that of the
--- least item at fault
+-- the reading gives exactly the values of a list, and refuses by the first broken rule: that of the list itself, or else that of its first
+-- faulty item
 pub record ReadsList {X : Type 0} (list : Place) (name : List ℕ) (Fits : ℕ → Type 0) (Is : List X → Data → X → Type 0) (Breaks : ℕ → List X → Data → PartError → Type 0) (reading : Data → Result (List X) PartError) :
     Type 0 where
   pub gives : (d : Data) (xs : List X) → (reading d ≡ Ok xs) ↔ IsListOf name Fits Is d xs
   pub refuses : (d : Data) (e : PartError) → (reading d ≡ Err e) ↔ BreaksList name (λ rule. Refused rule list 0) Fits Is Breaks d e
 
--- the names are the texts of the member's list, in their order: 1 to so many, each a name, and none stands twice
+-- the names are the texts of the list of the member, in order: 1 to `most` distinct names
 pub record AreNames (name : List ℕ) (most : ℕ) (d : Data) (names : List (List ℕ)) : Type 0 where
   pub items : List Data
   pub list : IsListAt d name items
@@ -125,7 +126,7 @@ pub record AreNames (name : List ℕ) (most : ℕ) (d : Data) (names : List (Lis
   pub named : (name : List ℕ) → IsIn name names → IsTrue (is_name name)
   pub once : HasNoRepeats names
 
--- lists of names, final states and steps are read exactly so
+-- lists of names, final states and steps are read by these properties
 pub record ListsAreRead : Type 0 where
   pub names : (list : Place) (name : List ℕ) (most : ℕ) (d : Data) (names : List (List ℕ)) → (names_of list name most d ≡ Ok names) ↔ AreNames name most d names
   pub each_name : (list : Place) (name : List ℕ) (most : ℕ) → ReadsList list name (λ n. (0 < n) × (n ≤ most)) IsNewName (BreaksName list) (names_of list name most)

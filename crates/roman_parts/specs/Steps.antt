@@ -22,7 +22,7 @@ abbrev pub four_of : Items → Option (Data × Data × Data × Data)
 four_of (item a (item b (item c (item d no_items)))) = Some (a, b, c, d)
 four_of _ = None
 
--- step i of an environment: a state, an action and a state
+-- the value of step i of an environment: a state, an action and a state
 unfoldable pub triple_item : List (List ℕ) → List (List ℕ) → ℕ → Data → Result Triple PartError
 triple_item states actions i d = do
   items ← looked Steps i (list_of d)
@@ -38,7 +38,7 @@ triples_of states actions d = do
   items ← counted_items Steps (codes "steps") 0 MAX_STEPS d
   each_item (pushing (triple_item states actions)) 0 [] items
 
--- step i of a behaviour: a state, a guard over the environment's states, an action and a state
+-- the value of step i of a behaviour: a state, a guard over the environment's states, an action and a state
 unfoldable pub move_item : List (List ℕ) → List (List ℕ) → List (List ℕ) → ℕ → Data → Result Move PartError
 move_item env_states actions states i d = do
   items ← looked Steps i (list_of d)

@@ -1,4 +1,4 @@
--- Tables of rows, one for each cell, that hold the steps of a record.
+-- Tables with one row for each cell, which hold the steps of a record.
 use Rattle.std.specs.Prelude.{◌≡◌, ℕ, ◌+◌, ◌*◌, ◌<◌, ◌≤◌, List, [], map, length, Some, slice_get, slice_index_or}
 use Rattle.std.specs.List.{filter, flat_map}
 use Rattle.roman_model.specs.Lists.{below}
@@ -9,32 +9,32 @@ use Rattle.roman_model.specs.declared.limits.TheConstants.{MAX_STATES, MAX_ACTIO
 use Rattle.roman_guard.specs.Meaning.{has_state}
 use Rattle.roman_parts.specs.Named.{IsOver}
 
--- the steps of the rows, rising: the row of a state and an action has the states to which they lead
+-- the steps of the rows, rising: the row of a state and an action has the states to which the steps lead
 unfoldable pub row_triples : ℕ → ℕ → List (List ℕ) → List Triple
 row_triples states actions rows =
     flat_map (λ e. flat_map (λ a. map (λ e'. record { from = e; action = a; to = e' }) (slice_index_or rows (e * actions + a) [])) (below actions))
     (below states)
 
--- the environment's numbers are in range, and the rows have its steps, from both ends
+-- the environment's numbers are in range, and the rows have its next and previous states
 pub record HasRows (env : Env) (to from : List (List ℕ)) : Type 0 where
   pub known : IsEnv env
   pub next : (e a : ℕ) → e < env.states → a < env.actions → slice_get to (e * env.actions + a) ≡ Some (env_next env e a)
   pub prev : (e' a : ℕ) → e' < env.states → a < env.actions → slice_get from (e' * env.actions + a) ≡ Some (env_prev env e' a)
 
--- a behaviour over so many environment states and actions
+-- a behaviour with the numbers of states and actions of its environment
 pub record GuardedBeh : Type 0 where
   pub env_states : ℕ
   pub actions : ℕ
   pub beh : Beh
 
--- the steps of the rows, rising: the row of a state, an environment state and an action has the states to which they go
+-- the steps of the rows, rising: the row of a state, an environment state and an action has the states to which the steps go
 unfoldable pub row_moves : ℕ → ℕ → ℕ → List (List ℕ) → List Move
 row_moves states env_states actions rows =
     flat_map (λ b. flat_map (λ a. flat_map (λ b'.
     guarded_step b a b' (filter (λ e. has (slice_index_or rows ((b * env_states + e) * actions + a) []) b') (below env_states)))
     (below states)) (below actions)) (below states)
 
--- the behaviour's numbers are in range, the mask has its final states, and the rows have its steps, from both ends
+-- the behaviour's numbers are in range, the mask has its final states, and the rows have its next and previous states
 pub record HasGuardedRows (g : GuardedBeh) (mask : ℕ) (to from : List (List ℕ)) : Type 0 where
   pub env_states : (0 < g.env_states) × (g.env_states ≤ MAX_STATES)
   pub actions : (0 < g.actions) × (g.actions ≤ MAX_ACTIONS)
@@ -45,12 +45,12 @@ pub record HasGuardedRows (g : GuardedBeh) (mask : ℕ) (to from : List (List �
   pub prev : (b' e a : ℕ) → b' < g.beh.states → e < g.env_states → a < g.actions →
       slice_get from ((b' * g.env_states + e) * g.actions + a) ≡ Some (beh_prev g.beh b' e a)
 
--- the automaton is in range, and has a state for each of the names
+-- the automaton is in range, and has one state for each of the names
 pub record IsNamed (names : List (List ℕ)) (g : GuardedBeh) : Type 0 where
   pub count : length names ≡ g.beh.states
   pub known : IsOver g.env_states g.actions g.beh
 
--- a target's automaton is in range and deterministic, and has a state for each of the names
+-- a target's automaton is in range and deterministic, and has one state for each of the names
 pub record IsNamedTarget (names : List (List ℕ)) (g : GuardedBeh) : Type 0 where
   pub count : length names ≡ g.beh.states
   pub known : IsOver g.env_states g.actions g.beh

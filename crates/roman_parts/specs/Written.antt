@@ -1,4 +1,4 @@
--- A writer of parts, which is a definition alone: a JSON value that means the environment, the behaviour or the target.
+-- A writer of parts, which is only a definition: JSON values that mean a given environment, behaviour or target.
 use Rattle.std.specs.Prelude.{◌≡◌, ℕ, ◌<◌, ◌≤◌, List, [], ◌∷◌, map, length, Ok, IsTrue, codes}
 use Rattle.serde_json.specs.Data.{Data, string, array, object, no_members, member}
 use Rattle.serde_json.specs.View.{items_of}
@@ -13,32 +13,32 @@ use Rattle.roman_parts.specs.Parts.{environment_of, behaviour_of, target_of}
 
 -- ---- the writer
 
--- a list of values
+-- the value of a list of values
 abbrev pub list_value : List Data → Data
 list_value ds = array (items_of ds)
 
--- a list of names
+-- the value of a list of names
 abbrev pub names_value : List (List ℕ) → Data
 names_value names = list_value (map string names)
 
--- the name with that number
+-- the value of the name with number k
 abbrev pub place_value : List (List ℕ) → ℕ → Data
 place_value names k = string (name_at names k)
 
--- the names with those numbers
+-- the value of a list of the names with these numbers
 abbrev pub places_value : List (List ℕ) → List ℕ → Data
 places_value names ks = list_value (map (place_value names) ks)
 
--- a step of an environment, by the names of its states and its action
+-- the value of a step of an environment, with the names of its states and its action
 abbrev pub triple_value : List (List ℕ) → List (List ℕ) → Triple → Data
 triple_value states actions x = list_value (place_value states x.from ∷ place_value actions x.action ∷ place_value states x.to ∷ [])
 
--- a step of a behaviour or a target, whose guard is written as the list of its states
+-- the value of a step of a behaviour or a target, where the guard is the list of its states
 abbrev pub move_value : List (List ℕ) → List (List ℕ) → List (List ℕ) → Move → Data
 move_value env_states actions states x =
     list_value (place_value states x.from ∷ places_value env_states x.guard ∷ place_value actions x.action ∷ place_value states x.to ∷ [])
 
--- an environment, with its members in the order of their names
+-- the value of an environment, with its members in the order of their names
 abbrev pub environment_value : NamedEnv → Data
 environment_value env =
     object (member (codes "actions") (names_value env.actions)
@@ -47,7 +47,7 @@ environment_value env =
     (member (codes "steps") (list_value (map (triple_value env.states env.actions) env.env.triples))
     no_members))))
 
--- a behaviour over that environment
+-- the value of a behaviour over the environment
 abbrev pub behaviour_value : NamedEnv → NamedBeh → Data
 behaviour_value env b =
     object (member (codes "final") (places_value b.states b.beh.finals)
@@ -57,7 +57,7 @@ behaviour_value env b =
     (member (codes "steps") (list_value (map (move_value env.states env.actions b.states) b.beh.steps))
     no_members)))))
 
--- a target over that environment
+-- the value of a target over the environment
 abbrev pub target_value : NamedEnv → NamedTarget → Data
 target_value env t =
     object (member (codes "final") (places_value t.states t.beh.finals)
@@ -66,16 +66,16 @@ target_value env t =
     (member (codes "steps") (list_value (map (move_value env.states env.actions t.states) t.beh.steps))
     no_members))))
 
--- ---- what a document can say
+-- ---- parts that a document can state
 
--- 1 to so many names, none twice
+-- a document can list the names: 1 to `most` distinct names
 pub record CanList (names : List (List ℕ)) (most : ℕ) : Type 0 where
   pub some : 0 < length names
   pub few : length names ≤ most
   pub named : (name : List ℕ) → IsIn name names → IsTrue (is_name name)
   pub once : HasNoRepeats names
 
--- the environment is in range and in normal form, its names can be listed, and its steps aren't too many
+-- a document can state the environment: it is in range and in normal form, its names can be listed, and it doesn't have too many steps
 pub record IsSayableEnv (env : NamedEnv) : Type 0 where
   pub states : CanList env.states MAX_STATES
   pub actions : CanList env.actions MAX_ACTIONS
@@ -85,7 +85,8 @@ pub record IsSayableEnv (env : NamedEnv) : Type 0 where
   pub form : IsNormalEnv env.env
   pub few : length env.env.triples ≤ MAX_STEPS
 
--- the behaviour over that environment is in range and in normal form, it has a name, the names of its states can be listed, and its steps aren't too many
+-- a document can state the behaviour: it is in range over the environment and in normal form, it has a name, the names of its states can be listed,
+-- and it doesn't have too many steps
 pub record IsSayableBeh (env : NamedEnv) (b : NamedBeh) : Type 0 where
   pub name : IsTrue (is_name b.name)
   pub states : CanList b.states MAX_STATES
@@ -96,7 +97,8 @@ pub record IsSayableBeh (env : NamedEnv) (b : NamedBeh) : Type 0 where
   pub form : IsNormalBeh b.beh
   pub few : length b.beh.steps ≤ MAX_STEPS
 
--- the target over that environment is in range, deterministic and in normal form, the names of its states can be listed, and its steps aren't too many
+-- a document can state the target: it is in range over the environment, deterministic and in normal form, the names of its states can be listed, and
+-- it doesn't have too many steps
 pub record IsSayableTarget (env : NamedEnv) (t : NamedTarget) : Type 0 where
   pub states : CanList t.states MAX_STATES
   pub state_count : length t.states ≡ t.beh.states
@@ -107,7 +109,7 @@ pub record IsSayableTarget (env : NamedEnv) (t : NamedTarget) : Type 0 where
   pub form : IsNormalBeh t.beh
   pub few : length t.beh.steps ≤ MAX_STEPS
 
--- what is written of a part that can be said means that part
+-- the written value of each part that a document can state means that part
 pub record PartsAreSaid : Type 0 where
   pub environment : (env : NamedEnv) → IsSayableEnv env → environment_of (environment_value env) ≡ Ok env
   pub behaviour : (env : NamedEnv) (b : NamedBeh) → IsSayableEnv env → IsSayableBeh env b → behaviour_of env (behaviour_value env b) ≡ Ok b

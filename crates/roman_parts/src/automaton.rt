@@ -1,4 +1,4 @@
-//! What behaviours and targets have in common.
+//! The common part of behaviours and targets.
 ghost use Rattle.std.specs.Prelude.{◌≡◌, ℕ, ◌<◌, ◌≤◌, All, IfOk};
 ghost use Rattle.roman_guard.specs.Meaning.{has_state};
 ghost use Rattle.roman_model.specs.System.{has, is_final};
@@ -13,16 +13,16 @@ use roman_model::{MAX_ACTIONS, MAX_STATES};
 use std::alloc::{AllocError, Global};
 use std::marker::Model;
 
-/// Finite sets of states and final states, a start state and guarded steps. Contracts see its
-/// record in normal form, and how many states and actions its environment has.
+/// Finite sets of states and final states, a start state and guarded steps. Contracts see the record
+/// in normal form, and the numbers of states and actions of its environment.
 #[derive(Drop)]
 pub(crate) struct Automaton {
     cells: Cells,
     start: u8,
     // Bit b is set where b is a final state.
     finals: u64,
-    // The rows of state b, environment state e and action a: to which states they go, and from
-    // which they go to b.
+    // The rows for state b, environment state e and action a: the states to which the steps go, and
+    // the states from which they go to b.
     next: Rows,
     prev: Rows,
 }
@@ -57,7 +57,7 @@ impl Model for Automaton {
 }
 
 impl Automaton {
-    /// The automaton with these numbers, final states and steps (b, G, a, b').
+    /// Returns the automaton with these numbers, final states and steps (b, G, a, b').
     pub(crate) fn from_lists(
         alloc: Global,
         cells: Cells,
@@ -87,7 +87,7 @@ impl Automaton {
         })
     }
 
-    /// The same automaton again.
+    /// Returns an equal automaton.
     pub(crate) fn copy(&self, alloc: Global) -> Result<Automaton, AllocError>
         ensures same { IfOk result (λ copy. copy ≡ self.now) }
     {
@@ -100,7 +100,7 @@ impl Automaton {
         })
     }
 
-    /// The start state.
+    /// Returns the start state.
     pub(crate) fn start(&self) -> u8
         ensures start { result ≡ self.now.beh.start }
         ensures within { result < self.now.beh.states }
@@ -108,7 +108,7 @@ impl Automaton {
         self.start
     }
 
-    /// Whether `b` is a final state.
+    /// Returns whether `b` is a final state.
     pub(crate) fn is_final(&self, b: u8) -> bool
         requires { b < self.now.beh.states }
         ensures { result ≡ is_final self.now.beh b }
@@ -116,7 +116,7 @@ impl Automaton {
         (self.finals >> b) & 1 == 1
     }
 
-    /// The states to which action `a` goes from state `b` in environment state `e`, rising.
+    /// Returns the states to which action `a` goes from state `b` in environment state `e`, rising.
     pub(crate) fn next(&self, b: u8, e: u8, a: u8) -> &[u8]
         requires state { b < self.now.beh.states }
         requires env_state { e < self.now.env_states }
@@ -127,7 +127,7 @@ impl Automaton {
         self.next.row(self.cells.at(b, e, a))
     }
 
-    /// The states from which action `a` goes to state `b` in environment state `e`, rising.
+    /// Returns the states from which action `a` goes to state `b` in environment state `e`, rising.
     pub(crate) fn prev(&self, b: u8, e: u8, a: u8) -> &[u8]
         requires state { b < self.now.beh.states }
         requires env_state { e < self.now.env_states }
@@ -139,7 +139,7 @@ impl Automaton {
     }
 }
 
-/// The mask of the states that are listed.
+/// Returns the mask of the listed states.
 fn mask_of(states: &[u8]) -> u64
     requires { All (λ b. b < 64) states.now }
     ensures { (b : ℕ) → has_state result b ≡ has states.now b }

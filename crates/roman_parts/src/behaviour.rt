@@ -15,12 +15,12 @@ use roman_read::{Name, NameTable};
 use std::alloc::{AllocError, Global};
 use std::marker::Model;
 
-/// A behaviour over an environment, as in the Roman model: a finite set of states, a start state, final
-/// states, in which it may safely be stopped, and steps (b, G, a, b') for the environment states in the
-/// guard G. An action may lead to several states. Contracts see its names, its record in normal form,
-/// and how many states and actions its environment has.
+/// A behaviour over an environment, as in the Roman model: a finite set of states, a start state,
+/// final states, in which it may safely be stopped, and steps (b, G, a, b') for the environment
+/// states in the guard G. An action may lead to several states. Contracts see its names, its record
+/// in normal form, and the numbers of states and actions of its environment.
 ///
-/// Numbers of states and actions that are passed are in range, and the look-ups take no memory.
+/// All calls require numbers of states and actions that are in range. The look-ups take no memory.
 #[derive(Drop)]
 pub struct Behaviour {
     name: Name,
@@ -46,10 +46,10 @@ impl Model for Behaviour {
 }
 
 impl Behaviour {
-    /// The behaviour over `env` with this name, 1 to 64 states of these names, a start state, final
-    /// states and steps (b, G, a, b') over their numbers, where b' follows b on action a while the
-    /// environment is in a state of G. Final states and steps may come in any order and repeat: what is
-    /// made is in normal form. The one error is that there is no memory.
+    /// Returns the behaviour over `env` with this name, 1 to 64 states with these names, a start
+    /// state, final states and steps (b, G, a, b') over their numbers. The state b' follows b on
+    /// action a while the environment is in a state of G. Final states and steps may come in any
+    /// order and repeat. The result is in normal form. Fails only when out of memory.
     pub fn from_lists(
         alloc: Global,
         name: Name,
@@ -79,7 +79,7 @@ impl Behaviour {
         })
     }
 
-    /// An equal behaviour. The one error is that there is no memory.
+    /// Returns an equal behaviour. Fails only when out of memory.
     pub fn copy(&self, alloc: Global) -> Result<Behaviour, AllocError>
         ensures same { IfOk result (λ copy. copy ≡ self.now) }
     {
@@ -90,8 +90,8 @@ impl Behaviour {
         })
     }
 
-    /// Tells a prover what holds of every behaviour: each of its states has a name, and its numbers are
-    /// in range. It does nothing.
+    /// Does nothing. Its contract states that each state of the behaviour has a name, and that its
+    /// numbers are in range.
     pub fn known(&self)
         ensures count { length self.now.states ≡ self.now.beh.states }
         ensures known { IsOver self.now.env_states self.now.actions self.now.beh }
@@ -99,14 +99,14 @@ impl Behaviour {
         let _states = &self.states;
     }
 
-    /// The behaviour's name.
+    /// Returns the name of the behaviour.
     pub fn name(&self) -> &Name
         ensures { result.now ≡ self.now.name }
     {
         &self.name
     }
 
-    /// The names of the states, by number.
+    /// Returns the names of the states, by number.
     pub fn states(&self) -> &NameTable
         ensures names { result.now ≡ self.now.states }
         ensures count { length self.now.states ≡ self.now.beh.states }
@@ -115,7 +115,7 @@ impl Behaviour {
         &self.states
     }
 
-    /// The number of the start state.
+    /// Returns the number of the start state.
     pub fn start(&self) -> u8
         ensures start { result ≡ self.now.beh.start }
         ensures within { result < self.now.beh.states }
@@ -123,7 +123,7 @@ impl Behaviour {
         self.automaton.start()
     }
 
-    /// Whether `b` is a final state, in which the behaviour may safely be stopped.
+    /// Returns whether `b` is a final state, in which the behaviour may safely be stopped.
     pub fn is_final(&self, b: u8) -> bool
         requires { b < self.now.beh.states }
         ensures { result ≡ is_final self.now.beh b }
@@ -131,7 +131,8 @@ impl Behaviour {
         self.automaton.is_final(b)
     }
 
-    /// The states to which action `a` goes from state `b` in environment state `e`, rising, each once.
+    /// Returns the states to which action `a` goes from state `b` in environment state `e`, rising
+    /// and without repeats.
     pub fn out(&self, b: u8, e: u8, a: u8) -> &[u8]
         requires state { b < self.now.beh.states }
         requires env_state { e < self.now.env_states }
@@ -142,7 +143,8 @@ impl Behaviour {
         self.automaton.next(b, e, a)
     }
 
-    /// The states from which action `a` goes to state `b2` in environment state `e`, rising, each once.
+    /// Returns the states from which action `a` goes to state `b2` in environment state `e`, rising
+    /// and without repeats.
     pub fn into(&self, b2: u8, e: u8, a: u8) -> &[u8]
         requires state { b2 < self.now.beh.states }
         requires env_state { e < self.now.env_states }

@@ -1,4 +1,4 @@
-//! Choices between transitions.
+//! Choices: pairs of transitions that break the determinism of a target.
 ghost use Rattle.std.specs.Prelude.{◌≡◌, ◌^◌, ◌<◌, ◌≤◌, All, None, OnOk, Some, length, map};
 ghost use Rattle.roman_parts.specs.Listed.{move_of};
 ghost use Rattle.roman_parts.specs.Reading.{Gives};
@@ -10,8 +10,8 @@ use roman_guard::StateSet;
 use roman_model::MAX_STEPS;
 use roman_read::{Kind, NameTable};
 
-/// Refuses a choice: the first transition that leaves one with an earlier one, with the first such
-/// and the least environment state in which they do. It takes no memory.
+/// Refuses the first transition that forms a choice with an earlier one. The refusal names the first
+/// such earlier transition, and the least environment state of their choice. Takes no memory.
 #[tactic(auto, using(crate::proofs::SingleLemmas::choice_within), unfolding(crate::specs::Choices::single_of))]
 pub(crate) fn check_single(
     env_states: &NameTable,
@@ -35,8 +35,8 @@ pub(crate) fn check_single(
     }
 }
 
-/// The first transition that leaves a choice with an earlier one, the first such, and the least
-/// environment state in which they do.
+/// Returns the first transition that forms a choice with an earlier one, the first such earlier
+/// transition, and the least environment state of their choice.
 #[tactic(auto, using(crate::proofs::ChoiceLemmas::searching, crate::proofs::ChoiceLemmas::choice_steps), unfolding(crate::specs::Choices::choice_of))]
 fn find_choice(steps: &[(u8, StateSet, u8, u8)]) -> Option<(usize, (usize, u8))>
     ensures { result ≡ choice_of (map move_of steps.now) }
@@ -49,8 +49,8 @@ fn find_choice(steps: &[(u8, StateSet, u8, u8)]) -> Option<(usize, (usize, u8))>
     None
 }
 
-/// The first transition before number `j` with which it leaves a choice, and the least environment
-/// state in which it does.
+/// Returns the first transition before number `j` with which it forms a choice, and the least
+/// environment state of the choice.
 #[tactic(auto, using(crate::proofs::ChoiceLemmas::searching, crate::proofs::ChoiceLemmas::choice_steps), unfolding(crate::specs::Choices::choice_with))]
 fn choice_with(steps: &[(u8, StateSet, u8, u8)], j: usize) -> Option<(usize, u8)>
     requires { j < length steps.now }
@@ -65,7 +65,7 @@ fn choice_with(steps: &[(u8, StateSet, u8, u8)], j: usize) -> Option<(usize, u8)
     None
 }
 
-/// The least environment state in which two transitions leave a choice.
+/// Returns the least environment state in which two transitions form a choice.
 #[tactic(auto, using(crate::proofs::ChoiceLemmas::pairs))]
 fn choice_between(step: &(u8, StateSet, u8, u8), other: &(u8, StateSet, u8, u8)) -> Option<u8>
     ensures { result ≡ choice_between (Some (move_of step.now)) (Some (move_of other.now)) }

@@ -12,17 +12,18 @@ use roman_read::NameTable;
 use std::alloc::{AllocError, Global};
 use std::marker::Model;
 
-/// An environment of the Roman model: finite sets of states and actions, a start state and steps (e, a,
-/// e'). An action may lead from a state to several states, or to none. Contracts see its names, and its
-/// record in normal form.
+/// An environment of the Roman model: finite sets of states and actions, a start state and steps (e,
+/// a, e'). An action may lead from a state to several states, or to none. Contracts see its names,
+/// and its record in normal form.
 ///
-/// Numbers of states and actions that are passed are in range, and the look-ups take no memory.
+/// All calls require numbers of states and actions that are in range. The look-ups take no memory.
 #[derive(Drop)]
 pub struct Environment {
     states: NameTable,
     actions: NameTable,
     start: u8,
-    // The rows of state e and action a: to which states it leads, and from which it leads to e.
+    // The rows for state e and action a: the states to which it leads, and the states from which it
+    // leads to e.
     next: Rows,
     prev: Rows,
 }
@@ -54,9 +55,9 @@ impl Model for Environment {
 }
 
 impl Environment {
-    /// The environment with 1 to 64 states and 1 to 32 actions of these names, a start state and steps
-    /// (e, a, e') over their numbers. Steps may come in any order and repeat: what is made is in normal
-    /// form, with each step once. The one error is that there is no memory.
+    /// Returns the environment with 1 to 64 states and 1 to 32 actions with these names, a start
+    /// state and steps (e, a, e') over their numbers. Steps may come in any order and repeat. The
+    /// result is in normal form, with each step once. Fails only when out of memory.
     pub fn from_lists(
         alloc: Global,
         states: NameTable,
@@ -85,7 +86,7 @@ impl Environment {
         })
     }
 
-    /// An equal environment. The one error is that there is no memory.
+    /// Returns an equal environment. Fails only when out of memory.
     pub fn copy(&self, alloc: Global) -> Result<Environment, AllocError>
         ensures same { IfOk result (λ copy. copy ≡ self.now) }
     {
@@ -98,14 +99,14 @@ impl Environment {
         })
     }
 
-    /// Tells a prover what holds of every environment: its numbers are in range. It does nothing.
+    /// Does nothing. Its contract states that the numbers of the environment are in range.
     pub fn known(&self)
         ensures known { IsEnv self.now.env }
     {
         let _states = &self.states;
     }
 
-    /// The names of the states, by number.
+    /// Returns the names of the states, by number.
     pub fn states(&self) -> &NameTable
         ensures names { result.now ≡ self.now.states }
         ensures count { length self.now.states ≡ self.now.env.states }
@@ -114,7 +115,7 @@ impl Environment {
         &self.states
     }
 
-    /// The names of the actions, by number.
+    /// Returns the names of the actions, by number.
     pub fn actions(&self) -> &NameTable
         ensures names { result.now ≡ self.now.actions }
         ensures count { length self.now.actions ≡ self.now.env.actions }
@@ -123,7 +124,7 @@ impl Environment {
         &self.actions
     }
 
-    /// The number of the start state.
+    /// Returns the number of the start state.
     pub fn start(&self) -> u8
         ensures start { result ≡ self.now.env.start }
         ensures within { result < self.now.env.states }
@@ -131,7 +132,7 @@ impl Environment {
         self.start
     }
 
-    /// The states to which action `a` leads from state `e`, rising, each once.
+    /// Returns the states to which action `a` leads from state `e`, rising and without repeats.
     pub fn next(&self, e: u8, a: u8) -> &[u8]
         requires state { e < self.now.env.states }
         requires action { a < self.now.env.actions }
@@ -142,7 +143,7 @@ impl Environment {
         self.next.row(e as usize * width + a as usize)
     }
 
-    /// The states from which action `a` leads to state `e`, rising, each once.
+    /// Returns the states from which action `a` leads to state `e`, rising and without repeats.
     pub fn prev(&self, e: u8, a: u8) -> &[u8]
         requires state { e < self.now.env.states }
         requires action { a < self.now.env.actions }

@@ -1,4 +1,4 @@
-//! Why a part is refused.
+//! The refusals of parts.
 ghost use Rattle.std.specs.Prelude.{◌≡◌};
 ghost use Rattle.roman_parts.specs.declared.error.PartError.TheVariants.{Memory};
 
@@ -17,7 +17,7 @@ pub enum List {
     Limit,
     /// The name of a part file.
     File,
-    /// A part's own name.
+    /// The name of a part.
     Name,
     /// The names of states.
     States,
@@ -45,21 +45,21 @@ pub enum List {
     Targets,
 }
 
-/// Why a part isn't read.
+/// Why a part wasn't read.
 #[derive(Clone, Copy, Debug, PartialEq, Eq, Error)]
 pub enum PartError {
-    /// A rule is broken, and none before it in the order of the document.
+    /// The first broken rule, in the order of the document.
     #[error("a rule is broken at item {index}")]
     Refused {
-        /// The rule.
+        /// The broken rule.
         kind: Kind,
-        /// The member or list at which it is broken.
+        /// The member or list that breaks the rule.
         list: List,
-        /// The number of the item, from 0; 0 also for the list as a whole, and for a member that is
-        /// no list.
+        /// The number of the item, from 0. It is 0 also for the list as a whole, and for a member
+        /// that isn't a list.
         index: u32,
     },
-    /// There is no memory for the part, or it has 2^32 final states or more.
+    /// Out of memory, or 2^32 or more final states.
     #[error("there is no memory")]
     Memory,
 }

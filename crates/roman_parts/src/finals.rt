@@ -12,7 +12,7 @@ use serde_json::Value;
 use std::alloc::Global;
 
 #[tactic(auto, using(roman_read::proofs::CallerLemmas::pushes), unfolding(crate::specs::Lists::finals_of))]
-/// The final states, in the order in which they stand. 2^32 of them or more are too many for memory.
+/// Reads the final states, in their order. Fails with `Memory` also for 2^32 or more of them.
 pub(crate) fn read_finals(
     alloc: Global,
     states: &NameTable,

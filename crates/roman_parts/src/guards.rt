@@ -1,4 +1,4 @@
-//! Guards.
+//! Readers of guards.
 ghost use Rattle.std.specs.Prelude.{◌≡◌, ◌^◌, ◌<◌, ◌≤◌, IfOk, length, map, option_map, []};
 ghost use Rattle.serde_json.specs.View.{view, items_view};
 ghost use Rattle.roman_guard.specs.Meaning.{holds, states_of};
@@ -14,7 +14,7 @@ use roman_read::{Kind, NameTable};
 use serde_json::Value;
 use std::alloc::Global;
 
-/// The environment states that a guard means.
+/// Reads a guard, and returns the environment states in which it holds.
 #[tactic(auto, unfolding(crate::specs::Guards::guarded_states))]
 pub(crate) fn read_states(
     alloc: Global,
@@ -30,7 +30,7 @@ pub(crate) fn read_states(
     Ok(compile(&guard, states.len() as u8))
 }
 
-/// The guard that a value is.
+/// Reads a value as a guard.
 #[cycle(formula)]
 #[tactic(auto, using(crate::proofs::GuardLemmas::guards))]
 fn read_guard(alloc: Global, states: &NameTable, v: &Value, index: u32) -> Result<Guard, PartError>
@@ -52,7 +52,7 @@ fn read_guard(alloc: Global, states: &NameTable, v: &Value, index: u32) -> Resul
     }
 }
 
-/// The guard of one operator.
+/// Reads the guard with the given operator.
 #[cycle(formula)]
 #[tactic(auto, using(crate::proofs::GuardLemmas::guards))]
 fn read_operator(
@@ -79,7 +79,7 @@ fn read_operator(
     Err(refused(Kind::Form, List::Steps, index))
 }
 
-/// The guards of a list.
+/// Reads a list of guards.
 #[cycle(formula)]
 #[tactic(auto, using(crate::proofs::GuardLemmas::guard_lists))]
 fn read_guards(
@@ -99,7 +99,7 @@ fn read_guards(
     Ok(guards)
 }
 
-/// The guard that is a list of states.
+/// Reads the guard that lists its states.
 #[tactic(auto, using(crate::proofs::GuardLemmas::guards), unfolding(crate::specs::Guards::among_of))]
 fn read_among(
     alloc: Global,
@@ -113,7 +113,7 @@ fn read_among(
     Ok(Guard::Among(read_places(alloc, states, items, index)?))
 }
 
-/// The states that are listed.
+/// Reads a list of states.
 #[tactic(auto, using(roman_read::proofs::CallerLemmas::pushes), unfolding(crate::specs::Guards::state_in))]
 fn read_places(
     alloc: Global,
@@ -132,7 +132,7 @@ fn read_places(
     Ok(places)
 }
 
-/// The one member of an object that has exactly one.
+/// Returns the only member of an object with exactly one member, and `None` for any other value.
 #[tactic(auto, using(crate::proofs::GuardLemmas::soles))]
 fn sole(v: &Value) -> Option<(&str, &Value)>
     ensures { option_map (λ m. (m.0.now, view m.1.now)) result ≡ sole_of (view v.now) }

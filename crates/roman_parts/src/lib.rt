@@ -1,8 +1,8 @@
 //! Environments, behaviours and targets of the Roman model, with look-ups of their steps.
 //!
-//! [`read_environment`], [`read_behaviour`] and [`read_target`] read them from the JSON values of a
-//! document, and `from_lists` of each makes them from lists. `specs/` says what a value means, and what
-//! the normal form of a part is.
+//! [`read_environment`], [`read_behaviour`] and [`read_target`] read parts from the JSON values of a
+//! document. `from_lists` of each type makes a part from lists. `specs/` defines the meaning of a
+//! value, and the normal form of a part.
 #![tactic(auto)]
 
 mod automaton;

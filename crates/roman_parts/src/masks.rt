@@ -9,7 +9,7 @@ use roman_model::MAX_STATES;
 use roman_read::NameTable;
 use std::alloc::{AllocError, Global};
 
-/// How many states, environment states and actions a table has cells for.
+/// The numbers of states, environment states and actions for which a table has cells.
 #[derive(Clone, Copy, Debug)]
 pub(crate) struct Cells {
     pub(crate) states: usize,
@@ -19,7 +19,7 @@ pub(crate) struct Cells {
 }
 
 impl Cells {
-    /// The cells of a behaviour with these states over an environment.
+    /// Returns the cells of a behaviour with these states over an environment.
     pub(crate) fn over(states: &NameTable, env: &Environment) -> Cells
         requires { length states.now ≤ MAX_STATES }
         ensures states { result.states ≡ length states.now }
@@ -33,7 +33,7 @@ impl Cells {
         }
     }
 
-    /// The number of cells.
+    /// Returns the number of cells.
     pub(crate) fn count(&self) -> usize
         ensures count { result ≡ self.now.states * self.now.env_states * self.now.actions }
         ensures small { result ≤ 2 ^ 17 }
@@ -41,7 +41,7 @@ impl Cells {
         self.states * self.env_states * self.actions
     }
 
-    /// The cell of a state, an environment state and an action.
+    /// Returns the cell of a state, an environment state and an action.
     pub(crate) fn at(&self, b: u8, e: u8, a: u8) -> usize
         requires state { b < self.now.states }
         requires env_state { e < self.now.env_states }
@@ -53,7 +53,7 @@ impl Cells {
     }
 }
 
-/// For each state and action, the states to which the steps lead.
+/// Returns for each state and action the states to which the steps lead.
 pub(crate) fn next_masks(
     alloc: Global,
     states: usize,
@@ -73,7 +73,7 @@ pub(crate) fn next_masks(
     Ok(masks)
 }
 
-/// For each state and action, the states from which the steps lead there.
+/// Returns for each state and action the states from which the steps lead there.
 pub(crate) fn prev_masks(
     alloc: Global,
     states: usize,
@@ -93,7 +93,7 @@ pub(crate) fn prev_masks(
     Ok(masks)
 }
 
-/// For each state, environment state and action, the states to which the steps go.
+/// Returns for each state, environment state and action the states to which the steps go.
 pub(crate) fn out_masks(
     alloc: Global,
     cells: Cells,
@@ -110,7 +110,7 @@ pub(crate) fn out_masks(
     Ok(masks)
 }
 
-/// For each state, environment state and action, the states from which the steps go there.
+/// Returns for each state, environment state and action the states from which the steps go there.
 pub(crate) fn into_masks(
     alloc: Global,
     cells: Cells,
@@ -127,7 +127,8 @@ pub(crate) fn into_masks(
     Ok(masks)
 }
 
-/// Puts a state into the cells of a state, an action and each environment state of the guard.
+/// Adds the state `n` to the cells of the state `at`, the action and each environment state of the
+/// guard.
 fn mark_move(masks: &mut [u64], cells: Cells, at: u8, guard: StateSet, action: u8, n: u8)
     requires len { length masks.old ≡ cells.states * cells.env_states * cells.actions }
     requires at { at < cells.states }
@@ -143,7 +144,7 @@ fn mark_move(masks: &mut [u64], cells: Cells, at: u8, guard: StateSet, action: u
     }
 }
 
-/// Puts a state into a cell.
+/// Adds the state `n` to a cell.
 #[tactic(auto, using(crate::proofs::CellLemmas::marking))]
 fn mark(masks: &mut [u64], cell: usize, n: u8)
     requires cell { cell < length masks.old }

@@ -1,4 +1,4 @@
-//! Lists of names, and names of a list.
+//! Readers of lists of names, and of names from a list.
 ghost use Rattle.std.specs.Prelude.{◌≡◌, ◌+◌, ◌-◌, ◌^◌, ◌<◌, ◌≤◌, length, IfOk, OnOk};
 ghost use Rattle.serde_json.specs.View.{view};
 ghost use Rattle.roman_parts.specs.Reading.{Gives};
@@ -10,7 +10,7 @@ use roman_read::{AddError, Kind, Name, NameTable, member, text};
 use serde_json::Value;
 use std::alloc::Global;
 
-/// The names of a member that is a list of 1 to `most` names.
+/// Reads a member that is a list of 1 to `most` names.
 #[tactic(auto, using(roman_read::proofs::CallerLemmas::each), unfolding(crate::specs::Lists::names_of))]
 pub(crate) fn read_names(
     alloc: Global,
@@ -32,7 +32,7 @@ pub(crate) fn read_names(
     Ok(names)
 }
 
-/// Adds the next name of a list.
+/// Reads the next name of a list, and adds it to the names.
 #[tactic(auto, unfolding(crate::specs::Lists::name_step))]
 fn add_name(names: &mut NameTable, item: &Value, place: List, index: u32) -> Result<(), PartError>
     requires { length names.old < 2 ^ 32 - 1 }
@@ -47,7 +47,7 @@ fn add_name(names: &mut NameTable, item: &Value, place: List, index: u32) -> Res
     }
 }
 
-/// The name that a value is.
+/// Reads a value as a name.
 pub(crate) fn name_in(v: &Value, place: List, index: u32) -> Result<Name, PartError>
     ensures { Gives (λ x. x) result (name_in place index (view v.now)) }
 {
@@ -61,9 +61,9 @@ pub(crate) fn name_in(v: &Value, place: List, index: u32) -> Result<Name, PartEr
     }
 }
 
-/// The place of the name that a value is, among at most 64 names. `Refused` comes exactly where the
-/// value is no text, or none of the names, and names item `index` of the list `place`. No memory is
-/// taken.
+/// Returns the place of the name in a value, among at most 64 names. Fails with `Refused` exactly
+/// where the value isn't a text, or is none of the names. The refusal names item `index` of the list
+/// `place`. Takes no memory.
 #[tactic(auto, unfolding(crate::specs::Lists::place_in))]
 pub fn place_in(names: &NameTable, v: &Value, place: List, index: u32) -> Result<u8, PartError>
     requires few { length names.now ≤ 64 }
@@ -80,7 +80,7 @@ pub fn place_in(names: &NameTable, v: &Value, place: List, index: u32) -> Result
     }
 }
 
-/// The start state.
+/// Reads the start state.
 #[tactic(auto, unfolding(crate::specs::Lists::start_of))]
 pub(crate) fn read_start(states: &NameTable, v: &Value) -> Result<u8, PartError>
     requires { length states.now ≤ 64 }

@@ -1,4 +1,4 @@
-//! Parts as they stand in a document.
+//! Readers of the parts of a document.
 ghost use Rattle.serde_json.specs.View.{view};
 ghost use Rattle.roman_parts.specs.Reading.{Gives};
 ghost use Rattle.roman_parts.specs.Parts.{environment_of, name_of, behaviour_of, target_of};
@@ -18,9 +18,9 @@ use serde_json::Value;
 use std::alloc::Global;
 
 #[tactic(auto, unfolding(crate::specs::Parts::environment_of))]
-/// The environment that a JSON value is, as system documents write it. `Refused` comes exactly where
-/// the value breaks a rule, with the first one in the order of the format, and `Memory` where there is
-/// no memory for it.
+/// Reads an environment from a JSON value in the form of system documents. Fails with `Refused`
+/// exactly where the value breaks a rule, with the first broken rule in the order of the format, and
+/// with `Memory` when out of memory.
 pub fn read_environment(alloc: Global, v: &Value) -> Result<Environment, PartError>
     ensures environment { Gives (λ x. x) result (environment_of (view v.now)) }
 {
@@ -35,9 +35,9 @@ pub fn read_environment(alloc: Global, v: &Value) -> Result<Environment, PartErr
 }
 
 #[tactic(auto, unfolding(crate::specs::Parts::behaviour_of))]
-/// The behaviour over `env` that a JSON value is, as system documents write it. Whether another
-/// behaviour has its name isn't looked at. `Refused` comes exactly where the value breaks a rule, with
-/// the first one in the order of the format, and `Memory` where there is no memory for it.
+/// Reads a behaviour over `env` from a JSON value in the form of system documents. Doesn't check
+/// whether another behaviour has its name. Fails with `Refused` exactly where the value breaks a
+/// rule, with the first broken rule in the order of the format, and with `Memory` when out of memory.
 pub fn read_behaviour(alloc: Global, v: &Value, env: &Environment) -> Result<Behaviour, PartError>
     ensures behaviour { Gives (λ x. x) result (behaviour_of env.now (view v.now)) }
 {
@@ -53,9 +53,9 @@ pub fn read_behaviour(alloc: Global, v: &Value, env: &Environment) -> Result<Beh
 }
 
 #[tactic(auto, using(crate::proofs::SingleLemmas::single_steps), unfolding(crate::specs::Parts::target_of))]
-/// The target over `env` that a JSON value is, as system documents write it. A member `name` isn't
-/// looked at. `Refused` comes exactly where the value breaks a rule, with the first one in the order of
-/// the format, and `Memory` where there is no memory for it.
+/// Reads a target over `env` from a JSON value in the form of system documents. Ignores a member
+/// `name`. Fails with `Refused` exactly where the value breaks a rule, with the first broken rule in
+/// the order of the format, and with `Memory` when out of memory.
 pub fn read_target(alloc: Global, v: &Value, env: &Environment) -> Result<Target, PartError>
     ensures target { Gives (λ x. x) result (target_of env.now (view v.now)) }
 {
@@ -71,8 +71,8 @@ pub fn read_target(alloc: Global, v: &Value, env: &Environment) -> Result<Target
 }
 
 #[tactic(auto, unfolding(crate::specs::Parts::name_of))]
-/// The name of a part: its member `name`. `Refused` comes exactly where the part is no object, or
-/// the member is missing, is no text, or isn't a name.
+/// Returns the name of a part: its member `name`. Fails with `Refused` exactly where the part isn't
+/// an object, or the member is missing, isn't a text, or isn't a name.
 pub fn read_name(v: &Value) -> Result<Name, PartError>
     ensures name { Gives (λ x. x) result (name_of (view v.now)) }
 {

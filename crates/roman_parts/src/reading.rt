@@ -1,4 +1,4 @@
-//! Looks into a part, with the place of what is missed.
+//! Looks into a part. Each refusal states its place.
 ghost use Rattle.std.specs.Prelude.{◌≡◌, ◌≤◌, length, IfOk};
 ghost use Rattle.serde_json.specs.View.{view, items_view};
 ghost use Rattle.roman_read.specs.Json.{list_of};
@@ -10,7 +10,7 @@ use crate::error::{List, PartError};
 use roman_read::{Kind, Miss, list, member};
 use serde_json::Value;
 
-/// The refusal at a place.
+/// Returns the refusal at a place.
 pub(crate) fn refused(kind: Kind, place: List, index: u32) -> PartError
     ensures { result ≡ Refused kind place index }
 {
@@ -21,14 +21,14 @@ pub(crate) fn refused(kind: Kind, place: List, index: u32) -> PartError
     }
 }
 
-/// The refusal of what is missed at a place.
+/// Returns the refusal for a miss at a place.
 pub(crate) fn missed(miss: Miss, place: List, index: u32) -> PartError
     ensures { result ≡ Refused (kind_of miss) place index }
 {
     refused(miss.into(), place, index)
 }
 
-/// The items of an array.
+/// Returns the items of an array.
 pub(crate) fn list_at(v: &Value, place: List, index: u32) -> Result<&[Value], PartError>
     ensures { Gives (λ x. items_view x.now) result (looked place index (list_of (view v.now))) }
 {
@@ -39,7 +39,7 @@ pub(crate) fn list_at(v: &Value, place: List, index: u32) -> Result<&[Value], Pa
 }
 
 #[tactic(auto, unfolding(crate::specs::Reading::items_at))]
-/// The items of a member that is an array.
+/// Returns the items of a member that is an array.
 pub(crate) fn list_member<'a>(
     v: &'a Value,
     name: &str,
@@ -54,9 +54,9 @@ pub(crate) fn list_member<'a>(
 }
 
 #[tactic(auto, using(crate::proofs::ReadingLemmas::counts), unfolding(crate::specs::Reading::counted_items))]
-/// The items of a member that is an array of so many items at least and at most. `Refused` comes
-/// exactly where the value is no object, or the member is missing, is no array, or has fewer or
-/// more; it names the list `place`. No memory is taken.
+/// Returns the items of a member that is an array with `least` to `most` items. Fails with `Refused`
+/// exactly where the value isn't an object, or the member is missing, isn't an array, or has fewer or
+/// more items. The refusal names the list `place`. Takes no memory.
 pub fn counted_member<'a>(
     v: &'a Value,
     name: &str,

@@ -1,4 +1,4 @@
-//! Lists of small numbers, one behind another.
+//! Lists of small numbers, stored one after another.
 ghost use Rattle.std.specs.Prelude.{◌≡◌, ◌+◌, ◌*◌, ◌^◌, ◌<◌, ◌≤◌, ◌++◌, length, map, Some, IfOk, OnOk, slice_get, slice_index, slice_range};
 ghost use Rattle.roman_parts.specs.Rows.{IsCut};
 ghost use Rattle.roman_guard.specs.Meaning.{states_of};
@@ -6,7 +6,7 @@ ghost use Rattle.roman_guard.specs.Meaning.{states_of};
 use std::alloc::{AllocError, Global};
 use std::marker::Model;
 
-/// Lists of numbers below 256, found by their place. Contracts see the list of them.
+/// Lists of numbers below 256, indexed by their place. Contracts see the list of these lists.
 #[derive(Drop)]
 pub(crate) struct Rows {
     // Row k has the items from bound k up to bound k + 1.
@@ -26,7 +26,7 @@ impl Model for Rows {
 }
 
 impl Rows {
-    /// The states of each mask, rising.
+    /// Returns the rows with the states of each mask, rising.
     pub(crate) fn of_masks(alloc: Global, masks: &[u64]) -> Result<Rows, AllocError>
         requires { length masks.now ≤ 2 ^ 17 }
         ensures rows { IfOk result (λ rows. rows ≡ map states_of masks.now) }
@@ -41,7 +41,7 @@ impl Rows {
         Ok(Rows { bounds, items })
     }
 
-    /// The same rows again.
+    /// Returns equal rows.
     pub(crate) fn copy(&self, alloc: Global) -> Result<Rows, AllocError>
         ensures same { IfOk result (λ copy. copy ≡ self.now) }
     {
@@ -52,7 +52,7 @@ impl Rows {
     }
 
     #[tactic(auto, using(crate::proofs::RowLemmas::row_steps))]
-    /// The row at place k.
+    /// Returns the row at place `k`.
     pub(crate) fn row(&self, k: usize) -> &[u8]
         requires { k < length self.now }
         ensures row { slice_get self.now k ≡ Some result.now }
@@ -61,7 +61,7 @@ impl Rows {
     }
 }
 
-/// The items between a bound and the next.
+/// Returns the items from bound `k` to the next bound.
 fn between<'a>(bounds: &[u32], items: &'a [u8], k: usize) -> &'a [u8]
     requires place { k + 1 < length bounds.now }
     requires cut { IsCut bounds.now items.now }
@@ -72,7 +72,7 @@ fn between<'a>(bounds: &[u32], items: &'a [u8], k: usize) -> &'a [u8]
     &items[from..to]
 }
 
-/// How many states the masks have together.
+/// Returns the total number of states of the masks.
 fn count(masks: &[u64]) -> usize
     requires { length masks.now ≤ 2 ^ 17 }
 {
@@ -83,7 +83,7 @@ fn count(masks: &[u64]) -> usize
     total
 }
 
-/// Puts the states of a mask, rising, behind the items.
+/// Appends the states of a mask to the items, rising.
 fn push_states(items: &mut Vec<u8>, mask: u64) -> Result<(), AllocError>
     ensures { OnOk result (items.new.items ≡ items.old.items ++ states_of mask) }
 {

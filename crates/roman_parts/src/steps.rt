@@ -1,4 +1,4 @@
-//! Transitions.
+//! Readers of transitions.
 ghost use Rattle.std.specs.Prelude.{◌^◌, ◌<◌, ◌≤◌, All, IfOk, length, map};
 ghost use Rattle.serde_json.specs.View.{view};
 ghost use Rattle.roman_parts.specs.Listed.{triple_of, move_of, AreTriples, AreMoves};
@@ -15,7 +15,7 @@ use roman_read::{Kind, NameTable};
 use serde_json::Value;
 use std::alloc::Global;
 
-/// The transitions of an environment.
+/// Reads the transitions of an environment.
 #[tactic(auto, using(crate::proofs::StepLemmas::step_lists), unfolding(crate::specs::Steps::triples_of))]
 pub(crate) fn read_triples(
     alloc: Global,
@@ -38,7 +38,7 @@ pub(crate) fn read_triples(
     Ok(steps)
 }
 
-/// One transition of an environment.
+/// Reads one transition of an environment.
 #[tactic(auto, using(crate::proofs::StepLemmas::items), unfolding(crate::specs::Steps::triple_item))]
 fn read_triple(
     states: &NameTable,
@@ -61,7 +61,7 @@ fn read_triple(
     Ok((from, action, to))
 }
 
-/// The transitions of a behaviour.
+/// Reads the transitions of a behaviour or a target.
 #[tactic(auto, using(crate::proofs::StepLemmas::step_lists), unfolding(crate::specs::Steps::moves_of))]
 pub(crate) fn read_moves(
     alloc: Global,
@@ -89,7 +89,7 @@ pub(crate) fn read_moves(
     Ok(steps)
 }
 
-/// One transition of a behaviour.
+/// Reads one transition of a behaviour or a target.
 #[tactic(auto, using(crate::proofs::StepLemmas::items), unfolding(crate::specs::Steps::move_item))]
 fn read_move(
     alloc: Global,

@@ -16,11 +16,11 @@ use roman_read::NameTable;
 use std::alloc::{AllocError, Global};
 use std::marker::Model;
 
-/// A target over an environment, as in the Roman model: a behaviour that goes to at most one state from
-/// any state, by any action, in any environment state. Contracts see the names of its states, its
-/// record in normal form, and how many states and actions its environment has.
+/// A target over an environment, as in the Roman model: a behaviour that goes to at most one state
+/// from each state, by each action, in each environment state. Contracts see the names of its states,
+/// its record in normal form, and the numbers of states and actions of its environment.
 ///
-/// Numbers of states and actions that are passed are in range, and the look-ups take no memory.
+/// All calls require numbers of states and actions that are in range. The look-ups take no memory.
 #[derive(Drop)]
 pub struct Target {
     states: NameTable,
@@ -44,11 +44,11 @@ impl Model for Target {
 }
 
 impl Target {
-    /// The target over `env` with 1 to 64 states of these names, a start state, final states and steps
-    /// (t, G, a, t') over their numbers, where t' follows t on action a while the environment is in a
-    /// state of G. Steps with one state and action but different successors share no environment state.
-    /// Final states and steps may come in any order and repeat: what is made is in normal form. The one
-    /// error is that there is no memory.
+    /// Returns the target over `env` with 1 to 64 states with these names, a start state, final
+    /// states and steps (t, G, a, t') over their numbers. The state t' follows t on action a while
+    /// the environment is in a state of G. Requires that steps from one state by one action to
+    /// different successors share no environment state. Final states and steps may come in any order
+    /// and repeat. The result is in normal form. Fails only when out of memory.
     pub fn from_lists(
         alloc: Global,
         states: NameTable,
@@ -75,7 +75,7 @@ impl Target {
         Ok(Target { states, automaton })
     }
 
-    /// An equal target. The one error is that there is no memory.
+    /// Returns an equal target. Fails only when out of memory.
     pub fn copy(&self, alloc: Global) -> Result<Target, AllocError>
         ensures same { IfOk result (λ copy. copy ≡ self.now) }
     {
@@ -85,8 +85,8 @@ impl Target {
         })
     }
 
-    /// Tells a prover what holds of every target: each of its states has a name, its numbers are in
-    /// range, and it is deterministic. It does nothing.
+    /// Does nothing. Its contract states that each state of the target has a name, that its numbers
+    /// are in range, and that it is deterministic.
     pub fn known(&self)
         ensures count { length self.now.states ≡ self.now.beh.states }
         ensures known { IsOver self.now.env_states self.now.actions self.now.beh }
@@ -95,7 +95,7 @@ impl Target {
         let _states = &self.states;
     }
 
-    /// The names of the states, by number.
+    /// Returns the names of the states, by number.
     pub fn states(&self) -> &NameTable
         ensures names { result.now ≡ self.now.states }
         ensures count { length self.now.states ≡ self.now.beh.states }
@@ -105,7 +105,7 @@ impl Target {
         &self.states
     }
 
-    /// The number of the start state.
+    /// Returns the number of the start state.
     pub fn start(&self) -> u8
         ensures start { result ≡ self.now.beh.start }
         ensures within { result < self.now.beh.states }
@@ -113,7 +113,7 @@ impl Target {
         self.automaton.start()
     }
 
-    /// Whether `t` is a final state, in which the target may rest.
+    /// Returns whether `t` is a final state, in which the target may rest.
     pub fn is_final(&self, t: u8) -> bool
         requires { t < self.now.beh.states }
         ensures { result ≡ is_final self.now.beh t }
@@ -121,8 +121,8 @@ impl Target {
         self.automaton.is_final(t)
     }
 
-    /// The state to which action `a` goes from state `t` in environment state `e`; `None` exactly where
-    /// it goes to none.
+    /// Returns the state to which action `a` goes from state `t` in environment state `e`, or `None`
+    /// exactly where there is no such state.
     pub fn step(&self, t: u8, e: u8, a: u8) -> Option<u8>
         requires state { t < self.now.beh.states }
         requires env_state { e < self.now.env_states }
@@ -135,7 +135,8 @@ impl Target {
         self.automaton.next(t, e, a).first().copied()
     }
 
-    /// The states from which action `a` goes to state `t2` in environment state `e`, rising, each once.
+    /// Returns the states from which action `a` goes to state `t2` in environment state `e`, rising
+    /// and without repeats.
     pub fn into(&self, t2: u8, e: u8, a: u8) -> &[u8]
         requires state { t2 < self.now.beh.states }
         requires env_state { e < self.now.env_states }
@@ -146,8 +147,8 @@ impl Target {
         self.automaton.prev(t2, e, a)
     }
 
-    /// Whether the target allows action `a` in its state `t` and the state `e` of `env`, over which it
-    /// was made: both the target and the environment go somewhere by it.
+    /// Returns whether the target allows action `a` in its state `t` and the state `e` of its
+    /// environment `env`: whether both the target and the environment have a step on it.
     pub fn allows(&self, env: &Environment, t: u8, e: u8, a: u8) -> bool
         requires env_states { env.now.env.states ≡ self.now.env_states }
         requires actions { env.now.env.actions ≡ self.now.actions }

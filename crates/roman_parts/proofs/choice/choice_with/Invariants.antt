@@ -1,4 +1,4 @@
--- Step j leaves no choice with the steps so far.
+-- Step j forms no choice with the steps so far.
 use Rattle.std.proofs.Common.{map}
 use Rattle.roman_parts.specs.Listed.{move_of}
 use Rattle.roman_parts.specs.Choices.{choice_at}

@@ -1,4 +1,4 @@
--- None of the steps so far leaves a choice with an earlier one.
+-- None of the steps so far forms a choice with an earlier one.
 use Rattle.std.proofs.Common.{map}
 use Rattle.roman_parts.specs.Listed.{move_of}
 use Rattle.roman_parts.specs.Choices.{choice_with}

@@ -1,4 +1,4 @@
--- The final states so far are in range, and what is left gives what all items give.
+-- The final states so far are in range, and the remaining items give the result of all items.
 use Rattle.std.proofs.Common.{◌<◌, [], length}
 use Rattle.std.specs.List.{All}
 use Rattle.serde_json.specs.View.{items_view}

@@ -1,4 +1,4 @@
--- Each call goes to a value that nests less, or stays and goes down the ranks of the functions.
+-- Each call goes to a value that is nested less deeply, or stays and goes down the ranks of the functions.
 use Rattle.std.proofs.Common.{◌+◌, ◌*◌}
 use Rattle.serde_json.specs.Data.{depth}
 use Rattle.serde_json.specs.View.{view}

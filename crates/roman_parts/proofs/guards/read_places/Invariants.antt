@@ -1,4 +1,4 @@
--- What is left gives what all items give.
+-- The remaining items give the result of all items.
 use Rattle.std.proofs.Common.{[]}
 use Rattle.serde_json.specs.View.{items_view}
 use Rattle.roman_read.specs.Items.{each_item, pushing}

@@ -1,4 +1,4 @@
--- The names so far are as many as the items so far, and what is left gives what all items give.
+-- The names so far are as many as the items so far, and the remaining items give the result of all items.
 use Rattle.std.proofs.Common.{◌≡◌, [], length}
 use Rattle.serde_json.specs.View.{items_view}
 use Rattle.roman_read.specs.Items.{each_item}

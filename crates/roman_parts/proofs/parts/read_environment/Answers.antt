@@ -10,7 +10,7 @@ use Rattle.roman_parts.specs.Named.{NamedEnv}
 use Rattle.roman_parts.proofs.WrittenLemmas.{env_read}
 use Rattle.roman_parts.proofs.parts.read_environment.Goals as goal
 
--- an environment is its names and its record
+-- an environment is made of its names and its record
 made_is : (made : NamedEnv) (states actions : List (List ℕ)) (env : Env) → (made.states ≡ states) × (made.actions ≡ actions) → made.env ≡ env →
     ◌≡◌ {A = NamedEnv} (record { states = states; actions = actions; env = env }) made
 made_is made states actions env named is = λ i. record { states = sym named.0 i; actions = sym named.1 i; env = sym is i }

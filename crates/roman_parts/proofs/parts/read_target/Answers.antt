@@ -1,4 +1,4 @@
--- Steps that leave no choice go to at most one state.
+-- Steps that form no choice go to at most one state.
 use Rattle.std.proofs.Common.{◌≡◌, None, length, map}
 use Rattle.roman_parts.specs.Choices.{choice_of}
 use Rattle.roman_parts.specs.Listed.{move_of}

@@ -1,6 +1,6 @@
 use Rattle.std.proofs.Common.{◌*◌, ◌≤◌}
 use Rattle.roman_parts.proofs.rows.count.Given as goal
 
--- at most 64 states a mask
+-- each mask has at most 64 states
 abbrev pub invariant-loop-mask : goal.invariant-loop-mask
 invariant-loop-mask l = l.total ≤ 64 * l.mask-index

@@ -2,7 +2,7 @@ use Rattle.std.proofs.Common.{◌≡◌, ◌++◌, length}
 use Rattle.roman_guard.specs.Meaning.{states_of}
 use Rattle.roman_parts.proofs.rows.push_states.Given as goal
 
--- the items so far, and then the states that are left
+-- the items so far, followed by the remaining states
 abbrev pub invariant-loop-rest : goal.invariant-loop-rest
 invariant-loop-rest l = l.items.items ++ states_of l.rest ≡ l.initial.items.items ++ states_of l.mask
 

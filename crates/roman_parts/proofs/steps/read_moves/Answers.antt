@@ -1,4 +1,4 @@
--- The next step goes last, in range.
+-- The next step is appended, in range.
 use Rattle.std.proofs.Common.{arith}
 use Rattle.std.proofs.lemmas.Grind.{common_steps}
 use Rattle.roman_parts.proofs.StepLemmas.{step_lists}

@@ -1,4 +1,4 @@
--- The steps so far are in range and as many as the items so far, and what is left gives what all items give.
+-- The steps so far are in range and as many as the items so far, and the remaining items give the result of all items.
 use Rattle.std.proofs.Common.{◌≡◌, ◌<◌, ◌^◌, [], length, map}
 use Rattle.std.specs.List.{All}
 use Rattle.serde_json.specs.View.{items_view}

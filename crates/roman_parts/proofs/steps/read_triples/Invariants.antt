@@ -1,4 +1,4 @@
--- The steps so far are in range, and what is left gives what all items give.
+-- The steps so far are in range, and the remaining items give the result of all items.
 use Rattle.std.proofs.Common.{[], length, map}
 use Rattle.serde_json.specs.View.{items_view}
 use Rattle.roman_read.specs.Items.{each_item, pushing}

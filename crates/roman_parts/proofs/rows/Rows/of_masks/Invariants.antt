@@ -3,7 +3,7 @@ use Rattle.roman_guard.specs.Meaning.{states_of}
 use Rattle.roman_parts.proofs.RowLemmas.{IsLaid}
 use Rattle.roman_parts.proofs.rows.Rows.of_masks.Given as goal
 
--- the masks so far are laid out, each with at most 64 states
+-- the rows have the masks so far, each with at most 64 states
 abbrev pub invariant-loop-mask : goal.invariant-loop-mask
 invariant-loop-mask l = record {
   laid : IsLaid l.bounds.items l.items.items (map states_of (take l.mask-index l.masks));
