@@ -1,4 +1,4 @@
--- Which rule forbids the targets to be combined.
+-- The rule that forbids the targets to be combined.
 use Rattle.std.proofs.Common.{◌≡◌, ℕ, ◌<◌, ◌≤◌, List, [], ◌∷◌, map, length, Some, None, Err, IsTrue, IsFalse, refl, ap, ap₂, ◌∙◌, subst, arith}
 use Rattle.std.proofs.lemmas.Bool.{ltb-false, lt-ltb, le-ltb, true≢false}
 use Rattle.std.proofs.lemmas.List.{length-map}
@@ -39,7 +39,7 @@ pub forbids_none : (env : NamedEnv) (targets : List Named) → IsFalse (has_many
 unfolding forbidding
 forbids_none env targets few good short apart = rw (few, good, short, apart) refl
 
--- an error of the names is the first rule that forbids them
+-- an error of the names is the first rule that forbids the combination
 pub names_forbid : (env : NamedEnv) (targets : List Named) (why : CombineError) → IsFalse (has_many_states targets) → IsFalse (has_bad_count (requests_in env targets)) → AreCombinedNames env targets (Err why) →
     KeepsRules (Err why) (forbidding env targets)
 names_forbid env targets error.States few good h = absurd h
@@ -61,14 +61,14 @@ few_states targets few = le-ltb MAX_STATES (product_of (target_sizes (machines t
 pub many_states : (targets : List Named) → (product_of (target_sizes (machines targets)) ≤ MAX_STATES → ⊥) → IsTrue (has_many_states targets)
 many_states targets many = lt-ltb MAX_STATES (product_of (target_sizes (machines targets))) (omega arith)
 
--- the combined states are few enough, and so are the combined actions, of which there are some
+-- there are few enough combined states, and few enough combined actions but at least one
 pub record HasGoodCounts (env : NamedEnv) (targets : List Named) : Type 0 where
   pub few : product_of (target_sizes (machines targets)) ≤ MAX_STATES
   pub states : IsFalse (has_many_states targets)
   pub actions : IsFalse (has_bad_count (requests_in env targets))
   pub some : (0 < length (requests_in env targets)) × (length (requests_in env targets) ≤ MAX_ACTIONS)
 
--- so they are where their shape fits and the count of the requests isn't bad
+-- the counts are good where their shape fits and the count of the requests isn't bad
 pub good_counts : (env : NamedEnv) (targets : List Named) (sizes : List ℕ) (cap : ℕ) (requests : List Request) → sizes ≡ target_sizes (machines targets) → cap ≡ MAX_STATES → count (flat sizes) ≤ cap →
     requests ≡ requests_in env targets → IsFalse (has_bad_count requests) → HasGoodCounts env targets
 good_counts env targets sizes cap requests same is fits asked good =
@@ -92,7 +92,7 @@ same_target a b s n k t =
 abbrev parts : NamedEnv → List NamedBeh → NamedTarget → PlainCombined
 parts environment catalogue target = record { environment = environment; catalogue = catalogue; target = target }
 
--- parts with those names and records are the combined parts
+-- parts with these names and records are the combined parts
 pub parts_are : (env : NamedEnv) (catalogue : List NamedBeh) (targets : List Named) (requests : List Request) (states actions : List (List ℕ)) (environment : NamedEnv) (made : List NamedBeh) (target : NamedTarget) →
     requests ≡ requests_in env targets → states ≡ combined_state_names targets → actions ≡ request_names env targets →
     environment.env ≡ combined_env requests env.env → (environment.states ≡ env.states) × (environment.actions ≡ actions) →

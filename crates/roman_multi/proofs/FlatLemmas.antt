@@ -1,4 +1,4 @@
--- Lists of one state for each target are pairs of one target and one environment state: so a shape numbers them.
+-- A list of one state for each target is a pair with one target state and one environment state, so a shape numbers these lists.
 use Rattle.std.proofs.Common.{◌≡◌, ℕ, ◌+◌, ◌*◌, ◌%◌, ◌<◌, ◌≤◌, List, map, length, get_or, slice_index, slice_set, All, sym, ap, ap₂, ◌∙◌, subst, arith}
 use Rattle.std.specs.List.{AllZip}
 use Rattle.std.proofs.lemmas.Nat.{mod-mul-add}
@@ -31,7 +31,7 @@ pair_at-flat sizes i l = ap (states_at sizes) (small i (product_of sizes) l)
 
 -- ---- a shape over the sizes of the targets
 
--- the state of a target at a combined state
+-- the state of a target in a combined state
 pub part_is : (sizes : List ℕ) (shape : Sizes) (t i state : ℕ) → shape ≡ flat sizes → t < product_of sizes → state ≡ slice_index (pair_at shape t).bs i → state ≡ slice_index (states_at sizes t) i
 part_is sizes shape t i state same l is = is ∙ ap (λ (n : Sizes). slice_index (pair_at n t).bs i) same ∙ ap (λ xs. slice_index xs i) (pair_at-flat sizes t l)
 
@@ -43,7 +43,7 @@ pub below_part : (targets : List Named) (shape : Sizes) (i state : ℕ) (d : Nam
     state < slice_index shape.seats i
 below_part targets shape i state d same l h = subst (λ n. state < n) (sym (ap (λ (n : Sizes). slice_index n.seats i) same ∙ size_is targets i d l)) h
 
--- the combined state with one target in another state
+-- the combined state with another state of one target
 pub moved_is : (sizes : List ℕ) (shape : Sizes) (t k b next : ℕ) → shape ≡ flat sizes → t < product_of sizes → next ≡ number shape (with_part (pair_at shape t) k b) →
     next ≡ states_number sizes (slice_set (states_at sizes t) k b)
 moved_is sizes shape t k b next same l is =
@@ -58,7 +58,7 @@ moved_is sizes shape t k b next same l is =
     pair : IsPairOf (flat sizes) (pair_at (flat sizes) t)
     pair = IsPairOf-at (flat sizes) t (subst (λ n. t < n) (sym (count-flat sizes)) l)
 
--- the starts are a pair of the shape
+-- the start states are a pair of the shape
 pub starts_pair : (env : NamedEnv) (targets : List Named) (shape : Sizes) (starts : List ℕ) → All (λ named. IsTarget env named.target) targets → shape ≡ flat (target_sizes (machines targets)) →
     starts ≡ map (λ target. target.start) (machines targets) → IsPairOf shape (record { t = 0; e = 0; bs = starts })
 starts_pair env targets shape starts known same is =
@@ -73,7 +73,7 @@ pub starts_number : (targets : List Named) (shape : Sizes) (starts : List ℕ) (
 starts_number targets shape starts n same is number_is =
     number_is ∙ ap₂ (λ (s : Sizes) (xs : List ℕ). number s (record { t = 0; e = 0; bs = xs })) same is ∙ number-flat (target_sizes (machines targets)) (map (λ target. target.start) (machines targets))
 
--- a shape fits exactly where the combined states are few enough
+-- a shape fits exactly where there are few enough combined states
 pub fits_within : (sizes others : List ℕ) (cap : ℕ) → sizes ≡ others → cap ≡ MAX_STATES → count (flat sizes) ≤ cap → product_of others ≤ MAX_STATES
 fits_within sizes others cap same is fits = subst (λ n. n ≤ MAX_STATES) (count-flat sizes ∙ ap product_of same) (subst (λ n. count (flat sizes) ≤ n) is fits)
 

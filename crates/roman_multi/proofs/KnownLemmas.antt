@@ -1,4 +1,4 @@
--- Targets that are known: their machines are in range and deterministic, and their sizes are those of a shape.
+-- Known targets: their machines are in range and deterministic, and their sizes are those of a shape.
 use Rattle.std.proofs.Common.{◌≡◌, ℕ, zero, suc, ◌+◌, ◌<◌, ◌≤◌, List, [], ◌∷◌, ◌++◌, map, length, take, get_or, All, Some, slice_get, slice_index, inl, inr, refl, sym, ap, ◌∙◌, subst, arith}
 use Rattle.std.specs.List.{AllZip}
 use Rattle.std.proofs.lemmas.List.{take_more, map-append, length-map}
@@ -16,7 +16,7 @@ use Rattle.roman_parts.proofs.CallerLemmas.{IsOver-states}
 use Rattle.roman_multi.specs.Combining.{machines, requests_in}
 use Rattle.roman_multi.specs.declared.parts.Named.{Named}
 
--- what holds of all holds of what is read
+-- a property of all elements holds of the element at a place
 pub known_at : {X : Type 0} (P : X → Type 0) (xs : List X) (i : ℕ) (x : X) → All P xs → i < length xs → x ≡ get_or xs i x → P x
 known_at P xs i x all l is = subst P (sym is) (all i x l)
 
@@ -25,7 +25,7 @@ all_in P [] x all i = absurd i
 all_in P (y ∷ xs) x all (inl same) = subst P (sym same) (all 0 y (omega arith))
 all_in P (y ∷ xs) x all (inr i) = all_in P xs x (λ k d l. all (suc k) d (omega arith)) i
 
--- one more is known
+-- a property of the first elements holds with one more
 pub known_more : {X : Type 0} (P : X → Type 0) (xs : List X) (i : ℕ) (d : X) → All P (take i xs) → i < length xs → P (get_or xs i d) → All P (take (i + 1) xs)
 known_more P xs i d all l here = subst (All P) (sym (take_more xs i d l)) (All-push P (take i xs) (get_or xs i d) all here)
 
@@ -37,7 +37,7 @@ machines_known env targets known target i =
     let is : IsTarget env named.target = all_in (λ (named : Named). IsTarget env named.target) targets named known j in
     subst (λ b. IsBeh env.env b × IsDeterministic b) (sym same) (is.known env.env (sym is.env_states) (sym is.actions), is.single)
 
--- the machine at a place, and how many states it has
+-- the machine at a place, and its number of states
 pub machine_at : (targets : List Named) (i : ℕ) (d : Named) → i < length targets → slice_get (machines targets) i ≡ Some (get_or targets i d).target.beh
 machine_at targets i d l = slice_get-map (λ (named : Named). named.target.beh) targets i ∙ ap (option_map (λ (named : Named). named.target.beh)) (slice_get-get_or targets i d l)
 
@@ -47,7 +47,7 @@ size_is targets i d l = target_size_at (machines targets) i (get_or targets i d)
 pub sizes_length : (targets : List Named) → length (target_sizes (machines targets)) ≡ length targets
 sizes_length targets = length-map (machines targets) (λ (b : Beh). b.states) ∙ length-map targets (λ (named : Named). named.target.beh)
 
--- one more size
+-- the sizes with one more
 pub sizes_more : (targets : List Named) (i : ℕ) (d : Named) → i < length targets →
     target_sizes (machines (take (i + 1) targets)) ≡ target_sizes (machines (take i targets)) ++ (get_or targets i d).target.beh.states ∷ []
 sizes_more targets i d l =
@@ -55,7 +55,7 @@ sizes_more targets i d l =
     ∙ ap target_sizes (map-append (λ (named : Named). named.target.beh) (take i targets) (get_or targets i d ∷ []))
     ∙ map-append (λ (b : Beh). b.states) (machines (take i targets)) ((get_or targets i d).target.beh ∷ [])
 
--- one more start
+-- the start states with one more
 pub starts_more : (targets : List Named) (i : ℕ) (d : Named) → i < length targets →
     map (λ (b : Beh). b.start) (machines (take (i + 1) targets)) ≡ map (λ (b : Beh). b.start) (machines (take i targets)) ++ (get_or targets i d).target.beh.start ∷ []
 starts_more targets i d l =
@@ -63,7 +63,7 @@ starts_more targets i d l =
     ∙ ap (map (λ (b : Beh). b.start)) (map-append (λ (named : Named). named.target.beh) (take i targets) (get_or targets i d ∷ []))
     ∙ map-append (λ (b : Beh). b.start) (machines (take i targets)) ((get_or targets i d).target.beh ∷ [])
 
--- the starts are states
+-- the start states are states
 pub starts_below : (env : Env) (targets : List Beh) → ((target : Beh) → IsIn target targets → IsBeh env target × IsDeterministic target) →
     AllZip (λ size b. b < size) (target_sizes targets) (map (λ (b : Beh). b.start) targets)
 starts_below env [] ok = tt
@@ -82,7 +82,7 @@ sizes_positive env targets known k d l =
         (IsOver-states named.target.env_states named.target.actions named.target.beh is.known).0
     all_of (named ∷ targets) known (suc k) d l = all_of targets (λ j e m. known (suc j) e (omega arith)) k d (omega arith)
 
--- the targets and no seats
+-- the targets without any seats
 abbrev pub several : NamedEnv → List Named → Several
 several env targets = record { env = env.env; targets = machines targets; seats = [] }
 

@@ -1,4 +1,4 @@
--- Lists that loops make over the numbers below a bound.
+-- Lists that loops build over the numbers below a bound.
 use Rattle.std.proofs.Common.{◌≡◌, ℕ, suc, ◌<◌, ◌+◌, Bool, false, not, List, [], ◌∷◌, ◌++◌, length, Option, None, Some, IsTrue, IsFalse, is_some, MatchOption, flat_map, slice_get, get_or, refl, sym, ap, ap₂, ◌∙◌, add-one, append_assoc}
 use Rattle.std.specs.List.{list_any}
 use Rattle.std.proofs.lemmas.Bool.{or_from}
@@ -7,12 +7,12 @@ use Rattle.std.proofs.lemmas.Option.{slice_get-get_or}
 use Rattle.roman_model.specs.Lists.{below, is_empty}
 use Rattle.roman_model.proofs.CallerLemmas.{any_from, flat_map_row, in_below}
 
--- what a target's step says of its next states
+-- the next states of a target's step
 pub goes_is : (o : Option ℕ) (xs : List ℕ) → MatchOption o (xs ≡ []) (λ to. xs ≡ to ∷ []) → is_some o ≡ not (is_empty xs)
 goes_is None xs h = ap (λ ys. not (is_empty ys)) (sym h)
 goes_is (Some to) xs h = ap (λ ys. not (is_empty ys)) (sym h)
 
--- a test of the numbers below one more
+-- a test of the numbers below a bound, with one more
 pub none_more : (p : ℕ → Bool) (n : ℕ) → IsFalse (list_any p (below n)) → IsFalse (p n) → IsFalse (list_any p (below (suc n)))
 none_more p n before here = list_any-append p (below n) (n ∷ []) ∙ or_from (list_any p (below n)) (list_any p (n ∷ [])) before (or_from (p n) false here refl)
 
@@ -26,7 +26,7 @@ flat_map_pushed f n old now new ys before step is =
 pub flat_map_begun : {Y : Type 0} (f : ℕ → List Y) (n : ℕ) (now new ys : List Y) → now ≡ flat_map f (below n) → new ≡ now ++ ys → ys ≡ f n → new ≡ flat_map f (below (n + 1))
 flat_map_begun f n now new ys before step is = step ∙ ap₂ (λ us vs. us ++ vs) before is ∙ sym (flat_map_row f n) ∙ ap (λ m. flat_map f (below m)) (sym (add-one n))
 
--- a step that is found
+-- a step that was found
 pub goes_found : (o : Option ℕ) (xs : List ℕ) (b : Bool) → MatchOption o (xs ≡ []) (λ to. xs ≡ to ∷ []) → b ≡ is_some o → IsTrue b → IsTrue (not (is_empty xs))
 goes_found o xs b h is t = sym (goes_is o xs h) ∙ sym is ∙ t
 

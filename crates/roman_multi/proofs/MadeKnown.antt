@@ -37,7 +37,7 @@ are_allowed env targets h =
     let (states, actions, short, apart) = none_chosen (has_many_states targets) (has_bad_count (requests_in env targets)) (has_long_name env targets) (has_one_name env targets) h in
     record { states = states; actions = actions; short = short; apart = apart }
 
--- a record made by tests is over any environment with those numbers
+-- a record built from tests is in range over each environment with these numbers
 pub IsOver-made : (env_states actions states start : ℕ) (final : ℕ → Bool) (goes : ℕ → ℕ → ℕ → ℕ → Bool) → (0 < states) × (states ≤ MAX_STATES) → start < states →
     IsOver env_states actions (beh_from env_states actions states start final goes)
 IsOver-made env_states actions states start final goes some begins env es ns =

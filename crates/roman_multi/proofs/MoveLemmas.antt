@@ -1,4 +1,4 @@
--- The steps that the loops list are those of the combined behaviours, and the requests are the combined actions.
+-- The steps that the loops list are the steps of the combined behaviours, and the requests are the combined actions.
 use Rattle.std.proofs.Common.{◌≡◌, ℕ, ◌<◌, ◌≤◌, ◌^◌, ◌==◌, ◌&&◌, Bool, List, [], ◌∷◌, map, length, Option, Some, None, IsTrue, flat_map, filter, slice_get, inl, inr, refl, sym, ap, ap₂, ◌∙◌, subst, get_or, arith}
 use Rattle.roman_guard.specs.Meaning.{states_of}
 use Rattle.roman_model.specs.Lists.{IsIn, below}
@@ -39,7 +39,7 @@ in_moves env_states actions states next b e n to hb he hn i =
     (in_flat_map (λ e. moves_in b n e (next b n e)) e (b, 2 ^ e, n, to) (below env_states) (in_below env_states e he)
     (in_map (λ to. (b, 2 ^ e, n, to)) to (next b n e) i)))
 
--- the listed steps are in range, where the states that are next are
+-- the listed steps are in range, where the next states are
 pub moves_in_range : (env_states actions states : ℕ) (next : ℕ → ℕ → ℕ → List ℕ) →
     ((b n e to : ℕ) → b < states → n < actions → e < env_states → IsIn to (next b n e) → to < states) → AreMoves states actions (listed_moves env_states actions states next)
 moves_in_range env_states actions states next within k d l =
@@ -47,7 +47,7 @@ moves_in_range env_states actions states next within k d l =
     let (e, he, hb, hn, is, it) = from_moves env_states actions states next (get_or (listed_moves env_states actions states next) k d) (get_or_in (listed_moves env_states actions states next) k d l) in
     (hb, hn, within x.0 x.2 e x.3 hb hn he it)
 
--- a behaviour of such steps goes where they say
+-- a behaviour with the listed steps goes to the given next states
 pub listed_moves_made : (env_states actions states start : ℕ) (fins : List ℕ) (next : ℕ → ℕ → ℕ → List ℕ) → env_states ≤ 64 →
     normal_beh env_states actions (listed_beh states start fins (listed_moves env_states actions states next))
     ≡ beh_from env_states actions states start (has fins) (λ b e n b'. has (next b n e) b')
@@ -97,7 +97,7 @@ combined_beh_is env beh requests few ok =
         (λ t. from_beh_next beh b e r.action b' (number_listed (beh_next beh b e r.action) b' t))
         (λ t. listed_number (beh_next beh b e r.action) b' (in_beh_next env beh b e r.action b' ok t))
 
--- the next states of a behaviour are its own
+-- the next states of a behaviour are states of it
 pub moves_on_below : (beh : Beh) (b e : ℕ) (o : Option Request) (to : ℕ) → IsIn to (moves_on beh b e o) → to < beh.states
 moves_on_below beh b e None to i = absurd i
 moves_on_below beh b e (Some r) to i = from_below beh.states to (filter_in (has_move beh b e r.action) to (below beh.states) i).0
@@ -130,7 +130,7 @@ all_requests_are env targets env_states actions i items known es ns done is =
     ∙ ap₂ (λ n m. used_requests n m (machines targets)) es ns
     ∙ requests_are env.env (machines targets) (λ target j. (machines_known env targets known target j).0)
 
--- the combined actions are actions of the environment, each of one of the targets
+-- the combined actions are actions of the environment, and each belongs to one of the targets
 pub requests_in_range : (env : NamedEnv) (targets : List Named) (requests : List Request) → requests ≡ requests_in env targets →
     All (λ r. (r.target < length targets) × (r.action < env.env.actions)) requests
 requests_in_range env targets requests is k d l =
@@ -141,6 +141,6 @@ requests_in_range env targets requests is k d l =
     subst (λ (r : Request). (r.target < length targets) × (r.action < env.env.actions)) (sym same)
     (subst (λ n. p < n) (length-map targets (λ (named : Named). named.target.beh)) (from_below (length (machines targets)) p ip), from_below env.env.actions a ib)
 
--- the numbers that pass are below the bound
+-- the numbers that pass the test are below the bound
 pub passing_below : (p : ℕ → Bool) (n : ℕ) → All (λ b. b < n) (filter p (below n))
 passing_below p n k d l = from_below n (get_or (filter p (below n)) k d) (filter_in p (get_or (filter p (below n)) k d) (below n) (get_or_in (filter p (below n)) k d l)).0

@@ -1,4 +1,4 @@
--- What is made of lists is the combined behaviour.
+-- The behaviour built from the lists is the combined behaviour.
 use Rattle.std.proofs.Common.{◌≡◌, ℕ, ◌+◌, ◌<◌, ◌++◌, ◌∷◌, [], List, map, length, filter, slice_get, get_or, take, Result, Ok, Err, IfOk, All, sym, ap, ap₂, ◌∙◌, subst}
 use Rattle.std.proofs.lemmas.List.{take_more, map-append}
 use Rattle.roman_model.specs.Lists.{below}
@@ -22,7 +22,7 @@ same_behaviour a b n s e k m =
     ∙ ap₂ (λ x y. record { name = b.name; states = b.states; env_states = x; actions = y; beh = a.beh }) e k
     ∙ ap (λ x. record { name = b.name; states = b.states; env_states = b.env_states; actions = b.actions; beh = x }) m
 
--- the lists of which a behaviour over the combined actions is made
+-- the lists from which a behaviour over the combined actions is built
 pub record AreListsOf (env : NamedEnv) (requests : List Request) (behaviour : NamedBeh) (size begin : ℕ) (ends : List ℕ) (moves : List (ℕ × ℕ × ℕ × ℕ)) : Type 0 where
   pub world : IsEnv env.env
   pub of : IsBehaviourOf env behaviour
@@ -65,7 +65,7 @@ made_behaviour_is env requests behaviour made name states start finals steps env
     same_behaviour made (combined_behaviour env requests behaviour) (names.0 ∙ named) (names.1 ∙ kept) (over.0 ∙ es) (over.1 ∙ ns)
     (normal ∙ made_beh_is env requests behaviour (length states) start finals steps env_states actions lists es ns)
 
--- one more behaviour is made
+-- the list with one more behaviour
 pub map_more : {X Y : Type 0} (f : X → Y) (xs : List X) (i : ℕ) (x : X) (now new : List Y) (y : Y) → now ≡ map f (take i xs) → i < length xs → x ≡ get_or xs i x → new ≡ now ++ y ∷ [] → y ≡ f x →
     new ≡ map f (take (i + 1) xs)
 map_more f xs i x now new y before l at step is =

@@ -1,4 +1,4 @@
--- The steps that the loops list are those of the combined target.
+-- The steps that the loops list are the steps of the combined target.
 use Rattle.std.proofs.Common.{◌≡◌, ℕ, zero, suc, ◌^◌, ◌&&◌, ◌++◌, ◌<◌, ◌≤◌, Bool, drop, filter, All, List, [], ◌∷◌, map, length, Option, Some, None, IsTrue, slice_get, slice_index, slice_set, refl, sym, ap, ap₂, ◌∙◌, subst, arith}
 use Rattle.std.proofs.lemmas.Option.{none-some, same_Some}
 use Rattle.std.proofs.lemmas.List.{append-nil}
@@ -29,14 +29,14 @@ from_next_of_all targets ts e (Some r) t' i =
     by_member None x j = absurd j
     by_member (Some target) x j = (target, refl, from_beh_next target (slice_index ts r.target) e r.action x j)
 
--- a step that is listed is one of the combined target
+-- a listed step is a step of the combined target
 next_goes : (w : Several) (t e n t' : ℕ) → IsSeveral w → t < product_of (target_sizes w.targets) → IsIn t' (next_of_all w.targets (states_at (target_sizes w.targets) t) e (slice_get (all_requests w) n)) →
     IsTrue (has_move (combined w).target t e n t')
 next_goes w t e n t' ok ht i =
     let (r, target, x, at, member, moves, same) = from_next_of_all w.targets (states_at (target_sizes w.targets) t) e (slice_get (all_requests w) n) t' i in
     subst (λ k. IsTrue (has_move (combined w).target t e n k)) (sym same) (combined_target_goes w t e n x r target ok ht at member moves)
 
--- the combined target: its steps as they are listed, one environment state for a guard
+-- the combined target with its listed steps, each with a guard of one environment state
 pub combined_target_is : (w : Several) (fins : List ℕ) → IsSeveral w → w.env.states ≤ 64 →
     ((t : ℕ) → t < product_of (target_sizes w.targets) → has fins t ≡ are_final w.targets (states_at (target_sizes w.targets) t)) →
     normal_beh w.env.states (length (all_requests w))
@@ -87,7 +87,7 @@ combined_target_is w fins ok few ends =
 
 -- ---- one step at a time
 
--- where the target goes nowhere there is no step
+-- there is no step where the target has no next state
 pub no_step : (targets : List Beh) (ts : List ℕ) (t n e : ℕ) (r : Request) (target : Beh) (state : ℕ) (old : List (ℕ × ℕ × ℕ × ℕ)) → slice_get targets r.target ≡ Some target →
     state ≡ slice_index ts r.target → beh_next target state e r.action ≡ [] → old ≡ old ++ moves_in t n e (next_of_all targets ts e (Some r))
 no_step targets ts t n e r target state old at is none =
@@ -95,7 +95,7 @@ no_step targets ts t n e r target state old at is none =
     ∙ ap (λ xs. old ++ moves_in t n e (map (λ t'. states_number (target_sizes targets) (slice_set ts r.target t')) xs))
     (sym (ap (λ o. member_next o (slice_index ts r.target) e r.action) at ∙ ap (λ b. beh_next target b e r.action) (sym is) ∙ none))
 
--- where it goes to a state there is one
+-- there is one step where the target has a next state
 pub one_step : (targets : List Beh) (ts : List ℕ) (t n e : ℕ) (r : Request) (target : Beh) (state to next word : ℕ) (old new : List (ℕ × ℕ × ℕ × ℕ)) → slice_get targets r.target ≡ Some target →
     state ≡ slice_index ts r.target → beh_next target state e r.action ≡ to ∷ [] → next ≡ states_number (target_sizes targets) (slice_set ts r.target to) → word ≡ 2 ^ e →
     new ≡ old ++ (t, word, n, next) ∷ [] → new ≡ old ++ moves_in t n e (next_of_all targets ts e (Some r))
@@ -112,7 +112,7 @@ final_drop (x ∷ targets) [] i target t at l is = absurd (omega arith)
 final_drop (x ∷ targets) (u ∷ ts) zero target t at l is = ap₂ (λ b v. is_final b v && are_final targets ts) (same_Some x target at) (sym is)
 final_drop (x ∷ targets) (u ∷ ts) (suc i) target t at l is = final_drop targets ts i target t at (omega arith) is
 
--- the lists of which the combined target is made
+-- the lists from which the combined target is built
 pub record AreListsOf (w : Several) (size begin : ℕ) (ends : List ℕ) (moves : List (ℕ × ℕ × ℕ × ℕ)) : Type 0 where
   pub several : IsSeveral w
   pub count : size ≡ product_of (target_sizes w.targets)

@@ -1,4 +1,4 @@
--- Names that are joined, and tables of them.
+-- Joined names, and tables of them.
 use Rattle.std.proofs.Common.{◌≡◌, ℕ, zero, suc, ◌+◌, ◌<◌, ◌≤◌, ◌==◌, ◌&&◌, false, not, List, [], ◌∷◌, ◌++◌, length, take, get_or, slice_index, IsTrue, IsFalse, refl, sym, ap, ◌∙◌, append_assoc, arith}
 use Rattle.std.specs.Prelude.{slice_index_or, if◌then◌else◌, nat_le}
 use Rattle.std.specs.List.{list_all}
@@ -10,7 +10,7 @@ use Rattle.roman_multi.specs.Combining.{joined, names_at, is_long}
 use Rattle.roman_multi.specs.Lists.{is_word}
 use Rattle.roman_multi.specs.declared.parts.Named.{Named}
 
--- one more name is put behind a dash, unless it is the first
+-- one more name is appended after a dash, unless it is the first
 joined_push : (names : List (List ℕ)) (name : List ℕ) → joined (names ++ name ∷ []) ≡ joined names ++ (if is_empty names then name else 45 ∷ name)
 joined_push [] name = refl
 joined_push (first ∷ []) name = refl
@@ -27,7 +27,7 @@ joined_more names i name l is =
     ap joined (take_more names i [] l ∙ ap (λ x. take i names ++ x ∷ []) is) ∙ joined_push (take i names) name
     ∙ ap (λ b. joined (take i names) ++ (if b then name else 45 ∷ name)) (take_empty names i l)
 
--- the names of the states
+-- the names of the states are as many as the states
 pub names_at_length : (targets : List Named) (ts : List ℕ) → length ts ≡ length targets → length (names_at targets ts) ≡ length targets
 names_at_length [] ts e = refl
 names_at_length (named ∷ targets) [] e = absurd (omega arith)

@@ -1,4 +1,4 @@
--- Several named targets as one: the names and records of the combined parts, and the rules that may forbid them.
+-- Several named targets combined into one: the names and records of the combined parts, and the rules that may forbid them.
 use Rattle.std.specs.Prelude.{◌≡◌, ℕ, Bool, ◌||◌, List, [], ◌∷◌, ◌++◌, map, length, take, is_some, Option, None, Some, Result, Ok, Err, nat_lt, slice_index_or, if◌then◌else◌}
 use Rattle.std.specs.List.{list_any}
 use Rattle.roman_model.specs.Lists.{below, is_empty, product_of}
@@ -20,11 +20,11 @@ pub record PlainCombined : Type 0 where
   pub catalogue : List NamedBeh
   pub target : NamedTarget
 
--- the combined parts without where they lie in memory
+-- the combined parts as plain records
 abbrev pub plain_combined : Combined → PlainCombined
 plain_combined made = record { environment = made.environment; catalogue = made.catalogue.items; target = made.target }
 
--- a target's name
+-- the name of a target
 abbrev pub target_name : Named → List ℕ
 target_name named = named.name
 
@@ -38,7 +38,7 @@ requests_in env targets = requests_of env.env.actions (machines targets)
 
 -- ---- names
 
--- the names with a dash between each two
+-- the names, joined with a dash between each two
 abbrev pub joined : List (List ℕ) → List ℕ
 joined [] = []
 joined (name ∷ []) = name
@@ -50,12 +50,12 @@ names_at [] ts = []
 names_at (named ∷ targets) [] = []
 names_at (named ∷ targets) (t ∷ ts) = slice_index_or named.target.states t [] ∷ names_at targets ts
 
--- the names of the combined states: each joins those of the targets' states
+-- the names of the combined states, each of which joins the names of the targets' states
 abbrev pub combined_state_names : List Named → List (List ℕ)
 combined_state_names targets =
     map (λ t. joined (names_at targets (states_at (target_sizes (machines targets)) t))) (below (product_of (target_sizes (machines targets))))
 
--- the name of a combined action: the action's, a dash, and that of the target that requests it
+-- the name of a combined action: the name of the action, a dash, and the name of the target that requests it
 abbrev pub request_name : List (List ℕ) → List Named → Request → List ℕ
 request_name actions targets r = slice_index_or actions r.action [] ++ 45 ∷ slice_index_or (map target_name targets) r.target []
 
@@ -65,15 +65,15 @@ request_names env targets = map (request_name env.actions targets) (requests_in 
 
 -- ---- rules
 
--- the name has more bytes than a name may have
+-- the name is longer than a name may be
 abbrev pub is_long : List ℕ → Bool
 is_long name = nat_lt MAX_NAME_BYTES (length name)
 
--- the name at that place stands at an earlier one too
+-- the name at place i occurs at an earlier place too
 abbrev pub stands_before : List (List ℕ) → ℕ → Bool
 stands_before names i = is_some (place_of (take i names) (slice_index_or names i []))
 
--- some name stands at two places
+-- some name occurs at two places
 abbrev pub has_repeats : List (List ℕ) → Bool
 has_repeats names = list_any (stands_before names) (below (length names))
 
@@ -89,11 +89,11 @@ has_bad_count requests = is_empty requests || nat_lt MAX_ACTIONS (length request
 abbrev pub has_long_name : NamedEnv → List Named → Bool
 has_long_name env targets = list_any is_long (combined_state_names targets) || list_any is_long (request_names env targets)
 
--- two combined states, or two combined actions, have one name
+-- two combined states, or two combined actions, have the same name
 abbrev pub has_one_name : NamedEnv → List Named → Bool
 has_one_name env targets = has_repeats (combined_state_names targets) || has_repeats (request_names env targets)
 
--- the first rule that forbids the combination
+-- the first rule that forbids the combination, if any
 unfoldable pub forbidding : NamedEnv → List Named → Option CombineError
 forbidding env targets =
     if has_many_states targets then Some error.States
@@ -102,7 +102,8 @@ forbidding env targets =
     else (if has_one_name env targets then Some error.Repeated
     else None)))
 
--- what is answered keeps to the rules: they allow what is made, and an error is the first that forbids; running out of memory says nothing
+-- a result obeys the rules: they allow a combination that was made, and an error is the first rule that forbids it; running out of memory
+-- states nothing
 abbrev pub KeepsRules : Result Combined CombineError → Option CombineError → Type 0
 KeepsRules (Ok made) rule = rule ≡ None
 KeepsRules (Err error.States) rule = rule ≡ Some error.States
@@ -136,12 +137,12 @@ combined_parts env catalogue targets = record {
   };
 }
 
--- the target is over that environment
+-- the target is over the environment
 pub record IsOf (env : NamedEnv) (target : NamedTarget) : Type 0 where
   pub env_states : target.env_states ≡ env.env.states
   pub actions : target.actions ≡ env.env.actions
 
--- the behaviour is over that environment
+-- the behaviour is over the environment
 pub record IsBehaviourOf (env : NamedEnv) (behaviour : NamedBeh) : Type 0 where
   pub env_states : behaviour.env_states ≡ env.env.states
   pub actions : behaviour.actions ≡ env.env.actions

@@ -3,7 +3,7 @@ use Rattle.std.specs.Prelude.{ℕ}
 use Rattle.roman_multi.specs.declared.error.CombineError.{CombineError}
 use Rattle.roman_multi.specs.declared.error.CombineError.TheVariants.{States, Actions, LongName, Repeated, Memory}
 
--- the errors are numbered in their order
+-- the numbers of the errors, in their order
 abbrev pub combine_error_number : CombineError → ℕ
 combine_error_number States = 1
 combine_error_number Actions = 2

@@ -14,19 +14,19 @@ use Rattle.roman_multi.specs.declared.parts.Named.{Named}
 use Rattle.roman_multi.specs.declared.error.CombineError.{CombineError}
 use Rattle.roman_multi.specs.declared.error.CombineError.TheVariants as error
 
--- a name of some length, be it too long
+-- the bytes are a name, or would be if they weren't too long
 abbrev pub is_word : List ℕ → Bool
 is_word bytes = not (is_empty bytes) && list_all is_name_byte bytes
 
--- sizes as those of pairs, the target and the environment having one state
+-- the sizes of the targets as sizes of pairs, where the target and the environment have one state each
 abbrev pub flat : List ℕ → Sizes
 flat sizes = record { target = 1; env = 1; seats = sizes }
 
--- the requests of the target at that place: the actions by which it goes somewhere
+-- the requests of the target at the place: the actions by which it has a step
 abbrev pub used_by : ℕ → ℕ → Beh → ℕ → List Request
 used_by env_states actions target place = map (λ a. record { target = place; action = a }) (filter (uses env_states target) (below actions))
 
--- the requests of the target at that place, or none where no target stands there
+-- the requests of the target at the place, or none where there is no target
 abbrev pub used_at : ℕ → ℕ → Option Beh → ℕ → List Request
 used_at env_states actions None place = []
 used_at env_states actions (Some target) place = used_by env_states actions target place
@@ -44,7 +44,7 @@ triples_by env requests e = flat_map (λ n. map (λ to. (e, n, to)) (next_on env
 abbrev pub listed_triples : Env → List Request → List (ℕ × ℕ × ℕ)
 listed_triples env requests = flat_map (triples_by env requests) (below env.states)
 
--- the steps from b by action n in environment state e alone, to the states that are next there
+-- the steps from b by action n in environment state e alone, to the given next states
 abbrev pub moves_in : ℕ → ℕ → ℕ → List ℕ → List (ℕ × ℕ × ℕ × ℕ)
 moves_in b n e states = map (λ to. (b, 2 ^ e, n, to)) states
 
@@ -56,7 +56,7 @@ moves_by env_states next b n = flat_map (λ e. moves_in b n e (next e)) (below e
 abbrev pub moves_from : ℕ → ℕ → (ℕ → ℕ → List ℕ) → ℕ → List (ℕ × ℕ × ℕ × ℕ)
 moves_from env_states actions next b = flat_map (λ n. moves_by env_states (next n) b n) (below actions)
 
--- all steps, by the states that are next
+-- all steps to the given next states
 abbrev pub listed_moves : ℕ → ℕ → ℕ → (ℕ → ℕ → ℕ → List ℕ) → List (ℕ × ℕ × ℕ × ℕ)
 listed_moves env_states actions states next = flat_map (λ b. moves_from env_states actions (next b) b) (below states)
 
@@ -65,18 +65,18 @@ abbrev pub moves_on : Beh → ℕ → ℕ → Option Request → List ℕ
 moves_on beh b e None = []
 moves_on beh b e (Some r) = beh_next beh b e r.action
 
--- a target's next states by an action, where there is a target
+-- a target's next states by an action, or none where there is no target
 abbrev pub member_next : Option Beh → ℕ → ℕ → ℕ → List ℕ
 member_next None t e a = []
 member_next (Some target) t e a = beh_next target t e a
 
--- the numbers of the next combined states by a request: one target moves
+-- the numbers of the next combined states by a request, by which one target moves
 abbrev pub next_of_all : List Beh → List ℕ → ℕ → Option Request → List ℕ
 next_of_all targets ts e None = []
 next_of_all targets ts e (Some r) =
     map (λ t'. states_number (target_sizes targets) (slice_set ts r.target t')) (member_next (slice_get targets r.target) (slice_index ts r.target) e r.action)
 
--- the table has the names, no two of which are the same, or two are; running out of memory says nothing
+-- the table has the names, and no two are equal; or two are; running out of memory states nothing
 abbrev pub TablesNames : List (List ℕ) → Result (List (List ℕ)) CombineError → Type 0
 TablesNames names (Ok table) = (table ≡ names) × IsFalse (has_repeats names)
 TablesNames names (Err error.States) = ⊥
@@ -85,7 +85,7 @@ TablesNames names (Err error.LongName) = ⊥
 TablesNames names (Err error.Repeated) = IsTrue (has_repeats names)
 TablesNames names (Err error.Memory) = Unit {0}
 
--- the combined names, which the rules on names allow; or the first of these rules that is broken; running out of memory says nothing
+-- the combined names, which obey the rules on names; or the first of these rules that is broken; running out of memory states nothing
 abbrev pub AreCombinedNames : NamedEnv → List Named → Result (List (List ℕ) × List (List ℕ)) CombineError → Type 0
 AreCombinedNames env targets (Ok names) =
     (names.0 ≡ combined_state_names targets) × (names.1 ≡ request_names env targets) × IsFalse (has_long_name env targets) × IsFalse (has_one_name env targets)

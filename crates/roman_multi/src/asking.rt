@@ -1,4 +1,4 @@
-//! What the targets request.
+//! The requests of the targets.
 ghost use Rattle.std.specs.Prelude.{◌≡◌, ◌<◌, ◌≤◌, ◌++◌, length, All, IfOk, not};
 ghost use Rattle.std.specs.List.{list_any};
 ghost use Rattle.roman_model.specs.Lists.{below, is_empty};
@@ -13,7 +13,7 @@ use roman_model::Request;
 use roman_parts::{Environment, Target};
 use std::alloc::{AllocError, Global};
 
-/// Whether the target goes somewhere by the action from state `t`, in some environment state.
+/// Returns whether the target has a step by the action from state `t`, in some environment state.
 fn uses_at(target: &Target, env_states: u8, t: u8, a: u8) -> bool
     requires states { env_states ≡ target.now.env_states }
     requires state { t < target.now.beh.states }
@@ -28,7 +28,7 @@ fn uses_at(target: &Target, env_states: u8, t: u8, a: u8) -> bool
     false
 }
 
-/// Whether the target goes somewhere by the action.
+/// Returns whether the target has a step by the action.
 fn uses(target: &Target, env_states: u8, a: u8) -> bool
     requires states { env_states ≡ target.now.env_states }
     requires action { a < target.now.actions }
@@ -42,7 +42,7 @@ fn uses(target: &Target, env_states: u8, a: u8) -> bool
     false
 }
 
-/// Adds the requests of the target at a place.
+/// Appends the requests of the target at a place.
 fn push_requests(
     requests: &mut Vec<Request>,
     target: &Target,
@@ -65,7 +65,7 @@ fn push_requests(
     Ok(())
 }
 
-/// The combined actions: target by target, those by which it goes somewhere.
+/// Returns the combined actions: target by target, the actions by which it has a step.
 pub(crate) fn requests(
     alloc: Global,
     env: &Environment,

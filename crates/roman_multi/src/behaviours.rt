@@ -1,4 +1,4 @@
-//! The behaviours over the combined actions.
+//! Behaviours over the combined actions.
 ghost use Rattle.std.specs.Prelude.{◌≡◌, ◌<◌, ◌≤◌, ◌++◌, length, map, slice_get, All, IfOk};
 ghost use Rattle.std.specs.List.{filter};
 ghost use Rattle.roman_model.specs.Lists.{below};
@@ -16,7 +16,7 @@ use std::alloc::{AllocError, Global};
 /// A step (b, G, n, b') by combined action n.
 pub(crate) type Move = (u8, StateSet, u8, u8);
 
-/// Adds the steps from `b` by combined action `n` in environment state `e`, to those states.
+/// Appends the steps from `b` by combined action `n` in environment state `e` to the states `next`.
 fn push_moves(steps: &mut Vec<Move>, b: u8, e: u8, n: u8, next: &[u8]) -> Result<(), AllocError>
     requires { e < 64 }
     ensures { IfOk result (λ _. steps.new.items ≡ steps.old.items ++ moves_in b n e next.now) }
@@ -27,7 +27,7 @@ fn push_moves(steps: &mut Vec<Move>, b: u8, e: u8, n: u8, next: &[u8]) -> Result
     Ok(())
 }
 
-/// Adds the steps from `b` by combined action `n`, which is that action of the environment.
+/// Appends the steps from `b` by combined action `n`, which is action `a` of the environment.
 fn push_action(
     steps: &mut Vec<Move>,
     behaviour: &Behaviour,
@@ -49,7 +49,7 @@ fn push_action(
     Ok(())
 }
 
-/// Adds the steps from `b`.
+/// Appends the steps from `b`.
 fn push_state(
     steps: &mut Vec<Move>,
     behaviour: &Behaviour,
@@ -71,7 +71,7 @@ fn push_state(
     Ok(())
 }
 
-/// The steps by the combined actions.
+/// Returns the steps by the combined actions.
 fn moves_of(
     alloc: Global,
     behaviour: &Behaviour,
@@ -92,7 +92,7 @@ fn moves_of(
     Ok(steps)
 }
 
-/// The final states.
+/// Returns the final states.
 fn finals_of(alloc: Global, behaviour: &Behaviour) -> Result<Vec<u8>, AllocError>
     ensures { IfOk result
         (λ finals. finals.items ≡ filter (is_final behaviour.now.beh) (below behaviour.now.beh.states)) }
@@ -106,7 +106,7 @@ fn finals_of(alloc: Global, behaviour: &Behaviour) -> Result<Vec<u8>, AllocError
     Ok(finals)
 }
 
-/// The behaviour over the combined actions, which are those of the environment `over`.
+/// Returns the behaviour over the combined actions, which are the actions of the environment `over`.
 fn combine_behaviour(
     alloc: Global,
     env: &Environment,
@@ -135,7 +135,7 @@ fn combine_behaviour(
     )
 }
 
-/// The behaviours over the combined actions, in their order.
+/// Returns the behaviours over the combined actions, in the same order.
 pub(crate) fn combine_catalogue(
     alloc: Global,
     env: &Environment,

@@ -1,4 +1,4 @@
-//! The combination.
+//! The combination of several targets.
 ghost use Rattle.std.specs.Prelude.{◌≡◌, ◌<◌, ◌≤◌, length, All, IfOk};
 ghost use Rattle.roman_parts.specs.Named.{IsTarget};
 ghost use Rattle.roman_multi.specs.Combining.{IsBehaviourOf, IsOf, KeepsRules, combined_parts, forbidding, has_bad_count, machines, plain_combined, request_names, requests_in, combined_state_names};
@@ -21,13 +21,14 @@ use roman_radix::Shape;
 use roman_read::NameTable;
 use std::alloc::{AllocError, Global};
 
-/// The 2 to 4 targets as one, with the environment and the catalogue over its actions. The targets
-/// and the catalogue are over `env`. The actions are, target by target, those that stand in some
-/// step of the target, each named by the action, a dash and the target. The states are the lists of
-/// one state for each target, the last one's changing fastest; their names join those by dashes.
+/// Combines 2 to 4 targets into one, with the environment and the catalogue over its actions.
+/// Requires targets and a catalogue over `env`. The combined actions are, target by target, the
+/// actions that occur in some step of the target. Each is named by the action, a dash and the target.
+/// The combined states are the lists of one state for each target, where the last target's state
+/// changes fastest. Their names join the names of these states by dashes.
 ///
-/// `States`, `Actions`, `LongName` and `Repeated` come exactly where their rules are broken, the first
-/// of them in this order, and `Memory` only where there is none.
+/// Fails with `States`, `Actions`, `LongName` or `Repeated` exactly where the rule is broken, with
+/// the first broken rule in this order, and with `Memory` only when out of memory.
 pub fn combine(
     alloc: Global,
     env: &Environment,
@@ -55,14 +56,14 @@ pub fn combine(
     Ok(made)
 }
 
-/// Whether there are no requests, or more than there may be actions.
+/// Returns whether there are no requests, or more requests than the greatest number of actions.
 fn has_bad_count(requests: &[Request]) -> bool
     ensures { result ≡ has_bad_count requests.now }
 {
     requests.is_empty() || requests.len() > MAX_ACTIONS as usize
 }
 
-/// The parts over those requests, with those names.
+/// Returns the combined parts over the requests, with the given names.
 fn combine_parts(
     alloc: Global,
     env: &Environment,
@@ -94,7 +95,7 @@ fn combine_parts(
     })
 }
 
-/// The names of the combined states and actions.
+/// Returns the names of the combined states and actions.
 fn names_of(
     alloc: Global,
     env: &Environment,

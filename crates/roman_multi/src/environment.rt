@@ -13,7 +13,7 @@ use std::alloc::{AllocError, Global};
 /// A step (e, n, e') by combined action n.
 type Triple = (u8, u8, u8);
 
-/// Adds the steps from `e` by combined action `n` to those states.
+/// Appends the steps from `e` by combined action `n` to the states `next`.
 fn push_triples(steps: &mut Vec<Triple>, e: u8, n: u8, next: &[u8]) -> Result<(), AllocError>
     ensures { IfOk result (λ _. steps.new.items ≡ steps.old.items ++ map (λ to. (e, n, to)) next.now) }
 {
@@ -23,7 +23,7 @@ fn push_triples(steps: &mut Vec<Triple>, e: u8, n: u8, next: &[u8]) -> Result<()
     Ok(())
 }
 
-/// Adds the steps from `e` by combined action `n`, which is that request.
+/// Appends the steps from `e` by combined action `n`, which is the given request.
 fn push_request(
     steps: &mut Vec<Triple>,
     env: &Environment,
@@ -39,7 +39,7 @@ fn push_request(
     push_triples(steps, e, n, env.next(e, request.action))
 }
 
-/// Adds the steps from `e`.
+/// Appends the steps from `e`.
 fn push_row(
     steps: &mut Vec<Triple>,
     env: &Environment,
@@ -57,7 +57,7 @@ fn push_row(
     Ok(())
 }
 
-/// The steps by the combined actions.
+/// Returns the steps by the combined actions.
 fn triples_of(
     alloc: Global,
     env: &Environment,
@@ -74,7 +74,7 @@ fn triples_of(
     Ok(steps)
 }
 
-/// The environment with the combined actions, which have those names.
+/// Returns the environment with the combined actions, which have the given names.
 pub(crate) fn combine_environment(
     alloc: Global,
     env: &Environment,

@@ -1,4 +1,4 @@
-//! Why targets aren't combined.
+//! The errors of combining targets.
 ghost use Rattle.std.specs.Prelude.{◌≡◌};
 ghost use Rattle.roman_multi.specs.Errors.{combine_error_number};
 ghost use Rattle.roman_multi.specs.declared.error.CombineError.TheVariants.{Memory};
@@ -6,8 +6,8 @@ ghost use Rattle.roman_multi.specs.declared.error.CombineError.TheVariants.{Memo
 use std::alloc::{AllocError, AllocFailed};
 use thiserror::Error;
 
-/// Why targets aren't combined: the first rule that forbids it, in the order of the variants, or
-/// want of memory.
+/// Why targets can't be combined: the first rule that forbids it, in the order of the variants, or
+/// memory.
 #[derive(Clone, Copy, Debug, PartialEq, Eq, Error)]
 pub enum CombineError {
     /// There are more than 64 combined states.
@@ -19,16 +19,16 @@ pub enum CombineError {
     /// A combined state or action has a name of more than 32 bytes.
     #[error("a combined name is too long")]
     LongName,
-    /// Two combined states, or two combined actions, have one name.
+    /// Two combined states, or two combined actions, have the same name.
     #[error("two combined names are the same")]
     Repeated,
-    /// There is no memory.
+    /// Out of memory.
     #[error("there is no memory")]
     Memory,
 }
 
 impl CombineError {
-    /// The error's number, from 1 to 5 in the order of the variants.
+    /// Returns the number of the error, from 1 to 5 in the order of the variants.
     pub fn number(&self) -> u8
         ensures number { result ≡ combine_error_number self.now }
     {

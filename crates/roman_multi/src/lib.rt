@@ -1,10 +1,10 @@
 //! Several targets as one.
 //!
-//! [`combine`] makes of an environment, a catalogue and several named targets one environment, one
-//! catalogue and one target, in which each action names the target that requests it. The targets'
-//! requests come interleaved: one at a time, each target moving on its own. `specs/Combining` says
-//! what the parts and their names are, and which rules may forbid them; that the combined system has
-//! the simulations of all the targets together is a law of the model.
+//! [`combine`] turns an environment, a catalogue and several named targets into one environment, one
+//! catalogue and one target. Each combined action names the target that requests it. Requests of the
+//! targets are interleaved: one target requests at a time, and each target moves on its own.
+//! `specs/Combining` defines the parts, their names, and the rules that may forbid them. A law of the
+//! model states that the combined system has the simulations of all targets together.
 #![tactic(auto)]
 
 mod asking;

@@ -1,12 +1,12 @@
-//! What is combined, and what is made of it.
+//! The inputs and results of a combination.
 
 use roman_parts::{Behaviour, Environment, Target};
 use roman_read::Name;
 
-/// A target with the name that the document gives it.
+/// A target with its name in the document.
 #[derive(Drop)]
 pub struct Named {
-    /// The target's name, which stands behind a dash in the names of its actions.
+    /// The name of the target. It follows a dash in the names of the combined actions.
     pub name: Name,
     /// The target.
     pub target: Target,
@@ -17,8 +17,8 @@ pub struct Named {
 pub struct Combined {
     /// The environment, whose actions name the targets that request them.
     pub environment: Environment,
-    /// The behaviours, in the order in which they stood.
+    /// The behaviours, in the order of the given ones.
     pub catalogue: Vec<Behaviour>,
-    /// The one target.
+    /// The combined target.
     pub target: Target,
 }

@@ -1,4 +1,4 @@
-//! How many states the targets have.
+//! The numbers of states of the targets.
 ghost use Rattle.std.specs.Prelude.{◌≡◌, All, IfOk};
 ghost use Rattle.roman_model.specs.Combined.{target_sizes};
 ghost use Rattle.roman_parts.specs.Named.{IsTarget};
@@ -8,7 +8,7 @@ use crate::parts::Named;
 use roman_parts::Environment;
 use std::alloc::{AllocError, Global};
 
-/// The number of states of each target.
+/// Returns the number of states of each target.
 pub(crate) fn sizes_of(
     alloc: Global,
     env: &Environment,

@@ -8,7 +8,8 @@ use crate::error::CombineError;
 use roman_read::{AddError, Name, NameTable};
 use std::alloc::Global;
 
-/// The words as names, numbered as they stand; `Repeated` exactly where two are the same.
+/// Returns the table of the words as names, in order. Fails with `Repeated` exactly where two are
+/// equal.
 pub(crate) fn table_of(alloc: Global, words: &[Vec<u8>]) -> Result<NameTable, CombineError>
     requires few { length words.now ≤ 64 }
     requires words { All (λ word. IsTrue (is_word word.items)) words.now }

@@ -1,4 +1,4 @@
-//! The targets as one, over the combined actions.
+//! The combined target, over the combined actions.
 ghost use Rattle.std.specs.Prelude.{◌≡◌, ◌<◌, ◌≤◌, ◌++◌, length, slice_get, All, IfOk, Some};
 ghost use Rattle.std.specs.List.{filter};
 ghost use Rattle.roman_model.specs.Lists.{below, product_of};
@@ -19,8 +19,8 @@ use roman_radix::Shape;
 use roman_read::NameTable;
 use std::alloc::{AllocError, Global};
 
-/// Adds the step from `t` by combined action `n` in environment state `e`, where the target that
-/// requests goes somewhere there.
+/// Appends the step from `t` by combined action `n` in environment state `e`, if the requesting
+/// target has a step there.
 fn push_move(
     steps: &mut Vec<Move>,
     env: &Environment,
@@ -54,7 +54,7 @@ fn push_move(
     }
 }
 
-/// Adds the steps from `t` by combined action `n`, which is that request.
+/// Appends the steps from `t` by combined action `n`, which is the given request.
 fn push_request(
     steps: &mut Vec<Move>,
     env: &Environment,
@@ -79,7 +79,7 @@ fn push_request(
     Ok(())
 }
 
-/// Adds the steps from `t`.
+/// Appends the steps from `t`.
 fn push_state(
     steps: &mut Vec<Move>,
     env: &Environment,
@@ -105,7 +105,7 @@ fn push_state(
     Ok(())
 }
 
-/// The steps by the combined actions.
+/// Returns the steps by the combined actions.
 fn moves_of(
     alloc: Global,
     env: &Environment,
@@ -130,7 +130,7 @@ fn moves_of(
     Ok(steps)
 }
 
-/// Whether each target is in a final state.
+/// Returns whether each target is in a final state.
 fn are_final(targets: &[Named], shape: &Shape, t: u8) -> bool
     requires shape { shape.now ≡ flat (target_sizes (machines targets.now)) }
     requires state { t < product_of (target_sizes (machines targets.now)) }
@@ -146,7 +146,7 @@ fn are_final(targets: &[Named], shape: &Shape, t: u8) -> bool
     true
 }
 
-/// The combined states in which each target is final.
+/// Returns the combined states in which each target is final.
 fn finals_of(alloc: Global, targets: &[Named], shape: &Shape) -> Result<Vec<u8>, AllocError>
     requires shape { shape.now ≡ flat (target_sizes (machines targets.now)) }
     requires few { product_of (target_sizes (machines targets.now)) ≤ MAX_STATES }
@@ -164,7 +164,7 @@ fn finals_of(alloc: Global, targets: &[Named], shape: &Shape) -> Result<Vec<u8>,
     Ok(finals)
 }
 
-/// The combined state in which each target is in its start state.
+/// Returns the combined state in which each target is in its start state.
 fn start_of(
     alloc: Global,
     env: &Environment,
@@ -183,7 +183,7 @@ fn start_of(
     Ok(shape.number(0, 0, &starts) as u8)
 }
 
-/// The combined target over the environment `over`, whose actions are the combined ones.
+/// Returns the combined target over the environment `over`, whose actions are the combined actions.
 pub(crate) fn combine_target(
     alloc: Global,
     env: &Environment,

@@ -1,4 +1,4 @@
-//! The combined names, before it is known whether they are names.
+//! The combined names as words, which may be too long for names.
 ghost use Rattle.std.specs.Prelude.{◌≡◌, ◌<◌, ◌≤◌, ◌++◌, ◌∷◌, length, map, All, IfOk, IsTrue, if◌then◌else◌};
 ghost use Rattle.std.specs.List.{list_any, list_all};
 ghost use Rattle.roman_model.specs.Combined.{target_sizes};
@@ -15,7 +15,7 @@ use roman_radix::Shape;
 use roman_read::Name;
 use std::alloc::{AllocError, Global};
 
-/// Adds a name, behind a dash where it isn't the first.
+/// Appends a name, after a dash unless it is the first.
 fn push_name(word: &mut Vec<u8>, name: &Name, first: bool) -> Result<(), AllocError>
     requires { IsTrue (list_all is_name_byte word.old.items) }
     ensures word { IfOk result
@@ -30,7 +30,7 @@ fn push_name(word: &mut Vec<u8>, name: &Name, first: bool) -> Result<(), AllocEr
     Ok(())
 }
 
-/// The name of combined state `t`.
+/// Returns the name of combined state `t`.
 fn state_word(
     alloc: Global,
     targets: &[Named],
@@ -53,7 +53,7 @@ fn state_word(
     Ok(word)
 }
 
-/// The names of the combined states.
+/// Returns the names of the combined states.
 pub(crate) fn state_words(
     alloc: Global,
     targets: &[Named],
@@ -71,7 +71,7 @@ pub(crate) fn state_words(
     Ok(words)
 }
 
-/// The name of a combined action.
+/// Returns the name of a combined action.
 fn request_word(
     alloc: Global,
     env: &Environment,
@@ -90,7 +90,7 @@ fn request_word(
     Ok(word)
 }
 
-/// The names of the combined actions.
+/// Returns the names of the combined actions.
 pub(crate) fn request_words(
     alloc: Global,
     env: &Environment,
@@ -110,7 +110,7 @@ pub(crate) fn request_words(
     Ok(words)
 }
 
-/// Whether some word is longer than a name may be.
+/// Returns whether some word is longer than a name may be.
 pub(crate) fn has_long(words: &[Vec<u8>]) -> bool
     ensures { result ≡ list_any is_long (map (λ word. word.items) words.now) }
 {
