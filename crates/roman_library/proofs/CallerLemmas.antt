@@ -1,6 +1,6 @@
--- What the proofs of other crates may cite of this one. All else in proofs/ can be renamed freely.
+-- The lemmas of this crate that proofs of other crates may cite. All else in proofs/ can be renamed freely.
 
--- What an accepted document means is a library.
+-- Each accepted document means a well-formed library.
 pub use Rattle.roman_library.proofs.KnownLemmas.{behaviour_there, libraries_known}
--- The library of a document of several targets combines them.
+-- The library of a document with several targets combines them.
 pub use Rattle.roman_library.proofs.CombinedLemmas.{targets_combined}

@@ -1,4 +1,4 @@
--- The library of a document of several targets combines them.
+-- The library of a document with several targets combines them.
 use Rattle.std.proofs.Common.{◌≡◌, ℕ, List, Option, Some, None, Ok, refl, sym, ap, ◌∙◌, subst}
 use Rattle.serde_json.specs.Data.{Data}
 use Rattle.roman_io.specs.Shelf.{Texts}
@@ -15,7 +15,7 @@ use Rattle.roman_library.specs.Targets.{CombinesTargets, TargetsAreCombined, Acc
 use Rattle.roman_library.specs.declared.refusal.Part.TheVariants as part
 use Rattle.roman_library.proofs.KnownLemmas.{placed_is, environment_in_known, catalogue_known, services_known, targets_in_known}
 
--- what was read of a document of several targets
+-- the parts that were read of a document with several targets
 record IsRead (texts : Texts) (document : List ℕ) (value : Data) (library : PlainLibrary) : Type 0 where
   env : NamedEnv
   catalogue : List NamedBeh
@@ -50,7 +50,7 @@ is_read texts document value library h third =
       is_made = placed_is document part.System (combined_of env catalogue targets) made h7;
     })
 
--- what is made is made of the parts, and no rule forbids it
+-- the result is made from the parts, and no rule forbids it
 record IsMade (env : NamedEnv) (catalogue : List NamedBeh) (targets : List Named) (made : PlainCombined) : Type 0 where
   allowed : forbidding env targets ≡ None
   parts : combined_parts env catalogue targets ≡ made

@@ -1,4 +1,4 @@
--- What an accepted document means is a library.
+-- Each accepted document means a well-formed library.
 use Rattle.std.proofs.Common.{◌≡◌, ◌==◌, Bool, true, false, cond, All, ℕ, ◌+◌, ◌<◌, ◌≤◌, ◌&&◌, List, [], ◌∷◌, ◌++◌, map, length, Option, Some, None, is_some, is_none, IfSome, slice_get, nat_le, codes, Result, Ok, Err, refl, sym, ap, ◌∙◌, subst, arith, leb-true, length-append}
 use Rattle.std.proofs.lemmas.Bool.{and_parts}
 use Rattle.std.proofs.lemmas.List.Elements.{All-get_or, All-push}
@@ -35,14 +35,14 @@ use Rattle.roman_library.specs.declared.refusal.Part.{Part}
 use Rattle.roman_library.specs.declared.refusal.Part.TheVariants as part
 use Rattle.roman_library.proofs.LibraryLemmas.{no_behaviours, IsCatalogue-push, AreServices-push}
 
--- a reading that isn't refused gives the same in its place
+-- a reading that succeeds gives the same value with its document and part
 pub placed_is : {X : Type 0} (document : List ℕ) (part : Part) (r : Result X PartError) (x : X) → placed document part r ≡ Ok x → r ≡ Ok x
 placed_is document part (Ok y) x h = ap Ok (same_ok y x h)
 placed_is document part (Err e) x h = cc
 
 -- The catalogue
 
--- a behaviour whose name is new
+-- a behaviour with a new name
 record IsNewBehaviour (env : NamedEnv) (before : List NamedBeh) (b : NamedBeh) : Type 0 where
   known : IsBehaviour env b
   new : place_of (map behaviour_name before) b.name ≡ None
@@ -64,7 +64,7 @@ new_behaviour_known env before d b h =
     let is = behaviour_known env d b h1 in
     record { known = is.known; new = subst (λ (n : List ℕ). place_of (map behaviour_name before) n ≡ None) (same_ok name b.name (sym named ∙ is.name)) free }
 
--- parts of a list that keep what each part keeps, as many as there are items
+-- a list of parts that has the property of the parts, with as many parts as items
 record Grown {X : Type 0} (Keeps : List X → Type 0) (out : List X) (n : ℕ) : Type 0 where
   known : Keeps out
   count : length out ≡ n
@@ -104,7 +104,7 @@ target_in_known texts document env d t h =
     let (p, e1, h2) = bind_ok (part_of texts document (part.Target 0) member) _ t h1 in
     target_known env p.1 t (placed_is p.0 (part.Target 0) (target_of env p.1) t h2)
 
--- its environment
+-- the environment of a document
 pub environment_in_known : (texts : Texts) (document : List ℕ) (d : Data) (env : NamedEnv) → environment_in texts document d ≡ Ok env → IsEnvironment env
 unfolding environment_in
 environment_in_known texts document d env h =
@@ -223,7 +223,7 @@ targets_in_known texts document env d out h =
 
 -- The parts
 
--- the parts are a library's, and the environment has a name for each state and action
+-- the parts are those of a library, and each state and action of the environment has a name
 record AreNamedParts (catalogue : List NamedBeh) (made : PlainCombined) : Type 0 where
   parts : ArePartsOf catalogue made
   states : length made.environment.states ≡ made.environment.env.states

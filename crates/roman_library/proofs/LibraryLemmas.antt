@@ -1,4 +1,4 @@
--- What the parts of a library keep.
+-- Properties of the parts of a library.
 use Rattle.std.proofs.Common.{◌≡◌, ℕ, List, [], ◌∷◌, ◌++◌, map, None, Ok, sym, ◌∙◌, arith}
 use Rattle.std.proofs.lemmas.List.{map_push}
 use Rattle.std.proofs.lemmas.List.Elements.{All-push}
@@ -13,29 +13,29 @@ use Rattle.roman_parts.specs.Parts.{name_of, behaviour_of, target_of}
 use Rattle.roman_library.specs.Library.{IsCatalogue, IsService, AreServices, behaviour_name, service_name}
 use Rattle.roman_library.specs.declared.library.Service.{Service}
 
--- a behaviour that is read is over the environment over which it is read
+-- a behaviour that was read is over the environment over which it was read
 pub behaviour_is_over : (env : NamedEnv) (d : Data) (b : NamedBeh) → behaviour_of env d ≡ Ok b → (b.env_states ≡ env.env.states) × (b.actions ≡ env.env.actions)
 behaviour_is_over env d b h = let is = behaviour_known env d b h in (is.known.env_states, is.known.actions)
 
--- so is a target
+-- a target that was read is over the environment over which it was read
 pub target_is_over : (env : NamedEnv) (d : Data) (t : NamedTarget) → target_of env d ≡ Ok t → (t.env_states ≡ env.env.states) × (t.actions ≡ env.env.actions)
 target_is_over env d t h = let is = target_known env d t h in (is.env_states, is.actions)
 
--- a behaviour has the name that its value has
+-- a behaviour has the name in its value
 pub behaviour_has_name : (env : NamedEnv) (d : Data) (b : NamedBeh) (name : List ℕ) → behaviour_of env d ≡ Ok b → name_of d ≡ Ok name → b.name ≡ name
 behaviour_has_name env d b name h named = same_ok b.name name (sym (behaviour_known env d b h).name ∙ named)
 
--- Lists of what is named
+-- Lists of named items
 
--- what has a new name goes behind things with names of their own
+-- an item with a new name can be appended to items with distinct names
 new_name : {X : Type 0} (f : X → List ℕ) (xs : List X) (x : X) → HasNoRepeats (map f xs) → place_of (map f xs) (f x) ≡ None → HasNoRepeats (map f (xs ++ x ∷ []))
 new_name f xs x once none = rw (map_push f xs x) (HasNoRepeats-push (map f xs) (f x) once (none_absent (map f xs) (f x) none))
 
--- there may be no behaviours
+-- an empty list of behaviours is a catalogue
 pub no_behaviours : (env : NamedEnv) → IsCatalogue env []
 no_behaviours env = record { known = λ d i l. absurd (omega (arith, l)); names = tt }
 
--- a behaviour with a new name goes behind those of a catalogue
+-- a behaviour with a new name can be appended to a catalogue
 pub IsCatalogue-push : (env : NamedEnv) (before after : List NamedBeh) (b : NamedBeh) → IsCatalogue env before → IsBehaviour env b
     → place_of (map behaviour_name before) b.name ≡ None → after ≡ before ++ b ∷ [] → IsCatalogue env after
 IsCatalogue-push env before after b old known new is = rw is (record {
@@ -43,7 +43,7 @@ IsCatalogue-push env before after b old known new is = rw is (record {
   names = new_name behaviour_name before b old.names new;
 })
 
--- a service with a new name goes behind the services
+-- a service with a new name can be appended to services
 pub AreServices-push : (catalogue : List NamedBeh) (before after : List Service) (s : Service) → AreServices catalogue before → IsService catalogue s
     → place_of (map service_name before) s.name ≡ None → after ≡ before ++ s ∷ [] → AreServices catalogue after
 AreServices-push catalogue before after s old known new is = rw is (record {

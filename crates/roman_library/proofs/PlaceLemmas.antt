@@ -1,4 +1,4 @@
--- Places of names in lists of what is named.
+-- Places of names in lists of named items.
 use Rattle.std.proofs.Common.{◌≡◌, ◌+◌, ℕ, List, [], ◌∷◌, map, Bool, not, cond, ap, refl}
 use Rattle.std.proofs.lemmas.List.{length-map}
 use Rattle.std.specs.List.{position, prefix_len}
@@ -9,6 +9,6 @@ prefix_len-map : {X Y : Type 0} (f : X → Y) (p : Y → Bool) (xs : List X) →
 prefix_len-map f p [] = refl
 prefix_len-map f p (x ∷ xs) = ap (λ n. cond (p (f x)) (1 + n) 0) (prefix_len-map f p xs)
 
--- a name's place among the names is the place of what has that name
+-- the place of a name among the names is the place of the item with that name
 pub place_of-map : {X : Type 0} (f : X → List ℕ) (xs : List X) (name : List ℕ) → place_of (map f xs) name ≡ position (λ x. bytes_eq name (f x)) xs
 place_of-map f xs name = rw (prefix_len-map f (λ x. not (bytes_eq name x)) xs, length-map xs f) refl

@@ -1,18 +1,18 @@
--- How the prefix of a text grows.
+-- The growth of the prefix of a text.
 use Rattle.std.proofs.Common.{◌≡◌, ℕ, ◌+◌, ◌≤◌, List, ◌++◌, length, take, drop, sym, ◌∙◌, ap, subst, length-append, Option, None, Some, IfSome}
 use Rattle.std.proofs.lemmas.List.{take-append-drop, length-take-le}
 use Rattle.std.proofs.Math.Seq.{take-append-add}
 use Rattle.roman_io.specs.Shelf.{Texts, Fetches, shelf_text}
 
--- the bytes are the first of the text
+-- the bytes are a prefix of the text
 pub record IsPrefix (bytes text : List ℕ) : Type 0 where
   pub same : take (length bytes) text ≡ bytes
 
--- the text is its prefix and what is left behind it
+-- the text is its prefix followed by the rest
 prefix_rest : (bytes text : List ℕ) → IsPrefix bytes text → bytes ++ drop (length bytes) text ≡ text
 prefix_rest bytes text prefix = ap (λ xs. xs ++ drop (length bytes) text) (sym prefix.same) ∙ take-append-drop (length bytes) text
 
--- the next bytes of the text, behind its prefix
+-- the prefix with the next bytes of the text
 prefix_more : (bytes piece text : List ℕ) (n : ℕ) → IsPrefix bytes text → take n piece ≡ take n (drop (length bytes) text) →
     n ≤ length (drop (length bytes) text) → IsPrefix (bytes ++ take n piece) text
 prefix_more bytes piece text n prefix same within =
@@ -22,7 +22,7 @@ prefix_more bytes piece text n prefix same within =
     take-append-add bytes (drop (length bytes) text) n ∙ ap (λ xs. bytes ++ xs) (sym same) in
     record { same = rw size (subst (λ t. take (length bytes + n) t ≡ bytes ++ take n piece) (prefix_rest bytes text prefix) taken) }
 
--- the same of a text of a shelf, where it is told
+-- the same for a text of a shelf that exposes its texts
 pub fetched_more : (o : Option Texts) (name bytes into : List ℕ) (n : ℕ) → IfSome o (λ ts. IsPrefix bytes (shelf_text ts name)) →
     IfSome o (λ ts. Fetches (shelf_text ts name) (length bytes) into n) → IfSome o (λ ts. IsPrefix (bytes ++ take n into) (shelf_text ts name))
 fetched_more None name bytes into n prefix fetches = prefix

@@ -1,4 +1,4 @@
--- The lists of a document: what they are read as, and how they are refused.
+-- The lists of a document: their values, and their refusals.
 use Rattle.std.proofs.Common.{◌≡◌, ℕ, ◌≤◌, inl, inr, List, [], ◌∷◌, ◌++◌, length, codes, Result, Ok, Err, refl, sym, ap, ◌∙◌, subst, arith}
 use Rattle.serde_json.specs.Data.{Data}
 use Rattle.roman_io.specs.Shelf.{Texts}
@@ -24,7 +24,7 @@ placed_err : {X : Type 0} (document : List ℕ) (part : Part) (r : Result X Part
 placed_err document part (Ok y) e h = absurd (let f : ⊥ = cc in f)
 placed_err document part (Err why) e h = (why, refl, sym (same_err (refusal_of document part why) e h))
 
--- a list of at most so many items, in its place
+-- a list with at most `most` items, with the document and the part in its refusal
 at_most : ℕ → ℕ → Type 0
 at_most most n = n ≤ most
 

@@ -1,4 +1,4 @@
--- Several targets of a document, and what is made of them.
+-- Several targets of a document, and the parts made from them.
 use Rattle.std.proofs.Common.{◌≡◌, ◌<◌, List, [], ◌∷◌, map, length, get_or, All, IfSome, Option, Some, None, Ok, Err, slice_get, refl, sym, ap, subst}
 use Rattle.std.proofs.lemmas.List.{length-map, get_or-map}
 use Rattle.std.proofs.lemmas.Option.{slice_get-map}
@@ -19,7 +19,7 @@ use Rattle.roman_library.specs.Documents.{combined_of, broken_rule}
 use Rattle.roman_library.specs.Library.{ArePartsOf, IsCatalogue, IsService, AreServices, behaviour_name}
 use Rattle.roman_library.specs.declared.library.Service.{Service}
 
--- what is made, or why it isn't
+-- the combined parts, or the refusal of the combination
 pub made_gives : (env : NamedEnv) (catalogue : List NamedBeh) (targets : List Named) (made : Combined) → combining.plain_combined made ≡ combined_parts env catalogue targets → forbidding env targets ≡ None →
     combined_of env catalogue targets ≡ Ok (combining.plain_combined made)
 unfolding combined_of
@@ -39,7 +39,7 @@ module _ (env : NamedEnv) (catalogue : List NamedBeh) (requests : List Request) 
   names_stay [] = refl
   names_stay (b ∷ catalogue) = ap (λ xs. b.name ∷ xs) (names_stay catalogue)
 
-  -- a service of the catalogue is one of the combined catalogue
+  -- a service of the catalogue is a service of the combined catalogue
   service_stays : (service : Service) → IsService catalogue service → IsService (map (combined_behaviour env requests) catalogue) service
   service_stays service is = record {
     behaviour = subst (λ n. service.behaviour < n) (sym (length-map catalogue (combined_behaviour env requests))) is.behaviour;
@@ -56,7 +56,7 @@ module _ (env : NamedEnv) (catalogue : List NamedBeh) (requests : List Request) 
   services_stay : (services : List Service) → AreServices catalogue services → AreServices (map (combined_behaviour env requests) catalogue) services
   services_stay services are = record { known = λ k d l. service_stays (get_or services k d) (are.known k d l); names = are.names }
 
--- combined parts that no rule forbids are a library's
+-- combined parts that no rule forbids are parts of a library
 pub combined_parts_known : (env : NamedEnv) (catalogue : List NamedBeh) (targets : List Named) → IsEnv env.env → IsCatalogue env catalogue → All (λ named. IsTarget env named.target) targets →
     forbidding env targets ≡ None → ArePartsOf catalogue (combined_parts env catalogue targets)
 unfolding combined_parts

@@ -1,4 +1,4 @@
--- What is written of a library means that library.
+-- The written value of a library means that library.
 use Rattle.std.proofs.Common.{◌≡◌, ℕ, zero, suc, ◌<◌, ◌≤◌, ◌&&◌, List, [], ◌∷◌, ◌++◌, map, length, Bool, Option, Some, IfSome, nat_le, Ok, IsTrue, slice_get, inl, inr, refl, sym, ap, subst, arith}
 use Rattle.std.proofs.lemmas.Bool.{and_from, le-leb}
 use Rattle.std.proofs.lemmas.List.{length-map, map_push}
@@ -33,7 +33,7 @@ target_said : (texts : Texts) (document : List ℕ) (library : PlainLibrary) →
 unfolding target_in part_of file_of
 target_said texts document library env is = ap (placed document (part.Target 0)) (parts_said.target library.environment library.target env is)
 
--- in version 2 the parts are those that are written
+-- in version 2 the parts are those that were written
 said_as_they_stand : (texts : Texts) (document : List ℕ) (library : PlainLibrary) → IsSayableEnv library.environment → IsSayableTarget library.environment library.target →
     parts_in texts document 2 library.environment library.catalogue (library_value library)
     ≡ Ok (record { environment = library.environment; catalogue = library.catalogue; target = library.target })
@@ -48,7 +48,7 @@ unfolding listed_in part_of file_of new_behaviour_of new_name_of
 behaviour_said texts document env before i b env_is is new =
     rw (name_said (behaviour_value env b) b.name refl is.name, absent_none (map behaviour_name before) b.name new) (ap (placed document (part.Behaviour i)) (parts_said.behaviour env b env_is is))
 
--- things with names of their own behind others
+-- the next items with distinct names have new names
 still_new : {X : Type 0} (f : X → List ℕ) (before : List X) (x y : X) (xs : List X) → (IsIn (f x) (map f xs) → ⊥) → IsIn y xs → (IsIn (f y) (map f before) → ⊥) → IsIn (f y) (map f (before ++ x ∷ [])) → ⊥
 still_new f before x y xs once i new there =
     elim (from_push (f y) (f x) (map f before) (subst (λ (names : List (List ℕ)). IsIn (f y) names) (map_push f before x) there)) [

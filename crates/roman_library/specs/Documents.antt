@@ -1,4 +1,4 @@
--- What a system document on a shelf means: a library, or the first rule that it breaks.
+-- The meaning of a system document on a shelf: a library, or the first rule that it breaks.
 use Rattle.std.specs.Prelude.{ℕ, ◌==◌, ◌&&◌, ◌++◌, Bool, true, false, List, [], ◌∷◌, map, length, slice_get, Option, Some, None, Result, Ok, Err, is_some, is_none, nat_le, codes, if◌then◌else◌}
 use Rattle.serde_json.specs.Data.{Data}
 use Rattle.serde_json.specs.Find.{as_object}
@@ -29,7 +29,7 @@ use Rattle.roman_library.specs.declared.refusal.Part.{Part}
 use Rattle.roman_library.specs.declared.refusal.Part.TheVariants as part
 use Rattle.roman_library.specs.declared.refusal.Refusal.{Refusal}
 
--- what a member is read as, or what stands for it where it isn't there
+-- the value read from a member, or the default where the member is missing
 abbrev pub optional : {X : Type 0} → (Data → Result X PartError) → X → Result Data Miss → Result X PartError
 optional read absent (Ok member) = read member
 optional read absent (Err miss) = Ok absent
@@ -54,7 +54,7 @@ limit_in d = do
 unfoldable pub limit_of : Data → Result ℕ PartError
 limit_of d = optional limit_in DEFAULT_CELLS (member_of d (codes "limit"))
 
--- ---- parts in place and by file
+-- ---- parts in place and in files
 
 -- the name of a part file
 unfoldable pub file_in : Data → Result (Option (List ℕ)) PartError
@@ -62,7 +62,7 @@ file_in d = do
   name ← looked list.File 0 (text_of d)
   check (nat_le 1 (length name) && nat_le (length name) MAX_FILE_NAME_BYTES) kind.BadName list.File 0 (Some name)
 
--- the file for which a part stands, if it doesn't stand in place
+-- the name of the file that has a part, or none where the part is written in place
 unfoldable pub file_of : Data → Result (Option (List ℕ)) PartError
 file_of d = optional file_in None (member_of d (codes "file"))
 
@@ -72,38 +72,38 @@ value_at texts name part =
     let text = shelf.shelf_text texts name in
     placed name part (check (nat_le (length text) MAX_DOCUMENT_BYTES) kind.TooLong list.Whole 0 text >>= (λ bytes. found kind.NotJson list.Whole 0 (json_of bytes)))
 
--- a part in place, or the value of its file, with the document in which it stands
+-- a part written in place, or the value of its file, with the name of the document that has it
 abbrev pub opened : Texts → List ℕ → Part → Data → Option (List ℕ) → Result (List ℕ × Data) Refusal
 opened texts document part d None = Ok (document, d)
 opened texts document part d (Some file) = value_at texts file part >>= (λ value. Ok (file, value))
 
--- what a value stands for, itself or the value of the file that it names, with the document in which that stands
+-- the value of a part, written in place or in the file that it names, with the name of the document that has it
 unfoldable pub part_of : Texts → List ℕ → Part → Data → Result (List ℕ × Data) Refusal
 part_of texts document part d = placed document part (file_of d) >>= opened texts document part d
 
--- ---- parts of which a document has a list
+-- ---- parts that a document lists
 
--- how refusals name part i of a list
+-- the part, for refusals, at each place of a list
 abbrev pub PartAt : Type 0
 PartAt = ℕ → Part
 
--- how a part is read over an environment, after those before it
+-- the reading of a part over an environment, after the parts before it
 abbrev pub ReadAfter : Type 0 → Type 0
 ReadAfter X = NamedEnv → List X → Data → Result X PartError
 
--- part i of a list, after those before it
+-- part i of a list, after the parts before it
 unfoldable pub listed_in : {X : Type 0} → PartAt → ReadAfter X → Texts → List ℕ → NamedEnv → List X → ℕ → Data → Result X Refusal
 listed_in at read texts document env before i d = do
   (file, value) ← part_of texts document (at i) d
   placed file (at i) (read env before value)
 
--- part i of a list, read after those before it and put behind them
+-- the step that reads part i of a list after the parts before it, and appends it
 unfoldable pub listed_step : {X : Type 0} → PartAt → ReadAfter X → Texts → List ℕ → NamedEnv → ℕ → List X → Data → Result (List X) Refusal
 listed_step at read texts document env i before d = listed_in at read texts document env before i d >>= (λ x. Ok (before ++ x ∷ []))
 
 -- ---- the environment, the behaviours and the target
 
--- the name of a behaviour, a target or a service, which none of those before it has
+-- the name of a behaviour, a target or a service, where no earlier one has it
 unfoldable pub new_name_of : List (List ℕ) → Data → Result (List ℕ) PartError
 new_name_of before d = do
   whole ← check (is_some (as_object d)) kind.Form list.Whole 0 d
@@ -117,15 +117,15 @@ environment_in texts document d = do
   (file, value) ← part_of texts document part.Environment member
   placed file part.Environment (environment_of value)
 
--- a behaviour whose name is new among those before it
+-- a behaviour with a name that no earlier one has
 unfoldable pub new_behaviour_of : NamedEnv → List NamedBeh → Data → Result NamedBeh PartError
 new_behaviour_of env before d = new_name_of (map behaviour_name before) d >>= (λ name. behaviour_of env d)
 
--- behaviour i of a document, read after those before it
+-- behaviour i of a document, after the behaviours before it
 abbrev pub behaviour_in : Texts → List ℕ → NamedEnv → List NamedBeh → ℕ → Data → Result NamedBeh Refusal
 behaviour_in texts document env before i d = listed_in part.Behaviour new_behaviour_of texts document env before i d
 
--- behaviour i, read after those before it and put behind them
+-- the step that reads behaviour i after the behaviours before it, and appends it
 abbrev pub behaviour_step : Texts → List ℕ → NamedEnv → ℕ → List NamedBeh → Data → Result (List NamedBeh) Refusal
 behaviour_step texts document env = listed_step part.Behaviour new_behaviour_of texts document env
 
@@ -144,24 +144,24 @@ target_in texts document env d = do
 
 -- ---- several targets
 
--- a target whose name is new among those before it
+-- a target with a name that no earlier one has
 unfoldable pub named_target_of : NamedEnv → List Named → Data → Result Named PartError
 named_target_of env before d = do
   name ← new_name_of (map target_name before) d
   target ← target_of env d
   Ok (record { name = name; target = target })
 
--- target i, put behind those before it
+-- the step that reads target i, and appends it
 abbrev pub target_step : Texts → List ℕ → NamedEnv → ℕ → List Named → Data → Result (List Named) Refusal
 target_step texts document env = listed_step part.Target named_target_of texts document env
 
--- the targets of a document: two to four of them
+-- the targets of a document, from two to four
 unfoldable pub targets_in : Texts → List ℕ → NamedEnv → Data → Result (List Named) Refusal
 targets_in texts document env d = do
   items ← placed document part.System (counted_items list.Targets (codes "targets") 2 4 d)
   each_item (target_step texts document env) 0 [] items
 
--- a rule on the combined states and actions that is broken, by its number
+-- the refusal for a broken rule on the combined states and actions, with the number of the rule
 abbrev pub broken_rule : CombineError → PartError
 broken_rule combine.States = Refused kind.Count list.Targets 1
 broken_rule combine.Actions = Refused kind.Count list.Targets 2
@@ -169,16 +169,16 @@ broken_rule combine.LongName = Refused kind.BadName list.Targets 3
 broken_rule combine.Repeated = Refused kind.Repeated list.Targets 4
 broken_rule combine.Memory = Memory
 
--- the value, where no rule forbids it
+-- the value where no rule is broken, and the refusal otherwise
 abbrev pub unless_broken : {X : Type 0} → Option CombineError → X → Result X PartError
 unless_broken None x = Ok x
 unless_broken (Some rule) x = Err (broken_rule rule)
 
--- the targets as one, with the environment and the catalogue over its actions
+-- the targets combined into one, with the environment and the catalogue over its actions
 unfoldable pub combined_of : NamedEnv → List NamedBeh → List Named → Result PlainCombined PartError
 combined_of env catalogue targets = unless_broken (forbidding env targets) (combined_parts env catalogue targets)
 
--- the environment, the catalogue and the target of a document: as they stand, and in version 3 those that combine its targets
+-- the environment, the catalogue and the target of a document, which in version 3 combine its targets
 unfoldable pub parts_in : Texts → List ℕ → ℕ → NamedEnv → List NamedBeh → Data → Result PlainCombined Refusal
 parts_in texts document version env catalogue d =
     if version == 3
@@ -193,7 +193,7 @@ behaviour_place catalogue d = do
   name ← looked list.Behaviour 0 (member_of d (codes "behaviour"))
   place_in (map behaviour_name catalogue) list.Behaviour 0 name
 
--- a service's state, which is its behaviour's start where none is named
+-- a service's state, by default the start state of its behaviour
 unfoldable pub state_of : NamedBeh → Data → Result ℕ PartError
 state_of behaviour d = optional (place_in behaviour.states list.State 0) behaviour.beh.start (member_of d (codes "state"))
 
@@ -201,15 +201,15 @@ state_of behaviour d = optional (place_in behaviour.states list.State 0) behavio
 abbrev pub truth_in : Place → Data → Result Bool PartError
 truth_in place d = looked place 0 (truth_of d)
 
--- whether a service is frozen
+-- whether a service is frozen, by default not
 unfoldable pub frozen_of : Data → Result Bool PartError
 frozen_of d = optional (truth_in list.Frozen) false (member_of d (codes "frozen"))
 
--- whether a service rests: in version 1 each does
+-- whether a service rests, by default yes, and always in version 1
 unfoldable pub rests_of : ℕ → Data → Result Bool PartError
 rests_of version d = if version == 1 then Ok true else optional (truth_in list.Rests) true (member_of d (codes "rests"))
 
--- a service behind those before it
+-- a service, after the services before it
 unfoldable pub service_of : ℕ → List NamedBeh → List Service → Data → Result Service PartError
 service_of version catalogue before d = do
   name ← new_name_of (map service_name before) d
@@ -220,7 +220,7 @@ service_of version catalogue before d = do
   rests ← rests_of version d
   Ok (record { name = name; behaviour = place; state = state; frozen = frozen; rests = rests })
 
--- service i, put behind those before it
+-- the step that reads service i, and appends it
 unfoldable pub service_step : List ℕ → ℕ → List NamedBeh → ℕ → List Service → Data → Result (List Service) Refusal
 service_step document version catalogue i before d =
     placed document (part.Service i) (service_of version catalogue before d) >>= (λ service. Ok (before ++ service ∷ []))
@@ -233,7 +233,7 @@ services_of document version catalogue d = do
 
 -- ---- the document
 
--- the library that a document's value is
+-- the library that the value of a document means
 unfoldable pub library_in : Texts → List ℕ → Data → Result PlainLibrary Refusal
 library_in texts document d = do
   version ← placed document part.System (version_of d)
@@ -244,6 +244,6 @@ library_in texts document d = do
   made ← parts_in texts document version env catalogue d
   Ok (record { environment = made.environment; catalogue = made.catalogue; services = services; target = made.target; limit = limit })
 
--- the library that the document of this name is, or the first rule that it breaks
+-- the library that the document with this name means, or the first rule that it breaks
 unfoldable pub library_of : Texts → List ℕ → Result PlainLibrary Refusal
 library_of texts document = value_at texts document part.System >>= library_in texts document

@@ -1,4 +1,4 @@
--- Libraries: what a system document says.
+-- Libraries: the content of system documents.
 use Rattle.std.specs.Prelude.{◌≡◌, ℕ, ◌<◌, ◌≤◌, List, map, length, slice_get, All, IfSome}
 use Rattle.roman_model.specs.Lists.{HasNoRepeats}
 use Rattle.roman_model.specs.System.{IsEnv}
@@ -16,7 +16,7 @@ pub record PlainLibrary : Type 0 where
   pub target : NamedTarget
   pub limit : ℕ
 
--- a library without where it lies in memory
+-- the library as a plain record
 abbrev pub plain : Library → PlainLibrary
 plain library = record {
   environment = library.environment;
@@ -26,30 +26,30 @@ plain library = record {
   limit = library.limit;
 }
 
--- a behaviour's name
+-- the name of a behaviour
 abbrev pub behaviour_name : NamedBeh → List ℕ
 behaviour_name behaviour = behaviour.name
 
--- a service's name
+-- the name of a service
 abbrev pub service_name : Service → List ℕ
 service_name service = service.name
 
--- the service's behaviour is a place of the catalogue, and its state is one of that behaviour
+-- the service's behaviour is in the catalogue, and its state is a state of that behaviour
 pub record IsService (catalogue : List NamedBeh) (service : Service) : Type 0 where
   pub behaviour : service.behaviour < length catalogue
   pub state : IfSome (slice_get catalogue service.behaviour) (λ behaviour. service.state < behaviour.beh.states)
 
--- the behaviours are over the environment, and no two have one name
+-- the behaviours are over the environment, and no two have the same name
 pub record IsCatalogue (environment : NamedEnv) (catalogue : List NamedBeh) : Type 0 where
   pub known : All (IsBehaviour environment) catalogue
   pub names : HasNoRepeats (map behaviour_name catalogue)
 
--- the services' numbers are in range, and no two have one name
+-- the services' numbers are in range, and no two services have the same name
 pub record AreServices (catalogue : List NamedBeh) (services : List Service) : Type 0 where
   pub known : All (IsService catalogue) services
   pub names : HasNoRepeats (map service_name services)
 
--- the parts that are made with a catalogue: they are a library's, and services of the catalogue stay services
+-- the parts made from a catalogue are parts of a library, and services of the catalogue are services of the made catalogue
 pub record ArePartsOf (behaviours : List NamedBeh) (made : PlainCombined) : Type 0 where
   pub environment : IsEnv made.environment.env
   pub catalogue : IsCatalogue made.environment made.catalogue
@@ -57,7 +57,8 @@ pub record ArePartsOf (behaviours : List NamedBeh) (made : PlainCombined) : Type
   pub services : (services : List Service) → AreServices behaviours services → AreServices made.catalogue services
   pub target : IsTarget made.environment made.target
 
--- all parts are over one environment, all numbers are in range, the limits hold, and no two behaviours and no two services have one name
+-- all parts are over one environment, all numbers are in range, the limits hold, and no two behaviours and no two services have the same
+-- name
 pub record IsLibrary (library : PlainLibrary) : Type 0 where
   pub environment : IsEnv library.environment.env
   pub catalogue : IsCatalogue library.environment library.catalogue

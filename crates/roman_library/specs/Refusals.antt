@@ -1,4 +1,4 @@
--- Refusals: the first broken rule of a document, and the answers that name it.
+-- Refusals: the first broken rule of a document, and the results that state it.
 use Rattle.std.specs.Prelude.{◌≡◌, ℕ, List, Result, Ok, Err}
 use Rattle.roman_io.specs.Faults.{Rose}
 use Rattle.roman_read.specs.declared.rules.Kind.TheVariants.{Form}
@@ -10,57 +10,57 @@ use Rattle.roman_library.specs.declared.refusal.Refusal.{Refusal}
 use Rattle.roman_library.specs.declared.refusal.LoadError.{LoadError}
 use Rattle.roman_library.specs.declared.refusal.LoadError.TheVariants as error
 
--- a part's refusal, with the document and the part in which it stands (no definition runs out of memory: the last case stands for nothing)
+-- the refusal of a part, with the document and the part (no definition runs out of memory, so the last case is never used)
 abbrev pub refusal_of : List ℕ → Part → PartError → Refusal
 refusal_of document part (part_error.Refused kind list index) = record { document = document; kind = kind; part = part; list = list; index = index }
 refusal_of document part part_error.Memory = record { document = document; kind = Form; part = part; list = Whole; index = 0 }
 
--- the reading of a part, as it stands in the document
+-- the reading of a part, with the document and the part in its refusal
 abbrev pub placed : {X : Type 0} → List ℕ → Part → Result X PartError → Result X Refusal
 placed document part (Ok x) = Ok x
 placed document part (Err e) = Err (refusal_of document part e)
 
--- a refusal is the one that the definition gives; a fault and running out of memory say nothing of it
+-- the refusal is the one that the definition gives; a fault and running out of memory state nothing
 abbrev pub Stops : {Y : Type 0} → LoadError → Result Y Refusal → Type 0
 Stops error.Fault reading = Unit {0}
 Stops (error.Refused refusal) reading = reading ≡ Err refusal
 Stops error.Memory reading = Unit {0}
 
--- what the code reads, seen through a view, is what the definition gives, and so is what it refuses
+-- the code returns what the definition gives, seen through a view, and refuses what it refuses
 abbrev pub Loads : {X Y : Type 0} → (X → Y) → Result X LoadError → Result Y Refusal → Type 0
 Loads view (Ok x) reading = reading ≡ Ok (view x)
 Loads view (Err e) reading = Stops e reading
 
--- a count of faults rose where the error is a fault, and stayed elsewhere
+-- the count of faults rose where the error is a fault, and stayed the same otherwise
 abbrev pub IsCause : ℕ → ℕ → LoadError → Type 0
 IsCause old new error.Fault = Rose old new
 IsCause old new (error.Refused refusal) = new ≡ old
 IsCause old new error.Memory = new ≡ old
 
--- a count of faults rose where the answer is a fault, and stayed elsewhere
+-- the count of faults rose where the result is a fault, and stayed the same otherwise
 abbrev pub CausesLoad : {T : Type 0} → ℕ → ℕ → Result T LoadError → Type 0
 CausesLoad old new (Ok x) = new ≡ old
 CausesLoad old new (Err e) = IsCause old new e
 
--- the error is the refusal in its place, unless memory runs out
+-- the error is the refusal, unless memory runs out
 abbrev pub IsRefusal : Refusal → LoadError → Type 0
 IsRefusal refusal error.Fault = ⊥
 IsRefusal refusal (error.Refused given) = given ≡ refusal
 IsRefusal refusal error.Memory = Unit {0}
 
--- a part's error in its place
+-- the error of a part, with the document and the part
 abbrev pub PlacesError : List ℕ → Part → PartError → LoadError → Type 0
 PlacesError document part (part_error.Refused kind list index) given = IsRefusal (refusal_of document part (part_error.Refused kind list index)) given
 PlacesError document part part_error.Memory given = given ≡ error.Memory
 
--- what was read stays, and an error is put in its place
+-- the value that was read is returned, and an error is returned with the document and the part
 abbrev pub Places : {X : Type 0} → List ℕ → Part → Result X PartError → Result X LoadError → Type 0
 Places document part (Ok x) (Ok y) = y ≡ x
 Places document part (Ok x) (Err given) = ⊥
 Places document part (Err e) (Ok y) = ⊥
 Places document part (Err e) (Err given) = PlacesError document part e given
 
--- no fault is answered
+-- the result isn't a fault
 abbrev pub IsQuiet : {T : Type 0} → Result T LoadError → Type 0
 IsQuiet (Ok x) = Unit {0}
 IsQuiet (Err error.Fault) = ⊥

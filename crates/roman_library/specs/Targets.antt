@@ -1,4 +1,4 @@
--- What a document of several targets says before they are combined, and that its library combines them.
+-- The content of a document with several targets before they are combined, and the library that combines them.
 use Rattle.std.specs.Prelude.{◌≡◌, ℕ, ◌≤◌, List, length, None, Ok, All}
 use Rattle.serde_json.specs.Data.{Data}
 use Rattle.roman_io.specs.Shelf.{Texts}
@@ -16,7 +16,7 @@ pub record PlainTargets : Type 0 where
   pub catalogue : List NamedBeh
   pub targets : List Named
 
--- the document has version 3, and these are the environment, the behaviours and the targets that it names
+-- the document has version 3, and names this environment, these behaviours and these targets
 pub record NamesTargets (texts : Texts) (document : List ℕ) (said : PlainTargets) : Type 0 where
   pub value : Data
   pub reads : value_at texts document part.System ≡ Ok value
@@ -25,7 +25,7 @@ pub record NamesTargets (texts : Texts) (document : List ℕ) (said : PlainTarge
   pub catalogue : catalogue_in texts document said.environment value ≡ Ok said.catalogue
   pub targets : targets_in texts document said.environment value ≡ Ok said.targets
 
--- what the document says is in range, no rule forbids to combine its targets, and the library has what combines them
+-- the content of the document is in range, no rule forbids the combination of its targets, and the library has the combined parts
 pub record CombinesTargets (said : PlainTargets) (library : PlainLibrary) : Type 0 where
   pub known : IsEnv said.environment.env
   pub behaviours : IsCatalogue said.environment said.catalogue
@@ -36,7 +36,7 @@ pub record CombinesTargets (said : PlainTargets) (library : PlainLibrary) : Type
       ≡ record { environment = library.environment; catalogue = library.catalogue; target = library.target }
   pub services : AreServices said.catalogue library.services
 
--- the library of an accepted document of several targets combines the targets that the document names
+-- the library of an accepted document with several targets combines the targets that the document names
 abbrev pub TargetsAreCombined : Type 0
 TargetsAreCombined =
     (texts : Texts) (document : List ℕ) (library : PlainLibrary) (said : PlainTargets) → library_of texts document ≡ Ok library → NamesTargets texts document said → CombinesTargets said library

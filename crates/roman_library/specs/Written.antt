@@ -1,4 +1,4 @@
--- A writer of documents, which is a definition alone: a JSON value that means the library, with all parts in place.
+-- A writer of documents, which is only a definition: a JSON value that means a given library, with all parts in place.
 use Rattle.std.specs.Prelude.{◌≡◌, ℕ, List, [], map, Ok, IsTrue, codes, slice_index_or}
 use Rattle.serde_json.specs.Data.{Data, boolean, number, string, object, no_members, member, unsigned}
 use Rattle.roman_io.specs.Shelf.{Texts}
@@ -16,7 +16,7 @@ use Rattle.roman_library.specs.declared.library.Service.{Service}
 abbrev pub catalogue_states : List NamedBeh → ℕ → List (List ℕ)
 catalogue_states catalogue k = slice_index_or (map (λ b. b.states) catalogue) k []
 
--- a service, by the names of its behaviour and its state
+-- the value of a service, with the names of its behaviour and its state
 abbrev pub service_value : List NamedBeh → Service → Data
 service_value catalogue x =
     object (member (codes "behaviour") (place_value (map behaviour_name catalogue) x.behaviour)
@@ -26,7 +26,7 @@ service_value catalogue x =
     (member (codes "state") (place_value (catalogue_states catalogue x.behaviour) x.state)
     no_members)))))
 
--- a document of version 2
+-- the value of a library: a document of version 2
 abbrev pub library_value : PlainLibrary → Data
 library_value library =
     object (member (codes "behaviours") (list_value (map (behaviour_value library.environment) library.catalogue))
@@ -37,9 +37,9 @@ library_value library =
     (member (codes "target") (target_value library.environment library.target)
     no_members))))))
 
--- ---- what a document can say
+-- ---- libraries that a document can state
 
--- the library is one, each part can be said, and the services have names
+-- a document can state the library: it is well formed, a document can state each part, and the services have valid names
 pub record IsSayable (library : PlainLibrary) : Type 0 where
   pub known : IsLibrary library
   pub environment : IsSayableEnv library.environment
@@ -47,6 +47,6 @@ pub record IsSayable (library : PlainLibrary) : Type 0 where
   pub target : IsSayableTarget library.environment library.target
   pub services : (x : Service) → IsIn x library.services → IsTrue (is_name x.name)
 
--- what is written of a library that can be said means that library, whatever the shelf holds
+-- the written value of each library that a document can state means that library, for all texts of a shelf
 abbrev pub LibrariesAreSaid : Type 0
 LibrariesAreSaid = (texts : Texts) (document : List ℕ) (library : PlainLibrary) → IsSayable library → library_in texts document (library_value library) ≡ Ok library

@@ -1,4 +1,4 @@
-//! The behaviours of a document, each in place or by file.
+//! The behaviours of a document, each written in place or in a file.
 ghost use Rattle.std.specs.Prelude.{◌≡◌, ◌≤◌, vec_len, IfOk, IfSome};
 ghost use Rattle.serde_json.specs.View.{view};
 ghost use Rattle.roman_library.specs.Documents.{catalogue_in};
@@ -20,7 +20,7 @@ use serde_json::Value;
 use std::alloc::Global;
 
 #[tactic(auto, unfolding(crate::specs::Documents::catalogue_in))]
-/// The behaviours of a document.
+/// Loads the behaviours of a document.
 pub(crate) fn load_catalogue<F: Shelf>(
     alloc: Global,
     shelf: &mut F,
@@ -56,7 +56,7 @@ impl Listed for Behaviour {
     }
 
     #[tactic(auto, unfolding(crate::specs::Documents::new_name_of, crate::specs::Documents::new_behaviour_of))]
-    /// A behaviour, whose name is tried against those before it and then the rest.
+    /// Reads a behaviour after the given ones. Checks first that its name is new.
     fn read_after(
         alloc: Global,
         v: &Value,

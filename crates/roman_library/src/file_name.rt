@@ -19,7 +19,7 @@ impl Model for FileName {
 }
 
 impl FileName {
-    /// A copy of the name. The one error is that there is no memory.
+    /// Returns a copy of the name. Fails only when out of memory.
     pub fn new(alloc: Global, name: &str) -> Result<FileName, AllocError>
         ensures name { IfOk result (λ made. made ≡ name.now) }
     {
@@ -27,7 +27,7 @@ impl FileName {
         Ok(FileName { bytes })
     }
 
-    /// The name's bytes.
+    /// Returns the bytes of the name.
     pub fn bytes(&self) -> &[u8]
         ensures bytes { result.now ≡ self.now }
     {

@@ -10,11 +10,11 @@ use roman_parts::{List, PartError};
 use roman_read::{Kind, member};
 use serde_json::Value;
 
-/// The newest version.
+/// The newest version of documents.
 const NEWEST: u64 = 3;
 
 #[tactic(auto, unfolding(crate::specs::Documents::version_of))]
-/// The version.
+/// Reads the version.
 pub(crate) fn read_version(v: &Value) -> Result<u64, PartError>
     ensures { Gives (λ x. x) result (version_of (view v.now)) }
 {
@@ -32,7 +32,7 @@ pub(crate) fn read_version(v: &Value) -> Result<u64, PartError>
 }
 
 #[tactic(auto, unfolding(crate::specs::Documents::limit_of))]
-/// The limit on cells.
+/// Reads the limit on cells, or returns the default where the document has none.
 pub(crate) fn read_limit(v: &Value) -> Result<u32, PartError>
     ensures limit { Gives (λ x. x) result (limit_of (view v.now)) }
     ensures within { IfOk result (λ limit. (0 < limit) × (limit ≤ MAX_CELLS)) }
@@ -44,7 +44,7 @@ pub(crate) fn read_limit(v: &Value) -> Result<u32, PartError>
 }
 
 #[tactic(auto, unfolding(crate::specs::Documents::limit_in))]
-/// A limit that is there.
+/// Reads a limit that the document has.
 fn limit_at(v: &Value) -> Result<u32, PartError>
     ensures limit { Gives (λ x. x) result (limit_in (view v.now)) }
     ensures within { IfOk result (λ limit. (0 < limit) × (limit ≤ MAX_CELLS)) }

@@ -1,9 +1,9 @@
 //! System documents on a shelf.
 //!
-//! [`document`] fetches a text from a shelf and reads it as JSON, and [`load`] reads a system
-//! document with the part files that it names: it gives the [`Library`] that the document is, or the
-//! [`Refusal`] of the first rule that it breaks. `specs/Documents` says what a document means, and
-//! `specs/Library` what every library keeps.
+//! [`document`] fetches a text from a shelf and parses it as JSON. [`load`] reads a system document
+//! with the part files that it names. It returns the [`Library`] that the document means, or the
+//! [`Refusal`] with the first rule that it breaks. `specs/Documents` defines the meaning of a
+//! document, and `specs/Library` the properties of every library.
 #![tactic(auto)]
 
 mod catalogue;

@@ -3,33 +3,34 @@
 use roman_parts::{Behaviour, Environment, Target};
 use roman_read::Name;
 
-/// What a system document says: the parts of a system, the services with the states in which they
-/// begin, and the limit. A document with several targets gives the parts that combine them.
+/// The content of a system document: the parts of a system, the services with their starting states,
+/// and the limit. The library of a document with several targets has the parts that combine them.
 #[derive(Drop)]
 pub struct Library {
     /// The environment, which all services share.
     pub environment: Environment,
-    /// The behaviours that services may have, at most 32, in the order in which they stand.
+    /// The behaviours of the services, at most 32, in the order of the document.
     pub catalogue: Vec<Behaviour>,
-    /// The services, at most 32, in the order in which they stand.
+    /// The services, at most 32, in the order of the document.
     pub services: Vec<Service>,
-    /// What is to be composed from the services.
+    /// The target to be composed from the services.
     pub target: Target,
-    /// The greatest number of cells, pairs times actions, that the system may have: 1 to 16,777,216.
+    /// The greatest number of cells, which are pairs times actions, of the system: 1 to 16,777,216.
     pub limit: u32,
 }
 
 /// A service: a named instance of a behaviour.
 #[derive(Clone, Copy)]
 pub struct Service {
-    /// The service's name.
+    /// The name of the service.
     pub name: Name,
     /// The place of the service's behaviour in the catalogue.
     pub behaviour: u8,
-    /// The number of the state in which the service begins.
+    /// The number of the state in which the service starts.
     pub state: u8,
-    /// Whether the service takes no delegations at first.
+    /// Whether the service is frozen at first, so that it takes no delegations.
     pub frozen: bool,
-    /// Whether the service's state must be final where the target's is. Else the service is loose.
+    /// Whether the service must be in a final state where the target is. Otherwise the service is
+    /// loose.
     pub rests: bool,
 }

@@ -1,4 +1,4 @@
-//! Parts of which a document has a list, each in place or by file.
+//! Parts that a document lists, each written in place or in a file.
 ghost use Rattle.std.specs.Prelude.{◌≡◌, ◌^◌, ◌<◌, List, [], ◌∷◌, ◌++◌, length, vec_len, IfOk, IfSome};
 ghost use Rattle.serde_json.specs.View.{view, items_view};
 ghost use Rattle.roman_read.specs.Items.{each_item};
@@ -15,22 +15,22 @@ use roman_parts::{Environment, PartError};
 use serde_json::Value;
 use std::alloc::Global;
 
-/// A part of which a document has a list, as its behaviours.
+/// A kind of part that a document lists, such as its behaviours.
 pub(crate) trait Listed: Drop {
-    /// How refusals name a part by its place.
+    /// The part, for refusals, at each place of the list.
     ghost part_at: { PartAt };
 
-    /// What a value is, over an environment and after the parts before it.
+    /// The meaning of a value, over an environment and after the parts before it.
     ghost meaning: { ReadAfter Self };
 
-    /// What the parts of a list are, over an environment.
+    /// The property of the parts of a list, over an environment.
     ghost are_known: { NamedEnv → List Self → Type 0 };
 
-    /// The name of a part in refusals.
+    /// Returns the part with this number, for refusals.
     fn part(number: u32) -> Part
         ensures { result ≡ part_at number };
 
-    /// A part, after those before it.
+    /// Reads a part after the given ones.
     fn read_after(
         alloc: Global,
         v: &Value,
@@ -41,7 +41,7 @@ pub(crate) trait Listed: Drop {
         ensures known { IfOk result (λ x. are_known environment.now before.now → are_known environment.now (before.now ++ x ∷ [])) };
 }
 
-/// The parts that the items of a list are.
+/// Loads the parts in the items of a list.
 pub(crate) fn load_items<P: Listed, F: Shelf>(
     alloc: Global,
     shelf: &mut F,
@@ -68,7 +68,7 @@ pub(crate) fn load_items<P: Listed, F: Shelf>(
 }
 
 #[tactic(auto, unfolding(crate::specs::Documents::listed_in, crate::specs::Documents::part_of))]
-/// A part of a list, after those before it.
+/// Loads one part of a list after the given ones.
 fn load_item<P: Listed, F: Shelf>(
     alloc: Global,
     shelf: &mut F,

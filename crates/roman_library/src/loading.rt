@@ -1,4 +1,4 @@
-//! Libraries from documents.
+//! Loads libraries from documents.
 ghost use Rattle.std.specs.Prelude.{◌≡◌, IfOk, IfSome};
 ghost use Rattle.serde_json.specs.View.{view};
 ghost use Rattle.roman_library.specs.Documents.{library_in, library_of};
@@ -19,11 +19,11 @@ use serde_json::Value;
 use std::alloc::Global;
 
 #[tactic(auto, unfolding(crate::specs::Documents::library_of))]
-/// The library that the system document of this name is, with the part files that it names.
+/// Loads the library of the system document with this name, with the part files that it names.
 ///
-/// `Refused` comes exactly where the document breaks a rule, with the first one in the order of the
-/// format; `Fault` only where the shelf failed, and its count of faults rose; `Memory` where there is
-/// no memory for it. The shelf's texts stay as they are.
+/// Fails with `Refused` exactly where the document breaks a rule, with the first broken rule in the
+/// order of the format. Fails with `Fault` only where the shelf failed and its count of faults rose,
+/// and with `Memory` when out of memory. Keeps the texts of the shelf as they are.
 pub fn load<F: Shelf>(alloc: Global, shelf: &mut F, name: &str) -> Result<Library, LoadError>
     ensures meaning { IfSome (F.texts shelf.old) (λ texts. Loads plain result (library_of texts name.now)) }
     ensures known { IfOk result (λ library. IsLibrary (plain library)) }
@@ -35,7 +35,7 @@ pub fn load<F: Shelf>(alloc: Global, shelf: &mut F, name: &str) -> Result<Librar
 }
 
 #[tactic(auto, unfolding(crate::specs::Documents::library_in))]
-/// The library that a document's value is.
+/// Loads the library from the value of a document.
 fn load_library<F: Shelf>(
     alloc: Global,
     shelf: &mut F,

@@ -1,4 +1,4 @@
-//! Looks into a value, with the refusal of what is missed.
+//! Looks into a value. Each miss becomes a refusal.
 ghost use Rattle.std.specs.Prelude.{◌≡◌};
 ghost use Rattle.serde_json.specs.View.{view};
 ghost use Rattle.roman_read.specs.Json.{member_of, text_of, number_of, truth_of};
@@ -10,7 +10,7 @@ use roman_parts::{List, PartError};
 use roman_read::{Kind, Miss, member, number, text, truth};
 use serde_json::Value;
 
-/// The refusal of a member.
+/// Returns the refusal of a member.
 pub(crate) fn refused(kind: Kind, place: List) -> PartError
     ensures { result ≡ Refused kind place 0 }
 {
@@ -21,14 +21,14 @@ pub(crate) fn refused(kind: Kind, place: List) -> PartError
     }
 }
 
-/// The refusal of a member that is missed.
+/// Returns the refusal for a miss at a member.
 fn missed(miss: Miss, place: List) -> PartError
     ensures { result ≡ Refused (kind_of miss) place 0 }
 {
     refused(miss.into(), place)
 }
 
-/// The member with this name.
+/// Returns the member with this name.
 pub(crate) fn member_at<'a>(v: &'a Value, name: &str, place: List) -> Result<&'a Value, PartError>
     ensures { Gives (λ x. view x.now) result (looked place 0 (member_of (view v.now) name.now)) }
 {
@@ -38,7 +38,7 @@ pub(crate) fn member_at<'a>(v: &'a Value, name: &str, place: List) -> Result<&'a
     }
 }
 
-/// The bytes of a text.
+/// Returns the bytes of a text.
 pub(crate) fn text_at(v: &Value, place: List) -> Result<&str, PartError>
     ensures { Gives (λ x. x.now) result (looked place 0 (text_of (view v.now))) }
 {
@@ -48,7 +48,7 @@ pub(crate) fn text_at(v: &Value, place: List) -> Result<&str, PartError>
     }
 }
 
-/// A number.
+/// Returns a number.
 pub(crate) fn number_at(v: &Value, place: List) -> Result<u64, PartError>
     ensures { Gives (λ x. x) result (looked place 0 (number_of (view v.now))) }
 {
@@ -58,7 +58,7 @@ pub(crate) fn number_at(v: &Value, place: List) -> Result<u64, PartError>
     }
 }
 
-/// A truth value.
+/// Returns a truth value.
 pub(crate) fn truth_at(v: &Value, place: List) -> Result<bool, PartError>
     ensures { Gives (λ x. x) result (looked place 0 (truth_of (view v.now))) }
 {

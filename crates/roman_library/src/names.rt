@@ -1,4 +1,4 @@
-//! Names of behaviours, services and targets.
+//! Looks up behaviours, services and targets by their names.
 ghost use Rattle.std.specs.Prelude.{◌≡◌, ◌<◌, map, length, IfSome};
 ghost use Rattle.roman_read.specs.Names.{place_of};
 ghost use Rattle.roman_library.specs.Library.{behaviour_name, service_name};
@@ -8,8 +8,8 @@ use crate::library::Service;
 use roman_multi::Named;
 use roman_parts::Behaviour;
 
-/// The place in a catalogue of the behaviour with this name; `None` exactly where none has it. No
-/// memory is taken.
+/// Returns the place in a catalogue of the behaviour with this name, or `None` exactly where no
+/// behaviour has it. Takes no memory.
 pub fn place_of_behaviour(catalogue: &[Behaviour], name: &[u8]) -> Option<usize>
     ensures place { result ≡ place_of (map behaviour_name catalogue.now) name.now }
     ensures within { IfSome result (λ place. place < length catalogue.now) }
@@ -17,14 +17,14 @@ pub fn place_of_behaviour(catalogue: &[Behaviour], name: &[u8]) -> Option<usize>
     catalogue.iter().position(|b| name == b.name().bytes())
 }
 
-/// The place of the service with this name.
+/// Returns the place of the service with this name.
 pub(crate) fn place_of_service(services: &[Service], name: &[u8]) -> Option<usize>
     ensures place { result ≡ place_of (map service_name services.now) name.now }
 {
     services.iter().position(|s| name == s.name.bytes())
 }
 
-/// The place of the target with this name.
+/// Returns the place of the target with this name.
 pub(crate) fn place_of_target(targets: &[Named], name: &[u8]) -> Option<usize>
     ensures place { result ≡ place_of (map target_name targets.now) name.now }
 {

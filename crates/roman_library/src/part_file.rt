@@ -1,4 +1,4 @@
-//! Values of documents and part files.
+//! The values of documents and part files.
 ghost use Rattle.std.specs.Prelude.{◌≡◌, IfSome, option_map};
 ghost use Rattle.serde_json.specs.View.{view};
 ghost use Rattle.roman_parts.specs.Reading.{Gives};
@@ -17,7 +17,7 @@ use serde_json::Value;
 use std::alloc::Global;
 
 #[tactic(auto, unfolding(crate::specs::Documents::file_of))]
-/// The file for which a part stands, if it doesn't stand in place.
+/// Returns the name of the file that has a part, or `None` where the part is written in place.
 pub(crate) fn file_of(v: &Value) -> Result<Option<&str>, PartError>
     ensures { Gives (λ x. option_map (λ file. file.now) x) result (file_of (view v.now)) }
 {
@@ -28,7 +28,7 @@ pub(crate) fn file_of(v: &Value) -> Result<Option<&str>, PartError>
 }
 
 #[tactic(auto, unfolding(crate::specs::Documents::file_in))]
-/// The name of a part file.
+/// Reads the name of a part file.
 fn file_at(v: &Value) -> Result<Option<&str>, PartError>
     ensures { Gives (λ x. option_map (λ file. file.now) x) result (file_in (view v.now)) }
 {
@@ -43,7 +43,7 @@ fn file_at(v: &Value) -> Result<Option<&str>, PartError>
 }
 
 #[tactic(auto, unfolding(crate::specs::Documents::value_at))]
-/// The value of a document or a part file.
+/// Fetches and parses a document or a part file.
 pub(crate) fn value_at<F: Shelf>(
     alloc: Global,
     shelf: &mut F,

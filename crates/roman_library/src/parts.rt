@@ -1,4 +1,4 @@
-//! The environment and the target of a document, in place or by file.
+//! The environment and the target of a document, each written in place or in a file.
 ghost use Rattle.std.specs.Prelude.{◌≡◌, IfOk, IfSome};
 ghost use Rattle.serde_json.specs.View.{view};
 ghost use Rattle.roman_parts.specs.Parts.{target_of};
@@ -17,7 +17,7 @@ use serde_json::Value;
 use std::alloc::Global;
 
 #[tactic(auto, unfolding(crate::specs::Documents::environment_in, crate::specs::Documents::part_of))]
-/// The environment of a document.
+/// Loads the environment of a document.
 pub(crate) fn load_environment<F: Shelf>(
     alloc: Global,
     shelf: &mut F,
@@ -42,7 +42,7 @@ pub(crate) fn load_environment<F: Shelf>(
 }
 
 #[tactic(auto, unfolding(crate::specs::Documents::target_in, crate::specs::Documents::part_of))]
-/// The target of a document.
+/// Loads the target of a document.
 pub(crate) fn load_target<F: Shelf>(
     alloc: Global,
     shelf: &mut F,
@@ -72,7 +72,7 @@ pub(crate) fn load_target<F: Shelf>(
     }
 }
 
-/// A target over that environment.
+/// Reads a target over the environment.
 pub(crate) fn target_over(
     alloc: Global,
     v: &Value,

@@ -1,4 +1,4 @@
-//! The readings of parts, as they stand in a document.
+//! Refusals of parts, with their document and part.
 ghost use Rattle.roman_library.specs.Refusals.{Places, PlacesError};
 
 use crate::file_name::FileName;
@@ -6,7 +6,7 @@ use crate::refusal::{LoadError, Part, Refusal};
 use roman_parts::PartError;
 use std::alloc::Global;
 
-/// What was read of a part, or its refusal with the document and the part in which it stands.
+/// Returns the value that was read, or the refusal with its document and part.
 pub(crate) fn placed<T>(
     alloc: Global,
     document: &str,
@@ -21,7 +21,7 @@ pub(crate) fn placed<T>(
     }
 }
 
-/// A refusal in its place.
+/// Returns the refusal with its document and part.
 fn place(alloc: Global, document: &str, part: Part, error: PartError) -> LoadError
     ensures { PlacesError document.now part error result }
 {

@@ -19,30 +19,30 @@ pub enum Part {
     Behaviour(u32),
     /// The service with this number, from 0.
     Service(u32),
-    /// The target with this number, from 0; 0 also where there is only one.
+    /// The target with this number, from 0. The number is 0 also where there is only one target.
     Target(u32),
-    /// The costs that advice goes by, which stand in a text of their own.
+    /// The costs for advice, which are in a text of their own.
     Costs,
 }
 
-/// The first rule that a document breaks, and where. A refusal line tells it.
+/// The first rule that a document breaks, and the place where it does. A refusal line reports it.
 #[derive(Debug, Drop)]
 pub struct Refusal {
-    /// The name of the document, or of the part file, in which the rule is broken.
+    /// The name of the document or the part file that breaks the rule.
     pub document: FileName,
-    /// The rule.
+    /// The broken rule.
     pub kind: Kind,
-    /// The part in which it is broken.
+    /// The part that breaks the rule.
     pub part: Part,
     /// The member or list of that part.
     pub list: List,
-    /// The number of the item in that list, from 0; 0 also for the list as a whole, and for a
-    /// member that is no list. A broken rule on combined targets has its own number there, from 1
-    /// to 4.
+    /// The number of the item in that list, from 0. It is 0 also for the list as a whole, and for a
+    /// member that isn't a list. For a broken rule on combined targets it is the number of the rule,
+    /// from 1 to 4.
     pub index: u32,
 }
 
-/// Why a document gives no library.
+/// Why a document wasn't loaded.
 #[derive(Debug, Drop, Error)]
 pub enum LoadError {
     /// The shelf failed.
@@ -51,7 +51,7 @@ pub enum LoadError {
     /// The document breaks a rule.
     #[error("a rule of documents is broken")]
     Refused(Refusal),
-    /// There is no memory.
+    /// Out of memory.
     #[error("there is no memory")]
     Memory,
 }

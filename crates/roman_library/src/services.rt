@@ -21,7 +21,7 @@ use serde_json::Value;
 use std::alloc::Global;
 
 #[tactic(auto, unfolding(crate::specs::Documents::services_of))]
-/// The services of a document.
+/// Reads the services of a document.
 pub(crate) fn read_services(
     alloc: Global,
     document: &str,
@@ -40,7 +40,7 @@ pub(crate) fn read_services(
     read_items(alloc, document, items, version, catalogue)
 }
 
-/// The services that the items of a list are.
+/// Reads the services in the items of a list.
 fn read_items(
     alloc: Global,
     document: &str,
@@ -66,7 +66,7 @@ fn read_items(
     Ok(services)
 }
 
-/// One service, in its place.
+/// Reads one service. A refusal names its place.
 fn service_at(
     alloc: Global,
     document: &str,
@@ -88,7 +88,7 @@ fn service_at(
 }
 
 #[tactic(auto, unfolding(crate::specs::Documents::behaviour_place, roman_parts::specs::Lists::place_in))]
-/// The place of a service's behaviour.
+/// Returns the place of a service's behaviour in the catalogue.
 fn read_behaviour_place(v: &Value, catalogue: &[Behaviour]) -> Result<u8, PartError>
     requires { length catalogue.now ≤ MAX_BEHAVIOURS }
     ensures place { Gives (λ x. x) result (behaviour_place catalogue.now (view v.now)) }
@@ -103,7 +103,7 @@ fn read_behaviour_place(v: &Value, catalogue: &[Behaviour]) -> Result<u8, PartEr
 }
 
 #[tactic(auto, unfolding(crate::specs::Documents::state_of))]
-/// A service's state.
+/// Reads the state of a service, or returns the start state of its behaviour where none is named.
 fn read_state(v: &Value, behaviour: &Behaviour) -> Result<u8, PartError>
     ensures state { Gives (λ x. x) result (state_of behaviour.now (view v.now)) }
     ensures within { IfOk result (λ state. state < behaviour.now.beh.states) }
@@ -115,7 +115,7 @@ fn read_state(v: &Value, behaviour: &Behaviour) -> Result<u8, PartError>
 }
 
 #[tactic(auto, unfolding(crate::specs::Documents::frozen_of))]
-/// Whether a service is frozen.
+/// Reads whether a service is frozen, which by default it isn't.
 fn read_frozen(v: &Value) -> Result<bool, PartError>
     ensures { Gives (λ x. x) result (frozen_of (view v.now)) }
 {
@@ -126,7 +126,7 @@ fn read_frozen(v: &Value) -> Result<bool, PartError>
 }
 
 #[tactic(auto, unfolding(crate::specs::Documents::rests_of))]
-/// Whether a service rests.
+/// Reads whether a service rests, which by default it does. In version 1 every service rests.
 fn read_rests(v: &Value, version: u64) -> Result<bool, PartError>
     ensures { Gives (λ x. x) result (rests_of version (view v.now)) }
 {
@@ -140,7 +140,7 @@ fn read_rests(v: &Value, version: u64) -> Result<bool, PartError>
 }
 
 #[tactic(auto, unfolding(crate::specs::Documents::new_name_of, crate::specs::Documents::service_of))]
-/// One service, behind those before it.
+/// Reads one service after the given ones.
 fn read_service(
     v: &Value,
     version: u64,

@@ -22,18 +22,18 @@ use roman_read::Kind;
 use serde_json::Value;
 use std::alloc::Global;
 
-/// The fewest targets of a document that has several.
+/// The least number of targets in a document with several targets.
 const FEWEST: u32 = 2;
 
-/// The most targets of a document that has several.
+/// The greatest number of targets in a document with several targets.
 const MOST: u32 = 4;
 
-/// The version whose documents have several targets.
+/// The version of documents with several targets.
 const SEVERAL: u64 = 3;
 
 #[tactic(auto, unfolding(crate::specs::Documents::parts_in))]
-/// The environment, the catalogue and the target of a document: as they stand, or in the version of
-/// several targets those that combine them.
+/// Loads the environment, the catalogue and the target of a document. In the version with several
+/// targets these are the parts that combine them.
 pub(crate) fn load_parts<F: Shelf>(
     alloc: Global,
     shelf: &mut F,
@@ -65,7 +65,7 @@ pub(crate) fn load_parts<F: Shelf>(
 }
 
 #[tactic(auto, unfolding(crate::specs::Documents::targets_in))]
-/// The targets of a document.
+/// Loads the targets of a document.
 fn load_targets<F: Shelf>(
     alloc: Global,
     shelf: &mut F,
@@ -102,7 +102,7 @@ impl Listed for Named {
     }
 
     #[tactic(auto, unfolding(crate::specs::Documents::new_name_of, crate::specs::Documents::named_target_of))]
-    /// A target, whose name is tried against those before it and then the rest.
+    /// Reads a target after the given ones. Checks first that its name is new.
     fn read_after(
         alloc: Global,
         v: &Value,
@@ -121,7 +121,7 @@ impl Listed for Named {
     }
 }
 
-/// The targets as one, with the environment and the catalogue over its actions.
+/// Combines the targets into one, with the environment and the catalogue over its actions.
 fn combine_targets(
     alloc: Global,
     environment: &Environment,
@@ -141,7 +141,7 @@ fn combine_targets(
     }
 }
 
-/// The rule on combined states and actions that is broken.
+/// Returns the refusal for a broken rule on combined states and actions.
 fn broken_rule(error: CombineError) -> PartError
     ensures { result ≡ broken_rule error }
 {

@@ -1,4 +1,4 @@
-//! The JSON value of a text on a shelf.
+//! The JSON values of texts on a shelf.
 ghost use Rattle.std.specs.Prelude.{◌≡◌};
 ghost use Rattle.roman_library.specs.Texts.{Caused, IsTextOf, IsValueOf, doc_error_number};
 
@@ -9,7 +9,7 @@ use serde_json::Value;
 use std::alloc::{AllocError, Global};
 use thiserror::Error;
 
-/// Why a text on a shelf gives no JSON value.
+/// Why a text on a shelf gave no JSON value.
 #[derive(Clone, Copy, Debug, PartialEq, Eq, Error)]
 pub enum DocError {
     /// The shelf failed.
@@ -18,16 +18,16 @@ pub enum DocError {
     /// The text has more than [`MAX_DOCUMENT_BYTES`] bytes.
     #[error("the text has too many bytes")]
     TooLong,
-    /// The text is no JSON value.
+    /// The text isn't a JSON value.
     #[error("the text is no JSON value")]
     NotJson,
-    /// There is no memory.
+    /// Out of memory.
     #[error("there is no memory")]
     Memory,
 }
 
 impl DocError {
-    /// The error's number, from 1 to 4 in the order of the variants.
+    /// Returns the number of the error, from 1 to 4 in the order of the variants.
     pub fn number(&self) -> u8
         ensures number { result ≡ doc_error_number self.now }
     {
@@ -50,12 +50,12 @@ impl From<AllocError> for DocError {
     }
 }
 
-/// The JSON value (RFC 8259) of the text of that name, which is fetched in pieces of 4,096 bytes, to
-/// its end or to the first bytes past the greatest number that a document may have.
+/// Returns the JSON value (RFC 8259) of the text with this name. Fetches the text in pieces of 4,096
+/// bytes, to its end or just past the greatest size of a document.
 ///
-/// `Fault` comes only where the shelf failed, and its count of faults rose; `TooLong` exactly where the
-/// text gave byte 1,048,577; `NotJson` exactly where it was read to its end and `serde_json` reads no
-/// value from it; `Memory` only where there is none.
+/// Fails with `Fault` only where the shelf failed and its count of faults rose, with `TooLong`
+/// exactly where the text gave byte 1,048,577, with `NotJson` exactly where it was read to its end
+/// and `serde_json` reads no value from it, and with `Memory` only when out of memory.
 pub fn document<F: Shelf>(alloc: Global, shelf: &mut F, name: &str) -> Result<Value, DocError>
     ensures value { IsValueOf (F.texts shelf.old) name.now result }
     ensures texts { F.texts shelf.new ≡ F.texts shelf.old }
@@ -69,7 +69,7 @@ pub fn document<F: Shelf>(alloc: Global, shelf: &mut F, name: &str) -> Result<Va
     }
 }
 
-/// The bytes of the text of that name.
+/// Returns the bytes of the text with this name.
 fn whole_text<F: Shelf>(alloc: Global, shelf: &mut F, name: &str) -> Result<Vec<u8>, DocError>
     ensures text { IsTextOf (F.texts shelf.old) name.now result }
     ensures texts { F.texts shelf.new ≡ F.texts shelf.old }

@@ -1,4 +1,4 @@
--- A part that is loaded goes behind those before it, and one that isn't stops them all.
+-- A part that is loaded is appended to those before it, and a part that isn't gives the result of all parts.
 use Rattle.std.proofs.Common.{◌≡◌, Option, IfSome, Ok, subst, sym, arith, rules}
 use Rattle.std.proofs.lemmas.Result.{err_from_is_err_and}
 use Rattle.serde_json.specs.View.{view}

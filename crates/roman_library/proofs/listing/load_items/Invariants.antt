@@ -1,4 +1,4 @@
--- The parts so far are known and as many as the items so far, what is left gives what all items give, and the shelf is as before.
+-- The parts so far are known and as many as the items so far, the remaining items give the result of all items, and the shelf is as before.
 use Rattle.std.proofs.Common.{◌≡◌, length}
 use Rattle.roman_library.specs.Documents.{listed_step}
 use Rattle.roman_library.proofs.StepLemmas.{PartsLeft}

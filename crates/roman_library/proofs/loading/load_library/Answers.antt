@@ -1,4 +1,4 @@
--- What stops a part's reading stops that of the document.
+-- The refusal of a part is the refusal of the document.
 use Rattle.std.proofs.Common.{◌≡◌, ◌<◌, ◌≤◌, ◌∙◌, ℕ, List, Option, IfSome, Ok, length, subst, sym, rules}
 use Rattle.std.proofs.lemmas.Result.{err_from_is_err_and}
 use Rattle.serde_json.specs.View.{view}

@@ -1,4 +1,4 @@
--- The place among the behaviours is that among their names.
+-- The place among the behaviours is the place among their names.
 use Rattle.std.proofs.Common.{rules, tests, sym, ◌∙◌}
 use Rattle.std.specs.Str.{bytes_eq}
 use Rattle.std.proofs.lemmas.Iterator.{YieldsList-from_slice}

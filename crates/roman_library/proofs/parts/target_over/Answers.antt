@@ -1,4 +1,4 @@
--- A target that is read is over its environment.
+-- A target that was read is over its environment.
 use Rattle.serde_json.specs.View.{view}
 use Rattle.roman_library.proofs.LibraryLemmas.{target_is_over}
 use Rattle.roman_library.proofs.parts.target_over.Goals as goal

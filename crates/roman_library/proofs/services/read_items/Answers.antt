@@ -1,4 +1,4 @@
--- A service that is read goes behind those before it, and one that isn't stops them all.
+-- A service that is read is appended to those before it, and a service that isn't gives the result of all services.
 use Rattle.std.proofs.Common.{◌≡◌, List, Ok, subst, arith, rules}
 use Rattle.std.proofs.lemmas.Result.{err_from_is_err_and}
 use Rattle.serde_json.specs.View.{view}

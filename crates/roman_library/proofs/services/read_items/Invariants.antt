@@ -1,4 +1,4 @@
--- The services so far are known and as many as the items so far, and what is left gives what all items give.
+-- The services so far are known and as many as the items so far, and the remaining items give the result of all items.
 use Rattle.std.proofs.Common.{◌≡◌, length}
 use Rattle.roman_library.specs.Library.{AreServices}
 use Rattle.roman_library.proofs.StepLemmas.{ServicesLeft}

@@ -1,4 +1,4 @@
--- A behaviour has few states.
+-- A behaviour has at most 64 states.
 use Rattle.std.proofs.Common.{◌≡◌, ℕ, List, length, arith, ap}
 use Rattle.roman_parts.proofs.CallerLemmas.{IsOver-states}
 use Rattle.roman_library.proofs.services.read_state.Goals as goal

@@ -1,4 +1,4 @@
--- What is combined is a library's, and an error is the rule that is broken.
+-- The combined parts are those of a library, and an error is the broken rule.
 use Rattle.std.proofs.Common.{sym, subst}
 use Rattle.roman_parts.specs.Reading.{Fails}
 use Rattle.roman_parts.specs.declared.error.PartError.{PartError}

@@ -1,4 +1,4 @@
--- A behaviour that is read is over its environment, and has the name that was tried: it goes behind those before it.
+-- A behaviour that is read is over its environment and has the name that was checked, so it can be appended to those before it.
 use Rattle.std.proofs.Common.{◌≡◌, ◌∷◌, ◌++◌, [], map, refl, rules, None}
 use Rattle.serde_json.specs.View.{view}
 use Rattle.roman_read.specs.Names.{place_of}

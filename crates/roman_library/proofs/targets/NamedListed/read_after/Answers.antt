@@ -1,4 +1,4 @@
--- A target that is read goes behind those before it.
+-- A target that is read is appended to those before it.
 use Rattle.std.proofs.lemmas.List.Elements.{All-push}
 use Rattle.roman_multi.specs.declared.parts.Named.{Named}
 use Rattle.roman_parts.specs.Named.{IsTarget}
