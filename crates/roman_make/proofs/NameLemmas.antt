@@ -1,4 +1,4 @@
--- Words that are numbered as names, one after another.
+-- Words that are numbered as names, one by one.
 use Rattle.std.proofs.Common.{◌≡◌, ℕ, ◌+◌, ◌<◌, ◌&&◌, ◌++◌, ◌∷◌, [], List, length, get_or, take, drop, map, None, IsTrue, Bor, is_none, refl, ap, sym, ◌∙◌, subst, add-one, drop-cons}
 use Rattle.std.proofs.lemmas.Bool.{and_parts}
 use Rattle.std.proofs.lemmas.List.{take_more, get_or-map, length-map, length_push}
@@ -6,7 +6,7 @@ use Rattle.roman_read.specs.Names.{is_name, place_of}
 use Rattle.roman_parts.proofs.CallerLemmas.{none_is}
 use Rattle.roman_make.specs.Names.{are_new}
 
--- the word is a name, no word before it is the same, and those behind it go on
+-- the word is a name and differs from each word before it, and the words after it are new too
 pub record IsNext (before : List (List ℕ)) (word : List ℕ) (rest : List (List ℕ)) : Type 0 where
   pub name : IsTrue (is_name word)
   pub new : place_of before word ≡ None
@@ -18,17 +18,17 @@ next_word before word rest new =
     let first = and_parts (is_name word) (is_none (place_of before word)) parts.0 in
     record { name = first.0; new = none_is (place_of before word) first.1; further = parts.1 }
 
--- the words behind their references
+-- the words from their references
 abbrev pub shown : List (Bor (List ℕ)) → List (List ℕ)
 shown words = map (λ word. word.now) words
 
--- the first i words are numbered, and those behind them are new
+-- the first i words are numbered, and the words after them are new
 pub record AreNumbered (words : List (Bor (List ℕ))) (i : ℕ) (names : List (List ℕ)) : Type 0 where
   pub count : length names ≡ i
   pub first : names ≡ take i (shown words)
   pub further : IsTrue (are_new names (drop i (shown words)))
 
--- the next one
+-- the next word is new
 pub next_numbered : (words : List (Bor (List ℕ))) (d : Bor (List ℕ)) (i : ℕ) (names : List (List ℕ)) → d.now ≡ [] → i < length words → AreNumbered words i names
     → IsNext names (get_or words i d).now (drop (i + 1) (shown words))
 next_numbered words d i names none less old =
@@ -37,7 +37,7 @@ next_numbered words d i names none less old =
     let split : drop i (shown words) ≡ get_or (shown words) i [] ∷ drop (i + 1) (shown words) = rw (add-one, drop-cons (shown words) i []) refl in
     next_word names (get_or words i d).now (drop (i + 1) (shown words)) (subst (λ xs. IsTrue (are_new names xs)) (split ∙ ap (λ x. x ∷ drop (i + 1) (shown words)) is) old.further)
 
--- it is numbered
+-- the next word is numbered
 pub numbers_next : (words : List (Bor (List ℕ))) (d : Bor (List ℕ)) (i : ℕ) (names after : List (List ℕ)) → d.now ≡ [] → i < length words → AreNumbered words i names
     → after ≡ names ++ (get_or words i d).now ∷ [] → AreNumbered words (i + 1) after
 numbers_next words d i names after none less old made =

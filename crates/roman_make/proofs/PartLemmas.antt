@@ -1,4 +1,4 @@
--- The parts that are made are those of the definitions.
+-- The parts that are made are the parts of the definitions.
 use Rattle.std.proofs.Common.{◌≡◌, ℕ, ◌<◌, ◌==◌, ◌&&◌, ◌∷◌, [], List, length, get_or, map, take, Bor, Bool, true, IsTrue, nat_lt, codes, refl, ap, sym, ◌∙◌, subst, inl, inr}
 use Rattle.std.specs.List.{list_all, AllByRecursion as ByRecursion}
 use Rattle.std.proofs.lemmas.Bool.{and_parts, eqb-true, ltb-true}
@@ -21,7 +21,7 @@ use Rattle.roman_make.specs.declared.tables.TheConstants.{FLOOR_STEPS, WORKER_ST
 env_path : {a b : NamedEnv} → a.states ≡ b.states → a.actions ≡ b.actions → a.env ≡ b.env → a ≡ b
 env_path s a e = λ i. record { states = s i; actions = a i; env = e i }
 
--- the environment of the tables is the floor
+-- the environment from the tables is the floor
 pub floor_is : (made : NamedEnv) (states actions : List (List ℕ)) → states ≡ floor_states → actions ≡ floor_actions → (made.states ≡ states) × (made.actions ≡ actions)
     → made.env ≡ normal_env (listed_env (length states) (length actions) 0 FLOOR_STEPS) → made ≡ floor
 unfolding floor
@@ -31,7 +31,7 @@ floor_is made states actions s a (ms, ma) normal =
 
 -- ---- the steps of machines
 
--- the steps of a table, each in every state of the environment
+-- the steps of a table, each with the guard of every environment state
 abbrev pub always : List (ℕ × ℕ × ℕ) → List (ℕ × ℕ × ℕ × ℕ)
 always rows = map (λ row. (row.0, 1, row.1, row.2)) rows
 
@@ -39,7 +39,7 @@ always rows = map (λ row. (row.0, 1, row.1, row.2)) rows
 abbrev is_within : ℕ → ℕ × ℕ × ℕ × ℕ → Bool
 is_within states m = nat_lt m.0 states && nat_lt m.2 5 && nat_lt m.3 states
 
--- so they are for each step
+-- the numbers of each step are in range
 within_all : (states : ℕ) (steps : List (ℕ × ℕ × ℕ × ℕ)) → list_all (is_within states) steps ≡ true → AreMoves states 5 steps
 within_all states steps t = All-from_recursion (λ m. (m.0 < states) × (m.2 < 5) × (m.3 < states)) steps (each steps t)
   where
@@ -51,13 +51,13 @@ within_all states steps t = All-from_recursion (λ m. (m.0 < states) × (m.2 < 5
         let (from, action) = and_parts (nat_lt m.0 states) (nat_lt m.2 5) ends in
         ((ltb-true m.0 states from, ltb-true m.2 5 action, ltb-true m.3 states to), each ms rest)
 
--- a fact that holds of each
+-- a property of all elements holds of each
 each_in : (p : Move → Bool) (ms : List Move) (m : Move) → list_all p ms ≡ true → IsIn m ms → p m ≡ true
 each_in p [] m t i = absurd i
 each_in p (x ∷ xs) m t (inl e) = subst (λ y. p y ≡ true) (sym e) (and_parts (p x) (list_all p xs) t).0
 each_in p (x ∷ xs) m t (inr i) = each_in p xs m (and_parts (p x) (list_all p xs) t).1 i
 
--- the behaviour over the floor that a table gives
+-- the behaviour over the floor from a table
 over_floor : (env : NamedEnv) (states : List (List ℕ)) (finals : List ℕ) (steps rows : List (ℕ × ℕ × ℕ × ℕ)) (n : ℕ) → env ≡ floor → length states ≡ n → steps ≡ rows
     → normal_beh env.env.states env.env.actions (listed_beh (length states) 0 finals steps) ≡ normal_beh 1 5 (listed_beh n 0 finals rows)
 unfolding floor
@@ -68,7 +68,7 @@ over_floor env states finals steps rows n e l r = rw (e, l, r) refl
 beh_path : {a b : NamedBeh} → a.name ≡ b.name → a.states ≡ b.states → a.env_states ≡ b.env_states → a.actions ≡ b.actions → a.beh ≡ b.beh → a ≡ b
 beh_path n s e a x = λ i. record { name = n i; states = s i; env_states = e i; actions = a i; beh = x i }
 
--- its steps are in range
+-- the steps of the worker are in range
 pub worker_moves : (env : NamedEnv) (states : List (List ℕ)) (steps : List (ℕ × ℕ × ℕ × ℕ)) → env ≡ floor → states ≡ worker_states → steps ≡ always WORKER_STEPS
     → AreMoves (length states) env.env.actions steps
 unfolding floor
@@ -78,7 +78,7 @@ worker_beh : normal_beh 1 5 (listed_beh 3 0 (0 ∷ 2 ∷ []) (always WORKER_STEP
 unfolding worker states_below
 worker_beh = refl
 
--- the behaviour of the tables is the worker
+-- the behaviour from the tables is the worker
 pub worker_is : (made : NamedBeh) (env : NamedEnv) (name : List ℕ) (states : List (List ℕ)) (steps : List (ℕ × ℕ × ℕ × ℕ))
     → env ≡ floor → name ≡ codes "worker" → states ≡ worker_states → steps ≡ always WORKER_STEPS → (made.name ≡ name) × (made.states ≡ states)
     → (made.env_states ≡ env.env.states) × (made.actions ≡ env.env.actions) → made.beh ≡ normal_beh env.env.states env.env.actions (listed_beh (length states) 0 (0 ∷ 2 ∷ []) steps)
@@ -93,13 +93,13 @@ worker_is made env name states steps e n s rows (named, listed) (env_states, act
 target_path : {a b : NamedTarget} → a.states ≡ b.states → a.env_states ≡ b.env_states → a.actions ≡ b.actions → a.beh ≡ b.beh → a ≡ b
 target_path s e a x = λ i. record { states = s i; env_states = e i; actions = a i; beh = x i }
 
--- its steps are in range
+-- the steps of the shift are in range
 pub shift_moves : (env : NamedEnv) (states : List (List ℕ)) (steps : List (ℕ × ℕ × ℕ × ℕ)) → env ≡ floor → states ≡ shift_states → steps ≡ always SHIFT_STEPS
     → AreMoves (length states) env.env.actions steps
 unfolding floor
 shift_moves env states steps e s made = rw (e, s, made) (within_all 4 (always SHIFT_STEPS) refl)
 
--- the states to which its actions lead, by the action
+-- the state to which each action of the shift leads
 abbrev shift_to : ℕ → ℕ
 shift_to a = get_or (1 ∷ 2 ∷ 0 ∷ 3 ∷ 1 ∷ []) a 0
 
@@ -110,7 +110,7 @@ one_to beh b e a b' all t =
     let (from, action, guard, to) = move_test m b e a b' test in
     sym to ∙ eqb-true m.to (shift_to m.action) (each_in (λ x. x.to == shift_to x.action) beh.steps m all m_in) ∙ ap shift_to action
 
--- it leaves no choice, since each of its actions leads to one state
+-- the shift is deterministic, since each of its actions leads to one state
 pub shift_single : (env : NamedEnv) (states : List (List ℕ)) (steps : List (ℕ × ℕ × ℕ × ℕ)) → env ≡ floor → states ≡ shift_states → steps ≡ always SHIFT_STEPS
     → IsDeterministic (normal_beh env.env.states env.env.actions (listed_beh (length states) 0 (0 ∷ []) steps))
 shift_single env states steps e s rows =
@@ -123,7 +123,7 @@ shift_beh : normal_beh 1 5 (listed_beh 4 0 (0 ∷ []) (always SHIFT_STEPS)) ≡ 
 unfolding shift states_below
 shift_beh = refl
 
--- the target of the tables is the shift
+-- the target from the tables is the shift
 pub shift_is : (made : NamedTarget) (env : NamedEnv) (states : List (List ℕ)) (steps : List (ℕ × ℕ × ℕ × ℕ)) → env ≡ floor → states ≡ shift_states → steps ≡ always SHIFT_STEPS
     → made.states ≡ states → (made.env_states ≡ env.env.states) × (made.actions ≡ env.env.actions)
     → made.beh ≡ normal_beh env.env.states env.env.actions (listed_beh (length states) 0 (0 ∷ []) steps) → made ≡ shift
@@ -134,7 +134,7 @@ shift_is made env states steps e s rows listed (env_states, actions) normal =
 
 -- ---- the services
 
--- workers whose names lie behind references
+-- workers with names from references
 pub taken : (n : ℕ) (words : List (Bor (List ℕ))) (names : List (List ℕ)) → map (λ word. word.now) words ≡ names
     → map (λ word. idle_worker word.now) (take n words) ≡ map idle_worker (take n names)
 taken n words names e = rw (← e, take-map (λ (word : Bor (List ℕ)). word.now) n words, map-map) refl

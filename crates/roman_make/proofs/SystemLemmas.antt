@@ -1,4 +1,4 @@
--- The library that is made is the one of the definition, and is a library.
+-- The library that is made is the library of the definition, and is well formed.
 use Rattle.std.proofs.Common.{◌≡◌, ℕ, zero, suc, ◌≤◌, ◌∷◌, [], List, length, map, take, sym, subst, inl, inr, lit<, lit≤, arith}
 use Rattle.std.proofs.lemmas.List.{length-map, length-take-le}
 use Rattle.std.proofs.lemmas.List.Elements.{All-cons, All-map}
@@ -10,9 +10,9 @@ use Rattle.roman_parts.specs.Named.{NamedEnv, NamedBeh, NamedTarget, IsBehaviour
 use Rattle.roman_library.specs.Library.{PlainLibrary, IsLibrary, AreServices, IsService, service_name}
 use Rattle.roman_make.specs.Made.{number_in, floor, worker, worker_names, idle_worker, shift, made}
 
--- ---- names that don't repeat
+-- ---- distinct names
 
--- numbers of names don't repeat, so the names don't
+-- names are distinct where their numbers are
 once_from_map : {X Y : Type 0} (f : X → Y) (xs : List X) → HasNoRepeats (map f xs) → HasNoRepeats xs
 once_from_map f [] once = tt
 once_from_map f (x ∷ xs) once = (λ i. once.0 (in_map f x xs i), once_from_map f xs once.1)
@@ -28,7 +28,7 @@ once_in_front zero xs once = tt
 once_in_front (suc n) [] once = tt
 once_in_front (suc n) (x ∷ xs) once = (λ i. once.0 (in_take n x xs i), once_in_front n xs once.1)
 
--- the workers' names don't repeat
+-- the names of the workers are distinct
 workers_once : HasNoRepeats worker_names
 workers_once = once_from_map (number_in worker_names) worker_names (HasNoRepeats-below 10)
 
@@ -37,7 +37,7 @@ workers_once = once_from_map (number_in worker_names) worker_names (HasNoRepeats
 library_path : {a b : PlainLibrary} → a.environment ≡ b.environment → a.catalogue ≡ b.catalogue → a.services ≡ b.services → a.target ≡ b.target → a.limit ≡ b.limit → a ≡ b
 library_path e c s t l = λ i. record { environment = e i; catalogue = c i; services = s i; target = t i; limit = l i }
 
--- the parts that are made are the library's
+-- the parts that are made are the parts of the library
 pub library_is : (made_library : PlainLibrary) (n : ℕ) → made_library.environment ≡ floor → made_library.catalogue ≡ worker ∷ [] → made_library.services ≡ map idle_worker (take n worker_names)
     → made_library.target ≡ shift → made_library.limit ≡ 4_194_304 → made_library ≡ made n
 unfolding made
@@ -53,7 +53,7 @@ are_services n = record {
   names = rw map-map (HasNoRepeats-map (λ name. service_name (idle_worker name)) (take n worker_names) (λ x y i j same. same) (once_in_front n worker_names workers_once));
 }
 
--- the library of the definition is one
+-- the library of the definition is well formed
 pub made_is_library : (n : ℕ) → n ≤ 10 → IsEnv floor.env → IsBehaviour floor worker → IsTarget floor shift → IsLibrary (made n)
 unfolding made
 made_is_library n few env behaviour target = record {
@@ -66,7 +66,7 @@ made_is_library n few env behaviour target = record {
   limit = (lit< tt, lit≤ tt);
 }
 
--- so is the library that is made
+-- the library that is made is well formed
 pub library_known : (made_library : PlainLibrary) (n : ℕ) (env : NamedEnv) (beh : NamedBeh) (target : NamedTarget) → made_library ≡ made n → n ≤ 10
     → env ≡ floor → IsEnv env.env → beh ≡ worker → IsBehaviour floor beh → target ≡ shift → IsTarget floor target → IsLibrary made_library
 library_known made_library n env beh target is few e env_known b beh_known t target_known =

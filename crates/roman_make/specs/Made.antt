@@ -1,4 +1,4 @@
--- The made systems: workers, who wear out and are mended, and a target that asks for one worker's shift.
+-- The made systems: workers, who wear out and are mended, and a target that requests the shift of one worker.
 use Rattle.std.specs.Prelude.{ℕ, ◌∷◌, [], List, length, map, take, unwrap_or, codes, true, false}
 use Rattle.roman_model.specs.Lists.{below}
 use Rattle.roman_model.specs.Normal.{normal_env, normal_beh}
@@ -8,17 +8,17 @@ use Rattle.roman_read.specs.Names.{place_of}
 use Rattle.roman_library.specs.Library.{PlainLibrary}
 use Rattle.roman_library.specs.declared.library.Service.{Service}
 
--- the number of a name is its place among the names; of a name that isn't there it is out of range
+-- the place of the name among the names, or a number out of range where it isn't one of them
 abbrev pub number_in : List (List ℕ) → List ℕ → ℕ
 number_in names name = unwrap_or (place_of names name) (length names)
 
--- a transition as the tables list it: from a state, by an action, to a state
+-- a transition of a table: from a state, by an action, to a state
 abbrev pub Row : Type 0
 Row = List ℕ × List ℕ × List ℕ
 
 -- ---- the environment
 
--- the name of the one state
+-- the name of the only state
 abbrev pub floor_states : List (List ℕ)
 floor_states = codes "floor" ∷ []
 
@@ -26,11 +26,11 @@ floor_states = codes "floor" ∷ []
 abbrev pub floor_actions : List (List ℕ)
 floor_actions = codes "start" ∷ codes "stop" ∷ codes "mend" ∷ codes "hold" ∷ codes "go" ∷ []
 
--- an action that leads from the floor to the floor
+-- a transition by the action from the floor to the floor
 abbrev pub loop : ℕ → Triple
 loop action = record { from = 0; action = action; to = 0 }
 
--- one state, with a loop on each action
+-- the environment: one state, with a loop on each action
 unfoldable pub floor : NamedEnv
 floor = record {
   states = floor_states;
@@ -38,7 +38,7 @@ floor = record {
   env = normal_env (record { states = 1; actions = 5; start = 0; triples = map loop (below 5) });
 }
 
--- a transition of the tables, under the guard that means every state of the environment
+-- a transition of a table as a step, with the guard of every environment state
 abbrev pub move_in : List (List ℕ) → Row → Move
 move_in states row = record {
   from = number_in states row.0;
@@ -47,7 +47,7 @@ move_in states row = record {
   to = number_in states row.2;
 }
 
--- a behaviour over the floor: its states, of which the first is the start, the final ones, and its transitions
+-- a behaviour over the floor with its states, the first of which is the start, its final states and its transitions
 abbrev pub machine : List (List ℕ) → List (List ℕ) → List Row → Beh
 machine states finals rows = normal_beh 1 5 (record {
   states = length states;
@@ -62,7 +62,7 @@ machine states finals rows = normal_beh 1 5 (record {
 abbrev pub worker_states : List (List ℕ)
 worker_states = codes "idle" ∷ codes "busy" ∷ codes "worn" ∷ []
 
--- a worker that is stopped may be idle or worn
+-- the transitions of a worker, who may be idle or worn when stopped
 abbrev pub worker_rows : List Row
 worker_rows =
     (codes "idle", codes "start", codes "busy") ∷
@@ -74,7 +74,7 @@ worker_rows =
     (codes "idle", codes "mend", codes "idle") ∷
     []
 
--- the one behaviour of the catalogue
+-- the only behaviour of the catalogue
 unfoldable pub worker : NamedBeh
 worker = record {
   name = codes "worker";
@@ -99,7 +99,7 @@ idle_worker name = record { name = name; behaviour = 0; state = 0; frozen = fals
 abbrev pub shift_states : List (List ℕ)
 shift_states = codes "rest" ∷ codes "work" ∷ codes "tidy" ∷ codes "pause" ∷ []
 
--- a shift starts, may pause, stops, and is tidied up
+-- the transitions of the target: a shift starts, may pause, stops, and is tidied up
 abbrev pub shift_rows : List Row
 shift_rows =
     (codes "rest", codes "start", codes "work") ∷
@@ -109,7 +109,7 @@ shift_rows =
     (codes "pause", codes "go", codes "work") ∷
     []
 
--- the shift of one worker
+-- the target: the shift of one worker
 unfoldable pub shift : NamedTarget
 shift = record {
   states = shift_states;

@@ -1,4 +1,4 @@
-//! Why no system is made.
+//! The errors of making systems.
 ghost use Rattle.std.specs.Prelude.{◌≡◌};
 ghost use Rattle.roman_make.specs.Errors.{make_error_number};
 ghost use Rattle.roman_make.specs.declared.error.MakeError.TheVariants.{Memory};
@@ -6,19 +6,19 @@ ghost use Rattle.roman_make.specs.declared.error.MakeError.TheVariants.{Memory};
 use std::alloc::{AllocError, AllocFailed};
 use thiserror::Error;
 
-/// Why no system is made.
+/// Why a system wasn't made.
 #[derive(Clone, Copy, Debug, PartialEq, Eq, Error)]
 pub enum MakeError {
     /// The number isn't from 1 to 10.
     #[error("the number isn't 1 to 10")]
     Range,
-    /// There is no memory.
+    /// Out of memory.
     #[error("there is no memory")]
     Memory,
 }
 
 impl MakeError {
-    /// The error's number: 1 for `Range` and 2 for `Memory`.
+    /// Returns the number of the error, 1 for `Range` and 2 for `Memory`.
     pub fn number(&self) -> u8
         ensures number { result ≡ make_error_number self.now }
     {

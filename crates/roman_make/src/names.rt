@@ -6,7 +6,7 @@ ghost use Rattle.roman_make.specs.Names.{are_new};
 use roman_read::{AddError, Name, NameTable};
 use std::alloc::{AllocError, Global};
 
-/// The name with these bytes.
+/// Returns the name with these bytes. Requires bytes that obey the rule of names.
 pub(crate) fn name_of(bytes: &[u8]) -> Name
     requires { IsTrue (is_name bytes.now) }
     ensures { result ≡ bytes.now }
@@ -14,7 +14,7 @@ pub(crate) fn name_of(bytes: &[u8]) -> Name
     Name::new(bytes).unwrap()
 }
 
-/// The names with these bytes, numbered as they stand.
+/// Returns the table of the names with these bytes, in order.
 pub(crate) fn names_of(alloc: Global, words: &[&[u8]]) -> Result<NameTable, AllocError>
     requires few { length words.now ≤ 64 }
     requires new { IsTrue (are_new [] (map (λ word. word.now) words.now)) }
@@ -27,7 +27,7 @@ pub(crate) fn names_of(alloc: Global, words: &[&[u8]]) -> Result<NameTable, Allo
     Ok(names)
 }
 
-/// Adds a name that isn't there.
+/// Adds a name that the table doesn't have. Fails only when out of memory.
 fn add_new(names: &mut NameTable, name: Name) -> Result<(), AllocError>
     requires few { length names.old < 2 ^ 32 - 1 }
     requires new { place_of names.old name ≡ None }

@@ -16,7 +16,7 @@ use roman_library::Service;
 use roman_parts::{Behaviour, Environment, Target};
 use std::alloc::{AllocError, Global};
 
-/// The environment.
+/// Makes the environment.
 pub(crate) fn make_floor(alloc: Global) -> Result<Environment, AllocError>
     ensures floor { IfOk result (λ made. made ≡ floor) }
     ensures known { IfOk result (λ made. IsEnv made.env) }
@@ -31,7 +31,7 @@ pub(crate) fn make_floor(alloc: Global) -> Result<Environment, AllocError>
 /// A step of a machine.
 type Step = (u8, StateSet, u8, u8);
 
-/// The steps, each in every state of the environment.
+/// Returns the steps of the table, each with the guard of every environment state.
 fn steps_of(alloc: Global, rows: &[Row]) -> Result<Vec<Step>, AllocError>
     ensures { IfOk result (λ steps. steps.items ≡ map (λ row. (row.0, 1, row.1, row.2)) rows.now) }
 {
@@ -41,14 +41,14 @@ fn steps_of(alloc: Global, rows: &[Row]) -> Result<Vec<Step>, AllocError>
         .collect(alloc)
 }
 
-/// Every state of the environment: the only one.
+/// Returns the set of all environment states, of which there is one.
 fn every_state() -> StateSet
     ensures { result ≡ 1 }
 {
     StateSet::single(0)
 }
 
-/// The behaviour of a worker.
+/// Makes the behaviour of a worker.
 pub(crate) fn make_worker(alloc: Global, env: &Environment) -> Result<Behaviour, AllocError>
     requires { env.now ≡ floor }
     ensures worker { IfOk result (λ made. made ≡ worker) }
@@ -62,7 +62,7 @@ pub(crate) fn make_worker(alloc: Global, env: &Environment) -> Result<Behaviour,
     Ok(worker)
 }
 
-/// The target.
+/// Makes the target.
 pub(crate) fn make_shift(alloc: Global, env: &Environment) -> Result<Target, AllocError>
     requires { env.now ≡ floor }
     ensures shift { IfOk result (λ made. made ≡ shift) }
@@ -75,7 +75,7 @@ pub(crate) fn make_shift(alloc: Global, env: &Environment) -> Result<Target, All
     Ok(shift)
 }
 
-/// The first `n` workers.
+/// Makes the first `n` workers. Requires `n` at most 10.
 pub(crate) fn make_services(alloc: Global, n: u8) -> Result<Vec<Service>, AllocError>
     requires { n ≤ 10 }
     ensures { IfOk result (λ services. services.items ≡ map idle_worker (take n worker_names)) }
@@ -83,7 +83,7 @@ pub(crate) fn make_services(alloc: Global, n: u8) -> Result<Vec<Service>, AllocE
     idle_workers(alloc, &WORKERS, n)
 }
 
-/// Workers with the first `n` of those names.
+/// Makes workers with the first `n` names.
 fn idle_workers(alloc: Global, names: &[&[u8]], n: u8) -> Result<Vec<Service>, AllocError>
     requires count { n ≤ length names.now }
     requires names { IsTrue (list_all (λ name. is_name name.now) names.now) }
@@ -96,7 +96,7 @@ fn idle_workers(alloc: Global, names: &[&[u8]], n: u8) -> Result<Vec<Service>, A
     Ok(services)
 }
 
-/// A worker that is idle and ready, and rests.
+/// Makes a worker that is idle and ready, and rests.
 fn idle_worker(name: &[u8]) -> Service
     requires { IsTrue (is_name name.now) }
     ensures { result ≡ idle_worker name.now }

@@ -1,4 +1,4 @@
-//! The systems.
+//! Makes the systems.
 ghost use Rattle.std.specs.Prelude.{◌≡◌, ◌<◌, ◌≤◌, ◌⊎◌, ◌↔◌, Err, IfOk};
 ghost use Rattle.roman_library.specs.Library.{IsLibrary, plain};
 ghost use Rattle.roman_make.specs.Made.{made};
@@ -11,11 +11,11 @@ use std::alloc::{AllocError, Global};
 /// The greatest number of workers.
 const MOST: u8 = 10;
 
-/// The limit on cells, which leaves room for ten workers.
+/// The limit on cells, which is enough for ten workers.
 const LIMIT: u32 = 4_194_304;
 
-/// The system with `n` workers, for `n` from 1 to 10. `Range` comes exactly for any other number, and
-/// `Memory` only where there is no memory.
+/// Makes the system with `n` workers, for `n` from 1 to 10. Fails with `Range` exactly for any other
+/// number, and with `Memory` only when out of memory.
 pub fn make(alloc: Global, n: u8) -> Result<Library, MakeError>
     ensures library { IfOk result (λ library. plain library ≡ made n) }
     ensures known { IfOk result (λ library. IsLibrary (plain library)) }
@@ -27,7 +27,7 @@ pub fn make(alloc: Global, n: u8) -> Result<Library, MakeError>
     Ok(make_library(alloc, n)?)
 }
 
-/// The library with the first `n` workers.
+/// Makes the library with the first `n` workers.
 fn make_library(alloc: Global, n: u8) -> Result<Library, AllocError>
     requires { n ≤ 10 }
     ensures library { IfOk result (λ library. plain library ≡ made n) }

@@ -14,7 +14,7 @@ const HOLD: u8 = 3;
 
 const GO: u8 = 4;
 
-// The one state of the environment.
+// The only state of the environment.
 const FLOOR: u8 = 0;
 
 // The states of a worker.
