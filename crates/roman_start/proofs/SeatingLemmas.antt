@@ -1,4 +1,4 @@
--- A library is seated.
+-- The seating of a library.
 use Rattle.std.proofs.Common.{◌≡◌, ℕ, ◌<◌, ◌≤◌, List, vec_capacity, ap₂, ◌∙◌, sym, subst}
 use Rattle.roman_model.specs.System.{IsPair}
 use Rattle.roman_model.specs.Numbers.{sizes_of, count, number}
@@ -10,14 +10,14 @@ use Rattle.roman_start.specs.Seating.{IsSeated}
 use Rattle.roman_start.specs.declared.seating.Seated.{Seated}
 use Rattle.roman_start.proofs.StartLemmas.{start_pair}
 
--- the same of a system and states that are the library's
+-- the start pair, for a system and states that are those of the library
 pub seated_pair : (library : PlainLibrary) (parts : NamedSys) (bs : List ℕ) → IsLibrary library → parts ≡ parts_of library → bs ≡ (start_pair_of library).bs →
     IsPair (system_of parts) (starting parts bs)
 seated_pair library parts bs is same states =
     subst (λ (n : NamedSys). IsPair (system_of n) (starting n bs)) (sym same)
     (subst (λ (bs : List ℕ). IsPair (system_of (parts_of library)) (starting (parts_of library) bs)) (sym states) (start_pair library is))
 
--- the library is seated
+-- the result of seating the library
 pub seated : (library : PlainLibrary) (x : Seated) (bs : List ℕ) → IsLibrary library → x.joint ≡ parts_of library → x.states.items ≡ (start_pair_of library).bs → bs ≡ (start_pair_of library).bs →
     x.start ≡ number (sizes_of (system_of x.joint)) (starting x.joint bs) → x.start < count (sizes_of (system_of x.joint)) → MAX_SERVICES ≤ vec_capacity x.states → IsSeated library x
 seated library x bs is same states given start below room = record {

@@ -1,4 +1,4 @@
--- A library's services take their places, and begin in states of their behaviours.
+-- The services of a library have their seats, and start in states of their behaviours.
 use Rattle.std.proofs.Common.{◌≡◌, ℕ, ◌<◌, List, [], ◌∷◌, Option, Some, IfSome, All, map, length, get_or, slice_get, refl, sym, ap, subst}
 use Rattle.std.specs.List.{AllByRecursion, AllZip}
 use Rattle.std.proofs.lemmas.List.Elements.{All-from_recursion, recursion_from_All}
@@ -12,7 +12,7 @@ use Rattle.roman_library.specs.Library.{PlainLibrary, IsService, IsLibrary, serv
 use Rattle.roman_library.specs.declared.library.Service.{Service}
 use Rattle.roman_start.specs.Starts.{seat_of_service, state_of_service, parts_of, start_pair_of}
 
--- the services' behaviours are those of their places
+-- the behaviours of the services are the behaviours of their seats
 seats_within : (catalogue : List NamedBeh) (services : List Service) → AllByRecursion (IsService catalogue) services →
     AllByRecursion (λ seat. seat.behaviour < length catalogue) (map seat_of_service services)
 seats_within catalogue [] are = tt
@@ -23,7 +23,7 @@ behaviours_within library is =
     All-from_recursion (λ seat. seat.behaviour < length library.catalogue) (map seat_of_service library.services)
     (seats_within library.catalogue library.services (recursion_from_All (IsService library.catalogue) library.services is.services.known))
 
--- and so are their names
+-- the names of the services are the names of their seats
 names_kept : (services : List Service) → map service_name services ≡ map (λ seat. seat.name) (map seat_of_service services)
 names_kept [] = refl
 names_kept (x ∷ xs) = ap (λ (names : List (List ℕ)). x.name ∷ names) (names_kept xs)
@@ -31,7 +31,7 @@ names_kept (x ∷ xs) = ap (λ (names : List (List ℕ)). x.name ∷ names) (nam
 pub names_once : (library : PlainLibrary) → IsLibrary library → HasNoRepeats (map (λ seat. seat.name) (map seat_of_service library.services))
 names_once library is = subst (λ (names : List (List ℕ)). HasNoRepeats names) (names_kept library.services) is.services.names
 
--- each service begins in a state of its behaviour
+-- each service starts in a state of its behaviour
 state_within : (catalogue : List NamedBeh) (x : Service) → IsService catalogue x → x.state < (beh_at catalogue x.behaviour).states
 state_within catalogue x is =
     let default : NamedBeh = record { name = []; states = []; env_states = 0; actions = 0; beh = still } in
@@ -45,7 +45,7 @@ states_within : (catalogue : List NamedBeh) (services : List Service) → AllByR
 states_within catalogue [] are = tt
 states_within catalogue (x ∷ xs) are = (state_within catalogue x are.0, states_within catalogue xs are.1)
 
--- a library begins at a pair of its system
+-- the start pair of a library is a pair of its system
 pub start_pair : (library : PlainLibrary) → IsLibrary library → IsPair (system_of (parts_of library)) (start_pair_of library)
 start_pair library is = record {
   t = (is.target.known library.environment.env (sym is.target.env_states) (sym is.target.actions)).start;

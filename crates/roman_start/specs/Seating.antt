@@ -1,4 +1,4 @@
--- How a library is seated, and why it isn't.
+-- The seating of a library, and its error.
 use Rattle.std.specs.Prelude.{◌≡◌, ◌<◌, ◌≤◌, Result, Ok, Err, vec_capacity}
 use Rattle.roman_model.specs.System.{IsPair}
 use Rattle.roman_model.specs.Numbers.{sizes_of, count, number}
@@ -10,8 +10,8 @@ use Rattle.roman_library.specs.Library.{PlainLibrary}
 use Rattle.roman_start.specs.Starts.{parts_of, start_pair_of}
 use Rattle.roman_start.specs.declared.seating.Seated.{Seated}
 
--- the library's parts, its services' states and the number of its start pair, with room for the states of as many
--- services as there may be
+-- the parts of the library, the states of its services and the number of its start pair, with room for the states of the greatest number of
+-- services
 pub record IsSeated (library : PlainLibrary) (seated : Seated) : Type 0 where
   pub parts : seated.joint ≡ parts_of library
   pub states : seated.states.items ≡ (start_pair_of library).bs
@@ -20,7 +20,7 @@ pub record IsSeated (library : PlainLibrary) (seated : Seated) : Type 0 where
   pub below : seated.start < count (sizes_of (system_of (parts_of library)))
   pub room : MAX_SERVICES ≤ vec_capacity seated.states
 
--- `Limit` comes exactly where the cells exceed the limit, if there is memory
+-- `Limit` is returned exactly where the cells exceed the limit, if there is memory
 abbrev pub IsWithinLimit : {T : Type 0} → NamedSys → Result T JointError → Type 0
 IsWithinLimit parts (Ok x) = cells (system_of parts) ≤ parts.limit
 IsWithinLimit parts (Err Limit) = parts.limit < cells (system_of parts)

@@ -1,4 +1,4 @@
--- The system of a library, and the pair at which it begins.
+-- The system of a library, and its start pair.
 use Rattle.std.specs.Prelude.{ℕ, List, map}
 use Rattle.roman_model.specs.System.{Pair}
 use Rattle.roman_joint.specs.NamedSys.{NamedSys}
@@ -6,15 +6,15 @@ use Rattle.roman_joint.specs.declared.seat.Seat.{Seat}
 use Rattle.roman_library.specs.Library.{PlainLibrary}
 use Rattle.roman_library.specs.declared.library.Service.{Service}
 
--- the place that a service takes in a system
+-- the seat of a service in a system
 abbrev pub seat_of_service : Service → Seat
 seat_of_service x = record { name = x.name; behaviour = x.behaviour; frozen = x.frozen; rests = x.rests }
 
--- the state in which a service begins
+-- the state in which a service starts
 abbrev pub state_of_service : Service → ℕ
 state_of_service x = x.state
 
--- the library's parts, with its services
+-- the parts of the library, with seats for its services
 abbrev pub parts_of : PlainLibrary → NamedSys
 parts_of library = record {
   environment = library.environment;
@@ -24,7 +24,7 @@ parts_of library = record {
   limit = library.limit;
 }
 
--- the states in which the library's parts and services begin
+-- the states in which the parts and services of the library start
 abbrev pub start_pair_of : PlainLibrary → Pair
 start_pair_of library = record {
   t = library.target.beh.start;
@@ -32,6 +32,6 @@ start_pair_of library = record {
   bs = map state_of_service library.services;
 }
 
--- the pair at which a system's parts begin, where the services are in these states
+-- the pair with the start states of the target and the environment, and these states of the services
 abbrev pub starting : NamedSys → List ℕ → Pair
 starting parts bs = record { t = parts.target.beh.start; e = parts.environment.env.start; bs = bs }

@@ -1,8 +1,8 @@
-//! Where a library begins: its system, as a joint, and the number of its start pair.
+//! The start of a library: its system, as a joint, and the number of its start pair.
 //!
-//! Sessions, certificates, checks and all that is computed of a document begin here. `specs/Starts`
-//! says which system a library is and which states it begins in, and `specs/Seating` what it means
-//! that it is seated.
+//! Sessions, certificates, checks and all computations on a document begin here. `specs/Starts`
+//! defines the system of a library and the states in which it starts, and `specs/Seating` the result
+//! of seating a library.
 #![tactic(auto)]
 
 mod seating;

@@ -1,4 +1,4 @@
-//! The system of a library, and where it begins.
+//! The system of a library, and its start pair.
 ghost use Rattle.std.specs.Prelude.{◌≡◌, ◌<◌, ◌≤◌, length, map, vec_capacity, IfOk};
 ghost use Rattle.roman_model.specs.System.{IsPair};
 ghost use Rattle.roman_model.specs.Numbers.{sizes_of, count, number};
@@ -13,20 +13,21 @@ use roman_library::{Library, Service};
 use roman_model::MAX_SERVICES;
 use std::alloc::{AllocError, Global};
 
-/// The system of a library, and where it begins: what a session, a certificate and a check start from.
+/// The system of a library with its start pair. A session, a certificate and a check start from it.
 #[derive(Drop)]
 pub struct Seated {
-    /// The system. Its services are the library's, in their order.
+    /// The system. Its services are those of the library, in the same order.
     pub joint: Joint,
-    /// The states in which the services begin. There is room for those of as many services as there
-    /// may be.
+    /// The states in which the services start. Has room for the states of the greatest number of
+    /// services.
     pub states: Vec<u8>,
-    /// The number of the pair at which the system begins.
+    /// The number of the start pair.
     pub start: u32,
 }
 
-/// The system of a library, and where it begins. `Limit` comes exactly where the system has more cells,
-/// pairs times actions, than the library's limit, and `Memory` only where there is none.
+/// Builds the system of a library, with its start pair. Fails with `Limit` exactly where the system
+/// has more cells, which are pairs times actions, than the limit of the library, and with `Memory`
+/// only when out of memory.
 pub fn seat_library(alloc: Global, library: Library) -> Result<Seated, JointError>
     requires { IsLibrary (plain library) }
     ensures seated { IfOk result (IsSeated (plain library)) }
@@ -50,7 +51,7 @@ pub fn seat_library(alloc: Global, library: Library) -> Result<Seated, JointErro
     })
 }
 
-/// The places that the services take in a system.
+/// Returns the seats of the services in the system.
 fn seats_of(alloc: Global, services: &[Service]) -> Result<Vec<Seat>, AllocError>
     ensures { IfOk result (λ seats. seats.items ≡ map seat_of_service services.now) }
 {
@@ -63,7 +64,7 @@ fn seats_of(alloc: Global, services: &[Service]) -> Result<Vec<Seat>, AllocError
     services.iter().map(seat).collect(alloc)
 }
 
-/// The services' states, with room for as many as there may be.
+/// Returns the states of the services, with room for the states of the greatest number of services.
 fn states_of(alloc: Global, services: &[Service]) -> Result<Vec<u8>, AllocError>
     requires { length services.now ≤ MAX_SERVICES }
     ensures states { IfOk result (λ states. states.items ≡ map state_of_service services.now) }
@@ -76,7 +77,8 @@ fn states_of(alloc: Global, services: &[Service]) -> Result<Vec<u8>, AllocError>
     Ok(states)
 }
 
-/// The number of the pair of the parts' starts and these states.
+/// Returns the number of the pair with the start states of the target and the environment, and these
+/// states of the services.
 fn start_of(joint: &Joint, states: &[u8]) -> u32
     requires { IsPair (system_of joint.now) (starting joint.now states.now) }
     ensures number { result ≡ number (sizes_of (system_of joint.now)) (starting joint.now states.now) }
