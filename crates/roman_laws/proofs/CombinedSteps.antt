@@ -1,4 +1,4 @@
--- The steps of the system that stands for several targets are those of the plain one, on the action of the request.
+-- The steps of the system that combines several targets are steps of the plain system, on the action of the request.
 use Rattle.std.proofs.Common.{◌≡◌, ℕ, zero, suc, ◌==◌, ◌&&◌, not, List, [], ◌∷◌, map, length, Option, Some, None, IsTrue, IsFalse, filter, slice_get, slice_index, inl, inr, refl, sym, ap, subst}
 use Rattle.std.proofs.lemmas.Bool.{false≢true, and_from, eq-eqb, not_from_false}
 use Rattle.std.proofs.lemmas.Option.{none-some, same_Some, slice_get_within}
@@ -16,7 +16,7 @@ place_in [] x i = absurd i
 place_in (y ∷ xs) x (inl e) = (0, ap Some (sym e))
 place_in (y ∷ xs) x (inr i) = let (k, e) = place_in xs x i in (suc k, e)
 
--- an action by which a target goes is one of its requests
+-- an action by which a target has a step is one of its requests
 pub step_requested : (env : Env) (targets : List Beh) (i : ℕ) (target : Beh) (b e a b' : ℕ) → slice_get targets i ≡ Some target → IsBeh env target →
     IsTrue (has_move target b e a b') → IsIn (record { target = i; action = a }) (requests_of env.actions targets)
 step_requested env targets i target b e a b' at ok t =
@@ -65,7 +65,7 @@ move_for w beh b e n b' r ok at t =
     made_move w.env.states (length (all_requests w)) beh.states beh.start (is_final beh) (λ b e n b'. has_move_on beh (slice_get (all_requests w) n) b e b') b e n b'
     hb he (slice_get_within (all_requests w) n r at) hb' (subst (λ o. IsTrue (has_move_on beh o b e b')) (sym at) t)
 
--- what stands in a mapped list comes from the list
+-- an element of a mapped list comes from an element of the list
 from_mapped : {X Y : Type 0} (f : X → Y) (xs : List X) (k : ℕ) (y : Y) → slice_get (map f xs) k ≡ Some y → (x : X) × (slice_get xs k ≡ Some x) × (y ≡ f x)
 from_mapped f [] k y e = absurd (none-some y e)
 from_mapped f (x ∷ xs) zero y e = (x, refl, sym (same_Some (f x) y e))

@@ -11,7 +11,7 @@ use Rattle.roman_model.proofs.CallerLemmas.{by_test, in_not_empty, not_empty_ne,
 use Rattle.roman_laws.specs.Controllers.{Controller, now_at, IsHistory, CanGoOn, Realises, TakesOffers, TakesServers, Seen, seen_of, by_seen, since, ControllersTakeOffers}
 use Rattle.roman_laws.proofs.SimulationLemmas.{closed_great, great_meets}
 
--- A history goes on as its controller chooses.
+-- A history continues by the choices of its controller.
 
 -- each history ends at a pair of the system
 pub history_pair : (s : Sys) (P : Controller) (p : Pair) → IsSys s → IsPair s p → (h : List Choice) → IsHistory s P p h → IsPair s (now_at p h)
@@ -37,19 +37,19 @@ reached_meets s P p realises c (h, i, e) = subst (Meets s (Reached s P p)) e (re
   );
 })
 
--- A controller that realises the target only reaches related pairs: what it reaches meets the clauses.
+-- A controller that realises the target reaches only related pairs: the reached pairs meet the clauses.
 pub history_great : (s : Sys) (P : Controller) (p : Pair) → IsSys s → IsPair s p → Realises s P p → (h : List Choice) → IsHistory s P p h → Great s (now_at p h)
 history_great s P p ok pair realises h i =
     closed_great s (Reached s P p) ok (reached_meets s P p realises) (now_at p h) (history_pair s P p ok pair h i) (h, i, refl)
 
--- And it only chooses seats that serve.
+-- A controller that realises the target chooses only seats that serve.
 pub takes_servers : (s : Sys) (P : Controller) (p : Pair) → IsSys s → IsPair s p → Realises s P p → TakesServers s P p
 takes_servers s P p ok pair realises h i a allows t' e' step = (
   (realises h i).served a t' e' step,
   λ bs' r. history_great s P p ok pair realises (record { action = a; seat = P h a; to = record { t = t'; e = e'; bs = bs' } } ∷ h) (i, refl, (step, r)),
 )
 
--- To take seats that serve is to take offers.
+-- Taking seats that serve is taking offers.
 pub servers_offered : (s : Sys) (P : Controller) (p : Pair) → IsSys s → IsPair s p → TakesServers s P p → TakesOffers s P p
 servers_offered s P p ok pair takes h i a allowed =
     let serves : Serves s (GreatCouple s) (couple (now_at p h)) a (P h a) = takes h i a (from_allowed s (now_at p h) a allowed) in
@@ -62,7 +62,7 @@ offered_serve s P p ok pair takes h i a allows =
     let allowed : IsTrue (is_allowed s (now_at p h) a) = allowed_in s (now_at p h) a ok allows in
     (((offers_are s ok).offered (now_at p h) (history_pair s P p ok pair h i) a allowed (P h a)).0 (takes h i a allowed)).1
 
--- Whoever takes offers where the pair is related stays related.
+-- A controller that takes offers from a related pair stays at related pairs.
 stays_great : (s : Sys) (P : Controller) (p : Pair) → IsSys s → IsPair s p → Great s p →
     ((h : List Choice) → IsHistory s P p h → Great s (now_at p h) → (a : ℕ) → IsTrue (is_allowed s (now_at p h) a) → IsIn (P h a) (offers s (now_at p h) a)) →
     (h : List Choice) → IsHistory s P p h → Great s (now_at p h)
@@ -74,7 +74,7 @@ stays_great s P p ok pair great takes (m ∷ h) i =
     let (allowed, l, some, all) = offer_is s (now_at p h) m.action m.seat ok (history_pair s P p ok pair h i.0) offered in
     all m.to (outcome_in s (now_at p h) m.action m.seat m.to.t m.to.e m.to.bs ok i.2.0 i.2.1)
 
--- So whoever takes offers realises the target.
+-- A controller that takes offers from a related pair realises the target.
 pub takers_realise : (s : Sys) (P : Controller) (p : Pair) → IsSys s → IsPair s p → Great s p → TakesOffers s P p → Realises s P p
 takers_realise s P p ok pair great takes h i =
     let now : Great s (now_at p h) = stays_great s P p ok pair great (λ h i before. takes h i) h i in
@@ -83,7 +83,7 @@ takers_realise s P p ok pair great takes h i =
       served = λ a t' e' step. (offered_serve s P p ok pair takes h i a (t', e', step) t' e' step).0;
     }
 
--- the first of the offers, 0 for none
+-- the first offer, 0 for none
 abbrev first : List ℕ → ℕ
 first [] = 0
 first (k ∷ ks) = k
@@ -96,7 +96,7 @@ first_in (k ∷ ks) some = inl refl
 abbrev pub first_offer : Sys → Pair → Controller
 first_offer s p h a = first (offers s (now_at p h) a)
 
--- who takes an offer where the pair is related takes offers
+-- a controller that takes an offer at each related pair takes offers
 takes_all : (s : Sys) (P : Controller) (p : Pair) → IsSys s → IsPair s p → Great s p →
     ((h : List Choice) → IsHistory s P p h → Great s (now_at p h) → (a : ℕ) → IsTrue (is_allowed s (now_at p h) a) → IsIn (P h a) (offers s (now_at p h) a)) →
     TakesOffers s P p
@@ -107,7 +107,7 @@ first_takes s p ok pair great =
     takes_all s (first_offer s p) p ok pair great
     (λ h i now a allowed. first_in (offers s (now_at p h) a) (related_offers s (now_at p h) a ok now allowed))
 
--- the controller that fulfils a wish where it is offered, and else takes the first offer
+-- the controller that fulfils a wish where it is offered, and otherwise takes the first offer
 abbrev pub wishing : Sys → Pair → Controller → Controller
 wishing s p W h a = if has (offers s (now_at p h) a) (W h a) then W h a else first (offers s (now_at p h) a)
 
@@ -125,11 +125,11 @@ wishing_fulfils s p W h a i =
 wishing_realises : (s : Sys) (p : Pair) (W : Controller) → IsSys s → IsPair s p → Great s p → Realises s (wishing s p W) p
 wishing_realises s p W ok pair great = takers_realise s (wishing s p W) p ok pair great (wishing_takes s p W ok pair great)
 
--- to wish what was chosen in those moves, one after the other
+-- the wish for the choices of these moves, one after the other
 abbrev pub as_in : List Choice → Controller
 as_in ms h a = slice_index (map (λ m. m.seat) ms) (length h)
 
--- moves that follow the offers are a history of who wishes them
+-- moves that follow the offers are a history of the controller with that wish
 follows_history : (s : Sys) (p : Pair) (all : List Choice) (h ms : List Choice) → IsSys s → ((i : ℕ) → slice_index (map (λ m. m.seat) all) (length h + i) ≡ slice_index (map (λ m. m.seat) ms) i) →
     IsHistory s (wishing s p (as_in all)) p h → Follows s (now_at p h) ms →
     IsHistory s (wishing s p (as_in all)) p (since h ms) × (now_at p (since h ms) ≡ end_of (now_at p h) ms)
@@ -145,9 +145,9 @@ follows_history s p all h (m ∷ ms) ok rest i follows =
     moved : (j : ℕ) → slice_index (map (λ m. m.seat) all) (suc (length h) + j) ≡ slice_index (map (λ m. m.seat) ms) j
     moved j = let same : suc (length h) + j ≡ length h + suc j = omega arith in ap (slice_index (map (λ m. m.seat) all)) same ∙ rest (suc j)
 
--- The target's state follows from what a controller sees without it.
+-- The target's state is determined by what a controller sees without it.
 
--- what came about after q, by what was seen of it
+-- the pair after q that is determined by the visible part of a choice
 abbrev next_seen : Sys → Pair → Seen → Choice
 next_seen s q x = record { action = x.action; seat = x.seat; to = record { t = first (beh_next s.target q.t q.e x.action); e = x.e; bs = x.bs } }
 
@@ -168,7 +168,7 @@ shown_back s P p ok [] i = refl
 shown_back s P p ok (m ∷ h) i =
     ap (λ g. next_seen s (now_at p g) (seen_of m) ∷ g) (shown_back s P p ok h i.0) ∙ ap (λ n. n ∷ h) (next_is s (now_at p h) m ok i.2.0.1)
 
--- the controller's choices, by what is seen without the target's state
+-- the choices of the controller, by what is visible without the target's state
 abbrev pub blinded : Sys → Pair → Controller → List Seen → ℕ → ℕ
 blinded s p P xs a = P (shown s p xs) a
 

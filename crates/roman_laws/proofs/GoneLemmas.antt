@@ -1,4 +1,4 @@
--- Seats that go one after the other.
+-- Seats that leave one after the other.
 use Rattle.std.proofs.Common.{◌≡◌, ℕ, zero, suc, ◌==◌, Bool, true, false, cond, not, ◌||◌, List, [], ◌∷◌, ◌++◌, Some, IsTrue, IsFalse, slice_get, slice_index, remove, refl, sym, ap, ap₂, ◌∙◌, subst, inl, inr, arith}
 use Rattle.std.proofs.lemmas.Bool.{false≢true, both_ways, eq-eqb, eqb-true, or_right, or_cases}
 use Rattle.std.proofs.lemmas.Option.{none-some}
@@ -27,7 +27,7 @@ leave_out_same : {X : Type 0} (at bt : ℕ → Bool) (xs : List X) → ((i : ℕ
 leave_out_same at bt [] same = refl
 leave_out_same at bt (x ∷ xs) same = ap₂ (λ b ys. cond b ys (x ∷ ys)) (same 0) (leave_out_same (λ i. at (suc i)) (λ i. bt (suc i)) xs (λ i. same (suc i)))
 
--- the place that j has where the places that pass are left out
+-- the place of j after the places that pass are left out
 abbrev pub place_left : (ℕ → Bool) → ℕ → ℕ
 place_left at zero = zero
 place_left at (suc j) = cond (at 0) (place_left (λ i. at (suc i)) j) (suc (place_left (λ i. at (suc i)) j))
@@ -36,7 +36,7 @@ remove_none : {X : Type 0} (n : ℕ) → let none : List X = [] in remove none n
 remove_none zero = refl
 remove_none (suc n) = refl
 
--- to leave out one place more is to remove it from what is left
+-- leaving out one more place is removing it from the rest
 leave_one_more : {X : Type 0} (at bt : ℕ → Bool) (j : ℕ) (xs : List X) → IsFalse (at j) → ((i : ℕ) → bt i ≡ ((j == i) || at i)) → leave_out bt xs ≡ remove (leave_out at xs) (place_left at j)
 leave_one_more at bt j [] f more = sym (remove_none (place_left at j))
 leave_one_more at bt zero (x ∷ xs) f more =
@@ -55,7 +55,7 @@ leave_one_more {X} at bt (suc j) (x ∷ xs) f more =
     by_first true = refl
     by_first false = refl
 
--- who stays has that place
+-- a seat that stays is at that place
 get_left : {X : Type 0} (at : ℕ → Bool) (j : ℕ) (xs : List X) (x : X) → IsFalse (at j) → slice_get xs j ≡ Some x → slice_get (leave_out at xs) (place_left at j) ≡ Some x
 get_left at j [] x f e = absurd (none-some x e)
 get_left at zero (y ∷ xs) x f e = ap (λ b. slice_get (cond b (leave_out (λ i. at (suc i)) xs) (y ∷ leave_out (λ i. at (suc i)) xs)) 0) f ∙ e
@@ -83,13 +83,13 @@ index_left at (suc j) (b ∷ bs) f = by_first (at 0) ∙ index_left (λ i. at (s
     by_first true = refl
     by_first false = refl
 
--- the same places, listed otherwise
+-- the same places in another order
 same_without : (s : Sys) (p : Pair) (K J : List ℕ) → ((i : ℕ) → has K i ≡ has J i) → GreatWithout way.Die s p K → GreatWithout way.Die s p J
 same_without s p K J same great =
     subst (λ bs. Great (system_without way.Die J s) (record { t = p.t; e = p.e; bs = bs })) (leave_out_same (has K) (has J) p.bs same)
     (subst (λ seats. Great (record { env = s.env; target = s.target; seats = seats }) (pair_without way.Die K p)) (leave_out_same (has K) (has J) s.seats same) great)
 
--- one seat that may go comes back
+-- a pair stays related where one seat that may go comes back
 one_back : (s : Sys) (p : Pair) (K : List ℕ) (j : ℕ) → IsSys s → IsPair s p → IsFalse (has K j) → MayGoAt s p j → GreatWithout way.Die s p (j ∷ K) → GreatWithout way.Die s p K
 one_back s p K j ok pair f (seat, seated, goes) great =
     great_with_gone (system_without way.Die K s) (place_left (has K) j) seat (pair_without way.Die K p) (IsSys-reduced way.Die K s ok) (IsPair-reduced way.Die K s p pair)

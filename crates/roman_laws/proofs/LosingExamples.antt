@@ -1,15 +1,15 @@
--- The loss of a seat that rests where it isn't final may help, computed: a lamp with another seat that is never final.
+-- An example in which the loss of a seat that rests outside a final state helps: a lamp with another seat that is never final.
 use Rattle.std.proofs.Common.{◌≡◌, true, false, [], ◌∷◌, refl}
 use Rattle.roman_model.specs.System.{Env, Beh, Seat, Sys, Pair}
 use Rattle.roman_model.specs.Offers.{is_related}
 use Rattle.roman_model.specs.Without.{system_without, pair_without}
 use Rattle.roman_model.specs.declared.way.Way.TheVariants as way
 
--- one state, and two actions that may always come
+-- the environment: one state, and two actions that are always possible
 abbrev room : Env
 room = record { states = 1; actions = 2; start = 0; triples = record { from = 0; action = 0; to = 0 } ∷ record { from = 0; action = 1; to = 0 } ∷ [] }
 
--- the first action puts it on, the second off, where it is final
+-- the lamp: the first action turns it on, and the second turns it off, where it is final
 abbrev lamp : Beh
 lamp = record {
   states = 2;
@@ -18,7 +18,7 @@ lamp = record {
   steps = record { from = 0; guard = 0 ∷ []; action = 0; to = 1 } ∷ record { from = 1; guard = 0 ∷ []; action = 1; to = 0 } ∷ [];
 }
 
--- does nothing, and is never final
+-- the behaviour that does nothing, and is never final
 abbrev busy : Beh
 busy = record { states = 1; start = 0; finals = []; steps = [] }
 
@@ -28,7 +28,7 @@ seat_of beh = record { beh = beh; frozen = false; rests = true }
 abbrev lamp_and : Beh → Sys
 lamp_and beh = record { env = room; target = lamp; seats = seat_of lamp ∷ seat_of beh ∷ [] }
 
--- the target and both seats are in their first states
+-- the start pair: the target and both seats are in their first states
 abbrev begun : Pair
 begun = record { t = 0; e = 0; bs = 0 ∷ 0 ∷ [] }
 
@@ -41,7 +41,7 @@ busy_frozen = refl
 busy_gone : is_related (system_without way.Die (1 ∷ []) (lamp_and busy)) (pair_without way.Die (1 ∷ []) begun) ≡ true
 busy_gone = refl
 
--- of two lamps any one is enough: the least set whose loss fails is both
+-- one of two lamps is enough: the least set whose loss fails has both
 
 first_frozen : is_related (system_without way.Freeze (0 ∷ []) (lamp_and lamp)) begun ≡ true
 first_frozen = refl

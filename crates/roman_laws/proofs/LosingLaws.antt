@@ -1,4 +1,4 @@
--- The loss of services never helps, and the least failing sets say which sets fail.
+-- The loss of services never helps, and the least failing sets determine the sets that fail.
 use Rattle.std.proofs.Common.{ℕ, true, List, [], ◌∷◌, ◌++◌, IsFalse, sym, subst, inl, inr}
 use Rattle.std.proofs.lemmas.Bool.{both_ways}
 use Rattle.roman_model.specs.Lists.{IsIn}
@@ -33,12 +33,12 @@ may_part : (how : Way) (s : Sys) (p : Pair) (K J : List ℕ) → ArePart K J →
 may_part way.Freeze s p K J part may = tt
 may_part way.Die s p K J part may = λ k i. may k (part k i)
 
--- what is left where more seats fail is left where fewer do
+-- a pair that is related where more seats fail is related where fewer fail
 pub great_more : (how : Way) (s : Sys) (p : Pair) (K J : List ℕ) → IsSys s → IsPair s p → MayAllGo how s p J → ArePart K J → GreatWithout how s p J → GreatWithout how s p K
 great_more way.Freeze s p K J ok pair may more great = frozen_more s p K J more great
 great_more way.Die s p K J ok pair may more great = gone.more_gone s p K J ok pair more (λ k i other. may k i) great
 
--- the seats in `kept` are in each part that fails, and of the `rest` each is kept or left out
+-- each failing part contains the seats in `kept`, and each seat of `rest` is kept or left out in turn
 least_of : (how : Way) (s : Sys) (p : Pair) (kept rest : List ℕ) → IsSys s → IsPair s p → MayAllGo how s p (kept ++ rest) → (GreatWithout how s p (kept ++ rest) → ⊥) →
     ((N : List ℕ) → ArePart N (kept ++ rest) → (GreatWithout how s p N → ⊥) → ArePart kept N) → (M : List ℕ) × ArePart M (kept ++ rest) × IsLeastFailing how s p M
 least_of how s p kept [] ok pair may fails needed = (

@@ -1,4 +1,5 @@
--- What is related with more seats frozen is related with fewer, and what is related without a seat that may go is related with it.
+-- A pair that is related with more seats frozen is related with fewer, and a pair that is related without a seat that may go is related
+-- with it.
 use Rattle.std.proofs.Common.{◌≡◌, ℕ, zero, suc, ◌<◌, Bool, true, not, ◌&&◌, ◌||◌, List, [], ◌∷◌, length, Some, IsTrue, IsFalse, slice_get, slice_index, slice_set, remove, refl, sym, ap, ap₂, ◌∙◌, subst}
 use Rattle.std.specs.List.{AllZip}
 use Rattle.std.proofs.lemmas.Bool.{or_parts, or_from}
@@ -15,7 +16,7 @@ use Rattle.roman_laws.specs.Losing.{GreatWithout, ArePart}
 use Rattle.roman_laws.proofs.SimulationLemmas.{closed_great, great_meets}
 use Rattle.roman_laws.proofs.PlaceLemmas.{place_before, get_removed, index_removed, set_removed, index_other_set, final_with}
 
--- Seats that are the same but for some that are frozen besides.
+-- Seats that differ only in that some more of them are frozen.
 
 abbrev pub AreFrozenMore : List Seat → List Seat → Type 0
 AreFrozenMore [] [] = Unit {0}
@@ -23,7 +24,7 @@ AreFrozenMore [] (y ∷ ys) = ⊥
 AreFrozenMore (x ∷ xs) [] = ⊥
 AreFrozenMore (x ∷ xs) (y ∷ ys) = (x.beh ≡ y.beh) × (x.rests ≡ y.rests) × (IsFalse y.frozen → IsFalse x.frozen) × AreFrozenMore xs ys
 
--- the system with those seats
+-- the system with these seats
 abbrev pub with_seats : Sys → List Seat → Sys
 with_seats s seats = record { env = s.env; target = s.target; seats = seats }
 
@@ -44,7 +45,7 @@ final_frozen_more (x ∷ xs) (y ∷ ys) [] more = refl
 final_frozen_more (x ∷ xs) (y ∷ ys) (b ∷ bs) more =
     ap₂ (λ c d. c && d) (ap₂ (λ (r : Bool) (beh : Beh). not r || is_final beh b) more.1 more.0) (final_frozen_more xs ys bs more.3)
 
--- a step of a seat that is ready among the frozen is one among the others
+-- a step of a ready seat among the frozen seats is a step among the others
 step_thawed : (s : Sys) (xs ys : List Seat) → AreFrozenMore xs ys → (bs : List ℕ) (e a k : ℕ) (bs' : List ℕ) (e' : ℕ) →
     SStep (with_seats s ys) bs e a k bs' e' → SStep (with_seats s xs) bs e a k bs' e'
 step_thawed s xs ys more bs e a k bs' e' r =
@@ -59,7 +60,7 @@ step_thawed s xs ys more bs e a k bs' e' r =
       is = r.is;
     }
 
--- and back, where that seat is ready
+-- the converse, where that seat is ready
 step_frozen : (s : Sys) (xs ys : List Seat) → AreFrozenMore xs ys → (bs : List ℕ) (e a k : ℕ) (bs' : List ℕ) (e' : ℕ) (y : Seat) → slice_get ys k ≡ Some y → IsFalse y.frozen →
     SStep (with_seats s xs) bs e a k bs' e' → SStep (with_seats s ys) bs e a k bs' e'
 step_frozen s xs ys more bs e a k bs' e' y seated ready r =
@@ -90,7 +91,7 @@ meets_thawed s xs ys more Related c meets = record {
       );
 }
 
--- an ND-simulation stays one where seats thaw
+-- an ND-simulation stays one where seats are thawed
 pub great_thawed : (s : Sys) (xs ys : List Seat) → AreFrozenMore xs ys → (p : Pair) → Great (with_seats s ys) p → Great (with_seats s xs) p
 great_thawed s xs ys more p (R, sim, i) = (R, λ c j. meets_thawed s xs ys more (λ d. IsIn d R) c (sim c j), i)
 
@@ -133,13 +134,13 @@ frozen_more s p K J more great = great_thawed s (freeze_at (has K) s.seats) (fre
 abbrev pub couple_without : ℕ → Couple → Couple
 couple_without k c = record { t = c.t; e = c.e; bs = remove c.bs k; e2 = c.e2 }
 
--- without seat k the couple is related, and the seat is in state b
+-- the couple without seat k is related, and the seat is in state b
 pub record StandsBy (s : Sys) (k b : ℕ) (c : Couple) : Type 0 where
   pub great : GreatCouple (left s k) (couple_without k c)
   pub state : slice_index c.bs k ≡ b
   pub within : k < length c.bs
 
--- a step of another seat is one where seat k stands by
+-- a step of another seat is a step that leaves seat k in its state
 step_with : (s : Sys) (k : ℕ) (bs : List ℕ) (e a j : ℕ) (bs' : List ℕ) (e' : ℕ) → SStep (left s k) (remove bs k) e a j bs' e' →
     (cs : List ℕ) × SStep s bs e a (place_before k j) cs e'
 step_with s k bs e a j bs' e' r = (
@@ -155,7 +156,7 @@ step_with s k bs e a j bs' e' r = (
   },
 )
 
--- and one of those is a step without seat k
+-- a step that leaves seat k in its state is a step without seat k
 step_without : (s : Sys) (k : ℕ) (bs : List ℕ) (e a j : ℕ) (bs' : List ℕ) (e' : ℕ) → SStep s bs e a (place_before k j) bs' e' →
     SStep (left s k) (remove bs k) e a j (remove bs' k) e'
 step_without s k bs e a j bs' e' r = record {

@@ -11,7 +11,7 @@ use Rattle.roman_model.specs.CompleteLists.{AreEntries}
 use Rattle.roman_model.specs.Change.{Change, Freeze, Thaw, Join, Die, after, grown, grown_entries, rename, CanChange}
 use Rattle.roman_model.proofs.CallerLemmas.{IsSame, by_test, any_true, in_map, from_map, HasNoRepeats-map, HasNoRepeats-flat_map, HasNoRepeats-below, same_numbers_is, same_numbers_itself, order_new, new_once, map-map, map-flat_map, flat_map_same, renaming_keeps}
 
--- pairs with the same numbers are the same
+-- pairs with the same numbers are equal
 pair_is : (t u e f : ℕ) (bs cs : List ℕ) → t ≡ u → e ≡ f → bs ≡ cs → ◌≡◌ {A = Pair} (record { t = t; e = e; bs = bs }) (record { t = u; e = f; bs = cs })
 pair_is t u e f bs cs ht he hbs = rw (ht, he, hbs) refl
 
@@ -29,7 +29,7 @@ same_itself p =
 arena_is_same : (s : Sys) → IsSame (arena s)
 arena_is_same s = record { is = same_is; itself = same_itself }
 
--- the arenas of two systems tell pairs apart alike
+-- the arenas of two systems compare pairs alike
 new_in_other : (s r : Sys) (before : List Pair) (L : List (Entry Pair)) → AreNew (arena s) before L → AreNew (arena r) before L
 new_in_other s r before [] new = tt
 new_in_other s r before (x ∷ L) new = (new.0, new_in_other s r (x.node ∷ before) L new.1)
@@ -47,7 +47,7 @@ once_is_new s before (x ∷ L) once apart = (
     next y i (inl e) = once.0 (subst (λ r. IsIn r (map (λ z. z.node) L)) e (in_map (λ z. z.node) y L i))
     next y i (inr j) = apart y (inr i) j
 
--- pairs that have grown are told apart by what they were and by the newcomer's state
+-- pairs with a new seat's state are equal exactly where the pairs and the new states are
 grown_same : (p q : Pair) (b c : ℕ) → grown p b ≡ grown q c → (p ≡ q) × (b ≡ c)
 grown_same p q b c e =
     let (front, last) = same_from_push p.bs q.bs b c (ap (λ r. r.bs) e) in

@@ -1,10 +1,10 @@
--- Lists of seats and of states that lose one: what stands where.
+-- Lists of seats and of states that lose one element: the elements at their places.
 use Rattle.std.proofs.Common.{◌≡◌, ℕ, zero, suc, ◌<◌, not, ◌||◌, List, [], ◌∷◌, length, Some, IsTrue, slice_get, slice_index, slice_set, remove, refl, sym, ap, subst, arith}
 use Rattle.std.proofs.lemmas.Bool.{false≢true, and_parts, and_from}
 use Rattle.std.proofs.lemmas.Option.{none-some, same_Some}
 use Rattle.roman_model.specs.System.{Seat, is_final, all_final}
 
--- the place that item j had before item k went
+-- the place of item j before item k left
 abbrev pub place_before : ℕ → ℕ → ℕ
 place_before zero j = suc j
 place_before (suc k) zero = zero
@@ -31,14 +31,14 @@ set_removed (c ∷ bs) zero j b = refl
 set_removed (c ∷ bs) (suc k) zero b = refl
 set_removed (c ∷ bs) (suc k) (suc j) b = ap (λ cs. c ∷ cs) (set_removed bs k j b)
 
--- what is set at another item's place leaves item k
+-- setting the element at another place keeps item k
 pub index_other_set : (bs : List ℕ) (k j b : ℕ) → slice_index (slice_set bs (place_before k j) b) k ≡ slice_index bs k
 index_other_set [] k j b = refl
 index_other_set (c ∷ bs) zero j b = refl
 index_other_set (c ∷ bs) (suc k) zero b = refl
 index_other_set (c ∷ bs) (suc k) (suc j) b = index_other_set bs k j b
 
--- where all are final, the seat at each place is loose or final
+-- where all seats are final, the seat at each place is loose or final
 pub final_at : (seats : List Seat) (bs : List ℕ) → IsTrue (all_final seats bs) → (k : ℕ) (seat : Seat) → slice_get seats k ≡ Some seat →
     IsTrue (not seat.rests || is_final seat.beh (slice_index bs k))
 final_at [] bs all k seat e = absurd (none-some seat e)
@@ -47,7 +47,7 @@ final_at (x ∷ seats) (b ∷ bs) all zero seat e =
     subst (λ (y : Seat). IsTrue (not y.rests || is_final y.beh b)) (same_Some x seat e) (and_parts (not x.rests || is_final x.beh b) (all_final seats bs) all).0
 final_at (x ∷ seats) (b ∷ bs) all (suc k) seat e = final_at seats bs (and_parts (not x.rests || is_final x.beh b) (all_final seats bs) all).1 k seat e
 
--- where all others are final and seat k is loose or final, all are
+-- where all other seats are final and seat k is loose or final, all are
 pub final_with : (seats : List Seat) (bs : List ℕ) (k : ℕ) (seat : Seat) → slice_get seats k ≡ Some seat → k < length bs →
     IsTrue (not seat.rests || is_final seat.beh (slice_index bs k)) → IsTrue (all_final (remove seats k) (remove bs k)) → IsTrue (all_final seats bs)
 final_with [] bs k seat e l here all = absurd (none-some seat e)

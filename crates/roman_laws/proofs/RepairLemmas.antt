@@ -10,7 +10,7 @@ use Rattle.roman_model.proofs.CallerLemmas.{replay_sublist}
 use Rattle.roman_laws.specs.Repairs.{RepairsKeepTheMost, ReplaysKeepTheMost}
 use Rattle.roman_laws.proofs.NewLists.{renamed_new}
 
--- a list with some elements left out is no longer
+-- a sublist isn't longer than the list
 sublist_no_longer : {X : Type 0} (xs ys : List X) → IsSublist xs ys → length xs ≤ length ys
 sublist_no_longer [] ys sub = omega arith
 sublist_no_longer (x ∷ xs) [] sub = absurd sub

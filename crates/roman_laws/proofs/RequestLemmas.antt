@@ -1,4 +1,4 @@
--- What the system that stands for several targets allows and offers is what its targets ask and what serves them all.
+-- The system that combines several targets allows the requests of its targets, and offers the seats that serve all of them.
 use Rattle.std.proofs.Common.{◌≡◌, ℕ, ◌<◌, List, length, Some, IsTrue, slice_get, slice_index, slice_set, sym, ap, ◌∙◌, subst}
 use Rattle.std.proofs.lemmas.List.{length-map}
 use Rattle.std.proofs.lemmas.Option.{same_Some}
@@ -13,17 +13,17 @@ use Rattle.roman_model.proofs.CallerLemmas.{get_in, allowed_in, from_allowed, ou
 use Rattle.roman_laws.specs.Requests.{TargetAllows, IsRequestOf, RequestsOfTargets, IsMoveOf, TurnsOfTargets}
 use Rattle.roman_laws.proofs.CombinedSteps.{place_in, step_requested, plain_triple, triple_for, plain_sstep, sstep_for}
 
--- the states of the targets for a combined one
+-- the states of the targets in a combined state
 abbrev pub targets_at : Several → ℕ → List ℕ
 targets_at w t = states_at (target_sizes w.targets) t
 
--- A triple of the combined environment is one of the plain one, on the action of the request.
+-- A triple of the combined environment is a triple of the plain environment, on the action of the request.
 world_of : (w : Several) (e n e' i a : ℕ) (target : Beh) → IsRequestOf w n i target a → IsTrue (has_triple (combined w).env e n e') → IsTrue (has_triple w.env e a e')
 world_of w e n e' i a target asks t =
     let (r, at, world) = plain_triple w e n e' t in
     subst (λ (x : Request). IsTrue (has_triple w.env e x.action e')) (same_Some r (record { target = i; action = a }) (sym at ∙ asks.request)) world
 
--- A step of the combined target is one of the target that asks, and no other target moves.
+-- A step of the combined target is a step of the requesting target, and no other target moves.
 pub record IsOwnStep (w : Several) (t e t' i a : ℕ) (target : Beh) : Type 0 where
   pub goes : IsTrue (has_move target (slice_index (targets_at w t) i) e a (slice_index (targets_at w t') i))
   pub others : slice_set (targets_at w t) i (slice_index (targets_at w t') i) ≡ targets_at w t'
@@ -41,7 +41,7 @@ own_step w t e n t' i a target asks h =
       others = subst (λ (x : Request). slice_set (targets_at w t) x.target (slice_index (targets_at w t') x.target) ≡ targets_at w t') same step.others;
     }
 
--- The combined target goes where the one that asks does.
+-- The combined target has a step where the requesting target has one.
 abbrev pub target_after : Several → Pair → ℕ → ℕ → ℕ
 target_after w p i t' = states_number (target_sizes w.targets) (slice_set (targets_at w p.t) i t')
 
@@ -49,7 +49,7 @@ combined_goes : (w : Several) (p : Pair) (n i a t' : ℕ) (target : Beh) → IsS
     IsTrue (has_move target (slice_index (targets_at w p.t) i) p.e a t') → IsTrue (has_move (combined w).target p.t p.e n (target_after w p i t'))
 combined_goes w p n i a t' target ok pair asks goes = combined_target_goes w p.t p.e n t' (record { target = i; action = a }) target ok pair.t asks.request asks.member goes
 
--- its states are then those of the targets, with the one that went in its new state
+-- the next states are those of the targets, with the new state of the requesting target
 after_is : (w : Several) (p : Pair) (n i a t' : ℕ) (target : Beh) → IsSeveral w → IsPair (combined w) p → IsRequestOf w n i target a →
     IsTrue (has_move target (slice_index (targets_at w p.t) i) p.e a t') → targets_at w (target_after w p i t') ≡ slice_set (targets_at w p.t) i t'
 after_is w p n i a t' target ok pair asks goes =
@@ -58,7 +58,7 @@ after_is w p n i a t' target ok pair asks goes =
     (ok.targets target (get_in w.targets i target asks.member)).1 (slice_index (targets_at w p.t) i) p.e a (slice_index (targets_at w (target_after w p i t')) i) t' own.goes goes in
     sym own.others ∙ ap (slice_set (targets_at w p.t) i) one
 
--- Which combined actions are allowed.
+-- The combined actions that are allowed.
 
 request_named : (w : Several) (p : Pair) (n : ℕ) → IsTrue (is_allowed (combined w) p n) → (i : ℕ) × (target : Beh) × (a : ℕ) × IsRequestOf w n i target a
 request_named w p n allowed =
@@ -84,9 +84,9 @@ allowed_request w p n i target a ok pair asks allows =
     allowed_in (combined w) p n (combined_system w ok)
     (target_after w p i t1, e1, (triple_for w p.e n e1 (record { target = i; action = a }) ok.env asks.request step.0, combined_goes w p n i a t1 target ok pair asks step.1))
 
--- Which seats serve them.
+-- The seats that serve them.
 
--- the pair after a step of the target and one of the system is one of the combined system
+-- the pair after a step of the target and a step of the system is a pair of the combined system
 next_pair : (w : Several) (p : Pair) (n k t' : ℕ) (bs' : List ℕ) (e' : ℕ) → IsSeveral w → IsPair (combined w) p → TStep (combined w) p.t p.e n t' e' → SStep (combined w) p.bs p.e n k bs' e' →
     IsPair (combined w) (record { t = t'; e = e'; bs = bs' })
 next_pair w p n k t' bs' e' ok pair tstep sstep =
@@ -136,7 +136,7 @@ requests_of w ok p pair = record {
     seats_length : length (combined w).seats ≡ length w.seats
     seats_length = length-map w.seats (combined_seat w.env.states (all_requests w))
 
--- What a turn says, target by target.
+-- The parts of a turn, target by target.
 
 move_of : (w : Several) (p : Pair) (n i : ℕ) (target : Beh) (a t' e' : ℕ) → IsRequestOf w n i target a → TStep (combined w) p.t p.e n t' e' → IsMoveOf w p i target a t' e'
 move_of w p n i target a t' e' asks step =

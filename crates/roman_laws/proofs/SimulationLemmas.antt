@@ -1,4 +1,4 @@
--- Whatever meets the three clauses of an ND-simulation is part of the greatest one, also where it can't be listed.
+-- Each relation that meets the three clauses of an ND-simulation is part of the greatest one, even if it can't be listed.
 use Rattle.std.proofs.Common.{ℕ, zero, suc, not, Bool, length, IsTrue, inl, inr}
 use Rattle.std.specs.List.{list_any}
 use Rattle.std.proofs.lemmas.Bool.{both_ways, or_cases, or_left, or_right, not-true, not_from_false}
@@ -11,13 +11,13 @@ use Rattle.roman_model.specs.Composition.{Couple, couple, Serves, Meets, GreatCo
 use Rattle.roman_model.specs.declared.reason.Reason.TheVariants.{Act}
 use Rattle.roman_model.proofs.CallerLemmas.{by_test, any_true, in_not_empty, from_allowed, outcome_in, from_outcome, justified_is, related_great}
 
--- clause 2, as its test
+-- clause 2, from its test
 pub fine_from : (s : Sys) (p : Pair) → (IsTrue (is_final s.target p.t) → IsTrue (all_final s.seats p.bs)) → IsTrue (is_fine s p)
 fine_from s p h = by_test (is_final s.target p.t)
     (λ t. or_right (not (is_final s.target p.t)) (all_final s.seats p.bs) (h t))
     (λ f. or_left (not (is_final s.target p.t)) (all_final s.seats p.bs) (not_from_false (is_final s.target p.t) f))
 
--- a seat that serves isn't beaten, where none of those related is gone
+-- a seat that serves isn't beaten, where no related pair is gone
 serves_unbeaten : (s : Sys) (Related : Couple → Type 0) (gone : Pair → Bool) (p : Pair) (a k : ℕ) → IsSys s → IsTrue (is_allowed s p a) →
     ((q : Pair) → IsTrue (gone q) → Related (couple q) → ⊥) → Serves s Related (couple p) a k → IsTrue (is_beaten (arena s) gone p a k) → ⊥
 serves_unbeaten s Related gone p a k ok allowed apart serves beaten =
@@ -50,7 +50,7 @@ closed_apart s Related ok closed (suc n) p t r =
           (each k (slice_get_within s.seats k system.seat system.seated))
     ]
 
--- so each of its pairs is related
+-- each pair of a relation that meets the clauses is related
 pub closed_great : (s : Sys) (Related : Couple → Type 0) → IsSys s → ((c : Couple) → Related c → Meets s Related c) →
     (p : Pair) → IsPair s p → Related (couple p) → Great s p
 closed_great s Related ok closed p pair r = related_great s p ok pair
@@ -58,7 +58,7 @@ closed_great s Related ok closed p pair r = related_great s p ok pair
     (λ t. absurd (closed_apart s Related ok closed (length (pairs s)) p t r))
     (λ f. not_from_false (loses (arena s) (length (pairs s)) p) f))
 
--- the clauses go on to hold in a relation that has more
+-- the clauses still hold in a larger relation
 pub meets_more : (s : Sys) (Related More : Couple → Type 0) (c : Couple) → ((d : Couple) → Related d → More d) → Meets s Related c → Meets s More c
 meets_more s Related More c more meets = record {
   shared = meets.shared;

@@ -1,4 +1,4 @@
--- Controllers, which of them realise the target, and that these are the ones that take the orchestrator generator's offers.
+-- Controllers that realise the target: they are exactly those that take the offers of the orchestrator generator.
 use Rattle.std.specs.Prelude.{◌≡◌, ◌↔◌, ℕ, List, [], ◌∷◌, map, IsTrue}
 use Rattle.roman_model.specs.Lists.{IsIn}
 use Rattle.roman_model.specs.System.{Sys, Pair, IsSys, IsPair, TStep, SStep, Allows, is_final, all_final}
@@ -6,66 +6,66 @@ use Rattle.roman_model.specs.SystemArena.{is_allowed}
 use Rattle.roman_model.specs.Composition.{couple, Serves, GreatCouple, Great}
 use Rattle.roman_model.specs.Offers.{Choice, offers, Follows, end_of}
 
--- a controller: from what has happened, the latest first, and the action that is requested to the seat that shall serve it
+-- a controller: a function from the history, the latest choice first, and the requested action to the seat that is to serve it
 abbrev pub Controller : Type 0
 Controller = List Choice → ℕ → ℕ
 
--- the pair to which a history has led that began at p
+-- the pair at the end of a history that began at p
 abbrev pub now_at : Pair → List Choice → Pair
 now_at p [] = p
 now_at p (m ∷ h) = m.to
 
--- the target goes by a from p to q, and so does the system, delegated to seat k
+-- the target and the system, delegated to seat k, have a step by a from p to q
 abbrev pub LeadsTo : Sys → Pair → ℕ → ℕ → Pair → Type 0
 LeadsTo s p a k q = TStep s p.t p.e a q.t q.e × SStep s p.bs p.e a k q.bs q.e
 
--- this may have happened from p on, where the controller chose each seat
+-- the history is possible from p on, where the controller chose each seat
 abbrev pub IsHistory : Sys → Controller → Pair → List Choice → Type 0
 IsHistory s P p [] = Unit {0}
 IsHistory s P p (m ∷ h) = IsHistory s P p h × (m.seat ≡ P h m.action) × LeadsTo s (now_at p h) m.action m.seat m.to
 
--- where the target is final at q the system is, and for each target step the seat that is chosen has a system step into
--- the same environment state
+-- where the target is final at q the system is too, and for each target step the chosen seat has a system step into the same environment
+-- state
 pub record CanGoOn (s : Sys) (choose : ℕ → ℕ) (q : Pair) : Type 0 where
   pub final : IsTrue (is_final s.target q.t) → IsTrue (all_final s.seats q.bs)
   pub served : (a t' e' : ℕ) → TStep s q.t q.e a t' e' → (bs' : List ℕ) × SStep s q.bs q.e a (choose a) bs' e'
 
--- the controller realises the target from p: whatever is requested and whichever steps come, it goes on
+-- the controller realises the target from p: after every possible history it can go on
 abbrev pub Realises : Sys → Controller → Pair → Type 0
 Realises s P p = (h : List Choice) → IsHistory s P p h → CanGoOn s (P h) (now_at p h)
 
--- after each history the controller chooses an offered seat for each allowed action
+-- after every possible history the controller chooses an offered seat for each allowed action
 abbrev pub TakesOffers : Sys → Controller → Pair → Type 0
 TakesOffers s P p = (h : List Choice) → IsHistory s P p h → (a : ℕ) → IsTrue (is_allowed s (now_at p h) a) → IsIn (P h a) (offers s (now_at p h) a)
 
--- after each history the controller chooses a seat that serves with the related pairs, for each allowed action
+-- after every possible history the controller chooses a seat that serves with respect to the related pairs, for each allowed action
 abbrev pub TakesServers : Sys → Controller → Pair → Type 0
 TakesServers s P p =
     (h : List Choice) → IsHistory s P p h → (a : ℕ) → Allows s (now_at p h).t (now_at p h).e a → Serves s (GreatCouple s) (couple (now_at p h)) a (P h a)
 
--- what can be seen without the target's state: what was requested, who served, and where the system went
+-- what a controller sees without the target's state: the requested action, the seat that served it, and the next states of the system
 pub record Seen : Type 0 where
   pub action : ℕ
   pub seat : ℕ
   pub e : ℕ
   pub bs : List ℕ
 
--- what can be seen of a choice
+-- the visible part of a choice
 abbrev pub seen_of : Choice → Seen
 seen_of m = record { action = m.action; seat = m.seat; e = m.to.e; bs = m.to.bs }
 
--- the controller that chooses by what can be seen alone
+-- the controller that chooses by the visible part of the history alone
 abbrev pub by_seen : (List Seen → ℕ → ℕ) → Controller
 by_seen B h a = B (map seen_of h) a
 
--- the history h with these choices after it, one by one
+-- the history h followed by these choices
 abbrev pub since : List Choice → List Choice → List Choice
 since h [] = h
 since h (m ∷ ms) = since (m ∷ h) ms
 
--- the controllers that realise the target from a pair: there is one exactly where the pair is related; they are exactly
--- those that take offers, and stay at related pairs; each wish is fulfilled by one wherever it is offered; whatever comes of
--- taking offers is a history of one; and what can be seen is enough for each
+-- the controllers that realise the target from a pair: there is one exactly where the pair is related; they are exactly those that take
+-- offers, and stay at related pairs; each wish is fulfilled by one of them wherever it is offered; each run that takes offers is a history
+-- of one of them; and the visible part of the history is enough for each
 pub record RealisersTakeOffers (s : Sys) (p : Pair) : Type 0 where
   pub some : Great s p ↔ ((P : Controller) × Realises s P p)
   pub takers : (P : Controller) → Realises s P p ↔ (Great s p × TakesOffers s P p)
@@ -78,6 +78,6 @@ pub record RealisersTakeOffers (s : Sys) (p : Pair) : Type 0 where
   pub blind : (P : Controller) → Realises s P p →
       (B : List Seen → ℕ → ℕ) × Realises s (by_seen B) p × ((h : List Choice) → IsHistory s P p h → (a : ℕ) → B (map seen_of h) a ≡ P h a)
 
--- the orchestrator generator yields all controllers that realise the target, and no others
+-- the orchestrator generator yields exactly the controllers that realise the target
 abbrev pub ControllersTakeOffers : Type 0
 ControllersTakeOffers = (s : Sys) (p : Pair) → IsSys s → IsPair s p → RealisersTakeOffers s p

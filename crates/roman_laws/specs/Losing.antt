@@ -1,5 +1,5 @@
--- The loss of services never helps: what is related with more of them frozen is related with fewer, and so it is after deaths
--- of those that may go.
+-- The loss of services never helps: a pair that is related with more of them frozen is related with fewer, and the same holds for deaths of
+-- services that may go.
 use Rattle.std.specs.Prelude.{◌≡◌, ◌↔◌, ℕ, List, Some, IsTrue, slice_get}
 use Rattle.roman_model.specs.Lists.{IsIn}
 use Rattle.roman_model.specs.System.{Seat, Sys, Pair, IsSys, IsPair, is_final}
@@ -10,21 +10,21 @@ use Rattle.roman_model.specs.Without.{system_without, pair_without}
 use Rattle.roman_model.specs.declared.way.Way.{Way}
 use Rattle.roman_model.specs.declared.way.Way.TheVariants as way
 
--- what is left of p is related where the seats at the places K fail
+-- the reduced pair is related where the seats at the places K fail
 abbrev pub GreatWithout : Way → Sys → Pair → List ℕ → Type 0
 GreatWithout how s p K = Great (system_without how K s) (pair_without how K p)
 
--- each place of K is one of J
+-- each place of K is in J
 abbrev pub ArePart : List ℕ → List ℕ → Type 0
 ArePart K J = (k : ℕ) → IsIn k K → IsIn k J
 
--- the seat at that place is loose, or in a final state: it doesn't keep p from being final
+-- the seat at place k is loose, or in a final state: it doesn't keep p from being final
 abbrev pub MayGoAt : Sys → Pair → ℕ → Type 0
 MayGoAt s p k = (seat : Seat) × (slice_get s.seats k ≡ Some seat) × IsTrue (may_go k seat p)
 
--- a freeze of one seat, of more seats or of any relates no further pair, and nor does a death of seats that may go. (A seat
--- that rests where it isn't final keeps the pair unrelated, also where it is frozen, and its death may help.) Where the target
--- is final, each seat of a related pair may go.
+-- freezing one seat, more seats or any seats relates no further pair, and neither does the death of seats that may go. (A seat that rests
+-- outside a final state keeps the pair unrelated, also where it is frozen, and its death may help.) Where the target is final, each seat of
+-- a related pair may go.
 pub record LossNeverHelps (s : Sys) (p : Pair) : Type 0 where
   pub one_frozen : (k : ℕ) → Great (after (change.Freeze k) s) p → Great s p
   pub more_frozen : (K J : List ℕ) → ArePart K J → GreatWithout way.Freeze s p J → GreatWithout way.Freeze s p K
@@ -34,21 +34,21 @@ pub record LossNeverHelps (s : Sys) (p : Pair) : Type 0 where
       GreatWithout way.Die s p J → GreatWithout way.Die s p K
   pub final_may_go : Great s p → IsTrue (is_final s.target p.t) → (k : ℕ) (seat : Seat) → slice_get s.seats k ≡ Some seat → IsTrue (may_go k seat p)
 
--- in every system, at every pair
+-- the loss of services never helps, in every system and at every pair
 abbrev pub LosingNeverHelps : Type 0
 LosingNeverHelps = (s : Sys) (p : Pair) → LossNeverHelps s p
 
--- each seat at those places that goes may go
+-- each of the seats that leave may go
 abbrev pub MayAllGo : Way → Sys → Pair → List ℕ → Type 0
 MayAllGo way.Freeze s p K = Unit {0}
 MayAllGo way.Die s p K = (k : ℕ) → IsIn k K → MayGoAt s p k
 
--- what is left of p is unrelated where these seats fail, and related where any of them doesn't
+-- the reduced pair is unrelated where these seats fail, and related where only some of them fail
 pub record IsLeastFailing (how : Way) (s : Sys) (p : Pair) (M : List ℕ) : Type 0 where
   pub fails : GreatWithout how s p M → ⊥
   pub least : (N : List ℕ) → ArePart N M → (GreatWithout how s p N → ⊥) → ArePart M N
 
--- what is left is unrelated exactly where a least failing set is among the seats that fail
+-- the reduced pair is unrelated exactly where the seats that fail contain a least failing set
 abbrev pub LeastFailingSuffice : Type 0
 LeastFailingSuffice =
     (how : Way) (s : Sys) (p : Pair) (K : List ℕ) → IsSys s → IsPair s p → MayAllGo how s p K →

@@ -1,4 +1,4 @@
--- What each of several targets may ask of the system that stands for all of them, and who serves it.
+-- The requests of each of several targets in the system that combines them, and the seats that serve them.
 use Rattle.std.specs.Prelude.{◌≡◌, ◌↔◌, ℕ, ◌<◌, Some, IsTrue, length, slice_get, slice_index, slice_set}
 use Rattle.roman_model.specs.Lists.{IsIn}
 use Rattle.roman_model.specs.System.{Beh, Pair, IsPair, TStep, Allows}
@@ -17,9 +17,9 @@ pub record IsRequestOf (w : Several) (n i : ℕ) (target : Beh) (a : ℕ) : Type
   pub request : slice_get (all_requests w) n ≡ Some (record { target = i; action = a })
   pub member : slice_get w.targets i ≡ Some target
 
--- each combined action that is allowed is a request, and each request that its target allows is a combined action; it is
--- allowed exactly where its target allows it, and the seats that are offered for it are exactly those that serve it with the
--- couples that are related for all targets
+-- each allowed combined action is a request, and each request that its target allows is a combined action; the action is allowed exactly
+-- where its target allows it, and the offered seats are exactly those that serve it with respect to the couples that are related for all
+-- targets
 pub record RequestsAreOf (w : Several) (p : Pair) : Type 0 where
   pub named : (n : ℕ) → IsTrue (is_allowed (combined w) p n) → (i : ℕ) × (target : Beh) × (a : ℕ) × IsRequestOf w n i target a
   pub numbered : (i : ℕ) (target : Beh) (a : ℕ) → slice_get w.targets i ≡ Some target → TargetAllows w p i target a → (n : ℕ) × IsRequestOf w n i target a
@@ -27,18 +27,18 @@ pub record RequestsAreOf (w : Several) (p : Pair) : Type 0 where
   pub offered : (n i : ℕ) (target : Beh) (a : ℕ) → IsRequestOf w n i target a → TargetAllows w p i target a → (k : ℕ) →
       IsIn k (offers (combined w) p n) ↔ ((k < length w.seats) × ServesAll w (GreatAll w) (couple_all w p) i target a k)
 
--- at every pair of the system that stands for several targets
+-- this holds at every pair of the system that combines several targets
 abbrev pub RequestsOfTargets : Type 0
 RequestsOfTargets = (w : Several) → IsSeveral w → (p : Pair) → IsPair (combined w) p → RequestsAreOf w p
 
--- a step of the target at place i by the action, from the targets' states at the pair, leads to the combined state; no other target moves
+-- the combined step is a step of the target at place i by the action, from its state at the pair; no other target moves
 pub record IsMoveOf (w : Several) (p : Pair) (i : ℕ) (target : Beh) (a t' e' : ℕ) : Type 0 where
   pub to : ℕ
   pub step : TStep (of_one w target) (slice_index (couple_all w p).ts i) p.e a to e'
   pub states : (couple_all w (record p { t = t' })).ts ≡ slice_set (couple_all w p).ts i to
 
--- a turn of the system that stands for several targets, said target by target: what may be asked is what one of them may ask; who serves
--- it serves all of them; and what moves is that target alone
+-- a turn of the combined system, target by target: the allowed actions are the requests that the targets allow, a seat that serves one
+-- serves all targets, and only the requesting target moves
 pub record TurnsAreOf (w : Several) (p : Pair) : Type 0 where
   pub named : (n : ℕ) → Allows (combined w) p.t p.e n → (i : ℕ) × (target : Beh) × (a : ℕ) × IsRequestOf w n i target a
   pub asked : (n i : ℕ) (target : Beh) (a : ℕ) → IsRequestOf w n i target a → Allows (combined w) p.t p.e n ↔ TargetAllows w p i target a
@@ -46,6 +46,6 @@ pub record TurnsAreOf (w : Several) (p : Pair) : Type 0 where
       Serves (combined w) (GreatCouple (combined w)) (couple p) n k ↔ ServesAll w (GreatAll w) (couple_all w p) i target a k
   pub moved : (n i : ℕ) (target : Beh) (a : ℕ) → IsRequestOf w n i target a → (t' e' : ℕ) → TStep (combined w) p.t p.e n t' e' → IsMoveOf w p i target a t' e'
 
--- at every pair of the system that stands for several targets
+-- this holds at every pair of the system that combines several targets
 abbrev pub TurnsOfTargets : Type 0
 TurnsOfTargets = (w : Several) → IsSeveral w → (p : Pair) → IsPair (combined w) p → TurnsAreOf w p
