@@ -1,5 +1,4 @@
--- A pair that is related with more seats frozen is related with fewer, and a pair that is related without a seat that may go is related
--- with it.
+-- A pair that is related with more seats frozen is related with fewer, and a pair that is related without a seat that may go is related with it.
 use Rattle.std.proofs.Common.{◌≡◌, ℕ, zero, suc, ◌<◌, Bool, true, not, ◌&&◌, ◌||◌, List, [], ◌∷◌, length, Some, IsTrue, IsFalse, slice_get, slice_index, slice_set, remove, refl, sym, ap, ap₂, ◌∙◌, subst}
 use Rattle.std.specs.List.{AllZip}
 use Rattle.std.proofs.lemmas.Bool.{or_parts, or_from}
