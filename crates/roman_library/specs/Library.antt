@@ -57,8 +57,7 @@ pub record ArePartsOf (behaviours : List NamedBeh) (made : PlainCombined) : Type
   pub services : (services : List Service) → AreServices behaviours services → AreServices made.catalogue services
   pub target : IsTarget made.environment made.target
 
--- all parts are over one environment, all numbers are in range, the limits hold, and no two behaviours and no two services have the same
--- name
+-- all parts are over one environment, all numbers are in range, the limits hold, and no two behaviours and no two services have the same name
 pub record IsLibrary (library : PlainLibrary) : Type 0 where
   pub environment : IsEnv library.environment.env
   pub catalogue : IsCatalogue library.environment library.catalogue

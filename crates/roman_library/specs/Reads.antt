@@ -33,8 +33,7 @@ pub record ReadsServices (document : List ℕ) (version : ℕ) (catalogue : List
       ↔ BreaksList (codes "services") (refused_list document list.Services) (λ n. n ≤ MAX_SERVICES) (λ before item x. service_of version catalogue before item ≡ Ok x)
       (BreaksService document version catalogue) d e
 
--- the behaviours are the items of the list in order, each read after those before it; the refusal is that of the list, or that of the first faulty
--- item
+-- the behaviours are the items of the list in order, each read after those before it; the refusal is that of the list, or that of the first faulty item
 pub record ReadsBehaviours (texts : Texts) (document : List ℕ) (env : NamedEnv) : Type 0 where
   pub gives : (d : Data) (xs : List NamedBeh) → (catalogue_in texts document env d ≡ Ok xs)
       ↔ IsListOf (codes "behaviours") (λ n. n ≤ MAX_BEHAVIOURS) (λ before item x. behaviour_in texts document env before (length before) item ≡ Ok x) d xs
