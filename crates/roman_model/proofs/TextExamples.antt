@@ -22,8 +22,7 @@ written = refl
 abbrev Says : List ℕ → Verdict → Type 0
 Says lines verdict = cert_verdict (numbered flaky_system) 0 (codes "roman-order 1\npairs 6\n" ++ lines) ≡ verdict
 
--- the list, two of its entries exchanged, without an entry, without its end, with an entry twice, without the last newline, and with a line after its
--- end
+-- the list, two of its entries exchanged, without an entry, without its end, with an entry twice, without the last newline, and with a line after its end
 orders_are_judged :
     Says (codes "1 f\n2 0\n3 1\n5 1\n0 0\n4 1\nend\n") (Greatest 0 false)
     × Says (codes "1 f\n2 0\n3 1\n0 0\n5 1\n4 1\nend\n") (Rejected 6 Unjustified)

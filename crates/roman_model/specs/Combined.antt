@@ -104,7 +104,6 @@ pub record CombinedServesAll (w : Several) : Type 0 where
   pub system : IsSys (combined w)
   pub great : (p : Pair) → IsPair (combined w) p → Great (combined w) p ↔ GreatAll w (couple_all w p)
 
--- for all targets within the limits the combined system is well formed, and a pair of it is related exactly where some simulation of all targets
--- holds it
+-- for all targets within the limits the combined system is well formed, and a pair of it is related exactly where some simulation of all targets holds it
 abbrev pub CombinedIsAll : Type 0
 CombinedIsAll = (w : Several) → IsSeveral w → CombinedServesAll w

@@ -8,8 +8,7 @@ use Rattle.roman_model.specs.Composition.{Couple, couple, Meets, IsNdSim, GreatC
 use Rattle.roman_model.specs.CompleteLists.{AreEntries, IsComplete}
 use Rattle.roman_model.specs.Numbers.{sizes_of, count, numbered, IsCompleteList, NumbersArePairs}
 
--- the related pairs, as couples, meet the three clauses; each ND-simulation is part of them; and a finite one holds exactly the related
--- pairs
+-- the related pairs, as couples, meet the three clauses; each ND-simulation is part of them; and a finite one holds exactly the related pairs
 pub record GreatestIsSimulation (s : Sys) : Type 0 where
   pub closed : (c : Couple) → GreatCouple s c → Meets s (GreatCouple s) c
   pub holds_each : (R : List Couple) → IsNdSim s R → (c : Couple) → IsIn c R → GreatCouple s c
