@@ -43,8 +43,7 @@ pub record IsNormalOfEnv (env normal : Env) : Type 0 where
   pub start : normal.start ≡ env.start
   pub same : (e a e' : ℕ) → e < env.states → a < env.actions → e' < env.states → has_triple normal e a e' ≡ has_triple env e a e'
 
--- the second behaviour is a normal form of the first: it is normal, and has the same numbers, and the same steps and final states for
--- numbers in range
+-- the second behaviour is a normal form of the first: it is normal, and has the same numbers, and the same steps and final states for numbers in range
 pub record IsNormalOfBeh (env_states actions : ℕ) (beh normal : Beh) : Type 0 where
   pub form : IsNormalBeh normal
   pub states : normal.states ≡ beh.states

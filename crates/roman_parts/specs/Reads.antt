@@ -72,8 +72,7 @@ pub record IsTripleItem (states actions : List (List ℕ)) (d : Data) (x : Tripl
 abbrev pub HasPlace : List (List ℕ) → Data → Type 0
 HasPlace names d = (k : ℕ) × IsPlace names d k
 
--- the first rule that a step of an environment breaks: it isn't a list of three items, or the first faulty item from the left isn't a text
--- or names nothing
+-- the first rule that a step of an environment breaks: it isn't a list of three items, or the first faulty item from the left isn't a text or names nothing
 abbrev pub BreaksTriple : List (List ℕ) → List (List ℕ) → ℕ → List Triple → Data → PartError → Type 0
 BreaksTriple states actions i before d e =
     IsNoRow 3 i d e

@@ -75,7 +75,7 @@ pub record CanList (names : List (List ℕ)) (most : ℕ) : Type 0 where
   pub named : (name : List ℕ) → IsIn name names → IsTrue (is_name name)
   pub once : HasNoRepeats names
 
--- a document can state the environment: it is in range and in normal form, its names can be listed, and it doesn't have too many steps
+-- a document can state the environment: it is in range and in normal form, with names that can be listed and few enough steps
 pub record IsSayableEnv (env : NamedEnv) : Type 0 where
   pub states : CanList env.states MAX_STATES
   pub actions : CanList env.actions MAX_ACTIONS
@@ -85,8 +85,7 @@ pub record IsSayableEnv (env : NamedEnv) : Type 0 where
   pub form : IsNormalEnv env.env
   pub few : length env.env.triples ≤ MAX_STEPS
 
--- a document can state the behaviour: it is in range over the environment and in normal form, it has a name, the names of its states can be listed,
--- and it doesn't have too many steps
+-- a document can state the behaviour: it is in range over the environment and in normal form, with a name, state names that can be listed and few enough steps
 pub record IsSayableBeh (env : NamedEnv) (b : NamedBeh) : Type 0 where
   pub name : IsTrue (is_name b.name)
   pub states : CanList b.states MAX_STATES
@@ -97,8 +96,7 @@ pub record IsSayableBeh (env : NamedEnv) (b : NamedBeh) : Type 0 where
   pub form : IsNormalBeh b.beh
   pub few : length b.beh.steps ≤ MAX_STEPS
 
--- a document can state the target: it is in range over the environment, deterministic and in normal form, the names of its states can be listed, and
--- it doesn't have too many steps
+-- a document can state the target: it is in range over the environment, deterministic and in normal form, with names that can be listed and few enough steps
 pub record IsSayableTarget (env : NamedEnv) (t : NamedTarget) : Type 0 where
   pub states : CanList t.states MAX_STATES
   pub state_count : length t.states ≡ t.beh.states
