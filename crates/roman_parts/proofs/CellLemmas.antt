@@ -90,7 +90,7 @@ pub leads_none : (actions size : ℕ) → HasCells actions (leads []) (replicate
 unfolding leads
 leads_none actions size = record { has = λ e a n less. empty_has size (e * actions + a) n }
 
--- moves the first or the last of several tests
+-- swaps the first and the last of three tests
 and_turned : (x y z : Bool) → ((x && y) && z) ≡ ((z && y) && x)
 and_turned true true true = refl
 and_turned true true false = refl
