@@ -1,11 +1,11 @@
--- Loops that go over a list from its beginning, some places at a time.
+-- Loops over a list from its front, some places at a time.
 use Rattle.std.proofs.Common.{◌≡◌, ℕ, ◌+◌, ◌-◌, List, length, take, drop, sum_by, ap, ◌∙◌}
 use Rattle.std.specs.Simd.Lanes.{chunk}
 use Rattle.std.proofs.Math.Seq.{take-add}
 use Rattle.std.proofs.lemmas.List.{take_rest}
 use Rattle.std.proofs.lemmas.List.Sums.{sum_by-append, sum_by-take-drop}
 
--- the block at i is counted, and then the rest
+-- the count from i on is the count of the block at i plus that of the rest
 pub counted_block : (f : ℕ → ℕ) (xs : List ℕ) (i n : ℕ) → sum_by f (take (i + n) xs) ≡ sum_by f (take i xs) + sum_by f (chunk i n xs)
 counted_block f xs i n = ap (sum_by f) (take-add i n xs) ∙ sum_by-append f (take i xs) (chunk i n xs)
 

@@ -1,11 +1,11 @@
--- Lanes without a bit.
+-- Vectors whose lanes are 0.
 use Rattle.std.proofs.Common.{◌≡◌, ℕ, ◌+◌, ◌-◌, ◌<◌, ◌≤◌, zero, suc, List, [], ◌∷◌, length, drop, get_or, bit_or, refl, sym, ap, ◌∙◌, arith}
 use Rattle.std.specs.Simd.Lanes.{zip2, chunk}
 use Rattle.std.proofs.lemmas.Nat.{le_or_l, le_or_r}
 use Rattle.std.proofs.lemmas.List.{get_or-take, get_or-drop}
 use Rattle.roman_lanes.specs.Words.{AreClear}
 
--- where neither of two has a bit, none of both has
+-- where the bitwise or of two numbers is 0, both are 0
 none_of_either : (a b : ℕ) → bit_or a b ≡ 0 → (a ≡ 0) × (b ≡ 0)
 none_of_either a b e = (omega (arith, le_or_l a b), omega (arith, le_or_r a b))
 
@@ -20,11 +20,11 @@ either_clear (x ∷ xs) (y ∷ ys) same clear =
       elim [ zero ↦ first.1 | suc i ↦ rest.1 i ],
     )
 
--- an element of a block is one of the list
+-- an element of a block is an element of the list
 in_chunk : (at n i : ℕ) (xs : List ℕ) → i < n → get_or (chunk at n xs) i 0 ≡ get_or xs (at + i) 0
 in_chunk at n i xs within = get_or-take n (drop at xs) i 0 within ∙ get_or-drop at xs i 0
 
--- where a block has no bit, no word of it has one
+-- where the whole block is 0, each word of it is 0
 pub clear_in : (at n : ℕ) (xs block : List ℕ) → block ≡ chunk at n xs → AreClear block → (i : ℕ) → at ≤ i → i < at + n → get_or xs i 0 ≡ 0
 clear_in at n xs block is clear i low high =
     let place : at + (i - at) ≡ i = omega arith in

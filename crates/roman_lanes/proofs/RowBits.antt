@@ -18,7 +18,7 @@ pub on_ones_above : (k i : ℕ) → k ≤ i → is_on (2 ^ k - 1) i ≡ false
 unfolding is_on
 on_ones_above k i h = ap (λ n. eqb n 1) (bit_at_ones_above k i h)
 
--- the word of that many lanes, as it is computed
+-- the word with the lowest `lanes` bits set, as it is computed
 pub full_word : (lanes : ℕ) → lanes ≤ 64 → (2 ^ 64 - 1) / 2 ^ (64 - lanes) ≡ 2 ^ lanes - 1
 full_word lanes few =
     let rest : 64 - (64 - lanes) ≡ lanes = omega arith in
@@ -61,7 +61,7 @@ pub on_not : (a i : ℕ) → a < 2 ^ 64 → i < 64 → is_on (bit_not w64 a) i �
 unfolding is_on
 on_not a i h l = ap (λ n. eqb n 1) (bit_at_not w64 a i h l) ∙ not_on (bit_at a i) (bit_at-lt a i)
 
--- the word of one lane
+-- the word with one lane set
 pub on_pow_same : (i : ℕ) → is_on (2 ^ i) i ≡ true
 unfolding is_on
 on_pow_same i = eq-eqb (bit_at (2 ^ i) i) 1 (bit_at-pow_same i)
@@ -70,7 +70,7 @@ pub on_pow_other : (i j : ℕ) → j ≢ i → is_on (2 ^ i) j ≡ false
 unfolding is_on
 on_pow_other i j ne = ap (λ n. eqb n 1) (bit_at-pow_other i j ne)
 
--- the lanes of one word that aren't those of another
+-- the lanes of one word that aren't lanes of another
 pub on_less : (a b i : ℕ) → b < 2 ^ 64 → i < 64 → is_on (bit_and a (bit_not w64 b)) i ≡ (is_on a i && not (is_on b i))
 on_less a b i h l = on_and a (bit_not w64 b) i ∙ ap (λ x. is_on a i && x) (on_not b i h l)
 

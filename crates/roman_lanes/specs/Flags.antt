@@ -1,4 +1,4 @@
--- A flag for each number, sixty-four of them to a word.
+-- Words of flags: one flag for each number, 64 flags to a word.
 use Rattle.std.specs.Prelude.{ℕ, ◌/◌, ◌%◌, ◌==◌, Bool, List, slice_index}
 use Rattle.std.specs.Int.{bit_at}
 

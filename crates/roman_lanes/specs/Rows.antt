@@ -1,4 +1,4 @@
--- Sets of numbers as words: rows of up to 64 neighbouring numbers, a word to a row and a bit to a number.
+-- Sets of numbers as words: a row is up to 64 neighbouring numbers, with one word for each row and one bit for each number.
 use Rattle.std.specs.Prelude.{◌≡◌, ℕ, ◌+◌, ◌*◌, ◌<◌, ◌≤◌, ◌==◌, ◌&&◌, Bool, false, List, length, slice_index}
 use Rattle.std.specs.Int.{bit_at}
 
@@ -6,16 +6,16 @@ use Rattle.std.specs.Int.{bit_at}
 unfoldable pub is_on : ℕ → ℕ → Bool
 is_on word lane = bit_at word lane == 1
 
--- the bit of each lane of a row tells whether its number passes the test, and no bit is set past the lanes
+-- the bit of each lane of the row is set exactly where its number passes the test, and no bit is set past the lanes
 pub record HasLanes (lanes row : ℕ) (test : ℕ → Bool) (word : ℕ) : Type 0 where
   pub each : (lane : ℕ) → lane < lanes → is_on word lane ≡ test (row * lanes + lane)
   pub rest : (lane : ℕ) → lanes ≤ lane → is_on word lane ≡ false
 
--- each word has a bit for each number of its row that passes the test, and no other bit
+-- in each word exactly the bits of those numbers of its row are set that pass the test
 pub record AreRows (lanes : ℕ) (test : ℕ → Bool) (words : List ℕ) : Type 0 where
   pub each : (row : ℕ) → row < length words → HasLanes lanes row test (slice_index words row)
 
--- of the numbers of `many` rows from row x on, a word for each, those are on that were and pass the test
+-- in the words of `many` rows from row x on, exactly the set lanes whose numbers pass the test stay set, and no lane is newly set; the other words stay
 pub record Keeps (lanes x many : ℕ) (test : ℕ → Bool) (old new : List ℕ) : Type 0 where
   pub each : (i lane : ℕ) → i < many → lane < lanes → is_on (slice_index new i) lane ≡ (is_on (slice_index old i) lane && test ((x + i) * lanes + lane))
   pub others : (i : ℕ) → many ≤ i → slice_index new i ≡ slice_index old i

@@ -1,17 +1,17 @@
-//! Blocks of neighbouring words or numbers, as vectors.
+//! Tests on blocks of neighbouring words or numbers, which are loaded as vectors.
 ghost use Rattle.std.specs.Prelude.{◌≡◌, ℕ, ◌+◌, ◌<◌, ◌≤◌, length, slice_index, count_by, ◌==◌, IsTrue};
 ghost use Rattle.std.specs.Simd.Lanes.{chunk};
 ghost use Rattle.roman_lanes.specs.Words.{AreClear};
 
 use std::simd::prelude::*;
 
-/// How many numbers a block has.
+/// The length of a block of numbers.
 pub(crate) const LANES: usize = 16;
 
-/// How many words a block has.
+/// The length of a block of words.
 pub(crate) const WORDS: usize = 32;
 
-/// How many numbers of the block at `at` are `value`.
+/// Returns how many numbers of the block that begins at `at` are `value`.
 pub(crate) fn equal_in(values: &[u32], at: usize, value: u32) -> u32
     requires { at + 16 ≤ length values.now }
     ensures counted { result ≡ count_by (λ x. x == value) (chunk at 16 values.now) }
@@ -23,7 +23,7 @@ pub(crate) fn equal_in(values: &[u32], at: usize, value: u32) -> u32
         .count_ones()
 }
 
-/// Whether no word of the block at `at` has a bit.
+/// Returns whether all words of the block that begins at `at` are 0.
 pub(crate) fn is_clear(words: &[u64], at: usize) -> bool
     requires { at + 32 ≤ length words.now }
     ensures { IsTrue result → (i : ℕ) → at ≤ i → i < at + 32 → slice_index words.now i ≡ 0 }
@@ -33,7 +33,7 @@ pub(crate) fn is_clear(words: &[u64], at: usize) -> bool
     are_clear(either(front, back))
 }
 
-/// The eight words from `at` on.
+/// Returns the eight words from `at` on.
 #[inline(always)]
 fn part(words: &[u64], at: usize) -> u64x8
     requires { at + 8 ≤ length words.now }
@@ -42,7 +42,7 @@ fn part(words: &[u64], at: usize) -> u64x8
     u64x8::from_slice(&words[at..])
 }
 
-/// The bits of either.
+/// Returns the bitwise or of the two vectors.
 #[inline(always)]
 fn either(a: u64x8, b: u64x8) -> u64x8
     ensures { AreClear result → AreClear a × AreClear b }
@@ -50,7 +50,7 @@ fn either(a: u64x8, b: u64x8) -> u64x8
     a | b
 }
 
-/// Whether no lane has a bit.
+/// Returns whether all lanes are 0.
 #[inline(always)]
 fn are_clear(lanes: u64x8) -> bool
     ensures { IsTrue result → AreClear lanes }

@@ -1,10 +1,10 @@
-//! Numbers that are counted.
+//! Counting equal numbers.
 ghost use Rattle.std.specs.Prelude.{◌≡◌, ◌≤◌, length, count_by, ◌==◌};
 
 use crate::block::{LANES, equal_in};
 
-/// How many of the numbers are `value`, for any number of them, none included: in one pass, sixteen at
-/// a time.
+/// Returns how many of the numbers are `value`. The slice may have any length, 0 included. Counts in
+/// one pass, sixteen numbers at a time.
 pub fn count_equal(values: &[u32], value: u32) -> usize
     ensures counted { result ≡ count_by (λ x. x == value) values.now }
 {
@@ -16,7 +16,8 @@ pub fn count_equal(values: &[u32], value: u32) -> usize
     count + equal_cells(&values[blocks * LANES..], value)
 }
 
-/// How many of the numbers are `value`, by a plain loop, for those that no whole block has.
+/// Returns how many of the numbers are `value`, by a plain loop. Counts the numbers after the last
+/// whole block.
 fn equal_cells(values: &[u32], value: u32) -> usize
     ensures counted { result ≡ count_by (λ x. x == value) values.now }
     ensures bound { result ≤ length values.now }

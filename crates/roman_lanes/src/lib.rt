@@ -1,7 +1,8 @@
-//! Kernels over large slices of words and numbers, and what it means that words are rows of flags.
+//! Kernels over large slices of words and numbers, and the definitions by which words are rows of
+//! flags.
 //!
-//! Each goes over the slice in blocks, by `std::simd`, and then over what is left one by one. The
-//! contracts say what a plain loop would do. Nothing allocates.
+//! Each kernel goes over the slice block by block, by `std::simd`, and then over the rest one by one.
+//! The contracts say what a plain loop would do. No call takes memory.
 #![tactic(auto)]
 
 mod block;

@@ -1,11 +1,11 @@
-//! Words that are searched for one with a bit.
+//! Searching for a word that isn't 0.
 ghost use Rattle.std.specs.Prelude.{◌≡◌, ◌≢◌, ℕ, ◌<◌, ◌≤◌, length, slice_index, IfSome, IfNone};
 
 use crate::block::{WORDS, is_clear};
 
-/// The place of the first word from the place `from` on that has a bit, where `from` may be the words'
-/// end. `None` comes exactly where no word from there on has one. Blocks of 32 words without a bit are
-/// passed over at once.
+/// Returns the place of the first word that isn't 0, from the place `from` on. `from` is at most the
+/// length of the slice. Returns `None` exactly where all words from there on are 0. Skips 32 words at
+/// a time while they are all 0.
 pub fn first_set(words: &[u64], from: usize) -> Option<usize>
     requires from { from ≤ length words.now }
     ensures none { IfNone result ((i : ℕ) → from ≤ i → i < length words.now → slice_index words.now i ≡ 0) }
@@ -20,7 +20,7 @@ pub fn first_set(words: &[u64], from: usize) -> Option<usize>
     None
 }
 
-/// A place past those blocks from `from` on in which no word has a bit.
+/// Skips whole blocks of zeros, from `from` on, and returns the place after them.
 fn past_clear(words: &[u64], from: usize) -> usize
     requires { from ≤ length words.now }
     ensures place { from ≤ result × (result ≤ length words.now) }

@@ -1,8 +1,8 @@
-//! Each kernel beside its plain definition, at each length up to that of some blocks and what is left.
+//! Compares each kernel with its plain definition, at each length up to some blocks and a rest.
 use crate::{count_equal, first_set};
 use std::test::*;
 
-/// A block of numbers and one more. Every fourth is the greatest number.
+/// One block of numbers and one number more. Every fourth is the greatest number.
 const CELLS: [u32; 17] = [
     0xffff_ffff,
     0x0000_0000,

@@ -2,7 +2,7 @@ use Rattle.std.proofs.Common.{ℕ, ◌*◌, ◌+◌, ◌/◌, ◌≡◌, ◌==�
 use Rattle.roman_lanes.proofs.Blocks.{counted_block, counted_rest}
 use Rattle.roman_lanes.proofs.cells.count_equal.Goals as goal
 
--- 1 where two values are equal, which a count adds up
+-- 1 where two values are equal, else 0: the term that a count adds
 abbrev one_if_equal : ℕ → ℕ → ℕ
 one_if_equal value x = cond (x == value) 1 0
 

@@ -1,7 +1,7 @@
 use Rattle.std.proofs.Common.{◌≡◌, ℕ, ◌<◌, ◌≤◌, slice_index}
 use Rattle.roman_lanes.proofs.search.first_set.Given as goal
 
--- no word so far has a bit
+-- all words so far are 0
 abbrev pub invariant-loop-i : goal.invariant-loop-i
 invariant-loop-i l = record {
   place : l.from ≤ l.i;

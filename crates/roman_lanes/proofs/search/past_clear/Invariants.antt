@@ -1,7 +1,7 @@
 use Rattle.std.proofs.Common.{◌≡◌, ℕ, ◌<◌, ◌≤◌, ◌-◌, length, slice_index}
 use Rattle.roman_lanes.proofs.search.past_clear.Given as goal
 
--- no word so far has a bit
+-- all words so far are 0
 abbrev pub invariant-loop-at : goal.invariant-loop-at
 invariant-loop-at l = record {
   place : l.from ≤ l.at;
