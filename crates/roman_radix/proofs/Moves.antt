@@ -1,4 +1,4 @@
--- How a pair's number moves with its states.
+-- How a pair's number changes with its states.
 use Rattle.std.proofs.Common.{◌≡◌, ℕ, ◌+◌, ◌-◌, ◌*◌, ◌/◌, ◌%◌, ◌<◌, ◌≤◌, List, length, take, drop, slice_index, get_or, inl, inr, refl, sym, ap, ap₂, ◌∙◌, subst, arith}
 use Rattle.std.proofs.Math.ListN.{set}
 use Rattle.std.proofs.lemmas.Bool.{cases_eq}
@@ -13,7 +13,7 @@ use Rattle.roman_model.proofs.CallerLemmas.{AreBelow-length, number_below, parts
 use Rattle.roman_radix.specs.Radix.{stride_of, env_stride_of, target_stride_of, with_part, moved}
 use Rattle.roman_radix.proofs.Strides.{product_more}
 
--- component k in another state; the numbers of the code are equal to those of the sizes
+-- component k gets another state; the numbers in the code are equal to those of the sizes
 pub record Replaced (n : Sizes) (p k b part state stride : ℕ) : Type 0 where
   pub taken : part * stride ≤ p
   pub number : p - part * stride + state * stride ≡ number n (with_part (pair_at n p) k b)
@@ -37,7 +37,7 @@ pub replaced : (n : Sizes) (p k b part state stride : ℕ) → p < count n → k
 replaced n p k b part state stride in_range component within is_part is_state is_stride =
     rw (is_part, is_state, is_stride) (replaced_by n p k b in_range component within)
 
--- the target, the environment and component k in other states
+-- the target, the environment and component k get other states
 pub record Moved (n : Sizes) (p t e k b row state env env_stride w : ℕ) : Type 0 where
   pub number : (row * env + state) * env_stride + w % env_stride ≡ number n (moved (pair_at n p) t e k b)
   pub below : (row * env + state) * env_stride + w % env_stride < count n
@@ -60,7 +60,7 @@ pub moves_to : (n : Sizes) (p t e k b row state env env_stride w : ℕ) → p < 
 moves_to n p t e k b row state env env_stride w in_range target within component below is_row is_state is_env is_stride is =
     rw (is_row, is_state, is_env, is_stride, is) (moves_by n p t e k b in_range target within component below)
 
--- a last component comes
+-- a component is added at the end
 pub record Grown (n : Sizes) (p size b factor state : ℕ) : Type 0 where
   pub number : p * factor + state ≡ number (grown_sizes n size) (grown (pair_at n p) b)
   pub below : p * factor + state < count (grown_sizes n size)
@@ -75,7 +75,7 @@ grows_by n p size b in_range state =
 pub grows_to : (n : Sizes) (p size b factor state : ℕ) → p < count n → b < size → factor ≡ size → state ≡ b → Grown n p size b factor state
 grows_to n p size b factor state in_range within is_factor is_state = rw (is_factor, is_state) (grows_by n p size b in_range within)
 
--- component k goes
+-- component k is dropped
 pub record Shrunk (n : Sizes) (p k size stride : ℕ) : Type 0 where
   pub number : p / stride / size * stride + p % stride ≡ number (sizes_without k n) (without k (pair_at n p))
   pub below : p / stride / size * stride + p % stride < count (sizes_without k n)
@@ -97,7 +97,7 @@ pub front_and_states : (n : Sizes) (t e row state target_stride env_stride : ℕ
     row * target_stride + state * env_stride + states_number n.seats bs ≡ number n (record { t = t; e = e; bs = bs })
 front_and_states n t e row state target_stride env_stride bs is_row is_state is_target is_env = rw (is_row, is_state, is_target, is_env) (omega arith)
 
--- one state more of a list of states
+-- the number so far with one more state
 pub states_more : (sizes bs : List ℕ) (k b stride number whole : ℕ) → k < length sizes → k < length bs → b ≡ slice_index bs k → stride ≡ product_of (drop (k + 1) sizes) →
     number + states_number (drop k sizes) (drop k bs) ≡ whole → number + b * stride + states_number (drop (k + 1) sizes) (drop (k + 1) bs) ≡ whole
 states_more sizes bs k b stride number whole size state is is_stride so_far =
@@ -106,13 +106,13 @@ states_more sizes bs k b stride number whole size state is is_stride so_far =
     let here : b * stride ≡ slice_index bs k * product_of (drop (k + 1) sizes) = rw (is, is_stride) refl in
     omega arith
 
--- no state is left
+-- where no state is left, the number so far is the whole number
 pub states_end : (sizes bs : List ℕ) (k number whole : ℕ) → length sizes ≤ k → number + states_number (drop k sizes) (drop k bs) ≡ whole → number ≡ whole
 states_end sizes bs k number whole past so_far =
     let none : states_number (drop k sizes) (drop k bs) ≡ 0 = ap (λ ns. states_number ns (drop k bs)) (drop_all k sizes past) in
     omega arith
 
--- the digits of a number from the last on: one more
+-- one more digit of a number, from the last one on
 pub record DigitTaken (n : Sizes) (parts : List ℕ) (p j whole state : ℕ) : Type 0 where
   pub rest : whole ≡ p / product_of (drop j n.seats)
   pub states : (i : ℕ) → j ≤ i → i < length n.seats → get_or (set parts j state) i 0 ≡ slice_index (pair_at n p).bs i
@@ -131,7 +131,7 @@ digit_taken n parts p j k rest size whole state in_range here component room is_
     digit : rest % size ≡ slice_index (pair_at n p).bs j
     digit = ap₂ (λ x y. x % y) (is_rest ∙ ap (λ x. p / product_of (drop x n.seats)) here) is_size ∙ sym (part_at n p j in_range component)
 
--- all of them
+-- all digits
 pub digits_all : (n : Sizes) (parts : List ℕ) (p k : ℕ) → p < count n → k ≡ 0 → length n.seats ≤ length parts →
     ((i : ℕ) → k ≤ i → i < length n.seats → get_or parts i 0 ≡ slice_index (pair_at n p).bs i) → take (length n.seats) parts ≡ (pair_at n p).bs
 digits_all n parts p k in_range here room states =

@@ -1,4 +1,4 @@
--- How a shape's fields make the number of a pair, and move it.
+-- How a pair's number is computed from a shape's fields, and changed.
 use Rattle.std.proofs.Common.{◌≡◌, ℕ, ◌+◌, ◌-◌, ◌*◌, ◌%◌, ◌^◌, ◌<◌, ◌≤◌, length, drop, slice_index, get_or, ◌∙◌, arith}
 use Rattle.roman_model.specs.declared.limits.TheConstants.{MAX_SERVICES}
 use Rattle.roman_model.specs.System.{Pair}
@@ -10,24 +10,24 @@ use Rattle.roman_radix.specs.declared.shape.Shape.TheInside.{Inside}
 use Rattle.roman_radix.proofs.Moves.{Replaced, replaced, Moved, moves_to, Shrunk, shrinks_to, states_more}
 use Rattle.roman_radix.proofs.Shown.{shown, stride_is, size_is}
 
--- the states of a pair are as many as the components, and its number has 32 bits
+-- a pair has one state for each component, and its number has 32 bits
 pub record NumberOf (n : Sizes) (q : Pair) : Type 0 where
   pub long : length q.bs ≡ length n.seats
   pub few : length n.seats ≤ MAX_SERVICES
   pub below : number n q < count n
   pub fits : number n q < 2 ^ 32
 
--- with the states before component k + 1 the number is so far
+-- `so_far` is the number of the states up to component k
 pub record NumberSoFar (n : Sizes) (q : Pair) (k so_far : ℕ) : Type 0 where
   pub left : so_far + states_number (drop (k + 1) n.seats) (drop (k + 1) q.bs) ≡ number n q
   pub fits : so_far < 2 ^ 32
 
--- component k of a pair is in another state, and its number has 32 bits
+-- component k of a pair gets another state, and the number has 32 bits
 pub record Replaces (n : Sizes) (p k b part state stride : ℕ) : Type 0 where
   pub is : Replaced n p k b part state stride
   pub fits : p - part * stride + state * stride < 2 ^ 32
 
--- a pair has moved, and its number has 32 bits
+-- the target, the environment and component k get other states, and the number has 32 bits
 pub record Moves (n : Sizes) (p t e k b row state env env_stride w : ℕ) : Type 0 where
   pub is : Moved n p t e k b row state env env_stride w
   pub fits : (row * env + state) * env_stride < 2 ^ 32
@@ -40,7 +40,7 @@ module _ (a : Inside) (n : Sizes) (laid : IsLaidOut a) (shows : sizes_in a ≡ n
       let below = number_below n q pair in
       record { long = AreBelow-length n.seats q.bs pair.bs; few = fields.sizes.few; below = below; fits = omega (arith, below, fields.sizes.counted) }
 
-  -- a state more of a pair, by what its component adds
+  -- one more state of a pair, by the stride of its component
   pub state_added : (q : Pair) (k b so_far : ℕ) → IsPairOf n q → k < length q.bs → b ≡ slice_index q.bs k → so_far + states_number (drop k n.seats) (drop k q.bs) ≡ number n q
       → NumberSoFar n q k (so_far + b * get_or a.strides k 0)
   state_added q k b so_far pair within is before =
@@ -63,7 +63,7 @@ module _ (a : Inside) (n : Sizes) (laid : IsLaidOut a) (shows : sizes_in a ≡ n
       let to = moves_to n p t e k b row state env a.env_stride w in_range target within component below is_row is_state (is_env ∙ fields.env) fields.env_stride is in
       record { is = to; fits = omega (arith, to.below, fields.sizes.counted); sum = omega (arith, to.below, fields.sizes.counted) }
 
-  -- component k goes
+  -- component k is dropped
   pub shrinks : (p k size : ℕ) → p < count n → k < length n.seats → size ≡ get_or a.sizes k 0 → Shrunk n p k size (get_or a.strides k 0)
   shrinks p k size in_range component is_size =
       let fields = shown a n laid shows in

@@ -27,7 +27,7 @@ lanes_few (n ∷ ns) = elim (cases_lt 64 (product_of (n ∷ ns))) [
 pub lanes_positive : (ns : List ℕ) → AreSizes ns → 0 < lanes_of ns
 lanes_positive ns h = product_positive (drop (low_of ns) ns) (AreSizes-drop (low_of ns) ns h)
 
--- the lanes begin where the states of the components from there on fit, and with one component more they don't
+-- the lanes begin at the first component from which on the product of the sizes is at most 64
 pub low_is : (ns : List ℕ) (k : ℕ) → AreSizes ns → product_of (drop k ns) ≤ 64 → ((j : ℕ) → j < k → 64 < product_of (drop j ns)) → k ≤ length ns → low_of ns ≡ k
 low_is [] k h few more within = omega arith
 low_is (n ∷ ns) zero h few more within = ap (λ b. cond b (suc (low_of ns)) 0) (le-ltb 64 (product_of (n ∷ ns)) few)
@@ -35,7 +35,7 @@ low_is (n ∷ ns) (suc k) h few more within =
     ap (λ b. cond b (suc (low_of ns)) 0) (lt-ltb 64 (product_of (n ∷ ns)) (more 0 (omega arith)))
     ∙ ap suc (low_is ns k h.2 few (λ j l. more (suc j) (omega arith)) (omega arith))
 
--- where it is too many from one component on, it is from those before
+-- where the product from a component on exceeds 64, so does the product from each component before
 pub too_many_from : (ns : List ℕ) (k j : ℕ) → AreSizes ns → j ≤ k → 64 < product_of (drop k ns) → 64 < product_of (drop j ns)
 too_many_from ns k zero h l more = let less : product_of (drop k ns) ≤ product_of ns = product_drop-le k ns h in omega arith
 too_many_from [] zero (suc j) h l more = absurd (omega arith)
@@ -43,7 +43,7 @@ too_many_from [] (suc k) (suc j) h l more = more
 too_many_from (n ∷ ns) zero (suc j) h l more = absurd (omega arith)
 too_many_from (n ∷ ns) (suc k) (suc j) h l more = too_many_from ns k j h.2 (omega arith) more
 
--- the product of the last numbers goes into that of all
+-- the product of the last numbers divides that of all
 pub tails : (ns : List ℕ) (j : ℕ) → (m : ℕ) × (product_of ns ≡ m * product_of (drop j ns))
 tails ns zero = (1, omega arith)
 tails [] (suc j) = (1, omega arith)
@@ -66,11 +66,11 @@ product_split (n ∷ ns) (suc j) =
     let rest : n * (product_of (take j ns) * product_of (drop j ns)) ≡ n * product_of ns = ap (λ x. n * x) (product_split ns j) in
     omega arith
 
--- the rows of a state of the environment
+-- the rows for a state of the environment, times the lanes, are the environment's stride
 pub env_rows_are : (n : Sizes) → env_rows_of n * lanes_of n.seats ≡ env_stride_of n
 env_rows_are n = product_split n.seats (low_of n.seats)
 
--- what is divided by a factor
+-- division by a factor leaves no remainder
 pub exact : (a m w : ℕ) → 0 < w → a ≡ m * w → a / w * w ≡ a
 exact a m w pos is = ap (λ x. x / w * w) is ∙ (ap (λ x. x * w) (omega_div m w pos) ∙ sym is)
   where
@@ -79,7 +79,7 @@ exact a m w pos is = ap (λ x. x / w * w) is ∙ (ap (λ x. x * w) (omega_div m 
         let same : m * w ≡ m * w + 0 = omega arith in
         ap (λ x. x / w) same ∙ div-mul-add m w 0 pos
 
--- where a pair's row is
+-- a pair divided by a number of rows is its row divided by that number
 pub row_div : (row w lane r : ℕ) → lane < w → (row * w + lane) / (r * w) ≡ row / r
 row_div row w lane r h =
     let turned : r * w ≡ w * r = omega arith in
@@ -93,7 +93,7 @@ row_mod row w lane r h =
     let split : (row / r * r + row % r) * w ≡ row / r * (r * w) + row % r * w = omega arith in
     omega arith
 
--- a number of rows that goes into a pair goes into its row
+-- where a pair isn't before a row, neither is its own row
 pub row_least : (x y w lane : ℕ) → lane < w → x * w ≤ y * w + lane → x ≤ y
 row_least x y w lane h l = elim (cases_lt y x) [
   | inl more ↦
@@ -111,21 +111,21 @@ row_below row w lane rows l = elim (cases_lt row rows) [
       absurd (omega arith)
 ]
 
--- the pairs are whole rows
+-- the number of pairs is a multiple of the lanes
 pub rows_are : (n : Sizes) → IsSizes n → count n / lanes_of n.seats * lanes_of n.seats ≡ count n
 rows_are n h =
     let (m, e) = tails n.seats (low_of n.seats) in
     let whole : count n ≡ n.target * n.env * m * lanes_of n.seats = ap (λ x. n.target * n.env * x) e ∙ omega arith in
     exact (count n) (n.target * n.env * m) (lanes_of n.seats) (lanes_positive n.seats h.seats) whole
 
--- Rows as pairs of their own: those of the sizes before the lanes.
+-- Rows are numbered like pairs of the sizes before the lanes.
 
 pub AreSizes-take : (k : ℕ) (ns : List ℕ) → AreSizes ns → AreSizes (take k ns)
 AreSizes-take zero ns h = tt
 AreSizes-take (suc k) [] h = tt
 AreSizes-take (suc k) (n ∷ ns) h = (h.0, h.1, AreSizes-take k ns h.2)
 
--- the last of the first numbers, and those behind them
+-- the product from place j on is split at place k
 pub product_middle : (ns : List ℕ) (j k : ℕ) → j ≤ k → product_of (drop j (take k ns)) * product_of (drop k ns) ≡ product_of (drop j ns)
 product_middle ns zero k l = product_split ns k
 product_middle [] (suc j) zero l = absurd (omega arith)
@@ -133,7 +133,7 @@ product_middle [] (suc j) (suc k) l = omega arith
 product_middle (n ∷ ns) (suc j) zero l = absurd (omega arith)
 product_middle (n ∷ ns) (suc j) (suc k) l = product_middle ns j k (omega arith)
 
--- there are as many of them as rows
+-- the number of pairs of the sizes before the lanes is the number of rows
 pub count_rows : (n : Sizes) → count (row_sizes n) * lanes_of n.seats ≡ count n
 count_rows n =
     let whole : n.target * n.env * (product_of (take (low_of n.seats) n.seats) * lanes_of n.seats) ≡ count n = ap (λ m. n.target * n.env * m) (product_split n.seats (low_of n.seats)) in

@@ -1,4 +1,4 @@
--- What a shape's fields are, by the sizes that it shows.
+-- A shape's fields in terms of the sizes that it holds.
 use Rattle.std.proofs.Common.{◌≡◌, ℕ, ◌+◌, ◌^◌, ◌<◌, length, get_or, slice_index, refl, sym, subst}
 use Rattle.roman_model.specs.Numbers.{Sizes, count}
 use Rattle.roman_radix.specs.declared.shape.Shape.TheInside.{Inside}

@@ -28,7 +28,7 @@ AreSizes-index [] k h l = absurd (omega arith)
 AreSizes-index (n ∷ ns) zero h l = (h.0, h.1)
 AreSizes-index (n ∷ ns) (suc k) h l = AreSizes-index ns k h.2 (omega arith)
 
--- the product of the last numbers is no greater than that of all
+-- the product of the last numbers is at most that of all
 pub product_drop-le : (k : ℕ) (ns : List ℕ) → AreSizes ns → product_of (drop k ns) ≤ product_of ns
 product_drop-le zero ns h = omega arith
 product_drop-le (suc k) [] h = omega arith
@@ -46,7 +46,7 @@ strides_of-index [] k h = omega arith
 strides_of-index (n ∷ ns) zero h = refl
 strides_of-index (n ∷ ns) (suc k) h = rw add-one (rw add-one at (strides_of-index ns k (omega arith)))
 
--- what stands in a table at a component's place
+-- the number in a padded table at a component's place
 pub padded-index : (ns : List ℕ) (k : ℕ) → k < length ns → get_or (padded ns) k 0 ≡ get_or ns k 0
 padded-index ns k h = get_or_append_left ns (replicate (MAX_SERVICES - length ns) 0) 0 k h
 
@@ -60,14 +60,14 @@ size_at ns sizes k e h = ap (λ xs. get_or xs k 0) e ∙ padded-index ns k h
 pub length-padded : (ns : List ℕ) → length ns ≤ MAX_SERVICES → length (padded ns) ≡ MAX_SERVICES
 length-padded ns h = length-append ns (replicate (MAX_SERVICES - length ns) zero) ∙ (rw length-replicate (omega arith))
 
--- the first numbers of a padded table are as many as asked
+-- a padded table has c first numbers
 pub length_first : (c : ℕ) (table : List ℕ) → table ≡ padded (take c table) → c ≤ MAX_SERVICES → length (take c table) ≡ c
 length_first c table e h =
     let first : length (take c table) ≡ min c (length table) = length-take c table in
     let whole : length table ≡ MAX_SERVICES = ap length e ∙ length-padded (take c table) (omega arith) in
     omega arith
 
--- an empty table of strides
+-- a table of strides before the first one is written
 pub strides_none : (c : ℕ) (table zeros : List ℕ) → zeros ≡ replicate MAX_SERVICES zero → c ≤ MAX_SERVICES →
     zeros ≡ replicate c zero ++ (strides_of (drop c (take c table)) ++ replicate (MAX_SERVICES - c) zero)
 strides_none c table zeros e h =
@@ -94,7 +94,7 @@ product_more ns j k stride size here in_range is product =
     let next : product_of (drop j ns) ≡ get_or ns j 0 * product_of (drop k ns) = ap product_of (drop_more ns j 0 in_range ∙ ap (λ n. get_or ns j 0 ∷ drop n ns) (sym here)) in
     rw (is, product, next) (omega arith)
 
--- the whole table
+-- the finished table
 pub strides_all : (ns strides : List ℕ) (c k : ℕ) → length ns ≡ c → k ≡ 0 → strides ≡ replicate k zero ++ (strides_of (drop k ns) ++ replicate (MAX_SERVICES - c) zero) →
     strides ≡ padded (strides_of ns)
 strides_all ns strides c k long here table =
@@ -114,7 +114,7 @@ positive_by_recursion (n ∷ ns) h =
 pub positive_rest : (k : ℕ) (ns : List ℕ) → All (λ n. 0 < n) ns → 0 < product_of (drop k ns)
 positive_rest k ns h = positive_by_recursion (drop k ns) (recursion_from_All (λ n. 0 < n) (drop k ns) (All-drop (λ n. 0 < n) k ns h))
 
--- more than the cap so far is more than the cap in all
+-- where the product so far exceeds the cap, the whole product does
 pub too_many : (pairs rest whole cap : ℕ) → 0 < rest → pairs * rest ≡ whole → cap < pairs → whole ≤ cap → ⊥
 too_many pairs rest whole cap positive product more fits =
     let least : pairs * 1 ≤ pairs * rest = mul-le-mul_left pairs positive in

@@ -1,4 +1,4 @@
--- Tables of sizes after a size comes or goes, and the sizes themselves.
+-- Tables of sizes after a size is added or dropped, and the sizes themselves.
 use Rattle.std.proofs.Common.{◌≡◌, ℕ, zero, suc, ◌+◌, ◌-◌, ◌*◌, ◌^◌, ◌<◌, ◌≤◌, List, [], ◌∷◌, ◌++◌, length, take, drop, get_or, replicate, refl, sym, ap, ◌∙◌, arith, add-one}
 use Rattle.std.proofs.Math.ListN.{set}
 use Rattle.std.proofs.Math.Nat.{mul-le-mul_left}
@@ -12,7 +12,7 @@ use Rattle.roman_radix.specs.Radix.{AreSizes, IsSizes}
 use Rattle.roman_radix.specs.Places.{padded}
 use Rattle.roman_radix.proofs.Strides.{length-padded, AreSizes-drop, AreSizes-index}
 
--- a table that has these numbers, and then zeros
+-- a table that holds these numbers, followed by zeros
 pub record Has (table ns : List ℕ) (c : ℕ) : Type 0 where
   pub first : take c table ≡ ns
   pub padded : table ≡ padded (take c table)
@@ -70,7 +70,7 @@ AreSizes-take zero ns h = tt
 AreSizes-take (suc k) [] h = tt
 AreSizes-take (suc k) (n ∷ ns) h = (h.0, h.1, AreSizes-take k ns h.2)
 
--- numbers in range by their places
+-- numbers are in range where the number at each place is
 pub AreSizes-from : (ns : List ℕ) → ((k : ℕ) (d : ℕ) → k < length ns → 0 < get_or ns k d) → ((k : ℕ) → get_or ns k 0 < 2 ^ 8) → AreSizes ns
 AreSizes-from [] low high = tt
 AreSizes-from (n ∷ ns) low high = (low 0 0 (omega arith), high 0, AreSizes-from ns (λ k d h. low (suc k) d (omega arith)) (λ k. high (suc k)))

@@ -1,4 +1,4 @@
--- What the fields of a shape are.
+-- The fields of a shape.
 use Rattle.std.specs.Prelude.{◌≡◌, length, take}
 use Rattle.roman_model.specs.Numbers.{Sizes, count}
 use Rattle.roman_radix.specs.Radix.{IsSizes, env_stride_of, target_stride_of}
@@ -6,11 +6,11 @@ use Rattle.roman_radix.specs.Places.{padded, strides_of}
 use Rattle.roman_radix.specs.Rows.{low_of, lanes_of}
 use Rattle.roman_radix.specs.declared.shape.Shape.TheInside.{Inside}
 
--- the sizes that the fields show
+-- the sizes that the fields hold
 abbrev pub sizes_in : Inside → Sizes
 sizes_in a = record { target = a.target; env = a.env; seats = take a.components a.sizes }
 
--- the strides and the lanes are those of the sizes, and what isn't used is 0
+-- the strides and the lanes are those of the sizes, and unused places are 0
 pub record IsLaidOut (a : Inside) : Type 0 where
   pub sizes : IsSizes (sizes_in a)
   pub places : a.sizes ≡ padded (take a.components a.sizes)
@@ -22,7 +22,7 @@ pub record IsLaidOut (a : Inside) : Type 0 where
   pub low : a.low ≡ low_of (take a.components a.sizes)
   pub lanes : a.lanes ≡ lanes_of (take a.components a.sizes)
 
--- the fields that show these sizes
+-- the fields of the shape of these sizes
 abbrev pub laid_out : Sizes → Inside
 laid_out n = record {
   target = n.target;

@@ -1,4 +1,4 @@
--- Sizes whose pairs have numbers of 32 bits, and how a pair's number moves with each of its states.
+-- Sizes whose pairs have numbers of 32 bits, and how a pair's number depends on each of its states.
 use Rattle.std.specs.Prelude.{ℕ, ◌<◌, ◌≤◌, ◌+◌, ◌*◌, ◌^◌, List, [], ◌∷◌, length, drop, slice_set}
 use Rattle.roman_model.specs.Lists.{product_of}
 use Rattle.roman_model.specs.System.{Pair}
@@ -10,7 +10,7 @@ abbrev pub AreSizes : List ℕ → Type 0
 AreSizes [] = Unit {0}
 AreSizes (size ∷ sizes) = (0 < size) × (size < 2 ^ 8) × AreSizes sizes
 
--- there are few enough components, nothing has no states, and the pairs have numbers of 32 bits
+-- there are few enough components, each size is in range, and the pairs have numbers of 32 bits
 pub record IsSizes (n : Sizes) : Type 0 where
   pub target : (0 < n.target) × (n.target < 2 ^ 8)
   pub env : (0 < n.env) × (n.env < 2 ^ 8)

@@ -1,4 +1,4 @@
-//! Shapes: how many states each part of a pair has, and the pairs' numbers.
+//! Shapes: the numbers of states of the parts of a pair, and the numbers of pairs.
 
 ghost use Rattle.std.specs.Prelude.{◌≡◌, ◌*◌, ◌/◌, ◌%◌, ◌^◌, ◌<◌, ◌≤◌, ◌↔◌, length, take, slice_index, IsTrue, IsSome, IfSome, All};
 ghost use Rattle.roman_model.specs.Lists.{product_of};
@@ -14,17 +14,18 @@ use std::marker::Model;
 /// The greatest number of components.
 const PLACES: usize = MAX_SERVICES as usize;
 
-/// The greatest number of pairs in a row: a bit of a word for each.
+/// The greatest number of pairs in a row: one for each bit of a word.
 const MAX_LANES: u32 = 64;
 
-/// How many states the target, the environment and each component of a pair have.
+/// The numbers of states of the target, the environment and each component, called their sizes.
 ///
-/// The number of the pair with the target's state t, the environment's state e and the states b1, b2,
-/// .. of the components is `((t * E + e) * s1 + b1) * s2 + b2` and so on, where E is the environment's
-/// size and s1, s2, .. are those of the components. A shape keeps beside the sizes what each state adds
-/// to a number, so that a pair's number moves with one of its states by one product.
+/// A pair has the target's state t, the environment's state e and the states b1, b2, .. of the
+/// components. Its number is `((t * E + e) * s1 + b1) * s2 + b2` and so on, where E is the
+/// environment's size and s1, s2, .. are the sizes of the components. A shape also keeps strides: the
+/// stride of a part is what one more of its states adds to a number. So one product changes a state in
+/// a pair's number.
 ///
-/// It is `Copy`, and no call takes memory. Numbers that are passed are in range: pairs below
+/// A shape is `Copy`, and no call takes memory. Numbers that are passed must be in range: pairs below
 /// [`pairs`](Shape::pairs), components below [`components`](Shape::components), and states below their
 /// sizes.
 #[derive(Clone, Copy, Debug)]
@@ -56,8 +57,9 @@ impl Model for Shape {
 }
 
 impl Shape {
-    /// The shape of these sizes, each at least 1, with at most 32 components; `None` exactly where its
-    /// pairs are more than `cap`. The product is formed only as long as it fits.
+    /// Returns the shape of these sizes. Requires sizes of at least 1, and at most 32 components.
+    /// Returns `None` exactly where there are more than `cap` pairs. The product of the sizes can't
+    /// overflow.
     pub fn new(target: u8, env: u8, sizes: &[u8], cap: u32) -> Option<Shape>
         requires target { 0 < target }
         requires env { 0 < env }
@@ -74,24 +76,24 @@ impl Shape {
         Some(lay_out(target, env, sizes.len() as u8, places))
     }
 
-    /// The number of pairs: the product of all sizes.
+    /// Returns the number of pairs: the product of all sizes.
     pub fn pairs(&self) -> u32
         ensures { result ≡ count self.now }
     {
         self.pairs
     }
 
-    /// Tells a prover what holds of every shape: no size is 0, and the pairs have numbers of 32 bits.
-    /// It does nothing.
+    /// Does nothing. Its contract states what holds of every shape: no size is 0, and the number of
+    /// pairs fits in 32 bits.
     pub fn known(&self)
         ensures { IsSizes self.now }
     {
         let _pairs = &self.pairs;
     }
 
-    /// How many components stand before the lanes, which are the last components, as many of them
-    /// as have sizes whose product is at most 64. At all pairs of a row the target, the environment
-    /// and the components before the lanes are each in one state.
+    /// Returns the number of components before the lanes. The lanes are the last components, as many
+    /// of them as have sizes whose product is at most 64. At all pairs of a row the target, the
+    /// environment and each component before the lanes have the same state.
     pub fn low(&self) -> u8
         ensures value { result ≡ low_of self.now.seats }
         ensures within { result ≤ length self.now.seats }
@@ -99,7 +101,8 @@ impl Shape {
         self.low
     }
 
-    /// How many pairs a row has, from 1 to 64: pair p is lane `p % lanes` of row `p / lanes`.
+    /// Returns the number of pairs in a row, from 1 to 64. Pair p is lane `p % lanes` of row
+    /// `p / lanes`.
     pub fn lanes(&self) -> u32
         ensures value { result ≡ lanes_of self.now.seats }
         ensures few { (0 < result) × (result ≤ 64) }
@@ -107,10 +110,11 @@ impl Shape {
         self.lanes
     }
 
-    /// How many components stand before a band's own, and how many rows a band has, from 1 to 64. A
-    /// band's own components are the last of those before the lanes, as many of them as have sizes
-    /// whose product is at most 64: at all rows of a band the other components before the lanes are
-    /// each in one state. Row x is row `x % width` of band `x / width`.
+    /// Returns the number of components before a band's own, and the number of rows in a band, from 1
+    /// to 64. A band's own components are the last ones before the lanes, as many of them as have
+    /// sizes whose product is at most 64. At all rows of a band the target, the environment and each
+    /// component before the band's own have the same state. Row x is row `x % width` of band
+    /// `x / width`, where `width` is the number of rows in a band.
     pub fn band(&self) -> (u8, u32)
         ensures first { result.0 ≡ low_of (row_sizes self.now).seats }
         ensures width { result.1 ≡ lanes_of (row_sizes self.now).seats }
@@ -118,28 +122,28 @@ impl Shape {
         lanes_over(self.low, &self.sizes)
     }
 
-    /// How many rows there are: the pairs divided by the lanes, with no rest.
+    /// Returns the number of rows: pairs divided by lanes, without remainder.
     pub fn rows(&self) -> u32
         ensures { result * lanes_of self.now.seats ≡ count self.now }
     {
         self.pairs / self.lanes
     }
 
-    /// What one more state of the target adds to a pair's number.
+    /// Returns the target's stride: what one more state of the target adds to a pair's number.
     pub fn target_stride(&self) -> u32
         ensures { result ≡ target_stride_of self.now }
     {
         self.target_stride
     }
 
-    /// What one more state of the environment adds to a pair's number.
+    /// Returns the environment's stride: what one more state of it adds to a pair's number.
     pub fn env_stride(&self) -> u32
         ensures { result ≡ env_stride_of self.now }
     {
         self.env_stride
     }
 
-    /// What one more state of component k adds to a pair's number.
+    /// Returns the stride of component `k`: what one more state of it adds to a pair's number.
     pub fn stride(&self, k: u8) -> u32
         requires { k < length self.now.seats }
         ensures { result ≡ stride_of self.now k }
@@ -147,14 +151,14 @@ impl Shape {
         self.strides[k as usize]
     }
 
-    /// How many components there are, at most 32.
+    /// Returns the number of components, at most 32.
     pub fn components(&self) -> u8
         ensures { result ≡ length self.now.seats }
     {
         self.components
     }
 
-    /// How many states component k has, at least 1.
+    /// Returns the number of states of component `k`, at least 1.
     pub fn size(&self, k: u8) -> u8
         requires { k < length self.now.seats }
         ensures { result ≡ slice_index self.now.seats k }
@@ -162,8 +166,8 @@ impl Shape {
         self.sizes[k as usize]
     }
 
-    /// The number of the pair with these states of the target, the environment and, in their order, the
-    /// components.
+    /// Returns the number of the pair with the target's state `t`, the environment's state `e` and the
+    /// states of the components, in order. Requires one state for each component.
     pub fn number(&self, t: u8, e: u8, states: &[u8]) -> u32
         requires { IsPairOf self.now (record { t = t; e = e; bs = states.now }) }
         ensures number { result ≡ number self.now (record { t = t; e = e; bs = states.now }) }
@@ -176,7 +180,7 @@ impl Shape {
         number
     }
 
-    /// The target's state at pair p.
+    /// Returns the target's state at pair `p`.
     pub fn target_of(&self, p: u32) -> u8
         requires { p < count self.now }
         ensures value { result ≡ (pair_at self.now p).t }
@@ -186,7 +190,7 @@ impl Shape {
         t as u8
     }
 
-    /// The environment's state at pair p.
+    /// Returns the environment's state at pair `p`.
     pub fn env_of(&self, p: u32) -> u8
         requires { p < count self.now }
         ensures value { result ≡ (pair_at self.now p).e }
@@ -196,7 +200,7 @@ impl Shape {
         e
     }
 
-    /// The state of component k at pair p.
+    /// Returns the state of component `k` at pair `p`.
     pub fn part_of(&self, p: u32, k: u8) -> u8
         requires pair { p < count self.now }
         requires component { k < length self.now.seats }
@@ -207,8 +211,8 @@ impl Shape {
         state
     }
 
-    /// The states of the components at pair p, in their order, in the first places of a table; what
-    /// stands in the other places is left open.
+    /// Returns the states of the components at pair `p`, in order, in the first places of a table. The
+    /// other places are unspecified.
     pub fn parts_of(&self, p: u32) -> [u8; PLACES]
         requires { p < count self.now }
         ensures { take (length self.now.seats) result ≡ (pair_at self.now p).bs }
@@ -225,7 +229,8 @@ impl Shape {
         parts
     }
 
-    /// The number of pair p with component k in state b instead of its own.
+    /// Returns the number of the pair that differs from pair `p` only in component `k`, which has
+    /// state `b`.
     pub fn with_part(&self, p: u32, k: u8, b: u8) -> u32
         requires pair { p < count self.now }
         requires component { k < length self.now.seats }
@@ -237,8 +242,8 @@ impl Shape {
         p - u32::from(self.part_of(p, k)) * stride + u32::from(b) * stride
     }
 
-    /// The number of pair p with the target in state t, the environment in e and component k in b
-    /// instead of their own; the other components stay.
+    /// Returns the number of the pair that has the target's state `t`, the environment's state `e` and
+    /// the state `b` of component `k`, and otherwise the states of pair `p`.
     pub fn moved(&self, p: u32, t: u8, e: u8, k: u8, b: u8) -> u32
         requires pair { p < count self.now }
         requires t { t < self.now.target }
@@ -252,8 +257,9 @@ impl Shape {
         (u32::from(t) * u32::from(self.env) + u32::from(e)) * self.env_stride + states
     }
 
-    /// The shape with one more component of that size, at least 1, which goes last; `None` exactly
-    /// where its pairs are more than `cap`. There are fewer than 32 components before.
+    /// Returns the shape with one more component of the given size, at the end. Requires a size of at
+    /// least 1, and fewer than 32 components before. Returns `None` exactly where there would be more
+    /// than `cap` pairs.
     pub fn grow(&self, size: u8, cap: u32) -> Option<Shape>
         requires size { 0 < size }
         requires few { length self.now.seats < MAX_SERVICES }
@@ -268,7 +274,7 @@ impl Shape {
         Some(lay_out(self.target, self.env, self.components + 1, places))
     }
 
-    /// The shape without component k: later components move up by one place.
+    /// Returns the shape without component `k`. Later components move up by one place.
     pub fn shrink(&self, k: u8) -> Shape
         requires { k < length self.now.seats }
         ensures { result ≡ sizes_without k self.now }
@@ -279,8 +285,9 @@ impl Shape {
         lay_out(self.target, self.env, self.components - 1, places)
     }
 
-    /// The number that pair p has after a last component of that size is added, in state b. There are
-    /// fewer than 32 components before, and the grown pairs have numbers of 32 bits.
+    /// Returns the number of pair `p` after a component of the given size is added at the end, in
+    /// state `b`. Requires fewer than 32 components before, and that the number of grown pairs fits in
+    /// 32 bits.
     pub fn grown(&self, p: u32, size: u8, b: u8) -> u32
         requires pair { p < count self.now }
         requires state { b < size }
@@ -292,7 +299,7 @@ impl Shape {
         p * u32::from(size) + u32::from(b)
     }
 
-    /// The number that pair p has after component k is dropped, whatever state it is in.
+    /// Returns the number of pair `p` after component `k` is dropped, whatever its state is.
     pub fn without(&self, p: u32, k: u8) -> u32
         requires pair { p < count self.now }
         requires component { k < length self.now.seats }
@@ -304,8 +311,8 @@ impl Shape {
     }
 }
 
-/// How often a size goes into a number. The sizes that are common are divided by as constants, which
-/// takes a processor a fraction of the time.
+/// Returns `n` divided by `size`, rounded down. Divides by common sizes as constants, which takes a
+/// processor a fraction of the time.
 fn quotient(n: u32, size: u8) -> u32
     requires { 0 < size }
     ensures { result ≡ n / size }
@@ -321,7 +328,7 @@ fn quotient(n: u32, size: u8) -> u32
     }
 }
 
-/// How often a size goes into a number, and what is left of it.
+/// Returns the quotient and the remainder of `n` by `size`.
 fn divided(n: u32, size: u8) -> (u32, u8)
     requires { 0 < size }
     ensures whole { result.0 ≡ n / size }
@@ -331,7 +338,7 @@ fn divided(n: u32, size: u8) -> (u32, u8)
     (whole, (n - whole * u32::from(size)) as u8)
 }
 
-/// Whether the pairs of these sizes are at most `cap`.
+/// Returns whether there are at most `cap` pairs of these sizes.
 fn is_within(target: u8, env: u8, sizes: &[u8], cap: u32) -> bool
     requires target { 0 < target }
     requires env { 0 < env }
@@ -349,7 +356,8 @@ fn is_within(target: u8, env: u8, sizes: &[u8], cap: u32) -> bool
     pairs <= cap
 }
 
-/// The stride of each component, the sizes being padded with zeros, and the product of the sizes.
+/// Returns the stride of each component, and the product of the sizes. The sizes are padded with
+/// zeros, and so are the strides.
 fn strides_over(components: u8, sizes: &[u8; PLACES]) -> ([u32; PLACES], u32)
     requires few { components ≤ MAX_SERVICES }
     requires padded { sizes.now ≡ padded (take components sizes.now) }
@@ -369,7 +377,7 @@ fn strides_over(components: u8, sizes: &[u8; PLACES]) -> ([u32; PLACES], u32)
     (strides, stride)
 }
 
-/// How many components stand before the lanes, and how many lanes there are.
+/// Returns the number of components before the lanes, and the number of lanes.
 fn lanes_over(components: u8, sizes: &[u8; PLACES]) -> (u8, u32)
     requires many { components ≤ length sizes.now }
     requires positive { AreSizes (take components sizes.now) }
@@ -389,7 +397,7 @@ fn lanes_over(components: u8, sizes: &[u8; PLACES]) -> (u8, u32)
     (low, lanes)
 }
 
-/// The shape of these sizes, padded with zeros.
+/// Returns the shape of these sizes, which are padded with zeros.
 fn lay_out(target: u8, env: u8, components: u8, sizes: [u8; PLACES]) -> Shape
     requires few { components ≤ MAX_SERVICES }
     requires padded { sizes ≡ padded (take components sizes) }

@@ -2,7 +2,7 @@ use Rattle.std.proofs.Common.{◌≡◌, ◌≤◌, take, drop}
 use Rattle.roman_model.specs.Lists.{product_of}
 use Rattle.roman_radix.proofs.shape.lanes_over.Given as goal
 
--- the components so far fit in a row
+-- the pairs over the components so far fit in a row
 abbrev pub invariant-loop-low : goal.invariant-loop-low
 invariant-loop-low l = record {
   within : l.low ≤ l.components;

@@ -12,7 +12,7 @@ loop-k-init c = record {
   table = strides_none c.args.components c.args.sizes.now _ refl c.requires.few;
 }
 
--- the product is one of some of the sizes
+-- the product of some of the sizes doesn't overflow
 pub overflow_mul-stride : goal.overflow_mul-stride
 overflow_mul-stride c =
     let sizes = c.args.sizes.now in

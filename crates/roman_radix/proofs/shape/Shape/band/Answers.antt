@@ -11,7 +11,7 @@ use Rattle.roman_radix.proofs.Shown.{Shows, shown}
 use Rattle.roman_radix.proofs.RowLemmas.{low_of-le, AreSizes-take}
 use Rattle.roman_radix.proofs.shape.Shape.band.Goals as goal
 
--- the first sizes are those before the lanes
+-- the first sizes are the sizes before the lanes
 first_sizes : (a : Inside) (n : Sizes) → Shows a n → take a.low a.sizes ≡ (row_sizes n).seats
 first_sizes a n h = ap₂ take h.low h.places ∙ take-append-le (low_of n.seats) n.seats (replicate (MAX_SERVICES - length n.seats) 0) (low_of-le n.seats)
 

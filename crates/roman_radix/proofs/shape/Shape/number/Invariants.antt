@@ -2,7 +2,7 @@ use Rattle.std.proofs.Common.{◌≡◌, ◌+◌, drop}
 use Rattle.roman_model.specs.Numbers.{states_number, number}
 use Rattle.roman_radix.proofs.shape.Shape.number.Given as goal
 
--- the number so far, and that of the states that are left
+-- the number so far plus the number of the states that are left
 abbrev pub invariant-loop-k : goal.invariant-loop-k
 invariant-loop-k l =
     l.number + states_number (drop l.k l.self.seats) (drop l.k l.states) ≡ number l.self (record { t = l.t; e = l.e; bs = l.states })

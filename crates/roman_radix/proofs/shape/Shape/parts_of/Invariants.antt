@@ -3,7 +3,7 @@ use Rattle.roman_model.specs.Lists.{product_of}
 use Rattle.roman_model.specs.Numbers.{pair_at}
 use Rattle.roman_radix.proofs.shape.Shape.parts_of.Given as goal
 
--- the states of the last components, and the number without them
+-- the states of the last components, and the number of the rest
 abbrev pub invariant-loop-k : goal.invariant-loop-k
 invariant-loop-k l = record {
   within : l.k ≤ length l.self.seats;
