@@ -12,7 +12,7 @@ numbered_same A ok = record {
   itself = λ p. ok.same p p ∙ eq-eqb p p refl;
 }
 
--- the nodes are the numbers below their count
+-- a number below the count of the nodes is a node
 pub in_nodes : (A : Arena ℕ) → IsNumbered A → (p : ℕ) → p < length A.nodes → IsIn p A.nodes
 in_nodes A ok p l = subst (λ ps. IsIn p ps) (sym ok.nodes) (in_below (length A.nodes) p l)
 

@@ -1,4 +1,4 @@
--- The bits of masks, and how many seats the masks of a row's pairs have.
+-- The bits of masks, and the number of seats in the masks of a row's pairs.
 use Rattle.std.proofs.Common.{◌≡◌, ℕ, zero, suc, ◌+◌, ◌-◌, ◌*◌, ◌%◌, ◌^◌, ◌<◌, ◌≤◌, Bool, true, false, cond, not, ◌&&◌, [], length, filter, sum_by, count_ones, IsTrue, IsFalse, inl, inr, refl, sym, ap, ap₂, ◌∙◌, subst, arith, eqb}
 use Rattle.std.specs.Int.{bit_at}
 use Rattle.std.proofs.Math.Pow.{pow_pos}
@@ -16,7 +16,7 @@ use Rattle.roman_rules.specs.Numbered.{IsNumbered}
 
 -- ---- an action that isn't allowed
 
--- where an action isn't allowed each seat is beaten
+-- where an action isn't allowed, each seat is beaten
 pub refused_beaten : (A : Arena ℕ) → IsNumbered A → (gone : ℕ → Bool) (p a k : ℕ) → IsFalse (A.allows p a) → IsTrue (is_beaten A gone p a k)
 refused_beaten A ok gone p a k refused = by_test (is_empty (A.outcomes p a k))
     (λ t. beaten_none A gone p a k (empty_is (A.outcomes p a k) t))
@@ -24,7 +24,7 @@ refused_beaten A ok gone p a k refused = by_test (is_empty (A.outcomes p a k))
 
 -- ---- the bits of a mask
 
--- a seat is in the set exactly where it passes the test that the bits tell
+-- where bits hold a test, a seat is in their set exactly if it passes the test
 pub has_seat_is : (bits : ℕ) (test : ℕ → Bool) (k : ℕ) → HasBits bits test → k < 32 → has_seat bits k ≡ test k
 has_seat_is bits test k is l = ap (λ n. eqb n 1) (is.each k l) ∙ one_is (test k)
   where
@@ -38,11 +38,11 @@ has_good A ok gone p a k l = mask_has A gone p a k l ∙ by_test (A.allows p a)
     (λ t. ap (λ b. b && not (is_beaten A gone p a k)) t)
     (λ f. ap (λ b. b && not (is_beaten A gone p a k)) f ∙ sym (not_from_true (is_beaten A gone p a k) (refused_beaten A ok gone p a k f)))
 
--- where an action isn't allowed the mask has no bits
+-- where an action isn't allowed, the mask has no bits
 pub mask_refused : (A : Arena ℕ) (gone : ℕ → Bool) (p a : ℕ) → IsFalse (A.allows p a) → HasBits 0 (has (mask A gone p a))
 mask_refused A gone p a refused = record { each = λ k l. bit_at-zero k ∙ sym (ap (λ ks. bit_of (has ks k)) (mask_none A gone p a refused)) }
 
--- one seat more
+-- the bits of a mask with one more seat
 pub mask_more : (A : Arena ℕ) (gone : ℕ → Bool) (p a k old new : ℕ) (good : Bool) → good ≡ has (mask A gone p a) k →
     bit_at new k ≡ cond good 1 (bit_at old k) → ((j : ℕ) → (j ≡ k → ⊥) → bit_at new j ≡ bit_at old j) →
     ((j : ℕ) → j < k → bit_at old j ≡ bit_of (has (mask A gone p a) j)) → ((j : ℕ) → k ≤ j → bit_at old j ≡ 0) →
@@ -52,7 +52,7 @@ mask_more A gone p a k old new good is own others before none j m = elim (cases_
   | inr other ↦ others j other ∙ before j (omega arith)
 ]
 
--- the seats from n on are beaten, and those before it are told by the bits
+-- where the seats from n on are beaten and the bits are right below n, they are the whole mask
 pub mask_all : (A : Arena ℕ) → IsNumbered A → (gone : ℕ → Bool) (p a n bits : ℕ) → ((k : ℕ) → n ≤ k → k < A.seats → IsTrue (is_beaten A gone p a k)) →
     ((j : ℕ) → j < n → bit_at bits j ≡ bit_of (has (mask A gone p a) j)) → ((j : ℕ) → n ≤ j → bit_at bits j ≡ 0) → HasBits bits (has (mask A gone p a))
 mask_all A ok gone p a n bits beaten read rest = record {
@@ -62,7 +62,7 @@ mask_all A ok gone p a n bits beaten read rest = record {
     out : (j : ℕ) → n ≤ j → IsFalse (has (mask A gone p a) j)
     out j past = elim (cases_lt j A.seats) [ inl seat ↦ has_good A ok gone p a j seat ∙ ap not (beaten j past seat) | inr none ↦ mask_has_past A gone p a j none ]
 
--- ---- sums over numbers below others
+-- ---- sums over the numbers below a bound
 
 pub sum_below_more : (f : ℕ → ℕ) (n : ℕ) → sum_by f (below (n + 1)) ≡ sum_by f (below n) + f n
 sum_below_more f n = (let next : n + 1 ≡ suc n = omega arith in ap (λ m. sum_by f (below m)) next) ∙ sum_by_push f (below n) n
@@ -75,7 +75,7 @@ sum_none : (n : ℕ) → sum_by (λ i. 0) (below n) ≡ 0
 sum_none zero = refl
 sum_none (suc n) = omega (arith, sum_by_push (λ i. 0) (below n) n, sum_none n)
 
--- a sum of sums, the other way round
+-- a double sum in the other order
 pub sum_turned : (f : ℕ → ℕ → ℕ) (m n : ℕ) → sum_by (λ i. sum_by (λ j. f i j) (below n)) (below m) ≡ sum_by (λ j. sum_by (λ i. f i j) (below m)) (below n)
 sum_turned f zero n = sym (sum_none n)
 sum_turned f (suc m) n =
@@ -84,14 +84,14 @@ sum_turned f (suc m) n =
     ∙ (sym (sum_plus (λ j. sum_by (λ i. f i j) (below m)) (λ j. f m j) n)
     ∙ sum_by_same (λ j. sum_by (λ i. f i j) (below m) + f m j) (λ j. sum_by (λ i. f i j) (below (suc m))) (below n) (λ j i. sym (sum_by_push (λ i. f i j) (below m) m))))
 
--- a sum goes on
+-- a sum over a + n numbers is split after the first a
 pub sum_further : (f : ℕ → ℕ) (a n : ℕ) → sum_by f (below (a + n)) ≡ sum_by f (below a) + sum_by (λ i. f (a + i)) (below n)
 sum_further f a zero = (let same : a + zero ≡ a = omega arith in ap (λ m. sum_by f (below m)) same) ∙ (let none : sum_by f (below a) ≡ sum_by f (below a) + 0 = omega arith in none)
 sum_further f a (suc n) =
     let next : a + suc n ≡ suc (a + n) = omega arith in
     ap (λ m. sum_by f (below m)) next ∙ omega (arith, sum_by_push f (below (a + n)) (a + n), sum_further f a n, sum_by_push (λ i. f (a + i)) (below n) n)
 
--- numbers at which nothing is added don't change a sum
+-- numbers at which the term is 0 don't change a sum
 pub sum_cut : (f : ℕ → ℕ) (m n : ℕ) → m ≤ n → ((i : ℕ) → m ≤ i → i < n → f i ≡ 0) → sum_by f (below m) ≡ sum_by f (below n)
 sum_cut f m n l none =
     let rest : m + (n - m) ≡ n = omega arith in
@@ -104,7 +104,7 @@ sum_cut f m n l none =
 bit_ones : (b : ℕ) → b < 2 → count_ones b ≡ b
 bit_ones b l = elim (cases_eq (count_ones b) 0) [ inl e ↦ e ∙ sym (zero_from_ones b e) | inr some ↦ omega (arith, ones_le_self b) ]
 
--- the ones among the lowest digits are counted by the bits
+-- the number of ones among the lowest digits is the sum of these bits
 low_ones : (n k : ℕ) → count_ones (n % 2 ^ k) ≡ sum_by (bit_at n) (below k)
 low_ones n zero = let none : n % 1 ≡ 0 = omega arith in ap count_ones none ∙ bit_ones 0 (omega arith)
 low_ones n (suc k) =
@@ -126,7 +126,7 @@ bit_is word lane = elim (cases_eq (bit_at word lane) 1) [
       none ∙ sym (cond-false (eqb (bit_at word lane) 1) 1 0 (ne_eqb (bit_at word lane) 1 ne))
 ]
 
--- the ones of a row's word are the lanes at which the test passes
+-- the number of ones in a row's word is the number of lanes at which the test passes
 pub ones_counted : (lanes row : ℕ) (test : ℕ → Bool) (word : ℕ) → lanes ≤ 64 → word < 2 ^ 64 → HasLanes lanes row test word → count_ones word ≡ sum_by (λ lane. cond (test (row * lanes + lane)) 1 0) (below lanes)
 ones_counted lanes row test word few fits is =
     let whole : word ≡ word % 2 ^ 64 = omega arith in
@@ -137,7 +137,7 @@ ones_counted lanes row test word few fits is =
     one_if : Bool → ℕ
     one_if b = cond b 1 0
 
--- and they are as many as its digits at most
+-- a word has at most 64 ones
 pub ones_few : (word : ℕ) → word < 2 ^ 64 → count_ones word ≤ 64
 ones_few word fits =
     let whole : word ≡ word % 2 ^ 64 = omega arith in
@@ -155,7 +155,7 @@ mask_counted A ok gone p a = by_test (A.allows p a)
     (λ f. ap length (mask_none A gone p a f)
     ∙ sym (sum_by_same (λ k. cond (not (is_beaten A gone p a k)) 1 0) (λ k. 0) (below A.seats) (λ k i. cond-false (not (is_beaten A gone p a k)) 1 0 (not_from_true (is_beaten A gone p a k) (refused_beaten A ok gone p a k f))) ∙ sum_none A.seats))
 
--- at how many pairs of a row a seat serves the action
+-- the number of pairs of a row at which a seat serves the action
 abbrev pub served_by : Arena ℕ → (ℕ → Bool) → ℕ → ℕ → ℕ → ℕ → ℕ
 served_by A gone lanes row a k = sum_by (λ lane. cond (not (is_beaten A gone (row * lanes + lane) a k)) 1 0) (below lanes)
 
@@ -164,7 +164,7 @@ none_served A gone lanes row a k beaten =
     sum_by_same (λ lane. cond (not (is_beaten A gone (row * lanes + lane) a k)) 1 0) (λ lane. 0) (below lanes) (λ lane i. ap (λ b. cond (not b) 1 0) (beaten lane (from_below lanes lane i)))
     ∙ sum_none lanes
 
--- the seats of an action's masks in a row, seat by seat
+-- the number of seats in an action's masks in a row, summed seat by seat
 pub action_counted : (A : Arena ℕ) → IsNumbered A → (gone : ℕ → Bool) (lanes row a : ℕ) →
     sum_by (served_by A gone lanes row a) (below A.seats) ≡ sum_by (λ lane. length (mask A gone (row * lanes + lane) a)) (below lanes)
 action_counted A ok gone lanes row a =
@@ -172,7 +172,7 @@ action_counted A ok gone lanes row a =
     ∙ sum_by_same (λ lane. sum_by (λ k. cond (not (is_beaten A gone (row * lanes + lane) a k)) 1 0) (below A.seats)) (λ lane. length (mask A gone (row * lanes + lane) a)) (below lanes)
     (λ lane i. sym (mask_counted A ok gone (row * lanes + lane) a))
 
--- where an action is allowed at no pair of a row, its masks there have no seats
+-- where an action is allowed at no pair of a row, its masks there are empty
 pub none_chosen : (A : Arena ℕ) (gone : ℕ → Bool) (lanes row a : ℕ) → ((lane : ℕ) → lane < lanes → IsFalse (A.allows (row * lanes + lane) a)) →
     0 ≡ sum_by (λ lane. length (mask A gone (row * lanes + lane) a)) (below lanes)
 none_chosen A gone lanes row a none =

@@ -1,4 +1,4 @@
--- A row that was asked about a reason, and what asking costs.
+-- Rows that were asked about a reason, and the cost of asking in steps.
 use Rattle.std.specs.Prelude.{ℕ, ◌+◌, ◌*◌, ◌≡◌, ◌<◌, Bool, true, IsTrue, count_by, if◌then◌else◌}
 use Rattle.roman_lanes.specs.Rows.{is_on}
 use Rattle.roman_model.specs.Lists.{below}
@@ -7,7 +7,7 @@ use Rattle.roman_model.specs.declared.reason.Reason.{Reason}
 use Rattle.roman_model.specs.declared.reason.Reason.TheVariants.{Final, Act}
 use Rattle.roman_rules.specs.declared.asked.Asked.{Asked}
 
--- at each pair that is kept of the row the reason holds, where those pairs are gone
+-- with these pairs gone, the reason holds at each pair of the row whose lane is kept
 pub record HoldsWhereKept (A : Arena ℕ) (lanes : ℕ) (gone : ℕ → Bool) (asked : Asked) : Type 0 where
   pub each : (lane : ℕ) → lane < lanes → is_on asked.lanes lane ≡ true → IsTrue (is_justified A gone (asked.row * lanes + lane) asked.reason)
 
@@ -16,11 +16,11 @@ abbrev pub IsReasonOf : Arena ℕ → Reason → Type 0
 IsReasonOf A Final = Unit {0}
 IsReasonOf A (Act a) = a < A.actions
 
--- how many seats are asked for an action at a pair: those that are ready, where it is allowed
+-- the number of seats that are asked about an action at a pair: the ready ones, where it is allowed
 unfoldable pub readings_of : Arena ℕ → ℕ → ℕ → ℕ
 readings_of A p a = if A.allows p a then count_by A.ready (below A.seats) else 0
 
--- how many seats are asked about a reason
+-- the number of seats that are asked about a reason at a pair
 abbrev pub readings_of_reason : Arena ℕ → ℕ → Reason → ℕ
 readings_of_reason A p Final = 0
 readings_of_reason A p (Act a) = readings_of A p a

@@ -1,8 +1,8 @@
--- Sets of small numbers, as the bits of a number.
+-- Sets of small numbers, as the bits of a word.
 use Rattle.std.specs.Prelude.{◌≡◌, ℕ, ◌<◌, ◌==◌, Bool, if◌then◌else◌}
 use Rattle.std.specs.Int.{bit_at}
 
--- 1 where it holds, else 0
+-- 1 for true, 0 for false
 abbrev pub bit_of : Bool → ℕ
 bit_of b = if b then 1 else 0
 

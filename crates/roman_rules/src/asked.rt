@@ -1,4 +1,4 @@
-//! Entries of a list, judged row by row.
+//! Reasons of a list's entries, asked row by row.
 ghost use Rattle.std.specs.Prelude.{◌≡◌, ℕ, ◌+◌, ◌*◌, ◌/◌, ◌%◌, ◌<◌, ◌≤◌, ◌==◌, Bool, true, not, length, count_by, IsTrue, MatchOption};
 ghost use Rattle.roman_model.specs.Lists.{below};
 ghost use Rattle.roman_model.specs.Arena.{Arena, is_justified};
@@ -10,23 +10,23 @@ use roman_io::Steps;
 use roman_model::Reason;
 use std::sync::ledger::Ledger;
 
-/// A row that was asked about a reason, and the pairs of it at which the reason is known to hold.
+/// A row that was asked about a reason, and its pairs at which the reason is known to hold.
 ///
-/// Neighbouring entries of a list mostly lie in one row and have one reason: the row is asked once,
-/// and the answer serves the others. What is known goes on to hold while more pairs are gone, so
-/// nothing is asked again because the list has grown. A pair at which the reason didn't hold is
-/// asked about anew.
+/// Neighbouring entries of a list mostly lie in one row and have one reason. The row is asked once,
+/// and the answer serves all of them. A reason that holds still holds after more pairs are gone, so a
+/// known answer stays right while the list grows. A pair at which the reason didn't hold is asked
+/// about again.
 #[derive(Clone, Copy, Debug)]
 pub struct Asked {
-    /// The row that was asked.
+    /// The number of the row that was asked.
     pub row: u32,
-    /// The reason about which it was asked.
+    /// The reason about which the row was asked.
     pub reason: Reason,
     /// The lanes of the pairs at which the reason is known to hold, one bit each.
     pub lanes: u64,
 }
 
-/// Whether the bit of a lane is set.
+/// Returns whether the bit of a lane is set.
 fn has_lane(word: u64, lane: u32) -> bool
     requires { lane < 64 }
     ensures { result ≡ is_on word lane }
@@ -34,7 +34,7 @@ fn has_lane(word: u64, lane: u32) -> bool
     (word >> lane) & 1 == 1
 }
 
-/// Counts a step for each seat that is ready.
+/// Counts a step for each ready seat.
 fn tick_ready<J: Rules, L: Ledger>(joint: &J, steps: &mut Steps<L>)
     ensures { let A = J.arena joint.now in steps.new ≡ steps.old + count_by A.ready (below A.seats) }
 {
@@ -45,8 +45,8 @@ fn tick_ready<J: Rules, L: Ledger>(joint: &J, steps: &mut Steps<L>)
     }
 }
 
-/// The pairs of a row at which the action `a` is allowed and no seat serves it. A step is counted for
-/// each seat that is ready, where the action is allowed.
+/// Returns the pairs of a row at which the action `a` is allowed and no seat serves it. Counts a step
+/// for each ready seat where the action is allowed, and otherwise none.
 fn ask_seats<J: Rules, L: Ledger>(
     joint: &J,
     row: &J::Row,
@@ -73,7 +73,7 @@ fn ask_seats<J: Rules, L: Ledger>(
     joint.unserved(row, words, a, u64::MAX >> (64 - joint.lanes()))
 }
 
-/// The pairs of the row `x` at which the reason holds.
+/// Returns the pairs of the row `x` at which the reason holds.
 fn ask_row<J: Rules, L: Ledger>(
     joint: &J,
     words: &[u64],
@@ -100,7 +100,7 @@ fn ask_row<J: Rules, L: Ledger>(
 }
 
 impl Asked {
-    /// No row was asked, and nothing is known.
+    /// Returns an `Asked` for which nothing is known.
     pub fn nothing() -> Asked
         ensures { (A : Arena ℕ) (lanes : ℕ) (gone : ℕ → Bool) → HoldsWhereKept A lanes gone result }
     {
@@ -111,7 +111,7 @@ impl Asked {
         }
     }
 
-    /// The lane of the pair `p`, where it lies in the row.
+    /// Returns the lane of the pair `p`, or `None` where it lies in another row.
     fn lane_of(&self, p: u32, lanes: u32) -> Option<u32>
         ensures { MatchOption result (Unit {0}) (λ lane. (lane < lanes) × (p ≡ self.now.row * lanes + lane)) }
     {
@@ -123,8 +123,8 @@ impl Asked {
         Some((p - first) as u32)
     }
 
-    /// The lanes of the row `x` at which the reason is known to hold: none where another row was asked, or
-    /// about another reason.
+    /// Returns the lanes of the row `x` at which the reason is known to hold. Returns no lane where
+    /// another row was asked last, or about another reason.
     pub fn known_at(&self, x: u32, reason: Reason) -> u64
         ensures { (A : Arena ℕ) (lanes : ℕ) (gone : ℕ → Bool) → HoldsWhereKept A lanes gone self.now →
             (lane : ℕ) → lane < lanes → is_on result lane ≡ true → IsTrue (is_justified A gone (x * lanes + lane) reason) }
@@ -135,12 +135,12 @@ impl Asked {
         0
     }
 
-    /// Asks the row `x` about a reason, and gives the lanes at which it holds. The words tell the pairs
-    /// that aren't gone, row by row, and the action of the reason, if it has one, must be one of the
-    /// system.
+    /// Asks the row `x` about a reason, and returns the lanes at which it holds. `words` has, row by
+    /// row, the bits of the pairs that aren't gone. Requires that the reason's action, if any, is an
+    /// action of the system.
     ///
-    /// A step is counted for each ready seat where the reason is an action that is allowed in the
-    /// row, and else none.
+    /// Counts a step for each ready seat where the reason is an action that is allowed in the row, and
+    /// otherwise none.
     pub fn ask<J: Rules, L: Ledger>(
         &mut self,
         joint: &J,
@@ -173,7 +173,7 @@ impl Asked {
         lanes
     }
 
-    /// Asks the row `x` about a reason. Whether it holds at that lane.
+    /// Asks the row `x` about a reason, and returns whether it holds at the given lane.
     fn ask_at<J: Rules, L: Ledger>(
         &mut self,
         joint: &J,
@@ -202,14 +202,15 @@ impl Asked {
         has_lane(lanes, lane)
     }
 
-    /// Whether a reason holds at the pair `p`, where the words tell the pairs that aren't gone, row
-    /// by row. The action of the reason, if it has one, must be one of the system, and no pair may
-    /// have come back that was gone when the row was asked. Nothing is asked where the answer is
-    /// known: the pair's row was the last that was asked, about the same reason, and it held there.
-    /// Afterwards the row is that of the pair.
+    /// Returns whether a reason holds at the pair `p`. `words` has, row by row, the bits of the pairs
+    /// that aren't gone. Requires that the reason's action, if any, is an action of the system, and
+    /// that each pair that was gone when the row was asked is still gone.
     ///
-    /// A step is counted for each ready seat where the row is asked about an action that is allowed
-    /// there, and else none.
+    /// Asks nothing where the answer is known: the pair lies in the row that was asked last, about the
+    /// same reason, and the reason held at the pair. Afterwards, `row` is the row of the pair.
+    ///
+    /// Counts a step for each ready seat where the row is asked about an action that is allowed there,
+    /// and otherwise none.
     pub fn holds<J: Rules, L: Ledger>(
         &mut self,
         joint: &J,

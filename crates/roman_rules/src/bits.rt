@@ -1,8 +1,8 @@
-//! Sets of small numbers, as the bits of a number.
+//! Sets of small numbers, as the bits of a word.
 ghost use Rattle.std.specs.Prelude.{◌≡◌, ◌≢◌, ℕ, ◌<◌, if◌then◌else◌};
 ghost use Rattle.std.specs.Int.{bit_at};
 
-/// The set `bits` of numbers below 32, with `k` added where `is_in` says so.
+/// Returns the set `bits` of numbers below 32, with `k` added if `is_in` is true.
 pub fn with_bit(bits: u32, k: u8, is_in: bool) -> u32
     requires { k < 32 }
     ensures own { bit_at result k ≡ (if is_in then 1 else bit_at bits k) }

@@ -1,15 +1,15 @@
-//! What is found of the outcomes of a delegation.
+//! The result of examining the outcomes of a delegation.
 
-/// What is found of the outcomes of a delegation: the pairs to which an action may lead that is
+/// The result of examining the outcomes of a delegation: the pairs to which an action can lead that is
 /// delegated to a service.
 #[derive(Clone, Copy, Debug, PartialEq, Eq)]
 pub enum Finding {
-    /// There is an outcome, and each outcome's pair is alive.
+    /// There is an outcome, and the pair of each outcome is alive.
     Good,
     /// There is no outcome.
     NoOutcome,
-    /// This is the first outcome, by the environment's state and then by the service's, whose pair
-    /// isn't alive.
+    /// The pair of some outcome isn't alive. This is the first such outcome, ordered by the
+    /// environment's state and then by the service's.
     Leaves {
         /// The environment's state in that outcome.
         env: u8,

@@ -1,10 +1,10 @@
-//! What algorithms over numbered pairs ask of a system.
+//! The interface between a system and the algorithms over its numbered pairs.
 //!
-//! [`Rules`] is the interface: pairs are numbers, a system says which actions are allowed at a pair,
-//! which seats are ready, and to which pairs a delegation may lead. Pairs lie in rows of up to 64
-//! neighbours, a word to a row; what a system says of a row it says of all its pairs at once. The seats
-//! that can serve an action at a pair are a [`SeatSet`]. Contracts see a system as an arena over numbers
-//! (`specs/Numbered`), so that algorithms and their proofs know nothing of environments, guards or the
+//! The interface is [`Rules`]. Pairs are numbers. A system says which actions are allowed at a pair,
+//! which seats are ready, and to which pairs a delegation can lead. Pairs lie in rows of up to 64
+//! neighbours, one word to a row, and one call answers for all pairs of a row. The seats that can
+//! serve an action at a pair are a [`SeatSet`]. Contracts see a system as an arena over numbers
+//! (`specs/Numbered`), so algorithms and their proofs know nothing of environments, guards or the
 //! numbering.
 #![tactic(auto)]
 

@@ -1,4 +1,4 @@
-//! What algorithms over the numbers of pairs ask of a system.
+//! The interface of a system for algorithms over the numbers of pairs.
 ghost use Rattle.std.specs.Prelude.{◌≡◌, ℕ, ◌+◌, ◌*◌, ◌/◌, ◌<◌, ◌≤◌, Bool, true, false, not, ◌&&◌};
 ghost use Rattle.std.specs.Prelude.{length, count_by, ltb, sum_by, IsTrue};
 ghost use Rattle.roman_model.specs.Lists.{IsIn, below};
@@ -17,104 +17,112 @@ use roman_io::Steps;
 use roman_model::Reason;
 use std::sync::ledger::Ledger;
 
-/// A system over the numbers of its pairs, for the algorithms that need no more of it.
+/// A system over the numbers of its pairs.
 ///
 /// Pairs, actions and seats are numbers below [`pairs`](Rules::pairs), [`actions`](Rules::actions) and
-/// [`seats`](Rules::seats); those that are passed are in range. Pairs lie in [`rows`](Rules::rows) of
-/// [`lanes`](Rules::lanes) neighbours each, and a word of a row has bit l for the pair at lane l. Rows
-/// lie in [`bands`](Rules::bands) of [`band`](Rules::band) neighbours each; what is looked up for a
-/// band is the row that it begins with. No call takes memory.
+/// [`seats`](Rules::seats). Numbers that are passed must be in range. Pairs lie in
+/// [`rows`](Rules::rows) of [`lanes`](Rules::lanes) neighbours each, and bit l of a row's word stands
+/// for the pair at lane l. Rows lie in [`bands`](Rules::bands) of [`band`](Rules::band) neighbours
+/// each. A band is looked up by its first row. No call takes memory.
+///
+/// A pair is gone where an algorithm has removed it. Calls take the pairs that aren't gone as `words`,
+/// one word for each row. A seat serves an action at a pair where the delegation has an outcome, and
+/// none that is gone.
 pub trait Rules {
     /// The system, as removal lists and masks see it.
     ghost arena: { Self → Arena ℕ };
 
-    /// What is looked up for a row once: plain data.
+    /// The facts of a row that are looked up once: plain data.
     type Row: Drop;
 
-    /// How many pairs a row has.
+    /// The number of pairs in a row.
     ghost lanes: { Self → ℕ };
 
-    /// How many rows a band has.
+    /// The number of rows in a band.
     ghost band: { Self → ℕ };
 
-    /// How many seats stand before a band's own: they are in the same state at all pairs of a band.
+    /// The number of seats before a band's own. These seats have the same state at all pairs of a
+    /// band.
     ghost mid: { Self → ℕ };
 
-    /// What was looked up is that of the row.
+    /// The looked-up facts are those of the row with the given number.
     ghost is_row: { Self → ℕ → Self.Row → Type 0 };
 
-    /// The numbers of states by which the pairs are numbered.
+    /// The sizes by which the pairs are numbered.
     ghost sizes: { Self → Sizes };
 
-    /// Tells a prover what all systems have in common. It does nothing.
+    /// Does nothing. Its contract states what holds of every system.
     fn known(&self)
         ensures numbered { IsNumbered (arena self.now) }
         ensures lanes { (0 < lanes self.now) × (lanes self.now ≤ 64) }
         ensures band { (0 < band self.now) × (band self.now ≤ 64) }
         ensures bands { (bands : ℕ) × (bands * band self.now * lanes self.now ≡ length (arena self.now).nodes) };
 
-    /// How many pairs there are.
+    /// Returns the number of pairs.
     fn pairs(&self) -> u32
         ensures { result ≡ length (arena self.now).nodes };
 
-    /// How many actions there are.
+    /// Returns the number of actions.
     fn actions(&self) -> u8
         ensures { result ≡ (arena self.now).actions };
 
-    /// How many seats there are.
+    /// Returns the number of seats.
     fn seats(&self) -> u8
         ensures { result ≡ (arena self.now).seats };
 
-    /// Whether seat `k` is ready: it isn't frozen, and takes delegations.
+    /// Returns whether seat `k` is ready: whether it takes delegations. A frozen seat isn't ready.
     fn is_ready(&self, k: u8) -> bool
         requires { k < (arena self.now).seats }
         ensures { result ≡ (arena self.now).ready k };
 
-    /// How many pairs a row has: from 1 to 64. Pair p is lane `p % lanes` of row `p / lanes`.
+    /// Returns the number of pairs in a row, from 1 to 64. Pair p is lane `p % lanes` of row
+    /// `p / lanes`.
     fn lanes(&self) -> u32
         ensures value { result ≡ lanes self.now }
         ensures few { (0 < result) × (result ≤ 64) };
 
-    /// How many rows there are.
+    /// Returns the number of rows.
     fn rows(&self) -> u32
         ensures { result * lanes self.now ≡ length (arena self.now).nodes };
 
-    /// How many rows a band has: from 1 to 64. Row x is in band `x / band`.
+    /// Returns the number of rows in a band, from 1 to 64. Row x is in band `x / band`.
     fn band(&self) -> u32
         ensures value { result ≡ band self.now }
         ensures few { (0 < result) × (result ≤ 64) };
 
-    /// How many bands there are.
+    /// Returns the number of bands.
     fn bands(&self) -> u32
         ensures { result * band self.now * lanes self.now ≡ length (arena self.now).nodes };
 
-    /// Looks up what holds of all pairs of the row `x`, for the calls that take a row. It is good as
-    /// long as the system doesn't change.
+    /// Looks up the row `x`, for the calls that take a row. The result is valid until the system
+    /// changes.
     fn row(&self, x: u32) -> Self::Row
         requires { x * lanes self.now < length (arena self.now).nodes }
         ensures { is_row self.now x result };
 
-    /// Looks up what holds of all pairs of the band `y`: its first row.
+    /// Looks up the first row of the band `y`, for the calls that take a band.
     fn first_row(&self, y: u32) -> Self::Row
         requires { y * band self.now * lanes self.now < length (arena self.now).nodes }
         ensures { is_row self.now (y * band self.now) result };
 
-    /// The actions that the target allows at the pairs of a row, which are the same at each, and at
-    /// those of a band where the row is its first: bit a is set exactly where it allows a.
+    /// Returns the actions that the target allows at the pairs of a row: bit a is set exactly where it
+    /// allows a. They are the same at all pairs of a row, and at all pairs of a band if the row is its
+    /// first.
     fn row_actions(&self, row: &Self::Row) -> u32
         ensures row { (x lane : ℕ) → is_row self.now x row.now → lane < lanes self.now →
             HasBits result ((arena self.now).allows (x * lanes self.now + lane)) }
         ensures band { (y i lane : ℕ) → is_row self.now (y * band self.now) row.now → i < band self.now → lane < lanes self.now →
             HasBits result ((arena self.now).allows ((y * band self.now + i) * lanes self.now + lane)) };
 
-    /// The pairs of a row that don't meet clause 2 of an ND-simulation. No bit is set past the lanes.
+    /// Returns the pairs of a row that don't meet clause 2 of an ND-simulation. No bit is set past the
+    /// lanes.
     fn unfine(&self, row: &Self::Row) -> u64
         requires row { (x : ℕ) × is_row self.now x row.now }
         ensures { (x : ℕ) → is_row self.now x row.now →
             HasLanes (lanes self.now) x (λ p. not ((arena self.now).fine p)) result };
 
-    /// Clears those of the pairs `left` of a band that meet clause 2 of an ND-simulation. There is a word
-    /// of `left` for each row of the band.
+    /// Clears, in `left`, the pairs of a band that meet clause 2 of an ND-simulation. `left` has one
+    /// word for each row of the band.
     fn unfine_band(&self, row: &Self::Row, left: &mut [u64])
         requires row { (y : ℕ) × is_row self.now (y * band self.now) row.now }
         requires long { length left.old ≡ band self.now }
@@ -122,8 +130,8 @@ pub trait Rules {
         ensures unfine { (y : ℕ) → is_row self.now (y * band self.now) row.now →
             Keeps (lanes self.now) (y * band self.now) (band self.now) (λ p. not ((arena self.now).fine p)) left.old left.new };
 
-    /// The mask of the pair at a lane of a row and the action `a`: the seats that have an outcome there,
-    /// and none that is gone. The words tell the pairs that aren't gone, row by row.
+    /// Returns the mask of the action `a` at the pair at a lane of a row: the seats that serve the
+    /// action there.
     fn mask(&self, row: &Self::Row, words: &[u64], a: u8, lane: u32) -> SeatSet
         requires row { (x : ℕ) × is_row self.now x row.now }
         requires action { a < (arena self.now).actions }
@@ -133,9 +141,9 @@ pub trait Rules {
             AreRows (lanes self.now) (λ q. not (gone q)) words.now →
             HasBits result (has (mask_of (arena self.now) gone (x * lanes self.now + lane) a)) };
 
-    /// How many choices of a seat there are for the action `a` at all pairs of a band together: over the
-    /// pairs, the seats of the pair's mask, at most 32 seats at each of 4,096 pairs. The words tell the
-    /// pairs that aren't gone, row by row.
+    /// Returns the number of choices of a seat for the action `a` at all pairs of a band together: the
+    /// sum of the sizes of the pairs' masks. It is at most 131,072, for 32 seats at each of 4,096
+    /// pairs.
     fn choices(&self, row: &Self::Row, words: &[u64], a: u8) -> u32
         requires row { (y : ℕ) × is_row self.now (y * band self.now) row.now }
         requires action { a < (arena self.now).actions }
@@ -146,9 +154,8 @@ pub trait Rules {
             (below (lanes self.now))) (below (band self.now)) }
         ensures few { result ≤ 131072 };
 
-    /// Those of the pairs `wanted` of a row at which the action `a` is allowed and no seat serves
-    /// it. The words tell the pairs that aren't gone, row by row; no bit is set that `wanted`
-    /// doesn't have.
+    /// Returns those of the pairs `wanted` of a row at which the action `a` is allowed and no seat
+    /// serves it. A bit that isn't set in `wanted` isn't set in the result.
     fn unserved(&self, row: &Self::Row, words: &[u64], a: u8, wanted: u64) -> u64
         requires row { (x : ℕ) × is_row self.now x row.now }
         requires action { a < (arena self.now).actions }
@@ -159,9 +166,8 @@ pub trait Rules {
             is_on result lane ≡ (is_on wanted lane && is_justified (arena self.now) gone (x * lanes self.now + lane) (Reason.Act a)) }
         ensures within { (lane : ℕ) → is_on wanted lane ≡ false → is_on result lane ≡ false };
 
-    /// Clears those of the pairs `left` of a band at which the action `a` isn't allowed or some seat
-    /// serves it. There is a word of `left` for each row of the band. The words tell the pairs that
-    /// aren't gone, row by row.
+    /// Clears, in `left`, the pairs of a band at which the action `a` isn't allowed or some seat
+    /// serves it. `left` has one word for each row of the band.
     fn unserved_band(&self, row: &Self::Row, words: &[u64], a: u8, left: &mut [u64])
         requires row { (y : ℕ) × is_row self.now (y * band self.now) row.now }
         requires action { a < (arena self.now).actions }
@@ -172,12 +178,11 @@ pub trait Rules {
             AreRows (lanes self.now) (λ q. not (gone q)) words.now →
             Keeps (lanes self.now) (y * band self.now) (band self.now) (λ p. is_justified (arena self.now) gone p (Reason.Act a)) left.old left.new };
 
-    /// Goes back from a band: marks each band with a pair that has one of this band's as an outcome; other
-    /// bands may be marked as well. The marks are flags, 64 to a word, one for each band, and those that
-    /// are set stay.
+    /// Marks each band with a pair that has a pair of the given band as an outcome. It can mark other
+    /// bands as well. `marks` has one flag for each band, 64 to a word. Flags that are set stay set.
     ///
-    /// A step is counted for each delegation to a seat before the bands' own that leads to a pair of
-    /// the band: there are as many at each.
+    /// Counts as many steps as delegations to seats before the band's own lead to one pair of the
+    /// band. That number is the same for each pair of the band.
     fn mark_before<L: Ledger>(&self, row: &Self::Row, marks: &mut [u64], steps: &mut Steps<L>)
         requires row { (y : ℕ) × is_row self.now (y * band self.now) row.now }
         requires room { length (arena self.now).nodes ≤ 64 * length marks.old * band self.now * lanes self.now }
@@ -189,9 +194,9 @@ pub trait Rules {
         ensures steps { (y i lane : ℕ) → is_row self.now (y * band self.now) row.now → i < band self.now → lane < lanes self.now →
             steps.new ≡ steps.old + count_by (λ d. ltb d.seat (mid self.now)) (predecessors (arena self.now) ((y * band self.now + i) * lanes self.now + lane)) };
 
-    /// Looks for the first outcome of the action `a` at the pair `p`, delegated to seat `k`, whose
-    /// pair isn't alive. The action must be allowed there, the seat ready, and `alive` may be
-    /// called at every pair. Exactly one step is counted.
+    /// Examines the outcomes of the action `a` at the pair `p`, delegated to seat `k`, and finds the
+    /// first whose pair isn't alive. Requires that the action is allowed at the pair, that the seat is
+    /// ready, and that `alive` can be called at every pair. Counts exactly one step.
     fn examine<F: Fn(u32) -> bool, L: Ledger>(
         &self,
         alive: &F,

@@ -6,8 +6,8 @@ ghost use Rattle.roman_rules.specs.Bits.{has_seat};
 use crate::bits::with_bit;
 use std::marker::Model;
 
-/// A set of seats, of which there are at most 32, `Copy`. Contracts see the word whose bit `k` is 1
-/// exactly where seat `k` is in the set.
+/// A set of seats, each below 32. It is `Copy`. Contracts see the word whose bit `k` is 1 exactly
+/// where seat `k` is in the set.
 #[derive(Clone, Copy, Debug, PartialEq, Eq)]
 pub struct SeatSet {
     bits: u32,
@@ -24,10 +24,10 @@ impl Model for SeatSet {
 }
 
 impl SeatSet {
-    /// The set without seats.
+    /// The empty set.
     pub const EMPTY: SeatSet = SeatSet { bits: 0 };
 
-    /// The set, with seat `k`, below 32, added where `is_in` says so.
+    /// Returns the set, with seat `k` added if `is_in` is true. Requires `k` below 32.
     pub fn with(self, k: u8, is_in: bool) -> SeatSet
         requires { k < 32 }
         ensures own { bit_at result k ≡ (if is_in then 1 else bit_at self k) }
@@ -38,7 +38,7 @@ impl SeatSet {
         }
     }
 
-    /// Whether seat `k`, below 32, is in the set.
+    /// Returns whether seat `k` is in the set. Requires `k` below 32.
     pub fn has(self, k: u8) -> bool
         requires { k < 32 }
         ensures { result ≡ has_seat self k }
@@ -46,7 +46,7 @@ impl SeatSet {
         (self.bits >> k) & 1 == 1
     }
 
-    /// Whether the set has no seat.
+    /// Returns whether the set is empty.
     pub fn is_empty(self) -> bool
         ensures { result ≡ (self == 0) }
     {

@@ -3,7 +3,7 @@ ghost use Rattle.std.specs.Prelude.{◌≡◌, ℕ, ◌+◌, ◌<◌, ◌≤◌,
 
 use roman_lanes::first_set;
 
-/// Copies the words of the rows from the row `x` on, as many as there are places.
+/// Copies the words of the rows from the row `x` on to `to`, as many as `to` has places.
 pub fn copy_rows(words: &[u64], x: u32, to: &mut [u64])
     requires { x + length to.old ≤ length words.now }
     ensures long { length to.new ≡ length to.old }
@@ -15,7 +15,7 @@ pub fn copy_rows(words: &[u64], x: u32, to: &mut [u64])
     }
 }
 
-/// Whether no word has a bit.
+/// Returns whether all words are 0.
 pub fn are_clear(words: &[u64]) -> bool
     ensures { result ≡ true → (i : ℕ) → i < length words.now → slice_index words.now i ≡ 0 }
 {

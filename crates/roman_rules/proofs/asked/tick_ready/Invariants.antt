@@ -2,6 +2,6 @@ use Rattle.std.proofs.Common.{◌≡◌, ◌+◌, count_by}
 use Rattle.roman_model.specs.Lists.{below}
 use Rattle.roman_rules.proofs.asked.tick_ready.Given as goal
 
--- one step for each of the seats so far that is ready
+-- one step for each ready seat so far
 abbrev pub invariant-loop-k : goal.invariant-loop-k
 invariant-loop-k g l = let A = g.J.Rules.arena l.joint in l.steps ≡ l.fn.steps + count_by A.ready (below l.k)
