@@ -2,7 +2,7 @@
 
 -- The lanes of a word, and the entries of the pairs at them.
 pub use Rattle.roman_order.proofs.Lanes.{entries_in_rows-row, has_entry-lane, has_entry-later, in_lanes, lanes_once}
--- Lists of entries, one entry more.
+-- Lists with one more entry.
 pub use Rattle.roman_order.proofs.Places.{is_some-place_in_list}
 -- Marks that were lent.
 pub use Rattle.roman_order.proofs.Lent.{rewritten_whole}

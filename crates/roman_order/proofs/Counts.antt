@@ -1,4 +1,4 @@
--- How many pairs aren't listed.
+-- The number of pairs that aren't listed.
 use Rattle.std.proofs.Common.{◌≡◌, ℕ, zero, suc, ◌+◌, ◌<◌, ◌≤◌, Bool, true, false, cond, not, ◌||◌, eqb, List, [], ◌∷◌, length, refl, sym, ◌∙◌, inl, inr, arith}
 use Rattle.std.specs.Prelude.{count_by}
 use Rattle.std.specs.List.{list_any, IsDistinct, AllByRecursion}
@@ -11,7 +11,7 @@ use Rattle.roman_model.proofs.CallerLemmas.{from_below, sum_by_same}
 use Rattle.roman_order.specs.Board.{nodes_of, has_entry}
 use Rattle.roman_order.proofs.Places.{has_entry-nodes}
 
--- the numbers below n, one of which no longer passes
+-- the count of the numbers below n when one of them no longer passes
 count_by-but_past : (g : ℕ → Bool) (m n : ℕ) → n ≤ m → count_by (λ q. not (eqb q m || g q)) (below n) ≡ count_by (λ q. not (g q)) (below n)
 count_by-but_past g m n h =
     sum_by_same (λ q. cond (not (eqb q m || g q)) 1 0) (λ q. cond (not (g q)) 1 0) (below n) (λ q i. rw (ne_eqb q m (omega (arith, from_below n q i))) refl)
@@ -42,11 +42,11 @@ none_from_all : (test : ℕ → Bool) (xs : List ℕ) → AllByRecursion (λ y. 
 none_from_all test [] h = refl
 none_from_all test (x ∷ xs) h = or_from (test x) (list_any test xs) h.0 (none_from_all test xs h.1)
 
--- the pair of the first entry isn't listed again
+-- the pair of the first entry isn't listed in the rest
 has_entry-rest : (x : Entry ℕ) (L : List (Entry ℕ)) → IsDistinct eqb (nodes_of (x ∷ L)) → has_entry L x.node ≡ false
 has_entry-rest x L apart = sym (has_entry-nodes L x.node) ∙ none_from_all (eqb x.node) (nodes_of L) (IsDistinct-head eqb x.node (nodes_of L) apart)
 
--- the unlisted pairs and the entries are as many as all pairs
+-- the number of unlisted pairs plus the number of entries is the number of pairs
 pub count_by-unlisted : (n : ℕ) (L : List (Entry ℕ)) → IsDistinct eqb (nodes_of L) → ((p : ℕ) → has_entry L p ≡ true → p < n) → count_by (λ p. not (has_entry L p)) (below n) + length L ≡ n
 count_by-unlisted n [] apart in_range = omega (arith, count_by-all n)
 count_by-unlisted n (x ∷ L) apart in_range =

@@ -12,7 +12,7 @@ use Rattle.roman_order.specs.Events.{IsEvent, entries_at, entries_of}
 use Rattle.roman_order.specs.Sound.{firsts_of, AreCounted, CanWait}
 use Rattle.roman_order.specs.declared.event.Event.{Event}
 
--- ---- one event more
+-- ---- one more event
 
 pub all_push : {X : Type 0} (P : X → Type 0) (xs : List X) (x : X) → AllByRecursion P xs → P x → AllByRecursion P (xs ++ x ∷ [])
 all_push P [] x all here = (here, tt)
@@ -24,7 +24,7 @@ length-entries_at lanes e = length-map (set_lanes e.lanes) (λ lane. as_entry (e
 pub entries_of-push : (lanes : ℕ) (es : List Event) (e : Event) → entries_of lanes (es ++ e ∷ []) ≡ entries_of lanes es ++ entries_at lanes e
 entries_of-push lanes es e = flat_map-append (entries_at lanes) es (e ∷ []) ∙ ap (λ L. entries_of lanes es ++ L) (append-nil (entries_at lanes e))
 
--- there are at most as many as entries
+-- there are at most as many events as entries
 pub few_events : (lanes : ℕ) (es : List Event) → AllByRecursion (IsEvent lanes) es → length es ≤ length (entries_of lanes es)
 few_events lanes [] some = omega arith
 few_events lanes (e ∷ es) some = omega (arith, some.0.some, length-append (entries_at lanes e) (entries_of lanes es), length-entries_at lanes e, few_events lanes es some.1)
@@ -52,12 +52,12 @@ AreCounted-push lanes count firsts es e are some = record {
 pub AreCounted-nil : (lanes : ℕ) → AreCounted lanes 0 [] []
 AreCounted-nil lanes = record { each = tt; count = refl; firsts = refl }
 
--- ---- the first event that waits
+-- ---- the first waiting event
 
 pub CanWait-nil : (lanes : ℕ) → CanWait lanes []
 CanWait-nil lanes = record { each = tt; in_range = λ p h. cc }
 
--- an event without its first lane
+-- an event with only the lanes that are left
 abbrev pub later : Event → ℕ → Event
 later e left = record { row = e.row; reason = e.reason; lanes = left }
 
@@ -65,11 +65,11 @@ pub first_waiting : (lanes : ℕ) (e : Event) (rest : List Event) (lane left : �
     entries_of lanes (e ∷ rest) ≡ as_entry (e.row * lanes + lane, e.reason) ∷ entries_of lanes (later e left ∷ rest)
 first_waiting lanes e rest lane left first = ap (λ ls. map (λ lane. as_entry (e.row * lanes + lane, e.reason)) ls ++ entries_of lanes rest) first
 
--- where no lane is left the event is done
+-- where no lane is left, the event is done
 pub done_waiting : (lanes : ℕ) (e : Event) (rest : List Event) (left : ℕ) → set_lanes left ≡ [] → entries_of lanes (later e left ∷ rest) ≡ entries_of lanes rest
 done_waiting lanes e rest left none = ap (λ ls. map (λ lane. as_entry (e.row * lanes + lane, e.reason)) ls ++ entries_of lanes rest) none
 
--- the pair of the first lane is a number of 32 bits
+-- the pair of the first lane has a number of 32 bits
 pub first_pair : (lanes : ℕ) (e : Event) (rest : List Event) (lane left : ℕ) → CanWait lanes (e ∷ rest) → set_lanes e.lanes ≡ lane ∷ set_lanes left → e.row * lanes + lane < 2 ^ 32
 first_pair lanes e rest lane left can first =
     let p : ℕ = e.row * lanes + lane in
@@ -80,7 +80,7 @@ first_pair lanes e rest lane left can first =
 pub fewer : (lanes : ℕ) (e : Event) (left : ℕ) → IsEvent lanes e → 0 < length (set_lanes left) → ((lane : ℕ) → is_on left lane ≡ true → is_on e.lanes lane ≡ true) → IsEvent lanes (later e left)
 fewer lanes e left is some on = record { some = some; within = λ lane t. is.within lane (on lane t) }
 
--- what is left can wait
+-- the rest of an event can wait
 pub left_waiting : (lanes : ℕ) (e : Event) (rest : List Event) (lane left : ℕ) → CanWait lanes (e ∷ rest) → set_lanes e.lanes ≡ lane ∷ set_lanes left → IsEvent lanes (later e left) → CanWait lanes (later e left ∷ rest)
 left_waiting lanes e rest lane left can first some = record {
   each = (some, can.each.1);

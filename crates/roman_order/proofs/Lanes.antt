@@ -18,14 +18,14 @@ use Rattle.roman_lanes.specs.Rows.{is_on, HasLanes, AreRows}
 use Rattle.roman_lanes.proofs.CallerLemmas.{on_and, on_less, on_zero, on_ones, on_ones_above, on_pow_same, on_pow_other, on_clear_same, on_clear_other}
 use Rattle.roman_order.specs.Board.{as_entry, set_lanes, entries_in, entries_in_rows, has_entry}
 
--- ---- the lanes of a word, the first apart
+-- ---- the first lane of a word, and the rest
 
--- up to t there are none
+-- there is no lane up to t
 none_before : (n t m : ℕ) → ((i : ℕ) → i < t → is_on n i ≡ false) → m ≤ t → filter (is_on n) (below m) ≡ []
 none_before n t zero off h = refl
 none_before n t (suc m) off h = rw (filter_below_more (is_on n) m, none_before n t m off (omega arith), off m (omega arith)) refl
 
--- word n is the word m with the lane t before all others
+-- word n has the lane t first, followed by the lanes of word m
 pub record IsFirstOf (n m t : ℕ) : Type 0 where
   pub low : t < 64
   pub on : is_on n t ≡ true
@@ -83,7 +83,7 @@ some_lane word some fits =
 pub no_lane : (word : ℕ) → 0 < length (set_lanes word) → word ≢ 0
 no_lane word some none = omega (arith, ap (λ w. length (set_lanes w)) none, ap length set_lanes-zero, some)
 
--- a word of one lane, as it is computed
+-- the word with one lane, as it is computed
 one_pow : (k : ℕ) → k < 64 → 1 * 2 ^ k % 2 ^ 64 ≡ 2 ^ k
 one_pow k l = let below : 2 ^ k < 2 ^ 64 = pow-lt l in omega arith
 
@@ -110,16 +110,16 @@ pub lanes_once : (word : ℕ) → HasNoRepeats (set_lanes word)
 unfolding set_lanes
 lanes_once word = HasNoRepeats-filter (is_on word) (below 64) (HasNoRepeats-below 64)
 
--- ---- which pairs are listed after entries for the lanes of a row
+-- ---- the listed pairs after entries for the lanes of a row are added
 
--- a pair is listed where it was, or where it is one of those
+-- a pair is listed if it was before, or if it is one of the added pairs
 has_entry-lanes : (L : List (Entry ℕ)) (first lost p : ℕ) (reason : Reason) →
     has_entry (L ++ map (λ l. as_entry (first + l, reason)) (set_lanes lost)) p ≡ (has_entry L p || list_any (λ l. eqb p (first + l)) (set_lanes lost))
 has_entry-lanes L first lost p reason =
     list_any-append (λ (x : Entry ℕ). eqb p x.node) L _
     ∙ ap (λ b. has_entry L p || b) (list_any-map (λ l. as_entry (first + l, reason)) (λ (x : Entry ℕ). eqb p x.node) (set_lanes lost))
 
--- the pair at a lane of the row is listed where it was, or where its lane is one of them
+-- the pair at a lane of the row is listed if it was before, or if its lane was added
 pub has_entry-lane : (L : List (Entry ℕ)) (first lost lane : ℕ) (reason : Reason) → lane < 64 →
     has_entry (L ++ map (λ l. as_entry (first + l, reason)) (set_lanes lost)) (first + lane) ≡ (has_entry L (first + lane) || is_on lost lane)
 unfolding set_lanes
@@ -133,7 +133,7 @@ has_entry-lane L first lost lane reason low =
     subst (λ j. IsTrue (is_on lost j)) same (filter_in (is_on lost) l (below 64) i).1)
     (λ t. any_from (λ l. eqb (first + lane) (first + l)) lane (set_lanes lost) (in_filter (is_on lost) lane (below 64) (in_below 64 lane low) t) (eq-eqb (first + lane) (first + lane) refl)))
 
--- another pair is listed where it was
+-- another pair is listed if it was before
 pub has_entry-elsewhere : (L : List (Entry ℕ)) (first lost p : ℕ) (reason : Reason) → ((lane : ℕ) → lane < 64 → is_on lost lane ≡ true → p ≢ first + lane) →
     has_entry (L ++ map (λ l. as_entry (first + l, reason)) (set_lanes lost)) p ≡ has_entry L p
 has_entry-elsewhere L first lost p reason apart =
@@ -143,13 +143,13 @@ has_entry-elsewhere L first lost p reason apart =
 
 -- ---- entries of neighbouring rows
 
--- one row more
+-- one more row
 pub entries_in_rows-row : (lanes x rows : ℕ) (words : List ℕ) (reason : Reason) (L : List (Entry ℕ)) →
     L ++ entries_in_rows lanes x (suc rows) words reason ≡ (L ++ entries_in_rows lanes x rows words reason) ++ entries_in lanes (x + rows) (get_or words rows 0) reason
 entries_in_rows-row lanes x rows words reason L =
     ap (λ M. L ++ M) (flat_map_row (λ i. entries_in lanes (x + i) (get_or words i 0) reason) rows) ∙ sym (append_assoc L _ _)
 
--- the pairs of a later row are listed where they were
+-- the pairs of a later row are listed if they were before
 pub has_entry-later : (L : List (Entry ℕ)) (lanes x : ℕ) (words : List ℕ) (reason : Reason) → ((i lane : ℕ) → is_on (get_or words i 0) lane ≡ true → lane < lanes) →
     (rows i lane : ℕ) → rows ≤ i → lane < lanes → has_entry (L ++ entries_in_rows lanes x rows words reason) ((x + i) * lanes + lane) ≡ has_entry L ((x + i) * lanes + lane)
 has_entry-later L lanes x words reason within zero i lane past l = ap (λ M. has_entry M ((x + i) * lanes + lane)) (append-nil L)
@@ -197,7 +197,7 @@ AreRows-pushed lanes x lost L reason words few room fits within rows = record {
       rest = was.rest;
     }
 
--- the full words of an empty list
+-- for an empty list all words are full
 pub AreRows-full : (lanes : ℕ) (words : List ℕ) → ((y : ℕ) → y < length words → get_or words y 0 ≡ 2 ^ lanes - 1) → AreRows lanes (λ p. not (has_entry [] p)) words
 AreRows-full lanes words full = record {
   each = λ y h. subst (HasLanes lanes y (λ p. true)) (sym (full y h)) (record { each = λ lane l. on_ones lanes lane l; rest = λ lane l. on_ones_above lanes lane l });

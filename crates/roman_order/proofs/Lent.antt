@@ -3,6 +3,6 @@ use Rattle.std.proofs.Common.{◌≡◌, ℕ, List, ◌++◌, length, take, drop
 use Rattle.std.proofs.Math.Seq.{take-append_seam}
 use Rattle.roman_order.specs.Lending.{rewritten}
 
--- words that are as many as the marks were are the marks then
+-- new words of the same number as the marks replace all of them
 pub rewritten_whole : (xs ys : List ℕ) → length ys ≡ length xs → rewritten xs ys ≡ ys
 rewritten_whole xs ys e = ap (λ n. take n (ys ++ drop (length ys) xs)) (sym e) ∙ take-append_seam ys (drop (length ys) xs)

@@ -1,4 +1,4 @@
--- How many lanes a word has.
+-- The number of lanes of a word.
 use Rattle.std.proofs.Common.{◌≡◌, ℕ, zero, suc, ◌+◌, ◌*◌, ◌%◌, ◌^◌, ◌<◌, cond, filter, length, sum_by, count_ones, inl, inr, sym, ap, ap₂, ◌∙◌, arith, eqb}
 use Rattle.std.specs.Int.{bit_at}
 use Rattle.std.proofs.Math.Pow.{pow_pos}
@@ -14,7 +14,7 @@ use Rattle.roman_order.specs.Board.{set_lanes}
 bit_ones : (b : ℕ) → b < 2 → count_ones b ≡ b
 bit_ones b l = elim (cases_eq (count_ones b) 0) [ inl e ↦ e ∙ sym (zero_from_ones b e) | inr some ↦ omega (arith, ones_le_self b) ]
 
--- the ones among the lowest digits are counted by the bits
+-- the number of ones among the lowest digits is the sum of these bits
 pub low_ones : (n k : ℕ) → count_ones (n % 2 ^ k) ≡ sum_by (bit_at n) (below k)
 low_ones n zero = let none : n % 1 ≡ 0 = omega arith in ap count_ones none ∙ bit_ones 0 (omega arith)
 low_ones n (suc k) =
@@ -43,6 +43,6 @@ ones_of word fits =
     let whole : word % 2 ^ 64 ≡ word = omega arith in
     sym (ap count_ones whole) ∙ (low_ones word 64 ∙ (sum_by_same (bit_at word) (λ lane. cond (is_on word lane) 1 0) (below 64) (λ lane i. bit_is word lane) ∙ sym (length-filter (is_on word) (below 64))))
 
--- the ones below a lane
+-- the number of lanes below a lane
 pub ones_before : (word lane : ℕ) → count_ones (word % 2 ^ lane) ≡ length (filter (is_on word) (below lane))
 ones_before word lane = low_ones word lane ∙ (sum_by_same (bit_at word) (λ l. cond (is_on word l) 1 0) (below lane) (λ l i. bit_is word l) ∙ sym (length-filter (is_on word) (below lane)))

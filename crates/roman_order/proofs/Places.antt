@@ -1,4 +1,4 @@
--- Lists of entries, one entry more.
+-- Lists with one more entry.
 use Rattle.std.proofs.Common.{◌≡◌, ◌≢◌, ℕ, ◌+◌, ◌-◌, ◌^◌, ◌<◌, ◌≤◌, Bool, true, false, List, [], ◌∷◌, ◌++◌, length, Option, Some, None, refl, ap, sym, ◌∙◌, subst, inl, inr, arith, eqb, ◌||◌, is_some, unwrap_or}
 use Rattle.std.specs.List.{list_any, position_from, IsDistinct}
 use Rattle.std.proofs.Math.Bool.{or-false}
@@ -15,7 +15,7 @@ use Rattle.roman_order.specs.Sound.{IsPlaced, stamp_of}
 
 -- ---- places
 
--- a place lies in the list
+-- a found place is within the list
 pub position_from-bound : {X : Type 0} (test : X → Bool) (i : ℕ) (xs : List X) (j : ℕ) → position_from test i xs ≡ Some j → j < i + length xs
 position_from-bound test i [] j e = cc
 position_from-bound test i (x ∷ xs) j e =
@@ -31,11 +31,11 @@ position_from-bound test i (x ∷ xs) j e =
 
 -- ---- entries
 
--- a pair is listed where it is among the pairs of the list
+-- a pair is listed exactly if it is among the pairs of the list
 pub has_entry-nodes : (L : List (Entry ℕ)) (p : ℕ) → list_any (eqb p) (nodes_of L) ≡ has_entry L p
 has_entry-nodes L p = list_any-map (λ (x : Entry ℕ). x.node) (eqb p) L
 
--- after a push of x the list has the pair of x and those that it had
+-- after a push of x, the listed pairs are those before and that of x
 pub has_entry-push : (L : List (Entry ℕ)) (x : Entry ℕ) (p : ℕ) → has_entry (L ++ x ∷ []) p ≡ (has_entry L p || eqb p x.node)
 has_entry-push L x p = list_any-append (λ (y : Entry ℕ). eqb p y.node) L (x ∷ []) ∙ ap (λ b. has_entry L p || b) (or-false (eqb p x.node))
 
@@ -55,7 +55,7 @@ IsPlaced-push n L x placed here new = record {
   in_range = λ p h. elim (cases_eq p x.node) [ inl e ↦ omega arith | inr ne ↦ placed.in_range p (sym (has_entry-push_other L x p ne) ∙ h) ];
 }
 
--- it has at most as many entries as there are pairs
+-- a list of distinct pairs in range has at most as many entries as there are pairs
 pub length-le_from_apart : (n : ℕ) (L : List (Entry ℕ)) → IsDistinct eqb (nodes_of L) → ((p : ℕ) → has_entry L p ≡ true → p < n) → length L ≤ n
 length-le_from_apart n L apart below =
     let bound = length-le_from_distinct_below (nodes_of L) n apart (λ q h. below q (sym (has_entry-nodes L q) ∙ h)) in
@@ -63,7 +63,7 @@ length-le_from_apart n L apart below =
 
 -- ---- stamps
 
--- the greatest stamp says that the pair isn't listed
+-- a pair with the greatest stamp isn't listed
 pub place_in_list-from_greatest : (L : List (Entry ℕ)) (p : ℕ) → length L < 2 ^ 32 → stamp_of L p ≡ 2 ^ 32 - 1 → None ≡ place_in_list L p
 place_in_list-from_greatest L p few e = none (place_in_list L p) (λ j is. omega (arith, position_from-bound (λ (x : Entry ℕ). eqb p x.node) 0 L j is)) e
   where
@@ -71,9 +71,9 @@ place_in_list-from_greatest L p few e = none (place_in_list L p) (λ j is. omega
     none None within stamp = refl
     none (Some j) within stamp = absurd (omega (arith, within j refl))
 
--- ---- what a place says
+-- ---- places and listed pairs
 
--- a pair has a place exactly where it is listed
+-- an element has a place exactly if it is in the list
 position_from-is_some : {X : Type 0} (test : X → Bool) (i : ℕ) (xs : List X) → is_some (position_from test i xs) ≡ list_any test xs
 position_from-is_some test i [] = refl
 position_from-is_some test i (x ∷ xs) = elim (cases_Bool (test x)) [ inl t ↦ rw t | inr f ↦ rw f (position_from-is_some test (i + 1) xs) ]

@@ -1,4 +1,4 @@
--- More entries in a list.
+-- Adding entries to a list.
 use Rattle.std.proofs.Common.{◌≡◌, ℕ, ◌+◌, ◌*◌, ◌<◌, false, List, [], ◌∷◌, ◌++◌, map, sym, ◌∙◌, subst, inl, inr, refl, arith, append_assoc, append-nil}
 use Rattle.std.proofs.lemmas.Nat.{mul-add-lt}
 use Rattle.roman_model.specs.Arena.{Entry}
@@ -8,13 +8,13 @@ use Rattle.roman_order.specs.Board.{as_entry, has_entry}
 use Rattle.roman_order.specs.Sound.{IsPlaced}
 use Rattle.roman_order.proofs.Places.{IsPlaced-push, has_entry-push_other}
 
--- a pair of a row is in range
+-- the pair at a lane of a row is in range
 pub pair_below : (rows lanes x lane : ℕ) → x < rows → lane < lanes → x * lanes + lane < rows * lanes
 pair_below rows lanes x lane row in_row = omega (arith, mul-add-lt x lanes lane rows row in_row)
 
--- ---- the entries of pairs from a first one on
+-- ---- entries for the lanes of a row
 
--- all of them may be added that aren't listed, each once
+-- entries for distinct pairs that aren't listed can be added
 pub IsPlaced-lanes : (n first : ℕ) (reason : Reason) (lanes : List ℕ) (L : List (Entry ℕ)) → HasNoRepeats lanes →
     ((lane : ℕ) → IsIn lane lanes → (first + lane < n) × (has_entry L (first + lane) ≡ false)) → IsPlaced n L →
     IsPlaced n (L ++ map (λ lane. as_entry (first + lane, reason)) lanes)

@@ -54,7 +54,7 @@ event_parts lanes es j e h read =
 pub event_more : (lanes : ℕ) (es : List Event) (j : ℕ) (e : Event) → j < length es → e ≡ get_or es j e → entries_of lanes (take (j + 1) es) ≡ entries_of lanes (take j es) ++ entries_at lanes e
 event_more lanes es j e h read = ap (entries_of lanes) (take_more es j e h ∙ ap (λ x. take j es ++ x ∷ []) (sym read)) ∙ entries_of-push lanes (take j es) e
 
--- the pair of an event's first lane is listed
+-- some pair of an event is listed
 pub some_listed : (lanes : ℕ) (before after : List (Entry ℕ)) (e : Event) → IsEvent lanes e → (lane : ℕ) × (has_entry (before ++ (entries_at lanes e ++ after)) (e.row * lanes + lane) ≡ true)
 some_listed lanes before after e is = of_lanes (set_lanes e.lanes) is.some
   where
@@ -70,7 +70,7 @@ some_listed lanes before after e is = of_lanes (set_lanes e.lanes) is.some
               ∙ or_right (has_entry before p) _ (or_left (eqb p p) _ (eq-eqb p p refl)),
         )
 
--- the entry at place i is one of the event e, whose first one is at the place first
+-- the entry at place i is an entry of the event e, which begins at the place first
 pub record IsEventOf (lanes : ℕ) (es : List Event) (i first : ℕ) (e : Event) : Type 0 where
   pub before : List (Entry ℕ)
   pub after : List (Entry ℕ)
@@ -124,7 +124,7 @@ event_of lanes n places es j i e are h read from to low =
       event = subst (IsEvent lanes) (sym read) (all_at (IsEvent lanes) es j e are.each h);
     }
 
--- the entries from place i on are those of the lanes that are left of the event
+-- the entries from place i on begin with those of the lanes that are left of the event
 pub event_rest : (lanes : ℕ) (es : List Event) (i first : ℕ) (e : Event) (left : ℕ) → IsEventOf lanes es i first e → set_lanes left ≡ drop (i - first) (set_lanes e.lanes) →
     drop i (entries_of lanes es) ≡ entries_at lanes (later e left) ++ drop (i + length (set_lanes left)) (entries_of lanes es)
 event_rest lanes es i first e left is rest =
@@ -142,11 +142,11 @@ event_rest lanes es i first e left is rest =
     ∙ (ap (λ xs. xs ++ is.after) (drop-map g k (set_lanes e.lanes) ∙ ap (λ ls. map g ls) (sym rest))
     ∙ ap (λ xs. entries_at lanes (later e left) ++ xs) past)))
 
--- some of its lanes are left
+-- some lane of the event is left
 pub some_left : (lanes : ℕ) (es : List Event) (i first : ℕ) (e : Event) (left : ℕ) → IsEventOf lanes es i first e → set_lanes left ≡ drop (i - first) (set_lanes e.lanes) → 0 < length (set_lanes left)
 some_left lanes es i first e left is rest = omega (arith, ap length rest, length-drop (i - first) (set_lanes e.lanes), is.from, is.within)
 
--- and the list has that many entries more
+-- the list has at least as many entries from place i on as the event has lanes left
 pub rest_within : (lanes : ℕ) (es : List Event) (i first : ℕ) (e : Event) (left : ℕ) → IsEventOf lanes es i first e → set_lanes left ≡ drop (i - first) (set_lanes e.lanes) → i + length (set_lanes left) ≤ length (entries_of lanes es)
 rest_within lanes es i first e left is rest = omega (
   arith,
@@ -161,11 +161,11 @@ rest_within lanes es i first e left is rest = omega (
   length-entries_at lanes e,
 )
 
--- the pair of its first lane is listed
+-- some pair of the event is listed
 pub listed_first : (lanes : ℕ) (es : List Event) (i first : ℕ) (e : Event) → IsEventOf lanes es i first e → (lane : ℕ) × (has_entry (entries_of lanes es) (e.row * lanes + lane) ≡ true)
 listed_first lanes es i first e is = let (lane, listed) = some_listed lanes is.before is.after e is.event in (lane, ap (λ L. has_entry L (e.row * lanes + lane)) is.parts ∙ listed)
 
--- its row is one of the shape's
+-- the row of the event is in range
 pub row_within : (rows lanes : ℕ) (es : List Event) (i first : ℕ) (e : Event) → ((p : ℕ) → has_entry (entries_of lanes es) p ≡ true → p < rows * lanes) → IsEventOf lanes es i first e → e.row < rows
 row_within rows lanes es i first e in_range is =
     let (lane, listed) = listed_first lanes es i first e is in
@@ -174,7 +174,7 @@ row_within rows lanes es i first e in_range is =
 
 -- ---- the tables of an order
 
--- where there are entries the first event begins with the first
+-- in a list with entries, the first event begins at place 0
 first_begins : (lanes : ℕ) (es : List Event) → 0 < length (entries_of lanes es) → (0 < length (firsts_of 0 es)) × (get_or (firsts_of 0 es) 0 0 ≡ 0)
 first_begins lanes [] some = absurd (omega arith)
 first_begins lanes (e ∷ es) some = (omega arith, refl)

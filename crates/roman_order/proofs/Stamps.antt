@@ -22,9 +22,9 @@ use Rattle.roman_order.proofs.Reading.{all_at, event_parts, event_more}
 use Rattle.roman_order.proofs.Events.{length-entries_at}
 use Rattle.roman_order.proofs.Places.{position_from-bound}
 
--- ---- places in a list that goes on
+-- ---- places in a longer list
 
--- past elements that don't pass
+-- the search goes past elements that don't pass
 pub position_from-past : {X : Type 0} (test : X → Bool) (i : ℕ) (xs ys : List X) → list_any test xs ≡ false → position_from test i (xs ++ ys) ≡ position_from test (i + length xs) ys
 position_from-past test i [] ys none = let same : i ≡ i + 0 = omega arith in ap (λ j. position_from test j ys) same
 position_from-past test i (x ∷ xs) ys none =
@@ -36,7 +36,7 @@ position_from-push_other : {X : Type 0} (test : X → Bool) (i : ℕ) (xs : List
 position_from-push_other test i [] y off = ap (λ b. cond b (Some i) None) off
 position_from-push_other test i (x ∷ xs) y off = ap (λ o. cond (test x) (Some i) o) (position_from-push_other test (i + 1) xs y off)
 
--- ---- a pair that comes after others isn't among them
+-- ---- a later pair isn't among the earlier ones
 
 all_middle : (P : ℕ → Type 0) (D : List (Entry ℕ)) (x : Entry ℕ) (R : List (Entry ℕ)) → AllByRecursion P (nodes_of (D ++ x ∷ R)) → P x.node
 all_middle P [] x R all = all.0
@@ -51,7 +51,7 @@ apart_before (d ∷ D) x R apart =
 
 -- ---- stamps
 
--- one entry more
+-- the stamps with one more entry
 pub stamp_step : (D : List (Entry ℕ)) (x : Entry ℕ) (R : List (Entry ℕ)) (stamps : List ℕ) → IsDistinct eqb (nodes_of (D ++ x ∷ R)) → AreStamps D stamps → x.node < length stamps →
     AreStamps (D ++ x ∷ []) (set stamps x.node (length D))
 stamp_step D x R stamps apart are here q h = elim (cases_eq q x.node) [
@@ -67,7 +67,7 @@ stamp_step D x R stamps apart are here q h = elim (cases_eq q x.node) [
       ∙ ap (λ o. unwrap_or o (2 ^ 32 - 1)) (sym (position_from-push_other (λ (y : Entry ℕ). eqb q y.node) 0 D x (ne_eqb q x.node ne))))
 ]
 
--- the lanes lo of the word have their stamps, and the rest has none yet
+-- the first lanes lo of the word have their stamps, and the rest has none yet
 pub record IsStamped (first word rest start place : ℕ) (old new : List ℕ) : Type 0 where
   pub lo : List ℕ
   pub parts : lo ++ set_lanes rest ≡ set_lanes word
@@ -101,7 +101,7 @@ stamped_more first word rest left lane start place old new is next here = record
 
 -- ---- the place of a pair, by its event
 
--- which pairs an event lists
+-- the pairs that an event lists
 pub has_entry-event : (lanes : ℕ) (e : Event) (x lane : ℕ) → lanes ≤ 64 → lane < lanes → IsEvent lanes e → has_entry (entries_at lanes e) (x * lanes + lane) ≡ (eqb e.row x && is_on e.lanes lane)
 has_entry-event lanes e x lane few low is = elim (cases_eq e.row x) [
   | inl s ↦
@@ -112,7 +112,7 @@ has_entry-event lanes e x lane few low is = elim (cases_eq e.row x) [
       ∙ ap (λ b. b && is_on e.lanes lane) (sym (ne_eqb e.row x ne))
 ]
 
--- a place in the front of a list is one in the list
+-- a place in the front of a list is the place in the whole list
 position_from-front : {X : Type 0} (test : X → Bool) (i : ℕ) (xs ys : List X) (r : ℕ) → position_from test i xs ≡ Some r → position_from test i (xs ++ ys) ≡ Some r
 position_from-front test i [] ys r e = cc
 position_from-front test i (x ∷ xs) ys r e = elim (cases_Bool (test x)) [
@@ -120,7 +120,7 @@ position_from-front test i (x ∷ xs) ys r e = elim (cases_Bool (test x)) [
   | inr f ↦ let later : position_from test (i + 1) xs ≡ Some r = rw f at e in rw f (position_from-front test (i + 1) xs ys r later)
 ]
 
--- the place of a lane's pair among those of the lanes below k
+-- the place of a lane's pair among the pairs of the lanes below k
 place_below : (first w lane i k : ℕ) (reason : Reason) → lane < k → is_on w lane ≡ true →
     position_from (λ (y : Entry ℕ). eqb (first + lane) y.node) i (map (λ l. as_entry (first + l, reason)) (filter (is_on w) (below k))) ≡ Some (i + length (filter (is_on w) (below lane)))
 place_below first w lane i zero reason h on = absurd (omega arith)
@@ -177,11 +177,11 @@ place_found lanes es j e x lane h read low here none =
 pub place_none : (L : List (Entry ℕ)) (p : ℕ) → has_entry L p ≡ false → place_in_list L p ≡ None
 place_none L p none = let whole = position_from-past (λ (y : Entry ℕ). eqb p y.node) 0 L [] none in ap (λ xs. position_from (λ (y : Entry ℕ). eqb p y.node) 0 xs) (sym (append-nil L)) ∙ whole
 
--- the place lies in the list
+-- the place is within the list
 pub found_below : (L : List (Entry ℕ)) (p r : ℕ) → place_in_list L p ≡ Some r → r < length L
 found_below L p r e = omega (arith, position_from-bound (λ (y : Entry ℕ). eqb p y.node) 0 L r e)
 
--- a pair of an event's row is listed
+-- the pair of an event's lane is listed
 pub listed_lane : (lanes : ℕ) (es : List Event) (j : ℕ) (e : Event) (lane : ℕ) → lanes ≤ 64 → IsEvent lanes e → j < length es → e ≡ get_or es j e → is_on e.lanes lane ≡ true →
     has_entry (entries_of lanes es) (e.row * lanes + lane) ≡ true
 listed_lane lanes es j e lane few is h read on =
@@ -193,7 +193,7 @@ listed_lane lanes es j e lane few is h read on =
     ∙ (list_any-append (λ (x : Entry ℕ). eqb p x.node) A (entries_at lanes e ++ B)
     ∙ or_right (has_entry A p) _ (list_any-append (λ (x : Entry ℕ). eqb p x.node) (entries_at lanes e) B ∙ or_left (has_entry (entries_at lanes e) p) _ inside))
 
--- the entries of the events up to place j are as many, and fit
+-- e is the event at place j: its entries follow those of the events before, within the list
 pub record IsPart (lanes : ℕ) (es : List Event) (j : ℕ) (e : Event) : Type 0 where
   pub event : IsEvent lanes e
   pub more : entries_of lanes (take (j + 1) es) ≡ entries_of lanes (take j es) ++ entries_at lanes e

@@ -1,4 +1,4 @@
--- What the tables of an order hold and have room for.
+-- The contents of an order's tables, and the room in them.
 use Rattle.std.proofs.Common.{◌≡◌, ℕ, ◌+◌, ◌-◌, ◌*◌, ◌/◌, ◌%◌, ◌^◌, ◌<◌, ◌≤◌, true, false, not, [], ◌∷◌, ◌++◌, map, length, drop, get_or, replicate, vec_capacity, ap, ap₂, count_ones, sym, ◌∙◌, subst, arith, bit_and, length-append}
 use Rattle.std.specs.Int.{w64, bit_not}
 use Rattle.std.proofs.Math.ListN.{set}
@@ -22,7 +22,7 @@ use Rattle.roman_order.proofs.Pushes.{pair_below, IsPlaced-lanes}
 pub few_listed : (a : Inside) → IsSound a → length (removal_list a) ≤ a.rows * a.lanes
 few_listed a sound = length-le_from_apart (a.rows * a.lanes) (removal_list a) sound.placed.apart sound.placed.in_range
 
--- the count is the list's length, and there are at most as many events
+-- the count is the length of the list, and there are at most as many events
 pub record IsFew (a : Inside) : Type 0 where
   pub count : length (removal_list a) ≡ a.count
   pub count_fits : a.count < 2 ^ 32
@@ -46,7 +46,7 @@ list_waits a sound = record {
   in_range = λ p h. omega (arith, sound.placed.in_range p h, sound.sized.room, sound.sized.few);
 }
 
--- an order without entries, whose words are full
+-- an order without entries and with full words is sound
 pub blank_sound : (a : Inside) → IsSized a → CanWait a.waiting_lanes (drop a.next a.waiting.items) → a.events.items ≡ [] → a.firsts.items ≡ [] → a.count ≡ 0 → a.stamps.items ≡ [] →
     a.words.items ≡ replicate a.rows ((2 ^ 64 - 1) / 2 ^ (64 - a.lanes)) → IsSound a
 blank_sound a sized waits events firsts count stamps words =
@@ -61,7 +61,7 @@ blank_sound a sized waits events firsts count stamps words =
       sized = sized;
     }
 
--- where one order has as much room as another, its tables have room for what the other's hold
+-- the tables of one order have room for the contents of another's
 pub record IsRoomFor (a b : Inside) : Type 0 where
   pub room : a.room ≡ b.room
   pub events : length b.events.items ≤ vec_capacity a.events
@@ -87,20 +87,20 @@ room_for a b x y is_x is_y same sound_a sound_b =
 
 -- ---- entries for the lanes of a row
 
--- pairs of the row x that aren't listed
+-- the lanes of `lost` are pairs of the row x that aren't listed
 pub record IsFree (b : Board) (x lost : ℕ) : Type 0 where
   pub row : x < b.rows
   pub within : (lane : ℕ) → is_on lost lane ≡ true → lane < b.lanes
   pub alive : (lane : ℕ) → is_on lost lane ≡ true → has_entry b.list (x * b.lanes + lane) ≡ false
 
--- their entries can be added
+-- the entries of such pairs can be added
 pushed_placed : (a : Inside) (x lost : ℕ) (reason : Reason) → IsSound a → IsFree (board_of a) x lost →
     IsPlaced (a.rows * a.lanes) (removal_list a ++ entries_in a.lanes x lost reason)
 pushed_placed a x lost reason sound free =
     IsPlaced-lanes (a.rows * a.lanes) (x * a.lanes) reason (set_lanes lost) (removal_list a) (lanes_once lost)
     (λ lane i. let on = (in_lanes lost lane i).1 in (pair_below a.rows a.lanes x lane free.row (free.within lane on), free.alive lane on)) sound.placed
 
--- there is room for them
+-- the tables have room for the entries
 pub record HasRoom (a : Inside) (lost : ℕ) : Type 0 where
   pub events : length a.events.items < a.room
   pub firsts : length a.firsts.items < a.room
@@ -124,7 +124,7 @@ room-row a x lost reason sound free fits some =
       count = omega (arith, within, ones_of lost fits, sound.sized.few);
     }
 
--- an order to which they were added
+-- an order is sound after the entries were added
 pub pushed_sound : (a b : Inside) (x lost : ℕ) (reason : Reason) → IsSound a → IsFree (board_of a) x lost → lost < 2 ^ 64 → 0 < length (set_lanes lost) → b.rows ≡ a.rows →
     b.lanes ≡ a.lanes → CanWait b.waiting_lanes (drop b.next b.waiting.items) → b.count ≡ a.count + count_ones lost → b.firsts.items ≡ a.firsts.items ++ a.count ∷ [] →
     b.events.items ≡ a.events.items ++ record { row = x; reason = reason; lanes = lost } ∷ [] →

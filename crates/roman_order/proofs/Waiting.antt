@@ -1,4 +1,4 @@
--- The events that wait in the tables of an order.
+-- The waiting events in the tables of an order.
 use Rattle.std.proofs.Common.{◌≡◌, ℕ, suc, ◌+◌, ◌*◌, ◌<◌, ◌≤◌, true, false, ◌∷◌, length, get_or, drop, sym, ap, ap₂, ◌∙◌, subst, arith}
 use Rattle.std.proofs.Math.ListN.{set}
 use Rattle.std.proofs.Math.Seq.{drop-cons}
@@ -12,7 +12,7 @@ use Rattle.roman_lanes.specs.Rows.{is_on}
 use Rattle.roman_order.proofs.Lanes.{without_lane, without_first, set_lanes-first}
 use Rattle.roman_order.proofs.Events.{later, first_waiting}
 
--- e is the first event that waits
+-- e is the first waiting event
 pub record IsNext (a : Inside) (e : Event) : Type 0 where
   pub within : a.next + 1 ≤ length a.waiting.items
   pub read : e ≡ get_or a.waiting.items a.next e
@@ -27,7 +27,7 @@ next_event a e sound left read =
     drop-cons a.waiting.items a.next e within ∙ ap₂ (λ x i. x ∷ drop i a.waiting.items) (sym read) one in
     record { within = omega arith; read = read; split = split; can = subst (CanWait a.waiting_lanes) split sound.waits }
 
--- and lane is the first of its lanes
+-- e is the first waiting event, and lane is the first of its lanes
 pub record IsTaken (a : Inside) (e : Event) (lane : ℕ) : Type 0 where
   pub next : IsNext a e
   pub first : set_lanes e.lanes ≡ lane ∷ set_lanes (without_lane e.lanes lane)
@@ -39,7 +39,7 @@ taken a e lane sound left read low on before = record {
   first = set_lanes-first e.lanes (without_lane e.lanes lane) lane (without_first e.lanes lane low on before);
 }
 
--- what the events are after the first one's lanes changed
+-- the waiting events after the lanes of the first one changed
 pub later_event : (a : Inside) (e f : Event) (left : ℕ) → IsNext a e → f ≡ get_or a.waiting.items a.next f →
     drop a.next (set a.waiting.items a.next (record { row = f.row; reason = f.reason; lanes = left })) ≡ later e left ∷ drop (a.next + 1) a.waiting.items
 later_event a e f left is read =
@@ -47,13 +47,13 @@ later_event a e f left is read =
     let same : f ≡ e = get_or_read a.waiting.items a.next f within read e ∙ sym is.read in
     drop-set a.waiting.items a.next (later f left) within ∙ ap (λ g. later g left ∷ drop (a.next + 1) a.waiting.items) same
 
--- what waits begins with the first lane's entry
+-- the waiting entries begin with that of the first lane
 pub waiting_first : (a : Inside) (b : Board) (e : Event) (lane left : ℕ) → board_of a ≡ b → IsNext a e → set_lanes e.lanes ≡ lane ∷ set_lanes left →
     b.waiting ≡ as_entry (e.row * a.waiting_lanes + lane, e.reason) ∷ entries_of a.waiting_lanes (later e left ∷ drop (a.next + 1) a.waiting.items)
 waiting_first a b e lane left is next first =
     sym (ap (λ (z : Board). z.waiting) is) ∙ (ap (entries_of a.waiting_lanes) next.split ∙ first_waiting a.waiting_lanes e (drop (a.next + 1) a.waiting.items) lane left first)
 
--- an order with other events that wait
+-- an order stays sound with other waiting events
 pub waits_sound : (a b : Inside) → IsSound a → b.rows ≡ a.rows → b.lanes ≡ a.lanes → b.count ≡ a.count → b.firsts.items ≡ a.firsts.items → b.events.items ≡ a.events.items →
     b.words.items ≡ a.words.items → b.stamps.items ≡ a.stamps.items → CanWait b.waiting_lanes (drop b.next b.waiting.items) → IsSized b → IsSound b
 waits_sound a b sound rows lanes count firsts events words stamps waits sized = record {

@@ -1,4 +1,4 @@
--- Flags in words of sixty-four.
+-- Flags, 64 to a word.
 use Rattle.std.proofs.Common.{◌≡◌, ◌≢◌, ℕ, zero, ◌+◌, ◌-◌, ◌*◌, ◌/◌, ◌%◌, ◌^◌, ◌<◌, ◌≤◌, false, List, ◌++◌, length, take, get_or, drop, replicate, ap, ap₂, sym, ◌∙◌, inl, inr, arith, ltb, subst}
 use Rattle.std.proofs.Math.ListN.{set}
 use Rattle.std.proofs.lemmas.Bool.{cases_eq, cases_lt, lt-ltb, le-ltb}
@@ -9,12 +9,12 @@ use Rattle.roman_lanes.proofs.CallerLemmas.{on_zero, on_ones, on_ones_above}
 
 -- ---- tables that are blank from some place on
 
--- past a front that was overwritten the table is as it was
+-- past an overwritten front, the table is unchanged
 get_or-overwritten : {X : Type 0} (xs ys : List X) (n i : ℕ) (d : X) → length xs ≡ n → n ≤ i → get_or (xs ++ drop n ys) i d ≡ get_or ys i d
 get_or-overwritten xs ys n i d e h =
     get_or-append_right xs (drop n ys) n i d e h ∙ (get_or-drop n ys (i - n) d ∙ (let same : n + (i - n) ≡ i = omega arith in ap (λ j. get_or ys j d) same))
 
--- a table of blanks reads as blank at each place, also past its end
+-- a blank table reads as blank at each place, also past its end
 get_or-all_blank : {X : Type 0} (n i : ℕ) (d : X) → get_or (replicate n d) i d ≡ d
 get_or-all_blank n i d =
     elim (cases_lt i n) [
@@ -28,7 +28,7 @@ pub has_flag-written : (words : List ℕ) (i w p : ℕ) → i < length words →
 unfolding has_flag is_on
 has_flag-written words i w p h e = ap (λ j. is_on (get_or (set words i w) j 0) (p % 64)) e ∙ ap (λ v. is_on v (p % 64)) (get_or-set_same words i w 0 h)
 
--- with one bit changed, that of the number p, it leaves all other flags
+-- a word with one changed bit, that of the number p, leaves all other flags unchanged
 pub has_flag-others : (words : List ℕ) (i w p q : ℕ) → i < length words → p / 64 ≡ i →
     ((k : ℕ) → k < 64 → k ≢ p % 64 → is_on w k ≡ is_on (get_or words i 0) k) → q ≢ p →
     has_flag (set words i w) q ≡ has_flag words q
@@ -71,7 +71,7 @@ has_flag-front words end whole part rest p = elim (cases_lt (p / 64) (end / 64))
   ]
 ]
 
--- a table of n words of which the first are full and the others are empty
+-- a table of n words: the first are full, and the others are 0
 abbrev pub front_table : ℕ → ℕ → List ℕ
 front_table whole n = replicate whole (2 ^ 64 - 1) ++ drop whole (replicate n zero)
 

@@ -1,4 +1,4 @@
--- What callers see of an order: the removal list, what waits, and what is kept beside them.
+-- What callers see of an order: the removal list, the waiting entries, and the tables beside them.
 use Rattle.std.specs.Prelude.{ℕ, ◌+◌, ◌*◌, ◌==◌, Bool, List, Option, map, flat_map, slice_index}
 use Rattle.std.specs.List.{list_any, position_from, filter}
 use Rattle.roman_model.specs.Lists.{below}
@@ -7,26 +7,26 @@ use Rattle.roman_model.specs.declared.reason.Reason.{Reason}
 use Rattle.roman_lanes.specs.Rows.{is_on}
 use Rattle.roman_lanes.specs.Flags.{has_flag}
 
--- an order: its room and its shape, the removal list, what waits, and what is kept beside them
+-- an order: its room and its shape, the removal list, the waiting entries, and the tables beside them
 pub record Board : Type 0 where
   -- the greatest number of pairs
   pub cap_pairs : ℕ
-  -- the shape: how many rows there are, and how many pairs each row has
+  -- the shape: the number of rows, and the number of pairs in a row
   pub rows : ℕ
   pub lanes : ℕ
-  -- the removal list, and the entries that wait
+  -- the removal list, and the waiting entries
   pub list : List (Entry ℕ)
   pub waiting : List (Entry ℕ)
-  -- how many pairs each row had in the shape of what waits
+  -- the number of pairs in a row in the shape of the waiting entries
   pub waiting_lanes : ℕ
-  -- words of flags, for each number of a pair or of a row whether it is marked
+  -- the marks: words of flags, with one flag for each number below the number of pairs
   pub marks : List ℕ
-  -- for each row the word that was kept of it
+  -- the kept word of each row
   pub before : List ℕ
-  -- how long the list was when each of its levels ended
+  -- the length of the list at the end of each of its levels
   pub levels : List ℕ
 
--- how many pairs there are
+-- the number of pairs
 abbrev pub pairs_of : Board → ℕ
 pairs_of board = board.rows * board.lanes
 
@@ -42,7 +42,7 @@ as_entry x = record { node = x.0; reason = x.1 }
 abbrev pub nodes_of : List (Entry ℕ) → List ℕ
 nodes_of L = map (λ x. x.node) L
 
--- some entry is of the pair p
+-- some entry is that of the pair p
 abbrev pub has_entry : List (Entry ℕ) → ℕ → Bool
 has_entry L p = list_any (λ x. p == x.node) L
 
@@ -50,14 +50,14 @@ has_entry L p = list_any (λ x. p == x.node) L
 abbrev pub place_in_list : List (Entry ℕ) → ℕ → Option ℕ
 place_in_list L p = position_from (λ x. p == x.node) 0 L
 
--- the lanes whose bits are set, rising
+-- the lanes whose bits are set, in rising order
 unfoldable pub set_lanes : ℕ → List ℕ
 set_lanes word = filter (is_on word) (below 64)
 
--- the entries of those pairs of a row, for one reason
+-- the entries of the pairs of a row whose lanes are in a word, for one reason
 abbrev pub entries_in : ℕ → ℕ → ℕ → Reason → List (Entry ℕ)
 entries_in lanes row word reason = map (λ lane. as_entry (row * lanes + lane, reason)) (set_lanes word)
 
--- the same of so many rows from row x on, a word for each
+-- the same for `rows` rows from row x on, with one word for each
 abbrev pub entries_in_rows : ℕ → ℕ → ℕ → List ℕ → Reason → List (Entry ℕ)
 entries_in_rows lanes x rows words reason = flat_map (λ i. entries_in lanes (x + i) (slice_index words i) reason) (below rows)

@@ -5,12 +5,12 @@ use Rattle.roman_lanes.specs.Rows.{is_on}
 use Rattle.roman_order.specs.Board.{set_lanes, entries_in}
 use Rattle.roman_order.specs.declared.event.Event.{Event}
 
--- an event has entries, each at a lane of its row
+-- an event has some lane, and its lanes are lanes of a row
 pub record IsEvent (lanes : ℕ) (e : Event) : Type 0 where
   pub some : 0 < length (set_lanes e.lanes)
   pub within : (lane : ℕ) → is_on e.lanes lane ≡ true → lane < lanes
 
--- the entries of an event, where a row has so many lanes
+-- the entries of an event, for rows of `lanes` lanes
 abbrev pub entries_at : ℕ → Event → List (Entry ℕ)
 entries_at lanes e = entries_in lanes e.row e.lanes e.reason
 

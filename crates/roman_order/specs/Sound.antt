@@ -1,4 +1,4 @@
--- How the tables of an order make what callers see.
+-- How the tables of an order represent what callers see.
 use Rattle.std.specs.Prelude.{◌≡◌, ℕ, ◌+◌, ◌-◌, ◌*◌, ◌/◌, ◌^◌, ◌<◌, ◌≤◌, ◌==◌, not, true, List, [], ◌∷◌, drop, length, unwrap_or, slice_index, vec_capacity}
 use Rattle.std.specs.List.{IsDistinct, AllByRecursion}
 use Rattle.roman_model.specs.Arena.{Entry}
@@ -12,7 +12,7 @@ use Rattle.roman_order.specs.declared.order.Order.TheInside.{Inside}
 abbrev pub removal_list : Inside → List (Entry ℕ)
 removal_list a = entries_of a.lanes a.events.items
 
--- the entries that wait
+-- the waiting entries
 abbrev pub waiting_list : Inside → List (Entry ℕ)
 waiting_list a = entries_of a.waiting_lanes (drop a.next a.waiting.items)
 
@@ -34,12 +34,12 @@ board_of a = record {
 abbrev pub stamp_of : List (Entry ℕ) → ℕ → ℕ
 stamp_of L p = unwrap_or (place_in_list L p) (2 ^ 32 - 1)
 
--- the pairs of the list differ and are in range
+-- the pairs of the list are distinct and in range
 pub record IsPlaced (pairs : ℕ) (L : List (Entry ℕ)) : Type 0 where
   pub apart : IsDistinct (λ x y. x == y) (nodes_of L)
   pub in_range : (p : ℕ) → has_entry L p ≡ true → p < pairs
 
--- the stamps that there are say what the list does
+-- each stamp in the table is the place of its pair in the list
 abbrev pub AreStamps : List (Entry ℕ) → List ℕ → Type 0
 AreStamps L stamps = (p : ℕ) → p < length stamps → slice_index stamps p ≡ stamp_of L p
 
@@ -48,13 +48,13 @@ abbrev pub firsts_of : ℕ → List Event → List ℕ
 firsts_of n [] = []
 firsts_of n (e ∷ es) = n ∷ firsts_of (n + length (set_lanes e.lanes)) es
 
--- the events have entries, which are counted
+-- each event has entries, and the count and the places are right
 pub record AreCounted (lanes n : ℕ) (places : List ℕ) (es : List Event) : Type 0 where
   pub each : AllByRecursion (IsEvent lanes) es
   pub count : n ≡ length (entries_of lanes es)
   pub firsts : places ≡ firsts_of 0 es
 
--- the events that wait have entries, whose pairs are numbers of 32 bits
+-- each waiting event has entries, and their pairs are numbers of 32 bits
 pub record CanWait (lanes : ℕ) (es : List Event) : Type 0 where
   pub each : AllByRecursion (IsEvent lanes) es
   pub in_range : (p : ℕ) → has_entry (entries_of lanes es) p ≡ true → p < 2 ^ 32
@@ -78,7 +78,7 @@ pub record IsSized (a : Inside) : Type 0 where
   pub levels_room : a.room < vec_capacity a.levels
   pub few_levels : length a.levels.items ≤ a.room + 1
 
--- the tables say what the list does, and are sized for it
+-- the tables agree with the list, and have the right sizes
 pub record IsSound (a : Inside) : Type 0 where
   pub placed : IsPlaced (a.rows * a.lanes) (removal_list a)
   pub counted : AreCounted a.lanes a.count a.firsts.items a.events.items

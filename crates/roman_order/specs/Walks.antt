@@ -5,7 +5,7 @@ use Rattle.roman_order.specs.Board.{Board, set_lanes}
 use Rattle.roman_order.specs.Events.{entries_at}
 use Rattle.roman_order.specs.declared.ahead.Ahead.{Ahead}
 
--- the entries that are read ahead are those from place i of the list on
+-- the entries that were read ahead are those from place i of the list on
 pub record IsAhead (order : Board) (i : ℕ) (ahead : Ahead) : Type 0 where
   pub entries : drop i order.list ≡ entries_at order.lanes ahead.event ++ drop (i + length (set_lanes ahead.event.lanes)) order.list
   pub within : (lane : ℕ) → is_on ahead.event.lanes lane ≡ true → (ahead.event.row < order.rows) × (lane < order.lanes)

@@ -1,4 +1,4 @@
-//! What is read ahead of a walk through the list.
+//! The entries that a walk through the list has read ahead.
 ghost use Rattle.std.specs.Prelude.{ℕ};
 ghost use Rattle.roman_order.specs.Board.{Board};
 ghost use Rattle.roman_order.specs.Walks.{IsAhead};
@@ -6,18 +6,18 @@ ghost use Rattle.roman_order.specs.Walks.{IsAhead};
 use crate::event::Event;
 use roman_model::Reason;
 
-/// What is read ahead of a walk through the list: entries that come next and stand together.
+/// The entries that a walk through the list has read ahead: the next ones of one event.
 #[derive(Clone, Copy)]
 pub struct Ahead {
-    // what is left of an event
+    // the rest of an event
     pub(crate) event: Event,
-    // the place of the event after it among all, or any other number
+    // a guess of the place of the next event among all; a wrong one costs a search
     pub(crate) next: usize,
 }
 
 impl Ahead {
-    /// Nothing is read ahead, of whatever list. The first entries are looked for at the event at place
-    /// `next` of all, and searched for where they aren't there.
+    /// Returns an `Ahead` without entries, for any list. The walk first looks for its next entries in
+    /// the event at place `next` of all. If they aren't there, it searches for them.
     pub fn nothing(next: usize) -> Ahead
         ensures { (order : Board) (i : ℕ) → IsAhead order i result }
     {
@@ -31,7 +31,7 @@ impl Ahead {
         }
     }
 
-    /// The place of the event to look at next.
+    /// Returns the place of the event in which the walk looks next.
     pub fn next(&self) -> usize {
         self.next
     }

@@ -1,4 +1,4 @@
-//! Entries of a removal list that stand together, as the tables hold them.
+//! Events: neighbouring entries of a removal list, as the tables hold them.
 ghost use Rattle.std.specs.Prelude.{◌≡◌, length};
 ghost use Rattle.roman_order.specs.Board.{set_lanes};
 
@@ -8,8 +8,8 @@ use std::mem::size_of;
 
 const _: () = prove!(size_of::<Event>() == 16);
 
-/// Neighbouring entries of a list: those of the pairs of one row whose lanes are the bits of a word,
-/// the lanes rising, all for one reason.
+/// Neighbouring entries of a list: one for each pair of a row whose lane is a set bit of a word, with
+/// rising lanes, all for one reason.
 #[derive(Clone, Copy)]
 pub struct Event {
     pub row: u32,
@@ -18,7 +18,7 @@ pub struct Event {
 }
 
 impl Event {
-    /// How many entries it has: the lanes are counted.
+    /// Returns the number of entries, by counting the lanes.
     pub fn len(self) -> u32
         ensures { result ≡ length (set_lanes self.lanes) }
     {

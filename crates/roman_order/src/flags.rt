@@ -1,4 +1,4 @@
-//! A flag for each number, sixty-four of them to a word.
+//! Flags, 64 to a word.
 ghost use Rattle.std.specs.Prelude.{◌≡◌, ◌≢◌, ℕ, ◌+◌, ◌*◌, ◌/◌, ◌^◌, ◌<◌, ◌≤◌, true, false, nat_lt, length, slice_index, IfSome, IfNone};
 ghost use Rattle.roman_lanes.specs.Rows.{is_on};
 ghost use Rattle.roman_lanes.specs.Flags.{has_flag};
@@ -6,14 +6,14 @@ ghost use Rattle.roman_order.specs.Board.{set_lanes};
 
 use roman_lanes::first_set;
 
-/// How many words that many flags take.
+/// Returns the number of words for the given number of flags.
 pub(crate) fn words_for(flags: u32) -> usize
     ensures { result ≡ (flags + 63) / 64 }
 {
     (flags as usize + 63) / 64
 }
 
-/// Whether flag `p` is set.
+/// Returns whether flag `p` is set.
 pub(crate) fn has(words: &[u64], p: u32) -> bool
     requires { p / 64 < length words.now }
     ensures { result ≡ has_flag words.now p }
@@ -43,7 +43,8 @@ pub(crate) fn set_front(words: &mut [u64], end: u32)
     }
 }
 
-/// The place of the next word with a flag, from `from` on and round. `None` comes exactly where no flag is set.
+/// Returns the place of the next word with a set flag, from `from` on, then from the start. Returns
+/// `None` exactly where no flag is set.
 pub(crate) fn next_word(words: &[u64], from: usize) -> Option<usize>
     ensures none { IfNone result ((p : ℕ) → has_flag words.now p ≡ false) }
     ensures some { IfSome result (λ i. (i < length words.now) × (slice_index words.now i ≢ 0)) }
@@ -55,7 +56,7 @@ pub(crate) fn next_word(words: &[u64], from: usize) -> Option<usize>
     first_set(&words[..start], 0)
 }
 
-/// The lowest bit of a word that is set.
+/// Returns the lowest set bit of a word. Requires a word that isn't 0.
 pub(crate) fn lowest(word: u64) -> u32
     requires { word ≢ 0 }
     ensures within { result < 64 }
@@ -65,14 +66,15 @@ pub(crate) fn lowest(word: u64) -> u32
     word.trailing_zeros()
 }
 
-/// How many lanes a word has.
+/// Returns the number of lanes of a word: of its set bits.
 pub(crate) fn lanes_in(word: u64) -> u32
     ensures { result ≡ length (set_lanes word) }
 {
     word.count_ones()
 }
 
-/// Clears the lowest flag of a word, and gives its number.
+/// Clears the lowest set flag of word `i`, and returns its number among all flags. Requires a word
+/// that isn't 0.
 pub(crate) fn take_first(words: &mut [u64], i: usize) -> u32
     requires place { i < length words.old }
     requires some { slice_index words.old i ≢ 0 }

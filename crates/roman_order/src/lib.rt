@@ -1,12 +1,12 @@
-//! The removal list of a system's pairs, with what is kept beside it: the pairs that aren't listed as
-//! words, one to a row, marks, and each pair's place in the list where [`Order::place_all`] made it.
+//! The removal list of a system's pairs. With it are kept the pairs that aren't listed, as one word
+//! for each row, marks, and each pair's place in the list after [`Order::place_all`].
 //!
-//! Pairs lie in rows of up to 64 neighbours: pair p is lane `p % lanes` of row `p / lanes`. All
-//! tables are reserved once, by [`Order::build`] or by a copy; no other call takes memory. They are
-//! at most as long as the present shape needs, but for the entries that wait, which are those of an
-//! earlier shape, and the levels. The list can be reopened: its entries then wait, to be taken one
-//! after the other, while a new list is begun.
-//! `specs/` has what contracts see of an order (`Board`) and how its tables make that (`Sound`).
+//! Pairs lie in rows of up to 64 neighbours: pair p is lane `p % lanes` of row `p / lanes`.
+//! [`Order::build`] and a copy reserve all tables at once; no other call takes memory. A table is at
+//! most as long as the present shape needs, except for the waiting entries, which are those of an
+//! earlier shape, and the levels. The list can be reopened: its entries then wait, and are taken one
+//! after another while a new list begins. The definitions are in `specs/`: what contracts see of an
+//! order (`Board`), and how its tables represent it (`Sound`).
 #![tactic(auto)]
 
 mod ahead;

@@ -1,4 +1,4 @@
-//! The removal list, and what is kept beside it.
+//! The removal list, and the tables beside it.
 ghost use Rattle.std.specs.Prelude.{◌≡◌, ℕ, ◌+◌, ◌*◌, ◌/◌, ◌<◌, ◌≤◌, ◌==◌, not, true, false, [], ◌∷◌, ◌++◌, length, replicate, count_by, vec_capacity};
 ghost use Rattle.std.specs.Prelude.{IfOk, IfSome, IfNone};
 ghost use Rattle.std.specs.List.{IsDistinct};
@@ -21,40 +21,40 @@ use std::alloc::{AllocError, Global};
 use std::marker::Model;
 use std::mem;
 
-/// How many items of a table are copied at once.
+/// The number of items of a table that are copied at once.
 const PIECE: usize = 256;
 
-/// The removal list of a system's pairs, the pairs that aren't listed as words, marks, and each pair's
-/// place in the list where that is asked for.
+/// The removal list of a system's pairs, the pairs that aren't listed as words, marks, and, if asked
+/// for, each pair's place in the list.
 ///
-/// Pairs and rows are numbers below those that the order was last shaped for: pair p is lane `p %
-/// lanes` of row `p / lanes`. The numbers that are passed are in range, and within the greatest number
-/// of pairs that the order has room for nothing is refused.
+/// An order is shaped for a number of rows and lanes: pair p is lane `p % lanes` of row `p / lanes`.
+/// Pairs and rows that are passed must be in range for this shape. Nothing is refused as long as there
+/// are at most as many pairs as the order has room for.
 #[derive(Drop)]
 pub struct Order {
     // the greatest number of pairs
     room: u32,
     rows: u32,
     lanes: u32,
-    // how many entries the list has
+    // the number of entries of the list
     count: u32,
-    // the entries that wait are those of the events from here on, of rows of so many lanes
+    // the waiting entries are those of the events from here on, of rows with this many lanes
     next: usize,
     waiting_lanes: u32,
-    // where the search for marks goes on
+    // where the search for marks continues
     cursor: usize,
-    // the list; no event is without lanes
+    // the list; each event has lanes
     events: Vec<Event>,
     // the place of each event's first entry
     firsts: Vec<u32>,
     waiting: Vec<Event>,
-    // each pair's place in the list, or `u32::MAX`; empty where they weren't asked for
+    // each pair's place in the list, or `u32::MAX`; empty where places weren't asked for
     stamps: Vec<u32>,
-    // a word for each row, with the bits of the pairs that aren't listed
+    // a word for each row, with the bits of its pairs that aren't listed
     words: Vec<u64>,
     before: Vec<u64>,
     marks: Vec<u64>,
-    // how long the list was when each of its levels ended
+    // the length of the list at the end of each of its levels
     levels: Vec<u32>,
 }
 
@@ -71,10 +71,12 @@ impl Model for Order {
 }
 
 impl Order {
-    /// Makes an order for at most `cap_pairs` pairs, which is shaped for no rows. It reserves room
-    /// for as many entries, for as many again that wait, and for words, kept words, places, marks
-    /// and levels; none of it is written, so the pages of what isn't used stay untouched. No other
-    /// call but [`copy`](Order::copy) takes memory. The one error is that there is no memory.
+    /// Makes an order for at most `cap_pairs` pairs, shaped for no rows. Reserves room for as many
+    /// entries, for as many waiting entries, and for words, kept words, places, marks and levels.
+    /// Writes none of it, so the pages of unused room stay untouched. No other call but
+    /// [`copy`](Order::copy) takes memory.
+    ///
+    /// Fails only when out of memory.
     pub fn build(alloc: Global, cap_pairs: u32) -> Result<Order, AllocError>
         ensures { IfOk result (λ order. order ≡ record {
           cap_pairs = cap_pairs;
@@ -108,9 +110,10 @@ impl Order {
         })
     }
 
-    /// Makes an equal order with tables of its own and the same room, in one pass over what the
-    /// tables hold. Places that [`place_all`](Order::place_all) made aren't copied. The one error
-    /// is that there is no memory.
+    /// Makes an equal order with its own tables and the same room, in one pass over the contents of
+    /// the tables. Doesn't copy the places that [`place_all`](Order::place_all) made.
+    ///
+    /// Fails only when out of memory.
     pub fn copy(&self, alloc: Global) -> Result<Order, AllocError>
         ensures { IfOk result (λ order. order ≡ self.now) }
     {
@@ -134,8 +137,9 @@ impl Order {
         })
     }
 
-    /// Becomes equal to an order with the same room in which nothing waits, in one pass over what that
-    /// order's tables hold, whatever they have room for. No memory is taken.
+    /// Makes this order equal to `from`, in one pass over the contents of its tables, however much
+    /// they have room for. Requires that `from` has the same room and no waiting entries. Takes no
+    /// memory.
     pub fn reset_to(&mut self, from: &Order)
         requires room { self.old.cap_pairs ≡ from.now.cap_pairs }
         requires idle { from.now.waiting ≡ [] }
@@ -157,9 +161,9 @@ impl Order {
         self.lanes = from.lanes;
     }
 
-    /// Empties the order, and shapes it for `rows` rows of `lanes` pairs each, 1 to 64, in one pass
-    /// over the rows. No pair is then listed, and nothing is marked. Nothing may wait, and the pairs
-    /// are at most those that there is room for.
+    /// Empties the order, and shapes it for `rows` rows of `lanes` pairs each, in one pass over the
+    /// rows. Then no pair is listed, and nothing is marked. Requires an order without waiting entries,
+    /// `lanes` from 1 to 64, and at most as many pairs as there is room for.
     #[tactic(auto, using(crate::proofs::Words::no_flags))]
     pub fn shape_to(&mut self, rows: u32, lanes: u32)
         requires pairs { rows * lanes ≤ self.old.cap_pairs }
@@ -188,10 +192,10 @@ impl Order {
         self.lanes = lanes;
     }
 
-    /// Turns the entries into those that wait, in their order, and begins an empty list for `rows` rows
-    /// of `lanes` pairs each, 1 to 64. No pair is then listed, and nothing is marked. The entries
-    /// aren't moved: the one pass is over the rows. Nothing may wait before, and the pairs are at most
-    /// those that there is room for.
+    /// Makes the entries of the list wait, in order, and begins an empty list for `rows` rows of
+    /// `lanes` pairs each. Then no pair is listed, and nothing is marked. Moves no entries, and passes
+    /// over the rows once. Requires an order without waiting entries, `lanes` from 1 to 64, and at
+    /// most as many pairs as there is room for.
     #[tactic(auto, using(crate::proofs::Words::no_flags))]
     pub fn reopen(&mut self, rows: u32, lanes: u32)
         requires pairs { rows * lanes ≤ self.old.cap_pairs }
@@ -225,8 +229,8 @@ impl Order {
         self.lanes = lanes;
     }
 
-    /// Takes the first entry that waits, a pair of the shape before the order was reopened, with its
-    /// reason. `None` comes exactly where none waits.
+    /// Takes the first waiting entry: a pair of the shape before the order was reopened, with its
+    /// reason. Returns `None` exactly where no entry waits.
     pub fn next_waiting(&mut self) -> Option<(u32, Reason)>
         ensures none { IfNone result ((self.old.waiting ≡ []) × (self.new ≡ self.old)) }
         ensures first { IfSome result (λ x. self.old.waiting ≡ as_entry x ∷ self.new.waiting) }
@@ -247,8 +251,8 @@ impl Order {
         Some((pair, event.reason))
     }
 
-    /// Takes the first entries that wait, as far as they stand together: an event of the shape before
-    /// the order was reopened. `None` comes exactly where none waits.
+    /// Takes the first waiting entries together, as far as they are one event: an event of the shape
+    /// before the order was reopened. Returns `None` exactly where no entry waits.
     pub fn next_waiting_event(&mut self) -> Option<Event>
         ensures none { IfNone result ((self.old.waiting ≡ []) × (self.new ≡ self.old)) }
         ensures first { IfSome result (λ e. self.old.waiting ≡ entries_at self.old.waiting_lanes e ++ self.new.waiting) }
@@ -263,9 +267,9 @@ impl Order {
         Some(event)
     }
 
-    /// Tells a prover what holds of every order: the pairs of the list differ and are in range,
-    /// there is room for the pairs of the shape, a row has 1 to 64 of them, and the marks and the
-    /// kept words are as many as the shape needs. It does nothing.
+    /// Does nothing. Its contract states what holds of every order: the pairs of the list are distinct
+    /// and in range, there is room for the pairs of the shape, a row has 1 to 64 lanes, and there are
+    /// as many mark words and kept words as the shape needs.
     pub fn known(&self)
         ensures distinct { IsDistinct (λ x y. x == y) (nodes_of self.now.list) }
         ensures in_range { (p : ℕ) → has_entry self.now.list p ≡ true → p < pairs_of self.now }
@@ -278,14 +282,15 @@ impl Order {
         let _events = &self.events;
     }
 
-    /// How many entries the list has: at most as many as pairs. The entries aren't counted.
+    /// Returns the length of the list, at most the number of pairs, without counting the entries.
     pub fn len(&self) -> u32
         ensures value { result ≡ length self.now.list }
     {
         self.count
     }
 
-    /// How many pairs aren't listed: the pairs less the entries, with no pass over them.
+    /// Returns the number of pairs that aren't listed: the number of pairs minus the length of the
+    /// list, without a pass over them.
     pub fn unlisted(&self) -> u32
         ensures counted { result ≡ count_by (λ p. not (has_entry self.now.list p)) (below (pairs_of self.now)) }
         ensures rest { result + length self.now.list ≡ pairs_of self.now }
@@ -294,7 +299,7 @@ impl Order {
         self.rows * self.lanes - self.len()
     }
 
-    /// Whether the pair `p` isn't listed, by the bit of its lane in its row's word.
+    /// Returns whether the pair `p` isn't listed, by the bit of its lane in its row's word.
     pub fn alive(&self, p: u32) -> bool
         requires { p < pairs_of self.now }
         ensures { result ≡ not (has_entry self.now.list p) }
@@ -303,7 +308,7 @@ impl Order {
     }
 }
 
-/// A table with the same items, with room for that many.
+/// Makes a table with the same items, and with room for at least `room` items.
 fn copied<T: Copy>(alloc: Global, items: &[T], room: usize) -> Result<Vec<T>, AllocError>
     ensures items { IfOk result (λ table. table.items ≡ items.now) }
     ensures room { IfOk result (λ table. room ≤ vec_capacity table) }
@@ -313,7 +318,7 @@ fn copied<T: Copy>(alloc: Global, items: &[T], room: usize) -> Result<Vec<T>, Al
     Ok(table)
 }
 
-/// Makes the items of a table those of a list, for which it has room. They are copied piece by piece,
+/// Replaces the items of a table, which must have room for the new ones. Copies them piece by piece,
 /// since long copies are made byte by byte on some machines.
 fn rewrite<T: Copy + Drop>(table: &mut Vec<T>, items: &[T])
     requires { length items.now ≤ vec_capacity table.old }
@@ -328,7 +333,7 @@ fn rewrite<T: Copy + Drop>(table: &mut Vec<T>, items: &[T])
     }
 }
 
-/// Makes all items of a table that value, and as many as said.
+/// Replaces the items of a table by `n` copies of a value. Requires room for them.
 fn refill<T: Copy + Drop>(table: &mut Vec<T>, n: usize, value: T)
     requires { n ≤ vec_capacity table.old }
     ensures items { table.new.items ≡ replicate n value }

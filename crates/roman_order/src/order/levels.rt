@@ -1,11 +1,11 @@
-//! How long the list was when each of its levels ended.
+//! The levels of the list: its length at the end of each.
 ghost use Rattle.std.specs.Prelude.{◌≡◌, ◌≤◌, [], ◌∷◌, ◌++◌, length};
 
 use super::Order;
 
 impl Order {
-    /// Ends a level at the list's present end. There is room for one level more than for pairs, and the
-    /// caller sees to it that there are no more.
+    /// Ends a level at the present end of the list. Requires at most as many levels as the order has
+    /// room for pairs.
     pub fn end_level(&mut self)
         requires { length self.old.levels ≤ self.old.cap_pairs }
         ensures { self.new ≡ record self.old { levels = self.old.levels ++ length self.old.list ∷ [] } }
@@ -13,15 +13,15 @@ impl Order {
         self.levels.push_reserved(self.count);
     }
 
-    /// How long the list was when each of its levels ended, the first level first. It is empty where
-    /// levels aren't kept.
+    /// Returns the length of the list at the end of each level, the first level first. Returns no
+    /// lengths where levels aren't kept.
     pub fn levels(&self) -> &[u32]
         ensures { result.now ≡ self.now.levels }
     {
         &self.levels
     }
 
-    /// Forgets where levels ended; the list stays.
+    /// Forgets all levels. The list stays.
     pub fn forget_levels(&mut self)
         ensures { self.new ≡ record self.old { levels = [] } }
     {

@@ -1,4 +1,4 @@
-//! Marks on the numbers of pairs or of rows.
+//! Marks on numbers. The callers mark bands or pairs.
 ghost use Rattle.std.specs.Prelude.{◌≡◌, ◌≢◌, ℕ, ◌+◌, ◌*◌, ◌/◌, ◌<◌, ◌≤◌, true, false, nat_lt, length, IfSome, IfNone};
 ghost use Rattle.std.specs.Borrow.{sem};
 ghost use Rattle.roman_order.specs.Board.{pairs_of, is_marked};
@@ -8,7 +8,8 @@ use super::Order;
 use crate::flags;
 
 impl Order {
-    /// Marks the number `p`, of a pair or of a row; which of the two is the caller's affair.
+    /// Marks the number `p`. Requires `p` below the number of pairs. The caller decides what the
+    /// numbers stand for: pairs or bands.
     pub fn mark(&mut self, p: u32)
         requires { p < pairs_of self.old }
         ensures marked { is_marked self.new p ≡ true }
@@ -19,7 +20,7 @@ impl Order {
         flags::set(&mut self.marks, p);
     }
 
-    /// Whether the number `p`, of a pair or of a row, is marked.
+    /// Returns whether the number `p` is marked. Requires `p` below the number of pairs.
     pub fn marked(&self, p: u32) -> bool
         requires { p < pairs_of self.now }
         ensures { result ≡ is_marked self.now p }
@@ -27,7 +28,7 @@ impl Order {
         flags::has(&self.marks, p)
     }
 
-    /// Marks the numbers below `end`, and takes all other marks off.
+    /// Marks the numbers below `end`, and clears all other marks.
     pub fn mark_front(&mut self, end: u32)
         requires { end ≤ pairs_of self.old }
         ensures marked { (p : ℕ) → is_marked self.new p ≡ nat_lt p end }
@@ -37,9 +38,9 @@ impl Order {
         flags::set_front(&mut self.marks, end);
     }
 
-    /// Takes a mark off, and gives its number. `None` comes exactly where nothing is marked. The search
-    /// goes on from where the last mark was found, and once round, so that marks are given in turns,
-    /// not by size.
+    /// Clears one mark, and returns its number. Returns `None` exactly where no number is marked. The
+    /// search continues where the last mark was found, and goes round once, so marks are returned in
+    /// turns, not in order of size.
     pub fn next_marked(&mut self) -> Option<u32>
         ensures none { IfNone result ((p : ℕ) → is_marked self.old p ≡ false) }
         ensures some { IfSome result (λ p. is_marked self.old p ≡ true) }
@@ -57,7 +58,7 @@ impl Order {
         Some(flags::take_first(&mut self.marks, i))
     }
 
-    /// The marks as words of 64 flags, to be written: number p is bit `p % 64` of word `p / 64`.
+    /// Lends the marks as words of 64 flags, for writing: number p is bit `p % 64` of word `p / 64`.
     pub fn marks_mut(&mut self) -> &mut [u64]
         ensures* lends { sem 𝓛 (LendsMarks self.entry result) }
         ensures value { result.now ≡ self.old.marks }
@@ -66,7 +67,7 @@ impl Order {
         &mut self.marks
     }
 
-    /// Takes all marks off, in one pass over their words.
+    /// Clears all marks, in one pass over their words.
     pub fn clear_marks(&mut self)
         ensures unmarked { (p : ℕ) → is_marked self.new p ≡ false }
         ensures long { length self.new.marks ≡ length self.old.marks }

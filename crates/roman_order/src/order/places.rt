@@ -14,9 +14,9 @@ use crate::event::Event;
 use crate::flags::{lanes_in, lowest};
 
 impl Order {
-    /// The place of the pair `p` in the list, from 0, or `None` where it isn't listed. It is looked up
-    /// where [`place_all`](Order::place_all) was called since the list last changed, and else searched
-    /// for event by event.
+    /// Returns the place of the pair `p` in the list, from 0, or `None` where it isn't listed. Looks
+    /// it up if [`place_all`](Order::place_all) was called since the list last changed, and otherwise
+    /// searches for it event by event.
     pub fn stamp(&self, p: u32) -> Option<u32>
         requires { p < pairs_of self.now }
         ensures { result ≡ place_in_list self.now.list p }
@@ -27,8 +27,8 @@ impl Order {
         if stamp == u32::MAX { None } else { Some(stamp) }
     }
 
-    /// Makes each pair's place in the list be found at once, until the list next changes: one pass over
-    /// the pairs and one over the entries. It takes no memory, since the room is reserved.
+    /// Indexes the list for constant-time look-up of places, until the list next changes. Makes one
+    /// pass over the pairs and one over the entries. Takes no memory, since the room is reserved.
     pub fn place_all(&mut self)
         ensures same { self.new ≡ self.old }
     {
@@ -43,7 +43,7 @@ impl Order {
     }
 }
 
-/// The place of the entry of the pair `p`, which is looked for from the first event on.
+/// Returns the place of the pair `p`, searched for from the first event on.
 fn place_in(events: &[Event], lanes: u32, p: u32) -> Option<u32>
     requires lanes { (0 < lanes) × (lanes ≤ 64) }
     requires each { AllByRecursion (IsEvent lanes) events.now }
@@ -63,7 +63,7 @@ fn place_in(events: &[Event], lanes: u32, p: u32) -> Option<u32>
     None
 }
 
-/// The event at a place of a table.
+/// Returns the event at place `j` of a table.
 fn event_in(events: &[Event], j: usize) -> Event
     requires { j < length events.now }
     ensures { slice_get events.now j ≡ Some result }
@@ -71,7 +71,7 @@ fn event_in(events: &[Event], j: usize) -> Event
     events[j]
 }
 
-/// Whether a row is the row `x`, and its word has that lane.
+/// Returns whether `row` is the row `x`, and its word has the lane.
 fn has_lane(row: u32, word: u64, x: u32, lane: u32) -> bool
     requires { lane < 64 }
     ensures { result ≡ (row == x && is_on word lane) }
@@ -79,7 +79,7 @@ fn has_lane(row: u32, word: u64, x: u32, lane: u32) -> bool
     row == x && (word >> lane) & 1 == 1
 }
 
-/// How many lanes of a word are below one.
+/// Returns the number of a word's lanes below `lane`.
 fn lanes_before(word: u64, lane: u32) -> u32
     requires { lane < 64 }
     ensures { result ≡ length (filter (is_on word) (below lane)) }
@@ -87,7 +87,7 @@ fn lanes_before(word: u64, lane: u32) -> u32
     (word & ((1 << lane) - 1)).count_ones()
 }
 
-/// Writes each entry's place as its pair's stamp, into a table that has none.
+/// Writes each entry's place as the stamp of its pair. Requires a table without stamps.
 fn write_stamps(stamps: &mut [u32], events: &[Event], lanes: u32)
     requires blank { (p : ℕ) → p < length stamps.old → slice_index stamps.old p ≡ 2 ^ 32 - 1 }
     requires placed { IsPlaced (length stamps.old) (entries_of lanes events.now) }
@@ -103,7 +103,7 @@ fn write_stamps(stamps: &mut [u32], events: &[Event], lanes: u32)
     }
 }
 
-/// Writes the places of an event's entries, from `place` on, and gives the next one.
+/// Writes the places of an event's entries, from `place` on, and returns the next place.
 fn write_event(stamps: &mut [u32], first: u32, word: u64, place: u32) -> u32
     requires within { (lane : ℕ) → is_on word lane ≡ true → first + lane < length stamps.old }
     requires few { length stamps.old < 2 ^ 32 }

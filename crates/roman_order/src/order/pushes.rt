@@ -1,4 +1,4 @@
-//! How entries are added.
+//! Adding entries.
 ghost use Rattle.std.specs.Prelude.{◌≡◌, ℕ, ◌+◌, ◌*◌, ◌<◌, ◌≤◌, true, false, [], ◌∷◌, ◌++◌, length, slice_index};
 ghost use Rattle.roman_lanes.specs.Rows.{is_on};
 ghost use Rattle.roman_order.specs.Board.{pairs_of, as_entry, entries_in, entries_in_rows, has_entry};
@@ -8,7 +8,7 @@ use crate::event::Event;
 use roman_model::Reason;
 
 impl Order {
-    /// Adds an entry for the pair `p`, which isn't listed yet, as the last one.
+    /// Adds an entry for the pair `p` at the end of the list. Requires a pair that isn't listed.
     pub fn push(&mut self, p: u32, reason: Reason)
         requires in_range { p < pairs_of self.old }
         requires alive { has_entry self.old.list p ≡ false }
@@ -18,7 +18,8 @@ impl Order {
         self.push_at(x, p % self.lanes, reason);
     }
 
-    /// Adds an entry for the pair at a lane of the row `x`, which isn't listed yet, as the last one.
+    /// Adds an entry for the pair at a lane of the row `x` at the end of the list. Requires a pair
+    /// that isn't listed.
     pub fn push_at(&mut self, x: u32, lane: u32, reason: Reason)
         requires row { x < self.old.rows }
         requires lane { lane < self.old.lanes }
@@ -29,8 +30,8 @@ impl Order {
         self.push_lanes(x, 1 << lane, reason);
     }
 
-    /// Adds an entry for each pair of the row `x` whose lane is a bit of `lost`, the lanes rising, all
-    /// for one reason. None of them is listed yet.
+    /// Adds an entry for each pair of the row `x` whose lane is a bit of `lost`, with rising lanes,
+    /// all for one reason. Requires pairs that aren't listed.
     pub fn push_lanes(&mut self, x: u32, lost: u64, reason: Reason)
         requires row { x < self.old.rows }
         requires within { (lane : ℕ) → is_on lost lane ≡ true → lane < self.old.lanes }
@@ -51,8 +52,9 @@ impl Order {
         self.count += lost.count_ones();
     }
 
-    /// Adds entries for pairs of neighbouring rows, from the row `x` on, row by row, all for one reason:
-    /// word i of `lost` has a bit for each lane of row `x + i`. None of the pairs is listed yet.
+    /// Adds entries for pairs of neighbouring rows, from the row `x` on, row by row, all for one
+    /// reason. Word i of `lost` has the lanes of the pairs of row `x + i`. Requires pairs that aren't
+    /// listed.
     pub fn push_rows(&mut self, x: u32, lost: &[u64], reason: Reason)
         requires rows { x + length lost.now ≤ self.old.rows }
         requires within { (i lane : ℕ) → is_on (slice_index lost.now i) lane ≡ true → lane < self.old.lanes }

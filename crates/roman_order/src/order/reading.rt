@@ -1,4 +1,4 @@
-//! How the list is read.
+//! Reading the list.
 ghost use Rattle.std.specs.Prelude.{◌≡◌, ℕ, ◌+◌, ◌<◌, ◌≤◌, true, ◌++◌, length, drop, slice_get, slice_index, Some};
 ghost use Rattle.std.specs.List.{AllByRecursion};
 ghost use Rattle.roman_lanes.specs.Rows.{is_on};
@@ -11,7 +11,7 @@ use crate::flags::lowest;
 use roman_model::Reason;
 
 impl Order {
-    /// The list as events: the entries of each in turn are those of the list.
+    /// Returns the list as events. The entries of the events, in order, are those of the list.
     pub fn events(&self) -> &[Event]
         ensures list { entries_of self.now.lanes result.now ≡ self.now.list }
         ensures each { AllByRecursion (IsEvent self.now.lanes) result.now }
@@ -19,8 +19,9 @@ impl Order {
         &self.events
     }
 
-    /// The entries from place `i` of the list on, as far as they stand together: all of an event's, or its
-    /// last ones. The event is found at once if it is the one at place `near` of all, whatever `near` is.
+    /// Returns the entries from place `i` of the list on, up to the end of their event: the whole
+    /// event, or its last entries. If `near` is the place of that event among all, the event is found
+    /// at once. Otherwise it is searched for. Any number is allowed as `near`.
     pub fn event_at(&self, i: u32, near: usize) -> Event
         requires { i < length self.now.list }
         ensures entries { drop i self.now.list
@@ -39,8 +40,8 @@ impl Order {
         }
     }
 
-    /// The entry at place `i` of the list, from 0: the pair, and why it was removed. Its event is searched
-    /// for, in as many steps as the number of events has digits.
+    /// Returns the entry at place `i` of the list, from 0: the pair and the reason. Finds its event by
+    /// a binary search.
     pub fn entry(&self, i: u32) -> (u32, Reason)
         requires { i < length self.now.list }
         ensures { slice_get self.now.list i ≡ Some (as_entry result) }
@@ -51,7 +52,7 @@ impl Order {
     }
 }
 
-/// The place of the last event that begins at the entry at place `i` or before.
+/// Returns the place of the last event that begins at place `i` of the list or before.
 fn place_of(firsts: &[u32], i: u32, near: usize) -> usize
     requires some { 0 < length firsts.now }
     requires start { slice_index firsts.now 0 ≤ i }
@@ -77,7 +78,7 @@ fn place_of(firsts: &[u32], i: u32, near: usize) -> usize
     low
 }
 
-/// A word without its `n` lowest lanes.
+/// Returns the word without its `n` lowest lanes.
 fn without_lowest(word: u64, n: u32) -> u64
     requires { n ≤ length (set_lanes word) }
     ensures rest { set_lanes result ≡ drop n (set_lanes word) }

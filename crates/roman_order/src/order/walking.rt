@@ -10,8 +10,8 @@ use crate::flags::lowest;
 use roman_model::Reason;
 
 impl Order {
-    /// The entry at place `i` of a walk through the list, the places rising by one: the pair, and why it
-    /// was removed. What is read ahead spares a search for the entries that follow.
+    /// Returns the entry at place `i` of the list: the pair and the reason. Requires an `ahead` that
+    /// is new, or was last passed for place `i - 1`. Entries that were read ahead need no search.
     pub fn walk(&self, i: u32, ahead: &mut Ahead) -> (u32, Reason)
         requires place { i < length self.now.list }
         requires ahead { IsAhead self.now i ahead.old }
@@ -26,7 +26,7 @@ impl Order {
         (event.row * self.lanes + lane, event.reason)
     }
 
-    /// Reads the entries from place `i` of the list on ahead, where none are.
+    /// Reads ahead the entries from place `i` of the list on, if `ahead` has none.
     fn read_ahead(&self, i: u32, ahead: &mut Ahead)
         requires place { i < length self.now.list }
         requires ahead { IsAhead self.now i ahead.old }

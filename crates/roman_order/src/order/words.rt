@@ -1,4 +1,4 @@
-//! The pairs that aren't listed, as words, and what was kept of them.
+//! The pairs that aren't listed, as words, and kept copies of these words.
 ghost use Rattle.std.specs.Prelude.{◌≡◌, ◌≢◌, ℕ, ◌+◌, ◌<◌, ◌≤◌, ◌⊎◌, not, length, slice_index};
 ghost use Rattle.roman_lanes.specs.Rows.{HasLanes, AreRows};
 ghost use Rattle.roman_order.specs.Board.{has_entry};
@@ -6,7 +6,7 @@ ghost use Rattle.roman_order.specs.Board.{has_entry};
 use super::Order;
 
 impl Order {
-    /// The pairs that aren't listed: a word for each row, with bit l for the pair at lane l.
+    /// Returns the pairs that aren't listed: one word for each row, with bit l for the pair at lane l.
     pub fn words(&self) -> &[u64]
         ensures alive { AreRows self.now.lanes (λ p. not (has_entry self.now.list p)) result.now }
         ensures long { length result.now ≡ self.now.rows }
@@ -14,7 +14,7 @@ impl Order {
         &self.words
     }
 
-    /// The words of the rows as they were when each was last kept.
+    /// Returns the kept words: the word of each row as it was when it was last kept.
     pub fn before(&self) -> &[u64]
         ensures value { result.now ≡ self.now.before }
         ensures long { length result.now ≡ self.now.rows }
@@ -22,7 +22,7 @@ impl Order {
         &self.before
     }
 
-    /// Keeps the words of all rows as they are, in one pass over them.
+    /// Keeps the present words of all rows, in one pass over them.
     pub fn keep_before(&mut self)
         ensures kept { AreRows self.old.lanes (λ p. not (has_entry self.old.list p)) self.new.before }
         ensures long { length self.new.before ≡ self.old.rows }
@@ -31,7 +31,7 @@ impl Order {
         self.before.copy_from_slice(&self.words);
     }
 
-    /// Keeps the word of the row `x` as it is; what was kept of other rows stays.
+    /// Keeps the present word of the row `x`. The kept words of other rows stay.
     pub fn keep_row(&mut self, x: u32)
         requires { x < self.old.rows }
         ensures kept { HasLanes self.old.lanes x (λ p. not (has_entry self.old.list p)) (slice_index self.new.before x) }
@@ -42,7 +42,7 @@ impl Order {
         self.before[x as usize] = self.words[x as usize];
     }
 
-    /// Keeps the words of so many rows from the row `x` on as they are; what was kept of others stays.
+    /// Keeps the present words of `many` rows from the row `x` on. The kept words of other rows stay.
     pub fn keep_rows(&mut self, x: u32, many: u32)
         requires { x + many ≤ self.old.rows }
         ensures kept { (y : ℕ) → x ≤ y → y < x + many → HasLanes self.old.lanes y (λ p. not (has_entry self.old.list p)) (slice_index self.new.before y) }

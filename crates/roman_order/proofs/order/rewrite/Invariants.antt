@@ -2,7 +2,7 @@ use Rattle.std.proofs.Common.{◌≡◌, ◌≤◌, ◌++◌, vec_capacity}
 use Rattle.std.specs.Slice.Iter.{chunks_rest, chunks_size}
 use Rattle.roman_order.proofs.order.rewrite.Given as goal
 
--- the items that are there and the pieces that are left are those of the list
+-- the items of the table, followed by the remaining pieces, are those of the list
 abbrev pub invariant-loop-piece : goal.invariant-loop-piece
 invariant-loop-piece g l =
     (goal.iterator-loop-piece g).can_next l.piece-iterator

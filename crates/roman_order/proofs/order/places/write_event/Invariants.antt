@@ -3,7 +3,7 @@ use Rattle.roman_lanes.specs.Rows.{is_on}
 use Rattle.roman_order.proofs.Stamps.{IsStamped}
 use Rattle.roman_order.proofs.order.places.write_event.Given as goal
 
--- the lanes that are gone have their stamps
+-- the lanes that were taken have their stamps
 abbrev pub invariant-rest : goal.invariant-rest
 invariant-rest l = record {
   stamped : IsStamped l.first l.word l.rest l.place l.next l.fn.stamps l.stamps;

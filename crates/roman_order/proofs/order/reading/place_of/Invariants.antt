@@ -1,7 +1,7 @@
 use Rattle.std.proofs.Common.{◌-◌, ◌<◌, ◌≤◌, length, get_or}
 use Rattle.roman_order.proofs.order.reading.place_of.Given as goal
 
--- the event lies from low on and before high
+-- the event is at place low or later, and before high
 abbrev pub invariant-search : goal.invariant-search
 invariant-search l = record {
   within : l.low < l.high;

@@ -3,7 +3,7 @@ use Rattle.roman_lanes.specs.Rows.{is_on}
 use Rattle.roman_order.specs.Board.{set_lanes}
 use Rattle.roman_order.proofs.order.reading.without_lowest.Given as goal
 
--- as many lanes as were taken are gone
+-- the rest is the word without the lanes that were taken
 abbrev pub invariant-taken : goal.invariant-taken
 invariant-taken l = record {
   rest : set_lanes l.rest ≡ drop l.taken (set_lanes l.word);
